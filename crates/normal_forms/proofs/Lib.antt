@@ -1,0 +1,17 @@
+pub mod AppendLemmas
+pub mod BoundaryLemmas
+pub mod ChunkLemmas
+pub mod ComposeLemmas
+pub mod CutLemmas
+pub mod EquivalenceLemmas
+pub mod ExpandLemmas
+pub mod LawLemmas
+pub mod ListLemmas
+pub mod MarkRunLemmas
+pub mod OffenceLemmas
+pub mod OrderLemmas
+pub mod PlainExample
+pub mod PlainLemmas
+pub mod RunLemmas
+pub mod SortLemmas
+pub mod VisitLemmas

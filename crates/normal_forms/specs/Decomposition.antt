@@ -1,0 +1,8 @@
+-- Full decomposition, before ordering (The Unicode Standard, D68).
+use Rattle.std.specs.Prelude.{ℕ, List, [], ◌∷◌, ◌++◌}
+use Rattle.normal_forms.specs.Reading.{Reading}
+
+-- the lists of the characters, one after another
+unfoldable pub expand : Reading → List ℕ → List ℕ
+expand d [] = []
+expand d (c ∷ x) = d.list c ++ expand d x

@@ -1,0 +1,26 @@
+-- What the laws of the normal forms ask of a reading. Each law takes those that it needs.
+use Rattle.std.specs.Prelude.{◌≡◌, ◌≢◌, ℕ, [], ◌++◌, Some, All}
+use Rattle.normal_forms.specs.Reading.{Reading, IsStarter, ReadsAsItself}
+use Rattle.normal_forms.specs.Order.{order}
+use Rattle.normal_forms.specs.Forms.{Form, Decomposing, Composing}
+
+-- every member of every list reads as itself
+pub record HasFullLists (d : Reading) : Type 0 where
+  pub members : (c : ℕ) → All (ReadsAsItself d) (d.list c)
+
+-- what a pair joins to is a starter
+pub record HasStarterResults (d : Reading) : Type 0 where
+  pub starters : (a c r : ℕ) → d.pair a c ≡ Some r → IsStarter d r
+
+-- what a pair joins to has the ordered lists of the pair
+pub record HasFaithfulResults (d : Reading) : Type 0 where
+  pub results : (a c r : ℕ) → d.pair a c ≡ Some r → d.list r ≡ order d (d.list a ++ d.list c)
+
+-- no list is empty
+pub record HasInhabitedLists (d : Reading) : Type 0 where
+  pub inhabited : (c : ℕ) → d.list c ≢ []
+
+-- what the laws of canonicity and of the cut ask for a form: nothing is asked of pairs where nothing is composed
+abbrev pub SuitsForm : Reading → Form → Type 0
+SuitsForm d Decomposing = HasFullLists d
+SuitsForm d Composing = HasFullLists d × HasStarterResults d × HasFaithfulResults d

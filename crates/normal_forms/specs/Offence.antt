@@ -1,0 +1,17 @@
+-- The first place at which a text is not its own normal form.
+use Rattle.std.specs.Prelude.{◌≡◌, ◌≢◌, ℕ, List, ◌∷◌, drop}
+use Rattle.normal_forms.specs.Reading.{Reading}
+use Rattle.normal_forms.specs.Forms.{Form, normal_form}
+use Rattle.normal_forms.specs.Cut.{IsCut}
+
+-- x begins with c
+abbrev pub IsFirst : List ℕ → ℕ → Type 0
+IsFirst x c = (rest : List ℕ) × (x ≡ c ∷ rest)
+
+-- x is not its own form; the place is the cut, `found` the first character of the rest there, and `wanted` the first of
+-- the form of the rest
+pub record IsFirstOffence (d : Reading) (form : Form) (x : List ℕ) (place found wanted : ℕ) : Type 0 where
+  pub differs : normal_form d form x ≢ x
+  pub cut : IsCut d form x place
+  pub is_found : IsFirst (drop place x) found
+  pub is_wanted : IsFirst (normal_form d form (drop place x)) wanted

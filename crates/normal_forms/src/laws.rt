@@ -1,0 +1,181 @@
+//! The laws of the normal forms, over any reading of characters and both forms. Each function does nothing: its
+//! contract is the law, and its proof stands in `proofs/`.
+
+ghost use Rattle.std.specs.Prelude.{◌≡◌, ◌≢◌, ℕ, ◌≤◌, ◌<◌, ◌⊎◌, ◌+◌, ◌-◌, ◌↔◌, Bool, true, false, List, [], ◌∷◌, ◌++◌, length, take, drop, Some, All};
+ghost use Rattle.std.specs.List.{AllPass};
+ghost use Rattle.normal_forms.specs.Reading.{Reading, IsStarter, IsMark};
+ghost use Rattle.normal_forms.specs.Decomposition.{expand};
+ghost use Rattle.normal_forms.specs.Boundary.{BeginsWithStarter, BeginsSafely};
+ghost use Rattle.normal_forms.specs.Chunks.{BeginsChunk};
+ghost use Rattle.normal_forms.specs.MarkRun.{compose_marks, IsLastBelow};
+ghost use Rattle.normal_forms.specs.ShortRuns.{continues, leading_length, places, HasShortRuns};
+ghost use Rattle.normal_forms.specs.Order.{InOrder, order};
+ghost use Rattle.normal_forms.specs.Composition.{compose};
+ghost use Rattle.normal_forms.specs.CompositionByStarters.{is_above, compose_after, compose_by_starters};
+ghost use Rattle.normal_forms.specs.Forms.{Form, Decomposing, Composing, nfd, nfc, normal_form, IsNormalized};
+ghost use Rattle.normal_forms.specs.Equivalence.{Equivalent};
+ghost use Rattle.normal_forms.specs.Cut.{QualifiesForCut, IsCut, IsCommonFront, IsFront};
+ghost use Rattle.normal_forms.specs.Offence.{IsFirstOffence};
+ghost use Rattle.normal_forms.specs.Hypotheses.{HasFullLists, HasStarterResults, HasFaithfulResults, HasInhabitedLists, SuitsForm};
+
+/// Exactly one list is in canonical order for a text: the relation by runs and the function agree (D109).
+pub fn canonical_order()
+    ensures { (d : Reading) (x y : List ℕ) → InOrder d x y ↔ (y ≡ order d x) }
+{}
+
+/// The composition by visits (D117) is the composition by starters, where what a pair joins to is a starter.
+pub fn composition_by_starters()
+    ensures { (d : Reading) → HasStarterResults d → (x : List ℕ) → compose d x ≡ compose_by_starters d x }
+{}
+
+/// A common front cancels: no character behind it can tell how it was followed.
+pub fn left_cancellation()
+    ensures { (d : Reading) (u v w : List ℕ) → order d (u ++ v) ≡ order d (u ++ w) → order d v ≡ order d w }
+{}
+
+/// Two texts are equivalent (D70) exactly where their normal forms are equal.
+pub fn canonicity()
+    ensures { (d : Reading) (form : Form) → SuitsForm d form → (x y : List ℕ) →
+        Equivalent d x y ↔ (normal_form d form x ≡ normal_form d form y) }
+{}
+
+/// A normal form is its own normal form.
+pub fn twice_is_once()
+    ensures { (d : Reading) (form : Form) → SuitsForm d form → (x : List ℕ) → IsNormalized d form (normal_form d form x) }
+{}
+
+/// The two forms of a text have the same decomposing form and the same composing form; so two texts have equal
+/// composing forms exactly where they have equal decomposing forms.
+pub fn composing_keeps_decomposing()
+    ensures decomposed { (d : Reading) → SuitsForm d Composing → (x : List ℕ) → nfd d (nfc d x) ≡ nfd d x }
+    ensures composed { (d : Reading) → HasFullLists d → (x : List ℕ) → nfc d (nfd d x) ≡ nfc d x }
+    ensures equal_together { (d : Reading) → SuitsForm d Composing → (x y : List ℕ) → (nfc d x ≡ nfc d y) ↔ (nfd d x ≡ nfd d y) }
+{}
+
+/// What a pair joins to has the ordered lists of the pair.
+pub fn join_keeps_lists()
+    ensures { (d : Reading) → HasFaithfulResults d → (a c r : ℕ) → d.pair a c ≡ Some r →
+        d.list r ≡ order d (d.list a ++ d.list c) }
+{}
+
+/// A number qualifies for the cut exactly where so many characters are a common front of the text and its form. So 0
+/// qualifies, and every number below one that does.
+pub fn cut_is_common_front()
+    ensures exactly { (d : Reading) (form : Form) → SuitsForm d form → (x : List ℕ) (n : ℕ) →
+        QualifiesForCut d form x n ↔ IsCommonFront x (normal_form d form x) n }
+    ensures none { (d : Reading) (form : Form) (x : List ℕ) → QualifiesForCut d form x 0 }
+    ensures fewer { (d : Reading) (form : Form) → SuitsForm d form → (x : List ℕ) (n m : ℕ) →
+        QualifiesForCut d form x n → m ≤ n → QualifiesForCut d form x m }
+{}
+
+/// Every text has exactly one cut: the length of the longest common front of the text and its form.
+pub fn one_cut()
+    ensures exists { (d : Reading) (form : Form) → SuitsForm d form → (x : List ℕ) → (n : ℕ) × IsCut d form x n }
+    ensures unique { (d : Reading) (form : Form) (x : List ℕ) (n m : ℕ) → IsCut d form x n → IsCut d form x m → n ≡ m }
+    ensures longest { (d : Reading) (form : Form) → SuitsForm d form → (x : List ℕ) (n : ℕ) → IsCut d form x n →
+        (m : ℕ) → IsCommonFront x (normal_form d form x) m → m ≤ n }
+{}
+
+/// The prefix at the cut is its own form; the rest is empty or is not its own form.
+pub fn parts_at_cut()
+    ensures prefix { (d : Reading) (form : Form) → SuitsForm d form → (x : List ℕ) (n : ℕ) → IsCut d form x n →
+        IsNormalized d form (take n x) }
+    ensures rest { (d : Reading) (form : Form) → SuitsForm d form → (x : List ℕ) (n : ℕ) → IsCut d form x n →
+        IsNormalized d form (drop n x) → drop n x ≡ [] }
+{}
+
+/// Every front and every suffix of a normal form is a normal form.
+pub fn parts_of_normal_form()
+    ensures front { (d : Reading) (form : Form) → SuitsForm d form → (x front rest : List ℕ) → normal_form d form x ≡ front ++ rest →
+        IsNormalized d form front }
+    ensures suffix { (d : Reading) (form : Form) → SuitsForm d form → (x front rest : List ℕ) → normal_form d form x ≡ front ++ rest →
+        IsNormalized d form rest }
+{}
+
+/// A text is its own form exactly where it is a front of its form, and exactly where its cut is its length.
+pub fn normalized_is_front()
+    ensures front { (d : Reading) (form : Form) → SuitsForm d form → (x : List ℕ) →
+        IsNormalized d form x ↔ IsFront x (normal_form d form x) }
+    ensures cut { (d : Reading) (form : Form) → SuitsForm d form → (x : List ℕ) →
+        IsNormalized d form x ↔ IsCut d form x (length x) }
+{}
+
+/// A text that is not its own form has exactly one first offence, and the character found there is not the one wanted.
+pub fn first_offence()
+    ensures exists { (d : Reading) (form : Form) → SuitsForm d form → HasInhabitedLists d → (x : List ℕ) → normal_form d form x ≢ x →
+        (place : ℕ) × (found : ℕ) × (wanted : ℕ) × IsFirstOffence d form x place found wanted }
+    ensures unique { (d : Reading) (form : Form) (x : List ℕ) (place found wanted place' found' wanted' : ℕ) →
+        IsFirstOffence d form x place found wanted → IsFirstOffence d form x place' found' wanted' →
+        (place ≡ place') × (found ≡ found') × (wanted ≡ wanted') }
+    ensures differ { (d : Reading) (form : Form) → SuitsForm d form → (x : List ℕ) (place found wanted : ℕ) →
+        IsFirstOffence d form x place found wanted → found ≢ wanted }
+{}
+
+/// What is put behind a text mends no offence: the longer text has one too, at a place no later.
+pub fn offence_under_continuation()
+    ensures cut { (d : Reading) (form : Form) → SuitsForm d form → (x y : List ℕ) (n m : ℕ) → normal_form d form x ≢ x →
+        IsCut d form x n → IsCut d form (x ++ y) m → m ≤ n }
+    ensures differs { (d : Reading) (form : Form) → SuitsForm d form → (x y : List ℕ) → normal_form d form x ≢ x →
+        normal_form d form (x ++ y) ≢ (x ++ y) }
+    ensures offence { (d : Reading) (form : Form) → SuitsForm d form → HasInhabitedLists d → (x y : List ℕ) (n found wanted : ℕ) →
+        IsFirstOffence d form x n found wanted →
+        (place : ℕ) × (found' : ℕ) × (wanted' : ℕ) × IsFirstOffence d form (x ++ y) place found' wanted' × (place ≤ n) }
+{}
+
+/// A text offered piece by piece: where the form of a front stands at the front of the text, it is that front.
+pub fn offered_front()
+    ensures { (d : Reading) (form : Form) → SuitsForm d form → HasInhabitedLists d → (u v : List ℕ) →
+        IsFront (normal_form d form u) (u ++ v) → IsNormalized d form u }
+{}
+
+/// Each part is normalized apart where the second begins with a starter, for the composing form one that is second in no
+/// pair (UAX #15, section 1.4).
+pub fn safe_boundary()
+    ensures decomposing { (d : Reading) (u v : List ℕ) → BeginsWithStarter d (expand d v) → nfd d (u ++ v) ≡ nfd d u ++ nfd d v }
+    ensures composing { (d : Reading) → HasStarterResults d → (u v : List ℕ) → BeginsSafely d (expand d v) →
+        nfc d (u ++ v) ≡ nfc d u ++ nfc d v }
+{}
+
+/// A run of characters that are their own forms, each with a list that begins so, is passed on whole.
+pub fn run_passed_on()
+    ensures decomposing { (d : Reading) (u run v : List ℕ) →
+        All (λ c. (nfd d (c ∷ []) ≡ c ∷ []) × BeginsWithStarter d (d.list c)) run → BeginsWithStarter d (expand d v) →
+        nfd d (u ++ (run ++ v)) ≡ nfd d u ++ (run ++ nfd d v) }
+    ensures composing { (d : Reading) → HasStarterResults d → (u run v : List ℕ) →
+        All (λ c. (nfc d (c ∷ []) ≡ c ∷ []) × BeginsSafely d (d.list c)) run → BeginsSafely d (expand d v) →
+        nfc d (u ++ (run ++ v)) ≡ nfc d u ++ (run ++ nfc d v) }
+{}
+
+/// The decomposing form may be read lazily. Ahead of the first chunk stands what leads it, in order; each chunk gives the
+/// first of its character's list, then the rest of that list and the lists of what follows up to the next chunk, in
+/// order. Characters with an empty list may stand anywhere in a chunk.
+pub fn lazy_reading()
+    ensures leading { (d : Reading) (leading rest : List ℕ) → BeginsChunk d rest →
+        nfd d (leading ++ rest) ≡ order d (expand d leading) ++ nfd d rest }
+    ensures chunk { (d : Reading) (c first : ℕ) (tail following rest : List ℕ) → d.list c ≡ first ∷ tail → IsStarter d first →
+        BeginsChunk d rest →
+        nfd d (c ∷ (following ++ rest)) ≡ first ∷ (order d (tail ++ expand d following) ++ nfd d rest) }
+{}
+
+/// Short runs pass to every rest, and bound what waits: the lists of the leading characters that continue, and the list
+/// of another character after its first with the lists of those that continue behind it.
+pub fn short_runs()
+    ensures rest { (has_class_form : ℕ → Bool) (d : Reading) (front rest : List ℕ) → HasShortRuns has_class_form d (front ++ rest) →
+        HasShortRuns has_class_form d rest }
+    ensures leading { (has_class_form : ℕ → Bool) (d : Reading) (leading rest : List ℕ) → HasShortRuns has_class_form d (leading ++ rest) →
+        AllPass (continues has_class_form d) leading → length (expand d leading) ≤ places }
+    ensures chunk { (has_class_form : ℕ → Bool) (d : Reading) (c first : ℕ) (tail following rest : List ℕ) →
+        HasShortRuns has_class_form d (c ∷ (following ++ rest)) → continues has_class_form d c ≡ false →
+        d.list c ≡ first ∷ tail → AllPass (continues has_class_form d) following →
+        length (tail ++ expand d following) ≤ places }
+{}
+
+/// Over a run of marks composition is one pass, which gives a starter and the marks that stay. A character joins behind
+/// marks in order exactly where none waits or the last one has a lower class.
+pub fn composition_over_marks()
+    ensures pass { (d : Reading) (a : ℕ) (waiting marks rest : List ℕ) → All (IsMark d) marks →
+        compose_after d a waiting (marks ++ rest) ≡
+        compose_after d (compose_marks d a waiting marks).0 (compose_marks d a waiting marks).1 rest }
+    ensures last_decides { (d : Reading) (waiting : List ℕ) (c : ℕ) → All (IsMark d) waiting → order d waiting ≡ waiting →
+        (is_above d waiting c ≡ true) ↔ ((waiting ≡ []) ⊎ IsLastBelow d waiting c) }
+{}

@@ -1,0 +1,14 @@
+//! The Unicode normal forms, defined over any reading of characters (Unicode Standard Annex #15; The Unicode Standard,
+//! section 3.11).
+#![tactic(auto)]
+
+/// The two kinds of normal form (UAX #15, section 1.2): over canonical data NFD and NFC, over compatibility data NFKD
+/// and NFKC.
+#[derive(Clone, Copy, PartialEq, Eq, Debug)]
+pub enum Form {
+    Decomposing,
+    Composing,
+}
+
+pub mod laws;
+pub mod plain;
