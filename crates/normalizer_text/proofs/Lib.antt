@@ -1,0 +1,13 @@
+pub mod BackLemmas
+pub mod BoundaryLemmas
+pub mod Decoding
+pub mod EncodingLemmas
+pub mod EncodingRules
+pub mod MatchLemmas
+pub mod RowLemmas
+pub mod ScalarLemmas
+pub mod SequenceLemmas
+pub mod StdLemmas
+pub mod StepLemmas
+pub mod Utf16Lemmas
+pub mod Utf8Lemmas

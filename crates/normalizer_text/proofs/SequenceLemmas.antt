@@ -1,0 +1,168 @@
+-- A well-formed sequence in front of bytes, and the encoding of a text.
+use Rattle.std.proofs.Common.{◌≡◌, ℕ, suc, ◌<◌, ◌≤◌, true, false, List, [], ◌∷◌, ◌++◌, length, take, Some, arith, refl, ap, sym, subst, ◌∙◌, ⊎_elim}
+use Rattle.std.specs.Prelude.{All}
+use Rattle.std.specs.Char.{IsScalar, encode_utf8}
+use Rattle.std.specs.Str.{IsCharBoundary, encode_utf8_all, IsUtf8, chars, all_scalars}
+use Rattle.std.proofs.lemmas.Str.{chars_from_encodes, IsCharBoundary-from_take, IsUtf8-take}
+use Rattle.std.proofs.lemmas.Bool.{true≢false, cases_eq, cases_lt, and_from, and_parts, le-leb}
+use Rattle.std.proofs.lemmas.Bool.Decides.{nat_tests}
+use Rattle.std.proofs.lemmas.List.{take_at}
+use Rattle.std.proofs.lemmas.List.Elements.{All-nil, All-cons, All-head, All-tail}
+use Rattle.normalizer_text.specs.Steps.{IsWellFormed, IsBoundary}
+use Rattle.normalizer_text.specs.Utf8.{ByteRange, range, Row, row, row_of, continuation, allows, matched, scalar_value, first_by_row, first_of_utf8, decoded_utf8}
+use Rattle.normalizer_text.specs.Sequences.{IsSequence}
+use Rattle.normalizer_text.proofs.MatchLemmas.{IsWithin, AreWithin}
+use Rattle.normalizer_text.proofs.RowLemmas.{IsSequence-row, by_row-whole}
+use Rattle.normalizer_text.proofs.BoundaryLemmas.{boundary-le, boundary-well_formed, well_formed-parts}
+use Rattle.normalizer_text.proofs.EncodingLemmas.{read, IsEncoding, DecodesBack, DecodesBack-text, all-decoded}
+use Rattle.normalizer_text.proofs.ScalarLemmas.{encode-scalar_value, Encodes-encode}
+use Rattle.normalizer_text.proofs.StepLemmas.{decoded-IsText}
+use Rattle.normalizer_text.proofs.Utf8Lemmas.{by_cases, IsDecoding-utf8}
+
+-- ---- the row of a first byte
+
+row-ascii : (b : ℕ) → b ≤ 0x7F → row_of b ≡ Some (row (range 0x00 0x7F) [])
+unfolding row_of
+row-ascii b h = grind (arith, nat_tests)
+
+row-two : (b : ℕ) → 0xC2 ≤ b → b ≤ 0xDF → row_of b ≡ Some (row (range 0xC2 0xDF) (continuation ∷ []))
+unfolding row_of
+row-two b h l = grind (arith, nat_tests)
+
+row-E0 : (b : ℕ) → b ≡ 0xE0 → row_of b ≡ Some (row (range 0xE0 0xE0) (range 0xA0 0xBF ∷ continuation ∷ []))
+unfolding row_of
+row-E0 b h = grind (arith, nat_tests)
+
+row-E1 : (b : ℕ) → 0xE1 ≤ b → b ≤ 0xEC → row_of b ≡ Some (row (range 0xE1 0xEC) (continuation ∷ continuation ∷ []))
+unfolding row_of
+row-E1 b h l = grind (arith, nat_tests)
+
+row-ED : (b : ℕ) → b ≡ 0xED → row_of b ≡ Some (row (range 0xED 0xED) (range 0x80 0x9F ∷ continuation ∷ []))
+unfolding row_of
+row-ED b h = grind (arith, nat_tests)
+
+row-EE : (b : ℕ) → 0xEE ≤ b → b ≤ 0xEF → row_of b ≡ Some (row (range 0xEE 0xEF) (continuation ∷ continuation ∷ []))
+unfolding row_of
+row-EE b h l = grind (arith, nat_tests)
+
+row-F0 : (b : ℕ) → b ≡ 0xF0 → row_of b ≡ Some (row (range 0xF0 0xF0) (range 0x90 0xBF ∷ continuation ∷ continuation ∷ []))
+unfolding row_of
+row-F0 b h = grind (arith, nat_tests)
+
+row-F1 : (b : ℕ) → 0xF1 ≤ b → b ≤ 0xF3 → row_of b ≡ Some (row (range 0xF1 0xF3) (continuation ∷ continuation ∷ continuation ∷ []))
+unfolding row_of
+row-F1 b h l = grind (arith, nat_tests)
+
+row-F4 : (b : ℕ) → b ≡ 0xF4 → row_of b ≡ Some (row (range 0xF4 0xF4) (range 0x80 0x8F ∷ continuation ∷ continuation ∷ []))
+unfolding row_of
+row-F4 b h = grind (arith, nat_tests)
+
+-- ---- a sequence in front
+
+-- the places of the row that the first byte begins
+record HasRow (b : ℕ) (bs : List ℕ) : Type 0 where
+  r : Row
+  is : row_of b ≡ Some r
+  within : AreWithin r.trail bs
+
+HasRow-sequence : (b : ℕ) (bs : List ℕ) → IsSequence (b ∷ bs) → HasRow b bs
+HasRow-sequence b [] s = record { r = _; is = row-ascii b (omega arith); within = tt }
+HasRow-sequence b (c ∷ []) s = record { r = _; is = row-two b (omega arith) (omega arith); within = ((omega arith, omega arith), tt) }
+HasRow-sequence b (c ∷ d ∷ []) s = ⊎_elim
+    (λ e. let k = s.2 e in record { r = _; is = row-E0 b e; within = ((omega arith, omega arith), ((omega arith, omega arith), tt)) })
+    (λ ne. ⊎_elim
+    (λ e. let k = s.3 e in record { r = _; is = row-ED b e; within = ((omega arith, omega arith), ((omega arith, omega arith), tt)) })
+    (λ nd. ⊎_elim
+    (λ l. record { r = _; is = row-E1 b (omega arith) (omega arith); within = ((omega arith, omega arith), ((omega arith, omega arith), tt)) })
+    (λ g. record { r = _; is = row-EE b (omega arith) (omega arith); within = ((omega arith, omega arith), ((omega arith, omega arith), tt)) })
+    (cases_lt b 0xED))
+    (cases_eq b 0xED))
+    (cases_eq b 0xE0)
+HasRow-sequence b (c ∷ d ∷ e ∷ []) s = ⊎_elim
+    (λ q. let k = s.2 q in record { r = _; is = row-F0 b q; within = ((omega arith, omega arith), ((omega arith, omega arith), ((omega arith, omega arith), tt))) })
+    (λ ne. ⊎_elim
+    (λ q. let k = s.3 q in record { r = _; is = row-F4 b q; within = ((omega arith, omega arith), ((omega arith, omega arith), ((omega arith, omega arith), tt))) })
+    (λ nd. record { r = _; is = row-F1 b (omega arith) (omega arith); within = ((omega arith, omega arith), ((omega arith, omega arith), ((omega arith, omega arith), tt))) })
+    (cases_eq b 0xF4))
+    (cases_eq b 0xF0)
+HasRow-sequence b (c ∷ d ∷ e ∷ f ∷ bs) s = absurd s
+
+allows_from : (r : ByteRange) (b : ℕ) → IsWithin r b → allows r b ≡ true
+allows_from r b h = and_from _ _ (le-leb r.least b h.0) (le-leb b r.greatest h.1)
+
+matched-AreWithin : (rs : List ByteRange) (bs more : List ℕ) → AreWithin rs bs → (matched rs (bs ++ more) ≡ length rs) × (length bs ≡ length rs)
+matched-AreWithin [] [] more h = (refl, refl)
+matched-AreWithin [] (b ∷ bs) more h = absurd h
+matched-AreWithin (r ∷ rs) [] more h = absurd h
+matched-AreWithin (r ∷ rs) (b ∷ bs) more h = let k = matched-AreWithin rs bs more h.1 in (rw (allows_from r b h.0) (ap suc k.0), ap suc k.1)
+
+pub first-sequence : (bytes more : List ℕ) → IsSequence bytes → first_of_utf8 (bytes ++ more) ≡ read (scalar_value bytes) (length bytes)
+first-sequence [] more s = absurd s
+first-sequence (b ∷ bs) more s =
+    let k = HasRow-sequence b bs s in
+    let m = matched-AreWithin k.r.trail bs more k.within in
+    ap (λ o. first_by_row o b (bs ++ more)) k.is
+    ∙ by_row-whole k.r b (bs ++ more) m.0
+    ∙ ap (λ x. read (scalar_value (b ∷ x)) (suc (length k.r.trail))) (take_at bs more (length k.r.trail) m.1)
+    ∙ ap (λ n. read (scalar_value (b ∷ bs)) (suc n)) (sym m.1)
+
+-- ---- the encoding of a text
+
+first-encode : (c : ℕ) (more : List ℕ) → IsScalar c → first_of_utf8 (encode_utf8 c ++ more) ≡ read c (length (encode_utf8 c))
+first-encode c more h =
+    let e = Encodes-encode c h in
+    first-sequence (encode_utf8 c) more e.sequence ∙ ap (λ v. read v (length (encode_utf8 c))) e.value
+
+some-encode : (c : ℕ) → IsScalar c → 0 < length (encode_utf8 c)
+some-encode c h = by (encode_utf8 c) (Encodes-encode c h).sequence
+  where
+    by : (bytes : List ℕ) → IsSequence bytes → 0 < length bytes
+    by [] s = absurd s
+    by (b ∷ bs) s = omega arith
+
+encode-first : (us : List ℕ) → 0 < length us → (first_of_utf8 us).is_error ≡ false → encode_utf8 (first_of_utf8 us).character ≡ take (first_of_utf8 us).width us
+encode-first [] h e = absurd (omega arith)
+encode-first (b ∷ bs) h e = by_cases (λ s. s.is_error ≡ false → encode_utf8 s.character ≡ take s.width (b ∷ bs)) b bs
+    (λ _ e. absurd (true≢false e))
+    (λ r f m e. encode-scalar_value (b ∷ take (length r.trail) bs) (IsSequence-row b bs r f m))
+    (λ r f m e. absurd (true≢false e))
+    e
+
+pub IsEncoding-utf8 : IsEncoding first_of_utf8 encode_utf8 encode_utf8_all
+IsEncoding-utf8 = record { nil = refl; cons = λ c x. refl; some = some-encode; front = first-encode; back = encode-first }
+
+-- what a text encodes to is well-formed, and decodes to the text
+pub DecodesBack-utf8 : (x : List ℕ) → All IsScalar x → DecodesBack first_of_utf8 encode_utf8_all x
+DecodesBack-utf8 = DecodesBack-text first_of_utf8 IsDecoding-utf8 encode_utf8 encode_utf8_all IsEncoding-utf8
+
+-- what is well-formed is the encoding of what it decodes to
+pub encode-decoded : (bytes : List ℕ) → IsWellFormed first_of_utf8 bytes → encode_utf8_all (decoded_utf8 bytes) ≡ bytes
+encode-decoded = all-decoded first_of_utf8 IsDecoding-utf8 encode_utf8 encode_utf8_all IsEncoding-utf8
+
+-- ---- std's words
+
+text_from_scalars : (x : List ℕ) → all_scalars x ≡ true → All IsScalar x
+text_from_scalars [] h = All-nil IsScalar
+text_from_scalars (c ∷ x) h = let k = and_parts _ _ h in All-cons IsScalar c x k.0 (text_from_scalars x k.1)
+
+scalars_from_text : (x : List ℕ) → All IsScalar x → all_scalars x ≡ true
+scalars_from_text [] h = refl
+scalars_from_text (c ∷ x) h = and_from _ _ (All-head IsScalar c x h) (scalars_from_text x (All-tail IsScalar c x h))
+
+pub IsWellFormed-IsUtf8 : (bytes : List ℕ) → IsUtf8 bytes → IsWellFormed first_of_utf8 bytes
+IsWellFormed-IsUtf8 bytes u = subst (IsWellFormed first_of_utf8) u.1.1 (DecodesBack-utf8 u.0 (text_from_scalars u.0 u.1.0)).well_formed
+
+pub IsUtf8-IsWellFormed : (bytes : List ℕ) → IsWellFormed first_of_utf8 bytes → IsUtf8 bytes
+IsUtf8-IsWellFormed bytes w = (decoded_utf8 bytes, (scalars_from_text _ (decoded-IsText first_of_utf8 IsDecoding-utf8 bytes), encode-decoded bytes w))
+
+pub decoded-chars : (bytes : List ℕ) → IsUtf8 bytes → decoded_utf8 bytes ≡ chars bytes
+decoded-chars bytes u = chars_from_encodes (decoded_utf8 bytes) bytes u (encode-decoded bytes (IsWellFormed-IsUtf8 bytes u))
+
+-- a step of a text ends where the text may be cut
+pub IsCharBoundary-boundary : (bytes : List ℕ) (n : ℕ) → IsUtf8 bytes → IsBoundary first_of_utf8 bytes n → IsCharBoundary bytes n
+IsCharBoundary-boundary bytes n u b =
+    let parts = well_formed-parts first_of_utf8 IsDecoding-utf8 bytes n b (IsWellFormed-IsUtf8 bytes u) in
+    IsCharBoundary-from_take bytes n u (boundary-le first_of_utf8 IsDecoding-utf8 bytes n b) (IsUtf8-IsWellFormed (take n bytes) parts.0)
+
+pub boundary-IsCharBoundary : (bytes : List ℕ) (n : ℕ) → IsUtf8 bytes → IsCharBoundary bytes n → IsBoundary first_of_utf8 bytes n
+boundary-IsCharBoundary bytes n u c = boundary-well_formed first_of_utf8 IsDecoding-utf8 bytes n c.0 (IsWellFormed-IsUtf8 (take n bytes) (IsUtf8-take bytes n u c))

@@ -1,0 +1,10 @@
+use Rattle.std.proofs.Common.{◌-◌, ◌≤◌}
+use Rattle.normalizer_text.specs.Utf8.{matched}
+use Rattle.normalizer_text.specs.Trails.{places}
+use Rattle.normalizer_text.proofs.utf8.Trail.matched.Given as goal
+
+abbrev pub invariant-loop-n : goal.invariant-loop-n
+invariant-loop-n l = l.n ≤ matched (places l.self) l.bytes
+
+abbrev pub decreases-loop-n : goal.decreases-loop-n
+decreases-loop-n l = l.self.length - l.n

@@ -1,0 +1,22 @@
+-- The encodings, each with what stands in front of its units.
+use Rattle.std.specs.Prelude.{ℕ, Bool, List}
+use Rattle.normalizer_text.specs.declared.step.Step.{Step}
+use Rattle.normalizer_text.specs.Utf8.{continuation, allows, first_of_utf8}
+use Rattle.normalizer_text.specs.Utf16.{is_low, first_of_utf16}
+
+pub data Encoding : Type 0 where
+  Utf8 : Encoding
+  Utf16 : Encoding
+
+abbrev pub first_in : Encoding → List ℕ → Step
+first_in Encoding.Utf8 = first_of_utf8
+first_in Encoding.Utf16 = first_of_utf16
+
+-- whether a unit can stand after the first one of a step, and how many units a step takes at most
+abbrev pub trails_in : Encoding → ℕ → Bool
+trails_in Encoding.Utf8 = allows continuation
+trails_in Encoding.Utf16 = is_low
+
+abbrev pub most_in : Encoding → ℕ
+most_in Encoding.Utf8 = 4
+most_in Encoding.Utf16 = 2

@@ -1,0 +1,8 @@
+pub mod Backwards
+pub mod Encodings
+pub mod Laws
+pub mod Sequences
+pub mod Steps
+pub mod Trails
+pub mod Utf16
+pub mod Utf8

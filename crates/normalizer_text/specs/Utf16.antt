@@ -1,0 +1,41 @@
+-- UTF-16, well-formed or not (The Unicode Standard, section 3.9).
+use Rattle.std.specs.Prelude.{ℕ, ◌+◌, ◌-◌, ◌*◌, Bool, false, ◌&&◌, ◌||◌, List, [], ◌∷◌, if◌then◌else◌}
+use Rattle.std.specs.Int.{is_in_range}
+use Rattle.std.specs.List.{flat_map}
+use Rattle.std.specs.Char.Escape.{encode_utf16}
+use Rattle.normalizer_text.specs.declared.step.Step.{Step}
+use Rattle.normalizer_text.specs.Steps.{replaced, decoded}
+
+-- a high-surrogate code unit (D72)
+abbrev pub is_high : ℕ → Bool
+is_high u = is_in_range 0xD800 0xDBFF u
+
+-- a low-surrogate code unit (D74)
+abbrev pub is_low : ℕ → Bool
+is_low u = is_in_range 0xDC00 0xDFFF u
+
+-- a unit that is a scalar value by itself
+abbrev pub is_single : ℕ → Bool
+is_single u = is_in_range 0x0000 0xD7FF u || is_in_range 0xE000 0xFFFF u
+
+-- the scalar value of a surrogate pair (table 3-5)
+abbrev pub pair_value : ℕ → ℕ → ℕ
+pair_value high low = 0x10000 + (high - 0xD800) * 0x400 + (low - 0xDC00)
+
+-- a unit that is not the first of a pair: itself, or U+FFFD for a surrogate
+abbrev pub unpaired : ℕ → Step
+unpaired u = if is_single u then record { character = u; width = 1; is_error = false } else replaced 1
+
+-- what stands in front
+abbrev pub first_of_utf16 : List ℕ → Step
+first_of_utf16 [] = replaced 0
+first_of_utf16 (u ∷ []) = unpaired u
+first_of_utf16 (u ∷ v ∷ us) = if is_high u && is_low v then record { character = pair_value u v; width = 2; is_error = false } else unpaired u
+
+-- the text that 16-bit units decode to
+abbrev pub decoded_utf16 : List ℕ → List ℕ
+decoded_utf16 units = decoded first_of_utf16 units
+
+-- the units of a text
+abbrev pub encode_utf16_all : List ℕ → List ℕ
+encode_utf16_all x = flat_map encode_utf16 x

@@ -1,0 +1,71 @@
+//! The characters that units decode to, one at a time.
+ghost use Rattle.std.specs.Prelude.{◌≡◌, ℕ, List, length, reverse};
+ghost use Rattle.std.specs.Iterator.{at_most};
+ghost use Rattle.normalizer_text.specs.Steps.{TakesFirst, TakesLast, Spells, decoded};
+ghost use Rattle.normalizer_text.specs.Encodings.{first_in};
+
+use crate::units::Units;
+use std::marker::Model;
+
+/// The characters that units decode to, from the front and from the back: of what is ill-formed, one U+FFFD for the longest
+/// beginning of a character that is cut short, and for each other unit that is part of none.
+#[derive(Drop)]
+pub struct Chars<U: Units> {
+    units: U,
+}
+
+/// The characters that bytes decode to.
+pub type Utf8Chars<'a> = Chars<&'a [u8]>;
+
+/// The characters that 16-bit units decode to.
+pub type Utf16Chars<'a> = Chars<&'a [u16]>;
+
+impl<U: Units> Model for Chars<U> {
+    ghost Value = { List ℕ };
+
+    ghost view = { λ it. U.units it.units };
+}
+
+impl<U: Units> Chars<U> {
+    /// Each run of calls of `next`, or of `next_back`, gives the characters that the units decode to, and ends.
+    pub fn new(units: U) -> Chars<U>
+        ensures left { result ≡ U.units units }
+        ensures spells { let first = first_in U.encoding in
+            Spells (TakesFirst first) result (decoded first (U.units units)) }
+        ensures spells_back { let first = first_in U.encoding in
+            Spells (TakesLast first) result (reverse (decoded first (U.units units))) }
+    {
+        Chars { units }
+    }
+
+    /// The units that are not yet taken.
+    pub fn as_slice(&self) -> U
+        ensures { U.units result ≡ self.now }
+    {
+        self.units
+    }
+}
+
+impl<U: Units> Iterator for Chars<U> {
+    type Item = char;
+
+    ghost next_gives = { TakesFirst (first_in U.encoding) };
+
+    ghost remaining = { λ units. at_most (length units) };
+
+    fn next(&mut self) -> Option<char> {
+        let step = self.units.first_step()?;
+        self.units = self.units.after(step.width);
+        Some(step.character)
+    }
+}
+
+impl<U: Units> DoubleEndedIterator for Chars<U> {
+    ghost next_back_gives = { TakesLast (first_in U.encoding) };
+
+    fn next_back(&mut self) -> Option<char> {
+        let step = self.units.last_step()?;
+        self.units = self.units.before(self.units.len() - step.width);
+        Some(step.character)
+    }
+}

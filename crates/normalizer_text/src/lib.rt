@@ -1,0 +1,17 @@
+//! Text in three encodings: decoding bytes that may not be UTF-8 and 16-bit units that may not be UTF-16, from the
+//! front and from the back (The Unicode Standard, section 3.9).
+#![tactic(auto)]
+
+mod chars;
+pub mod laws;
+mod step;
+mod units;
+mod utf16;
+mod utf8;
+
+pub use chars::{Chars, Utf8Chars, Utf16Chars};
+pub use step::Step;
+pub use units::Units;
+
+#[cfg(test)]
+mod tests;

@@ -1,0 +1,27 @@
+//! What one step of decoding tells.
+ghost use Rattle.std.specs.Prelude.{◌≡◌};
+
+/// One step of decoding: the units of one character, or those that U+FFFD stands for.
+#[derive(Clone, Copy, PartialEq, Eq, Debug)]
+pub struct Step {
+    pub character: char,
+    /// How many units were taken.
+    pub width: usize,
+    /// Whether the units were ill-formed.
+    pub is_error: bool,
+}
+
+impl Step {
+    ghost use Rattle.normalizer_text.specs.Steps.{replaced};
+
+    // U+FFFD for so many units.
+    pub(crate) fn replaced(width: usize) -> Step
+        ensures { result ≡ replaced width }
+    {
+        Step {
+            character: '\u{FFFD}',
+            width,
+            is_error: true,
+        }
+    }
+}

@@ -1,0 +1,152 @@
+//! The three encodings as one trait, over which every loop is written once.
+ghost use Rattle.std.specs.Prelude.{◌≡◌, ◌==◌, ℕ, ◌<◌, List, [], length, take, drop, MatchOption};
+ghost use Rattle.normalizer_text.specs.Steps.{IsBoundary, IsFirstStep, IsLastStep};
+ghost use Rattle.normalizer_text.specs.Backwards.{IsLastStart};
+ghost use Rattle.normalizer_text.specs.Encodings.{Encoding, first_in, trails_in, most_in};
+
+use crate::step::Step;
+use crate::{utf8, utf16};
+
+/// Text in an encoding: a `str`, bytes that may not be UTF-8, or 16-bit units that may not be UTF-16. A position counts
+/// units from the front.
+pub trait Units: Copy {
+    // The units.
+    ghost units: { Self → List ℕ };
+
+    // Their encoding.
+    ghost encoding: { Encoding };
+
+    fn len(self) -> usize
+        ensures { result ≡ length (units self) };
+
+    // The step in front of the units from a position on, wherever that stands.
+    fn step_at(self, position: usize) -> Step
+        requires { position < length (units self) }
+        ensures { result ≡ first_in encoding (drop position (units self)) };
+
+    // Where the last step begins, if it takes more than one unit.
+    fn last_start(self) -> usize
+        requires { 0 < length (units self) }
+        ensures { IsLastStart (trails_in encoding) (most_in encoding) (units self) result };
+
+    // The units before a position at which a step ends.
+    fn before(self, position: usize) -> Self
+        requires { IsBoundary (first_in encoding) (units self) position }
+        ensures { units result ≡ take position (units self) };
+
+    // The units after such a position.
+    fn after(self, position: usize) -> Self
+        requires { IsBoundary (first_in encoding) (units self) position }
+        ensures { units result ≡ drop position (units self) };
+
+    final fn is_empty(self) -> bool
+        ensures { result ≡ (length (units self) == 0) }
+    {
+        self.len() == 0
+    }
+
+    // The step in front, if there are units.
+    final fn first_step(self) -> Option<Step>
+        ensures { MatchOption result (units self ≡ []) (IsFirstStep (first_in encoding) (units self)) }
+    {
+        if self.len() == 0 {
+            return None;
+        }
+        Some(self.step_at(0))
+    }
+
+    // The step at the back, if there are units.
+    final fn last_step(self) -> Option<Step>
+        ensures { MatchOption result (units self ≡ []) (IsLastStep (first_in encoding) (units self)) }
+    {
+        let len = self.len();
+        if len == 0 {
+            return None;
+        }
+        let start = self.last_start();
+        let step = self.step_at(start);
+        if step.width == len - start {
+            Some(step)
+        } else {
+            Some(Step::replaced(1))
+        }
+    }
+}
+
+impl<'a> Units for &'a str {
+    ghost units = { λ text. text.now };
+
+    ghost encoding = { Encoding.Utf8 };
+
+    fn len(self) -> usize {
+        str::len(self)
+    }
+
+    fn step_at(self, position: usize) -> Step {
+        utf8::first_step(&self.as_bytes()[position..])
+    }
+
+    fn last_start(self) -> usize {
+        utf8::last_start(self.as_bytes())
+    }
+
+    fn before(self, position: usize) -> Self {
+        &self[..position]
+    }
+
+    fn after(self, position: usize) -> Self {
+        &self[position..]
+    }
+}
+
+impl<'a> Units for &'a [u8] {
+    ghost units = { λ bytes. bytes.now };
+
+    ghost encoding = { Encoding.Utf8 };
+
+    fn len(self) -> usize {
+        <[u8]>::len(self)
+    }
+
+    fn step_at(self, position: usize) -> Step {
+        utf8::first_step(&self[position..])
+    }
+
+    fn last_start(self) -> usize {
+        utf8::last_start(self)
+    }
+
+    fn before(self, position: usize) -> Self {
+        &self[..position]
+    }
+
+    fn after(self, position: usize) -> Self {
+        &self[position..]
+    }
+}
+
+impl<'a> Units for &'a [u16] {
+    ghost units = { λ units. units.now };
+
+    ghost encoding = { Encoding.Utf16 };
+
+    fn len(self) -> usize {
+        <[u16]>::len(self)
+    }
+
+    fn step_at(self, position: usize) -> Step {
+        utf16::first_step(&self[position..])
+    }
+
+    fn last_start(self) -> usize {
+        utf16::last_start(self)
+    }
+
+    fn before(self, position: usize) -> Self {
+        &self[..position]
+    }
+
+    fn after(self, position: usize) -> Self {
+        &self[position..]
+    }
+}

@@ -1,0 +1,74 @@
+//! Decoding 16-bit units that may not be UTF-16, with U+FFFD for what is ill-formed (The Unicode Standard, section 3.9).
+ghost use Rattle.std.specs.Prelude.{◌≡◌, ◌<◌, ◌≤◌, IsTrue, length};
+ghost use Rattle.normalizer_text.specs.Backwards.{IsLastStart};
+ghost use Rattle.normalizer_text.specs.Utf16.{is_high, is_low, pair_value, unpaired, first_of_utf16};
+
+use crate::step::Step;
+
+// The first unit of a pair (D72).
+fn is_high_surrogate(unit: u16) -> bool
+    ensures { result ≡ is_high unit }
+{
+    0xD800 <= unit && unit <= 0xDBFF
+}
+
+// The second unit of a pair (D74).
+fn is_low_surrogate(unit: u16) -> bool
+    ensures { result ≡ is_low unit }
+{
+    0xDC00 <= unit && unit <= 0xDFFF
+}
+
+// The character of a pair (table 3-5).
+fn character_of_pair(high: u16, low: u16) -> char
+    requires high { IsTrue (is_high high) }
+    requires low { IsTrue (is_low low) }
+    ensures { result ≡ pair_value high low }
+{
+    let code = 0x10000 + (high as u32 - 0xD800) * 0x400 + (low as u32 - 0xDC00);
+    char::from_u32(code).unwrap()
+}
+
+// The step of a unit that is not the first of a pair.
+fn unpaired_step(unit: u16) -> Step
+    ensures { result ≡ unpaired unit }
+{
+    match char::from_u32(unit as u32) {
+        Some(character) => Step {
+            character,
+            width: 1,
+            is_error: false,
+        },
+        None => Step::replaced(1),
+    }
+}
+
+// The step in front of units of which there are some.
+pub(crate) fn first_step(units: &[u16]) -> Step
+    requires { 0 < length units.now }
+    ensures { result ≡ first_of_utf16 units.now }
+{
+    let unit = units[0];
+    if is_high_surrogate(unit) && units.len() > 1 && is_low_surrogate(units[1]) {
+        Step {
+            character: character_of_pair(unit, units[1]),
+            width: 2,
+            is_error: false,
+        }
+    } else {
+        unpaired_step(unit)
+    }
+}
+
+// Where the step begins that the last unit is part of, if that unit isn't an error by itself.
+pub(crate) fn last_start(units: &[u16]) -> usize
+    requires { 0 < length units.now }
+    ensures { IsLastStart is_low 2 units.now result }
+{
+    let last = units.len() - 1;
+    if last > 0 && is_low_surrogate(units[last]) {
+        last - 1
+    } else {
+        last
+    }
+}

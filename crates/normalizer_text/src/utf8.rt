@@ -1,0 +1,124 @@
+//! Decoding bytes that may not be UTF-8, with U+FFFD for what is ill-formed (The Unicode Standard, section 3.9).
+ghost use Rattle.std.specs.Prelude.{◌≡◌, ◌+◌, ◌<◌, ◌≤◌, length, option_map, slice_index_or};
+ghost use Rattle.normalizer_text.specs.Utf8.{continuation, allows, row_of, matched, scalar_value, first_of_utf8};
+ghost use Rattle.normalizer_text.specs.Backwards.{IsLastStart};
+ghost use Rattle.normalizer_text.specs.Sequences.{IsSequence};
+
+use crate::step::Step;
+
+// A byte that may stand after the first one of a character.
+fn is_continuation(byte: u8) -> bool
+    ensures { result ≡ allows continuation byte }
+{
+    0x80 <= byte && byte <= 0xBF
+}
+
+// The bytes that may follow a first byte: how many, and the range of the first of them; the others are of 80 to BF.
+#[derive(Clone, Copy)]
+struct Trail {
+    length: usize,
+    least: u8,
+    greatest: u8,
+}
+
+impl Trail {
+    ghost use Rattle.normalizer_text.specs.Trails.{places};
+
+    // The byte may stand at place n.
+    fn allows(self, n: usize, byte: u8) -> bool
+        requires { n < self.length }
+        ensures { result ≡ allows (slice_index_or (places self) n continuation) byte }
+    {
+        if n == 0 {
+            self.least <= byte && byte <= self.greatest
+        } else {
+            is_continuation(byte)
+        }
+    }
+
+    // At how many places, from the first on, a byte stands that may.
+    fn matched(self, bytes: &[u8]) -> usize
+        ensures { result ≡ matched (places self) bytes.now }
+    {
+        let mut n = 0;
+        while n < self.length && n < bytes.len() && self.allows(n, bytes[n]) {
+            n += 1;
+        }
+        n
+    }
+
+    // The bytes that may follow this one, if a character may begin with it: the rows of table 3-7.
+    #[tactic(auto, unfolding(crate::specs::Utf8::row_of))]
+    fn of(lead: u8) -> Option<Trail>
+        ensures { option_map places result ≡ option_map (λ r. r.trail) (row_of lead) }
+    {
+        let (length, least, greatest) = match lead {
+            0x00..=0x7F => (0, 0x80, 0xBF),
+            0xC2..=0xDF => (1, 0x80, 0xBF),
+            0xE0 => (2, 0xA0, 0xBF),
+            0xE1..=0xEC => (2, 0x80, 0xBF),
+            0xED => (2, 0x80, 0x9F),
+            0xEE..=0xEF => (2, 0x80, 0xBF),
+            0xF0 => (3, 0x90, 0xBF),
+            0xF1..=0xF3 => (3, 0x80, 0xBF),
+            0xF4 => (3, 0x80, 0x8F),
+            _ => return None,
+        };
+        Some(Trail {
+            length,
+            least,
+            greatest,
+        })
+    }
+}
+
+// The character of a well-formed sequence (table 3-6).
+fn character_of(sequence: &[u8]) -> char
+    requires { IsSequence sequence.now }
+    ensures { result ≡ scalar_value sequence.now }
+{
+    let code = match sequence {
+        [a] => *a as u32,
+        [a, b] => (*a as u32 - 0xC0) * 64 + (*b as u32 - 0x80),
+        [a, b, c] => ((*a as u32 - 0xE0) * 64 + (*b as u32 - 0x80)) * 64 + (*c as u32 - 0x80),
+        [a, b, c, d] => {
+            (((*a as u32 - 0xF0) * 64 + (*b as u32 - 0x80)) * 64 + (*c as u32 - 0x80)) * 64
+                + (*d as u32 - 0x80)
+        }
+        _ => unreachable!(),
+    };
+    char::from_u32(code).unwrap()
+}
+
+// The step in front of bytes of which there are some.
+pub(crate) fn first_step(bytes: &[u8]) -> Step
+    requires { 0 < length bytes.now }
+    ensures { result ≡ first_of_utf8 bytes.now }
+{
+    let lead = bytes[0];
+    let Some(trail) = Trail::of(lead) else {
+        return Step::replaced(1);
+    };
+    let width = 1 + trail.matched(&bytes[1..]);
+    if width <= trail.length {
+        return Step::replaced(width);
+    }
+    Step {
+        character: character_of(&bytes[..width]),
+        width,
+        is_error: false,
+    }
+}
+
+// Where the step begins that the last byte is part of, if that byte isn't an error by itself.
+pub(crate) fn last_start(bytes: &[u8]) -> usize
+    requires { 0 < length bytes.now }
+    ensures { IsLastStart (allows continuation) 4 bytes.now result }
+{
+    let limit = bytes.len().saturating_sub(4);
+    let mut start = bytes.len() - 1;
+    while start > limit && is_continuation(bytes[start]) {
+        start -= 1;
+    }
+    start
+}
