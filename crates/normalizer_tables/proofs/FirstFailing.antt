@@ -1,0 +1,148 @@
+-- The first condition that fails, found number by number.
+use Rattle.std.proofs.Common.{◌≡◌, ℕ, zero, suc, min, true, false, nat_lt, ◌+◌, ◌<◌, ◌≤◌, ◌⊎◌, inl, inr, List, [], ◌∷◌, ◌++◌, length, take, drop, All, Bor, IfSome, MatchOption, Option, Some, None, slice_get, slice_index_or, get_or, refl, ap, sym, ◌∙◌, subst, add-one, drop-cons, length-take, arith}
+use Rattle.std.specs.List.{AllWithin, HoldsAt as HoldsAtPlace}
+use Rattle.std.specs.Option.{option_copied}
+use Rattle.std.proofs.lemmas.Bool.Decides.{nat_tests}
+use Rattle.std.proofs.lemmas.List.{get_or-take, take-append-drop}
+use Rattle.std.proofs.lemmas.Option.{slice_get_within, slice_get-get_or, slice_get_past, slice_get_read, get_or_from_slice_get}
+use Rattle.normalizer_tables.specs.declared.condition.Bounds.{Bounds}
+use Rattle.normalizer_tables.specs.declared.condition.Condition.{Condition}
+use Rattle.normalizer_tables.specs.Table.{code_points}
+use Rattle.normalizer_tables.specs.Characters.{Characters}
+use Rattle.normalizer_tables.specs.Conditions.{Holds, HoldsOverall, HoldsAt, IsFirstFailing, IsPlaceOfFirstFailing}
+use Rattle.normalizer_tables.proofs.ConditionLemmas.{HoldsAt-past}
+
+-- of the numbers below `number` and the data as a whole, the condition at this place is the first that fails
+pub record FailsFirst (s : Characters) (b : Bounds) (conditions : List Condition) (number place : ℕ) : Type 0 where
+  pub within : place ≤ length conditions
+  pub overall : AllWithin (HoldsOverall s) conditions 0 place
+  pub below : (n : ℕ) → n < number → AllWithin (λ c. HoldsAt s b c n) conditions 0 place
+  pub fails : (c : Condition) → slice_get conditions place ≡ Some c → ¬ Holds s b c
+
+pub FailsFirst-start : (s : Characters) (b : Bounds) (conditions : List Condition) (place : ℕ) → IsPlaceOfFirstFailing (HoldsOverall s) conditions place → FailsFirst s b conditions 0 place
+unfolding Holds
+FailsFirst-start s b conditions place h = record {
+  within = h.within;
+  overall = h.before;
+  below = λ n none. absurd (omega arith);
+  fails = λ c e q. h.fails c e q.0;
+}
+
+nat_lt_or_le : (m n : ℕ) → (m < n) ⊎ (n ≤ m)
+nat_lt_or_le m n = elim (nat_lt m n) as (λ t. nat_lt m n ≡ t → (m < n) ⊎ (n ≤ m)) [
+  | true ↦ λ h. inl (grind (arith, nat_tests))
+  | false ↦ λ h. inr (grind (arith, nat_tests))
+] refl
+
+nat_lt_or_eq : (m n : ℕ) → m ≤ n → (m < n) ⊎ (m ≡ n)
+nat_lt_or_eq m n h = elim (nat_lt_or_le m n) [ inl less ↦ inl less | inr past ↦ inr (omega arith) ]
+
+le_trans_lt : (k m n : ℕ) → k < m → m ≤ n → k < n
+le_trans_lt k m n h e = omega arith
+
+slice_get-take : (conditions : List Condition) (n k : ℕ) (c : Condition) → k < n → slice_get conditions k ≡ Some c → slice_get (take n conditions) k ≡ Some c
+slice_get-take conditions n k c h e =
+    let within = slice_get_within conditions k c e in
+    let member = get_or_from_slice_get conditions k c c e in
+    let short : k < length (take n conditions) = simp length-take (omega arith) in
+    slice_get-get_or (take n conditions) k c short ∙ ap Some (get_or-take n conditions k c h ∙ member)
+
+-- the place moves no further than it was
+next_within : (place next : ℕ) (conditions : List Condition) → next ≤ length (take place conditions) → (next ≤ place) × (next ≤ length conditions)
+next_within place next conditions h =
+    let short : next ≤ min place (length conditions) = subst (λ n. next ≤ n) (length-take place conditions) h in
+    (omega arith, omega arith)
+
+module _ (s : Characters) (b : Bounds) (conditions : List Condition) (number place next : ℕ) (old : FailsFirst s b conditions number place) (new : IsPlaceOfFirstFailing (λ c. HoldsAt s b c number) (take place conditions) next) where
+  short : (next ≤ place) × (next ≤ length conditions)
+  short = next_within place next conditions new.within
+
+  below_next : (n : ℕ) → n < number + 1 → AllWithin (λ c. HoldsAt s b c n) conditions 0 next
+  below_next n h k d low kh =
+      elim (nat_lt_or_eq n number (omega arith)) [
+        | inl less ↦ old.below n less k d low (le_trans_lt k next place kh short.0)
+        | inr same ↦ subst (λ m. HoldsAt s b (slice_index_or conditions k d) m) (sym same)
+            (subst (λ c. HoldsAt s b c number) (get_or-take place conditions k d (le_trans_lt k next place kh short.0)) (new.before k d low kh))
+      ]
+
+  fails_next : (c : Condition) → slice_get conditions next ≡ Some c → ¬ Holds s b c
+  unfolding Holds
+  fails_next c e q =
+      elim (nat_lt_or_eq next place short.0) [
+        | inl less ↦ new.fails c (slice_get-take conditions place next c less e) (q.1 number)
+        | inr same ↦ old.fails c (subst (λ n. slice_get conditions n ≡ Some c) same e) q
+      ]
+
+  pub FailsFirst-step : FailsFirst s b conditions (number + 1) next
+  FailsFirst-step = record {
+    within = short.1;
+    overall = λ k d low h. old.overall k d low (le_trans_lt k next place h short.0);
+    below = below_next;
+    fails = fails_next;
+  }
+
+-- what was found for more numbers
+FailsFirst-fewer : (s : Characters) (b : Bounds) (conditions : List Condition) (number place : ℕ) → code_points ≤ number → FailsFirst s b conditions number place → FailsFirst s b conditions code_points place
+FailsFirst-fewer s b conditions number place past h = record {
+  within = h.within;
+  overall = h.overall;
+  below = λ n nh. h.below n (le_trans_lt n code_points number nh past);
+  fails = h.fails;
+}
+
+some_and_none : (conditions : List Condition) (place : ℕ) → slice_get conditions place ≡ None → place < length conditions → ⊥
+some_and_none [] place e h = absurd (omega arith)
+some_and_none (c ∷ cs) zero e h = cc
+some_and_none (c ∷ cs) (suc place) e h = some_and_none cs place e (omega arith)
+
+slice_get_end : (conditions : List Condition) (place : ℕ) → slice_get conditions place ≡ None → length conditions ≤ place
+slice_get_end conditions place e =
+    elim (nat_lt_or_le place (length conditions)) [
+      | inl less ↦ absurd (some_and_none conditions place e less)
+      | inr past ↦ past
+    ]
+
+-- a condition that holds overall and of every code point holds
+Holds-code_points : (s : Characters) (b : Bounds) (c : Condition) → HoldsOverall s c → ((n : ℕ) → n < code_points → HoldsAt s b c n) → Holds s b c
+unfolding Holds
+Holds-code_points s b c overall each = (overall, λ n. elim (nat_lt_or_le n code_points) [ inl less ↦ each n less | inr past ↦ HoldsAt-past s b c n past ])
+
+-- all conditions before the place hold
+before_holds : (s : Characters) (b : Bounds) (conditions : List Condition) (place : ℕ) → FailsFirst s b conditions code_points place → AllWithin (Holds s b) conditions 0 place
+before_holds s b conditions place h k d low kh = Holds-code_points s b (slice_index_or conditions k d) (h.overall k d low kh) (λ n nh. h.below n nh k d low kh)
+
+-- a list is cut at a member
+cut_at : (conditions : List Condition) (place : ℕ) (c : Condition) → slice_get conditions place ≡ Some c → conditions ≡ take place conditions ++ c ∷ drop (place + 1) conditions
+cut_at conditions place c e =
+    let within = slice_get_within conditions place c e in
+    let member = get_or_from_slice_get conditions place c c e in
+    let tail : drop place conditions ≡ c ∷ drop (place + 1) conditions = rw add-one (drop-cons conditions place c within ∙ ap (λ d. d ∷ drop (suc place) conditions) member) in
+    sym (take-append-drop place conditions) ∙ ap (λ x. take place conditions ++ x) tail
+
+in_front : (place : ℕ) (conditions : List Condition) (k : ℕ) → k < length (take place conditions) → k < place
+in_front place conditions k h =
+    let short : k < min place (length conditions) = subst (λ n. k < n) (length-take place conditions) h in
+    omega arith
+
+All-front : (P : Condition → Type 0) (conditions : List Condition) (place : ℕ) → AllWithin P conditions 0 place → All P (take place conditions)
+All-front P conditions place h k d kh =
+    let less : k < place = in_front place conditions k kh in
+    subst P (sym (get_or-take place conditions k d less)) (h k d (omega arith) less)
+
+pub IsFirstFailing-at : (s : Characters) (b : Bounds) (conditions : List Condition) (number place : ℕ) (r : Option Condition) → code_points ≤ number → FailsFirst s b conditions number place → r ≡ slice_get conditions place → IsFirstFailing (Holds s b) conditions r
+unfolding IsFirstFailing
+IsFirstFailing-at s b conditions number place None past h e =
+    let all : length conditions ≤ place = slice_get_end conditions place (sym e) in
+    λ k d kh. before_holds s b conditions place (FailsFirst-fewer s b conditions number place past h) k d (omega arith) (omega arith)
+IsFirstFailing-at s b conditions number place (Some c) past h e = (
+  take place conditions,
+  drop (place + 1) conditions,
+  cut_at conditions place c (sym e),
+  All-front (Holds s b) conditions place (before_holds s b conditions place (FailsFirst-fewer s b conditions number place past h)),
+  h.fails c (sym e),
+)
+
+-- what `get` and `copied` give of a slice
+pub copied-slice_get : (conditions : List Condition) (place : ℕ) (o : Option (Bor Condition)) → IfSome o (λ x. x.now ≡ get_or conditions place x.now) → MatchOption o (length conditions ≤ place) (λ x. (place < length conditions) × HoldsAtPlace (λ y. x.now ≡ y) conditions place) → option_copied o ≡ slice_get conditions place
+copied-slice_get conditions place None same found = sym (slice_get_past conditions place found)
+copied-slice_get conditions place (Some x) same found = sym (slice_get_read conditions (length conditions) place x.now refl found.0 same)

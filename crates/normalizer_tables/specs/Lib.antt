@@ -1,0 +1,17 @@
+pub mod Characters
+pub mod Conditions
+pub mod Data
+pub mod Found
+pub mod Hangul
+pub mod HangulComposition
+pub mod Ignored
+pub mod Members
+pub mod NfdData
+pub mod PairConditions
+pub mod Pairs
+pub mod Ranges
+pub mod Refusals
+pub mod SoundData
+pub mod SpecialLists
+pub mod Table
+pub mod Words

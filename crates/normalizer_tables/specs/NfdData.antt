@@ -1,0 +1,24 @@
+-- Canonical data that a caller may hand in unchecked.
+use Rattle.std.specs.Prelude.{List, [], ◌∷◌, None, All, false}
+use Rattle.normalizer_tables.specs.declared.condition.Bounds.{Bounds}
+use Rattle.normalizer_tables.specs.declared.condition.Condition.{Condition}
+use Rattle.normalizer_tables.specs.declared.condition.Condition.TheVariants.{ItemLimit, ReplacementCharacter, Surrogates, PastTheEnd, Hangul, Words, Members, Order, Passthrough}
+use Rattle.normalizer_tables.specs.Characters.{Characters}
+use Rattle.normalizer_tables.specs.Conditions.{Holds}
+use Rattle.normalizer_tables.specs.Data.{Decompositions, Lists, lists_or_none}
+
+-- what canonical data say of characters, with the tables of canonical data alone
+abbrev pub nfd_characters : Decompositions → Lists → Characters
+nfd_characters decompositions tables = record { decompositions = decompositions; tables = tables; supplementary = lists_or_none None; is_mapper = false }
+
+-- below which numbers characters pass unseen, whatever the cap of the data is
+abbrev pub nfd_bounds : Bounds
+nfd_bounds = record { decomposition = 0xC0; composition = 0x0300 }
+
+-- what is asked of them: all conditions but the one on the cap
+abbrev pub nfd_conditions : List Condition
+nfd_conditions = ItemLimit ∷ ReplacementCharacter ∷ Surrogates ∷ PastTheEnd ∷ Hangul ∷ Words ∷ Members ∷ Order ∷ Passthrough ∷ []
+
+-- conditions 1, 3 to 9, and 10 at the bound 0xC0
+abbrev pub IsSoundNfdData : Decompositions → Lists → Type 0
+IsSoundNfdData decompositions tables = All (Holds (nfd_characters decompositions tables) nfd_bounds) nfd_conditions

@@ -1,0 +1,77 @@
+-- The written conditions on composing pairs, and on decomposition data by the pairs.
+use Rattle.std.specs.Prelude.{◌≡◌, ◌≢◌, ℕ, ◌||◌, ◌&&◌, if◌then◌else◌, Bool, true, false, not, nat_lt, List, [], ◌∷◌, ◌++◌, All}
+use Rattle.std.specs.Char.{IsScalar}
+use Rattle.normal_forms.specs.Reading.{Reading}
+use Rattle.normal_forms.specs.Order.{order}
+use Rattle.normal_forms.specs.Composition.{compose}
+use Rattle.normal_forms.specs.Boundary.{BeginsSafely}
+use Rattle.normalizer_tables.specs.declared.condition.Bounds.{Bounds}
+use Rattle.normalizer_tables.specs.declared.pair_condition.PairCondition.{PairCondition}
+use Rattle.normalizer_tables.specs.declared.pair_condition.PairCondition.TheVariants.{Pairs, RoundTrip, SafeBeginning, Results}
+use Rattle.normalizer_tables.specs.Words.{ignored_marker, is_non_round_trip, is_backward_combining}
+use Rattle.normalizer_tables.specs.Characters.{Characters, word_of, list_of, has_class_form, reading_of, own_reading}
+use Rattle.normalizer_tables.specs.Pairs.{Pair, AreRising, is_vowel_or_trailing_jamo, pair_of}
+
+abbrev pub number_of_pair_condition : PairCondition → ℕ
+number_of_pair_condition Pairs = 11
+number_of_pair_condition RoundTrip = 12
+number_of_pair_condition SafeBeginning = 13
+number_of_pair_condition Results = 14
+
+-- the conditions that are asked of composing data: of the mapper's, all but the last
+abbrev pub pair_conditions : Bool → List PairCondition
+pair_conditions is_mapper = Pairs ∷ RoundTrip ∷ SafeBeginning ∷ (if is_mapper then [] else Results ∷ [])
+
+-- the reading of data and pairs, in which an ignored character has the empty list
+abbrev pub composing_reading : Characters → List Pair → Reading
+composing_reading s pairs = reading_of s [] (pair_of pairs)
+
+-- pairs strictly rise, and the arithmetic of Hangul answers none of their seconds
+pub record AreSoundPairs (pairs : List Pair) : Type 0 where
+  pub rising : AreRising pairs
+  pub seconds : All (λ p. is_vowel_or_trailing_jamo p.0 ≡ false) pairs
+
+-- n has no class form, and isn't ignored
+pub record IsComposable (s : Characters) (n : ℕ) : Type 0 where
+  pub starter : has_class_form s n ≡ false
+  pub kept : word_of s n ≢ ignored_marker
+
+-- a composing loop relies on it that n composes to itself: it has no NON_ROUND_TRIP, or lies below the bound
+unfoldable pub is_taken_to_round_trip : Characters → Bounds → ℕ → Bool
+is_taken_to_round_trip s b n = not (is_non_round_trip (word_of s n)) || nat_lt n b.composition
+
+-- a composing loop relies on it that nothing composes across the beginning of n: it has no BACKWARD_COMBINING, or lies
+-- below the bound
+unfoldable pub is_taken_to_begin_safely : Characters → Bounds → ℕ → Bool
+is_taken_to_begin_safely s b n = not (is_backward_combining (word_of s n)) || nat_lt n b.composition
+
+-- a composing loop passes n unseen: it lies below the bound, or has neither flag
+unfoldable pub is_passed : Characters → Bounds → ℕ → Bool
+is_passed s b n = nat_lt n b.composition || (not (is_non_round_trip (word_of s n)) && not (is_backward_combining (word_of s n)))
+
+-- the list of n composes to n alone
+unfoldable pub RoundTrips : Characters → List Pair → ℕ → Type 0
+RoundTrips s pairs n = let d = composing_reading s pairs in compose d (d.list n) ≡ n ∷ []
+
+-- the list of n begins with a starter that is second in no pair
+pub record HasSafeBeginning (s : Characters) (pairs : List Pair) (n : ℕ) : Type 0 where
+  pub begins : (composing_reading s pairs).list n ≢ []
+  pub safely : BeginsSafely (composing_reading s pairs) ((composing_reading s pairs).list n)
+
+-- n keeps what a composing loop takes it for
+unfoldable pub KeepsRoundTrip : Characters → Bounds → List Pair → ℕ → Type 0
+KeepsRoundTrip s b pairs n = IsScalar n → is_taken_to_round_trip s b n ≡ true → RoundTrips s pairs n
+
+unfoldable pub KeepsBeginning : Characters → Bounds → List Pair → ℕ → Type 0
+KeepsBeginning s b pairs n = IsScalar n → is_taken_to_begin_safely s b n ≡ true → HasSafeBeginning s pairs n
+
+-- a result has the ordered lists of first and second, where `ignored` stands for an ignored character
+unfoldable pub HasOrderedLists : Characters → List ℕ → Pair → Type 0
+HasOrderedLists s ignored p = list_of s ignored p.2 ≡ order (own_reading s) (list_of s ignored p.1 ++ list_of s ignored p.0)
+
+-- the conditions, each in its line
+unfoldable pub HoldsOfPairs : Characters → Bounds → List Pair → PairCondition → Type 0
+HoldsOfPairs s b pairs Pairs = AreSoundPairs pairs × All (λ p. IsComposable s p.1 × IsComposable s p.2) pairs
+HoldsOfPairs s b pairs RoundTrip = (n : ℕ) → KeepsRoundTrip s b pairs n
+HoldsOfPairs s b pairs SafeBeginning = (n : ℕ) → KeepsBeginning s b pairs n
+HoldsOfPairs s b pairs Results = All (HasOrderedLists s []) pairs

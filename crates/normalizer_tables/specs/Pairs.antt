@@ -1,0 +1,42 @@
+-- The pairs of characters that have a primary composite (The Unicode Standard, D114), Hangul ones included.
+use Rattle.std.specs.Prelude.{◌≡◌, ℕ, Bool, true, false, ◌&&◌, ◌||◌, ◌==◌, nat_lt, List, AllPairs, find, Option, None, if◌then◌else◌}
+use Rattle.std.specs.Option.{option_map}
+use Rattle.std.specs.List.Sorted.{IsPartitionPoint}
+use Rattle.std.specs.Int.{is_in_range}
+use Rattle.normalizer_tables.specs.HangulComposition.{compose_hangul}
+
+-- the second character, the first, and what they compose to
+abbrev pub Pair : Type 0
+Pair = ℕ × ℕ × ℕ
+
+-- the triple stands before those of this second and this first
+unfoldable pub is_before : Pair → ℕ → ℕ → Bool
+is_before p second first = nat_lt p.0 second || ((p.0 == second) && nat_lt p.1 first)
+
+-- triples that strictly rise by second, then by first
+abbrev pub AreRising : List Pair → Type 0
+AreRising pairs = AllPairs (λ p q. is_before p q.0 q.1 ≡ true) pairs
+
+-- the triples below the place stand before those of this second and this first, and no others do
+unfoldable pub IsPlaceOf : List Pair → ℕ → ℕ → ℕ → Type 0
+IsPlaceOf pairs second first place = IsPartitionPoint (λ p. is_before p second first ≡ true) (λ p. is_before p second first ≡ false) pairs place
+
+unfoldable pub is_of : Pair → ℕ → ℕ → Bool
+is_of p first second = (p.0 == second) && (p.1 == first)
+
+-- the result of the first triple of these two characters
+unfoldable pub listed_result : List Pair → ℕ → ℕ → Option ℕ
+listed_result pairs first second = option_map (λ p. p.2) (find (λ p. is_of p first second) pairs)
+
+-- a vowel or a trailing consonant of the block Hangul Jamo, the old ones included
+unfoldable pub is_vowel_or_trailing_jamo : ℕ → Bool
+is_vowel_or_trailing_jamo c = is_in_range 0x1161 0x11FF c
+
+-- what two characters compose to: by the arithmetic of Hangul alone where the second is a vowel or a trailing
+-- consonant, else as listed
+unfoldable pub pair_of : List Pair → ℕ → ℕ → Option ℕ
+pair_of pairs first second = if is_vowel_or_trailing_jamo second then compose_hangul first second else listed_result pairs first second
+
+-- no character composes with this one behind it
+unfoldable pub IsNeverSecond : List Pair → ℕ → Type 0
+IsNeverSecond pairs second = (first : ℕ) → pair_of pairs first second ≡ None

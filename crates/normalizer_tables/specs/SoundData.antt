@@ -1,0 +1,12 @@
+-- Data of which the laws of the normal forms may be used.
+pub use Rattle.normalizer_tables.specs.declared.condition.Bounds.{Bounds}
+use Rattle.normalizer_tables.specs.declared.condition.Condition.TheVariants.{ReplacementCharacter, Words, Members, Order}
+use Rattle.normalizer_tables.specs.Characters.{Characters}
+use Rattle.normalizer_tables.specs.Conditions.{Holds}
+
+-- U+FFFD reads to itself, every word reads, members read to themselves, and lists are in order: conditions 3 and 7 to 9
+pub record IsSoundData (s : Characters) (b : Bounds) : Type 0 where
+  pub replacement : Holds s b ReplacementCharacter
+  pub words : Holds s b Words
+  pub members : Holds s b Members
+  pub order : Holds s b Order

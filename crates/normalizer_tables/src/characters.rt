@@ -1,0 +1,249 @@
+//! What decomposition data say of each character.
+ghost use Rattle.std.specs.Prelude.{◌≡◌};
+ghost use Rattle.std.specs.Option.{option_copied};
+ghost use Rattle.normalizer_tables.specs.Ignored.{ignored_list};
+ghost use Rattle.normalizer_tables.specs.Characters.{
+  class_of,
+  has_class_form,
+  items_at,
+  list_of,
+  list_read,
+  listed_at,
+  narrow_at,
+  reading_of_word,
+  wide_at,
+  word_of,
+};
+ghost use Rattle.normalizer_tables.specs.Found.{IsFound};
+
+use crate::members::Members;
+use crate::provider::{DecompositionData, DecompositionTables};
+use crate::special::fixed_list_of;
+use crate::word::{WordReading, class_of_word, is_class_form, read};
+use std::alloc::Global;
+use std::marker::Model;
+
+#[cfg(test)]
+mod tests;
+
+/// What stands for a character that the mapper ignores (UTS #46, section 4).
+#[derive(Clone, Copy, PartialEq, Eq, Debug)]
+pub enum IgnoredCharacters {
+    /// Nothing, as mapping wants it.
+    Dropped,
+    /// U+FFFD, as validation wants it.
+    Replaced,
+}
+
+/// How many code points there are.
+pub const CODE_POINTS: u32 = 0x110000;
+
+/// Decomposition data with the tables that their words point into.
+#[derive(Drop)]
+pub struct CharacterData<'a> {
+    decompositions: &'a DecompositionData,
+    tables: &'a DecompositionTables,
+    supplementary: Option<&'a DecompositionTables>,
+    is_mapper: bool,
+}
+
+impl<'a> Model for CharacterData<'a> {
+    ghost use Rattle.std.specs.Option.{option_copied};
+    ghost use Rattle.normalizer_tables.specs.Data.{lists_or_none};
+    ghost use Rattle.normalizer_tables.specs.Characters.{Characters};
+
+    ghost Value = { Characters };
+
+    ghost view = { λ s. record { decompositions = s.decompositions.now; tables = s.tables.now; supplementary = lists_or_none (option_copied s.supplementary); is_mapper = s.is_mapper } };
+}
+
+impl<'a> CharacterData<'a> {
+    ghost use Rattle.std.specs.Option.{option_copied};
+    ghost use Rattle.normalizer_tables.specs.Data.{lists_or_none};
+
+    /// Data, the tables that come first, the supplementary ones where the data have them, and whether the data are the
+    /// mapper's.
+    pub fn new(
+        decompositions: &'a DecompositionData,
+        tables: &'a DecompositionTables,
+        supplementary: Option<&'a DecompositionTables>,
+        is_mapper: bool,
+    ) -> Self
+        ensures { result ≡ record { decompositions = decompositions.now; tables = tables.now; supplementary = lists_or_none (option_copied supplementary.entry); is_mapper = is_mapper } }
+    {
+        CharacterData {
+            decompositions,
+            tables,
+            supplementary,
+            is_mapper,
+        }
+    }
+
+    /// The allocator of the tables.
+    pub fn allocator(&self) -> Global {
+        let tables = self.tables;
+        tables.scalars16.allocator()
+    }
+
+    /// The word of a character.
+    pub fn word_of(&self, character: char) -> u32
+        ensures { result ≡ word_of self.now character }
+    {
+        let decompositions = self.decompositions;
+        decompositions.table.get(character)
+    }
+
+    /// The word of any number.
+    #[tactic(auto, unfolding(crate::specs::Characters::word_of))]
+    pub fn word_of_number(&self, number: u32) -> u32
+        ensures { result ≡ word_of self.now number }
+    {
+        let decompositions = self.decompositions;
+        decompositions.table.get32(number)
+    }
+
+    /// The word of all numbers past the code points.
+    pub fn past(&self) -> u32
+        ensures { result ≡ self.now.decompositions.table.past }
+    {
+        let decompositions = self.decompositions;
+        decompositions.table.get32(CODE_POINTS)
+    }
+
+    pub fn cap(&self) -> u16
+        ensures { result ≡ self.now.decompositions.cap }
+    {
+        let decompositions = self.decompositions;
+        decompositions.passthrough_cap
+    }
+
+    pub fn tables(&self) -> &'a DecompositionTables
+        ensures { result.now ≡ self.now.tables }
+    {
+        self.tables
+    }
+
+    pub fn supplementary(&self) -> Option<&'a DecompositionTables>
+        ensures { lists_or_none (option_copied result) ≡ self.now.supplementary }
+    {
+        self.supplementary
+    }
+
+    pub fn is_mapper(&self) -> bool
+        ensures { result ≡ self.now.is_mapper }
+    {
+        self.is_mapper
+    }
+
+    /// The canonical combining class of a character.
+    pub fn class_of(&self, character: char) -> u8
+        ensures { result ≡ class_of self.now character }
+    {
+        class_of_word(self.word_of(character))
+    }
+
+    /// Whether the word of a character has one of the two class forms.
+    #[tactic(auto, unfolding(crate::specs::Characters::has_class_form))]
+    pub fn has_class_form(&self, character: char) -> bool
+        ensures { result ≡ has_class_form self.now character }
+    {
+        is_class_form(self.word_of(character))
+    }
+
+    /// The list of a character: the character itself where its word doesn't read.
+    pub fn members(&self, character: char, ignored: IgnoredCharacters) -> Members<'a>
+        ensures { result ≡ list_of self.now (ignored_list ignored) character }
+    {
+        match self.members_read(character, ignored) {
+            Some(members) => members,
+            None => Members::one(character),
+        }
+    }
+
+    /// The list that the word of a character reads to, if it reads.
+    pub fn members_read(&self, character: char, ignored: IgnoredCharacters) -> Option<Members<'a>>
+        ensures { result ≡ list_read self.now (ignored_list ignored) character }
+    {
+        match self.reading(character) {
+            WordReading::Ignored => Some(ignored_members(ignored)),
+            WordReading::Itself | WordReading::ClassForm(_) => Some(Members::one(character)),
+            WordReading::SpecialForm(_) => Some(fixed_list_of(character)?.members()),
+            WordReading::TwoCharacters(a, b) => Members::of_numbers(a as u32, b as u32),
+            WordReading::HangulSyllable => Members::of_hangul_syllable(character),
+            WordReading::Fdfa => Some(Members::of_fdfa()),
+            WordReading::OneCharacter(a) => Members::of_number(a as u32),
+            WordReading::Listed(item, low, _) => self.listed_at(item, low),
+        }
+    }
+
+    /// How the word of a character reads.
+    #[tactic(auto, unfolding(crate::specs::Characters::reading_of_word))]
+    pub fn reading(&self, character: char) -> WordReading
+        ensures { result ≡ reading_of_word self.now character }
+    {
+        read(character, self.word_of(character), self.is_mapper)
+    }
+
+    /// The list from an item of the tables on.
+    fn listed_at(&self, item: u32, low: u8) -> Option<Members<'a>>
+        ensures { result ≡ listed_at self.now item low }
+    {
+        match listed_in(self.tables, item as usize, low) {
+            Found::Here(list) => list,
+            Found::Past(item) => match listed_in(self.supplementary?, item, low) {
+                Found::Here(list) => list,
+                Found::Past(_) => None,
+            },
+        }
+    }
+}
+
+/// The list that starts at an item of a pair of tables, if it lies there, or else how far the item is past both.
+enum Found<'a> {
+    Here(Option<Members<'a>>),
+    Past(usize),
+}
+
+fn listed_in<'a>(tables: &'a DecompositionTables, item: usize, low: u8) -> Found<'a>
+    ensures { IsFound tables.now low item result }
+{
+    let narrow = tables.scalars16.as_slice();
+    let Some(past_narrow) = item.checked_sub(narrow.len()) else {
+        return Found::Here(narrow_at(narrow, low, item));
+    };
+    let wide = tables.scalars24.as_slice();
+    match past_narrow.checked_sub(wide.len()) {
+        Some(past) => Found::Past(past),
+        None => Found::Here(wide_at(wide, low, past_narrow)),
+    }
+}
+
+#[tactic(auto, unfolding(crate::specs::Characters::narrow_at))]
+fn narrow_at(units: &[u16], low: u8, place: usize) -> Option<Members<'_>>
+    ensures { result ≡ narrow_at units.now low place }
+{
+    Members::of_units(items_at(units, place, low as usize + 2)?)
+}
+
+#[tactic(auto, unfolding(crate::specs::Characters::wide_at))]
+fn wide_at(scalars: &[char], low: u8, place: usize) -> Option<Members<'_>>
+    ensures { result ≡ wide_at scalars.now low place }
+{
+    Some(Members::of_scalars(items_at(scalars, place, low as usize + 1)?))
+}
+
+/// Some items from a place on, if they lie within.
+fn items_at<T>(items: &[T], place: usize, n: usize) -> Option<&[T]>
+    ensures { option_copied result ≡ items_at items.now place n }
+{
+    items.get(place..)?.get(..n)
+}
+
+fn ignored_members(ignored: IgnoredCharacters) -> Members<'static>
+    ensures { result ≡ ignored_list ignored }
+{
+    match ignored {
+        IgnoredCharacters::Dropped => Members::empty(),
+        IgnoredCharacters::Replaced => Members::one('\u{FFFD}'),
+    }
+}

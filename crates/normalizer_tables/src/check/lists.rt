@@ -1,0 +1,120 @@
+//! The order of the lists, and what words promise of the classes of their members.
+ghost use Rattle.std.specs.Prelude.{◌≡◌, ◌↔◌, [], Some, IsTrue, All, map};
+ghost use Rattle.std.specs.Option.{option_map};
+ghost use Rattle.normal_forms.specs.Boundary.{BeginsWithStarter};
+ghost use Rattle.normal_forms.specs.Order.{order};
+ghost use Rattle.normal_forms.specs.Reading.{IsStarter};
+ghost use Rattle.normalizer_tables.specs.Characters.{class_of, own_reading, reading_of_word};
+ghost use Rattle.normalizer_tables.specs.Conditions.{
+  HasMarksBehind,
+  IsOrderedList,
+  KeepsPromise,
+};
+ghost use Rattle.normalizer_tables.specs.SpecialLists.{FixedList, fixed_list_of};
+
+use crate::characters::{CharacterData, IgnoredCharacters};
+use crate::members::Members;
+use crate::special::fixed_list_of;
+use crate::word::WordReading;
+
+/// Whether the list of a character is in canonical order, begins with a starter unless the character has a class form,
+/// and keeps the promise of the character's word.
+pub fn is_ordered_list(data: &CharacterData<'_>, character: char) -> bool
+    ensures { IsTrue result ↔ IsOrderedList data.now character }
+{
+    let list = data.members(character, IgnoredCharacters::Dropped);
+    is_in_order(data, &list)
+        && (data.has_class_form(character) || begins_with_starter(data, &list))
+        && keeps_promise(data, character)
+}
+
+/// Whether a list is in canonical order.
+fn is_in_order(data: &CharacterData<'_>, list: &Members<'_>) -> bool
+    ensures { IsTrue result ↔ (order (own_reading data.now) list.now ≡ list.now) }
+{
+    let mut last = 0;
+    for place in 0..list.len() {
+        let class = data.class_of(list.at(place));
+        if 0 < class && class < last {
+            return false;
+        }
+        last = class;
+    }
+    true
+}
+
+/// Whether a list is empty, or its first member a starter.
+fn begins_with_starter(data: &CharacterData<'_>, list: &Members<'_>) -> bool
+    ensures { IsTrue result ↔ BeginsWithStarter (own_reading data.now) list.now }
+{
+    match list.get(0) {
+        Some(first) => data.class_of(first) == 0,
+        None => true,
+    }
+}
+
+/// Whether the members of the list of a character have the classes that its word promises.
+#[tactic(auto, unfolding(crate::specs::Conditions::KeepsPromise))]
+fn keeps_promise(data: &CharacterData<'_>, character: char) -> bool
+    ensures { IsTrue result ↔ KeepsPromise data.now character (reading_of_word data.now character) }
+{
+    let list = data.members(character, IgnoredCharacters::Dropped);
+    match data.reading(character) {
+        WordReading::TwoCharacters(_, _) => has_marks_behind(data, &list),
+        WordReading::Listed(_, _, rest_are_marks) => {
+            !rest_are_marks || has_marks_behind(data, &list)
+        }
+        WordReading::SpecialForm(_) => has_fixed_classes(data, character, &list),
+        WordReading::Fdfa => are_starters(data, &list),
+        _ => true,
+    }
+}
+
+/// Whether all members after the first are marks.
+fn has_marks_behind(data: &CharacterData<'_>, list: &Members<'_>) -> bool
+    ensures { IsTrue result ↔ HasMarksBehind data.now list.now }
+{
+    for place in 1..list.len() {
+        if data.class_of(list.at(place)) == 0 {
+            return false;
+        }
+    }
+    true
+}
+
+/// Whether all members are starters.
+fn are_starters(data: &CharacterData<'_>, list: &Members<'_>) -> bool
+    ensures { IsTrue result ↔ All (IsStarter (own_reading data.now)) list.now }
+{
+    for place in 0..list.len() {
+        if data.class_of(list.at(place)) != 0 {
+            return false;
+        }
+    }
+    true
+}
+
+/// Whether a character has a fixed list, and the members of this list the classes of its members.
+fn has_fixed_classes(data: &CharacterData<'_>, character: char, list: &Members<'_>) -> bool
+    ensures { IsTrue result ↔ (option_map (λ f. f.member_classes) (fixed_list_of character) ≡ Some (map (class_of data.now) list.now)) }
+{
+    match fixed_list_of(character) {
+        Some(fixed) => have_classes(data, list, fixed.member_classes()),
+        None => false,
+    }
+}
+
+/// Whether the members have these classes, one after another.
+fn have_classes(data: &CharacterData<'_>, list: &Members<'_>, classes: &[u8]) -> bool
+    ensures { IsTrue result ↔ (classes.now ≡ map (class_of data.now) list.now) }
+{
+    if list.len() != classes.len() {
+        return false;
+    }
+    for place in 0..list.len() {
+        if data.class_of(list.at(place)) != classes[place] {
+            return false;
+        }
+    }
+    true
+}

@@ -1,0 +1,72 @@
+//! What the conditions say of the data as a whole.
+ghost use Rattle.std.specs.Prelude.{◌≡◌, ◌↔◌, ◌+◌, ◌-◌, ◌≤◌, IsTrue};
+ghost use Rattle.std.specs.Option.{SomeIff};
+ghost use Rattle.normalizer_tables.specs.Conditions.{
+  HoldsOverall,
+  IsFlaggedReplacement,
+  item_count,
+  item_limit,
+};
+
+use crate::characters::CharacterData;
+use crate::check::numbers::is_plain_starter;
+use crate::condition::Condition;
+use crate::provider::DecompositionTables;
+use crate::word::{is_backward_combining, is_class_form, is_non_round_trip};
+
+/// The most items that all tables may have together.
+pub const ITEM_LIMIT: usize = 0xFFF;
+
+/// The greatest cap.
+pub const CAP_LIMIT: u16 = 0x0300;
+
+#[tactic(auto, unfolding(crate::specs::Conditions::HoldsOverall))]
+pub fn holds_overall(data: &CharacterData<'_>, condition: Condition) -> bool
+    ensures { IsTrue result ↔ HoldsOverall data.now condition }
+{
+    match condition {
+        Condition::ItemLimit => items_fit(data),
+        Condition::CapLimit => data.cap() <= CAP_LIMIT,
+        Condition::ReplacementCharacter => is_flagged_replacement(data),
+        Condition::PastTheEnd => !is_class_form(data.past()),
+        Condition::Surrogates
+        | Condition::Hangul
+        | Condition::Words
+        | Condition::Members
+        | Condition::Order
+        | Condition::Passthrough => true,
+    }
+}
+
+/// Whether the tables together have at most as many items as they may.
+fn items_fit(data: &CharacterData<'_>) -> bool
+    ensures { IsTrue result ↔ (item_count data.now.tables + item_count data.now.supplementary ≤ item_limit) }
+{
+    let Some(room) = room_after(ITEM_LIMIT, data.tables()) else {
+        return false;
+    };
+    match data.supplementary() {
+        Some(tables) => room_after(room, tables).is_some(),
+        None => true,
+    }
+}
+
+/// How many items have room beside those of these tables.
+fn room_after(room: usize, tables: &DecompositionTables) -> Option<usize>
+    ensures { SomeIff result (item_count tables.now ≤ room) (room - item_count tables.now) }
+{
+    room.checked_sub(tables.scalars16.len())?
+        .checked_sub(tables.scalars24.len())
+}
+
+/// Whether U+FFFD reads to itself with class 0, and has NON_ROUND_TRIP alone.
+#[tactic(auto, unfolding(crate::specs::Conditions::IsFlaggedReplacement))]
+fn is_flagged_replacement(data: &CharacterData<'_>) -> bool
+    ensures { IsTrue result ↔ IsFlaggedReplacement data.now }
+{
+    let word = data.word_of(char::REPLACEMENT_CHARACTER);
+    if !is_plain_starter(data, char::REPLACEMENT_CHARACTER) {
+        return false;
+    }
+    is_non_round_trip(word) && !is_backward_combining(word)
+}

@@ -1,0 +1,83 @@
+//! The written conditions on data.
+ghost use Rattle.std.specs.Prelude.{◌≡◌, min};
+ghost use Rattle.normalizer_tables.specs.Conditions.{number_of};
+
+/// A written condition.
+#[derive(Clone, Copy, PartialEq, Eq, Debug)]
+pub enum Condition {
+    /// The tables together hold at most 0xFFF items.
+    ItemLimit,
+    /// `passthrough_cap` is at most U+0300.
+    CapLimit,
+    /// U+FFFD reads to itself with class 0, and has NON_ROUND_TRIP alone.
+    ReplacementCharacter,
+    /// Every surrogate has the word 0xC000FFFD.
+    Surrogates,
+    /// The word of numbers past the code points has no class form.
+    PastTheEnd,
+    /// Hangul syllables have the word 1, and the jamo of which they are made read as themselves with class 0.
+    Hangul,
+    /// The word of every character reads.
+    Words,
+    /// Every member of a list reads to itself.
+    Members,
+    /// Lists are in canonical order, begin with a starter, and keep the promises of their words.
+    Order,
+    /// A character below the bound of decomposing reads to itself with class 0.
+    Passthrough,
+}
+
+/// Below which numbers characters pass unseen: by a loop that decomposes, and by one that composes.
+#[derive(Clone, Copy, PartialEq, Eq, Debug)]
+pub struct Bounds {
+    pub decomposition: u32,
+    pub composition: u32,
+}
+
+impl Bounds {
+    /// The bounds of data with this cap.
+    pub fn of_cap(cap: u16) -> Self
+        ensures decomposition { result.decomposition ≡ min cap 0xC0 }
+        ensures composition { result.composition ≡ min cap 0x0300 }
+    {
+        let cap = u32::from(cap);
+        Bounds {
+            decomposition: cap.min(0xC0),
+            composition: cap.min(0x0300),
+        }
+    }
+}
+
+/// What is asked of data by which text is decomposed.
+pub const DECOMPOSING: [Condition; 10] = [
+    Condition::ItemLimit,
+    Condition::CapLimit,
+    Condition::ReplacementCharacter,
+    Condition::Surrogates,
+    Condition::PastTheEnd,
+    Condition::Hangul,
+    Condition::Words,
+    Condition::Members,
+    Condition::Order,
+    Condition::Passthrough,
+];
+
+impl Condition {
+    /// The number of the condition.
+    pub fn number(self) -> u8
+        ensures { result ≡ number_of self }
+    {
+        match self {
+            Condition::ItemLimit => 1,
+            Condition::CapLimit => 2,
+            Condition::ReplacementCharacter => 3,
+            Condition::Surrogates => 4,
+            Condition::PastTheEnd => 5,
+            Condition::Hangul => 6,
+            Condition::Words => 7,
+            Condition::Members => 8,
+            Condition::Order => 9,
+            Condition::Passthrough => 10,
+        }
+    }
+}

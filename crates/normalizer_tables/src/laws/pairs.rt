@@ -1,0 +1,50 @@
+//! What data and pairs that meet the written conditions give.
+ghost use Rattle.std.specs.Prelude.{◌≡◌, ◌≢◌, ℕ, List, [], ◌∷◌, true, All};
+ghost use Rattle.std.specs.Char.{IsScalar};
+ghost use Rattle.normal_forms.specs.Boundary.{BeginsSafely};
+ghost use Rattle.normal_forms.specs.Forms.{IsNormalized};
+ghost use Rattle.normal_forms.specs.declared.Form.TheVariants as form;
+ghost use Rattle.normal_forms.specs.Hypotheses.{HasFaithfulResults, HasStarterResults};
+ghost use Rattle.normalizer_tables.specs.Characters.{Characters, list_of, reading_of};
+ghost use Rattle.normalizer_tables.specs.Conditions.{Holds};
+ghost use Rattle.normalizer_tables.specs.Ignored.{IgnoredCharacters, ignored_list};
+ghost use Rattle.normalizer_tables.specs.PairConditions.{HasOrderedLists, HoldsOfPairs, composing_reading, is_passed};
+ghost use Rattle.normalizer_tables.specs.Pairs.{Pair, pair_of};
+ghost use Rattle.normalizer_tables.specs.SoundData.{Bounds};
+ghost use Rattle.normalizer_tables.specs.declared.condition.Condition.TheVariants as condition;
+ghost use Rattle.normalizer_tables.specs.declared.pair_condition.PairCondition.TheVariants as of_pairs;
+
+/// What a pair composes to is a starter: conditions 6 and 11.
+pub fn results_are_starters()
+    ensures { (s : Characters) (b : Bounds) (pairs : List Pair) →
+        Holds s b condition.Hangul → HoldsOfPairs s b pairs of_pairs.Pairs →
+        (i : IgnoredCharacters) → HasStarterResults (reading_of s (ignored_list i) (pair_of pairs)) }
+{}
+
+/// What a pair composes to has the ordered lists of the pair: conditions 6 and 14, the latter of the lists that
+/// the composition reads.
+pub fn results_are_faithful()
+    ensures of_lists { (s : Characters) (b : Bounds) (pairs : List Pair) (i : IgnoredCharacters) →
+        Holds s b condition.Hangul → All (HasOrderedLists s (ignored_list i)) pairs →
+        HasFaithfulResults (reading_of s (ignored_list i) (pair_of pairs)) }
+    ensures of_condition { (s : Characters) (b : Bounds) (pairs : List Pair) →
+        Holds s b condition.Hangul → HoldsOfPairs s b pairs of_pairs.Results →
+        HasFaithfulResults (composing_reading s pairs) }
+{}
+
+/// A character that a composing loop passes is its own form, and nothing is reordered or composed across its
+/// beginning: conditions 9, 12 and 13.
+pub fn passed_characters_stand_apart()
+    ensures form { (s : Characters) (b : Bounds) (pairs : List Pair) →
+        Holds s b condition.Order → HoldsOfPairs s b pairs of_pairs.RoundTrip →
+        (i : IgnoredCharacters) (c : ℕ) → IsScalar c → is_passed s b c ≡ true →
+        IsNormalized (reading_of s (ignored_list i) (pair_of pairs)) form.Composing (c ∷ []) }
+    ensures beginning { (s : Characters) (b : Bounds) (pairs : List Pair) →
+        HoldsOfPairs s b pairs of_pairs.SafeBeginning →
+        (i : IgnoredCharacters) (c : ℕ) → IsScalar c → is_passed s b c ≡ true →
+        BeginsSafely (reading_of s (ignored_list i) (pair_of pairs)) (list_of s (ignored_list i) c) }
+    ensures inhabited { (s : Characters) (b : Bounds) (pairs : List Pair) →
+        HoldsOfPairs s b pairs of_pairs.SafeBeginning →
+        (i : IgnoredCharacters) (c : ℕ) → IsScalar c → is_passed s b c ≡ true →
+        list_of s (ignored_list i) c ≢ [] }
+{}

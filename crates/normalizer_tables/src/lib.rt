@@ -1,0 +1,29 @@
+//! Normalization data handed in: code point tables, the words in them, the pairs, the provider and the complete check.
+#![tactic(auto)]
+
+pub mod characters;
+pub mod check;
+pub mod condition;
+mod hangul;
+pub mod laws;
+pub mod members;
+pub mod nfd_check;
+pub mod pair_check;
+pub mod pair_condition;
+mod pairs;
+mod provider;
+mod scalars;
+pub mod special;
+mod table;
+pub mod word;
+
+pub use nfd_check::check_nfd_data;
+pub use pairs::CanonicalCompositions;
+pub use provider::{
+    DataError, DataMarker, DataMarkerInfo, DataProvider, DecompositionData, DecompositionTables,
+    NonRecursiveDecompositionSupplement, NormalizerNfcV1, NormalizerNfdDataV1,
+    NormalizerNfdSupplementV1, NormalizerNfdTablesV1, NormalizerNfkdDataV1, NormalizerNfkdTablesV1,
+    NormalizerUts46DataV1,
+};
+pub use scalars::{Scalars16, Scalars24};
+pub use table::{CodePointTable, TableError};

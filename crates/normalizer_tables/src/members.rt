@@ -1,0 +1,216 @@
+//! The list of a character, walked without taking memory.
+ghost use Rattle.std.specs.Prelude.{◌≡◌, ◌↔◌, ◌<◌, [], ◌∷◌, Some, IsTrue, All, length, slice_get, true};
+ghost use lib.Utf8.{scalar};
+ghost use Rattle.std.specs.Char.{IsScalar};
+ghost use Rattle.std.specs.List.{list_all};
+ghost use Rattle.normalizer_tables.specs.Characters.{as_text};
+ghost use Rattle.normalizer_tables.specs.Hangul.{hangul_decomposition, is_hangul_syllable};
+ghost use Rattle.normalizer_tables.specs.SpecialLists.{fdfa_list};
+
+use std::marker::Model;
+
+/// A list of characters that stands elsewhere, or is short.
+#[derive(Drop)]
+pub struct Members<'a> {
+    shape: Shape<'a>,
+}
+
+/// How the list is stored.
+#[derive(Clone, Copy)]
+enum Shape<'a> {
+    Empty,
+    One(char),
+    Two(char, char),
+    Three(char, char, char),
+    Narrow(&'a [u16]),
+    Wide(&'a [char]),
+}
+
+impl<'a> Model for Members<'a> {
+    ghost use Rattle.std.specs.Prelude.{◌≡◌, ℕ, List, true};
+    ghost use Rattle.normalizer_tables.specs.Members.{members_of, spells_characters};
+
+    ghost Value = { List ℕ };
+
+    ghost view = { λ m. members_of m.shape };
+
+    ghost invariant = { λ m. spells_characters m.shape ≡ true };
+}
+
+const S_BASE: u32 = 0xAC00;
+
+const L_BASE: u32 = 0x1100;
+
+const V_BASE: u32 = 0x1161;
+
+const T_BASE: u32 = 0x11A7;
+
+const T_COUNT: u32 = 28;
+
+const N_COUNT: u32 = 588;
+
+/// The list of U+FDFA ARABIC LIGATURE SALLALLAHOU ALAYHE WASALLAM.
+static FDFA: [char; 18] = [
+    '\u{635}', '\u{644}', '\u{649}', '\u{20}', '\u{627}', '\u{644}', '\u{644}', '\u{647}',
+    '\u{20}', '\u{639}', '\u{644}', '\u{64A}', '\u{647}', '\u{20}', '\u{648}', '\u{633}',
+    '\u{644}', '\u{645}',
+];
+
+impl<'a> Members<'a> {
+    pub fn len(&self) -> usize
+        ensures { result ≡ length self.now }
+    {
+        match self.shape {
+            Shape::Empty => 0,
+            Shape::One(_) => 1,
+            Shape::Two(_, _) => 2,
+            Shape::Three(_, _, _) => 3,
+            Shape::Narrow(units) => units.len(),
+            Shape::Wide(scalars) => scalars.len(),
+        }
+    }
+
+    pub fn is_empty(&self) -> bool
+        ensures { IsTrue result ↔ (self.now ≡ []) }
+    {
+        self.len() == 0
+    }
+
+    /// The member at this place, counted from 0.
+    pub fn get(&self, place: usize) -> Option<char>
+        ensures { result ≡ slice_get self.now place }
+    {
+        match self.shape {
+            Shape::Empty => None,
+            Shape::One(a) => [a].get(place).copied(),
+            Shape::Two(a, b) => [a, b].get(place).copied(),
+            Shape::Three(a, b, c) => [a, b, c].get(place).copied(),
+            Shape::Narrow(units) => character_at(units, place),
+            Shape::Wide(scalars) => scalars.get(place).copied(),
+        }
+    }
+
+    /// The member at a place before the end.
+    pub fn at(&self, place: usize) -> char
+        requires { place < length self.now }
+        ensures { slice_get self.now place ≡ Some result }
+    {
+        self.get(place).unwrap()
+    }
+
+    pub(crate) fn empty() -> Self
+        ensures { result ≡ [] }
+    {
+        Members {
+            shape: Shape::Empty,
+        }
+    }
+
+    pub(crate) fn one(a: char) -> Self
+        ensures { result ≡ a ∷ [] }
+    {
+        Members {
+            shape: Shape::One(a),
+        }
+    }
+
+    pub(crate) fn two(a: char, b: char) -> Self
+        ensures { result ≡ a ∷ b ∷ [] }
+    {
+        Members {
+            shape: Shape::Two(a, b),
+        }
+    }
+
+    /// The one character of this number.
+    #[tactic(auto, unfolding(crate::specs::Characters::as_text))]
+    pub(crate) fn of_number(a: u32) -> Option<Self>
+        ensures { result ≡ as_text (a ∷ []) }
+    {
+        Some(Members::one(char::from_u32(a)?))
+    }
+
+    /// The two characters of these numbers.
+    #[tactic(auto, unfolding(crate::specs::Characters::as_text))]
+    pub(crate) fn of_numbers(a: u32, b: u32) -> Option<Self>
+        ensures { result ≡ as_text (a ∷ b ∷ []) }
+    {
+        Some(Members::two(char::from_u32(a)?, char::from_u32(b)?))
+    }
+
+    /// Characters up to U+FFFF.
+    #[tactic(auto, unfolding(crate::specs::Characters::as_text))]
+    pub(crate) fn of_units(units: &'a [u16]) -> Option<Self>
+        ensures { result ≡ as_text units.now }
+    {
+        if are_characters(units) {
+            Some(Members {
+                shape: Shape::Narrow(units),
+            })
+        } else {
+            None
+        }
+    }
+
+    pub(crate) fn of_scalars(scalars: &'a [char]) -> Self
+        ensures { result ≡ scalars.now }
+    {
+        Members {
+            shape: Shape::Wide(scalars),
+        }
+    }
+
+    /// The jamo of a Hangul syllable (The Unicode Standard, section 3.12).
+    #[tactic(auto, unfolding(crate::specs::Characters::as_text, crate::specs::Hangul::hangul_decomposition, crate::specs::Hangul::is_hangul_syllable))]
+    pub(crate) fn of_hangul_syllable(syllable: char) -> Option<Self>
+        requires { is_hangul_syllable syllable ≡ true }
+        ensures { result ≡ as_text (hangul_decomposition syllable) }
+    {
+        let index = syllable as u32 - S_BASE;
+        let leading = char::from_u32(L_BASE + index / N_COUNT)?;
+        let vowel = char::from_u32(V_BASE + index % N_COUNT / T_COUNT)?;
+        let trailing = index % T_COUNT;
+        if trailing == 0 {
+            return Some(Members::two(leading, vowel));
+        }
+        let trailing = char::from_u32(T_BASE + trailing)?;
+        Some(Members {
+            shape: Shape::Three(leading, vowel, trailing),
+        })
+    }
+
+    /// The fixed list of U+FDFA.
+    #[tactic(auto, unfolding(crate::specs::SpecialLists::fdfa_list))]
+    pub(crate) fn of_fdfa() -> Self
+        ensures { result ≡ fdfa_list }
+    {
+        Members {
+            shape: Shape::Wide(&FDFA),
+        }
+    }
+}
+
+/// The character at a place among numbers of characters.
+fn character_at(units: &[u16], place: usize) -> Option<char>
+    requires { All IsScalar units.now }
+    ensures { result ≡ slice_get units.now place }
+{
+    match units.get(place) {
+        Some(&unit) => char::from_u32(unit as u32),
+        None => None,
+    }
+}
+
+/// Whether all these numbers are those of characters.
+fn are_characters(units: &[u16]) -> bool
+    ensures { result ≡ list_all scalar units.now }
+{
+    units.iter().all(|&unit| is_character(unit))
+}
+
+/// Whether a number is that of a character, and no surrogate.
+fn is_character(unit: u16) -> bool
+    ensures { result ≡ scalar unit }
+{
+    char::from_u32(unit as u32).is_some()
+}

@@ -1,0 +1,64 @@
+//! The check of canonical data that are handed in without a provider.
+ghost use Rattle.std.specs.Prelude.{◌≡◌, ◌↔◌, IsOk, IfErr};
+ghost use Rattle.normalizer_tables.specs.NfdData.{
+  IsSoundNfdData,
+  nfd_bounds,
+  nfd_characters,
+  nfd_conditions,
+};
+ghost use Rattle.normalizer_tables.specs.Refusals.{RefusesFirstFailing, refusal_of};
+ghost use Rattle.normalizer_tables.specs.declared.provider.DataMarkerInfo.TheVariants as marker;
+
+use crate::characters::CharacterData;
+use crate::check::first_failing;
+use crate::condition::{Bounds, Condition};
+use crate::provider::{DataError, DataMarkerInfo, DecompositionData, DecompositionTables};
+
+#[cfg(test)]
+mod tests;
+
+/// What is asked of canonical data that are handed in: nothing of their cap.
+const NFD_DATA: [Condition; 9] = [
+    Condition::ItemLimit,
+    Condition::ReplacementCharacter,
+    Condition::Surrogates,
+    Condition::PastTheEnd,
+    Condition::Hangul,
+    Condition::Words,
+    Condition::Members,
+    Condition::Order,
+    Condition::Passthrough,
+];
+
+/// Tests what a caller owes of canonical data that a normalizer takes as they are: conditions 1, 3 to 9, and 10 for the
+/// characters below U+00C0. The first that fails is answered. It takes no memory.
+pub fn check_nfd_data<'a>(
+    decompositions: &'a DecompositionData,
+    tables: &'a DecompositionTables,
+) -> Result<(), DataError>
+    ensures ok { IsOk result ↔ IsSoundNfdData decompositions.now tables.now }
+    ensures err { IfErr result (RefusesFirstFailing marker.NormalizerNfdDataV1 (nfd_characters decompositions.now tables.now) nfd_bounds nfd_conditions) }
+{
+    let characters = CharacterData::new(decompositions, tables, None, false);
+    let bounds = Bounds {
+        decomposition: 0xC0,
+        composition: 0x0300,
+    };
+    match first_failing(&characters, bounds, &NFD_DATA) {
+        Some(condition) => Err(refusal_of(DataMarkerInfo::NormalizerNfdDataV1, condition)),
+        None => Ok(()),
+    }
+}
+
+/// How a condition that fails is answered, where the decomposition data have this marker.
+pub fn refusal_of(marker: DataMarkerInfo, condition: Condition) -> DataError
+    ensures { result ≡ refusal_of marker condition }
+{
+    if condition == Condition::ItemLimit {
+        return DataError::FutureExtension(DataMarkerInfo::NormalizerNfdTablesV1);
+    }
+    DataError::Invalid {
+        marker,
+        condition: condition.number(),
+    }
+}

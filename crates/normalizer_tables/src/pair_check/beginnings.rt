@@ -1,0 +1,174 @@
+//! What is asked of the characters that a composing loop passes.
+ghost use Rattle.std.specs.Prelude.{◌≡◌, ◌↔◌, ℕ, [], ◌∷◌, true, IsTrue};
+ghost use Rattle.std.specs.Char.{IsScalar};
+ghost use Rattle.normal_forms.specs.Boundary.{BeginsSafely};
+ghost use Rattle.normal_forms.specs.Composition.{compose, joined};
+ghost use Rattle.normalizer_tables.specs.Characters.{Characters, word_of};
+ghost use Rattle.normalizer_tables.specs.PairConditions.{
+  HasSafeBeginning,
+  HoldsOfPairs,
+  KeepsBeginning,
+  KeepsRoundTrip,
+  RoundTrips,
+  composing_reading,
+  is_taken_to_begin_safely,
+  is_taken_to_round_trip,
+};
+ghost use Rattle.normalizer_tables.specs.declared.pair_condition.PairCondition.TheVariants as condition;
+
+use crate::characters::{CODE_POINTS, CharacterData, IgnoredCharacters};
+use crate::condition::Bounds;
+use crate::members::Members;
+use crate::pairs::CanonicalCompositions;
+use crate::word::{is_backward_combining, is_non_round_trip, is_plain};
+
+/// Whether the two conditions hold of all characters.
+#[derive(Clone, Copy)]
+pub struct Beginnings {
+    pub round_trip: bool,
+    pub safe: bool,
+}
+
+/// One pass over all characters for both conditions.
+pub fn check_beginnings(
+    data: &CharacterData<'_>,
+    bounds: Bounds,
+    compositions: &CanonicalCompositions,
+) -> Beginnings
+    ensures round_trip { IsTrue result.round_trip ↔ HoldsOfPairs data.now bounds compositions.now condition.RoundTrip }
+    ensures safe { IsTrue result.safe ↔ HoldsOfPairs data.now bounds compositions.now condition.SafeBeginning }
+{
+    let mut round_trip = true;
+    let mut safe = true;
+    for number in 0..CODE_POINTS {
+        let word = data.word_of_number(number);
+        round_trip = round_trip && keeps_round_trip(data, bounds, compositions, number, word);
+        safe = safe && keeps_beginning(data, bounds, compositions, number, word);
+    }
+    Beginnings { round_trip, safe }
+}
+
+/// Whether a character, whose word was looked up, composes to itself if a composing loop relies on it.
+#[tactic(auto, unfolding(crate::specs::PairConditions::KeepsRoundTrip, crate::specs::PairConditions::is_taken_to_round_trip))]
+fn keeps_round_trip(
+    data: &CharacterData<'_>,
+    bounds: Bounds,
+    compositions: &CanonicalCompositions,
+    number: u32,
+    word: u32,
+) -> bool
+    requires { word ≡ word_of data.now number }
+    ensures { IsTrue result ↔ KeepsRoundTrip data.now bounds compositions.now number }
+{
+    let Some(character) = char::from_u32(number) else {
+        return true;
+    };
+    // Most characters stand for themselves, and need no look at their lists.
+    if is_plain(word) {
+        return true;
+    }
+    let is_taken = !is_non_round_trip(word) || number < bounds.composition;
+    !is_taken || round_trips(data, compositions, character)
+}
+
+/// Whether the list of a character, whose word was looked up, begins safely if a composing loop relies on it.
+#[tactic(auto, unfolding(crate::specs::PairConditions::KeepsBeginning, crate::specs::PairConditions::is_taken_to_begin_safely))]
+fn keeps_beginning(
+    data: &CharacterData<'_>,
+    bounds: Bounds,
+    compositions: &CanonicalCompositions,
+    number: u32,
+    word: u32,
+) -> bool
+    requires { word ≡ word_of data.now number }
+    ensures { IsTrue result ↔ KeepsBeginning data.now bounds compositions.now number }
+{
+    let Some(character) = char::from_u32(number) else {
+        return true;
+    };
+    let is_taken = !is_backward_combining(word) || number < bounds.composition;
+    !is_taken || begins_safely(data, compositions, character, word)
+}
+
+/// Whether the list of a character, whose word was looked up, begins safely.
+fn begins_safely(
+    data: &CharacterData<'_>,
+    compositions: &CanonicalCompositions,
+    character: char,
+    word: u32,
+) -> bool
+    requires { word ≡ word_of data.now character }
+    ensures { IsTrue result ↔ HasSafeBeginning data.now compositions.now character }
+{
+    if is_plain(word) {
+        compositions.is_never_second(character)
+    } else {
+        has_safe_beginning(data, compositions, character)
+    }
+}
+
+/// Whether the list of a character composes to it alone.
+#[tactic(auto, unfolding(crate::specs::PairConditions::RoundTrips))]
+fn round_trips(
+    data: &CharacterData<'_>,
+    compositions: &CanonicalCompositions,
+    character: char,
+) -> bool
+    ensures { IsTrue result ↔ RoundTrips data.now compositions.now character }
+{
+    let list = data.members(character, IgnoredCharacters::Dropped);
+    composes_to(data, compositions, &list, character)
+}
+
+/// Whether the list of a character begins with a starter that is second in no pair.
+fn has_safe_beginning(
+    data: &CharacterData<'_>,
+    compositions: &CanonicalCompositions,
+    character: char,
+) -> bool
+    ensures { IsTrue result ↔ HasSafeBeginning data.now compositions.now character }
+{
+    let list = data.members(character, IgnoredCharacters::Dropped);
+    match list.get(0) {
+        Some(first) => data.class_of(first) == 0 && compositions.is_never_second(first),
+        None => false,
+    }
+}
+
+/// Whether a list composes to this character alone: all behind the first join.
+fn composes_to(
+    data: &CharacterData<'_>,
+    compositions: &CanonicalCompositions,
+    list: &Members<'_>,
+    character: char,
+) -> bool
+    ensures { IsTrue result ↔ (compose (composing_reading data.now compositions.now) list.now ≡ character ∷ []) }
+{
+    let Some(mut composite) = list.get(0) else {
+        return false;
+    };
+    for place in 1..list.len() {
+        match joined(data, compositions, composite, list.at(place)) {
+            Some(next) => composite = next,
+            None => return false,
+        }
+    }
+    composite == character
+}
+
+/// What a character becomes by the one right behind it.
+#[tactic(auto, unfolding(normal_forms::specs::Composition::joined, normal_forms::specs::Composition::is_blocked))]
+fn joined(
+    data: &CharacterData<'_>,
+    compositions: &CanonicalCompositions,
+    first: char,
+    second: char,
+) -> Option<char>
+    ensures { result ≡ joined (composing_reading data.now compositions.now) first [] second }
+{
+    if data.class_of(first) == 0 {
+        compositions.compose(first, second)
+    } else {
+        None
+    }
+}

@@ -1,0 +1,214 @@
+//! The pairs of characters that compose.
+ghost use Rattle.std.specs.Prelude.{◌≡◌, ◌↔◌, ◌==◌, ◌<◌, [], length, slice_get, All, false, ℕ, IfOk, IsOkUnless, IsTrue, not};
+ghost use Rattle.std.specs.List.{list_all};
+ghost use Rattle.normalizer_tables.specs.Pairs.{is_before, is_of, is_vowel_or_trailing_jamo, listed_result, pair_of, AreRising, IsNeverSecond, IsPlaceOf};
+
+use crate::hangul::{compose_hangul, is_never_hangul_second};
+use crate::table::TableError;
+use std::alloc::AllocError;
+use std::marker::Model;
+
+/// Composing pairs as triples of second character, first character and result. Look-ups halve a list that rises, and
+/// go through another one from its beginning.
+#[derive(Drop)]
+pub struct CanonicalCompositions {
+    pairs: Vec<(char, char, char)>,
+    is_rising: bool,
+}
+
+impl Model for CanonicalCompositions {
+    ghost use Rattle.std.specs.Prelude.{◌≡◌, ◌↔◌, ℕ, List, IsTrue};
+    ghost use Rattle.normalizer_tables.specs.Pairs.{AreRising};
+
+    ghost Value = { List (ℕ × ℕ × ℕ) };
+
+    ghost view = { λ c. c.pairs.items };
+
+    ghost invariant = { λ c. IsTrue c.is_rising ↔ AreRising c.pairs.items };
+}
+
+impl CanonicalCompositions {
+    /// Holds the list as it is handed in: whether it rises is asked by those who use it.
+    pub fn from_pairs(pairs: Vec<(char, char, char)>) -> Result<Self, TableError>
+        ensures held { IfOk result (λ c. c ≡ pairs.items) }
+        ensures refused { IsOkUnless result TableError.Memory }
+    {
+        let is_rising = are_rising(&pairs);
+        Ok(CanonicalCompositions { pairs, is_rising })
+    }
+
+    /// Whether the list strictly rises by second, then by first.
+    pub fn is_rising(&self) -> bool
+        ensures { IsTrue result ↔ AreRising self.now }
+    {
+        self.is_rising
+    }
+
+    /// How many pairs there are.
+    pub fn len(&self) -> usize
+        ensures { result ≡ length self.now }
+    {
+        self.pairs.len()
+    }
+
+    pub fn is_empty(&self) -> bool
+        ensures { IsTrue result ↔ (self.now ≡ []) }
+    {
+        self.pairs.is_empty()
+    }
+
+    /// The pair at this place, counted from 0: second, first and result.
+    pub fn at(&self, place: usize) -> (char, char, char)
+        requires { place < length self.now }
+        ensures { slice_get self.now place ≡ Some result }
+    {
+        self.pairs[place]
+    }
+
+    /// Whether the arithmetic of Hangul answers none of the seconds.
+    pub fn has_no_jamo_second(&self) -> bool
+        ensures { IsTrue result ↔ All (λ p. is_vowel_or_trailing_jamo p.0 ≡ false) self.now }
+    {
+        self.pairs
+            .iter()
+            .all(|pair| !is_vowel_or_trailing_jamo(pair.0))
+    }
+
+    /// What two characters compose to: by the arithmetic of Hangul alone where the second is a vowel or a trailing
+    /// consonant of that block, else as listed.
+    #[tactic(auto, unfolding(crate::specs::Pairs::pair_of))]
+    pub fn compose(&self, first: char, second: char) -> Option<char>
+        ensures { result ≡ pair_of self.now first second }
+    {
+        if is_vowel_or_trailing_jamo(second) {
+            compose_hangul(first, second)
+        } else {
+            self.compose_non_hangul(first, second)
+        }
+    }
+
+    /// What the list alone gives for two characters.
+    pub fn compose_non_hangul(&self, first: char, second: char) -> Option<char>
+        ensures { result ≡ listed_result self.now first second }
+    {
+        if self.is_rising {
+            result_by_halving(&self.pairs, first, second)
+        } else {
+            first_result(&self.pairs, first, second)
+        }
+    }
+
+    /// Whether a character composes with none before it.
+    #[tactic(auto, unfolding(crate::specs::Pairs::IsNeverSecond, crate::specs::Pairs::pair_of))]
+    pub fn is_never_second(&self, second: char) -> bool
+        ensures { IsTrue result ↔ IsNeverSecond self.now second }
+    {
+        if is_vowel_or_trailing_jamo(second) {
+            is_never_hangul_second(second)
+        } else {
+            self.is_never_listed_second(second)
+        }
+    }
+
+    /// Whether no pair has this second.
+    fn is_never_listed_second(&self, second: char) -> bool
+        ensures { IsTrue result ↔ ((first : ℕ) → listed_result self.now first second ≡ None) }
+    {
+        if self.is_rising {
+            is_never_second_by_halving(&self.pairs, second)
+        } else {
+            has_no_second(&self.pairs, second)
+        }
+    }
+}
+
+impl Clone for CanonicalCompositions {
+    ghost is_clone = { λ c d. d ≡ c };
+
+    fn clone(&self) -> Result<Self, AllocError> {
+        Ok(CanonicalCompositions {
+            pairs: self.pairs.clone()?,
+            is_rising: self.is_rising,
+        })
+    }
+}
+
+fn are_rising(pairs: &[(char, char, char)]) -> bool
+    ensures { IsTrue result ↔ AreRising pairs.now }
+{
+    pairs.is_sorted_by(|pair, next| is_before(pair, next.0, next.1))
+}
+
+/// The result of the first pair of two characters.
+#[tactic(auto, unfolding(crate::specs::Pairs::listed_result))]
+fn first_result(pairs: &[(char, char, char)], first: char, second: char) -> Option<char>
+    ensures { result ≡ listed_result pairs.now first second }
+{
+    pairs
+        .iter()
+        .find(|pair| is_of(pair, first, second))
+        .map(|pair| pair.2)
+}
+
+/// The same in a list that rises.
+fn result_by_halving(pairs: &[(char, char, char)], first: char, second: char) -> Option<char>
+    requires { AreRising pairs.now }
+    ensures { result ≡ listed_result pairs.now first second }
+{
+    let at = place_of(pairs, second, first);
+    match pairs.get(at) {
+        Some(pair) if is_of(pair, first, second) => Some(pair.2),
+        _ => None,
+    }
+}
+
+/// Whether no pair has this second.
+fn has_no_second(pairs: &[(char, char, char)], second: char) -> bool
+    ensures { result ≡ list_all (λ p. not (p.0 == second)) pairs.now }
+{
+    pairs.iter().all(|pair| pair.0 != second)
+}
+
+/// The same in a list that rises.
+fn is_never_second_by_halving(pairs: &[(char, char, char)], second: char) -> bool
+    requires { AreRising pairs.now }
+    ensures { IsTrue result ↔ ((first : ℕ) → listed_result pairs.now first second ≡ None) }
+{
+    let at = place_of(pairs, second, '\0');
+    match pairs.get(at) {
+        Some(pair) if pair.0 == second => false,
+        _ => true,
+    }
+}
+
+/// The place in a rising list of the first pair that doesn't stand before those of two characters, by halving.
+fn place_of(pairs: &[(char, char, char)], second: char, first: char) -> usize
+    requires { AreRising pairs.now }
+    ensures { IsPlaceOf pairs.now second first result }
+{
+    pairs.partition_point(|pair| is_before(pair, second, first))
+}
+
+#[tactic(auto, unfolding(crate::specs::Pairs::is_before))]
+fn is_before(pair: &(char, char, char), second: char, first: char) -> bool
+    ensures { result ≡ is_before pair.now second first }
+{
+    pair.0 < second || (pair.0 == second && pair.1 < first)
+}
+
+#[tactic(auto, unfolding(crate::specs::Pairs::is_of))]
+fn is_of(pair: &(char, char, char), first: char, second: char) -> bool
+    ensures { result ≡ is_of pair.now first second }
+{
+    pair.0 == second && pair.1 == first
+}
+
+#[tactic(auto, unfolding(crate::specs::Pairs::is_vowel_or_trailing_jamo))]
+fn is_vowel_or_trailing_jamo(c: char) -> bool
+    ensures { result ≡ is_vowel_or_trailing_jamo c }
+{
+    '\u{1161}' <= c && c <= '\u{11FF}'
+}
+
+#[cfg(test)]
+mod tests;

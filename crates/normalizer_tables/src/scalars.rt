@@ -1,0 +1,131 @@
+//! Lists of characters that the words of a table point into.
+ghost use Rattle.std.specs.Prelude.{◌≡◌, ◌↔◌, [], length, IsTrue};
+
+use std::alloc::{AllocError, Global};
+use std::marker::Model;
+
+/// Characters up to U+FFFF, as 16-bit numbers.
+#[derive(Drop)]
+pub struct Scalars16 {
+    units: Vec<u16>,
+}
+
+impl Model for Scalars16 {
+    ghost use Rattle.std.specs.Prelude.{ℕ, List};
+
+    ghost Value = { List ℕ };
+
+    ghost view = { λ s. s.units.items };
+}
+
+impl Scalars16 {
+    pub fn allocator(&self) -> Global {
+        *self.units.allocator()
+    }
+
+    pub fn as_slice(&self) -> &[u16]
+        ensures { result.now ≡ self.now }
+    {
+        self.units.as_slice()
+    }
+
+    pub fn len(&self) -> usize
+        ensures { result ≡ length self.now }
+    {
+        self.units.len()
+    }
+
+    pub fn is_empty(&self) -> bool
+        ensures { IsTrue result ↔ (self.now ≡ []) }
+    {
+        self.units.is_empty()
+    }
+}
+
+impl From<Vec<u16>> for Scalars16 {
+    ghost from_gives = { λ v s. s ≡ v.items };
+
+    fn from(units: Vec<u16>) -> Self {
+        Scalars16 { units }
+    }
+}
+
+impl From<Scalars16> for Vec<u16> {
+    ghost from_gives = { λ s v. v.items ≡ s };
+
+    fn from(scalars: Scalars16) -> Self {
+        let Scalars16 { units } = scalars;
+        units
+    }
+}
+
+impl Clone for Scalars16 {
+    ghost is_clone = { λ s t. t ≡ s };
+
+    fn clone(&self) -> Result<Self, AllocError> {
+        Ok(Scalars16 {
+            units: self.units.clone()?,
+        })
+    }
+}
+
+/// Characters.
+#[derive(Drop)]
+pub struct Scalars24 {
+    scalars: Vec<char>,
+}
+
+impl Model for Scalars24 {
+    ghost use Rattle.std.specs.Prelude.{ℕ, List};
+
+    ghost Value = { List ℕ };
+
+    ghost view = { λ s. s.scalars.items };
+}
+
+impl Scalars24 {
+    pub fn as_slice(&self) -> &[char]
+        ensures { result.now ≡ self.now }
+    {
+        self.scalars.as_slice()
+    }
+
+    pub fn len(&self) -> usize
+        ensures { result ≡ length self.now }
+    {
+        self.scalars.len()
+    }
+
+    pub fn is_empty(&self) -> bool
+        ensures { IsTrue result ↔ (self.now ≡ []) }
+    {
+        self.scalars.is_empty()
+    }
+}
+
+impl From<Vec<char>> for Scalars24 {
+    ghost from_gives = { λ v s. s ≡ v.items };
+
+    fn from(scalars: Vec<char>) -> Self {
+        Scalars24 { scalars }
+    }
+}
+
+impl From<Scalars24> for Vec<char> {
+    ghost from_gives = { λ s v. v.items ≡ s };
+
+    fn from(scalars: Scalars24) -> Self {
+        let Scalars24 { scalars } = scalars;
+        scalars
+    }
+}
+
+impl Clone for Scalars24 {
+    ghost is_clone = { λ s t. t ≡ s };
+
+    fn clone(&self) -> Result<Self, AllocError> {
+        Ok(Scalars24 {
+            scalars: self.scalars.clone()?,
+        })
+    }
+}

@@ -1,0 +1,122 @@
+//! The code point table: a 32-bit word for every number.
+ghost use Rattle.std.specs.Prelude.{◌≡◌, ◌↔◌, ◌≤◌, IfOk, IsErrOf, IsTrue};
+ghost use Rattle.normalizer_tables.specs.Ranges.{word_in, IsComplete, IsRangeList, IsTableOf};
+ghost use Rattle.normalizer_tables.specs.Table.{word_at, code_points};
+
+use std::alloc::AllocError;
+use std::marker::Model;
+use thiserror::Error;
+
+/// Why a table was refused.
+#[derive(Clone, Copy, Debug, PartialEq, Eq, Error)]
+pub enum TableError {
+    /// A first number above its last, a last above 0x10FFFF, or ranges that overlap or don't rise.
+    #[error("the ranges of a table overlap, don't rise, or leave the code points")]
+    Ranges,
+    #[error("out of memory")]
+    Memory,
+}
+
+/// A word for every number: one for each code point, and one for all numbers above 0x10FFFF.
+#[derive(Drop)]
+pub struct CodePointTable {
+    ranges: Vec<(u32, u32, u32)>,
+    past: u32,
+}
+
+impl Model for CodePointTable {
+    ghost use Rattle.normalizer_tables.specs.Table.{Table};
+    ghost use Rattle.normalizer_tables.specs.Ranges.{table_of, IsRangeList};
+
+    ghost Value = { Table };
+
+    ghost view = { λ t. table_of t.ranges.items t.past };
+
+    ghost invariant = { λ t. IsRangeList t.ranges.items };
+}
+
+impl CodePointTable {
+    /// The table of triples of first number, last number and word. A code point in no range has the word 0, and every
+    /// number above 0x10FFFF has `past`.
+    pub fn from_ranges(ranges: Vec<(u32, u32, u32)>, past: u32) -> Result<Self, TableError>
+        ensures table { IfOk result (IsTableOf ranges.items past) }
+        ensures accepted { IfOk result (λ _. IsRangeList ranges.items) }
+        ensures refused { IsErrOf result TableError.Ranges ↔ (¬ IsRangeList ranges.items) }
+    {
+        if is_range_list(&ranges) {
+            Ok(CodePointTable { ranges, past })
+        } else {
+            Err(TableError::Ranges)
+        }
+    }
+
+    /// The word of a character.
+    pub fn get(&self, c: char) -> u32
+        ensures { result ≡ word_at self.now c }
+    {
+        self.get32(c as u32)
+    }
+
+    /// The word of a 16-bit number, surrogates included.
+    pub fn get16(&self, unit: u16) -> u32
+        ensures { result ≡ word_at self.now unit }
+    {
+        self.get32(unit as u32)
+    }
+
+    /// The word of any number.
+    pub fn get32(&self, number: u32) -> u32
+        ensures word { result ≡ word_at self.now number }
+        ensures past { code_points ≤ number → result ≡ self.now.past }
+
+        // Stated for callers, who don't see the ranges: the list of words has all code points.
+        ensures complete { IsComplete self.now }
+    {
+        if number > LAST_CODE_POINT {
+            return self.past;
+        }
+        word_in_ranges(&self.ranges, number)
+    }
+}
+
+impl Clone for CodePointTable {
+    ghost is_clone = { λ t u. u ≡ t };
+
+    fn clone(&self) -> Result<Self, AllocError> {
+        Ok(CodePointTable {
+            ranges: self.ranges.clone()?,
+            past: self.past,
+        })
+    }
+}
+
+const LAST_CODE_POINT: u32 = 0x10FFFF;
+
+/// Whether these are ranges of code points, each before the next.
+fn is_range_list(ranges: &[(u32, u32, u32)]) -> bool
+    ensures { IsTrue result ↔ IsRangeList ranges.now }
+{
+    let mut next_free = 0;
+    for &(first, last, _) in ranges {
+        if first < next_free || last < first || last > LAST_CODE_POINT {
+            return false;
+        }
+        next_free = last + 1;
+    }
+    true
+}
+
+/// The word of a number in a list of ranges, by halving.
+fn word_in_ranges(ranges: &[(u32, u32, u32)], number: u32) -> u32
+    requires { IsRangeList ranges.now }
+    ensures { result ≡ word_in ranges.now number }
+{
+    let at = ranges.partition_point(|range| range.1 < number);
+    match ranges.get(at) {
+        Some(&(first, _, word)) if first <= number => word,
+        _ => 0,
+    }
+}
+
+#[cfg(test)]
+mod tests;

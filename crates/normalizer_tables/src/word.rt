@@ -1,0 +1,187 @@
+//! The readings of the 32-bit words of decomposition data.
+ghost use Rattle.std.specs.Prelude.{◌≡◌, false};
+ghost use Rattle.normalizer_tables.specs.Hangul.{is_hangul_syllable};
+ghost use Rattle.normalizer_tables.specs.Words.{
+  class_of_word,
+  has_high_zeros,
+  has_low_zeros,
+  is_backward_combining,
+  is_class_form,
+  is_non_round_trip,
+  is_ordinary_class_form,
+  is_plain,
+  is_special_class_form,
+  listed,
+  low_byte,
+  read,
+  read_low,
+  two_characters,
+};
+
+/// The word of a character that the mapper ignores (UTS #46, section 4).
+pub const IGNORED_MARKER: u32 = 0xFFFF_FFFF;
+
+/// How the word of a character reads.
+#[derive(Clone, Copy, PartialEq, Eq, Debug)]
+pub enum WordReading {
+    /// The mapper ignores the character.
+    Ignored,
+    /// The character itself, a starter.
+    Itself,
+    /// The character itself, with this class.
+    ClassForm(u8),
+    /// The fixed list of the character, with this class.
+    SpecialForm(u8),
+    /// Two characters.
+    TwoCharacters(u16, u16),
+    /// The jamo of a Hangul syllable, by arithmetic.
+    HangulSyllable,
+    /// The fixed list of U+FDFA.
+    Fdfa,
+    /// One character up to U+FFFF.
+    OneCharacter(u16),
+    /// A list in the tables: its first item, the low bits of its length, and whether all members after the first are
+    /// promised as marks.
+    Listed(u32, u8, bool),
+}
+
+/// The reading of the word of a character, in the mapper's data or in others.
+#[tactic(auto, unfolding(crate::specs::Words::read))]
+pub fn read(character: char, word: u32, is_mapper: bool) -> WordReading
+    ensures { result ≡ read character word is_mapper }
+{
+    if is_mapper && word == IGNORED_MARKER {
+        WordReading::Ignored
+    } else if is_plain(word) {
+        WordReading::Itself
+    } else if is_ordinary_class_form(word) {
+        WordReading::ClassForm(low_byte(word))
+    } else if is_special_class_form(word) {
+        WordReading::SpecialForm(low_byte(word))
+    } else if !has_high_zeros(word) && !has_low_zeros(word) {
+        two_characters(word)
+    } else if has_high_zeros(word) {
+        read_low(character, word)
+    } else {
+        listed(word)
+    }
+}
+
+/// The class that a word gives: the low byte of a class form, else 0.
+#[tactic(auto, unfolding(crate::specs::Words::class_of_word))]
+pub fn class_of_word(word: u32) -> u8
+    ensures { result ≡ class_of_word word }
+{
+    if is_class_form(word) {
+        low_byte(word)
+    } else {
+        0
+    }
+}
+
+/// Whether a word has one of the two class forms.
+#[tactic(auto, unfolding(crate::specs::Words::is_class_form))]
+pub fn is_class_form(word: u32) -> bool
+    ensures { result ≡ is_class_form word }
+{
+    is_ordinary_class_form(word) || is_special_class_form(word)
+}
+
+#[tactic(auto, unfolding(crate::specs::Words::is_ordinary_class_form))]
+pub(crate) fn is_ordinary_class_form(word: u32) -> bool
+    ensures { result ≡ is_ordinary_class_form word }
+{
+    word & 0x3FFF_FF00 == 0xD800
+}
+
+#[tactic(auto, unfolding(crate::specs::Words::is_special_class_form))]
+pub(crate) fn is_special_class_form(word: u32) -> bool
+    ensures { result ≡ is_special_class_form word }
+{
+    word & 0x3FFF_FF00 == 0xD900
+}
+
+/// Whether bit 30, NON_ROUND_TRIP, is set: the list doesn't compose to the character alone.
+#[tactic(auto, unfolding(crate::specs::Words::is_non_round_trip))]
+pub fn is_non_round_trip(word: u32) -> bool
+    ensures { result ≡ is_non_round_trip word }
+{
+    word & 0x4000_0000 != 0
+}
+
+/// Whether bit 31, BACKWARD_COMBINING, is set: the list begins with a mark or with the second of a pair.
+#[tactic(auto, unfolding(crate::specs::Words::is_backward_combining))]
+pub fn is_backward_combining(word: u32) -> bool
+    ensures { result ≡ is_backward_combining word }
+{
+    word & 0x8000_0000 != 0
+}
+
+/// Whether a number is that of a Hangul syllable.
+#[tactic(auto, unfolding(crate::specs::Hangul::is_hangul_syllable))]
+pub fn is_hangul_syllable(number: u32) -> bool
+    ensures { result ≡ is_hangul_syllable number }
+{
+    0xAC00 <= number && number <= 0xD7A3
+}
+
+/// Whether a word reads as the character itself with class 0, whatever its flags.
+#[tactic(auto, unfolding(crate::specs::Words::is_plain))]
+pub(crate) fn is_plain(word: u32) -> bool
+    ensures { result ≡ is_plain word }
+{
+    word & 0x3FFF_FFFF == 0
+}
+
+#[tactic(auto, unfolding(crate::specs::Words::has_high_zeros))]
+fn has_high_zeros(word: u32) -> bool
+    ensures { result ≡ has_high_zeros word }
+{
+    word & 0x3FFF_0000 == 0
+}
+
+#[tactic(auto, unfolding(crate::specs::Words::has_low_zeros))]
+fn has_low_zeros(word: u32) -> bool
+    ensures { result ≡ has_low_zeros word }
+{
+    word & 0xFFE0 == 0
+}
+
+/// The low byte of a word, the class of a class form.
+#[tactic(auto, unfolding(crate::specs::Words::low_byte))]
+pub(crate) fn low_byte(word: u32) -> u8
+    ensures { result ≡ low_byte word }
+{
+    (word & 0xFF) as u8
+}
+
+#[tactic(auto, unfolding(crate::specs::Words::two_characters))]
+fn two_characters(word: u32) -> WordReading
+    ensures { result ≡ two_characters word }
+{
+    WordReading::TwoCharacters((word & 0x7FFF) as u16, ((word >> 15) & 0x7FFF) as u16)
+}
+
+/// The reading of a word with high zeros.
+#[tactic(auto, unfolding(crate::specs::Words::read_low))]
+fn read_low(character: char, word: u32) -> WordReading
+    ensures { result ≡ read_low character word }
+{
+    if is_hangul_syllable(character as u32) {
+        WordReading::HangulSyllable
+    } else if word & 0xFFFF == 1 {
+        WordReading::Fdfa
+    } else {
+        WordReading::OneCharacter((word & 0xFFFF) as u16)
+    }
+}
+
+/// The reading of a word that points into the tables.
+#[tactic(auto, unfolding(crate::specs::Words::listed))]
+fn listed(word: u32) -> WordReading
+    requires { has_high_zeros word ≡ false }
+    ensures { result ≡ listed word }
+{
+    let first = ((word & 0x3FFF_FFFF) >> 16) - 1;
+    WordReading::Listed(first, (word & 0xF) as u8, word & 0x10 != 0)
+}
