@@ -1,0 +1,14 @@
+pub mod ComposingLemmas
+pub mod CompositionLemmas
+pub mod DecompositionLemmas
+pub mod LazyLemmas
+pub mod ListLengths
+pub mod MarkLemmas
+pub mod MarkRunLemmas
+pub mod ReadingLemmas
+pub mod ShortChunkLemmas
+pub mod SoundData
+pub mod SoundPairs
+pub mod StarterLemmas
+pub mod ToComeLemmas
+pub mod WaitingLemmas

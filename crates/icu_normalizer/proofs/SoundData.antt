@@ -1,0 +1,46 @@
+-- Data that meet the written conditions may be read lazily.
+use Rattle.std.proofs.Common.{◌≡◌, ℕ, false, List, [], ◌∷◌, All, refl, ap, ◌∙◌, subst, arith, inl, inr, Option, Some, None}
+use Rattle.std.proofs.lemmas.Bool.{cases_Bool, cond-false}
+use lib.Utf8.{scalar}
+use Rattle.normal_forms.specs.Reading.{Reading, IsStarter}
+use Rattle.normalizer_tables.specs.declared.characters.IgnoredCharacters.TheVariants.{Dropped}
+use Rattle.normalizer_tables.specs.declared.condition.Bounds.{Bounds}
+use Rattle.normalizer_tables.specs.declared.condition.Condition.TheVariants.{Order}
+use Rattle.normalizer_tables.specs.Characters.{Characters, own_reading, list_read, list_of, class_of, has_class_form}
+use Rattle.normal_forms.specs.Boundary.{BeginsWithStarter}
+use Rattle.normalizer_tables.specs.Conditions.{Holds, HoldsAt}
+use Rattle.normalizer_tables.specs.Data.{Decompositions, Lists}
+use Rattle.normalizer_tables.proofs.CharacterLemmas.{list_of-default}
+use Rattle.icu_normalizer.specs.Acceptance.{bounds_of, data_from, decomposing_conditions, AcceptsForNfd}
+use Rattle.icu_normalizer.specs.LazyReading.{decomposing_reading, SuitsLazyReading}
+use Rattle.icu_normalizer.proofs.ListLengths.{length-list_of}
+
+list_of-elsewhere : (s : Characters) (n : ℕ) → scalar n ≡ false → list_of s [] n ≡ n ∷ []
+unfolding list_read
+list_of-elsewhere s n other = list_of-default s [] n (cond-false _ _ _ other)
+
+class_of-elsewhere : (s : Characters) (n : ℕ) → scalar n ≡ false → class_of s n ≡ 0
+unfolding class_of
+class_of-elsewhere s n other = cond-false _ _ _ other
+
+first_is_starter : (d : Reading) (x : List ℕ) (first : ℕ) (others : List ℕ) → x ≡ first ∷ others → BeginsWithStarter d x → IsStarter d first
+first_is_starter d x first others e h = subst (BeginsWithStarter d) e h
+
+pub SuitsLazyReading-sound : (s : Characters) (b : Bounds) → Holds s b Order → SuitsLazyReading (has_class_form s) (decomposing_reading s Dropped)
+unfolding Holds HoldsAt
+SuitsLazyReading-sound s b sound = record {
+  starters = λ c first others other e.
+      elim (cases_Bool (scalar c)) [
+        | inl is ↦ first_is_starter (own_reading s) (list_of s [] c) first others e ((sound.1 c is).first other)
+        | inr elsewhere ↦
+            let alone : first ≡ c = cc (e, list_of-elsewhere s c elsewhere) in
+            ap (class_of s) alone ∙ class_of-elsewhere s c elsewhere
+      ];
+  short = λ c. length-list_of s [] c (omega arith);
+}
+
+pub SuitsLazyReading-met : (s : Characters) (b : Bounds) → All (Holds s b) decomposing_conditions → SuitsLazyReading (has_class_form s) (own_reading s)
+SuitsLazyReading-met s b met = SuitsLazyReading-sound s b (met 8 Order (omega arith))
+
+pub AcceptsForNfd-held : (held_data : Option Decompositions) (held_tables : Option Lists) (decompositions : Decompositions) (tables : Lists) → held_data ≡ Some decompositions → held_tables ≡ Some tables → All (Holds (data_from decompositions tables None) (bounds_of decompositions)) decomposing_conditions → AcceptsForNfd held_data held_tables (data_from decompositions tables None)
+AcceptsForNfd-held held_data held_tables decompositions tables d t met = rw (d, t) (refl, met)

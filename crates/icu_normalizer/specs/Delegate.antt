@@ -1,0 +1,12 @@
+-- Iterators of characters that others read from.
+use Rattle.std.specs.Prelude.{◌≡◌, ℕ, List, [], Option, MatchOption, ⊤}
+use Rattle.std.specs.Iterator.{Count, IsFinite}
+use Rattle.normalizer_text.specs.Steps.{Spells}
+
+-- what an iterator spells behind the character that it gave last; nothing where it gave `None`
+abbrev pub SpellsBehind : {I : Type 0} → (I → Option ℕ → I → Type 0) → Option ℕ → I → List ℕ → Type 0
+SpellsBehind gives last it x = MatchOption last (x ≡ []) (λ _. Spells gives it x)
+
+-- it may be called, and ends; nothing is asked of it where it gave `None`
+abbrev pub IsReadyBehind : {I : Type 0} → (I → Type 0) → (I → Count) → Option ℕ → I → Type 0
+IsReadyBehind can left last it = MatchOption last ⊤ (λ _. can it × IsFinite (left it))

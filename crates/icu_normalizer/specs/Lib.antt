@@ -1,0 +1,15 @@
+pub mod Acceptance
+pub mod Composing
+pub mod ComposingAcceptance
+pub mod ComposingNormalizers
+pub mod Decomposition
+pub mod Delegate
+pub mod LazyReading
+pub mod MarkRuns
+pub mod NextItem
+pub mod Normalizers
+pub mod ReadingOn
+pub mod StayingMarks
+pub mod ToCome
+pub mod Waiting
+pub mod WaitingList

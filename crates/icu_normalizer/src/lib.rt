@@ -1,0 +1,30 @@
+//! Unicode normalization over data handed in (Unicode Standard Annex #15).
+#![tactic(auto)]
+
+mod composing_normalizer;
+mod composition;
+mod decomposition;
+mod error;
+mod marks;
+mod normalizer;
+mod reading;
+mod waiting;
+
+pub use composing_normalizer::{ComposingNormalizer, ComposingNormalizerBorrowed};
+pub use composition::Composition;
+pub use decomposition::Decomposition;
+pub use error::NormalizeError;
+pub use normalizer::{DecomposingNormalizer, DecomposingNormalizerBorrowed};
+pub use normalizer_tables::{
+    CanonicalCompositions, CodePointTable, DataError, DataMarker, DataMarkerInfo, DataProvider,
+    DecompositionData, DecompositionTables, NonRecursiveDecompositionSupplement, NormalizerNfcV1,
+    NormalizerNfdDataV1, NormalizerNfdSupplementV1, NormalizerNfdTablesV1, NormalizerNfkdDataV1,
+    NormalizerNfkdTablesV1, NormalizerUts46DataV1, Scalars16, Scalars24, TableError,
+    check_nfd_data,
+};
+pub use normalizer_text::{Utf8Chars, Utf16Chars};
+
+#[cfg(test)]
+mod composing_tests;
+#[cfg(test)]
+mod tests;

@@ -1,0 +1,5 @@
+pub mod InputBoundaryLemmas
+pub mod InputCutLemmas
+pub mod InputEncodingLemmas
+pub mod InputExamples
+pub mod InputOffenceLemmas

@@ -1,0 +1,2 @@
+pub mod InputCut
+pub mod InputOffence

@@ -1,0 +1,7 @@
+-- The last member of a list.
+use Rattle.std.specs.Prelude.{ℕ, List, [], ◌∷◌, Option, Some, None}
+
+abbrev pub last_of : List ℕ → Option ℕ
+last_of [] = None
+last_of (c ∷ []) = Some c
+last_of (c ∷ (e ∷ x)) = last_of (e ∷ x)

@@ -1,0 +1,10 @@
+use Rattle.std.proofs.Common.{◌≡◌, ◌++◌, ℕ, List, string_bytes, encode_utf8_all}
+use Rattle.normtool.specs.Spelling.{SpellsUnlessErr}
+use Rattle.normtool.proofs.encoded.encoded.Given as goal
+
+abbrev pub invariant-loop-character : goal.invariant-loop-character
+invariant-loop-character g l = record {
+  can : (goal.iterator-loop-character g).can_next l.character-iterator;
+  ends : (goal.iterator-loop-character g).is_finite l.character-iterator;
+  text : (x : List ℕ) → SpellsUnlessErr g.I.Iterator.next_gives l.fn.characters x → (rest : List ℕ) × SpellsUnlessErr g.I.Iterator.next_gives l.character-iterator rest × (encode_utf8_all x ≡ string_bytes l.text ++ encode_utf8_all rest);
+}

@@ -1,0 +1,20 @@
+-- How the program ends.
+use Rattle.std.specs.Prelude.{ℕ, List, [], codes, Result, Ok, Err}
+use Rattle.normtool.specs.declared.ending.Answer.{Answer}
+use Rattle.normtool.specs.declared.ending.Answer.TheVariants.{Done, No}
+use Rattle.normtool.specs.declared.ending.ToolFault.{ToolFault}
+use Rattle.normtool.specs.declared.ending.ToolFault.TheVariants.{Read, Write, Memory, Data}
+
+-- the exit status
+abbrev pub status_of : Result Answer ToolFault → ℕ
+status_of (Ok Done) = 0
+status_of (Ok No) = 1
+status_of (Err fault) = 2
+
+-- the line for standard error, without its line feed
+abbrev pub line_of : Result Answer ToolFault → List ℕ
+line_of (Ok answer) = []
+line_of (Err Read) = codes "normtool: read"
+line_of (Err Write) = codes "normtool: write"
+line_of (Err Memory) = codes "normtool: memory"
+line_of (Err Data) = codes "normtool: data"

@@ -1,0 +1,8 @@
+pub mod Endings
+pub mod Faults
+pub mod Forms
+pub mod Normalizers
+pub mod Outcome
+pub mod Spelling
+pub mod Transfer
+pub mod Words

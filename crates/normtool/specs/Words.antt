@@ -1,0 +1,23 @@
+-- The words that the program is started with.
+use Rattle.std.specs.Prelude.{◌≡◌, ℕ, List, [], ◌∷◌, codes}
+use Rattle.normtool.specs.declared.words.RecordSet.{RecordSet}
+use Rattle.normtool.specs.declared.words.RecordSet.TheVariants.{Rows, Nothing}
+use Rattle.normtool.specs.declared.words.Command.{Command}
+use Rattle.normtool.specs.declared.words.Command.TheVariants.{Nfd, Nfc}
+
+-- the word of a record set; no word stands for no records yet
+abbrev pub NamesRecords : RecordSet → List ℕ → Type 0
+NamesRecords Rows word = word ≡ codes "rows"
+NamesRecords Nothing word = ⊥
+
+-- the word of a command
+abbrev pub NamesCommand : Command → List ℕ → Type 0
+NamesCommand Nfd word = word ≡ codes "nfd"
+NamesCommand Nfc word = word ≡ codes "nfc"
+
+-- two words: of a record set, and of a command
+abbrev pub AsksFor : List (List ℕ) → RecordSet → Command → Type 0
+AsksFor [] records command = ⊥
+AsksFor (first ∷ []) records command = ⊥
+AsksFor (first ∷ second ∷ []) records command = NamesRecords records first × NamesCommand command second
+AsksFor (first ∷ second ∷ third ∷ more) records command = ⊥

@@ -1,0 +1,36 @@
+//! A command, from the bytes of a source to the bytes of a target.
+ghost use Rattle.std.specs.Prelude.{◌≡◌, ◌≢◌, IfErr, IsErrOf};
+ghost use Rattle.normtool.specs.Outcome.{IsOutcome};
+
+use crate::device::{Source, Target};
+use crate::ending::{Answer, ToolFault};
+use crate::normalizer::Normalizer;
+use crate::transfer::{read_all, write_all};
+use crate::words::Command;
+use icu_normalizer::{DataProvider, NormalizerNfcV1, NormalizerNfdDataV1, NormalizerNfdTablesV1};
+use std::alloc::Global;
+
+/// Makes what the command needs, reads the input to its end, computes, and only then writes.
+pub fn run<P, R: Source, W: Target>(
+    alloc: Global,
+    provider: &P,
+    command: Command,
+    reader: &mut R,
+    writer: &mut W,
+) -> Result<Answer, ToolFault>
+where
+    P: DataProvider<NormalizerNfdDataV1>
+        + DataProvider<NormalizerNfdTablesV1>
+        + DataProvider<NormalizerNfcV1>,
+    ensures outcome { IsOutcome command (⟦<P as DataProvider<NormalizerNfdDataV1>>⟧.held provider.now) (⟦<P as DataProvider<NormalizerNfdTablesV1>>⟧.held provider.now) (⟦<P as DataProvider<NormalizerNfcV1>>⟧.held provider.now) (R.left reader.old) (W.taken writer.old) (W.taken writer.new) result }
+    ensures read { IsErrOf result ToolFault.Read → R.refused reader.old reader.new }
+    ensures write { IsErrOf result ToolFault.Write → W.refused writer.old writer.new }
+    ensures unwritten { IfErr result (λ fault. fault ≢ ToolFault.Write → writer.new ≡ writer.old) }
+    ensures unread { IsErrOf result ToolFault.Data → reader.new ≡ reader.old }
+{
+    let normalizer = Normalizer::for_command(provider, command)?;
+    let input = read_all(alloc, reader)?;
+    let output = normalizer.output(alloc, &input)?;
+    write_all(writer, output.as_bytes())?;
+    Ok(Answer::Done)
+}

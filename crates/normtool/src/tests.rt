@@ -1,0 +1,242 @@
+//! Tests of what no clause says: that calls succeed, and the texts that are printed.
+use crate::memory::{Page, Pieces};
+use crate::{
+    Answer, Command, HandMadeRows, RecordSet, ToolFault, USAGE, ending, read_all, run, words,
+    write_all,
+};
+use icu_normalizer::{
+    CanonicalCompositions, DataError, DataMarkerInfo, DataProvider, DecompositionData,
+    DecompositionTables, NormalizerNfcV1, NormalizerNfdDataV1, NormalizerNfdTablesV1,
+};
+use std::alloc::{AllocError, Global};
+use std::test::Fail;
+
+fn strings(alloc: Global, texts: &[&str]) -> Result<Vec<String>, AllocError> {
+    let mut all = Vec::new(alloc);
+    for text in texts {
+        all.push(String::from_str(alloc, text)?)?;
+    }
+    Ok(all)
+}
+
+#[test]
+fn two_words_ask_for_a_command(rt: HostRuntime) -> Result<(), Fail> {
+    let nfd = strings(rt.alloc(), &["rows", "nfd"])?;
+    assert_eq!(rt; words(&nfd), Some((RecordSet::Rows, Command::Nfd)));
+    let nfc = strings(rt.alloc(), &["rows", "nfc"])?;
+    assert_eq!(rt; words(&nfc), Some((RecordSet::Rows, Command::Nfc)));
+    let wrong: [&[&str]; 8] = [
+        &[],
+        &["rows"],
+        &["nfd", "rows"],
+        &["rows", "nfd", "nfd"],
+        &["rows", "Nfd"],
+        &["rows", ""],
+        &["none", "nfd"],
+        &["rows", "nfdd"],
+    ];
+    for texts in wrong {
+        let all = strings(rt.alloc(), texts)?;
+        assert_eq!(rt; words(&all), None, "{texts:?}");
+    }
+    Ok(())
+}
+
+#[test]
+fn endings(rt: HostRuntime) {
+    assert_eq!(rt; USAGE, "normtool: usage: normtool RECORDS COMMAND");
+    assert_eq!(rt; ending(&Ok(Answer::Done)), (0, ""));
+    assert_eq!(rt; ending(&Ok(Answer::No)), (1, ""));
+    assert_eq!(rt; ending(&Err(ToolFault::Read)), (2, "normtool: read"));
+    assert_eq!(rt; ending(&Err(ToolFault::Write)), (2, "normtool: write"));
+    assert_eq!(rt; ending(&Err(ToolFault::Memory)), (2, "normtool: memory"));
+    assert_eq!(rt; ending(&Err(ToolFault::Data)), (2, "normtool: data"));
+}
+
+#[test]
+fn all_is_read_and_written_in_pieces(rt: HostRuntime) -> Result<(), Fail> {
+    let mut input = Vec::new(rt.alloc());
+    for n in 0..20_000u32 {
+        input.push((n % 251) as u8)?;
+    }
+    let read = read_all(rt.alloc(), &mut Pieces::of(&input))?;
+    assert!(rt; read == input);
+    let mut page = Page::new(rt.alloc(), 20_000);
+    write_all(&mut page, &read)?;
+    assert!(rt; page.bytes == input);
+    Ok(())
+}
+
+#[test]
+fn a_refused_call_ends_the_transfer(rt: HostRuntime) {
+    let read = read_all(rt.alloc(), &mut Pieces::broken_off(b"front"));
+    assert_eq!(rt; read.err(), Some(ToolFault::Read));
+    let mut page = Page::new(rt.alloc(), 7);
+    assert_eq!(rt;
+        write_all(&mut page, b"front and rest"),
+        Err(ToolFault::Write)
+    );
+    assert_eq!(rt; page.bytes.as_slice(), b"front a".as_slice());
+}
+
+// The outcome over the hand-made data, and the bytes that were written.
+fn run_over_rows(
+    alloc: Global,
+    command: Command,
+    input: &[u8],
+    room: usize,
+) -> Result<(Result<Answer, ToolFault>, Vec<u8>), ToolFault> {
+    let rows = HandMadeRows::new(alloc)?;
+    let mut page = Page::new(alloc, room);
+    let outcome = run(alloc, &rows, command, &mut Pieces::of(input), &mut page);
+    Ok((outcome, page.bytes))
+}
+
+#[test]
+fn texts_are_decomposed(rt: HostRuntime) -> Result<(), Fail> {
+    let all: [(&[u8], &[u8]); 7] = [
+        (b"\xE1\xBB\x87", b"\x65\xCC\xA3\xCC\x82"),
+        (b"\xCC\x88\xCC\xA3", b"\xCC\xA3\xCC\x88"),
+        (b"\xFF\xC3\xA4", b"\xEF\xBF\xBD\x61\xCC\x88"),
+        (b"\xEA\xB0\x81", b"\xE1\x84\x80\xE1\x85\xA1\xE1\x86\xA8"),
+        (b"", b""),
+        (b"as it is", b"as it is"),
+        (b"\xC3\xAA\xCC\xA3", b"\x65\xCC\xA3\xCC\x82"),
+    ];
+    for (input, output) in all {
+        let (outcome, written) = run_over_rows(rt.alloc(), Command::Nfd, input, 100)?;
+        assert_eq!(rt; outcome, Ok(Answer::Done), "{input:?}");
+        assert_eq!(rt; ending(&outcome), (0, ""));
+        assert_eq!(rt; written.as_slice(), output);
+    }
+    Ok(())
+}
+
+#[test]
+fn texts_are_composed(rt: HostRuntime) -> Result<(), Fail> {
+    let all = [
+        ("\u{65}\u{302}\u{323}", "\u{1EC7}"),
+        ("\u{65}\u{302}\u{302}", "\u{EA}\u{302}"),
+        ("\u{61}\u{302}\u{308}", "\u{61}\u{302}\u{308}"),
+        ("\u{1100}\u{1161}\u{11A8}", "\u{AC01}"),
+        ("\u{AC00}\u{11A7}", "\u{AC00}\u{11A7}"),
+        ("\u{308}\u{61}", "\u{308}\u{61}"),
+        ("\u{61}\u{308}", "\u{E4}"),
+        ("", ""),
+    ];
+    for (input, output) in all {
+        let (outcome, written) = run_over_rows(rt.alloc(), Command::Nfc, input.as_bytes(), 100)?;
+        assert_eq!(rt; outcome, Ok(Answer::Done), "{input:?}");
+        assert_eq!(rt; written.as_slice(), output.as_bytes(), "{input:?}");
+    }
+    let ill_formed = b"\xFF\x61\xCC\x88\xFF";
+    let (outcome, written) = run_over_rows(rt.alloc(), Command::Nfc, ill_formed, 100)?;
+    assert_eq!(rt; outcome, Ok(Answer::Done));
+    assert_eq!(rt;
+        written.as_slice(),
+        b"\xEF\xBF\xBD\xC3\xA4\xEF\xBF\xBD".as_slice()
+    );
+    Ok(())
+}
+
+// A source that breaks off at each place: nothing is written.
+#[test]
+fn nothing_is_written_where_a_read_is_refused(rt: HostRuntime) -> Result<(), Fail> {
+    let rows = HandMadeRows::new(rt.alloc())?;
+    let input = b"\xE1\xBB\x87 and much more than one piece holds";
+    for end in 0..=input.len() {
+        let mut source = Pieces::broken_off(&input[..end]);
+        let mut page = Page::new(rt.alloc(), 100);
+        let outcome = run(rt.alloc(), &rows, Command::Nfd, &mut source, &mut page);
+        assert_eq!(rt; outcome, Err(ToolFault::Read), "after {end} bytes");
+        assert!(rt; page.bytes.is_empty());
+    }
+    Ok(())
+}
+
+// A target that is full at each place: it holds the beginning of the output.
+#[test]
+fn a_beginning_is_written_where_a_write_is_refused(rt: HostRuntime) -> Result<(), Fail> {
+    let output = b"\x65\xCC\xA3\xCC\x82\x61\xCC\x88";
+    for room in 0..output.len() {
+        let (outcome, written) = run_over_rows(
+            rt.alloc(),
+            Command::Nfd,
+            b"\xE1\xBB\x87\xC3\xA4",
+            room,
+        )?;
+        assert_eq!(rt; outcome, Err(ToolFault::Write), "room for {room} bytes");
+        assert_eq!(rt; written.as_slice(), &output[..room]);
+    }
+    let (outcome, written) = run_over_rows(
+        rt.alloc(),
+        Command::Nfd,
+        b"\xE1\xBB\x87\xC3\xA4",
+        output.len(),
+    )?;
+    assert_eq!(rt; outcome, Ok(Answer::Done));
+    assert_eq!(rt; written.as_slice(), output.as_slice());
+    Ok(())
+}
+
+/// Holds words alone, with the table of the rows cut off: U+1EC7 has a list that isn't there.
+#[derive(Drop)]
+struct WithoutLists {
+    rows: HandMadeRows,
+    tables: Option<DecompositionTables>,
+}
+
+impl DataProvider<NormalizerNfdDataV1> for WithoutLists {
+    ghost use Rattle.std.specs.Prelude.{Some};
+
+    ghost held = { λ p. Some p.rows.words };
+
+    fn load(&self) -> Result<DecompositionData, DataError> {
+        <HandMadeRows as DataProvider<NormalizerNfdDataV1>>::load(&self.rows)
+    }
+}
+
+impl DataProvider<NormalizerNfdTablesV1> for WithoutLists {
+    ghost held = { λ p. p.tables };
+
+    fn load(&self) -> Result<DecompositionTables, DataError> {
+        match &self.tables {
+            Some(tables) => tables.clone().map_err(|_| DataError::Memory),
+            None => Err(DataError::Provider(DataMarkerInfo::NormalizerNfdTablesV1)),
+        }
+    }
+}
+
+impl DataProvider<NormalizerNfcV1> for WithoutLists {
+    ghost use Rattle.std.specs.Prelude.{Some};
+
+    ghost held = { λ p. Some p.rows.pairs };
+
+    fn load(&self) -> Result<CanonicalCompositions, DataError> {
+        <HandMadeRows as DataProvider<NormalizerNfcV1>>::load(&self.rows)
+    }
+}
+
+// Data that are missing, or that break a condition, are told before anything is read.
+#[test]
+fn nothing_is_read_where_data_do_not_serve(rt: HostRuntime) -> Result<(), Fail> {
+    let empty = DecompositionTables {
+        scalars16: Vec::new(rt.alloc()).into(),
+        scalars24: Vec::new(rt.alloc()).into(),
+    };
+    for tables in [None, Some(empty)] {
+        let provider = WithoutLists {
+            rows: HandMadeRows::new(rt.alloc())?,
+            tables,
+        };
+        for command in [Command::Nfd, Command::Nfc] {
+            let mut source = Pieces::broken_off(b"");
+            let mut page = Page::new(rt.alloc(), 100);
+            let outcome = run(rt.alloc(), &provider, command, &mut source, &mut page);
+            assert_eq!(rt; outcome, Err(ToolFault::Data));
+            assert_eq!(rt; ending(&outcome), (2, "normtool: data"));
+            assert!(rt; page.bytes.is_empty());
+        }
+    }
+    Ok(())
+}

@@ -1,0 +1,72 @@
+//! The words after the program's name.
+ghost use Rattle.std.specs.Prelude.{◌≡◌, ◌↔◌, Some, map, string_bytes};
+ghost use Rattle.normtool.specs.Words.{AsksFor};
+ghost use Rattle.normtool.specs.declared.words.RecordSet.{RecordSet};
+ghost use Rattle.normtool.specs.declared.words.Command.{Command};
+
+/// What is printed where the words are not the name of a record set and of a command.
+pub const USAGE: &str = "normtool: usage: normtool RECORDS COMMAND";
+
+/// The records that the data are built from.
+#[derive(Clone, Copy, Debug, PartialEq, Eq)]
+pub enum RecordSet {
+    /// The record set that stands in the program.
+    Rows,
+    /// No record at all.
+    Nothing,
+}
+
+/// What is done with the input.
+#[derive(Clone, Copy, Debug, PartialEq, Eq)]
+pub enum Command {
+    /// Normalization Form D.
+    Nfd,
+    /// Normalization Form C.
+    Nfc,
+}
+
+impl RecordSet {
+    ghost use Rattle.normtool.specs.declared.words.RecordSet.{RecordSet};
+    ghost use Rattle.normtool.specs.Words.{NamesRecords};
+
+    // The record set of this name.
+    fn named(word: &str) -> Option<RecordSet>
+        ensures { (records : RecordSet) → (result ≡ Some records) ↔ NamesRecords records word.now }
+    {
+        match word {
+            "rows" => Some(RecordSet::Rows),
+            _ => None,
+        }
+    }
+}
+
+impl Command {
+    ghost use Rattle.normtool.specs.declared.words.Command.{Command};
+    ghost use Rattle.normtool.specs.Words.{NamesCommand};
+
+    // The command of this name.
+    fn named(word: &str) -> Option<Command>
+        ensures { (command : Command) → (result ≡ Some command) ↔ NamesCommand command word.now }
+    {
+        match word {
+            "nfd" => Some(Command::Nfd),
+            "nfc" => Some(Command::Nfc),
+            _ => None,
+        }
+    }
+}
+
+/// What the words ask for, if they are the name of a record set and the name of a command, in this order, and no more.
+pub fn words(words: &[String]) -> Option<(RecordSet, Command)>
+    ensures { (records : RecordSet) (command : Command) →
+        (result ≡ Some (records, command)) ↔ AsksFor (map string_bytes words.now) records command }
+{
+    match words {
+        [records, command] => {
+            let records = RecordSet::named(records.as_str())?;
+            let command = Command::named(command.as_str())?;
+            Some((records, command))
+        }
+        _ => None,
+    }
+}
