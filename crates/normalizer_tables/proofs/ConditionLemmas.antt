@@ -41,7 +41,7 @@ IsSoundClassForm-none n w e = record {
   no_class a b = cc
 
 -- a word has but one of the class forms
-one_class_form : (w : ℕ) → is_ordinary_class_form w ≡ true → is_special_class_form w ≡ true → ⊥
+pub one_class_form : (w : ℕ) → is_ordinary_class_form w ≡ true → is_special_class_form w ≡ true → ⊥
 unfolding is_ordinary_class_form is_special_class_form
 one_class_form w h k =
     let ordinary : bit_and w 0x3FFFFF00 ≡ 0xD800 = grind (arith, nat_tests) in
@@ -75,7 +75,7 @@ plain-unmarked w h e =
     let plain : (bit_and ignored_marker 0x3FFFFFFF == 0) ≡ true = subst (λ n. (bit_and n 0x3FFFFFFF == 0) ≡ true) e h in
     cc
 
-read-plain : (n w : ℕ) (is_mapper : Bool) → is_plain w ≡ true → read n w is_mapper ≡ Itself
+pub read-plain : (n w : ℕ) (is_mapper : Bool) → is_plain w ≡ true → read n w is_mapper ≡ Itself
 unfolding read
 read-plain n w is_mapper h =
     let unmarked : (w == ignored_marker) ≡ false = not_marked (plain-unmarked w h) in

@@ -1,6 +1,7 @@
--- A condition that fails is among those that are asked.
-use Rattle.std.proofs.Common.{◌≡◌, ◌<◌, List, ◌∷◌, ◌++◌, length, All, Some, subst, arith}
+-- The first of a list of conditions that fails.
+use Rattle.std.proofs.Common.{◌<◌, List, [], ◌∷◌, ◌++◌, length, All, Option, Some, None, refl, ap, subst, arith}
 use Rattle.std.proofs.lemmas.List.{length-append}
+use Rattle.std.proofs.lemmas.List.Elements.{All-cons, All-nil}
 use Rattle.std.proofs.Math.Seq.{get_or-append_seam}
 use Rattle.normalizer_tables.specs.Conditions.{IsFirstFailing}
 
@@ -9,6 +10,22 @@ at_seam P before after c all =
     let within : length before < length (before ++ c ∷ after) = omega (arith, length-append before (c ∷ after)) in
     subst P (get_or-append_seam before c after c) (all (length before) c within)
 
+-- a condition that fails is among those that are asked
 pub IsFirstFailing-not_all : {C : Type 0} (P : C → Type 0) (conditions : List C) (c : C) → IsFirstFailing P conditions (Some c) → All P conditions → ⊥
 unfolding IsFirstFailing
 IsFirstFailing-not_all P conditions c h all = h.4 (at_seam P h.0 h.1 c (subst (All P) h.2 all))
+
+-- the first condition fails
+pub IsFirstFailing-here : {C : Type 0} (P : C → Type 0) (c : C) (cs : List C) → ¬ P c → IsFirstFailing P (c ∷ cs) (Some c)
+unfolding IsFirstFailing
+IsFirstFailing-here P c cs fails = ([], cs, refl, All-nil P, fails)
+
+-- it holds, and what is answered is the answer of the others
+pub IsFirstFailing-next : {C : Type 0} (P : C → Type 0) (c : C) (cs : List C) (r : Option C) → P c → IsFirstFailing P cs r → IsFirstFailing P (c ∷ cs) r
+unfolding IsFirstFailing
+IsFirstFailing-next P c cs None holds others = All-cons P c cs holds others
+IsFirstFailing-next P c cs (Some d) holds others = (c ∷ others.0, others.1, ap (λ x. c ∷ x) others.2, All-cons P c others.0 holds others.3, others.4)
+
+pub IsFirstFailing-none : {C : Type 0} (P : C → Type 0) → IsFirstFailing P [] None
+unfolding IsFirstFailing
+IsFirstFailing-none P = All-nil P

@@ -17,6 +17,8 @@ pub mod PairLemmas
 pub mod RangeLists
 pub mod RangeTables
 pub mod SoundLists
+pub mod StepConditionLemmas
+pub mod StepLemmas
 pub mod Tables
 pub mod TextLemmas
 pub mod WordLemmas

@@ -104,34 +104,34 @@ read-few n w is_mapper =
     (if-few (not (has_high_zeros w) && not (has_low_zeros w)) (two_characters w) _ tt
     (if-few (has_high_zeros w) (read_low n w) (listed w) (if-few (is_hangul_syllable n) HangulSyllable _ tt (if-few (bit_and w 0xFFFF == 1) Fdfa _ tt tt)) (and_le_r w 0xF))))))
 
-named_list-short : (s : Characters) (n : ℕ) (r : WordReading) → HasFewBits r → IsShort (named_list s [] n r)
+named_list-short : (s : Characters) (ignored : List ℕ) (n : ℕ) (r : WordReading) → length ignored ≤ 18 → HasFewBits r → IsShort (named_list s ignored n r)
 unfolding named_list fdfa_list
-named_list-short s n Ignored h = omega arith
-named_list-short s n Itself h = omega arith
-named_list-short s n (ClassForm k) h = omega arith
-named_list-short s n (SpecialForm k) h = fixed_list_of-short n
-named_list-short s n (TwoCharacters a b) h = as_text-short (a ∷ b ∷ []) (omega arith)
-named_list-short s n HangulSyllable h = hangul-short n
-named_list-short s n Fdfa h = omega arith
-named_list-short s n (OneCharacter a) h = as_text-short (a ∷ []) (omega arith)
-named_list-short s n (Listed item low marks) h = listed_at-short s item low h
+named_list-short s ignored n Ignored short h = short
+named_list-short s ignored n Itself short h = omega arith
+named_list-short s ignored n (ClassForm k) short h = omega arith
+named_list-short s ignored n (SpecialForm k) short h = fixed_list_of-short n
+named_list-short s ignored n (TwoCharacters a b) short h = as_text-short (a ∷ b ∷ []) (omega arith)
+named_list-short s ignored n HangulSyllable short h = hangul-short n
+named_list-short s ignored n Fdfa short h = omega arith
+named_list-short s ignored n (OneCharacter a) short h = as_text-short (a ∷ []) (omega arith)
+named_list-short s ignored n (Listed item low marks) short h = listed_at-short s item low h
 
-list_read-short : (s : Characters) (n : ℕ) → IsShort (list_read s [] n)
+list_read-short : (s : Characters) (ignored : List ℕ) (n : ℕ) → length ignored ≤ 18 → IsShort (list_read s ignored n)
 unfolding list_read reading_of_word
-list_read-short s n =
-    elim (scalar n) as (λ b. IsShort (if b then named_list s [] n (read n (word_of s n) s.is_mapper) else None)) [
-      | true ↦ named_list-short s n (read n (word_of s n) s.is_mapper) (read-few n (word_of s n) s.is_mapper)
+list_read-short s ignored n short =
+    elim (scalar n) as (λ b. IsShort (if b then named_list s ignored n (read n (word_of s n) s.is_mapper) else None)) [
+      | true ↦ named_list-short s ignored n (read n (word_of s n) s.is_mapper) short (read-few n (word_of s n) s.is_mapper)
       | false ↦ tt
     ]
 
-length-list_of : (s : Characters) (n : ℕ) → length (list_of s [] n) ≤ 18
+pub length-list_of : (s : Characters) (ignored : List ℕ) (n : ℕ) → length ignored ≤ 18 → length (list_of s ignored n) ≤ 18
 unfolding list_of
-length-list_of s n = elim (list_read s [] n) as (λ o. IsShort o → length (unwrap_or o (n ∷ [])) ≤ 18) [
+length-list_of s ignored n short = elim (list_read s ignored n) as (λ o. IsShort o → length (unwrap_or o (n ∷ [])) ≤ 18) [
   | None ↦ λ h. omega arith
   | Some x ↦ λ h. h
-] (list_read-short s n)
+] (list_read-short s ignored n short)
 
 -- two lists have at most 36 members together
 pub two_lists-fit : (s : Characters) (a b : ℕ) (first second : List ℕ) (m n : ℕ) → first ≡ list_of s [] a → second ≡ list_of s [] b → m ≡ length first → n ≡ length second → m + n ≤ 36
 two_lists-fit s a b first second m n of_first of_second is_m is_n =
-    omega (arith, length-list_of s a, length-list_of s b, ap length of_first, ap length of_second)
+    omega (arith, length-list_of s [] a (omega arith), length-list_of s [] b (omega arith), ap length of_first, ap length of_second)

@@ -15,7 +15,7 @@ use Rattle.normalizer_tables.proofs.CharacterLemmas.{list_of-reads}
 use Rattle.normalizer_tables.proofs.ConditionLemmas.{list_read-plain, class_of-plain}
 use Rattle.normalizer_tables.proofs.CompositionLemmas.{begins_safely_from_first, first_of_safe_beginning}
 
-list_of-plain : (s : Characters) (n : ℕ) → scalar n ≡ true → is_plain (word_of s n) ≡ true → list_of s [] n ≡ n ∷ []
+pub list_of-plain : (s : Characters) (n : ℕ) → scalar n ≡ true → is_plain (word_of s n) ≡ true → list_of s [] n ≡ n ∷ []
 list_of-plain s n h plain = list_of-reads s [] n (n ∷ []) (list_read-plain s n h plain)
 
 -- where the first character is a starter, the list begins safely exactly if that is never second
@@ -46,7 +46,7 @@ below_step P number true k h here = (
 below_step P number false k h here = (λ f. cc, λ all. h.1 (λ n below. all n (omega arith)))
 
 -- scalar values lie below 0x110000
-scalar_below : (n : ℕ) → IsScalar n → n < 0x110000
+pub scalar_below : (n : ℕ) → IsScalar n → n < 0x110000
 scalar_below n h = elim (scalar_cases n h) as (λ _. n < 0x110000) [ inl low ↦ omega arith | inr high ↦ high.1 ]
 
 -- a plain word keeps the condition on round trips

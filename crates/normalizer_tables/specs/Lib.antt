@@ -1,4 +1,5 @@
 pub mod Characters
+pub mod ClassConditions
 pub mod Conditions
 pub mod Data
 pub mod Found
@@ -13,5 +14,7 @@ pub mod Ranges
 pub mod Refusals
 pub mod SoundData
 pub mod SpecialLists
+pub mod StepConditions
+pub mod Steps
 pub mod Table
 pub mod Words

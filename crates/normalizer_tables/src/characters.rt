@@ -233,7 +233,7 @@ fn wide_at(scalars: &[char], low: u8, place: usize) -> Option<Members<'_>>
 }
 
 /// Some items from a place on, if they lie within.
-fn items_at<T>(items: &[T], place: usize, n: usize) -> Option<&[T]>
+pub(crate) fn items_at<T>(items: &[T], place: usize, n: usize) -> Option<&[T]>
     ensures { option_copied result ≡ items_at items.now place n }
 {
     items.get(place..)?.get(..n)

@@ -13,7 +13,7 @@ use crate::check::overall::holds_overall;
 use crate::condition::{Bounds, Condition};
 
 mod lists;
-mod numbers;
+pub(crate) mod numbers;
 mod overall;
 #[cfg(test)]
 pub(crate) mod tests;

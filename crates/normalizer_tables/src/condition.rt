@@ -37,8 +37,7 @@ pub struct Bounds {
 impl Bounds {
     /// The bounds of data with this cap.
     pub fn of_cap(cap: u16) -> Self
-        ensures decomposition { result.decomposition ≡ min cap 0xC0 }
-        ensures composition { result.composition ≡ min cap 0x0300 }
+        ensures { result ≡ record { decomposition = min cap 0xC0; composition = min cap 0x0300 } }
     {
         let cap = u32::from(cap);
         Bounds {

@@ -3,15 +3,15 @@ ghost use Rattle.std.specs.Prelude.{◌≡◌, ◌↔◌, ℕ, IsTrue};
 ghost use Rattle.normalizer_tables.specs.Hangul.{is_hangul_syllable};
 ghost use Rattle.normalizer_tables.specs.HangulComposition.{compose_hangul, is_leading_consonant, is_lv_syllable, is_trailing_consonant, is_vowel, lv_syllable};
 
-const S_BASE: u32 = 0xAC00;
+pub(crate) const S_BASE: u32 = 0xAC00;
 
 const L_BASE: u32 = 0x1100;
 
 const V_BASE: u32 = 0x1161;
 
-const T_BASE: u32 = 0x11A7;
+pub(crate) const T_BASE: u32 = 0x11A7;
 
-const T_COUNT: u32 = 28;
+pub(crate) const T_COUNT: u32 = 28;
 
 const N_COUNT: u32 = 588;
 

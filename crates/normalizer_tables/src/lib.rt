@@ -3,6 +3,8 @@
 
 pub mod characters;
 pub mod check;
+pub mod class_check;
+pub mod class_condition;
 pub mod condition;
 mod hangul;
 pub mod laws;
@@ -14,6 +16,9 @@ mod pairs;
 mod provider;
 mod scalars;
 pub mod special;
+pub mod step;
+pub mod step_check;
+pub mod step_condition;
 mod table;
 pub mod word;
 

@@ -49,7 +49,6 @@ const T_COUNT: u32 = 28;
 
 const N_COUNT: u32 = 588;
 
-/// The list of U+FDFA ARABIC LIGATURE SALLALLAHOU ALAYHE WASALLAM.
 static FDFA: [char; 18] = [
     '\u{635}', '\u{644}', '\u{649}', '\u{20}', '\u{627}', '\u{644}', '\u{644}', '\u{647}',
     '\u{20}', '\u{639}', '\u{644}', '\u{64A}', '\u{647}', '\u{20}', '\u{648}', '\u{633}',
@@ -98,7 +97,7 @@ impl<'a> Members<'a> {
         self.get(place).unwrap()
     }
 
-    pub(crate) fn empty() -> Self
+    pub fn empty() -> Self
         ensures { result ≡ [] }
     {
         Members {
@@ -152,7 +151,7 @@ impl<'a> Members<'a> {
         }
     }
 
-    pub(crate) fn of_scalars(scalars: &'a [char]) -> Self
+    pub fn of_scalars(scalars: &'a [char]) -> Self
         ensures { result ≡ scalars.now }
     {
         Members {
@@ -162,7 +161,7 @@ impl<'a> Members<'a> {
 
     /// The jamo of a Hangul syllable (The Unicode Standard, section 3.12).
     #[tactic(auto, unfolding(crate::specs::Characters::as_text, crate::specs::Hangul::hangul_decomposition, crate::specs::Hangul::is_hangul_syllable))]
-    pub(crate) fn of_hangul_syllable(syllable: char) -> Option<Self>
+    pub fn of_hangul_syllable(syllable: char) -> Option<Self>
         requires { is_hangul_syllable syllable ≡ true }
         ensures { result ≡ as_text (hangul_decomposition syllable) }
     {
@@ -180,14 +179,19 @@ impl<'a> Members<'a> {
     }
 
     /// The fixed list of U+FDFA.
-    #[tactic(auto, unfolding(crate::specs::SpecialLists::fdfa_list))]
-    pub(crate) fn of_fdfa() -> Self
+    pub fn of_fdfa() -> Self
         ensures { result ≡ fdfa_list }
     {
-        Members {
-            shape: Shape::Wide(&FDFA),
-        }
+        Members::of_scalars(fdfa_list())
     }
+}
+
+/// The list of U+FDFA ARABIC LIGATURE SALLALLAHOU ALAYHE WASALLAM.
+#[tactic(auto, unfolding(crate::specs::SpecialLists::fdfa_list))]
+pub fn fdfa_list() -> &'static [char]
+    ensures { result.now ≡ fdfa_list }
+{
+    &FDFA
 }
 
 /// The character at a place among numbers of characters.

@@ -19,7 +19,7 @@ use crate::pairs::CanonicalCompositions;
 use crate::word::IGNORED_MARKER;
 
 mod beginnings;
-mod results;
+pub(crate) mod results;
 #[cfg(test)]
 mod tests;
 

@@ -28,6 +28,12 @@ impl FixedList {
         Members::of_scalars(self.list)
     }
 
+    pub fn list(&self) -> &'static [char]
+        ensures { result.now ≡ self.now.list }
+    {
+        self.list
+    }
+
     pub fn class(&self) -> u8
         ensures { result ≡ self.now.class }
     {

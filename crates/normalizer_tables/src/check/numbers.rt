@@ -136,7 +136,7 @@ fn is_sound_class_form(character: char, word: u32) -> bool
 }
 
 /// Whether a character has a fixed list and this class.
-fn has_fixed_class(character: char, class: u8) -> bool
+pub(crate) fn has_fixed_class(character: char, class: u8) -> bool
     ensures { IsTrue result ↔ (option_map (λ f. f.class) (fixed_list_of character) ≡ Some class) }
 {
     match fixed_list_of(character) {

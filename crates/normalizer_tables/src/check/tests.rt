@@ -164,3 +164,29 @@ fn the_mapper_may_ignore(rt: HostRuntime) -> Result<(), Fail> {
     assert_eq!(rt; answer(alloc, &[ignored, Edit::Cap(0x61)], true)?, 0);
     Ok(())
 }
+
+#[test]
+fn an_ignored_character_has_no_list(rt: HostRuntime) -> Result<(), Fail> {
+    let alloc = rt.alloc();
+    for (edits, condition) in [
+        // U+00C4 has it as a member, which doesn't read to itself.
+        ([Edit::Word(0x41, 0xFFFF_FFFF), Edit::Cap(0x41)], 8),
+        // It doesn't read to itself.
+        ([Edit::Word(0xFFFD, 0xFFFF_FFFF), Edit::Cap(0xC0)], 3),
+        ([Edit::Word(0x1161, 0xFFFF_FFFF), Edit::Cap(0xC0)], 6),
+        ([Edit::Word(0xBF, 0xFFFF_FFFF), Edit::Cap(0x300)], 10),
+        // It has no list that would be out of order, and no class form.
+        (
+            [
+                Edit::Word(0x1160, 0xFFFF_FFFF),
+                Edit::Word(0x301, 0xFFFF_FFFF),
+            ],
+            0,
+        ),
+        ([Edit::Word(0xC5, 0xFFFF_FFFF), Edit::Cap(0x300)], 0),
+        ([Edit::Past(0xFFFF_FFFF), Edit::Cap(0x300)], 0),
+    ] {
+        assert_eq!(rt; answer(alloc, &edits, true)?, condition);
+    }
+    Ok(())
+}

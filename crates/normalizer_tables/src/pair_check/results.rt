@@ -40,7 +40,7 @@ fn is_order_of(
 }
 
 /// Writes a list where it just has room.
-fn write(list: &Members<'_>, room: &mut [char])
+pub(crate) fn write(list: &Members<'_>, room: &mut [char])
     requires { length room.old ≡ length list.now }
     ensures { room.new ≡ list.now }
 {
@@ -50,7 +50,7 @@ fn write(list: &Members<'_>, room: &mut [char])
 }
 
 /// Whether a list has these characters.
-fn is_spelled(list: &Members<'_>, characters: &[char]) -> bool
+pub(crate) fn is_spelled(list: &Members<'_>, characters: &[char]) -> bool
     ensures { IsTrue result ↔ (list.now ≡ characters.now) }
 {
     if list.len() != characters.len() {
@@ -65,7 +65,7 @@ fn is_spelled(list: &Members<'_>, characters: &[char]) -> bool
 }
 
 /// Puts characters in canonical order: from the last on, each is put before those behind it.
-fn put_in_order(data: &CharacterData<'_>, characters: &mut [char])
+pub(crate) fn put_in_order(data: &CharacterData<'_>, characters: &mut [char])
     ensures { characters.new ≡ order (own_reading data.now) characters.old }
 {
     if characters.len() > 1 {

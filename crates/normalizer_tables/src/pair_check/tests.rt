@@ -144,3 +144,19 @@ fn results_of_longer_lists(rt: HostRuntime) -> Result<(), Fail> {
     assert_eq!(rt; answer(rt.alloc(), &ranges, 0x300, &wrong, false)?, 14);
     Ok(())
 }
+
+#[test]
+fn an_ignored_character_has_an_empty_list(rt: HostRuntime) -> Result<(), Fail> {
+    let alloc = rt.alloc();
+    let mut ranges = RANGES;
+    ranges[0] = (0xAD, 0xAD, 0xFFFF_FFFF);
+    // An empty list doesn't compose to the character, and what lies below the bound has to.
+    assert_eq!(rt; answer(alloc, &ranges, 0xAD, &[PAIR], true)?, 0);
+    assert_eq!(rt; answer(alloc, &ranges, 0xAE, &[PAIR], true)?, 12);
+    // As a second it is not asked for.
+    assert_eq!(rt;
+        answer(alloc, &RANGES, 0xC0, &[('\u{180B}', 'A', 'Ä')], true)?,
+        0
+    );
+    Ok(())
+}

@@ -1,5 +1,4 @@
-use Rattle.std.proofs.Common.{All, Some, ap, subst, sym, refl}
-use Rattle.normalizer_tables.specs.Characters.{Characters}
+use Rattle.std.proofs.Common.{All, Some, subst, refl}
 use Rattle.normalizer_tables.specs.Conditions.{Holds, IsFirstFailing}
 use Rattle.normalizer_tables.specs.NfdData.{nfd_bounds, nfd_characters, nfd_conditions}
 use Rattle.normalizer_tables.proofs.FailingLemmas.{IsFirstFailing-not_all}

@@ -1,0 +1,74 @@
+-- What the conditions on steps say of a character.
+use Rattle.std.proofs.Common.{◌≡◌, ◌↔◌, ℕ, ◌<◌, ◌≤◌, Bool, true, false, not, List, [], ◌∷◌, IsSomeAnd, Some, None, IsTrue, refl, sym, subst, ◌∙◌, arith}
+use Rattle.normal_forms.specs.Order.{order}
+use Rattle.normalizer_tables.specs.declared.step.Step.{Step}
+use Rattle.normalizer_tables.specs.declared.step.Step.TheVariants.{Default}
+use Rattle.normalizer_tables.specs.declared.step_condition.StepCondition.TheVariants.{FdfaForms, Steps}
+use Rattle.normalizer_tables.specs.declared.word.WordReading.TheVariants.{Itself}
+use Rattle.normalizer_tables.specs.Data.{Supplement}
+use Rattle.normalizer_tables.specs.Hangul.{is_hangul_syllable}
+use Rattle.normalizer_tables.specs.Words.{is_plain}
+use Rattle.normalizer_tables.specs.Characters.{Characters, word_of, reading_of_word, list_of, own_reading}
+use Rattle.normalizer_tables.specs.Conditions.{IsFirstFailing}
+use Rattle.normalizer_tables.specs.Steps.{step_of, step_of_reading}
+use Rattle.normalizer_tables.specs.StepConditions.{step_conditions, IsInOrder, IsSoundStep, AvoidsFdfa, HasSoundStep, HoldsOfSteps}
+use Rattle.normalizer_tables.proofs.ConditionLemmas.{read-plain}
+use Rattle.normalizer_tables.proofs.FailingLemmas.{IsFirstFailing-here, IsFirstFailing-next, IsFirstFailing-none}
+use Rattle.normalizer_tables.proofs.PairConditionLemmas.{list_of-plain, scalar_below}
+use Rattle.normalizer_tables.proofs.StepLemmas.{step_of-reading}
+
+-- the same step
+pub IsSoundStep-same : (s : Characters) (n : ℕ) (step other : Step) (r : Bool) → step ≡ other → IsTrue r ↔ IsSoundStep s n other → IsTrue r ↔ IsSoundStep s n step
+IsSoundStep-same s n step other r e h = subst (λ o. IsTrue r ↔ IsSoundStep s n o) (sym e) h
+
+-- a list that isn't the character alone
+pub IsInOrder-apart : (s : Characters) (n : ℕ) (x list : List ℕ) (is_alone r : Bool) → list ≡ list_of s [] n → IsTrue is_alone ↔ (list ≡ n ∷ []) → is_alone ≡ false → IsTrue r ↔ (list_of s [] n ≡ order (own_reading s) x) → IsTrue r ↔ IsInOrder s n x
+unfolding IsInOrder
+IsInOrder-apart s n x list true r of_n alone apart h = cc
+IsInOrder-apart s n x list false r of_n alone apart h = (λ yes. (λ e. let f = alone.1 (of_n ∙ e) in cc, h.0 yes), λ ordered. h.1 ordered.1)
+
+-- a list that is
+pub IsInOrder-alone : (s : Characters) (n : ℕ) (x list : List ℕ) (is_alone : Bool) → list ≡ list_of s [] n → IsTrue is_alone ↔ (list ≡ n ∷ []) → is_alone ≡ true → IsTrue (not is_alone) ↔ IsInOrder s n x
+unfolding IsInOrder
+IsInOrder-alone s n x list true of_n alone same = (λ f. cc, λ ordered. absurd (ordered.0 (sym of_n ∙ alone.0 refl)))
+IsInOrder-alone s n x list false of_n alone same = cc
+
+-- a character with a plain word has no mapping
+pub HasSoundStep-plain : (s : Characters) (t : Supplement) (n : ℕ) → is_plain (word_of s n) ≡ true → HasSoundStep s t n
+unfolding HasSoundStep IsSoundStep step_of_reading reading_of_word
+HasSoundStep-plain s t n plain h other =
+    let step : step_of s t n ≡ Some Default = step_of-reading s t n Itself other (read-plain n (word_of s n) s.is_mapper plain) in
+    subst (λ o. IsSomeAnd o (IsSoundStep s n)) (sym step) (list_of-plain s n h plain)
+
+-- nothing is asked of Hangul syllables
+pub HasSoundStep-hangul : (s : Characters) (t : Supplement) (n : ℕ) → is_hangul_syllable n ≡ true → HasSoundStep s t n
+unfolding HasSoundStep
+HasSoundStep-hangul s t n hangul h other = cc
+
+-- what was asked of all numbers below 0x110000 was asked of all characters
+FdfaForms-all : (s : Characters) (t : Supplement) (number : ℕ) → 0x110000 ≤ number → ((n : ℕ) → n < number → AvoidsFdfa s n) → HoldsOfSteps s t FdfaForms
+unfolding HoldsOfSteps AvoidsFdfa
+FdfaForms-all s t number past below n h = let within : n < number = omega (arith, scalar_below n h) in below n within h
+
+Steps-all : (s : Characters) (t : Supplement) (number : ℕ) → 0x110000 ≤ number → ((n : ℕ) → n < number → HasSoundStep s t n) → HoldsOfSteps s t Steps
+unfolding HoldsOfSteps HasSoundStep
+Steps-all s t number past below n h = let within : n < number = omega (arith, scalar_below n h) in below n within h
+
+-- a character has the form of U+FDFA
+pub FdfaForms-fail : (s : Characters) (t : Supplement) (n : ℕ) → (AvoidsFdfa s n → ⊥) → IsFirstFailing (HoldsOfSteps s t) step_conditions (Some FdfaForms)
+unfolding HoldsOfSteps
+FdfaForms-fail s t n fails = IsFirstFailing-here (HoldsOfSteps s t) FdfaForms (Steps ∷ []) (λ all. fails (all n))
+
+module _ (s : Characters) (t : Supplement) (number : ℕ) (past : 0x110000 ≤ number) (avoiding : (n : ℕ) → n < number → AvoidsFdfa s n) (r : Bool) (sound : IsTrue r ↔ ((n : ℕ) → n < number → HasSoundStep s t n)) where
+  -- a character has no sound step
+  pub Steps-fail : r ≡ false → IsFirstFailing (HoldsOfSteps s t) step_conditions (Some Steps)
+  unfolding HoldsOfSteps
+  Steps-fail unsound =
+      IsFirstFailing-next (HoldsOfSteps s t) FdfaForms (Steps ∷ []) (Some Steps) (FdfaForms-all s t number past avoiding)
+      (IsFirstFailing-here (HoldsOfSteps s t) Steps [] (λ all. let yes = sound.1 (λ n below. all n) in cc))
+
+  -- both conditions hold
+  pub none_fails : r ≡ true → IsFirstFailing (HoldsOfSteps s t) step_conditions None
+  none_fails all_sound =
+      IsFirstFailing-next (HoldsOfSteps s t) FdfaForms (Steps ∷ []) None (FdfaForms-all s t number past avoiding)
+      (IsFirstFailing-next (HoldsOfSteps s t) Steps [] None (Steps-all s t number past (sound.0 all_sound)) (IsFirstFailing-none (HoldsOfSteps s t)))

@@ -1,0 +1,49 @@
+-- The written conditions on canonical data and the supplement, by which characters are decomposed one step.
+use Rattle.std.specs.Prelude.{◌≡◌, ◌≢◌, ℕ, false, List, [], ◌∷◌, ◌++◌, IsSomeAnd}
+use Rattle.std.specs.Char.{IsScalar}
+use Rattle.normal_forms.specs.Order.{order}
+use Rattle.normalizer_tables.specs.declared.condition.Condition.{Condition}
+use Rattle.normalizer_tables.specs.declared.condition.Condition.TheVariants as condition
+use Rattle.normalizer_tables.specs.declared.step.Step.{Step}
+use Rattle.normalizer_tables.specs.declared.step.Step.TheVariants.{Default, Singleton, Expansion}
+use Rattle.normalizer_tables.specs.declared.step_condition.StepCondition.{StepCondition}
+use Rattle.normalizer_tables.specs.declared.step_condition.StepCondition.TheVariants.{FdfaForms, Steps}
+use Rattle.normalizer_tables.specs.declared.word.WordReading.TheVariants.{Fdfa}
+use Rattle.normalizer_tables.specs.Data.{Supplement}
+use Rattle.normalizer_tables.specs.Hangul.{is_hangul_syllable}
+use Rattle.normalizer_tables.specs.Characters.{Characters, reading_of_word, list_of, own_reading}
+use Rattle.normalizer_tables.specs.Steps.{step_of}
+
+abbrev pub number_of_step_condition : StepCondition → ℕ
+number_of_step_condition FdfaForms = 15
+number_of_step_condition Steps = 16
+
+-- the conditions that are asked of data and supplement together
+abbrev pub step_conditions : List StepCondition
+step_conditions = FdfaForms ∷ Steps ∷ []
+
+-- the conditions that are asked of the data before
+abbrev pub conditions_before_steps : List Condition
+conditions_before_steps = condition.ItemLimit ∷ condition.PastTheEnd ∷ condition.Hangul ∷ condition.Words ∷ condition.Members ∷ condition.Order ∷ []
+
+-- the list of n is not n alone, but these characters in canonical order
+unfoldable pub IsInOrder : Characters → ℕ → List ℕ → Type 0
+IsInOrder s n x = (list_of s [] n ≢ n ∷ []) × (list_of s [] n ≡ order (own_reading s) x)
+
+-- a step of n is `Default` exactly where the list of n is n alone, and else that list is the ordered lists of its parts
+unfoldable pub IsSoundStep : Characters → ℕ → Step → Type 0
+IsSoundStep s n Default = list_of s [] n ≡ n ∷ []
+IsSoundStep s n (Singleton a) = IsInOrder s n (list_of s [] a)
+IsSoundStep s n (Expansion a b) = IsInOrder s n (list_of s [] a ++ list_of s [] b)
+
+-- what the conditions say of a number n
+unfoldable pub AvoidsFdfa : Characters → ℕ → Type 0
+AvoidsFdfa s n = IsScalar n → reading_of_word s n ≢ Fdfa
+
+unfoldable pub HasSoundStep : Characters → Supplement → ℕ → Type 0
+HasSoundStep s t n = IsScalar n → is_hangul_syllable n ≡ false → IsSomeAnd (step_of s t n) (IsSoundStep s n)
+
+-- the conditions, each in its line
+unfoldable pub HoldsOfSteps : Characters → Supplement → StepCondition → Type 0
+HoldsOfSteps s t FdfaForms = (n : ℕ) → AvoidsFdfa s n
+HoldsOfSteps s t Steps = (n : ℕ) → HasSoundStep s t n

@@ -1,0 +1,91 @@
+//! The complete check of data from which classes alone are read.
+ghost use Rattle.std.specs.Prelude.{◌≡◌, ◌↔◌, ℕ, IsTrue, true, false};
+ghost use Rattle.std.specs.Char.{IsScalar};
+ghost use Rattle.normalizer_tables.specs.ClassConditions.{
+  HoldsOfClasses,
+  IsSoundClass,
+  class_conditions,
+};
+ghost use Rattle.normalizer_tables.specs.Conditions.{IsFirstFailing, is_surrogate};
+ghost use Rattle.normalizer_tables.specs.Table.{word_at};
+ghost use Rattle.normalizer_tables.specs.Words.{is_class_form};
+ghost use Rattle.normalizer_tables.specs.declared.class_condition.ClassCondition.TheVariants as condition;
+
+use crate::characters::CODE_POINTS;
+use crate::check::numbers::has_fixed_class;
+use crate::class_condition::ClassCondition;
+use crate::provider::DecompositionData;
+use crate::table::CodePointTable;
+use crate::word::{is_class_form, is_ordinary_class_form, is_special_class_form, low_byte};
+
+#[cfg(test)]
+mod tests;
+
+/// The first of the conditions on classes that data break. It takes no memory.
+pub fn first_failing_of_classes(data: &DecompositionData) -> Option<ClassCondition>
+    ensures { IsFirstFailing (HoldsOfClasses data.now.table) class_conditions result }
+{
+    let table = &data.table;
+    if !have_no_surrogate_classes(table) {
+        Some(ClassCondition::Surrogates)
+    } else if !has_no_class_past(table) {
+        Some(ClassCondition::PastTheEnd)
+    } else if !have_sound_classes(table) {
+        Some(ClassCondition::Words)
+    } else {
+        None
+    }
+}
+
+/// Whether the word of no surrogate has a class form.
+fn have_no_surrogate_classes(table: &CodePointTable) -> bool
+    ensures { IsTrue result ↔ HoldsOfClasses table.now condition.Surrogates }
+{
+    for surrogate in 0xD800..0xE000 {
+        if is_class_form(table.get32(surrogate)) {
+            return false;
+        }
+    }
+    true
+}
+
+/// Whether the word of numbers past the code points has no class form.
+fn has_no_class_past(table: &CodePointTable) -> bool
+    ensures { IsTrue result ↔ HoldsOfClasses table.now condition.PastTheEnd }
+{
+    !is_class_form(table.get32(CODE_POINTS))
+}
+
+/// Whether the words of all characters have sound classes.
+fn have_sound_classes(table: &CodePointTable) -> bool
+    ensures { IsTrue result ↔ HoldsOfClasses table.now condition.Words }
+{
+    for number in 0..CODE_POINTS {
+        if !has_sound_class(number, table.get32(number)) {
+            return false;
+        }
+    }
+    true
+}
+
+/// Whether a number is no character, or one that may have the class of this word.
+fn has_sound_class(number: u32, word: u32) -> bool
+    ensures { IsTrue result ↔ (IsScalar number → IsSoundClass number word) }
+{
+    match char::from_u32(number) {
+        Some(character) => is_sound_class(character, word),
+        None => true,
+    }
+}
+
+/// Whether a word is no class form, or has a class that its character may have.
+fn is_sound_class(character: char, word: u32) -> bool
+    ensures { IsTrue result ↔ IsSoundClass character word }
+{
+    if is_ordinary_class_form(word) {
+        let class = low_byte(word);
+        0 < class && class < 255
+    } else {
+        !is_special_class_form(word) || has_fixed_class(character, low_byte(word))
+    }
+}

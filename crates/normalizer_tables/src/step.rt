@@ -1,0 +1,165 @@
+//! One step of canonical decomposition.
+ghost use Rattle.std.specs.Prelude.{◌≡◌, [], true};
+ghost use Rattle.normalizer_tables.specs.Characters.{as_text, list_read};
+ghost use Rattle.normalizer_tables.specs.Hangul.{is_hangul_syllable};
+ghost use Rattle.normalizer_tables.specs.Steps.{
+  hangul_mapping,
+  listed_step,
+  may_have_oxia,
+  step_by,
+  step_of,
+  step_to,
+  two_characters_step,
+  supplementary_mapping,
+  supplementary_step,
+};
+
+use crate::characters::{CharacterData, IgnoredCharacters, items_at};
+use crate::hangul::{S_BASE, T_BASE, T_COUNT};
+use crate::members::Members;
+use crate::provider::NonRecursiveDecompositionSupplement;
+use crate::word::{WordReading, is_hangul_syllable};
+
+#[cfg(test)]
+mod tests;
+
+/// What one step of canonical decomposition makes of a character.
+#[derive(Clone, Copy, PartialEq, Eq, Debug)]
+pub enum Step {
+    /// The character has no canonical mapping.
+    Default,
+    /// It maps to one character.
+    Singleton(char),
+    /// It maps to two characters.
+    Expansion(char, char),
+}
+
+/// The canonical mapping of a character, if the words give one or say that there is none. It takes no memory.
+#[tactic(auto, unfolding(crate::specs::Steps::step_of))]
+pub fn step_of(
+    data: &CharacterData<'_>,
+    supplement: &NonRecursiveDecompositionSupplement,
+    character: char,
+) -> Option<Step>
+    ensures { result ≡ step_of data.now supplement.now character }
+{
+    if is_hangul_syllable(character as u32) {
+        return step_by(hangul_mapping(character));
+    }
+    match data.reading(character) {
+        WordReading::Itself | WordReading::ClassForm(_) => Some(Step::Default),
+        WordReading::TwoCharacters(_, _) => two_characters_step(data, supplement, character),
+        WordReading::SpecialForm(_) | WordReading::OneCharacter(_) => {
+            step_by(data.members_read(character, IgnoredCharacters::Dropped))
+        }
+        WordReading::Listed(_, _, _) => {
+            let list = data.members_read(character, IgnoredCharacters::Dropped)?;
+            listed_step(supplement, character, &list)
+        }
+        WordReading::Ignored | WordReading::HangulSyllable | WordReading::Fdfa => None,
+    }
+}
+
+/// The step of a character whose word spells two.
+#[tactic(auto, unfolding(crate::specs::Steps::two_characters_step))]
+fn two_characters_step(
+    data: &CharacterData<'_>,
+    supplement: &NonRecursiveDecompositionSupplement,
+    character: char,
+) -> Option<Step>
+    ensures { result ≡ two_characters_step data.now supplement.now character }
+{
+    if may_have_oxia(character) {
+        supplementary_step(supplement, character)
+    } else {
+        step_by(data.members_read(character, IgnoredCharacters::Dropped))
+    }
+}
+
+/// Whether a character stands where those with oxia are.
+#[tactic(auto, unfolding(crate::specs::Steps::may_have_oxia))]
+fn may_have_oxia(character: char) -> bool
+    ensures { result ≡ may_have_oxia character }
+{
+    '\u{1F71}' <= character && character <= '\u{1FFB}'
+}
+
+/// The step of a character whose list stands in the tables.
+#[tactic(auto, unfolding(crate::specs::Steps::listed_step))]
+fn listed_step(
+    supplement: &NonRecursiveDecompositionSupplement,
+    character: char,
+    list: &Members<'_>,
+) -> Option<Step>
+    ensures { result ≡ listed_step supplement.now character list.now }
+{
+    if character == '\u{212B}' {
+        Some(Step::Singleton('\u{C5}'))
+    } else if list.len() <= 2 {
+        step_to(list)
+    } else {
+        supplementary_step(supplement, character)
+    }
+}
+
+/// The step that the supplement decides.
+fn supplementary_step(
+    supplement: &NonRecursiveDecompositionSupplement,
+    character: char,
+) -> Option<Step>
+    ensures { result ≡ supplementary_step supplement.now character }
+{
+    let scalars = supplement.scalars24.as_slice();
+    step_by(supplementary_mapping(scalars, supplement.table.get(character)))
+}
+
+/// What a word of the supplement names.
+#[tactic(auto, unfolding(crate::specs::Steps::supplementary_mapping))]
+fn supplementary_mapping(scalars: &[char], word: u32) -> Option<Members<'_>>
+    ensures { result ≡ supplementary_mapping scalars.now word }
+{
+    let lead = word & 0xFFFF;
+    let trail = word >> 16;
+    if lead != 0 && trail != 0 {
+        Members::of_numbers(lead, trail)
+    } else if lead != 0 {
+        Members::of_number(lead)
+    } else if trail != 0 {
+        Some(Members::of_scalars(items_at(scalars, trail as usize - 1, 2)?))
+    } else {
+        None
+    }
+}
+
+/// What a Hangul syllable maps to, by arithmetic (The Unicode Standard, section 3.12).
+#[tactic(auto, unfolding(crate::specs::Steps::hangul_mapping))]
+fn hangul_mapping(syllable: char) -> Option<Members<'static>>
+    requires { is_hangul_syllable syllable ≡ true }
+    ensures { result ≡ as_text (hangul_mapping syllable) }
+{
+    let trailing = (syllable as u32 - S_BASE) % T_COUNT;
+    if trailing == 0 {
+        Members::of_hangul_syllable(syllable)
+    } else {
+        Members::of_numbers(syllable as u32 - trailing, T_BASE + trailing)
+    }
+}
+
+/// The step to a mapping, where there is one.
+#[tactic(auto, unfolding(crate::specs::Steps::step_by))]
+fn step_by(mapping: Option<Members<'_>>) -> Option<Step>
+    ensures { result ≡ step_by mapping.entry }
+{
+    step_to(&mapping?)
+}
+
+/// The step to one character, or to two.
+fn step_to(mapping: &Members<'_>) -> Option<Step>
+    ensures { result ≡ step_to mapping.now }
+{
+    match mapping.len() {
+        1 => Some(Step::Singleton(mapping.at(0))),
+        2 => Some(Step::Expansion(mapping.at(0), mapping.at(1))),
+        _ => None,
+    }
+}
