@@ -25,7 +25,7 @@ pair-composing_reading s ignored pairs a c = refl
 pub pair-pairing_reading : (s : Characters) (pairs : List Pair) (a c : ℕ) → (pairing_reading s pairs).pair a c ≡ pair_of pairs a c
 pair-pairing_reading s pairs a c = refl
 
-nfd-composing_reading : (s : Characters) (ignored : IgnoredCharacters) (pairs : List Pair) (x : List ℕ) → nfd (composing_reading s ignored pairs) x ≡ nfd (decomposing_reading s ignored) x
+pub nfd-composing_reading : (s : Characters) (ignored : IgnoredCharacters) (pairs : List Pair) (x : List ℕ) → nfd (composing_reading s ignored pairs) x ≡ nfd (decomposing_reading s ignored) x
 unfolding nfd order insert is_reorderable expand
 nfd-composing_reading s ignored pairs x = refl
 

@@ -1,12 +1,13 @@
 -- The steps of a decomposition.
-use Rattle.std.proofs.Common.{◌≡◌, ℕ, ◌+◌, ◌*◌, List, [], length, refl, ap, ◌∙◌, subst, arith, Option, Some, None, IfSome, Ok, Err, Result}
-use Rattle.std.specs.Iterator.{Count, size, at_most, MakesProgress}
+use Rattle.std.proofs.Common.{◌≡◌, ℕ, ◌+◌, ◌*◌, List, [], length, refl, ap, ◌∙◌, subst, arith, sym, Option, Some, None, IfSome, IfOk, IfErr, Ok, Err, Result}
+use Rattle.std.specs.Iterator.{Count, size, at_most, IsFinite, MakesProgress}
 use Rattle.normal_forms.specs.Forms.{nfd}
 use Rattle.normalizer_tables.specs.Characters.{has_class_form}
 use Rattle.icu_normalizer.specs.declared.decomposition.Decomposition.{Decomposition}
 use Rattle.icu_normalizer.specs.declared.error.NormalizeError.{NormalizeError}
 use Rattle.icu_normalizer.specs.declared.error.NormalizeError.TheVariants.{Memory}
-use Rattle.icu_normalizer.specs.Decomposition.{reading_by, WillGive, StaysShort, CanDecompose, items_left, DecompositionSteps}
+use Rattle.icu_normalizer.specs.Decomposition.{reading_by, WillGive, StaysShort, IsEnded, CanDecompose, items_left, DecompositionSteps}
+use Rattle.icu_normalizer.specs.Delegate.{HasRead, IsReadyBehind}
 use Rattle.icu_normalizer.specs.LazyReading.{longest_list}
 use Rattle.icu_normalizer.specs.ReadingOn.{ReadsChunk, ChunkDidNotFit}
 use Rattle.icu_normalizer.specs.ToCome.{IsToCome, AreShortToCome, reads_left}
@@ -17,6 +18,10 @@ use Rattle.icu_normalizer.proofs.ToComeLemmas.{nfd-nil, IsToCome-none, IsToCome-
 pub at_some : {X : Type 0} (o : Option X) (P : X → Type 0) → IfSome o P → (x : X) → o ≡ Some x → P x
 at_some None P h x e = cc
 at_some (Some y) P h x e = let same : y ≡ x = cc in subst P same h
+
+-- a character that is pending was given by a delegate that may be called
+pub ready_behind : {I : Type 0} (can : I → Type 0) (left : I → Count) (s : Decomposition I) (c : ℕ) → s.pending ≡ Some c → CanDecompose can left s → can s.delegate × IsFinite (left s.delegate)
+ready_behind can left s c pending h = subst (λ o. IsReadyBehind can left o s.delegate) pending h
 
 module _ {I : Type 0} (can : I → Type 0) (gives : I → Option ℕ → I → Type 0) (left : I → Count) where
   ended : (s : Decomposition I) → s.pending ≡ None → ordered s.waiting ≡ [] → WillGive gives s []
@@ -79,7 +84,24 @@ module _ {I : Type 0} (can : I → Type 0) (gives : I → Option ℕ → I → T
     items_left-pending : items_left left s ≡ longest_list * (size (left s.delegate) + 1)
     items_left-pending = ap (λ l. length l + longest_list * reads_left s.pending (size (left s.delegate))) empty ∙ ap (λ p. 0 + longest_list * reads_left p (size (left s.delegate))) pending ∙ omega arith
 
+    -- the chunk was read, behind a character that had been read, or didn't fit
+    module _ (following : Option ℕ) (u : I) (read : HasRead gives left s.delegate following u) (t : Decomposition I) (characters : t.characters ≡ s.characters) (ignored : t.ignored ≡ s.ignored) where
+      pub Steps-read : (r : Result ℕ NormalizeError) → IfOk r (λ first. (before : I) → HasRead gives left before following u → ReadsChunk can gives left (has_class_form s.characters) (reading_by s) c before first t.pending t.delegate t.waiting) → IfErr r (λ e. (e ≡ Memory) × IsEnded t × ((before : I) → HasRead gives left before following u → ChunkDidNotFit gives (has_class_form s.characters) (reading_by s) c before)) → DecompositionSteps can gives left s (Some r) t
+      Steps-read (Ok first) ok err = Steps-chunk t first characters ignored (ok s.delegate read)
+      Steps-read (Err e) ok err =
+          subst (λ k. DecompositionSteps can gives left s (Some (Err k)) t) (sym err.0) (Steps-refused t characters ignored err.1.0 err.1.1 (err.2 s.delegate read))
+
+    items_left-ended : (t : Decomposition I) → IsEnded t → items_left left t ≡ 0
+    items_left-ended t end = ap (λ l. length l + longest_list * reads_left t.pending (size (left t.delegate))) end.1 ∙ ap (λ p. 0 + longest_list * reads_left p (size (left t.delegate))) end.0 ∙ omega arith
+
     pub Goes-chunk : (t : Decomposition I) (first : ℕ) → ReadsChunk can gives left (has_class_form s.characters) (reading_by s) c s.delegate first t.pending t.delegate t.waiting → MakesProgress {A = Result ℕ NormalizeError} (CanDecompose can left) (λ u. at_most (items_left left u)) s (Some (Ok first)) t
     Goes-chunk t first r =
         let smaller = chunk_size gives can left (has_class_form s.characters) (reading_by s) s.suits c s.delegate t.delegate first t.pending t.waiting r in
         record { on = λ finite. (r.ready, tt, omega (arith, smaller, items_left-pending)); keeps = r.ready; rests = λ finite. tt }
+
+    -- what was read is nearer to the end
+    pub Goes-read : (following : Option ℕ) (u : I) → HasRead gives left s.delegate following u → (t : Decomposition I) (r : Result ℕ NormalizeError) → IfOk r (λ first. (before : I) → HasRead gives left before following u → ReadsChunk can gives left (has_class_form s.characters) (reading_by s) c before first t.pending t.delegate t.waiting) → IfErr r (λ e. (e ≡ Memory) × IsEnded t × ((before : I) → HasRead gives left before following u → ChunkDidNotFit gives (has_class_form s.characters) (reading_by s) c before)) → MakesProgress {A = Result ℕ NormalizeError} (CanDecompose can left) (λ v. at_most (items_left left v)) s (Some r) t
+    Goes-read following u read t (Ok first) ok err = Goes-chunk t first (ok s.delegate read)
+    Goes-read following u read t (Err e) ok err =
+        let ready : CanDecompose can left t = rw err.1.0 tt in
+        record { on = λ finite. (ready, tt, omega (arith, items_left-ended t err.1, items_left-pending)); keeps = ready; rests = λ finite. tt }

@@ -23,6 +23,10 @@ pub HasShortMarkRuns-tail : (d : Reading) (c : ℕ) (y : List ℕ) → HasShortM
 unfolding HasShortMarkRuns
 HasShortMarkRuns-tail d c y short = short.1
 
+pub HasShortMarkRuns-rest : (d : Reading) (u v : List ℕ) → HasShortMarkRuns d (u ++ v) → HasShortMarkRuns d v
+HasShortMarkRuns-rest d [] v short = short
+HasShortMarkRuns-rest d (c ∷ u) v short = HasShortMarkRuns-rest d u v (HasShortMarkRuns-tail d c (u ++ v) short)
+
 leading_marks-append : (d : Reading) (u v : List ℕ) → leading_marks d v ≡ 0 → leading_marks d (u ++ v) ≤ length u
 leading_marks-append d [] v starts = omega arith
 leading_marks-append d (c ∷ u) v starts =

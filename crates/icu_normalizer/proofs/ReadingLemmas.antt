@@ -1,5 +1,5 @@
 -- Reading characters on: what waits after each step.
-use Rattle.std.proofs.Common.{◌≡◌, ℕ, ◌+◌, ◌<◌, ◌≤◌, Bool, true, false, List, [], ◌∷◌, ◌++◌, length, drop, get_or, refl, sym, ap, ◌∙◌, arith, Option, Some, None, IfSome, MatchOption, slice_get, inl, inr, append_assoc, append-nil}
+use Rattle.std.proofs.Common.{◌≡◌, ℕ, ◌+◌, ◌<◌, ◌≤◌, Bool, true, false, List, [], ◌∷◌, ◌++◌, length, drop, get_or, refl, sym, ap, ◌∙◌, arith, Option, Some, None, IfSome, OnSome, MatchOption, slice_get, inl, inr, append_assoc, append-nil}
 use Rattle.std.proofs.lemmas.List.{drop_more, drop_all, length-append}
 use Rattle.std.proofs.lemmas.List.Elements.{All-nil, All-push}
 use Rattle.std.specs.Iterator.{Count, size, IsFinite, Yields}
@@ -8,7 +8,7 @@ use Rattle.normal_forms.specs.Decomposition.{expand}
 use Rattle.normal_forms.specs.Order.{order}
 use Rattle.normal_forms.specs.ShortRuns.{places, continues}
 use Rattle.normal_forms.proofs.ExpandLemmas.{expand-append}
-use Rattle.icu_normalizer.specs.Delegate.{IsReadyBehind}
+use Rattle.icu_normalizer.specs.Delegate.{HasRead, IsReadyBehind}
 use Rattle.icu_normalizer.specs.ReadingOn.{ReadsOn, DidNotFit, ReadsChunk, ChunkDidNotFit}
 use Rattle.icu_normalizer.proofs.LazyLemmas.{Yields-one_more}
 use Rattle.std.proofs.lemmas.Option.{slice_get_cases}
@@ -16,6 +16,7 @@ use Rattle.normal_forms.specs.Reading.{Reading}
 use Rattle.normalizer_tables.specs.Characters.{Characters}
 use Rattle.icu_normalizer.specs.declared.waiting.WaitingList.{WaitingList}
 use Rattle.icu_normalizer.specs.LazyReading.{HasClassesFrom}
+use Rattle.icu_normalizer.specs.ToCome.{reads_left}
 use Rattle.icu_normalizer.specs.WaitingList.{ordered, unordered, held, reordered, AgreesWith}
 
 pub reordered-nothing : (d : Reading) (b : WaitingList) (rest : List ℕ) → ordered b ≡ [] → unordered b ≡ [] → reordered d b rest ≡ order d rest
@@ -64,31 +65,29 @@ pushed_all s members first place old new end pushed d same agrees rest = pushed.
 -- ---- characters that continue, one after another
 
 -- `read` came and waits
-pub record ReadSoFar {I : Type 0} (can : I → Type 0) (gives : I → Option ℕ → I → Type 0) (left : I → Count) (has_class_form : ℕ → Bool) (d : Reading) (delegate : I) (waiting : WaitingList) (delegate_now : I) (waiting_now : WaitingList) : Type 0 where
+pub record ReadSoFar {I : Type 0} (gives : I → Option ℕ → I → Type 0) (left : I → Count) (has_class_form : ℕ → Bool) (d : Reading) (delegate : I) (waiting : WaitingList) (delegate_now : I) (waiting_now : WaitingList) : Type 0 where
   pub read : List ℕ
   pub run : Yields gives delegate read delegate_now
   pub continuing : AllPass (continues has_class_form d) read
   pub text : (rest : List ℕ) → reordered d waiting (expand d read ++ rest) ≡ reordered d waiting_now rest
   pub agrees : AgreesWith d waiting_now
   pub held : held waiting_now ≡ held waiting + length (expand d read)
-  pub ready : can delegate_now × IsFinite (left delegate_now)
   pub fewer : size (left delegate_now) + length read ≤ size (left delegate)
 
-nearer_end : (pending : Option ℕ) (next n all now : ℕ) → now + n ≤ all → MatchOption pending (Unit {0}) (λ _. next < now) → MatchOption pending (n ≤ all) (λ _. next + n < all)
+nearer_end : (pending : Option ℕ) (next n all now : ℕ) → now + n ≤ all → OnSome pending (next < now) → MatchOption pending (n ≤ all) (λ _. next + n < all)
 nearer_end None next n all now fewer h = omega arith
 nearer_end (Some c) next n all now fewer h = omega arith
 
 module _ {I : Type 0} (can : I → Type 0) (gives : I → Option ℕ → I → Type 0) (left : I → Count) (f : ℕ → Bool) (d : Reading) where
-  pub ReadSoFar-none : (delegate : I) (waiting : WaitingList) → can delegate → IsFinite (left delegate) → AgreesWith d waiting → ReadSoFar can gives left f d delegate waiting delegate waiting
+  pub ReadSoFar-none : (delegate : I) (waiting : WaitingList) → AgreesWith d waiting → ReadSoFar gives left f d delegate waiting delegate waiting
   unfolding expand
-  ReadSoFar-none delegate waiting ready finite agrees = record {
+  ReadSoFar-none delegate waiting agrees = record {
     read = [];
     run = refl;
     continuing = All-nil (λ c. continues f d c ≡ true);
     text = λ rest. refl;
     agrees = agrees;
     held = omega arith;
-    ready = (ready, finite);
     fewer = omega arith;
   }
 
@@ -96,8 +95,8 @@ module _ {I : Type 0} (can : I → Type 0) (gives : I → Option ℕ → I → T
   unfolding expand
   expand-one_more xs c = expand-append d xs (c ∷ []) ∙ ap (λ l. expand d xs ++ l) (append-nil (d.list c))
 
-  pub ReadSoFar-more : (delegate now next : I) (waiting w new : WaitingList) (c : ℕ) → ReadSoFar can gives left f d delegate waiting now w → gives now (Some c) next → continues f d c ≡ true → ((rest : List ℕ) → reordered d w (d.list c ++ rest) ≡ reordered d new rest) → AgreesWith d new → held new ≡ held w + length (d.list c) → can next × IsFinite (left next) × (size (left next) < size (left now)) → ReadSoFar can gives left f d delegate waiting next new
-  ReadSoFar-more delegate now next waiting w new c before step continuing text agrees more ready =
+  pub ReadSoFar-more : (delegate now next : I) (waiting w new : WaitingList) (c : ℕ) → ReadSoFar gives left f d delegate waiting now w → gives now (Some c) next → continues f d c ≡ true → ((rest : List ℕ) → reordered d w (d.list c ++ rest) ≡ reordered d new rest) → AgreesWith d new → held new ≡ held w + length (d.list c) → size (left next) < size (left now) → ReadSoFar gives left f d delegate waiting next new
+  ReadSoFar-more delegate now next waiting w new c before step continuing text agrees more nearer =
       let longer = expand-one_more before.read c in
       record {
         read = before.read ++ c ∷ [];
@@ -108,11 +107,10 @@ module _ {I : Type 0} (can : I → Type 0) (gives : I → Option ℕ → I → T
             ∙ before.text (d.list c ++ rest) ∙ text rest;
         agrees = agrees;
         held = omega (arith, before.held, ap length longer, length-append (expand d before.read) (d.list c));
-        ready = (ready.0, ready.1);
-        fewer = omega (arith, before.fewer, ready.2, length-append before.read (c ∷ []));
+        fewer = omega (arith, before.fewer, length-append before.read (c ∷ []));
       }
 
-  pub ReadSoFar-done : (delegate now next : I) (waiting w new : WaitingList) (pending : Option ℕ) → ReadSoFar can gives left f d delegate waiting now w → gives now pending next → IfSome pending (λ c. continues f d c ≡ false) → ordered new ≡ reordered d w [] → unordered new ≡ [] → IsReadyBehind can left pending next → MatchOption pending (Unit {0}) (λ _. size (left next) < size (left now)) → ReadsOn can gives left f d delegate waiting pending next new
+  pub ReadSoFar-done : (delegate now next : I) (waiting w new : WaitingList) (pending : Option ℕ) → ReadSoFar gives left f d delegate waiting now w → gives now pending next → IfSome pending (λ c. continues f d c ≡ false) → ordered new ≡ reordered d w [] → unordered new ≡ [] → IsReadyBehind can left pending next → OnSome pending (size (left next) < size (left now)) → ReadsOn can gives left f d delegate waiting pending next new
   ReadSoFar-done delegate now next waiting w new pending before step anew text settled ready nearer = record {
     read = before.read;
     run = (now, before.run, step);
@@ -124,7 +122,7 @@ module _ {I : Type 0} (can : I → Type 0) (gives : I → Option ℕ → I → T
     fewer = nearer_end pending (size (left next)) (length before.read) (size (left delegate)) (size (left now)) before.fewer nearer;
   }
 
-  pub ReadSoFar-refused : (delegate now next : I) (waiting w : WaitingList) (c : ℕ) → ReadSoFar can gives left f d delegate waiting now w → gives now (Some c) next → continues f d c ≡ true → places < held w + length (d.list c) → DidNotFit gives f d delegate waiting
+  pub ReadSoFar-refused : (delegate now next : I) (waiting w : WaitingList) (c : ℕ) → ReadSoFar gives left f d delegate waiting now w → gives now (Some c) next → continues f d c ≡ true → places < held w + length (d.list c) → DidNotFit gives f d delegate waiting
   ReadSoFar-refused delegate now next waiting w c before step continuing long =
       let longer = expand-one_more before.read c in
       record {
@@ -134,6 +132,53 @@ module _ {I : Type 0} (can : I → Type 0) (gives : I → Option ℕ → I → T
         continuing = All-push (λ b. continues f d b ≡ true) before.read c before.continuing continuing;
         too_long = omega (arith, before.held, ap length longer, length-append (expand d before.read) (d.list c));
       }
+
+-- ---- one character is read ahead
+
+pub reads_left-nearer : (given : Option ℕ) (after before : ℕ) → OnSome given (after < before) → reads_left given after < before + 1
+reads_left-nearer None after before h = omega arith
+reads_left-nearer (Some c) after before h = omega arith
+
+-- `next` was read from the delegate, behind those that wait
+pub record ReadsAhead {I : Type 0} (can : I → Type 0) (gives : I → Option ℕ → I → Type 0) (left : I → Count) (has_class_form : ℕ → Bool) (d : Reading) (first : Option ℕ) (delegate : I) (waiting : WaitingList) (next : Option ℕ) (delegate_now : I) (waiting_now : WaitingList) : Type 0 where
+  pub ready : IsReadyBehind can left next delegate_now
+  pub agrees : AgreesWith d waiting_now
+  pub behind : (before : I) → HasRead gives left before first delegate → (now : I) × ReadSoFar gives left has_class_form d before waiting now waiting_now × HasRead gives left now next delegate_now
+
+module _ {I : Type 0} (can : I → Type 0) (gives : I → Option ℕ → I → Type 0) (left : I → Count) where
+  pub IsReadyBehind-next : (before after : I) (given : Option ℕ) → OnSome given (can after × IsFinite (left after) × (size (left after) < size (left before))) → IsReadyBehind can left given after
+  IsReadyBehind-next before after None h = tt
+  IsReadyBehind-next before after (Some c) h = (h.0, h.1)
+
+  pub HasRead-next : (before after : I) (given : Option ℕ) → gives before given after → OnSome given (can after × IsFinite (left after) × (size (left after) < size (left before))) → HasRead gives left before given after
+  HasRead-next before after None step h = record { step = step; nearer = tt }
+  HasRead-next before after (Some c) step h = record { step = step; nearer = h.2 }
+
+  module _ (f : ℕ → Bool) (d : Reading) (first : Option ℕ) (delegate : I) (waiting : WaitingList) where
+    pub ReadsAhead-none : IsReadyBehind can left first delegate → AgreesWith d waiting → ReadsAhead can gives left f d first delegate waiting first delegate waiting
+    ReadsAhead-none ready agrees = record { ready = ready; agrees = agrees; behind = λ before read. (before, ReadSoFar-none can gives left f d before waiting agrees, read) }
+
+    pub ReadsAhead-more : (c : ℕ) (now after : I) (w new : WaitingList) (next : Option ℕ) → ReadsAhead can gives left f d first delegate waiting (Some c) now w → continues f d c ≡ true → ((rest : List ℕ) → reordered d w (d.list c ++ rest) ≡ reordered d new rest) → AgreesWith d new → held new ≡ held w + length (d.list c) → gives now next after → OnSome next (can after × IsFinite (left after) × (size (left after) < size (left now))) → ReadsAhead can gives left f d first delegate waiting next after new
+    ReadsAhead-more c now after w new next before continuing text agrees more step near = record {
+      ready = IsReadyBehind-next now after next near;
+      agrees = agrees;
+      behind = λ start read.
+          let last = before.behind start read in (
+            now,
+            ReadSoFar-more can gives left f d start last.0 now waiting w new c last.1 last.2.step continuing text agrees more last.2.nearer,
+            HasRead-next now after next step near,
+          );
+    }
+
+    pub ReadsAhead-done : (pending : Option ℕ) (now : I) (w new : WaitingList) → ReadsAhead can gives left f d first delegate waiting pending now w → IfSome pending (λ c. continues f d c ≡ false) → ordered new ≡ reordered d w [] → unordered new ≡ [] → (before : I) → HasRead gives left before first delegate → ReadsOn can gives left f d before waiting pending now new
+    ReadsAhead-done pending now w new ahead anew text settled before read =
+        let last = ahead.behind before read in
+        ReadSoFar-done can gives left f d before last.0 now waiting w new pending last.1 last.2.step anew text settled ahead.ready last.2.nearer
+
+    pub ReadsAhead-refused : (c : ℕ) (now : I) (w : WaitingList) → ReadsAhead can gives left f d first delegate waiting (Some c) now w → continues f d c ≡ true → places < held w + length (d.list c) → (before : I) → HasRead gives left before first delegate → DidNotFit gives f d before waiting
+    ReadsAhead-refused c now w ahead continuing long before read =
+        let last = ahead.behind before read in
+        ReadSoFar-refused can gives left f d before last.0 now waiting w c last.1 last.2.step continuing long
 
 -- ---- a chunk, where nothing waited before
 

@@ -1,5 +1,5 @@
 -- Data that meet the written conditions may be read lazily.
-use Rattle.std.proofs.Common.{◌≡◌, ℕ, false, List, [], ◌∷◌, All, refl, ap, ◌∙◌, subst, arith, inl, inr, Option, Some, None}
+use Rattle.std.proofs.Common.{◌≡◌, ℕ, false, List, [], ◌∷◌, ap, ◌∙◌, subst, arith, inl, inr}
 use Rattle.std.proofs.lemmas.Bool.{cases_Bool, cond-false}
 use lib.Utf8.{scalar}
 use Rattle.normal_forms.specs.Reading.{Reading, IsStarter}
@@ -11,9 +11,10 @@ use Rattle.normal_forms.specs.Boundary.{BeginsWithStarter}
 use Rattle.normalizer_tables.specs.Conditions.{Holds, HoldsAt}
 use Rattle.normalizer_tables.specs.Data.{Decompositions, Lists}
 use Rattle.normalizer_tables.proofs.CharacterLemmas.{list_of-default}
-use Rattle.icu_normalizer.specs.Acceptance.{bounds_of, data_from, decomposing_conditions, AcceptsForNfd}
+use Rattle.normalizer_tables.proofs.ListLengths.{length-list_of}
+use Rattle.normalizer_tables.specs.NfdData.{IsSoundNfdData, nfd_bounds, nfd_characters}
+use Rattle.icu_normalizer.specs.Acceptance.{SuitsDecomposing}
 use Rattle.icu_normalizer.specs.LazyReading.{decomposing_reading, SuitsLazyReading}
-use Rattle.icu_normalizer.proofs.ListLengths.{length-list_of}
 
 list_of-elsewhere : (s : Characters) (n : ℕ) → scalar n ≡ false → list_of s [] n ≡ n ∷ []
 unfolding list_read
@@ -39,8 +40,9 @@ SuitsLazyReading-sound s b sound = record {
   short = λ c. length-list_of s [] c (omega arith);
 }
 
-pub SuitsLazyReading-met : (s : Characters) (b : Bounds) → All (Holds s b) decomposing_conditions → SuitsLazyReading (has_class_form s) (own_reading s)
-SuitsLazyReading-met s b met = SuitsLazyReading-sound s b (met 8 Order (omega arith))
+pub SuitsLazyReading-met : (s : Characters) → SuitsDecomposing s → SuitsLazyReading (has_class_form s) (own_reading s)
+SuitsLazyReading-met s met = SuitsLazyReading-sound s _ (met 8 Order (omega arith))
 
-pub AcceptsForNfd-held : (held_data : Option Decompositions) (held_tables : Option Lists) (decompositions : Decompositions) (tables : Lists) → held_data ≡ Some decompositions → held_tables ≡ Some tables → All (Holds (data_from decompositions tables None) (bounds_of decompositions)) decomposing_conditions → AcceptsForNfd held_data held_tables (data_from decompositions tables None)
-AcceptsForNfd-held held_data held_tables decompositions tables d t met = rw (d, t) (refl, met)
+-- canonical data that a caller answers for
+pub SuitsLazyReading-nfd : (decompositions : Decompositions) (tables : Lists) → IsSoundNfdData decompositions tables → SuitsLazyReading (has_class_form (nfd_characters decompositions tables)) (own_reading (nfd_characters decompositions tables))
+SuitsLazyReading-nfd decompositions tables sound = SuitsLazyReading-sound (nfd_characters decompositions tables) nfd_bounds (sound 7 Order (omega arith))

@@ -1,25 +1,41 @@
 -- Data and pairs that meet the written conditions may be composed.
-use Rattle.std.proofs.Common.{◌≡◌, [], List, arith, refl, Option, Some, None}
+use Rattle.std.proofs.Common.{◌≡◌, ℕ, [], ◌∷◌, List, subst, arith, Some}
+use Rattle.std.proofs.Math.Nat.{min-le_right}
+use Rattle.normal_forms.specs.Boundary.{BeginsSafely}
 use Rattle.normal_forms.specs.Hypotheses.{HasStarterResults}
-use Rattle.normalizer_tables.specs.declared.condition.Bounds.{Bounds}
-use Rattle.normalizer_tables.specs.declared.condition.Condition.TheVariants.{Hangul}
-use Rattle.normalizer_tables.specs.declared.pair_condition.PairCondition.TheVariants.{Pairs}
-use Rattle.normalizer_tables.specs.Characters.{Characters}
-use Rattle.normalizer_tables.specs.Data.{Decompositions, Lists}
+use Rattle.normal_forms.specs.Reading.{Reading, IsStarter}
+use Rattle.normalizer_tables.specs.declared.condition.Condition.TheVariants.{Hangul, Words, Order}
+use Rattle.normalizer_tables.specs.declared.pair_condition.PairCondition.TheVariants.{Pairs, RoundTrip, SafeBeginning}
+use Rattle.normalizer_tables.specs.Characters.{Characters, list_of, reading_of}
+use Rattle.normalizer_tables.specs.Ignored.{ignored_list}
 use Rattle.normalizer_tables.specs.PairConditions.{composing_reading}
-use Rattle.normalizer_tables.specs.Pairs.{Pair}
-use Rattle.normalizer_tables.proofs.PairLaws.{HasStarterResults-reading_of}
-use Rattle.icu_normalizer.specs.Acceptance.{data_from, bounds_of}
-use Rattle.normalizer_tables.specs.declared.provider.DataError.{DataError}
-use Rattle.normalizer_tables.specs.declared.provider.DataMarkerInfo.TheVariants.{NormalizerNfdDataV1}
-use Rattle.icu_normalizer.specs.ComposingAcceptance.{SuitsComposing, RefusesToCompose, AcceptsForNfc, RefusesForNfc}
+use Rattle.normalizer_tables.specs.Pairs.{Pair, pair_of}
+use Rattle.normalizer_tables.proofs.PairLaws.{HasStarterResults-reading_of, IsNormalized-passed, BeginsSafely-passed, inhabited-passed}
+use Rattle.icu_normalizer.specs.Acceptance.{bounds_of}
+use Rattle.icu_normalizer.specs.ComposingAcceptance.{SuitsComposing}
+use Rattle.icu_normalizer.specs.LazyComposing.{SuitsLazyComposing}
+use Rattle.icu_normalizer.proofs.PassedClasses.{no_class_form-passed}
 
-pub HasStarterResults-met : (s : Characters) (b : Bounds) (pairs : List Pair) → SuitsComposing s b pairs → HasStarterResults (composing_reading s pairs)
-HasStarterResults-met s b pairs met =
-    HasStarterResults-reading_of s b (met.conditions 5 Hangul (omega arith)) pairs (met.pair_conditions 0 Pairs (omega arith)) []
+HasStarterResults-met : (s : Characters) (pairs : List Pair) → SuitsComposing (s, pairs) → HasStarterResults (composing_reading s pairs)
+HasStarterResults-met s pairs met =
+    HasStarterResults-reading_of s _ (met.conditions 5 Hangul (omega arith)) pairs (met.pair_conditions 0 Pairs (omega arith)) []
 
-pub AcceptsForNfc-held : (held_data : Option Decompositions) (held_tables : Option Lists) (held_pairs : Option (List Pair)) (decompositions : Decompositions) (tables : Lists) (pairs : List Pair) → held_data ≡ Some decompositions → held_tables ≡ Some tables → held_pairs ≡ Some pairs → SuitsComposing (data_from decompositions tables None) (bounds_of decompositions) pairs → AcceptsForNfc held_data held_tables held_pairs (data_from decompositions tables None) pairs
-AcceptsForNfc-held held_data held_tables held_pairs decompositions tables pairs d t p met = rw (d, t, p) (refl, refl, met)
+first_apart : (d : Reading) (x : List ℕ) (first : ℕ) (others : List ℕ) → x ≡ first ∷ others → BeginsSafely d x → IsStarter d first × ((a r : ℕ) → d.pair a first ≡ Some r → ⊥)
+first_apart d x first others e h = let begins = subst (BeginsSafely d) e h in (begins.0, λ a r joins. cc (begins.1 a, joins))
 
-pub RefusesForNfc-held : (held_data : Option Decompositions) (held_tables : Option Lists) (held_pairs : Option (List Pair)) (decompositions : Decompositions) (tables : Lists) (pairs : List Pair) (e : DataError) → held_data ≡ Some decompositions → held_tables ≡ Some tables → held_pairs ≡ Some pairs → RefusesToCompose NormalizerNfdDataV1 (data_from decompositions tables None) (bounds_of decompositions) pairs e → RefusesForNfc held_data held_tables held_pairs e
-RefusesForNfc-held held_data held_tables held_pairs decompositions tables pairs e d t p refused = rw (d, t, p) refused
+pub SuitsLazyComposing-met : (s : Characters) (pairs : List Pair) → SuitsComposing (s, pairs) → SuitsLazyComposing s (bounds_of s.decompositions) pairs
+SuitsLazyComposing-met s pairs met =
+    let b = bounds_of s.decompositions in
+    let trips = met.pair_conditions 1 RoundTrip (omega arith) in
+    let begins = met.pair_conditions 2 SafeBeginning (omega arith) in
+    record {
+      starters = HasStarterResults-met s pairs met;
+      apart = λ ignored c h. record {
+        form = IsNormalized-passed s b pairs (met.conditions 8 Order (omega arith)) trips (ignored_list ignored) c h.scalar h.passed;
+        anew =
+            no_class_form-passed s c h.scalar b (min-le_right s.decompositions.cap 0x0300) pairs (met.conditions 6 Words (omega arith)) (inhabited-passed s b pairs begins [] c h.scalar h.passed)
+            (BeginsSafely-passed s b pairs begins [] c h.scalar h.passed) h.passed;
+        inhabited = inhabited-passed s b pairs begins (ignored_list ignored) c h.scalar h.passed;
+        safely = λ first others e. first_apart (reading_of s (ignored_list ignored) (pair_of pairs)) (list_of s (ignored_list ignored) c) first others e (BeginsSafely-passed s b pairs begins (ignored_list ignored) c h.scalar h.passed);
+      };
+    }

@@ -2,10 +2,11 @@
 use Rattle.std.proofs.Common.{◌≡◌, ℕ, ◌+◌, ◌<◌, ◌≤◌, List, [], ◌∷◌, ◌++◌, length, Option, Some, None, Ok, Err, refl, sym, ap, ◌∙◌, subst, arith, inl, inr, append-nil, length-append}
 use Rattle.std.specs.Iterator.{Count}
 use Rattle.normal_forms.specs.Reading.{Reading, IsStarter, IsMark}
-use Rattle.normal_forms.specs.CompositionByStarters.{join, compose_after}
+use Rattle.normal_forms.specs.CompositionByStarters.{join, compose_after, compose_by_starters}
+use Rattle.normal_forms.specs.Boundary.{BeginsSafely}
 use Rattle.normal_forms.specs.ShortRuns.{places}
 use Rattle.normal_forms.proofs.ComposeLemmas.{starter_or_mark, compose_after-nil, compose_after-join, compose_after-starter, compose_after-mark}
-use Rattle.icu_normalizer.specs.declared.composition.Ahead.TheVariants.{Starter, Ended}
+use Rattle.icu_normalizer.specs.declared.composition.Ahead.TheVariants.{Starter, Passed, Ended}
 use Rattle.icu_normalizer.specs.declared.decomposition.Decomposition.{Decomposition}
 use Rattle.icu_normalizer.specs.declared.error.NormalizeError.{NormalizeError}
 use Rattle.icu_normalizer.specs.declared.marks.StayingMarks.{StayingMarks}
@@ -14,6 +15,7 @@ use Rattle.icu_normalizer.specs.MarkRuns.{leading_marks, HasShortMarkRuns}
 use Rattle.icu_normalizer.specs.StayingMarks.{staying, used, BlocksBelow}
 use Rattle.icu_normalizer.specs.Composing.{GivesShort, ComposesStarter}
 use Rattle.icu_normalizer.proofs.MarkLemmas.{join-starter}
+use Rattle.icu_normalizer.proofs.PassingLemmas.{compose_after-boundary}
 use Rattle.icu_normalizer.proofs.MarkRunLemmas.{leading_marks-mark, HasShortMarkRuns-leading, HasShortMarkRuns-tail}
 
 -- the starter has become `composite`, and these marks stay behind it
@@ -23,6 +25,7 @@ pub record ComposedSoFar {I : Type 0} (can : I → Type 0) (gives : I → Option
   pub blocking : BlocksBelow d marks
   pub in_use : used marks ≡ length (staying marks)
   pub ready : decomposition.CanDecompose can left now
+  pub kept : now.characters ≡ old.characters
   pub fewer : length (staying marks) + decomposition.items_left left now ≤ decomposition.items_left left old
 
 room_after_join : (d : Reading) (a : ℕ) (p : List ℕ) (c r : ℕ) (y : List ℕ) → join d a p c ≡ Some r → HasShortMarkRuns d y → length p + leading_marks d (c ∷ y) ≤ places → length p + leading_marks d y ≤ places
@@ -57,6 +60,7 @@ module _ {I : Type 0} (can : I → Type 0) (gives : I → Option ℕ → I → T
     blocking = blocking;
     in_use = omega (arith, ap length none);
     ready = ready;
+    kept = refl;
     fewer = omega (arith, ap length none);
   }
 
@@ -74,6 +78,7 @@ module _ {I : Type 0} (can : I → Type 0) (gives : I → Option ℕ → I → T
         blocking = before.blocking;
         in_use = before.in_use;
         ready = step.ready before.ready;
+        kept = step.kept.0 ∙ before.kept;
         fewer = omega (arith, before.fewer);
       })
 
@@ -96,6 +101,7 @@ module _ {I : Type 0} (can : I → Type 0) (gives : I → Option ℕ → I → T
         blocking = blocking;
         in_use = omega (arith, before.in_use);
         ready = step.ready before.ready;
+        kept = step.kept.0 ∙ before.kept;
         fewer = omega (arith, before.fewer);
       }
 
@@ -131,4 +137,17 @@ module _ {I : Type 0} (can : I → Type 0) (gives : I → Option ℕ → I → T
         );
     short = λ h. tt;
     fewer = omega (arith, before.fewer);
+  }
+
+  -- what begins safely is not composed with what stands before it
+  pub ComposesStarter-passes : (starter : ℕ) (old : Decomposition I) (composite : ℕ) (now : Decomposition I) (marks : StayingMarks) → ComposedSoFar can gives left d starter old composite now marks → ((y : List ℕ) → decomposition.WillGive gives now y → BeginsSafely d y) → ComposesStarter gives left d starter old composite (staying marks) Passed now
+  ComposesStarter-passes starter old composite now marks before begins = record {
+    text = λ all h.
+        let b = before.text all h in (
+          staying marks ++ compose_by_starters d b.0,
+          b.1 ∙ compose_after-boundary d composite (staying marks) b.0 (begins b.0 b.2),
+          record { unread = b.0; source = b.2; text = refl },
+        );
+    short = λ h. (before.short h).0;
+    fewer = before.fewer;
   }

@@ -1,17 +1,18 @@
 -- Which data a constructor accepts, and how it answers others.
-use Rattle.std.specs.Prelude.{◌≡◌, List, [], ◌∷◌, Option, Some, None, All, false, min}
+use Rattle.std.specs.Prelude.{◌≡◌, ◌↔◌, List, [], ◌∷◌, Option, Some, None, Result, Ok, Err, IsErrOf, All, false, min}
 use Rattle.std.specs.Borrow.{Bor}
 use Rattle.std.specs.Option.{option_copied}
 use Rattle.normalizer_tables.specs.declared.condition.Bounds.{Bounds}
 use Rattle.normalizer_tables.specs.declared.condition.Condition.{Condition}
 use Rattle.normalizer_tables.specs.declared.condition.Condition.TheVariants.{ItemLimit, CapLimit, ReplacementCharacter, Surrogates, PastTheEnd, Hangul, Words, Members, Order, Passthrough}
 use Rattle.normalizer_tables.specs.declared.provider.DataError.{DataError}
-use Rattle.normalizer_tables.specs.declared.provider.DataError.TheVariants.{Provider, FutureExtension, Invalid}
+use Rattle.normalizer_tables.specs.declared.provider.DataError.TheVariants.{Provider, Memory}
 use Rattle.normalizer_tables.specs.declared.provider.DataMarkerInfo.{DataMarkerInfo}
 use Rattle.normalizer_tables.specs.declared.provider.DataMarkerInfo.TheVariants as marker
 use Rattle.normalizer_tables.specs.Characters.{Characters}
-use Rattle.normalizer_tables.specs.Conditions.{Holds, IsFirstFailing, number_of}
+use Rattle.normalizer_tables.specs.Conditions.{Holds}
 use Rattle.normalizer_tables.specs.Data.{Decompositions, Lists, lists_or_none}
+use Rattle.normalizer_tables.specs.Refusals.{RefusesFirstFailing}
 
 -- data that are no mapper's
 abbrev pub data_from : Decompositions → Lists → Option Lists → Characters
@@ -28,18 +29,38 @@ bounds_of decompositions = record { decomposition = min decompositions.cap 0xC0;
 abbrev pub decomposing_conditions : List Condition
 decomposing_conditions = ItemLimit ∷ CapLimit ∷ ReplacementCharacter ∷ Surrogates ∷ PastTheEnd ∷ Hangul ∷ Words ∷ Members ∷ Order ∷ Passthrough ∷ []
 
--- how a condition that fails is answered, where the decomposition data have this marker
-abbrev pub refusal_of : DataMarkerInfo → Condition → DataError
-refusal_of kind ItemLimit = FutureExtension marker.NormalizerNfdTablesV1
-refusal_of kind c = Invalid kind (number_of c)
+-- data that meet them all
+abbrev pub SuitsDecomposing : Characters → Type 0
+SuitsDecomposing s = All (Holds s (bounds_of s.decompositions)) decomposing_conditions
 
--- both are held, they meet the conditions, and s is made of them
-abbrev pub AcceptsForNfd : Option Decompositions → Option Lists → Characters → Type 0
-AcceptsForNfd (Some decompositions) (Some tables) s = (s ≡ data_from decompositions tables None) × All (Holds s (bounds_of decompositions)) decomposing_conditions
-AcceptsForNfd _ _ s = ⊥
+-- the answer for the first of them that fails
+abbrev pub RefusesToDecompose : DataMarkerInfo → Characters → DataError → Type 0
+RefusesToDecompose kind s e = RefusesFirstFailing kind s (bounds_of s.decompositions) decomposing_conditions e
 
--- the first of the two that isn't held is named, or the first condition that they break
-abbrev pub RefusesForNfd : Option Decompositions → Option Lists → DataError → Type 0
-RefusesForNfd None tables e = e ≡ Provider marker.NormalizerNfdDataV1
-RefusesForNfd (Some decompositions) None e = e ≡ Provider marker.NormalizerNfdTablesV1
-RefusesForNfd (Some decompositions) (Some tables) e = (c : Condition) × IsFirstFailing (Holds (data_from decompositions tables None) (bounds_of decompositions)) decomposing_conditions (Some c) × (e ≡ refusal_of marker.NormalizerNfdDataV1 c)
+-- the data that are held for canonical forms, or the marker of the first load for which nothing is held
+abbrev pub nfd_data : Option Decompositions → Option Lists → Result Characters DataMarkerInfo
+nfd_data None tables = Err marker.NormalizerNfdDataV1
+nfd_data (Some decompositions) None = Err marker.NormalizerNfdTablesV1
+nfd_data (Some decompositions) (Some tables) = Ok (data_from decompositions tables None)
+
+-- the same for compatibility forms
+abbrev pub nfkd_data : Option Decompositions → Option Lists → Option Lists → Result Characters DataMarkerInfo
+nfkd_data None tables supplementary = Err marker.NormalizerNfkdDataV1
+nfkd_data (Some decompositions) None supplementary = Err marker.NormalizerNfdTablesV1
+nfkd_data (Some decompositions) (Some tables) None = Err marker.NormalizerNfkdTablesV1
+nfkd_data (Some decompositions) (Some tables) (Some supplementary) = Ok (data_from decompositions tables (Some supplementary))
+
+module _ {H : Type 0} where
+  -- all is held that was to be loaded, it suits, and h is that
+  abbrev pub AcceptsHeld : (H → Type 0) → Result H DataMarkerInfo → H → Type 0
+  AcceptsHeld Suits (Ok held) h = (h ≡ held) × Suits held
+  AcceptsHeld Suits (Err missing) h = ⊥
+
+  -- the first load for which nothing is held is named, or what is held is refused
+  abbrev pub RefusesHeld : (H → DataError → Type 0) → Result H DataMarkerInfo → DataError → Type 0
+  RefusesHeld Refuses (Ok held) e = Refuses held e
+  RefusesHeld Refuses (Err missing) e = e ≡ Provider missing
+
+  -- want of memory aside, a load is named exactly where it is the first for which nothing is held
+  abbrev pub NamesMissing : {A : Type 0} → Result H DataMarkerInfo → Result A DataError → Type 0
+  NamesMissing held result = (missing : DataMarkerInfo) → IsErrOf result (Provider missing) ↔ ((held ≡ Err missing) × ¬ IsErrOf result Memory)

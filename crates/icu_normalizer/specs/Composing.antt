@@ -9,7 +9,7 @@ use Rattle.normalizer_tables.specs.Characters.{Characters, reading_of}
 use Rattle.normalizer_tables.specs.Ignored.{ignored_list}
 use Rattle.normalizer_tables.specs.Pairs.{Pair, pair_of}
 use Rattle.icu_normalizer.specs.declared.composition.Ahead.{Ahead}
-use Rattle.icu_normalizer.specs.declared.composition.Ahead.TheVariants.{NoStarter, Starter, Ended}
+use Rattle.icu_normalizer.specs.declared.composition.Ahead.TheVariants.{NoStarter, Passed, Starter, Ended}
 use Rattle.icu_normalizer.specs.declared.composition.Composition.{Composition}
 use Rattle.icu_normalizer.specs.declared.composition.Visited.{Visited}
 use Rattle.icu_normalizer.specs.declared.composition.Visited.TheVariants.{Joined, StartsAnew, Stays}
@@ -18,8 +18,10 @@ use Rattle.icu_normalizer.specs.declared.error.NormalizeError.{NormalizeError}
 use Rattle.icu_normalizer.specs.declared.error.NormalizeError.TheVariants.{Memory}
 use Rattle.icu_normalizer.specs.declared.marks.StayingMarks.{StayingMarks}
 use Rattle.icu_normalizer.specs.Decomposition as decomposition
+use Rattle.icu_normalizer.specs.LazyComposing.{SuitsLazyComposing}
 use Rattle.icu_normalizer.specs.MarkRuns.{HasShortMarkRuns}
 use Rattle.icu_normalizer.specs.NextItem.{GaveFirst, GivesNext}
+use Rattle.icu_normalizer.specs.Passing.{IsAtPassed}
 use Rattle.icu_normalizer.specs.StayingMarks.{staying, used, BlocksBelow}
 
 -- the reading that data and pairs make
@@ -39,20 +41,34 @@ HasVisited d a c old Stays new = (join d a (staying old) c ≡ None) × IsMark d
 -- what the characters that are still to come compose to, behind the marks that are given first
 abbrev pub composed_ahead : Reading → Ahead → List ℕ → List ℕ
 composed_ahead d NoStarter y = compose_by_starters d y
+composed_ahead d Passed y = compose_by_starters d y
 composed_ahead d (Starter a) y = compose_after d a [] y
 composed_ahead d Ended y = []
 
 -- nothing is asked of what is read once the end is reached
 abbrev pub UnlessEnded : Ahead → Type 0 → Type 0
 UnlessEnded NoStarter P = P
+UnlessEnded Passed P = P
 UnlessEnded (Starter a) P = P
 UnlessEnded Ended P = Unit {0}
 
 -- how many characters may come, where at most n are read
 abbrev pub ahead_left : Ahead → ℕ → ℕ
 ahead_left NoStarter n = n
+ahead_left Passed n = n
 ahead_left (Starter a) n = n + 1
 ahead_left Ended n = 0
+
+-- what is said where the character that is read next is passed
+abbrev pub WherePassed : Ahead → Type 0 → Type 0
+WherePassed Passed P = P
+WherePassed _ P = Unit {0}
+
+-- no starter is in hand, and the end isn't reached
+abbrev pub IsBeforeStarter : Ahead → Type 0
+IsBeforeStarter NoStarter = Unit {0}
+IsBeforeStarter Passed = Unit {0}
+IsBeforeStarter _ = ⊥
 
 module _ {I : Type 0} where
   -- these characters, where memory suffices: some marks, and then what stands ahead
@@ -88,8 +104,12 @@ module _ {I : Type 0} where
   abbrev pub IsEnded : Composition I → Type 0
   IsEnded s = (s.ahead ≡ Ended) × (staying s.marks ≡ [])
 
-  abbrev pub CanCompose : (I → Type 0) → (I → Count) → Composition I → Type 0
-  CanCompose can left s = decomposition.CanDecompose can left s.decomposed
+  -- it may be called: data and pairs may be composed lazily
+  pub record CanCompose (can : I → Type 0) (left : I → Count) (s : Composition I) : Type 0 where
+    pub source : decomposition.CanDecompose can left s.decomposed
+    pub same : s.decomposed.characters ≡ s.characters
+    pub suits : SuitsLazyComposing s.characters s.bounds s.pairs.now
+    pub passed : WherePassed s.ahead (IsAtPassed s.pairs.now s.decomposed)
 
   -- no more characters than this come
   abbrev pub items_left : (I → Count) → Composition I → ℕ

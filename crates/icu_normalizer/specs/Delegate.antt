@@ -1,6 +1,6 @@
 -- Iterators of characters that others read from.
-use Rattle.std.specs.Prelude.{◌≡◌, ℕ, List, [], Option, MatchOption, ⊤}
-use Rattle.std.specs.Iterator.{Count, IsFinite}
+use Rattle.std.specs.Prelude.{◌≡◌, ℕ, ◌<◌, List, [], Option, MatchOption, OnSome, ⊤}
+use Rattle.std.specs.Iterator.{Count, IsFinite, size}
 use Rattle.normalizer_text.specs.Steps.{Spells}
 
 -- what an iterator spells behind the character that it gave last; nothing where it gave `None`
@@ -10,3 +10,8 @@ SpellsBehind gives last it x = MatchOption last (x ≡ []) (λ _. Spells gives i
 -- it may be called, and ends; nothing is asked of it where it gave `None`
 abbrev pub IsReadyBehind : {I : Type 0} → (I → Type 0) → (I → Count) → Option ℕ → I → Type 0
 IsReadyBehind can left last it = MatchOption last ⊤ (λ _. can it × IsFinite (left it))
+
+-- a call from `before` gave this and left `after`, nearer to the end behind a character
+pub record HasRead {I : Type 0} (gives : I → Option ℕ → I → Type 0) (left : I → Count) (before : I) (given : Option ℕ) (after : I) : Type 0 where
+  pub step : gives before given after
+  pub nearer : OnSome given (size (left after) < size (left before))

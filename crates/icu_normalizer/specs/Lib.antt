@@ -4,11 +4,14 @@ pub mod ComposingAcceptance
 pub mod ComposingNormalizers
 pub mod Decomposition
 pub mod Delegate
+pub mod LazyComposing
 pub mod LazyReading
 pub mod MarkRuns
 pub mod NextItem
 pub mod Normalizers
+pub mod Passing
 pub mod ReadingOn
+pub mod Spelling
 pub mod StayingMarks
 pub mod ToCome
 pub mod Waiting

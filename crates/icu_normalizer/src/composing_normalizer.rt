@@ -1,28 +1,43 @@
 //! Composing normalizers over data that a provider holds.
-ghost use Rattle.std.specs.Prelude.{◌≡◌, ◌⊎◌, ℕ, List, None, IfOk, IfErr, IsOk, IsOkUnless};
+ghost use Rattle.std.specs.Prelude.{◌≡◌, ◌⊎◌, ℕ, List, IfOk, IfErr, IsOk, IsOkUnless};
 ghost use Rattle.std.specs.Iterator.{IsFinite};
 ghost use Rattle.normal_forms.specs.Forms.{nfc};
-ghost use Rattle.normal_forms.specs.Hypotheses.{HasStarterResults};
 ghost use Rattle.normal_forms.specs.ShortRuns.{HasShortRuns};
 ghost use Rattle.normalizer_tables.specs.Characters.{has_class_form, own_reading};
 ghost use Rattle.normalizer_tables.specs.PairConditions.{composing_reading};
 ghost use Rattle.normalizer_text.specs.Steps.{Spells};
-ghost use Rattle.icu_normalizer.specs.Acceptance.{data_from, borrowed_data};
-ghost use Rattle.icu_normalizer.specs.ComposingAcceptance.{refusal_of_pairs, AcceptsForNfc, RefusesForNfc, RefusesToCompose, SuitsComposing};
+ghost use Rattle.icu_normalizer.specs.Acceptance.{
+  bounds_of,
+  data_from,
+  borrowed_data,
+  nfd_data,
+  nfkd_data,
+  AcceptsHeld,
+  NamesMissing,
+  RefusesHeld,
+};
+ghost use Rattle.icu_normalizer.specs.ComposingAcceptance.{
+  refusal_of_pairs,
+  with_pairs,
+  RefusesToCompose,
+  SuitsComposing,
+};
+ghost use Rattle.icu_normalizer.specs.LazyComposing.{SuitsLazyComposing};
 ghost use Rattle.icu_normalizer.specs.LazyReading.{SuitsLazyReading};
 
 use crate::composition::Composition;
 use crate::decomposition::Decomposition;
 use crate::error::NormalizeError;
-use crate::normalizer::{DECOMPOSING, bounds_of, refusal_of};
 use normalizer_tables::characters::{CharacterData, IgnoredCharacters};
 use normalizer_tables::check::first_failing;
-use normalizer_tables::condition::Bounds;
+use normalizer_tables::condition::{Bounds, DECOMPOSING};
+use normalizer_tables::nfd_check::refusal_of;
 use normalizer_tables::pair_check::first_failing_of_pairs;
 use normalizer_tables::pair_condition::PairCondition;
 use normalizer_tables::{
     CanonicalCompositions, DataError, DataMarkerInfo, DataProvider, DecompositionData,
     DecompositionTables, NormalizerNfcV1, NormalizerNfdDataV1, NormalizerNfdTablesV1,
+    NormalizerNfkdDataV1, NormalizerNfkdTablesV1,
 };
 
 /// How a condition on pairs that fails is answered, where the decomposition data have this marker.
@@ -43,12 +58,12 @@ fn refusal_of_pairs(marker: DataMarkerInfo, condition: PairCondition) -> DataErr
 fn check_composing(
     marker: DataMarkerInfo,
     characters: &CharacterData<'_>,
-    bounds: Bounds,
     pairs: &CanonicalCompositions,
 ) -> Result<(), DataError>
-    ensures ok { IfOk result (λ _. SuitsComposing characters.now bounds pairs.now) }
-    ensures err { IfErr result (RefusesToCompose marker characters.now bounds pairs.now) }
+    ensures ok { IfOk result (λ _. SuitsComposing (characters.now, pairs.now)) }
+    ensures err { IfErr result (RefusesToCompose marker (characters.now, pairs.now)) }
 {
+    let bounds = Bounds::of_cap(characters.cap());
     if let Some(condition) = first_failing(characters, bounds, &DECOMPOSING) {
         return Err(refusal_of(marker, condition));
     }
@@ -66,7 +81,7 @@ pub struct ComposingNormalizer {
     supplementary: Option<DecompositionTables>,
     pairs: CanonicalCompositions,
     ghost suits: { SuitsLazyReading (has_class_form (data_from decompositions tables supplementary)) (own_reading (data_from decompositions tables supplementary)) },
-    ghost starters: { HasStarterResults (composing_reading (data_from decompositions tables supplementary) pairs) },
+    ghost composing: { SuitsLazyComposing (data_from decompositions tables supplementary) (bounds_of decompositions) pairs },
 }
 
 impl ComposingNormalizer {
@@ -79,22 +94,60 @@ impl ComposingNormalizer {
         P: DataProvider<NormalizerNfdDataV1>
             + DataProvider<NormalizerNfdTablesV1>
             + DataProvider<NormalizerNfcV1>,
-        ensures ok { IfOk result (λ n. AcceptsForNfc (⟦<P as DataProvider<NormalizerNfdDataV1>>⟧.held provider.now) (⟦<P as DataProvider<NormalizerNfdTablesV1>>⟧.held provider.now) (⟦<P as DataProvider<NormalizerNfcV1>>⟧.held provider.now) (composing_data_of n) (pairs_of n)) }
-        ensures err { IfErr result (λ e. (e ≡ DataError.Memory) ⊎ RefusesForNfc (⟦<P as DataProvider<NormalizerNfdDataV1>>⟧.held provider.now) (⟦<P as DataProvider<NormalizerNfdTablesV1>>⟧.held provider.now) (⟦<P as DataProvider<NormalizerNfcV1>>⟧.held provider.now) e) }
+        ensures ok { IfOk result (λ n. AcceptsHeld SuitsComposing (with_pairs (nfd_data (⟦<P as DataProvider<NormalizerNfdDataV1>>⟧.held provider.now) (⟦<P as DataProvider<NormalizerNfdTablesV1>>⟧.held provider.now)) (⟦<P as DataProvider<NormalizerNfcV1>>⟧.held provider.now)) (composing_data_of n, pairs_of n)) }
+        ensures err { IfErr result (λ e. (e ≡ DataError.Memory) ⊎ RefusesHeld (RefusesToCompose DataMarkerInfo.NormalizerNfdDataV1) (with_pairs (nfd_data (⟦<P as DataProvider<NormalizerNfdDataV1>>⟧.held provider.now) (⟦<P as DataProvider<NormalizerNfdTablesV1>>⟧.held provider.now)) (⟦<P as DataProvider<NormalizerNfcV1>>⟧.held provider.now)) e) }
+        ensures missing { NamesMissing (with_pairs (nfd_data (⟦<P as DataProvider<NormalizerNfdDataV1>>⟧.held provider.now) (⟦<P as DataProvider<NormalizerNfdTablesV1>>⟧.held provider.now)) (⟦<P as DataProvider<NormalizerNfcV1>>⟧.held provider.now)) result }
     {
         let decompositions = <P as DataProvider<NormalizerNfdDataV1>>::load(provider)?;
         let tables = <P as DataProvider<NormalizerNfdTablesV1>>::load(provider)?;
         let pairs = <P as DataProvider<NormalizerNfcV1>>::load(provider)?;
-        match check_composing(
-            DataMarkerInfo::NormalizerNfdDataV1,
-            &CharacterData::new(&decompositions, &tables, None, false),
-            bounds_of(&decompositions),
-            &pairs,
-        ) {
+        let marker = DataMarkerInfo::NormalizerNfdDataV1;
+        Self::over(marker, decompositions, tables, None, pairs)
+    }
+
+    /// A normalizer to NFKC over what the provider holds. The data are loaded first, then the tables of canonical data, the
+    /// supplementary ones and the pairs; the first load that is refused is the answer, and else the first written condition
+    /// that they break.
+    pub fn try_new_nfkc_unstable<P>(provider: &P) -> Result<Self, DataError>
+    where
+        P: DataProvider<NormalizerNfkdDataV1>
+            + DataProvider<NormalizerNfdTablesV1>
+            + DataProvider<NormalizerNfkdTablesV1>
+            + DataProvider<NormalizerNfcV1>,
+        ensures ok { IfOk result (λ n. AcceptsHeld SuitsComposing (with_pairs (nfkd_data (⟦<P as DataProvider<NormalizerNfkdDataV1>>⟧.held provider.now) (⟦<P as DataProvider<NormalizerNfdTablesV1>>⟧.held provider.now) (⟦<P as DataProvider<NormalizerNfkdTablesV1>>⟧.held provider.now)) (⟦<P as DataProvider<NormalizerNfcV1>>⟧.held provider.now)) (composing_data_of n, pairs_of n)) }
+        ensures err { IfErr result (λ e. (e ≡ DataError.Memory) ⊎ RefusesHeld (RefusesToCompose DataMarkerInfo.NormalizerNfkdDataV1) (with_pairs (nfkd_data (⟦<P as DataProvider<NormalizerNfkdDataV1>>⟧.held provider.now) (⟦<P as DataProvider<NormalizerNfdTablesV1>>⟧.held provider.now) (⟦<P as DataProvider<NormalizerNfkdTablesV1>>⟧.held provider.now)) (⟦<P as DataProvider<NormalizerNfcV1>>⟧.held provider.now)) e) }
+        ensures missing { NamesMissing (with_pairs (nfkd_data (⟦<P as DataProvider<NormalizerNfkdDataV1>>⟧.held provider.now) (⟦<P as DataProvider<NormalizerNfdTablesV1>>⟧.held provider.now) (⟦<P as DataProvider<NormalizerNfkdTablesV1>>⟧.held provider.now)) (⟦<P as DataProvider<NormalizerNfcV1>>⟧.held provider.now)) result }
+    {
+        let decompositions = <P as DataProvider<NormalizerNfkdDataV1>>::load(provider)?;
+        let tables = <P as DataProvider<NormalizerNfdTablesV1>>::load(provider)?;
+        let supplementary = <P as DataProvider<NormalizerNfkdTablesV1>>::load(provider)?;
+        let pairs = <P as DataProvider<NormalizerNfcV1>>::load(provider)?;
+        let marker = DataMarkerInfo::NormalizerNfkdDataV1;
+        Self::over(marker, decompositions, tables, Some(supplementary), pairs)
+    }
+
+    /// A normalizer over data and pairs that were loaded, where they meet the written conditions.
+    fn over(
+        marker: DataMarkerInfo,
+        decompositions: DecompositionData,
+        tables: DecompositionTables,
+        supplementary: Option<DecompositionTables>,
+        pairs: CanonicalCompositions,
+    ) -> Result<Self, DataError>
+        ensures ok { IfOk result (λ n. (composing_data_of n ≡ data_from decompositions tables supplementary) × (pairs_of n ≡ pairs) × SuitsComposing (data_from decompositions tables supplementary, pairs)) }
+        ensures err { IfErr result (RefusesToCompose marker (data_from decompositions tables supplementary, pairs)) }
+    {
+        let characters = CharacterData::new(
+            &decompositions,
+            &tables,
+            supplementary.as_ref(),
+            false,
+        );
+        match check_composing(marker, &characters, &pairs) {
             Ok(()) => Ok(ComposingNormalizer {
                 decompositions,
                 tables,
-                supplementary: None,
+                supplementary,
                 pairs,
             }),
             Err(error) => Err(error),
@@ -123,7 +176,7 @@ pub struct ComposingNormalizerBorrowed<'a> {
     supplementary: Option<&'a DecompositionTables>,
     pairs: &'a CanonicalCompositions,
     ghost suits: { SuitsLazyReading (has_class_form (borrowed_data decompositions tables supplementary)) (own_reading (borrowed_data decompositions tables supplementary)) },
-    ghost starters: { HasStarterResults (composing_reading (borrowed_data decompositions tables supplementary) pairs.now) },
+    ghost composing: { SuitsLazyComposing (borrowed_data decompositions tables supplementary) (bounds_of decompositions.now) pairs.now },
 }
 
 impl<'a> ComposingNormalizerBorrowed<'a> {
@@ -145,12 +198,18 @@ impl<'a> ComposingNormalizerBorrowed<'a> {
         ensures refused { IsOkUnless result NormalizeError.Memory }
     {
         let decomposed = Decomposition::over(self.characters(), IgnoredCharacters::Dropped, iter)?;
-        Ok(Composition::over(decomposed, self.characters(), self.pairs))
+        Ok(Composition::over(decomposed, self.characters(), self.pairs, self.bounds()))
     }
 
     fn characters(&self) -> CharacterData<'a>
         ensures { result ≡ composing_data_of_borrowed self.now }
     {
         CharacterData::new(self.decompositions, self.tables, self.supplementary, false)
+    }
+
+    fn bounds(&self) -> Bounds
+        ensures { result ≡ bounds_of (composing_data_of_borrowed self.now).decompositions }
+    {
+        Bounds::of_cap(self.characters().cap())
     }
 }

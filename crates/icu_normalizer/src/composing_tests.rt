@@ -162,7 +162,7 @@ fn nfc_of(
 fn rows_of_nfc(rt: HostRuntime) -> Result<(), Fail> {
     let alloc = rt.alloc();
     let normalizer = small_set(alloc)?;
-    let rows: [(&[char], &[char]); 16] = [
+    let rows: [(&[char], &[char]); 18] = [
         (&[], &[]),
         (&['e', '\u{302}', '\u{323}'], &['\u{1EC7}']),
         (&['e', '\u{323}', '\u{302}'], &['\u{1EC7}']),
@@ -178,6 +178,14 @@ fn rows_of_nfc(rt: HostRuntime) -> Result<(), Fail> {
         (
             &['\u{FFFD}', 'a', '\u{308}', '\u{FFFD}'],
             &['\u{FFFD}', '\u{E4}', '\u{FFFD}'],
+        ),
+        (
+            &['a', 'b', '\u{E4}', 'a', '\u{308}', 'b', 'c'],
+            &['a', 'b', '\u{E4}', '\u{E4}', 'b', 'c'],
+        ),
+        (
+            &['\u{308}', 'a', 'b', '\u{302}', 'e', '\u{302}', 'c'],
+            &['\u{308}', 'a', 'b', '\u{302}', '\u{EA}', 'c'],
         ),
         (&['\u{1100}', '\u{1161}', '\u{11A8}'], &['\u{AC01}']),
         (&['\u{1100}', '\u{1161}'], &['\u{AC00}']),

@@ -1,11 +1,11 @@
 //! Composing text character by character (The Unicode Standard, D117, D120 and D121).
-ghost use Rattle.std.specs.Prelude.{◌≡◌, ◌≤◌, ℕ, List, Option, MatchResult, OnErr, IfOk, IfSome, ◌++◌};
-ghost use Rattle.std.specs.Iterator.{at_most};
+ghost use Rattle.std.specs.Prelude.{◌≡◌, ◌≤◌, ℕ, List, [], Option, MatchResult, OnErr, IfOk, IfSome, ◌++◌};
+ghost use Rattle.std.specs.Iterator.{at_most, MakesProgress};
 ghost use Rattle.normal_forms.specs.Forms.{nfc, nfd};
 ghost use Rattle.normal_forms.specs.Order.{order};
 ghost use Rattle.normal_forms.specs.CompositionByStarters.{join};
 ghost use Rattle.normal_forms.specs.Reading.{IsMark, Reading};
-ghost use Rattle.normal_forms.specs.Hypotheses.{HasFaithfulResults, HasStarterResults};
+ghost use Rattle.normal_forms.specs.Hypotheses.{HasFaithfulResults};
 ghost use Rattle.normal_forms.specs.ShortRuns.{places, HasShortRuns};
 ghost use Rattle.normalizer_tables.specs.declared.characters.IgnoredCharacters.{IgnoredCharacters};
 ghost use Rattle.normalizer_tables.specs.Characters.{has_class_form, list_of};
@@ -13,6 +13,8 @@ ghost use Rattle.normalizer_tables.specs.Ignored.{ignored_list};
 ghost use Rattle.normalizer_tables.specs.Pairs.{pair_of};
 ghost use Rattle.icu_normalizer.specs.Decomposition.{CanDecompose};
 ghost use Rattle.icu_normalizer.specs.Decomposition as decomposition;
+ghost use Rattle.icu_normalizer.specs.LazyComposing.{SuitsLazyComposing};
+ghost use Rattle.icu_normalizer.specs.Passing.{IsAtPassed};
 ghost use Rattle.icu_normalizer.specs.LazyReading.{decomposing_reading, SuitsLazyReading};
 ghost use Rattle.icu_normalizer.specs.StayingMarks.{staying, used, BlocksBelow};
 ghost use Rattle.icu_normalizer.specs.Composing.{
@@ -24,16 +26,20 @@ ghost use Rattle.icu_normalizer.specs.Composing.{
   CompositionSteps,
   GivesShort,
   HasVisited,
+  IsBeforeStarter,
   StaysShort,
+  WherePassed,
   WillGive,
   items_left,
 };
 
 use crate::decomposition::Decomposition;
+use crate::decomposition::passing::Given;
 use crate::error::NormalizeError;
 use crate::marks::StayingMarks;
 use normalizer_tables::CanonicalCompositions;
 use normalizer_tables::characters::CharacterData;
+use normalizer_tables::condition::Bounds;
 use std::alloc::AllocError;
 
 /// The characters of a text, decomposed, in canonical order, and composed.
@@ -45,6 +51,7 @@ pub struct Composition<'data, I> {
     decomposed: Decomposition<'data, I>,
     characters: CharacterData<'data>,
     pairs: &'data CanonicalCompositions,
+    bounds: Bounds,
     marks: StayingMarks,
     ahead: Ahead,
 }
@@ -54,6 +61,8 @@ pub struct Composition<'data, I> {
 enum Ahead {
     /// What is decomposed, where no starter has come yet.
     NoStarter,
+    /// A character that is passed, not yet decomposed, if any is left.
+    Passed,
     /// A starter, and what is decomposed behind it.
     Starter(char),
     /// Nothing.
@@ -77,9 +86,11 @@ impl<'data, I: Iterator<Item = char> + Drop> Composition<'data, I> {
         decomposed: Decomposition<'data, I>,
         characters: CharacterData<'data>,
         pairs: &'data CanonicalCompositions,
+        bounds: Bounds,
     ) -> Self
         requires can { CanDecompose I.can_next I.remaining decomposed }
-        requires starters { HasStarterResults (pairing_reading characters pairs.now) }
+        requires same { decomposed.characters ≡ characters }
+        requires suits { SuitsLazyComposing characters bounds pairs.now }
         ensures text { (ignored : IgnoredCharacters) (x : List ℕ) → decomposition.WillGive I.next_gives decomposed.entry (nfd (decomposing_reading characters.entry ignored) x) → WillGive I.next_gives result (nfc (composing_reading characters.entry ignored pairs.now) x) }
         ensures short { (ignored : IgnoredCharacters) (x : List ℕ) → SuitsLazyReading (has_class_form characters.entry) (decomposing_reading characters.entry ignored) → decomposition.WillGive I.next_gives decomposed.entry (nfd (decomposing_reading characters.entry ignored) x) → decomposition.StaysShort I.next_gives decomposed.entry → HasShortRuns (has_class_form characters.entry) (decomposing_reading characters.entry ignored) x → StaysShort I.next_gives result }
         ensures ready { CanCompose I.can_next I.remaining result }
@@ -90,6 +101,7 @@ impl<'data, I: Iterator<Item = char> + Drop> Composition<'data, I> {
             decomposed,
             characters,
             pairs,
+            bounds,
             marks,
             ahead: Ahead::NoStarter,
         }
@@ -112,6 +124,7 @@ impl<'data, I: Iterator<Item = char> + Drop> Composition<'data, I> {
             &mut self.decomposed,
             &self.characters,
             self.pairs,
+            self.bounds,
             &mut self.marks,
             starter,
         ) {
@@ -126,24 +139,61 @@ impl<'data, I: Iterator<Item = char> + Drop> Composition<'data, I> {
             }
         }
     }
+
+    /// Gives a character that is passed as it is, or composes it with what follows it.
+    fn pass(&mut self) -> Option<Result<char, NormalizeError>>
+        requires can { CanCompose I.can_next I.remaining self.old }
+        requires marks { staying self.old.marks ≡ [] }
+        requires ahead { IsBeforeStarter self.old.ahead }
+        requires at_passed { IsAtPassed self.old.pairs.now self.old.decomposed }
+        ensures steps { CompositionSteps I.can_next I.next_gives I.remaining self.old result self.new }
+        ensures goes { MakesProgress (CanCompose I.can_next I.remaining) (λ s. at_most (items_left I.remaining s)) self.old result self.new }
+    {
+        match self.decomposed.pass(self.bounds) {
+            Some(Ok(Given::Itself(character))) => {
+                self.ahead = Ahead::Passed;
+                Some(Ok(character))
+            }
+            Some(Ok(Given::FirstMember(starter))) => {
+                self.ahead = Ahead::NoStarter;
+                Some(self.compose_on(starter))
+            }
+            Some(Err(error)) => {
+                self.ahead = Ahead::Ended;
+                Some(Err(error))
+            }
+            None => {
+                self.ahead = Ahead::Ended;
+                None
+            }
+        }
+    }
 }
 
-/// What a starter becomes by the characters that follow it, up to the next starter that doesn't join; and what is ahead
-/// then, behind the marks that stay.
+/// What a starter becomes by the characters that follow it, up to a character that is passed or the next starter that
+/// doesn't join; and what is ahead then, behind the marks that stay.
 fn compose_starter<I: Iterator<Item = char> + Drop>(
     decomposed: &mut Decomposition<'_, I>,
     characters: &CharacterData<'_>,
     pairs: &CanonicalCompositions,
+    bounds: Bounds,
     marks: &mut StayingMarks,
     starter: char,
 ) -> Result<(char, Ahead), NormalizeError>
-    requires { CanDecompose I.can_next I.remaining decomposed.old }
+    requires can { CanDecompose I.can_next I.remaining decomposed.old }
+    requires same { decomposed.old.characters ≡ characters.now }
+    requires suits { SuitsLazyComposing characters.now bounds pairs.now }
     ensures ready { CanDecompose I.can_next I.remaining decomposed.new }
+    ensures same { decomposed.new.characters ≡ characters.now }
+    ensures passed { IfOk result (λ r. WherePassed r.1 (IsAtPassed pairs.now decomposed.new)) }
     ensures steps { MatchResult result (λ r. ComposesStarter I.next_gives I.remaining (pairing_reading characters.now pairs.now) starter decomposed.old r.0 (staying marks.new) r.1 decomposed.new) (λ e. (e ≡ NormalizeError.Memory) × (¬ GivesShort I.next_gives (pairing_reading characters.now pairs.now) decomposed.old)) }
 {
     let mut composite = starter;
     marks.clear();
-    while let Some(item) = decomposed.next() {
+    while !decomposed.is_at_passed(bounds) {
+        let Some(item) = decomposed.next() else {
+            return Ok((composite, Ahead::Ended));
+        };
         let character = match item {
             Ok(character) => character,
             Err(error) => return Err(error),
@@ -155,7 +205,7 @@ fn compose_starter<I: Iterator<Item = char> + Drop>(
             Err(_) => return Err(NormalizeError::Memory),
         }
     }
-    Ok((composite, Ahead::Ended))
+    Ok((composite, Ahead::Passed))
 }
 
 /// Joins a character with a starter if none of the marks between them blocks it and the two compose; else a mark stays.
@@ -214,23 +264,29 @@ impl<'data, I: Iterator<Item = char> + Drop> Iterator for Composition<'data, I> 
         match self.ahead {
             Ahead::Ended => None,
             Ahead::Starter(starter) => Some(self.compose_on(starter)),
-            Ahead::NoStarter => match self.decomposed.next() {
-                Some(Ok(character)) => {
-                    if self.characters.class_of(character) == 0 {
-                        Some(self.compose_on(character))
-                    } else {
-                        Some(Ok(character))
+            Ahead::Passed => self.pass(),
+            Ahead::NoStarter => {
+                if self.decomposed.is_at_passed(self.bounds) {
+                    return self.pass();
+                }
+                match self.decomposed.next() {
+                    Some(Ok(character)) => {
+                        if self.characters.class_of(character) == 0 {
+                            Some(self.compose_on(character))
+                        } else {
+                            Some(Ok(character))
+                        }
+                    }
+                    Some(Err(error)) => {
+                        self.ahead = Ahead::Ended;
+                        Some(Err(error))
+                    }
+                    None => {
+                        self.ahead = Ahead::Ended;
+                        None
                     }
                 }
-                Some(Err(error)) => {
-                    self.ahead = Ahead::Ended;
-                    Some(Err(error))
-                }
-                None => {
-                    self.ahead = Ahead::Ended;
-                    None
-                }
-            },
+            }
         }
     }
 }

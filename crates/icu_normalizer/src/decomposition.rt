@@ -1,11 +1,12 @@
 //! Decomposing text character by character (The Unicode Standard, D118 and D119).
-ghost use Rattle.std.specs.Prelude.{◌≡◌, ℕ, List, [], false, Ok, IfOk, OnOk, OnErr, IsOk, IsOkUnless};
+ghost use Rattle.std.specs.Prelude.{◌≡◌, ℕ, List, [], None, false, Ok, IfOk, IfErr, OnOk, OnErr, IsOk, IsOkUnless};
 ghost use Rattle.std.specs.Option.{ForSome};
 ghost use Rattle.std.specs.Iterator.{at_most, IsFinite};
 ghost use Rattle.normal_forms.specs.Forms.{nfd};
 ghost use Rattle.normal_forms.specs.ShortRuns.{continues, HasShortRuns};
 ghost use Rattle.normalizer_tables.specs.Characters.{has_class_form};
 ghost use Rattle.normalizer_text.specs.Steps.{Spells};
+ghost use Rattle.icu_normalizer.specs.Delegate.{HasRead, IsReadyBehind};
 ghost use Rattle.icu_normalizer.specs.LazyReading.{decomposing_reading, SuitsLazyReading};
 ghost use Rattle.icu_normalizer.specs.WaitingList.{unordered};
 ghost use Rattle.icu_normalizer.specs.ReadingOn.{ReadsChunk, ChunkDidNotFit};
@@ -15,6 +16,8 @@ use crate::reading::{push_from, read_on};
 use crate::waiting::WaitingList;
 use normalizer_tables::characters::{CharacterData, IgnoredCharacters};
 use std::alloc::AllocError;
+
+pub(crate) mod passing;
 
 /// The characters of a text, decomposed and in canonical order.
 ///
@@ -33,7 +36,7 @@ pub struct Decomposition<'data, I> {
 }
 
 impl<'data, I: Iterator<Item = char> + Drop> Decomposition<'data, I> {
-    ghost use Rattle.icu_normalizer.specs.Decomposition.{WillGive, StaysShort, CanDecompose};
+    ghost use Rattle.icu_normalizer.specs.Decomposition.{WillGive, StaysShort, CanDecompose, IsEnded};
 
     /// Reads the delegate up to its first character that begins anew.
     pub(crate) fn over(
@@ -48,10 +51,12 @@ impl<'data, I: Iterator<Item = char> + Drop> Decomposition<'data, I> {
         ensures short { IfOk result (λ it. (x : List ℕ) → Spells I.next_gives delegate x → HasShortRuns (has_class_form characters.entry) (decomposing_reading characters.entry ignored) x → StaysShort I.next_gives it) }
         ensures succeeds { (x : List ℕ) → Spells I.next_gives delegate x → HasShortRuns (has_class_form characters.entry) (decomposing_reading characters.entry ignored) x → IsOk result }
         ensures ready { IfOk result (CanDecompose I.can_next I.remaining) }
+        ensures kept { IfOk result (λ it. (it.characters ≡ characters.entry) × (it.ignored ≡ ignored)) }
         ensures refused { IsOkUnless result NormalizeError.Memory }
     {
         let mut waiting = WaitingList::new(characters.allocator());
-        match read_on(&characters, ignored, &mut delegate, &mut waiting) {
+        let first = delegate.next();
+        match read_on(&characters, ignored, first, &mut delegate, &mut waiting) {
             Ok(pending) => Ok(Decomposition {
                 characters,
                 ignored,
@@ -62,22 +67,55 @@ impl<'data, I: Iterator<Item = char> + Drop> Decomposition<'data, I> {
             Err(_) => Err(NormalizeError::Memory),
         }
     }
+
+    /// The first member of the list of the character that was pending. The one behind it was read.
+    fn next_chunk(
+        &mut self,
+        character: char,
+        following: Option<char>,
+    ) -> Result<char, NormalizeError>
+        requires taken { self.old.pending ≡ None }
+        requires anew { continues (has_class_form self.old.characters) (decomposing_reading self.old.characters self.old.ignored) character ≡ false }
+        requires ready { IsReadyBehind I.can_next I.remaining following self.old.delegate }
+        requires read { (before : I) × HasRead I.next_gives I.remaining before following self.old.delegate }
+        ensures ok { IfOk result (λ first. (before : I) → HasRead I.next_gives I.remaining before following self.old.delegate → ReadsChunk I.can_next I.next_gives I.remaining (has_class_form self.old.characters) (decomposing_reading self.old.characters self.old.ignored) character before first self.new.pending self.new.delegate self.new.waiting) }
+        ensures err { IfErr result (λ e. (e ≡ NormalizeError.Memory) × IsEnded self.new × ((before : I) → HasRead I.next_gives I.remaining before following self.old.delegate → ChunkDidNotFit I.next_gives (has_class_form self.old.characters) (decomposing_reading self.old.characters self.old.ignored) character before)) }
+        ensures kept { (self.new.characters ≡ self.old.characters) × (self.new.ignored ≡ self.old.ignored) }
+    {
+        match read_chunk(
+            &self.characters,
+            self.ignored,
+            character,
+            following,
+            &mut self.delegate,
+            &mut self.waiting,
+        ) {
+            Ok((first, pending)) => {
+                self.pending = pending;
+                Ok(first)
+            }
+            Err(_) => {
+                self.waiting.clear();
+                Err(NormalizeError::Memory)
+            }
+        }
+    }
 }
 
 /// The first member of the list of a character that begins anew; the others wait, with the lists of the characters that
-/// continue it, and the next one that begins anew is found.
+/// continue it, and the next one that begins anew is found. The one behind it was read.
 fn read_chunk<I: Iterator<Item = char> + Drop>(
     characters: &CharacterData<'_>,
     ignored: IgnoredCharacters,
     character: char,
+    following: Option<char>,
     delegate: &mut I,
     waiting: &mut WaitingList,
 ) -> Result<(char, Option<char>), AllocError>
-    requires can { I.can_next delegate.old }
-    requires ends { IsFinite (I.remaining delegate.old) }
+    requires ready { IsReadyBehind I.can_next I.remaining following delegate.old }
     requires anew { continues (has_class_form characters.now) (decomposing_reading characters.now ignored) character ≡ false }
-    ensures ok { IfOk result (λ r. ReadsChunk I.can_next I.next_gives I.remaining (has_class_form characters.now) (decomposing_reading characters.now ignored) character delegate.old r.0 r.1 delegate.new waiting.new) }
-    ensures err { OnErr result (ChunkDidNotFit I.next_gives (has_class_form characters.now) (decomposing_reading characters.now ignored) character delegate.old) }
+    ensures ok { IfOk result (λ r. (before : I) → HasRead I.next_gives I.remaining before following delegate.old → ReadsChunk I.can_next I.next_gives I.remaining (has_class_form characters.now) (decomposing_reading characters.now ignored) character before r.0 r.1 delegate.new waiting.new) }
+    ensures err { OnErr result ((before : I) → HasRead I.next_gives I.remaining before following delegate.old → ChunkDidNotFit I.next_gives (has_class_form characters.now) (decomposing_reading characters.now ignored) character before) }
 {
     let members = characters.members(character, ignored);
     let Some(first) = members.get(0) else {
@@ -85,7 +123,7 @@ fn read_chunk<I: Iterator<Item = char> + Drop>(
     };
     waiting.clear();
     push_from(characters, &members, 1, waiting)?;
-    let pending = read_on(characters, ignored, delegate, waiting)?;
+    let pending = read_on(characters, ignored, following, delegate, waiting)?;
     Ok((first, pending))
 }
 
@@ -105,21 +143,7 @@ impl<'data, I: Iterator<Item = char> + Drop> Iterator for Decomposition<'data, I
             return Some(Ok(character));
         }
         let character = self.pending.take()?;
-        match read_chunk(
-            &self.characters,
-            self.ignored,
-            character,
-            &mut self.delegate,
-            &mut self.waiting,
-        ) {
-            Ok((first, pending)) => {
-                self.pending = pending;
-                Some(Ok(first))
-            }
-            Err(_) => {
-                self.waiting.clear();
-                Some(Err(NormalizeError::Memory))
-            }
-        }
+        let following = self.delegate.next();
+        Some(self.next_chunk(character, following))
     }
 }

@@ -4,58 +4,34 @@ ghost use Rattle.std.specs.Iterator.{IsFinite};
 ghost use Rattle.normal_forms.specs.Forms.{nfd};
 ghost use Rattle.normal_forms.specs.ShortRuns.{HasShortRuns};
 ghost use Rattle.normalizer_tables.specs.Characters.{has_class_form, own_reading};
-ghost use Rattle.normalizer_tables.specs.declared.provider.DataMarkerInfo.TheVariants as marker;
 ghost use Rattle.normalizer_text.specs.Steps.{Spells};
-ghost use Rattle.icu_normalizer.specs.Acceptance.{bounds_of, refusal_of, data_from, borrowed_data, AcceptsForNfd, RefusesForNfd};
+ghost use Rattle.icu_normalizer.specs.Acceptance.{
+  data_from,
+  borrowed_data,
+  nfd_data,
+  nfkd_data,
+  AcceptsHeld,
+  NamesMissing,
+  RefusesHeld,
+  RefusesToDecompose,
+  SuitsDecomposing,
+};
 ghost use Rattle.icu_normalizer.specs.LazyReading.{SuitsLazyReading};
 
 use crate::decomposition::Decomposition;
 use crate::error::NormalizeError;
 use normalizer_tables::characters::{CharacterData, IgnoredCharacters};
 use normalizer_tables::check::first_failing;
-use normalizer_tables::condition::{Bounds, Condition};
+use normalizer_tables::condition::{Bounds, DECOMPOSING};
+use normalizer_tables::nfd_check::refusal_of;
 use normalizer_tables::{
     DataError, DataMarkerInfo, DataProvider, DecompositionData, DecompositionTables,
-    NormalizerNfdDataV1, NormalizerNfdTablesV1,
+    NormalizerNfdDataV1, NormalizerNfdTablesV1, NormalizerNfkdDataV1, NormalizerNfkdTablesV1,
 };
 
-/// The conditions that are asked of data where text is decomposed.
-pub(crate) static DECOMPOSING: [Condition; 10] = [
-    Condition::ItemLimit,
-    Condition::CapLimit,
-    Condition::ReplacementCharacter,
-    Condition::Surrogates,
-    Condition::PastTheEnd,
-    Condition::Hangul,
-    Condition::Words,
-    Condition::Members,
-    Condition::Order,
-    Condition::Passthrough,
-];
-
-/// Below which numbers characters pass unseen.
-pub(crate) fn bounds_of(decompositions: &DecompositionData) -> Bounds
-    ensures { result ≡ bounds_of decompositions.now }
-{
-    let cap = decompositions.passthrough_cap as u32;
-    Bounds {
-        decomposition: cap.min(0xC0),
-        composition: cap.min(0x0300),
-    }
-}
-
-/// How a condition that fails is answered, where the decomposition data have this marker.
-pub(crate) fn refusal_of(marker: DataMarkerInfo, condition: Condition) -> DataError
-    ensures { result ≡ refusal_of marker condition }
-{
-    if condition == Condition::ItemLimit {
-        return DataError::FutureExtension(DataMarkerInfo::NormalizerNfdTablesV1);
-    }
-    DataError::Invalid {
-        marker,
-        condition: condition.number(),
-    }
-}
+#[cfg(test)]
+mod tests;
+mod unchecked;
 
 /// A normalizer to a decomposed form.
 #[derive(Drop)]
@@ -74,21 +50,58 @@ impl DecomposingNormalizer {
     pub fn try_new_nfd_unstable<P>(provider: &P) -> Result<Self, DataError>
     where
         P: DataProvider<NormalizerNfdDataV1> + DataProvider<NormalizerNfdTablesV1>,
-        ensures ok { IfOk result (λ n. AcceptsForNfd (⟦<P as DataProvider<NormalizerNfdDataV1>>⟧.held provider.now) (⟦<P as DataProvider<NormalizerNfdTablesV1>>⟧.held provider.now) (data_of n)) }
-        ensures err { IfErr result (λ e. (e ≡ DataError.Memory) ⊎ RefusesForNfd (⟦<P as DataProvider<NormalizerNfdDataV1>>⟧.held provider.now) (⟦<P as DataProvider<NormalizerNfdTablesV1>>⟧.held provider.now) e) }
+        ensures ok { IfOk result (λ n. AcceptsHeld SuitsDecomposing (nfd_data (⟦<P as DataProvider<NormalizerNfdDataV1>>⟧.held provider.now) (⟦<P as DataProvider<NormalizerNfdTablesV1>>⟧.held provider.now)) (data_of n)) }
+        ensures err { IfErr result (λ e. (e ≡ DataError.Memory) ⊎ RefusesHeld (RefusesToDecompose DataMarkerInfo.NormalizerNfdDataV1) (nfd_data (⟦<P as DataProvider<NormalizerNfdDataV1>>⟧.held provider.now) (⟦<P as DataProvider<NormalizerNfdTablesV1>>⟧.held provider.now)) e) }
+        ensures missing { NamesMissing (nfd_data (⟦<P as DataProvider<NormalizerNfdDataV1>>⟧.held provider.now) (⟦<P as DataProvider<NormalizerNfdTablesV1>>⟧.held provider.now)) result }
     {
         let decompositions = <P as DataProvider<NormalizerNfdDataV1>>::load(provider)?;
         let tables = <P as DataProvider<NormalizerNfdTablesV1>>::load(provider)?;
-        match first_failing(
-            &CharacterData::new(&decompositions, &tables, None, false),
-            bounds_of(&decompositions),
-            &DECOMPOSING,
-        ) {
-            Some(condition) => Err(refusal_of(DataMarkerInfo::NormalizerNfdDataV1, condition)),
+        let marker = DataMarkerInfo::NormalizerNfdDataV1;
+        Self::over(marker, decompositions, tables, None)
+    }
+
+    /// A normalizer to NFKD over what the provider holds. The data are loaded first, then the tables of canonical data and
+    /// then the supplementary ones; the first load that is refused is the answer, and else the first written condition that
+    /// the data break.
+    pub fn try_new_nfkd_unstable<P>(provider: &P) -> Result<Self, DataError>
+    where
+        P: DataProvider<NormalizerNfkdDataV1>
+            + DataProvider<NormalizerNfdTablesV1>
+            + DataProvider<NormalizerNfkdTablesV1>,
+        ensures ok { IfOk result (λ n. AcceptsHeld SuitsDecomposing (nfkd_data (⟦<P as DataProvider<NormalizerNfkdDataV1>>⟧.held provider.now) (⟦<P as DataProvider<NormalizerNfdTablesV1>>⟧.held provider.now) (⟦<P as DataProvider<NormalizerNfkdTablesV1>>⟧.held provider.now)) (data_of n)) }
+        ensures err { IfErr result (λ e. (e ≡ DataError.Memory) ⊎ RefusesHeld (RefusesToDecompose DataMarkerInfo.NormalizerNfkdDataV1) (nfkd_data (⟦<P as DataProvider<NormalizerNfkdDataV1>>⟧.held provider.now) (⟦<P as DataProvider<NormalizerNfdTablesV1>>⟧.held provider.now) (⟦<P as DataProvider<NormalizerNfkdTablesV1>>⟧.held provider.now)) e) }
+        ensures missing { NamesMissing (nfkd_data (⟦<P as DataProvider<NormalizerNfkdDataV1>>⟧.held provider.now) (⟦<P as DataProvider<NormalizerNfdTablesV1>>⟧.held provider.now) (⟦<P as DataProvider<NormalizerNfkdTablesV1>>⟧.held provider.now)) result }
+    {
+        let decompositions = <P as DataProvider<NormalizerNfkdDataV1>>::load(provider)?;
+        let tables = <P as DataProvider<NormalizerNfdTablesV1>>::load(provider)?;
+        let supplementary = <P as DataProvider<NormalizerNfkdTablesV1>>::load(provider)?;
+        let marker = DataMarkerInfo::NormalizerNfkdDataV1;
+        Self::over(marker, decompositions, tables, Some(supplementary))
+    }
+
+    /// A normalizer over data that were loaded, where they meet the written conditions.
+    fn over(
+        marker: DataMarkerInfo,
+        decompositions: DecompositionData,
+        tables: DecompositionTables,
+        supplementary: Option<DecompositionTables>,
+    ) -> Result<Self, DataError>
+        ensures ok { IfOk result (λ n. (data_of n ≡ data_from decompositions tables supplementary) × SuitsDecomposing (data_from decompositions tables supplementary)) }
+        ensures err { IfErr result (RefusesToDecompose marker (data_from decompositions tables supplementary)) }
+    {
+        let characters = CharacterData::new(
+            &decompositions,
+            &tables,
+            supplementary.as_ref(),
+            false,
+        );
+        let bounds = Bounds::of_cap(characters.cap());
+        match first_failing(&characters, bounds, &DECOMPOSING) {
+            Some(condition) => Err(refusal_of(marker, condition)),
             None => Ok(DecomposingNormalizer {
                 decompositions,
                 tables,
-                supplementary: None,
+                supplementary,
             }),
         }
     }

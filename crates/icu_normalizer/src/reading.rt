@@ -1,9 +1,9 @@
 //! Reading characters on, until one begins anew.
 ghost use Rattle.std.specs.Prelude.{◌≡◌, ◌+◌, ◌≤◌, ℕ, List, ◌++◌, length, drop, IsOk, IfOk, OnOk, OnErr};
-ghost use Rattle.std.specs.Iterator.{IsFinite};
 ghost use Rattle.normal_forms.specs.Reading.{Reading};
 ghost use Rattle.normal_forms.specs.ShortRuns.{places};
 ghost use Rattle.normalizer_tables.specs.Characters.{has_class_form};
+ghost use Rattle.icu_normalizer.specs.Delegate.{HasRead, IsReadyBehind};
 ghost use Rattle.icu_normalizer.specs.WaitingList.{held, reordered, AgreesWith};
 ghost use Rattle.icu_normalizer.specs.LazyReading.{decomposing_reading, HasClassesFrom};
 ghost use Rattle.icu_normalizer.specs.ReadingOn.{ReadsOn, DidNotFit};
@@ -14,26 +14,28 @@ use normalizer_tables::members::Members;
 use std::alloc::AllocError;
 
 /// Lets the characters that continue what stands before them wait, in canonical order, up to the first one that begins
-/// anew: that one is the answer, and it does not wait. None where the delegate has ended.
+/// anew: that one is the answer, and it does not wait. None where the delegate has ended. The first was read before.
 pub(crate) fn read_on<I: Iterator<Item = char> + Drop>(
     characters: &CharacterData<'_>,
     ignored: IgnoredCharacters,
+    first: Option<char>,
     delegate: &mut I,
     waiting: &mut WaitingList,
 ) -> Result<Option<char>, AllocError>
-    requires can { I.can_next delegate.old }
-    requires ends { IsFinite (I.remaining delegate.old) }
+    requires ready { IsReadyBehind I.can_next I.remaining first delegate.old }
     requires classes { AgreesWith (decomposing_reading characters.now ignored) waiting.old }
-    ensures ok { IfOk result (λ pending. ReadsOn I.can_next I.next_gives I.remaining (has_class_form characters.now) (decomposing_reading characters.now ignored) delegate.old waiting.old pending delegate.new waiting.new) }
-    ensures err { OnErr result (DidNotFit I.next_gives (has_class_form characters.now) (decomposing_reading characters.now ignored) delegate.old waiting.old) }
+    ensures ok { IfOk result (λ pending. (before : I) → HasRead I.next_gives I.remaining before first delegate.old → ReadsOn I.can_next I.next_gives I.remaining (has_class_form characters.now) (decomposing_reading characters.now ignored) before waiting.old pending delegate.new waiting.new) }
+    ensures err { OnErr result ((before : I) → HasRead I.next_gives I.remaining before first delegate.old → DidNotFit I.next_gives (has_class_form characters.now) (decomposing_reading characters.now ignored) before waiting.old) }
 {
-    while let Some(character) = delegate.next() {
+    let mut next = first;
+    while let Some(character) = next {
         let members = characters.members(character, ignored);
         if !members.is_empty() && !characters.has_class_form(character) {
             waiting.put_in_order();
             return Ok(Some(character));
         }
         push_from(characters, &members, 0, waiting)?;
+        next = delegate.next();
     }
     waiting.put_in_order();
     Ok(None)

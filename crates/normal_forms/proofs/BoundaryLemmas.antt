@@ -25,11 +25,11 @@ pub nfd-boundary : (d : Reading) (u v : List ℕ) → BeginsWithStarter d (expan
 unfolding nfd
 nfd-boundary d u v begins = ap (order d) (expand-append d u v) ∙ order-boundary d (expand d u) (expand d v) begins
 
-BeginsWithStarter-from_safely : (d : Reading) (x : List ℕ) → BeginsSafely d x → BeginsWithStarter d x
+pub BeginsWithStarter-from_safely : (d : Reading) (x : List ℕ) → BeginsSafely d x → BeginsWithStarter d x
 BeginsWithStarter-from_safely d [] begins = tt
 BeginsWithStarter-from_safely d (s ∷ x) begins = begins.0
 
-BeginsSafely-order : (d : Reading) (x : List ℕ) → BeginsSafely d x → BeginsSafely d (order d x)
+pub BeginsSafely-order : (d : Reading) (x : List ℕ) → BeginsSafely d x → BeginsSafely d (order d x)
 unfolding order
 BeginsSafely-order d [] begins = tt
 BeginsSafely-order d (s ∷ x) begins = subst (BeginsSafely d) (sym (order-from_starter d s x begins.0)) begins

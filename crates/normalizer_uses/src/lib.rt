@@ -1,16 +1,34 @@
 //! Uses of `icu_normalizer`, as a caller writes them.
 #![tactic(auto)]
 
-ghost use Rattle.std.specs.Prelude.{◌≡◌, ℕ, List, IfOk, IsOk, IsOkUnless, chars};
-ghost use Rattle.normal_forms.specs.Forms.{nfd};
+ghost use Rattle.std.specs.Prelude.{◌≡◌, ◌⊎◌, ℕ, List, IfOk, IfErr, IsOk, IsOkUnless, chars};
+ghost use Rattle.std.specs.Iterator.{IsFinite};
+ghost use Rattle.normal_forms.specs.Forms.{nfc, nfd};
 ghost use Rattle.normal_forms.specs.ShortRuns.{HasShortRuns};
-ghost use Rattle.normalizer_tables.specs.Characters.{has_class_form, own_reading};
+ghost use Rattle.normalizer_tables.specs.declared.provider.DataMarkerInfo.TheVariants as marker;
+ghost use Rattle.normalizer_tables.specs.Characters.{has_class_form, own_reading, Characters};
+ghost use Rattle.normalizer_tables.specs.NfdData.{nfd_bounds, nfd_characters, nfd_conditions};
+ghost use Rattle.normalizer_tables.specs.PairConditions.{composing_reading};
+ghost use Rattle.normalizer_tables.specs.Pairs.{Pair};
+ghost use Rattle.normalizer_tables.specs.Refusals.{RefusesFirstFailing};
 ghost use Rattle.normalizer_text.specs.Utf8.{decoded_utf8};
+ghost use Rattle.icu_normalizer.specs.Acceptance.{nfkd_data, AcceptsHeld};
+ghost use Rattle.icu_normalizer.specs.ComposingAcceptance.{with_pairs, SuitsComposing};
+ghost use Rattle.icu_normalizer.specs.ComposingNormalizers.{
+  composing_data_of_borrowed,
+  pairs_of_borrowed,
+};
 ghost use Rattle.icu_normalizer.specs.Normalizers.{data_of_borrowed};
 ghost use Rattle.icu_normalizer.specs.Decomposition.{WillGive, StaysShort, CanDecompose};
+ghost use Rattle.icu_normalizer.specs.Spelling.{SpellsUnlessErr};
 ghost use Rattle.normalizer_uses.specs.Last.{last_of};
 
-use icu_normalizer::{DecomposingNormalizerBorrowed, Decomposition, NormalizeError, Utf8Chars};
+use icu_normalizer::{
+    ComposingNormalizer, ComposingNormalizerBorrowed, DataError, DataProvider,
+    DecomposingNormalizerBorrowed, Decomposition, DecompositionData, DecompositionTables,
+    NormalizeError, NormalizerNfcV1, NormalizerNfdTablesV1, NormalizerNfkdDataV1,
+    NormalizerNfkdTablesV1, Utf8Chars, check_nfd_data,
+};
 use std::alloc::Global;
 
 /// The NFD of the text that bytes decode to.
@@ -37,18 +55,67 @@ pub fn nfd_of_text(
     collected(alloc, normalizer.normalize_iter(text.chars())?)
 }
 
-/// All that is still to come.
-pub fn collected<I: Iterator<Item = char> + Drop>(
+/// The NFD of the text that bytes decode to, by data that are tested once and then taken as they are.
+pub fn nfd_by_data(
     alloc: Global,
-    items: Decomposition<'_, I>,
+    decompositions: &DecompositionData,
+    tables: &DecompositionTables,
+    bytes: &[u8],
+) -> Result<Vec<char>, DataError>
+    ensures form { IfOk result (λ v. v.items ≡ nfd (own_reading (nfd_characters decompositions.now tables.now)) (decoded_utf8 bytes.now)) }
+    ensures refused { IfErr result (λ e. (e ≡ DataError.Memory) ⊎ RefusesFirstFailing marker.NormalizerNfdDataV1 (nfd_characters decompositions.now tables.now) nfd_bounds nfd_conditions e) }
+{
+    check_nfd_data(decompositions, tables)?;
+    let normalizer = DecomposingNormalizerBorrowed::new_with_data(decompositions, tables);
+    match nfd_of_bytes(alloc, &normalizer, bytes) {
+        Ok(form) => Ok(form),
+        Err(_) => Err(DataError::Memory),
+    }
+}
+
+/// The NFC of the text that bytes decode to.
+pub fn nfc_of_bytes(
+    alloc: Global,
+    normalizer: &ComposingNormalizerBorrowed<'_>,
+    bytes: &[u8],
 ) -> Result<Vec<char>, NormalizeError>
-    requires { CanDecompose I.can_next I.remaining items }
-    ensures all { IfOk result (λ v. (out : List ℕ) → WillGive I.next_gives items.entry out → v.items ≡ out) }
+    ensures form { IfOk result (λ v. v.items ≡ nfc (composing_reading (composing_data_of_borrowed normalizer.now) (pairs_of_borrowed normalizer.now)) (decoded_utf8 bytes.now)) }
+    ensures refused { IsOkUnless result NormalizeError.Memory }
+{
+    collected(alloc, normalizer.normalize_iter(Utf8Chars::new(bytes))?)
+}
+
+/// The NFKC of the text that bytes decode to, by what a provider holds.
+pub fn nfkc_of_bytes<P>(alloc: Global, provider: &P, bytes: &[u8]) -> Result<Vec<char>, DataError>
+where
+    P: DataProvider<NormalizerNfkdDataV1>
+        + DataProvider<NormalizerNfdTablesV1>
+        + DataProvider<NormalizerNfkdTablesV1>
+        + DataProvider<NormalizerNfcV1>,
+    ensures { IfOk result (λ v. (held : Characters × List Pair) × AcceptsHeld SuitsComposing (with_pairs (nfkd_data (⟦<P as DataProvider<NormalizerNfkdDataV1>>⟧.held provider.now) (⟦<P as DataProvider<NormalizerNfdTablesV1>>⟧.held provider.now) (⟦<P as DataProvider<NormalizerNfkdTablesV1>>⟧.held provider.now)) (⟦<P as DataProvider<NormalizerNfcV1>>⟧.held provider.now)) held × (v.items ≡ nfc (composing_reading held.0 held.1) (decoded_utf8 bytes.now))) }
+{
+    let normalizer = ComposingNormalizer::try_new_nfkc_unstable(provider)?;
+    match nfc_of_bytes(alloc, &normalizer.as_borrowed(), bytes) {
+        Ok(form) => Ok(form),
+        Err(_) => Err(DataError::Memory),
+    }
+}
+
+/// All that is still to come, up to the first fault, which is want of memory.
+pub fn collected<I: Iterator<Item = Result<char, NormalizeError>> + Drop>(
+    alloc: Global,
+    items: I,
+) -> Result<Vec<char>, NormalizeError>
+    requires can { I.can_next items }
+    requires ends { IsFinite (I.remaining items) }
+    ensures all { (x : List ℕ) → SpellsUnlessErr I.next_gives items x → IfOk result (λ v. v.items ≡ x) }
     ensures refused { IsOkUnless result NormalizeError.Memory }
 {
     let mut characters = Vec::new(alloc);
     for item in items {
-        let character = item?;
+        let Ok(character) = item else {
+            return Err(NormalizeError::Memory);
+        };
         match characters.push(character) {
             Ok(()) => {}
             Err(_) => return Err(NormalizeError::Memory),

@@ -1,15 +1,28 @@
-use Rattle.normalizer_uses.proofs.CameLemmas.{CameSoFar-none, CameSoFar-more, CameSoFar-all}
+use Rattle.std.proofs.Common.{rules, ◌++◌, Some, Ok, append_assoc, append-nil, sym, ap, subst, ◌∙◌}
+use Rattle.icu_normalizer.proofs.SpellingLemmas.{SpellsUnlessErr-next, SpellsUnlessErr-end}
 use Rattle.normalizer_uses.proofs.collected.Goals as goal
-
-pub loop-item-init : goal.loop-item-init
-loop-item-init g c = rw c.new-characters.ensures.items (CameSoFar-none g.I.Iterator.can_next g.I.Iterator.next_gives g.I.Iterator.remaining _)
 
 pub loop-item-preserved : goal.loop-item-preserved
 loop-item-preserved g c =
-    rw c.in-Ok.ensures.items
-    (CameSoFar-more g.I.Iterator.can_next g.I.Iterator.next_gives g.I.Iterator.remaining _ _ _ _ c.in_ok-character.character c.loop-item.invariant
-    (rw c.in_ok-character.was at c.in-Some.ensures.steps))
+    let gives = g.I.Iterator.next_gives in
+    let came : gives c.loop-item.item-iterator (Some (Ok c.in-Ok.character)) c.next.new.self =
+    subst (λ item. gives c.loop-item.item-iterator (Some item) c.next.new.self) c.in-Ok.is c.in-Some.ensures.steps in
+    record {
+      can = search (rules, c.in-Some.ensures.goes);
+      ends = search (rules, c.in-Some.ensures.goes);
+      text = λ x h.
+          let before = c.loop-item.invariant.text x h in
+          let next = SpellsUnlessErr-next gives _ _ _ before.0 came before.1 in (
+            next.0,
+            next.2,
+            before.2 ∙ ap (λ cs. c.loop-item.characters.items ++ cs) {x = before.0} next.1
+                ∙ sym (append_assoc c.loop-item.characters.items _ _)
+                ∙ ap (λ cs. cs ++ next.0) (sym c.in-Ok-push.ensures.items),
+          );
+    }
 
 pub returns-clause-all : goal.returns-clause-all
-returns-clause-all g c = λ out h.
-    CameSoFar-all g.I.Iterator.can_next g.I.Iterator.next_gives g.I.Iterator.remaining _ _ _ _ c.loop-item.invariant c.in-None.ensures.steps out (rw c.into_iter-item-iterator.ensures.into_iter_gives h)
+returns-clause-all g c x h =
+    let before = c.loop-item.invariant.text x h in
+    let ended = SpellsUnlessErr-end g.I.Iterator.next_gives _ _ before.0 c.in-None.ensures.steps before.1 in
+    sym (before.2 ∙ ap (λ cs. c.loop-item.characters.items ++ cs) ended ∙ append-nil _)

@@ -1,5 +1,10 @@
-use Rattle.normalizer_uses.proofs.CameLemmas.{CameSoFar}
+use Rattle.std.proofs.Common.{◌≡◌, ◌++◌, ℕ, List}
+use Rattle.icu_normalizer.specs.Spelling.{SpellsUnlessErr}
 use Rattle.normalizer_uses.proofs.collected.Given as goal
 
 abbrev pub invariant-loop-item : goal.invariant-loop-item
-invariant-loop-item g l = CameSoFar g.I.Iterator.next_gives l.initial.item-iterator l.characters.items l.item-iterator
+invariant-loop-item g l = record {
+  can : (goal.iterator-loop-item g).can_next l.item-iterator;
+  ends : (goal.iterator-loop-item g).is_finite l.item-iterator;
+  text : (x : List ℕ) → SpellsUnlessErr g.I.Iterator.next_gives l.fn.items x → (rest : List ℕ) × SpellsUnlessErr g.I.Iterator.next_gives l.item-iterator rest × (x ≡ l.characters.items ++ rest);
+}

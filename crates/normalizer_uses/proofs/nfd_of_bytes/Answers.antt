@@ -1,5 +1,5 @@
-use Rattle.std.proofs.lemmas.Result.{IfOk-weaker}
+use Rattle.icu_normalizer.proofs.SpellingLemmas.{SpellsUnlessErr-decomposition}
 use Rattle.normalizer_uses.proofs.nfd_of_bytes.Goals as goal
 
 pub returns-clause-form : goal.returns-clause-form
-returns-clause-form c = IfOk-weaker c.collected.result _ _ (λ v all. all _ (c.in_ok-normalize_iter.ensures.text _ c.new.ensures.spells)) c.collected.ensures.all
+returns-clause-form c = c.collected.ensures.all _ (SpellsUnlessErr-decomposition _ _ _ _ _ (c.in_ok-normalize_iter.ensures.text _ c.new.ensures.spells))

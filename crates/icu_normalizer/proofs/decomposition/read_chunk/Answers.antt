@@ -27,7 +27,7 @@ pub read_on-requires : goal.read_on-requires
 read_on-requires g c =
     let d = decomposing_reading c.args.characters.now c.args.ignored in
     let same = class-decomposing_reading c.args.characters.now c.args.ignored in
-    record { can = c.requires.can; ends = c.requires.ends; classes = c.in_ok-push_from.ensures.classes d same (c.clear.ensures.classes d) }
+    record { ready = c.requires.ready; classes = c.in_ok-push_from.ensures.classes d same (c.clear.ensures.classes d) }
 
 pub returns-in_err-push_from-clause-err : goal.returns-in_err-push_from-clause-err
 returns-in_err-push_from-clause-err g c =
@@ -36,7 +36,7 @@ returns-in_err-push_from-clause-err g c =
     let is = c.members-members.ensures ∙ sym (list-decomposing_reading c.args.characters.now c.args.ignored c.args.character) in
     let long = too_many _ (places + 1) c.in_err-push_from.ensures.succeeds in
     let exit = err_from_is_err_and c.from_residual.result c.from_residual.ensures.1 in
-    rw exit.1 (ChunkDidNotFit-members g.I.Iterator.next_gives f d c.args.character _ c.args.delegate.now is (omega (arith, long, c.clear.ensures.held)))
+    rw exit.1 (λ before read. ChunkDidNotFit-members g.I.Iterator.next_gives f d c.args.character _ before is (omega (arith, long, c.clear.ensures.held)))
 
 pub returns-in_err-pending-clause-err : goal.returns-in_err-pending-clause-err
 returns-in_err-pending-clause-err g c =
@@ -45,8 +45,9 @@ returns-in_err-pending-clause-err g c =
     let is = c.members-members.ensures ∙ sym (list-decomposing_reading c.args.characters.now c.args.ignored c.args.character) in
     let exit = err_from_is_err_and c.from_residual-in_err-pending.result c.from_residual-in_err-pending.ensures.1 in
     rw exit.1
-    (ChunkDidNotFit-behind g.I.Iterator.next_gives f d c.args.character _ c.args.delegate.now _ is (omega (arith, c.in_ok-push_from.ensures.held, c.clear.ensures.held))
-    c.in_err-pending.ensures.err)
+    (λ before read.
+    ChunkDidNotFit-behind g.I.Iterator.next_gives f d c.args.character _ before _ is (omega (arith, c.in_ok-push_from.ensures.held, c.clear.ensures.held))
+    (c.in_err-pending.ensures.err before read))
 
 pub returns-clause-ok : goal.returns-clause-ok
 returns-clause-ok g c =
@@ -54,7 +55,8 @@ returns-clause-ok g c =
     let d = decomposing_reading c.args.characters.now c.args.ignored in
     let same = class-decomposing_reading c.args.characters.now c.args.ignored in
     let is = c.members-members.ensures ∙ sym (list-decomposing_reading c.args.characters.now c.args.ignored c.args.character) in
-    ReadsChunk-from g.I.Iterator.can_next g.I.Iterator.next_gives g.I.Iterator.remaining f d c.args.character c.in-Some.first _ c.args.delegate.now _ _ _ _ _ is c.in-Some.ensures
+    λ before read.
+    ReadsChunk-from g.I.Iterator.can_next g.I.Iterator.next_gives g.I.Iterator.remaining f d c.args.character c.in-Some.first _ before _ _ _ _ _ is c.in-Some.ensures
     c.clear.ensures.ordered c.clear.ensures.unordered
     (c.in_ok-push_from.ensures.text d same (c.clear.ensures.classes d))
-    c.in_ok-pending.ensures.ok
+    (c.in_ok-pending.ensures.ok before read)

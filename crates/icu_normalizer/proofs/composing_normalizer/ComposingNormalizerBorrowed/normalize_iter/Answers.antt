@@ -1,5 +1,13 @@
+use Rattle.std.proofs.Common.{sym, ◌∙◌}
 use Rattle.normalizer_tables.specs.declared.characters.IgnoredCharacters.TheVariants.{Dropped}
 use Rattle.icu_normalizer.proofs.composing_normalizer.ComposingNormalizerBorrowed.normalize_iter.Goals as goal
+
+pub over-requires-2 : goal.over-requires-2
+over-requires-2 g c = record {
+  can = c.in_ok-decomposed.ensures.ready;
+  same = c.in_ok-decomposed.ensures.kept.0 ∙ c.characters.ensures ∙ sym c.characters-2.ensures;
+  suits = rw (c.characters-2.ensures, c.bounds.ensures) c.args.self.now.composing;
+}
 
 pub returns-clause-text : goal.returns-clause-text
 returns-clause-text g c = λ x spelled.

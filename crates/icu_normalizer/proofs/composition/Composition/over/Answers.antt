@@ -17,7 +17,7 @@ returns-clause-text g c = λ ignored x h.
       unread = y;
       source = h;
       text =
-          nfc-composing_reading s ignored pairs c.requires.starters x
+          nfc-composing_reading s ignored pairs c.requires.suits.starters x
           ∙ ap (λ l. l ++ compose_by_starters (pairing_reading s pairs) y) (sym c.new-marks.ensures);
     }
 

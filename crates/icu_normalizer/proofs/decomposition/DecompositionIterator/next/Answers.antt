@@ -1,6 +1,23 @@
 use Rattle.std.proofs.Common.{refl, sym}
-use Rattle.icu_normalizer.proofs.DecompositionLemmas.{Steps-ended, Steps-chunk, Steps-refused, Goes-chunk}
+use Rattle.icu_normalizer.proofs.DecompositionLemmas.{Steps-ended, Steps-read, Goes-read, ready_behind}
+use Rattle.icu_normalizer.proofs.ReadingLemmas.{HasRead-next, IsReadyBehind-next}
 use Rattle.icu_normalizer.proofs.decomposition.DecompositionIterator.next.Goals as goal
+
+pub next-following-requires : goal.next-following-requires
+next-following-requires g c =
+    let ready = ready_behind g.I.Iterator.can_next g.I.Iterator.remaining c.args.self.now c.in_ok-character.character (sym c.in_ok-character.ensures.value) c.requires in
+    ready.0
+
+pub next_chunk-requires : goal.next_chunk-requires
+next_chunk-requires g c =
+    let s = c.args.self.now in
+    let ready = ready_behind g.I.Iterator.can_next g.I.Iterator.remaining s c.in_ok-character.character (sym c.in_ok-character.ensures.value) c.requires in
+    record {
+      taken = c.take.ensures.after;
+      anew = s.anew c.in_ok-character.character (sym c.in_ok-character.ensures.value);
+      ready = IsReadyBehind-next g.I.Iterator.can_next g.I.Iterator.next_gives g.I.Iterator.remaining _ _ _ (c.next-following.ensures.goes.on ready.1);
+      read = (s.delegate, HasRead-next g.I.Iterator.can_next g.I.Iterator.next_gives g.I.Iterator.remaining _ _ _ c.next-following.ensures.steps (c.next-following.ensures.goes.on ready.1));
+    }
 
 pub returns-in_err-character-clause-steps : goal.returns-in_err-character-clause-steps
 returns-in_err-character-clause-steps g c =
@@ -8,14 +25,18 @@ returns-in_err-character-clause-steps g c =
     rw c.from_residual.ensures
     (Steps-ended g.I.Iterator.can_next g.I.Iterator.next_gives g.I.Iterator.remaining c.args.self.now _ refl refl (sym c.in_err-character.ensures.value) c.take.ensures.after nothing.0 nothing.1)
 
-pub returns-in-Ok-clause-steps : goal.returns-in-Ok-clause-steps
-returns-in-Ok-clause-steps g c =
-    Steps-chunk g.I.Iterator.can_next g.I.Iterator.next_gives g.I.Iterator.remaining c.args.self.now c.in_ok-character.character (sym c.in_ok-character.ensures.value) c.in_default.ensures.none.0 _ c.in-Ok.first refl refl c.in-Ok.ensures.ok
+pub returns-clause-steps : goal.returns-clause-steps
+returns-clause-steps g c =
+    let s = c.args.self.now in
+    let pending = sym c.in_ok-character.ensures.value in
+    let ready = ready_behind g.I.Iterator.can_next g.I.Iterator.remaining s c.in_ok-character.character pending c.requires in
+    let read = HasRead-next g.I.Iterator.can_next g.I.Iterator.next_gives g.I.Iterator.remaining _ _ _ c.next-following.ensures.steps (c.next-following.ensures.goes.on ready.1) in
+    Steps-read g.I.Iterator.can_next g.I.Iterator.next_gives g.I.Iterator.remaining s c.in_ok-character.character pending c.in_default.ensures.none.0 _ _ read _ c.next_chunk.ensures.kept.0 c.next_chunk.ensures.kept.1 _ c.next_chunk.ensures.ok c.next_chunk.ensures.err
 
-pub returns-in-Ok-clause-goes : goal.returns-in-Ok-clause-goes
-returns-in-Ok-clause-goes g c =
-    Goes-chunk g.I.Iterator.can_next g.I.Iterator.next_gives g.I.Iterator.remaining c.args.self.now c.in_ok-character.character (sym c.in_ok-character.ensures.value) c.in_default.ensures.none.0 _ c.in-Ok.first c.in-Ok.ensures.ok
-
-pub returns-in-Err-clause-steps : goal.returns-in-Err-clause-steps
-returns-in-Err-clause-steps g c =
-    Steps-refused g.I.Iterator.can_next g.I.Iterator.next_gives g.I.Iterator.remaining c.args.self.now c.in_ok-character.character (sym c.in_ok-character.ensures.value) c.in_default.ensures.none.0 _ refl refl c.take.ensures.after c.clear.ensures.ordered c.in-Err.ensures.err
+pub returns-clause-goes : goal.returns-clause-goes
+returns-clause-goes g c =
+    let s = c.args.self.now in
+    let pending = sym c.in_ok-character.ensures.value in
+    let ready = ready_behind g.I.Iterator.can_next g.I.Iterator.remaining s c.in_ok-character.character pending c.requires in
+    let read = HasRead-next g.I.Iterator.can_next g.I.Iterator.next_gives g.I.Iterator.remaining _ _ _ c.next-following.ensures.steps (c.next-following.ensures.goes.on ready.1) in
+    Goes-read g.I.Iterator.can_next g.I.Iterator.next_gives g.I.Iterator.remaining s c.in_ok-character.character pending c.in_default.ensures.none.0 _ _ read _ _ c.next_chunk.ensures.ok c.next_chunk.ensures.err
