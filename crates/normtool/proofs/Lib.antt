@@ -1,1 +1,1 @@
-mod SpellingLemmas
+mod RowLemmas

@@ -3,6 +3,5 @@ pub mod Faults
 pub mod Forms
 pub mod Normalizers
 pub mod Outcome
-pub mod Spelling
 pub mod Transfer
 pub mod Words

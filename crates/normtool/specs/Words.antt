@@ -3,7 +3,7 @@ use Rattle.std.specs.Prelude.{◌≡◌, ℕ, List, [], ◌∷◌, codes}
 use Rattle.normtool.specs.declared.words.RecordSet.{RecordSet}
 use Rattle.normtool.specs.declared.words.RecordSet.TheVariants.{Rows, Nothing}
 use Rattle.normtool.specs.declared.words.Command.{Command}
-use Rattle.normtool.specs.declared.words.Command.TheVariants.{Nfd, Nfc}
+use Rattle.normtool.specs.declared.words.Command.TheVariants.{Nfd, Nfc, Nfkd, Nfkc}
 
 -- the word of a record set; no word stands for no records yet
 abbrev pub NamesRecords : RecordSet → List ℕ → Type 0
@@ -14,6 +14,8 @@ NamesRecords Nothing word = ⊥
 abbrev pub NamesCommand : Command → List ℕ → Type 0
 NamesCommand Nfd word = word ≡ codes "nfd"
 NamesCommand Nfc word = word ≡ codes "nfc"
+NamesCommand Nfkd word = word ≡ codes "nfkd"
+NamesCommand Nfkc word = word ≡ codes "nfkc"
 
 -- two words: of a record set, and of a command
 abbrev pub AsksFor : List (List ℕ) → RecordSet → Command → Type 0

@@ -3,6 +3,7 @@ ghost use Rattle.std.specs.Prelude.{◌≡◌, ◌⊎◌, IfOk, IfErr, IsErrOf, 
 ghost use Rattle.normal_forms.specs.Forms.{nfd, nfc};
 ghost use Rattle.normalizer_tables.specs.Characters.{own_reading};
 ghost use Rattle.normalizer_tables.specs.PairConditions.{composing_reading};
+ghost use Rattle.icu_normalizer.specs.Acceptance.{nfd_data, nfkd_data};
 ghost use Rattle.icu_normalizer.specs.Normalizers.{data_of};
 ghost use Rattle.icu_normalizer.specs.ComposingNormalizers.{composing_data_of, pairs_of};
 ghost use Rattle.normtool.specs.Forms.{MakesForm, LacksData, output_of};
@@ -13,7 +14,7 @@ use crate::ending::ToolFault;
 use crate::words::Command;
 use icu_normalizer::{
     ComposingNormalizer, DataProvider, DecomposingNormalizer, NormalizerNfcV1, NormalizerNfdDataV1,
-    NormalizerNfdTablesV1, Utf8Chars,
+    NormalizerNfdTablesV1, NormalizerNfkdDataV1, NormalizerNfkdTablesV1, Utf8Chars,
 };
 use std::alloc::Global;
 
@@ -30,9 +31,11 @@ impl Normalizer {
     where
         P: DataProvider<NormalizerNfdDataV1>
             + DataProvider<NormalizerNfdTablesV1>
+            + DataProvider<NormalizerNfkdDataV1>
+            + DataProvider<NormalizerNfkdTablesV1>
             + DataProvider<NormalizerNfcV1>,
-        ensures ok { IfOk result (λ n. MakesForm command (⟦<P as DataProvider<NormalizerNfdDataV1>>⟧.held provider.now) (⟦<P as DataProvider<NormalizerNfdTablesV1>>⟧.held provider.now) (⟦<P as DataProvider<NormalizerNfcV1>>⟧.held provider.now) (form_by n)) }
-        ensures data { IsErrOf result ToolFault.Data → LacksData command (⟦<P as DataProvider<NormalizerNfdDataV1>>⟧.held provider.now) (⟦<P as DataProvider<NormalizerNfdTablesV1>>⟧.held provider.now) (⟦<P as DataProvider<NormalizerNfcV1>>⟧.held provider.now) }
+        ensures ok { IfOk result (λ n. MakesForm command (record { canonical = nfd_data (⟦<P as DataProvider<NormalizerNfdDataV1>>⟧.held provider.now) (⟦<P as DataProvider<NormalizerNfdTablesV1>>⟧.held provider.now); compatibility = nfkd_data (⟦<P as DataProvider<NormalizerNfkdDataV1>>⟧.held provider.now) (⟦<P as DataProvider<NormalizerNfdTablesV1>>⟧.held provider.now) (⟦<P as DataProvider<NormalizerNfkdTablesV1>>⟧.held provider.now); pairs = ⟦<P as DataProvider<NormalizerNfcV1>>⟧.held provider.now }) (form_by n)) }
+        ensures data { IsErrOf result ToolFault.Data → LacksData command (record { canonical = nfd_data (⟦<P as DataProvider<NormalizerNfdDataV1>>⟧.held provider.now) (⟦<P as DataProvider<NormalizerNfdTablesV1>>⟧.held provider.now); compatibility = nfkd_data (⟦<P as DataProvider<NormalizerNfkdDataV1>>⟧.held provider.now) (⟦<P as DataProvider<NormalizerNfdTablesV1>>⟧.held provider.now) (⟦<P as DataProvider<NormalizerNfkdTablesV1>>⟧.held provider.now); pairs = ⟦<P as DataProvider<NormalizerNfcV1>>⟧.held provider.now }) }
         ensures errors { IfErr result (λ fault. (fault ≡ ToolFault.Data) ⊎ (fault ≡ ToolFault.Memory)) }
     {
         match command {
@@ -42,6 +45,14 @@ impl Normalizer {
             }
             Command::Nfc => {
                 let normalizer = ComposingNormalizer::try_new_nfc_unstable(provider)?;
+                Ok(Normalizer::Composing(normalizer))
+            }
+            Command::Nfkd => {
+                let normalizer = DecomposingNormalizer::try_new_nfkd_unstable(provider)?;
+                Ok(Normalizer::Decomposing(normalizer))
+            }
+            Command::Nfkc => {
+                let normalizer = ComposingNormalizer::try_new_nfkc_unstable(provider)?;
                 Ok(Normalizer::Composing(normalizer))
             }
         }

@@ -1,16 +1,17 @@
 //! Standard input and output as devices.
-ghost use Rattle.std.specs.Prelude.{⊤, None};
+ghost use Rattle.std.specs.Prelude.{⊤};
 
 use crate::device::{DeviceError, Source, Target};
 use std::io::{Read, Write};
 
-/// A reader as a source. It tells no bytes. An interrupted read counts as refused.
+/// A reader as a source. It tells the bytes that the reader tells. An interrupted read counts as refused.
 #[derive(Drop)]
 pub(crate) struct Input<R>(pub(crate) R);
 
 impl<R: Read> Source for Input<R> {
-    ghost left = { λ _. None };
+    ghost left = { λ s. R.remaining s.0 };
 
+    // A reader's contract doesn't tell when it refuses.
     ghost refused = { λ _ _. ⊤ };
 
     fn read(&mut self, buffer: &mut [u8]) -> Result<usize, DeviceError> {
@@ -18,13 +19,15 @@ impl<R: Read> Source for Input<R> {
     }
 }
 
-/// A writer as a target. It tells no bytes. A write that takes none, or is interrupted, counts as refused.
+/// A writer as a target. It tells the bytes that the writer tells. A write that takes none, or is interrupted, counts as
+/// refused.
 #[derive(Drop)]
 pub(crate) struct Output<W>(pub(crate) W);
 
 impl<W: Write> Target for Output<W> {
-    ghost taken = { λ _. None };
+    ghost taken = { λ t. W.contents t.0 };
 
+    // A writer's contract doesn't tell when it refuses.
     ghost refused = { λ _ _. ⊤ };
 
     fn write(&mut self, bytes: &[u8]) -> Result<usize, DeviceError> {

@@ -7,6 +7,7 @@ use crate::{
 use icu_normalizer::{
     CanonicalCompositions, DataError, DataMarkerInfo, DataProvider, DecompositionData,
     DecompositionTables, NormalizerNfcV1, NormalizerNfdDataV1, NormalizerNfdTablesV1,
+    NormalizerNfkdDataV1, NormalizerNfkdTablesV1,
 };
 use std::alloc::{AllocError, Global};
 use std::test::Fail;
@@ -21,10 +22,16 @@ fn strings(alloc: Global, texts: &[&str]) -> Result<Vec<String>, AllocError> {
 
 #[test]
 fn two_words_ask_for_a_command(rt: HostRuntime) -> Result<(), Fail> {
-    let nfd = strings(rt.alloc(), &["rows", "nfd"])?;
-    assert_eq!(rt; words(&nfd), Some((RecordSet::Rows, Command::Nfd)));
-    let nfc = strings(rt.alloc(), &["rows", "nfc"])?;
-    assert_eq!(rt; words(&nfc), Some((RecordSet::Rows, Command::Nfc)));
+    let commands = [
+        ("nfd", Command::Nfd),
+        ("nfc", Command::Nfc),
+        ("nfkd", Command::Nfkd),
+        ("nfkc", Command::Nfkc),
+    ];
+    for (name, command) in commands {
+        let all = strings(rt.alloc(), &["rows", name])?;
+        assert_eq!(rt; words(&all), Some((RecordSet::Rows, command)));
+    }
     let wrong: [&[&str]; 8] = [
         &[],
         &["rows"],
@@ -139,6 +146,32 @@ fn texts_are_composed(rt: HostRuntime) -> Result<(), Fail> {
     Ok(())
 }
 
+// Compatibility mappings take part in two of the forms alone.
+#[test]
+fn compatibility_characters_are_replaced(rt: HostRuntime) -> Result<(), Fail> {
+    let rows = [
+        (Command::Nfkd, "\u{FB01}", "fi"),
+        (Command::Nfkc, "\u{FB01}", "fi"),
+        (Command::Nfd, "\u{FB01}", "\u{FB01}"),
+        (Command::Nfc, "\u{FB01}", "\u{FB01}"),
+        (Command::Nfkd, "\u{1EC7}\u{FF9E}", "e\u{3099}\u{323}\u{302}"),
+        (Command::Nfkc, "\u{1EC7}\u{FF9E}", "\u{1EC7}\u{3099}"),
+        (Command::Nfc, "\u{1EC7}\u{FF9E}", "\u{1EC7}\u{FF9E}"),
+        (
+            Command::Nfkd,
+            "\u{FDFA}\u{308}",
+            "\u{635}\u{644}\u{649} \u{627}\u{644}\u{644}\u{647} \u{639}\u{644}\u{64A}\u{647} \u{648}\u{633}\u{644}\u{645}\u{308}",
+        ),
+        (Command::Nfkc, "\u{1100}\u{1161}\u{11A8}", "\u{AC01}"),
+    ];
+    for (command, input, output) in rows {
+        let (outcome, written) = run_over_rows(rt.alloc(), command, input.as_bytes(), 100)?;
+        assert_eq!(rt; outcome, Ok(Answer::Done), "{input:?}");
+        assert_eq!(rt; written.as_slice(), output.as_bytes(), "{input:?}");
+    }
+    Ok(())
+}
+
 // A source that breaks off at each place: nothing is written.
 #[test]
 fn nothing_is_written_where_a_read_is_refused(rt: HostRuntime) -> Result<(), Fail> {
@@ -189,7 +222,7 @@ struct WithoutLists {
 impl DataProvider<NormalizerNfdDataV1> for WithoutLists {
     ghost use Rattle.std.specs.Prelude.{Some};
 
-    ghost held = { λ p. Some p.rows.words };
+    ghost held = { λ p. Some p.rows.canonical };
 
     fn load(&self) -> Result<DecompositionData, DataError> {
         <HandMadeRows as DataProvider<NormalizerNfdDataV1>>::load(&self.rows)
@@ -204,6 +237,26 @@ impl DataProvider<NormalizerNfdTablesV1> for WithoutLists {
             Some(tables) => tables.clone().map_err(|_| DataError::Memory),
             None => Err(DataError::Provider(DataMarkerInfo::NormalizerNfdTablesV1)),
         }
+    }
+}
+
+impl DataProvider<NormalizerNfkdDataV1> for WithoutLists {
+    ghost use Rattle.std.specs.Prelude.{Some};
+
+    ghost held = { λ p. Some p.rows.compatibility };
+
+    fn load(&self) -> Result<DecompositionData, DataError> {
+        <HandMadeRows as DataProvider<NormalizerNfkdDataV1>>::load(&self.rows)
+    }
+}
+
+impl DataProvider<NormalizerNfkdTablesV1> for WithoutLists {
+    ghost use Rattle.std.specs.Prelude.{Some};
+
+    ghost held = { λ p. Some p.rows.compatibility_lists };
+
+    fn load(&self) -> Result<DecompositionTables, DataError> {
+        <HandMadeRows as DataProvider<NormalizerNfkdTablesV1>>::load(&self.rows)
     }
 }
 
@@ -229,7 +282,7 @@ fn nothing_is_read_where_data_do_not_serve(rt: HostRuntime) -> Result<(), Fail> 
             rows: HandMadeRows::new(rt.alloc())?,
             tables,
         };
-        for command in [Command::Nfd, Command::Nfc] {
+        for command in [Command::Nfd, Command::Nfc, Command::Nfkd, Command::Nfkc] {
             let mut source = Pieces::broken_off(b"");
             let mut page = Page::new(rt.alloc(), 100);
             let outcome = run(rt.alloc(), &provider, command, &mut source, &mut page);

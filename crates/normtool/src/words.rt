@@ -23,6 +23,10 @@ pub enum Command {
     Nfd,
     /// Normalization Form C.
     Nfc,
+    /// Normalization Form KD.
+    Nfkd,
+    /// Normalization Form KC.
+    Nfkc,
 }
 
 impl RecordSet {
@@ -51,6 +55,8 @@ impl Command {
         match word {
             "nfd" => Some(Command::Nfd),
             "nfc" => Some(Command::Nfc),
+            "nfkd" => Some(Command::Nfkd),
+            "nfkc" => Some(Command::Nfkc),
             _ => None,
         }
     }

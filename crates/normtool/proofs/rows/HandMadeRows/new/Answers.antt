@@ -1,8 +1,9 @@
-use Rattle.std.proofs.Common.{◌≡◌, rules}
-use Rattle.normtool.specs.declared.rows.TheConstants.{RANGES}
+use Rattle.std.proofs.Common.{rules}
+use Rattle.normtool.proofs.RowLemmas.{RANGES-ordered, COMPATIBILITY_RANGES-ordered}
 use Rattle.normtool.proofs.rows.HandMadeRows.new.Goals as goal
 
-pub returns-clause-words : goal.returns-clause-words
-returns-clause-words c =
-    let copied : c.in_ok-to_vec.field-0.items ≡ RANGES = c.in_ok-to_vec.ensures.items_if_clones_equal (λ x y same. search (rules, same)) in
-    rw (← copied) c.in_ok-table.ensures.table
+pub returns-in_err-words_of-clause-errors : goal.returns-in_err-words_of-clause-errors
+returns-in_err-words_of-clause-errors c = search (rules, c.from_residual.ensures, c.in_err-words_of.ensures.refused RANGES-ordered)
+
+pub returns-in_err-words_of-2-clause-errors : goal.returns-in_err-words_of-2-clause-errors
+returns-in_err-words_of-2-clause-errors c = search (rules, c.from_residual-in_err-words_of-2.ensures, c.in_err-words_of-2.ensures.refused COMPATIBILITY_RANGES-ordered)
