@@ -1,0 +1,97 @@
+-- Expansions, as far as there is room.
+use Rattle.std.proofs.Common.{◌≡◌, ◌≢◌, ℕ, zero, suc, ◌+◌, ◌-◌, ◌/◌, ◌%◌, ◌<◌, ◌≤◌, true, false, List, [], ◌∷◌, ◌++◌, length, get_or, take, refl, Some, sym, ap, ◌∙◌, arith, if◌then◌else◌, ◌==◌, slice_get, flat_map}
+use Rattle.std.proofs.Math.Utf8.{low_scalar}
+use Rattle.std.proofs.lemmas.Bool.Decides.{nat_tests}
+use Rattle.std.proofs.lemmas.List.{append-nil, take_all, take_more, take-append-le, flat_map_more, length-take, length-append}
+use Rattle.std.proofs.lemmas.Option.{slice_get_within, get_or_from_slice_get}
+use Rattle.normalizer_tables.specs.Characters.{as_text}
+use Rattle.normalizer_tables.specs.Hangul.{is_hangul_syllable, hangul_decomposition, l_base, v_base, t_base, s_base, n_count, t_count}
+use Rattle.normalizer_records.specs.declared.records.Mappings.{Mappings}
+use Rattle.normalizer_records.specs.Entry.{Entry}
+use Rattle.normalizer_records.specs.Meaning.{expansion, replace_by, replacement}
+
+two_jamo : (l v : ℕ) → l < 55296 → v < 55296 → as_text (l ∷ v ∷ []) ≡ Some (l ∷ v ∷ [])
+unfolding as_text
+two_jamo l v first second = rw (low_scalar l first, low_scalar v second)
+
+three_jamo : (l v t : ℕ) → l < 55296 → v < 55296 → t < 55296 → as_text (l ∷ v ∷ t ∷ []) ≡ Some (l ∷ v ∷ t ∷ [])
+unfolding as_text
+three_jamo l v t first second third = rw (low_scalar l first, low_scalar v second, low_scalar t third)
+
+pub syllable-range : (c : ℕ) → is_hangul_syllable c ≡ true → c ≤ 0xD7A3
+unfolding is_hangul_syllable
+syllable-range c h = grind (arith, nat_tests)
+
+-- the jamo of a syllable are characters
+pub as_text-jamo : (c : ℕ) → is_hangul_syllable c ≡ true → as_text (hangul_decomposition c) ≡ Some (hangul_decomposition c)
+unfolding hangul_decomposition
+as_text-jamo c h =
+    let range = syllable-range c h in
+    let index = c - s_base in
+    elim (index % t_count == 0) as (λ b. as_text (if b then (l_base + index / n_count) ∷ (v_base + index % n_count / t_count) ∷ [] else (l_base + index / n_count) ∷ (v_base + index % n_count / t_count) ∷ (t_base + index % t_count) ∷ []) ≡ Some (if b then (l_base + index / n_count) ∷ (v_base + index % n_count / t_count) ∷ [] else (l_base + index / n_count) ∷ (v_base + index % n_count / t_count) ∷ (t_base + index % t_count) ∷ [])) [
+      | true ↦ two_jamo (l_base + index / n_count) (v_base + index % n_count / t_count) (omega arith) (omega arith)
+      | false ↦ three_jamo (l_base + index / n_count) (v_base + index % n_count / t_count) (t_base + index % t_count) (omega arith) (omega arith) (omega arith)
+    ]
+
+-- what was cut may be cut again behind what is added
+pub take-again : (n : ℕ) (x y : List ℕ) → take n (take n x ++ y) ≡ take n (x ++ y)
+take-again zero [] y = refl
+take-again zero (a ∷ x) [] = refl
+take-again zero (a ∷ x) (b ∷ y) = refl
+take-again (suc n) [] y = refl
+take-again (suc n) (a ∷ x) y = ap (λ z. a ∷ z) (take-again n x y)
+
+pub length-cut : (n : ℕ) (x y : List ℕ) → y ≡ take n x → length y ≤ n
+length-cut n x y e = let same = ap length e ∙ length-take n x in omega arith
+
+-- no room for more
+pub take-no_room : (n : ℕ) (x y : List ℕ) → length x ≤ n → n ≤ length x → x ≡ take n (x ++ y)
+take-no_room n x y within full = sym (take-append-le n x y full ∙ take_all n x within)
+
+-- one more, for which there is room
+pub take-room : (n : ℕ) (x y : List ℕ) (c : ℕ) → length x < n → y ≡ x ++ c ∷ [] → y ≡ take n (x ++ c ∷ [])
+take-room n x y c room e =
+    let len : length (x ++ c ∷ []) ≤ n = simp length-append (omega arith) in
+    e ∙ sym (take_all n (x ++ c ∷ []) len)
+
+module _ (f : ℕ → List ℕ) (room : ℕ) (start xs : List ℕ) where
+  -- one member more
+  pub flat_map-cut_more : (before after : List ℕ) (i m : ℕ) → slice_get xs i ≡ Some m → before ≡ take room (start ++ flat_map f (take i xs)) → after ≡ take room (before ++ f m) → after ≡ take room (start ++ flat_map f (take (i + 1) xs))
+  flat_map-cut_more before after i m at was now =
+      let within : i < length xs = slice_get_within xs i m at in
+      let here : get_or xs i 0 ≡ m = get_or_from_slice_get xs i m 0 at in
+      let grown : take (i + 1) xs ≡ take i xs ++ m ∷ [] = take_more xs i 0 within ∙ ap (λ y. take i xs ++ y ∷ []) here in
+      now ∙ ap (λ y. take room (y ++ f m)) was ∙ take-again room (start ++ flat_map f (take i xs)) (f m)
+      ∙ ap (take room) (flat_map_more f start (take i xs) m) ∙ ap (λ y. take room (start ++ flat_map f y)) (sym grown)
+
+  pub flat_map-cut_none : length start ≤ room → start ≡ take room (start ++ flat_map f (take 0 xs))
+  flat_map-cut_none h = sym (ap (λ y. take room (start ++ y)) (none xs) ∙ ap (take room) (append-nil start) ∙ take_all room start h)
+    where
+      none : (ys : List ℕ) → flat_map f (take 0 ys) ≡ []
+      none [] = refl
+      none (y ∷ ys) = refl
+
+  pub flat_map-cut_all : (out : List ℕ) (i : ℕ) → length xs ≤ i → out ≡ take room (start ++ flat_map f (take i xs)) → out ≡ take room (start ++ flat_map f xs)
+  flat_map-cut_all out i past was = was ∙ ap (λ y. take room (start ++ flat_map f y)) (take_all i xs past)
+
+module _ (records : List Entry) (mappings : Mappings) where
+  pub expansion-zero : (c : ℕ) → expansion records mappings 0 c ≡ c ∷ []
+  unfolding expansion
+  expansion-zero c = refl
+
+  pub expansion-alone : (depth c : ℕ) → replacement records mappings c ≡ [] → expansion records mappings depth c ≡ c ∷ []
+  unfolding expansion replace_by
+  expansion-alone zero c h = refl
+  expansion-alone (suc n) c h = ap (λ m. replace_by (expansion records mappings n) m c) h
+
+  replace_by-some : (list_of : ℕ → List ℕ) (members : List ℕ) (c : ℕ) → members ≢ [] → replace_by list_of members c ≡ flat_map list_of members
+  unfolding replace_by
+  replace_by-some list_of [] c h = absurd (h refl)
+  replace_by-some list_of (m ∷ members) c h = refl
+
+  pub expansion-replaced : (n c : ℕ) → replacement records mappings c ≢ [] → expansion records mappings (suc n) c ≡ flat_map (expansion records mappings n) (replacement records mappings c)
+  unfolding expansion
+  expansion-replaced n c h = replace_by-some (expansion records mappings n) (replacement records mappings c) c h
+
+  pub expansion-deeper : (depth n c : ℕ) → depth ≡ n + 1 → replacement records mappings c ≢ [] → expansion records mappings depth c ≡ flat_map (expansion records mappings n) (replacement records mappings c)
+  expansion-deeper depth n c e h = let more : depth ≡ suc n = omega arith in ap (λ d. expansion records mappings d c) more ∙ expansion-replaced n c h

@@ -1,0 +1,193 @@
+-- The lists of characters of which nothing is recorded show no fault.
+use Rattle.std.proofs.Common.{◌≡◌, ◌≢◌, ℕ, suc, ◌+◌, ◌-◌, ◌/◌, ◌%◌, ◌<◌, ◌≤◌, ◌⊎◌, ◌↔◌, ◌==◌, ◌||◌, Bool, true, false, List, [], ◌∷◌, ◌++◌, length, map, refl, Option, Some, None, is_some, IsSomeAnd, inl, inr, sym, ap, subst, ◌∙◌, arith, Contains, find, if◌then◌else◌, nat_lt, flat_map}
+use Rattle.std.specs.Option.{option_map, option_map_or}
+use Rattle.std.specs.List.{list_any}
+use Rattle.std.proofs.lemmas.Bool.{true≢false}
+use Rattle.std.proofs.lemmas.Bool.Decides.{nat_tests}
+use Rattle.std.proofs.lemmas.List.Elements.{Contains-append_left, Contains-append_right}
+use Rattle.normal_forms.proofs.OrderLemmas.{length-order}
+use Rattle.normalizer_tables.specs.Hangul.{is_hangul_syllable, hangul_decomposition, l_base, v_base, t_base, s_base, n_count, t_count}
+use Rattle.normalizer_records.specs.declared.records.Mappings.{Mappings}
+use Rattle.normalizer_records.specs.declared.records.Mappings.TheVariants.{Canonical, All as AllMappings}
+use Rattle.normalizer_records.specs.Entry.{Entry, MapperEntry}
+use Rattle.normalizer_records.specs.Meaning.{entry_of, class_of, replacement, expansion, full_list, recorded_classes, canonical_list, status_of, mapper_list, mapped_list, levels}
+use Rattle.normalizer_records.specs.Cut.{IsOfSome}
+use Rattle.normalizer_records.specs.Faults.{is_fixed, has_fixed_fault, begins_with_mark, IsWrong, HasWrongClass, HasLongList, IsTooLong, IsAsked, HasClassFault, HasLengthFault}
+use Rattle.normalizer_records.proofs.CutLemmas.{begins-order}
+use Rattle.normalizer_records.proofs.ExpansionLemmas.{expansion-alone, expansion-replaced, syllable-range}
+
+-- a character that a look-up finds is among the characters
+contains_key : {X : Type 0} (key : X → ℕ) → (xs : List X) (c : ℕ) → is_some (find (λ r. key r == c) xs) ≡ true → Contains (map key xs) c
+contains_key key [] c h = absurd cc
+contains_key {X} key (x ∷ xs) c h = elim (key x == c) as (λ b. (key x == c) ≡ b → is_some (if b then Some x else find (λ r. key r == c) xs) ≡ true → Contains (map key (x ∷ xs)) c) [
+  | true ↦ λ same found. let e : key x ≡ c = grind (arith, nat_tests) in (0, omega arith, e)
+  | false ↦ λ other found. let further = contains_key key xs c found in let inside = further.1 in (suc further.0, omega arith, further.2)
+] refl h
+
+-- a fixed character is not recorded
+none_fixed : (c : ℕ) (xs : List Entry) → is_fixed c ≡ true → list_any (λ r. is_fixed r.c) xs ≡ false → find (λ r. r.c == c) xs ≡ None
+none_fixed c [] fixed h = refl
+none_fixed c (x ∷ xs) fixed h = elim (x.c == c) as (λ b. (x.c == c) ≡ b → (if b then Some x else find (λ r. r.c == c) xs) ≡ None) [
+  | true ↦ λ same. let e : x.c ≡ c = grind (arith, nat_tests) in let bad : is_fixed x.c ≡ true = ap is_fixed e ∙ fixed in absurd (true≢false (sym (first_of _ _ bad) ∙ h))
+  | false ↦ λ other. none_fixed c xs fixed (second_of _ _ h)
+] refl
+  where
+    first_of : (a b : Bool) → a ≡ true → (a || b) ≡ true
+    first_of true b e = refl
+    first_of false b e = absurd (true≢false (sym e))
+
+    second_of : (a b : Bool) → (a || b) ≡ false → b ≡ false
+    second_of true b e = absurd (true≢false e)
+    second_of false b e = e
+
+or_first : (a b : Bool) → (a || b) ≡ false → a ≡ false
+or_first true b h = h
+or_first false b h = refl
+
+jamo_fixed : (c : ℕ) → 0x1100 ≤ c → c ≤ 0x11FF → is_fixed c ≡ true
+unfolding is_fixed
+jamo_fixed c low high = grind (arith, nat_tests)
+
+low_no_syllable : (c : ℕ) → c < 0xAC00 → is_hangul_syllable c ≡ false
+unfolding is_hangul_syllable
+low_no_syllable c low = grind (arith, nat_tests)
+
+module _ (records : List Entry) (uts46 : List MapperEntry) (fixed : has_fixed_fault records uts46 ≡ false) where
+  unrecorded_jamo : (c : ℕ) → 0x1100 ≤ c → c ≤ 0x11FF → entry_of records c ≡ None
+  unfolding entry_of has_fixed_fault
+  unrecorded_jamo c low high = none_fixed c records (jamo_fixed c low high) (or_first _ _ fixed)
+
+  class_of-unrecorded : (c : ℕ) → entry_of records c ≡ None → class_of records c ≡ 0
+  unfolding class_of
+  class_of-unrecorded c h = ap (λ o. option_map_or (λ r. r.class) o 0) h
+
+  module _ (mappings : Mappings) where
+    replacement-unrecorded : (c : ℕ) → is_hangul_syllable c ≡ false → entry_of records c ≡ None → replacement records mappings c ≡ []
+    unfolding replacement
+    replacement-unrecorded c low h = rw (low, h) refl
+
+    replacement-syllable : (c : ℕ) → is_hangul_syllable c ≡ true → replacement records mappings c ≡ hangul_decomposition c
+    unfolding replacement
+    replacement-syllable c h = rw h refl
+
+    pub jamo_stays : (c : ℕ) → 0x1100 ≤ c → c ≤ 0x11FF → replacement records mappings c ≡ []
+    jamo_stays c low high = replacement-unrecorded c (low_no_syllable c (omega arith)) (unrecorded_jamo c low high)
+
+    pub jamo_alone : (n c : ℕ) → 0x1100 ≤ c → c ≤ 0x11FF → expansion records mappings n c ≡ c ∷ []
+    jamo_alone n c low high = expansion-alone records mappings n c (jamo_stays c low high)
+
+    -- what begins with a starter and has at most three members
+    IsBare : List ℕ → Type 0
+    IsBare x = (begins_with_mark records x ≡ false) × (length x ≤ 3)
+
+    starter : (c : ℕ) → entry_of records c ≡ None → nat_lt 0 (class_of records c) ≡ false
+    starter c h = let none = class_of-unrecorded c h in grind (arith, nat_tests)
+
+    IsBare-one : (c : ℕ) → entry_of records c ≡ None → IsBare (c ∷ [])
+    unfolding IsBare
+    IsBare-one c h = (starter c h, omega arith)
+
+    IsBare-two : (n l v : ℕ) → 0x1100 ≤ l → l ≤ 0x11FF → 0x1100 ≤ v → v ≤ 0x11FF → IsBare (flat_map (expansion records mappings n) (l ∷ v ∷ []))
+    unfolding IsBare
+    IsBare-two n l v ll lh vl vh = rw (jamo_alone n l ll lh, jamo_alone n v vl vh) (starter l (unrecorded_jamo l ll lh), omega arith)
+
+    IsBare-three : (n l v t : ℕ) → 0x1100 ≤ l → l ≤ 0x11FF → 0x1100 ≤ v → v ≤ 0x11FF → 0x1100 ≤ t → t ≤ 0x11FF → IsBare (flat_map (expansion records mappings n) (l ∷ v ∷ t ∷ []))
+    unfolding IsBare
+    IsBare-three n l v t ll lh vl vh tl th = rw (jamo_alone n l ll lh, jamo_alone n v vl vh, jamo_alone n t tl th) (starter l (unrecorded_jamo l ll lh), omega arith)
+
+    IsBare-jamo : (n c : ℕ) → is_hangul_syllable c ≡ true → IsBare (flat_map (expansion records mappings n) (hangul_decomposition c))
+    unfolding hangul_decomposition
+    IsBare-jamo n c h =
+        let range = syllable-range c h in
+        let index = c - s_base in
+        elim (index % t_count == 0) as (λ b. IsBare (flat_map (expansion records mappings n) (if b then (l_base + index / n_count) ∷ (v_base + index % n_count / t_count) ∷ [] else (l_base + index / n_count) ∷ (v_base + index % n_count / t_count) ∷ (t_base + index % t_count) ∷ []))) [
+          | true ↦ IsBare-two n (l_base + index / n_count) (v_base + index % n_count / t_count) (omega arith) (omega arith) (omega arith) (omega arith)
+          | false ↦ IsBare-three n (l_base + index / n_count) (v_base + index % n_count / t_count) (t_base + index % t_count) (omega arith) (omega arith) (omega arith) (omega arith) (omega arith) (omega arith)
+        ]
+
+    jamo_some : (c : ℕ) → hangul_decomposition c ≢ []
+    unfolding hangul_decomposition
+    jamo_some c =
+        let index = c - s_base in
+        elim (index % t_count == 0) as (λ b. (if b then (l_base + index / n_count) ∷ (v_base + index % n_count / t_count) ∷ [] else (l_base + index / n_count) ∷ (v_base + index % n_count / t_count) ∷ (t_base + index % t_count) ∷ []) ≢ []) [
+          | true ↦ λ e. absurd cc
+          | false ↦ λ e. absurd cc
+        ]
+
+    IsBare-expansion : (c : ℕ) → entry_of records c ≡ None → IsBare (expansion records mappings levels c)
+    IsBare-expansion c h = elim (is_hangul_syllable c) as (λ b. is_hangul_syllable c ≡ b → IsBare (expansion records mappings levels c)) [
+      | true ↦ λ syllable.
+          let same : replacement records mappings c ≡ hangul_decomposition c = replacement-syllable c syllable in
+          let e : expansion records mappings 17 c ≡ flat_map (expansion records mappings 16) (hangul_decomposition c) = expansion-replaced records mappings 16 c (λ none. jamo_some c (sym same ∙ none)) ∙ ap (flat_map (expansion records mappings 16)) same in
+          subst IsBare (sym e) (IsBare-jamo 16 c syllable)
+      | false ↦ λ other. subst IsBare (sym (expansion-alone records mappings 17 c (replacement-unrecorded c other h))) (IsBare-one c h)
+    ] refl
+
+    full_list-begins : (c : ℕ) → entry_of records c ≡ None → begins_with_mark records (full_list records mappings c) ≡ false
+    unfolding full_list IsBare
+    full_list-begins c h = begins-order records (expansion records mappings levels c) ∙ (IsBare-expansion c h).0
+
+    full_list-short : (c : ℕ) → entry_of records c ≡ None → length (full_list records mappings c) ≤ 3
+    unfolding full_list IsBare
+    full_list-short c h = let same = length-order (recorded_classes records) (expansion records mappings levels c) in let few = (IsBare-expansion c h).1 in omega arith
+
+  not_wrong : (c : ℕ) (b : Bool) (list : List ℕ) → b ≡ false → begins_with_mark records list ≡ false → IsWrong records c b list → ⊥
+  not_wrong c b list starts bare (inl marked, form) = true≢false (sym marked ∙ starts)
+  not_wrong c b list starts bare (inr marked, form) = true≢false (sym marked ∙ bare)
+
+  not_long : (list : List ℕ) → length list ≤ 3 → IsTooLong list → ⊥
+  not_long list few h = let long = h.0 in absurd (grind (arith, nat_tests))
+
+  mapper_list-unrecorded : (c : ℕ) → status_of uts46 c ≡ None → mapper_list records uts46 c ≡ Some (canonical_list records c)
+  unfolding mapper_list mapped_list
+  mapper_list-unrecorded c h = rw h refl
+
+  HasWrongClass-unrecorded : (c : ℕ) → entry_of records c ≡ None → status_of uts46 c ≡ None → HasWrongClass records uts46 c → ⊥
+  unfolding HasWrongClass
+  HasWrongClass-unrecorded c h k (inl highest) = let none = class_of-unrecorded c h in omega arith
+  HasWrongClass-unrecorded c h k (inr (inl wrong)) = not_wrong c _ _ (starter Canonical c h) (full_list-begins Canonical c h) wrong
+  HasWrongClass-unrecorded c h k (inr (inr (inl wrong))) = not_wrong c _ _ (starter AllMappings c h) (full_list-begins AllMappings c h) wrong
+  HasWrongClass-unrecorded c h k (inr (inr (inr wrong))) = not_wrong c false _ refl (full_list-begins Canonical c h) (subst (λ (o : Option (List ℕ)). IsSomeAnd o (IsWrong records c false)) (mapper_list-unrecorded c k) wrong)
+
+  HasLongList-unrecorded : (c : ℕ) → entry_of records c ≡ None → status_of uts46 c ≡ None → HasLongList records uts46 c → ⊥
+  unfolding HasLongList
+  HasLongList-unrecorded c h k (inl long) = not_long _ (full_list-short Canonical c h) long
+  HasLongList-unrecorded c h k (inr (inl long)) = not_long _ (full_list-short AllMappings c h) long
+  HasLongList-unrecorded c h k (inr (inr long)) = not_long _ (full_list-short Canonical c h) (subst (λ (o : Option (List ℕ)). IsSomeAnd o IsTooLong) (mapper_list-unrecorded c k) long)
+
+  -- every character is recorded in one way or the other, or in none
+  abbrev characters : List ℕ
+  characters = map (λ (r : Entry). r.c) records ++ map (λ (r : MapperEntry). r.c) uts46
+
+  nothing : Option Entry
+  nothing = None
+
+  is_recorded : (c : ℕ) → Contains characters c ⊎ ((entry_of records c ≡ None) × (status_of uts46 c ≡ None))
+  unfolding entry_of status_of nothing
+  is_recorded c = elim (find (λ (r : Entry). r.c == c) records) as (λ o. find (λ (r : Entry). r.c == c) records ≡ o → Contains characters c ⊎ ((o ≡ None) × (option_map (λ (r : MapperEntry). r.status) (find (λ r. r.c == c) uts46) ≡ None))) [
+    | Some r ↦ λ found. inl (Contains-append_left _ _ c (contains_key (λ (r : Entry). r.c) records c (ap is_some found)))
+    | None ↦ λ missing. elim (find (λ (r : MapperEntry). r.c == c) uts46) as (λ o. find (λ (r : MapperEntry). r.c == c) uts46 ≡ o → Contains characters c ⊎ ((nothing ≡ None) × (option_map (λ (r : MapperEntry). r.status) o ≡ None))) [
+      | Some r ↦ λ found. inl (Contains-append_right _ _ c (contains_key (λ (r : MapperEntry). r.c) uts46 c (ap is_some found)))
+      | None ↦ λ gone. inr (refl, refl)
+    ] refl
+  ] refl
+
+  pub HasClassFault-recorded : IsOfSome (λ c. IsAsked records uts46 c × HasWrongClass records uts46 c) characters ↔ HasClassFault records uts46
+  unfolding HasClassFault
+  HasClassFault-recorded = (
+    λ h. (h.0, h.2.0, h.2.1),
+    λ h. elim (is_recorded h.0) as (λ _. IsOfSome (λ c. IsAsked records uts46 c × HasWrongClass records uts46 c) characters) [
+      | inl there ↦ (h.0, there, (h.1, h.2))
+      | inr nowhere ↦ absurd (HasWrongClass-unrecorded h.0 nowhere.0 nowhere.1 h.2)
+    ],
+  )
+
+  pub HasLengthFault-recorded : IsOfSome (λ c. IsAsked records uts46 c × HasLongList records uts46 c) characters ↔ HasLengthFault records uts46
+  unfolding HasLengthFault
+  HasLengthFault-recorded = (
+    λ h. (h.0, h.2.0, h.2.1),
+    λ h. elim (is_recorded h.0) as (λ _. IsOfSome (λ c. IsAsked records uts46 c × HasLongList records uts46 c) characters) [
+      | inl there ↦ (h.0, there, (h.1, h.2))
+      | inr nowhere ↦ absurd (HasLongList-unrecorded h.0 nowhere.0 nowhere.1 h.2)
+    ],
+  )

@@ -1,0 +1,18 @@
+use Rattle.std.proofs.Common.{◌≡◌, None, Some, sym, ap, ◌∙◌}
+use Rattle.normalizer_records.specs.Entry.{MapperEntry}
+use Rattle.normalizer_records.specs.Statuses.{status_of as status_value}
+use Rattle.normalizer_records.specs.Meaning.{mapper_list, mapped_list, status_of}
+use Rattle.normalizer_records.proofs.list_faults.cut_mapper_list.Goals as goal
+
+pub returns-in_ok-cut_list-in-None : goal.returns-in_ok-cut_list-in-None
+unfolding mapper_list mapped_list
+returns-in_ok-cut_list-in-None c =
+    let none : status_of c.args.uts46.now c.args.c ≡ None = sym c.in-None.ensures in
+    rw none c.in_ok-cut_list-in-None.ensures
+
+pub returns-in-Some : goal.returns-in-Some
+unfolding mapper_list mapped_list
+returns-in-Some c =
+    let seen = ap (λ (e : MapperEntry). e.status) c.record.view_is in
+    let known : status_of c.args.uts46.now c.args.c ≡ Some (status_value c.record.inside.status) = sym c.in-Some.ensures ∙ ap (λ s. Some s) (sym seen) in
+    rw known c.cut_mapped_list.ensures

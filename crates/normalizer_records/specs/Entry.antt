@@ -1,0 +1,19 @@
+-- What a record says: a character with its class and mapping, and what the mapper does with a character.
+use Rattle.std.specs.Prelude.{ℕ, Bool, List}
+
+-- an empty mapping is none
+pub record Entry : Type 0 where
+  pub c : ℕ
+  pub class : ℕ
+  pub mapping : List ℕ
+  pub compatibility : Bool
+  pub excluded : Bool
+
+pub data Status : Type 0 where
+  MapsTo : List ℕ → Status
+  IsIgnored : Status
+  IsDisallowed : Status
+
+pub record MapperEntry : Type 0 where
+  pub c : ℕ
+  pub status : Status

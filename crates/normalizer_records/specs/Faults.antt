@@ -1,0 +1,199 @@
+-- What is wrong with records, told from the records alone.
+use Rattle.std.specs.Prelude.{◌≡◌, ◌≢◌, ℕ, ◌<◌, Bool, true, false, not, ◌&&◌, ◌||◌, ◌⊎◌, ◌==◌, nat_lt, List, [], ◌∷◌, ◌++◌, length, map, All, AllPairs, Contains, IsSomeAnd, count_by, Option, Some, None, is_some, if◌then◌else◌}
+use Rattle.std.specs.List.{list_any}
+use Rattle.std.specs.Int.{is_in_range}
+use Rattle.normalizer_tables.specs.Hangul.{is_hangul_syllable}
+use Rattle.normalizer_tables.specs.SpecialLists.{fixed_list_of, fdfa_list}
+use Rattle.normalizer_records.specs.declared.refusal.Refusal.{Refusal}
+use Rattle.normalizer_records.specs.declared.refusal.Refusal.TheVariants.{Order, Fixed, Class, Mapping, Chain, Length, Pair}
+use Rattle.normalizer_records.specs.Entry.{Entry, Status, MapsTo, IsIgnored, IsDisallowed, MapperEntry}
+use Rattle.normalizer_records.specs.Meaning.{entry_of, class_of, mapping_of, canonical_list, compatibility_list, status_of, mapper_list, pairs_of}
+
+-- Order
+
+-- the records strictly rise by character
+abbrev pub AreRising : List Entry → Type 0
+AreRising records = AllPairs (λ r s. r.c < s.c) records
+
+abbrev pub AreMapperRising : List MapperEntry → Type 0
+AreMapperRising uts46 = AllPairs (λ r s. r.c < s.c) uts46
+
+-- the records, or those of the mapper, don't strictly rise
+unfoldable pub HasOrderFault : List Entry → List MapperEntry → Type 0
+HasOrderFault records uts46 = ¬ (AreRising records × AreMapperRising uts46)
+
+-- Fixed
+
+-- U+FFFD, the block Hangul Jamo, and the Hangul syllables
+unfoldable pub is_fixed : ℕ → Bool
+is_fixed c = (c == 0xFFFD) || is_in_range 0x1100 0x11FF c || is_hangul_syllable c
+
+-- the mapper disallows the character
+abbrev pub is_disallowed : Status → Bool
+is_disallowed IsDisallowed = true
+is_disallowed IsIgnored = false
+is_disallowed (MapsTo mapping) = false
+
+-- the mapper may speak of the two Hangul fillers, and disallow U+FFFD
+unfoldable pub is_fixed_for_mapper : MapperEntry → Bool
+is_fixed_for_mapper r = is_fixed r.c && not (is_in_range 0x115F 0x1160 r.c) && not ((r.c == 0xFFFD) && is_disallowed r.status)
+
+unfoldable pub has_fixed_fault : List Entry → List MapperEntry → Bool
+has_fixed_fault records uts46 = list_any (λ r. is_fixed r.c) records || list_any is_fixed_for_mapper uts46
+
+-- Mapping
+
+abbrev pub has_zero : List ℕ → Bool
+has_zero mapping = list_any (λ m. m == 0) mapping
+
+-- a character that is second in no recorded pair: U+FFFD, or of the block Hangul Jamo
+unfoldable pub is_never_second : ℕ → Bool
+is_never_second c = (c == 0xFFFD) || is_in_range 0x1100 0x11FF c
+
+-- a canonical mapping is of at most two characters
+unfoldable pub is_bad_canonical : List ℕ → Bool
+is_bad_canonical [] = false
+is_bad_canonical (first ∷ []) = false
+is_bad_canonical (first ∷ second ∷ []) = is_never_second second
+is_bad_canonical (first ∷ second ∷ third ∷ rest) = true
+
+-- a compatibility mapping of at most 18, and neither has U+0000
+unfoldable pub is_bad_mapping : Entry → Bool
+is_bad_mapping r = has_zero r.mapping || (if r.compatibility then nat_lt 18 (length r.mapping) else is_bad_canonical r.mapping)
+
+-- the mapper maps to something, and not to U+0000
+abbrev pub is_bad_status : Status → Bool
+is_bad_status (MapsTo []) = true
+is_bad_status (MapsTo (m ∷ mapping)) = has_zero (m ∷ mapping)
+is_bad_status IsIgnored = false
+is_bad_status IsDisallowed = false
+
+unfoldable pub has_mapping_fault : List Entry → List MapperEntry → Bool
+has_mapping_fault records uts46 = list_any is_bad_mapping records || list_any (λ r. is_bad_status r.status) uts46
+
+-- Chain
+
+abbrev pub IsRecorded : List Entry → ℕ → Type 0
+IsRecorded records c = is_some (entry_of records c) ≡ true
+
+-- the next character, if there is one, is in the mapping of c
+abbrev pub LeadsTo : List Entry → ℕ → List ℕ → Type 0
+LeadsTo records c [] = Unit {0}
+LeadsTo records c (next ∷ rest) = Contains (mapping_of records c) next
+
+-- the characters of records, each with the next one's character in its mapping
+unfoldable pub IsChain : List Entry → List ℕ → Type 0
+IsChain records [] = Unit {0}
+IsChain records (c ∷ rest) = IsRecorded records c × LeadsTo records c rest × IsChain records rest
+
+-- how many records may lead from one to the next
+abbrev pub chain_limit : ℕ
+chain_limit = 16
+
+-- a chain of more than 16 records
+unfoldable pub HasChainFault : List Entry → Type 0
+HasChainFault records = (chain : List ℕ) × IsChain records chain × (chain_limit < length chain)
+
+-- c is on such a chain
+unfoldable pub IsOnLongChain : List Entry → ℕ → Type 0
+IsOnLongChain records c = (before after : List ℕ) × IsChain records (before ++ c ∷ after) × (chain_limit < length (before ++ c ∷ after))
+
+-- what the mapper maps c to
+abbrev pub mapped_to : Option Status → List ℕ
+mapped_to None = []
+mapped_to (Some IsIgnored) = []
+mapped_to (Some IsDisallowed) = []
+mapped_to (Some (MapsTo mapping)) = mapping
+
+-- the class and the lists of c are asked: neither it nor what the mapper maps it to is on such a chain
+pub record IsAsked (records : List Entry) (uts46 : List MapperEntry) (c : ℕ) : Type 0 where
+  pub off_chain : ¬ IsOnLongChain records c
+  pub mapped_off_chain : All (λ m. ¬ IsOnLongChain records m) (mapped_to (status_of uts46 c))
+
+-- Class
+
+-- the list is the fixed one of c, and the classes of c and of the members are its
+abbrev pub IsFixedForm : List Entry → ℕ → List ℕ → Type 0
+IsFixedForm records c list = fixed_list_of c ≡ Some (record { list = list; class = class_of records c; member_classes = map (class_of records) list })
+
+-- the list begins with a mark, by the recorded classes
+abbrev pub begins_with_mark : List Entry → List ℕ → Bool
+begins_with_mark records [] = false
+begins_with_mark records (c ∷ list) = nat_lt 0 (class_of records c)
+
+-- a list other than the character alone, and not its fixed one
+abbrev pub IsFreeForm : List Entry → ℕ → List ℕ → Type 0
+IsFreeForm records c list = (list ≢ c ∷ []) × (¬ IsFixedForm records c list)
+
+-- such a list begins with a mark, or is of a character that is one itself
+abbrev pub IsWrong : List Entry → ℕ → Bool → List ℕ → Type 0
+IsWrong records c is_mark list = ((is_mark ≡ true) ⊎ (begins_with_mark records list ≡ true)) × IsFreeForm records c list
+
+abbrev pub is_mark : List Entry → ℕ → Bool
+is_mark records c = nat_lt 0 (class_of records c)
+
+-- class 255; or a class above 0 and a mapping; or a list that begins with a mark: the canonical list, the compatibility
+-- list, or the mapper's if it doesn't ignore the character
+unfoldable pub HasWrongClass : List Entry → List MapperEntry → ℕ → Type 0
+HasWrongClass records uts46 c =
+    (class_of records c ≡ 255)
+    ⊎ (IsWrong records c (is_mark records c) (canonical_list records c)
+    ⊎ (IsWrong records c (is_mark records c) (compatibility_list records c)
+    ⊎ IsSomeAnd (mapper_list records uts46 c) (IsWrong records c false)))
+
+unfoldable pub HasClassFault : List Entry → List MapperEntry → Type 0
+HasClassFault records uts46 = (c : ℕ) × IsAsked records uts46 c × HasWrongClass records uts46 c
+
+-- Length
+
+-- longer than 17, or than 16 with a character past U+FFFF
+abbrev pub is_long : List ℕ → Bool
+is_long list = nat_lt 17 (length list) || (nat_lt 16 (length list) && list_any (λ c. nat_lt 0xFFFF c) list)
+
+abbrev pub IsTooLong : List ℕ → Type 0
+IsTooLong list = (is_long list ≡ true) × (list ≢ fdfa_list)
+
+-- one of the lists is
+unfoldable pub HasLongList : List Entry → List MapperEntry → ℕ → Type 0
+HasLongList records uts46 c = IsTooLong (canonical_list records c) ⊎ (IsTooLong (compatibility_list records c) ⊎ IsSomeAnd (mapper_list records uts46 c) IsTooLong)
+
+unfoldable pub HasLengthFault : List Entry → List MapperEntry → Type 0
+HasLengthFault records uts46 = (c : ℕ) × IsAsked records uts46 c × HasLongList records uts46 c
+
+-- Pair
+
+-- two records give a pair of the same two characters
+unfoldable pub HasPairFault : List Entry → Type 0
+HasPairFault records = (first second : ℕ) × (1 < count_by (λ p. (p.0 == second) && (p.1 == first)) (pairs_of records))
+
+-- All
+
+-- what each refusal says
+unfoldable pub HasFault : List Entry → List MapperEntry → Refusal → Type 0
+HasFault records uts46 Order = HasOrderFault records uts46
+HasFault records uts46 Fixed = has_fixed_fault records uts46 ≡ true
+HasFault records uts46 Class = HasClassFault records uts46
+HasFault records uts46 Mapping = has_mapping_fault records uts46 ≡ true
+HasFault records uts46 Chain = HasChainFault records
+HasFault records uts46 Length = HasLengthFault records uts46
+HasFault records uts46 Pair = HasPairFault records
+
+-- their order, the smallest first
+abbrev pub rank_of : Refusal → ℕ
+rank_of Order = 1
+rank_of Fixed = 2
+rank_of Class = 3
+rank_of Mapping = 4
+rank_of Chain = 5
+rank_of Length = 6
+rank_of Pair = 7
+
+-- none where nothing is wrong, else the smallest refusal whose fault the records have
+unfoldable pub IsFirstRefusal : List Entry → List MapperEntry → Option Refusal → Type 0
+IsFirstRefusal records uts46 None = (r : Refusal) → ¬ HasFault records uts46 r
+IsFirstRefusal records uts46 (Some r) = HasFault records uts46 r × ((s : Refusal) → rank_of s < rank_of r → ¬ HasFault records uts46 s)
+
+-- the smallest of those past the second that are so
+abbrev pub first_among : Bool → Bool → Bool → Bool → Bool → Option Refusal
+first_among class mapping chain long pair =
+    if class then Some Class else if mapping then Some Mapping else if chain then Some Chain else if long then Some Length else if pair then Some Pair else None

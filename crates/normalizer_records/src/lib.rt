@@ -1,0 +1,22 @@
+//! Plain records of characters: what they mean, and every refusal that they alone decide.
+#![tactic(auto)]
+
+mod chains;
+mod expansion;
+mod faults;
+pub mod laws;
+mod list_faults;
+mod lists;
+mod lookup;
+mod ordering;
+mod pair_list;
+mod records;
+pub mod refusal;
+mod refusals;
+
+pub use lists::{canonical_list, compatibility_list, mapper_list};
+pub use lookup::{canonical_mapping_of, class_of};
+pub use pair_list::pairs;
+pub use records::{BuildError, Mappings, Record, Uts46Record, Uts46Status};
+pub use refusal::Refusal;
+pub use refusals::{first_refusal, recorded_characters};

@@ -1,0 +1,70 @@
+//! The lists that records give characters.
+ghost use Rattle.std.specs.Prelude.{◌≡◌, ◌≤◌, length, IfOk, IfSome};
+ghost use Rattle.std.specs.Option.{option_map};
+ghost use Rattle.normalizer_records.specs.Faults.{AreMapperRising, AreRising};
+ghost use Rattle.normalizer_records.specs.Meaning.{
+  canonical_list,
+  compatibility_list,
+  full_list,
+  mapper_list,
+};
+
+use crate::expansion::list_within;
+use crate::list_faults::cut_mapper_list;
+use crate::records::{Mappings, Record, Uts46Record};
+use std::alloc::{AllocError, Global};
+
+/// More than the longest list has.
+const ROOM: usize = 19;
+
+fn full_list(
+    alloc: Global,
+    records: &[Record],
+    mappings: Mappings,
+    c: char,
+) -> Result<Vec<char>, AllocError>
+    requires rising { AreRising records.now }
+    requires fits { length (full_list records.now mappings c) ≤ 18 }
+    ensures { IfOk result (λ v. v.items ≡ full_list records.now mappings c) }
+{
+    let list = list_within(alloc, records, mappings, c, ROOM)?;
+    Ok(list)
+}
+
+/// The canonical list of a character: its canonical mapping replaced until nothing changes, then put in order.
+pub fn canonical_list(alloc: Global, records: &[Record], c: char) -> Result<Vec<char>, AllocError>
+    requires rising { AreRising records.now }
+    requires fits { length (canonical_list records.now c) ≤ 18 }
+    ensures { IfOk result (λ v. v.items ≡ canonical_list records.now c) }
+{
+    full_list(alloc, records, Mappings::Canonical, c)
+}
+
+/// The compatibility list of a character: the same by all mappings.
+pub fn compatibility_list(
+    alloc: Global,
+    records: &[Record],
+    c: char,
+) -> Result<Vec<char>, AllocError>
+    requires rising { AreRising records.now }
+    requires fits { length (compatibility_list records.now c) ≤ 18 }
+    ensures { IfOk result (λ v. v.items ≡ compatibility_list records.now c) }
+{
+    full_list(alloc, records, Mappings::All, c)
+}
+
+/// The list of the mapper, none where it ignores the character.
+pub fn mapper_list(
+    alloc: Global,
+    records: &[Record],
+    uts46: &[Uts46Record],
+    c: char,
+) -> Result<Option<Vec<char>>, AllocError>
+    requires rising { AreRising records.now }
+    requires mapper { AreMapperRising uts46.now }
+    requires fits { IfSome (mapper_list records.now uts46.now c) (λ list. length list ≤ 18) }
+    ensures { IfOk result (λ o. option_map (λ v. v.items) o ≡ mapper_list records.now uts46.now c) }
+{
+    let list = cut_mapper_list(alloc, records, uts46, c)?;
+    Ok(list)
+}

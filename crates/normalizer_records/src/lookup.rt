@@ -1,0 +1,95 @@
+//! The record of a character.
+ghost use Rattle.std.specs.Prelude.{◌≡◌, MatchOption};
+ghost use Rattle.std.specs.Option.{option_map};
+ghost use Rattle.normalizer_records.specs.declared.records.Mappings.TheVariants.{Canonical};
+ghost use Rattle.normalizer_records.specs.Faults.{AreRising, AreMapperRising};
+ghost use Rattle.normalizer_records.specs.Lookup.{IsMissing, Stands, IsPlaceOf, IsMapperPlaceOf};
+ghost use Rattle.normalizer_records.specs.Meaning.{canonical_mapping_of, class_of, entry_of, mapping_among, status_of};
+
+use crate::records::{Record, Uts46Record};
+
+/// The place where a character is recorded, by halving.
+pub(crate) fn place_of(records: &[Record], c: char) -> Option<usize>
+    requires { AreRising records.now }
+    ensures { MatchOption result (IsMissing records.now c) (Stands records.now c) }
+{
+    let at = first_place(records, c);
+    match records.get(at) {
+        None => None,
+        Some(record) => { if record.c == c { Some(at) } else { None } }
+    }
+}
+
+/// The place of the first record that doesn't stand before a character.
+fn first_place(records: &[Record], c: char) -> usize
+    requires { AreRising records.now }
+    ensures { IsPlaceOf records.now c result }
+{
+    records.partition_point(|record| record.c < c)
+}
+
+/// The record of a character.
+pub(crate) fn record_of(records: &[Record], c: char) -> Option<&Record>
+    requires { AreRising records.now }
+    ensures { option_map (λ r. r.now) result ≡ entry_of records.now c }
+{
+    let at = first_place(records, c);
+    match records.get(at) {
+        None => None,
+        Some(record) => { if record.c == c { Some(record) } else { None } }
+    }
+}
+
+/// The recorded class of a character.
+#[tactic(auto, unfolding(crate::specs::Meaning::class_of))]
+pub fn class_of(records: &[Record], c: char) -> u8
+    requires { AreRising records.now }
+    ensures { result ≡ class_of records.now c }
+{
+    match record_of(records, c) {
+        Some(record) => record.class,
+        None => 0,
+    }
+}
+
+/// The recorded canonical mapping of a character, empty without one.
+#[tactic(auto, unfolding(crate::specs::Meaning::canonical_mapping_of))]
+pub fn canonical_mapping_of(records: &[Record], c: char) -> &[char]
+    requires { AreRising records.now }
+    ensures { result.now ≡ canonical_mapping_of records.now c }
+{
+    match record_of(records, c) {
+        Some(record) => canonical_mapping(record),
+        None => &[],
+    }
+}
+
+/// The mapping of a record, if it is a canonical one.
+fn canonical_mapping(record: &Record) -> &[char]
+    ensures { result.now ≡ mapping_among Canonical record.now }
+{
+    if record.compatibility {
+        &[]
+    } else {
+        record.mapping.as_slice()
+    }
+}
+
+/// What the mapper does with a character, if that is recorded.
+pub(crate) fn uts46_record_of(uts46: &[Uts46Record], c: char) -> Option<&Uts46Record>
+    requires { AreMapperRising uts46.now }
+    ensures { option_map (λ r. r.now.status) result ≡ status_of uts46.now c }
+{
+    let at = first_mapper_place(uts46, c);
+    match uts46.get(at) {
+        None => None,
+        Some(record) => { if record.c == c { Some(record) } else { None } }
+    }
+}
+
+fn first_mapper_place(uts46: &[Uts46Record], c: char) -> usize
+    requires { AreMapperRising uts46.now }
+    ensures { IsMapperPlaceOf uts46.now c result }
+{
+    uts46.partition_point(|record| record.c < c)
+}

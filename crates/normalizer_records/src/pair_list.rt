@@ -1,0 +1,97 @@
+//! The pairs that records give.
+ghost use Rattle.std.specs.Prelude.{◌≡◌, ◌↔◌, ◌++◌, [], false, IfOk, OnOk, IsTrue};
+ghost use Rattle.std.specs.List.{cons_option};
+ghost use Rattle.std.specs.List.Sorted.{IsPermutation, IsSorted};
+ghost use Rattle.normalizer_tables.specs.Pairs.{is_before, AreRising as ArePairsRising};
+ghost use Rattle.normalizer_records.specs.Faults.{HasPairFault};
+ghost use Rattle.normalizer_records.specs.Meaning.{pair_of_mapping, pair_of_record, pairs_of};
+ghost use Rattle.normalizer_records.specs.SortedPairs.{by_second_and_first, FallsSomewhere};
+
+use crate::records::Record;
+use normalizer_tables::special::fixed_list_of;
+use std::alloc::{AllocError, Global};
+
+/// The pair that a record gives: second, first, and what they compose to.
+#[tactic(auto, unfolding(crate::specs::Meaning::pair_of_record))]
+fn pair_of_record(record: &Record) -> Option<(char, char, char)>
+    ensures { result ≡ pair_of_record record.now }
+{
+    if !record.compatibility && !record.excluded && fixed_list_of(record.c).is_none() {
+        pair_of_mapping(record.c, &record.mapping)
+    } else {
+        None
+    }
+}
+
+fn pair_of_mapping(c: char, mapping: &[char]) -> Option<(char, char, char)>
+    ensures { result ≡ pair_of_mapping c mapping.now }
+{
+    match mapping {
+        [first, second] => Some((*second, *first, c)),
+        _ => None,
+    }
+}
+
+/// Adds a pair, if there is one.
+fn push_pair(
+    pairs: &mut Vec<(char, char, char)>,
+    pair: Option<(char, char, char)>,
+) -> Result<(), AllocError>
+    ensures { OnOk result (pairs.new.items ≡ pairs.old.items ++ cons_option pair []) }
+{
+    if let Some(pair) = pair {
+        pairs.push(pair)?;
+    }
+    Ok(())
+}
+
+fn unsorted_pairs(alloc: Global, records: &[Record]) -> Result<Vec<(char, char, char)>, AllocError>
+    ensures { IfOk result (λ v. v.items ≡ pairs_of records.now) }
+{
+    let mut pairs = Vec::new(alloc);
+    for place in 0..records.len() {
+        push_pair(&mut pairs, pair_of_record(&records[place]))?;
+    }
+    Ok(pairs)
+}
+
+/// The pairs of records, sorted by second, then by first. They strictly rise unless two records give the same pair.
+pub fn pairs(alloc: Global, records: &[Record]) -> Result<Vec<(char, char, char)>, AllocError>
+    ensures same { IfOk result (λ v. IsPermutation (pairs_of records.now) v.items) }
+    ensures sorted { IfOk result (λ v. IsSorted by_second_and_first v.items) }
+    ensures rising { IfOk result (λ v. (¬ HasPairFault records.now) → ArePairsRising v.items) }
+{
+    let mut pairs = unsorted_pairs(alloc, records)?;
+    sort_pairs(&mut pairs)?;
+    Ok(pairs)
+}
+
+fn sort_pairs(pairs: &mut Vec<(char, char, char)>) -> Result<(), AllocError>
+    ensures same { OnOk result (IsPermutation pairs.old.items pairs.new.items) }
+    ensures sorted { OnOk result (IsSorted by_second_and_first pairs.new.items) }
+{
+    pairs.sort_by_key(|pair| (pair.0, pair.1))?;
+    Ok(())
+}
+
+#[tactic(auto, unfolding(normalizer_tables::specs::Pairs::is_before))]
+fn is_before(pair: &(char, char, char), next: &(char, char, char)) -> bool
+    ensures { result ≡ is_before pair.now next.now.0 next.now.1 }
+{
+    pair.0 < next.0 || (pair.0 == next.0 && pair.1 < next.1)
+}
+
+fn are_rising(pairs: &[(char, char, char)]) -> bool
+    ensures rising { IsTrue result ↔ ArePairsRising pairs.now }
+    ensures falls { result ≡ false → FallsSomewhere pairs.now }
+{
+    pairs.is_sorted_by(|pair, next| is_before(pair, next))
+}
+
+/// Whether two records give the same pair.
+pub(crate) fn has_pair_fault(alloc: Global, records: &[Record]) -> Result<bool, AllocError>
+    ensures { IfOk result (λ b. IsTrue b ↔ HasPairFault records.now) }
+{
+    let pairs = pairs(alloc, records)?;
+    Ok(!are_rising(&pairs))
+}

@@ -1,0 +1,92 @@
+//! What is recorded of characters.
+use normalizer_tables::DataMarkerInfo;
+use std::marker::Model;
+use thiserror::Error;
+
+/// What is recorded of one character. An empty mapping is none, and the two flags are then not looked at; `excluded` is
+/// looked at for canonical mappings of two characters alone.
+#[derive(Drop, Clone, Debug)]
+pub struct Record {
+    pub c: char,
+    pub class: u8,
+    pub mapping: Vec<char>,
+    pub compatibility: bool,
+    pub excluded: bool,
+}
+
+impl Model for Record {
+    ghost use Rattle.normalizer_records.specs.Entry.{Entry};
+
+    ghost Value = { Entry };
+
+    ghost view = { λ r. record { c = r.c; class = r.class; mapping = r.mapping.items; compatibility = r.compatibility; excluded = r.excluded } };
+}
+
+/// What the mapper does with a character (UTS #46, section 4).
+#[derive(Drop, Clone, Debug)]
+pub enum Uts46Status {
+    Mapped(Vec<char>),
+    Ignored,
+    Disallowed,
+}
+
+/// What is recorded of one character for the mapper.
+#[derive(Drop, Clone, Debug)]
+pub struct Uts46Record {
+    pub c: char,
+    pub status: Uts46Status,
+}
+
+impl Model for Uts46Record {
+    ghost use Rattle.normalizer_records.specs.Entry.{MapperEntry};
+
+    ghost Value = { MapperEntry };
+
+    ghost use Rattle.normalizer_records.specs.Statuses.{status_of};
+
+    ghost view = { λ r. record { c = r.c; status = status_of r.status } };
+}
+
+/// The mappings that are replaced: the canonical ones alone, or all.
+#[derive(Clone, Copy, PartialEq, Eq, Debug)]
+pub enum Mappings {
+    Canonical,
+    All,
+}
+
+/// Why records were refused.
+#[derive(Clone, Copy, PartialEq, Eq, Debug, Error)]
+pub enum BuildError {
+    /// The records of a kind don't strictly rise by character.
+    #[error("the records don't strictly rise by character")]
+    Order,
+    /// A record for a character whose data are fixed.
+    #[error("a record of U+FFFD, a conjoining jamo or a Hangul syllable")]
+    Fixed,
+    /// A class of 255, or a mark where a starter has to stand.
+    #[error("a class of 255, or a list that begins with a mark")]
+    Class,
+    /// A mapping that is empty, too long, or has a character that none may have there.
+    #[error("a mapping of a wrong length or with a character that it may not have")]
+    Mapping,
+    /// More than 16 records, each with the next one's character in its mapping.
+    #[error("more than 16 records lead from one to the next")]
+    Chain,
+    /// A list that is longer than words can say.
+    #[error("a list is too long")]
+    Length,
+    /// Two records give the same pair.
+    #[error("two records give the same pair")]
+    Pair,
+    /// The data that the records give break a written condition.
+    #[error("the data of {marker:?} break condition {condition}")]
+    Unfit {
+        marker: DataMarkerInfo,
+        condition: u8,
+    },
+    /// The lists that need tables have together more items than words can point to.
+    #[error("the lists have more items than the tables hold")]
+    TableFull,
+    #[error("out of memory")]
+    Memory,
+}
