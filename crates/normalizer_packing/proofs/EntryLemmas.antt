@@ -1,0 +1,54 @@
+-- Look-ups in entries that rise.
+use Rattle.std.proofs.Common.{◌≡◌, ◌≢◌, ◌==◌, ℕ, ◌<◌, ◌≤◌, Bool, true, false, List, [], ◌∷◌, length, get_or, refl, Some, None, find, All, arith, ap, sym, subst, ◌∙◌, zero, suc, inl, inr, nat_lt}
+use Rattle.std.proofs.lemmas.Bool.{cases_order, ltb-true, ltb-false, lt-ltb}
+use Rattle.std.proofs.lemmas.Bool.Decides.{nat_tests}
+use Rattle.std.proofs.lemmas.List.Elements.{All-head, All-tail, All-from_get_or}
+use Rattle.std.proofs.Math.Nat.{eq-or-lt_of_le}
+use Rattle.std.specs.List.Sorted.{IsPartitionedBy, IsPartitionPoint}
+use Rattle.normalizer_packing.specs.Entries.{CharacterEntry, AreRising, entry_of}
+
+-- the first element that passes
+pub find-first : {A : Type 0} (p : A → Bool) (xs : List A) (k : ℕ) (d : A) → k < length xs → p (get_or xs k d) ≡ true → ((j : ℕ) → j < k → p (get_or xs j d) ≡ false) → find p xs ≡ Some (get_or xs k d)
+find-first p [] k d within here before = absurd (omega arith)
+find-first p (x ∷ xs) zero d within here before = rw here refl
+find-first p (x ∷ xs) (suc k) d within here before = rw (before 0 (omega arith)) (find-first p xs k d (omega arith) here (λ j below. before (suc j) (omega arith)))
+
+-- none passes
+pub find-none : {A : Type 0} (p : A → Bool) (xs : List A) → All (λ x. p x ≡ false) xs → find p xs ≡ None
+find-none p [] h = refl
+find-none p (x ∷ xs) h = rw (All-head (λ y. p y ≡ false) x xs h) (find-none p xs (All-tail (λ y. p y ≡ false) x xs h))
+
+-- entries that rise have those below a character in front
+pub IsPartitionedBy-character : (entries : List CharacterEntry) (n : ℕ) → AreRising entries → IsPartitionedBy (λ e. nat_lt e.character n) entries
+IsPartitionedBy-character entries n rising i j d le within later = elim (eq-or-lt_of_le le) as (λ _. nat_lt (get_or entries i d).character n ≡ true) [
+  | inl same ↦ subst (λ (m : ℕ). nat_lt (get_or entries m d).character n ≡ true) (sym same) later
+  | inr below ↦ lt-ltb _ _ (omega (arith, rising i j d below within, ltb-true _ _ later))
+]
+
+abbrev pub IsPlaceOf : ℕ → List CharacterEntry → ℕ → Type 0
+IsPlaceOf n entries at = IsPartitionPoint (λ e. nat_lt e.character n ≡ true) (λ e. nat_lt e.character n ≡ false) entries at
+
+module _ (entries : List CharacterEntry) (n at : ℕ) (rising : AreRising entries) (is : IsPlaceOf n entries at) where
+  other_before : (k : ℕ) (d : CharacterEntry) → k < at → (k < length entries) → ((get_or entries k d).character == n) ≡ false
+  other_before k d below within =
+      let low = ltb-true _ _ (is.0 k d (omega arith) below) in grind (arith, nat_tests)
+
+  pub entry_of-found : (e : CharacterEntry) → at < length entries → e ≡ get_or entries at e → e.character ≡ n → entry_of entries n ≡ Some e
+  unfolding entry_of
+  entry_of-found e within here same =
+      find-first (λ f. f.character == n) entries at e within (subst (λ (f : CharacterEntry). (f.character == n) ≡ true) here (grind (arith, nat_tests))) (λ j below. other_before j e below (omega arith)) ∙ ap Some (sym here)
+
+  pub entry_of-gap : (e : CharacterEntry) → at < length entries → e ≡ get_or entries at e → e.character ≢ n → entry_of entries n ≡ None
+  unfolding entry_of
+  entry_of-gap e within here other = find-none (λ f. f.character == n) entries (All-from_get_or (λ f. (f.character == n) ≡ false) entries e misses)
+    where
+      misses : (k : ℕ) → k < length entries → ((get_or entries k e).character == n) ≡ false
+      misses k inside = elim (cases_order k at) as (λ _. ((get_or entries k e).character == n) ≡ false) [
+        | inl same ↦ subst (λ (f : CharacterEntry). (f.character == n) ≡ false) (here ∙ ap (λ m. get_or entries m e) (sym same)) (grind (arith, nat_tests))
+        | inr (inl below) ↦ other_before k e below inside
+        | inr (inr above) ↦ let low = ltb-false _ _ (is.1 at e (omega arith) within) in let more = rising at k e above inside in grind (arith, nat_tests)
+      ]
+
+  pub entry_of-above : length entries ≤ at → entry_of entries n ≡ None
+  unfolding entry_of
+  entry_of-above above = find-none (λ f. f.character == n) entries (λ k d within. other_before k d (omega arith) within)

@@ -1,0 +1,9 @@
+pub mod EntryLemmas
+pub mod FlagLemmas
+pub mod PackableLemmas
+pub mod PackingLemmas
+pub mod PlaceLemmas
+pub mod StepLemmas
+pub mod StoreLemmas
+pub mod Tilings
+pub mod WordLemmas

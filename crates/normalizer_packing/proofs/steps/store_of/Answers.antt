@@ -1,0 +1,8 @@
+use Rattle.normalizer_packing.proofs.StepLemmas.{HoldsWide-more}
+use Rattle.normalizer_packing.proofs.steps.store_of.Goals as goal
+
+pub loop-step-init : goal.loop-step-init
+loop-step-init c = record { held = c.new-store.ensures.holds _; narrow = c.new-store.ensures.narrow }
+
+pub loop-step-preserved : goal.loop-step-preserved
+loop-step-preserved c = HoldsWide-more _ _ _ _ c.loop-step-test.true c.loop-step.invariant c.in_ok-put.ensures.holds (c.in_ok-put.ensures.narrow (c.requires _ _ c.loop-step-test.true))

@@ -1,0 +1,12 @@
+pub mod Caps
+pub mod Entries
+pub mod Flags
+pub mod Packable
+pub mod PackedWords
+pub mod Packing
+pub mod Spelling
+pub mod StepWords
+pub mod Steps
+pub mod Stored
+pub mod Stores
+pub mod Words

@@ -1,0 +1,67 @@
+//! Below which number a composing loop may pass every character unseen.
+ghost use Rattle.std.specs.Prelude.{◌≡◌, ◌↔◌, ◌<◌, IsTrue};
+ghost use Rattle.normalizer_packing.specs.Caps.{BeginsPassed, IsCap, MayPass, MayPassWith};
+
+use crate::entries::Entries;
+use crate::entry::Kind;
+use crate::flags::composes_to;
+use normalizer_tables::CanonicalCompositions;
+
+/// The greatest bound.
+const LIMIT: u16 = 0x0300;
+
+/// The least character that a composing loop may not pass unseen, but at most the limit.
+pub fn cap_of(entries: &Entries<'_>, compositions: &CanonicalCompositions, kind: Kind) -> u16
+    ensures { IsCap kind entries.now compositions.now result }
+{
+    for number in 0..LIMIT {
+        if !may_pass(entries, compositions, kind, number) {
+            return number;
+        }
+    }
+    LIMIT
+}
+
+/// Whether a composing loop may pass a number unseen.
+#[tactic(auto, unfolding(crate::specs::Caps::MayPass))]
+fn may_pass(
+    entries: &Entries<'_>,
+    compositions: &CanonicalCompositions,
+    kind: Kind,
+    number: u16,
+) -> bool
+    requires { number < 0xD800 }
+    ensures { IsTrue result ↔ MayPass kind entries.now compositions.now number }
+{
+    let character = char::from_u32(number as u32).unwrap();
+    let alone = [character];
+    match entries.list_of(kind, character, &alone) {
+        Some(list) => list_may_pass(entries, compositions, character, list),
+        None => false,
+    }
+}
+
+/// Whether a composing loop may pass a character with this list unseen.
+fn list_may_pass(
+    entries: &Entries<'_>,
+    compositions: &CanonicalCompositions,
+    character: char,
+    list: &[char],
+) -> bool
+    ensures { IsTrue result ↔ MayPassWith entries.now compositions.now character list.now }
+{
+    let is_itself = list == [character].as_slice() && entries.class_of(character) == 0;
+    (is_itself || character >= '\u{C0}')
+        && composes_to(entries, compositions, list, character)
+        && begins_passed(entries, compositions, list)
+}
+
+/// Whether a list begins with a starter that is second in no pair.
+fn begins_passed(entries: &Entries<'_>, compositions: &CanonicalCompositions, list: &[char]) -> bool
+    ensures { IsTrue result ↔ BeginsPassed entries.now compositions.now list.now }
+{
+    match list.first() {
+        Some(&first) => entries.class_of(first) == 0 && compositions.is_never_second(first),
+        None => false,
+    }
+}

@@ -1,0 +1,59 @@
+//! What is to be packed.
+ghost use Rattle.std.specs.Prelude.{◌≡◌, option_copied};
+ghost use Rattle.normalizer_packing.specs.Entries.{own_list};
+
+use std::marker::Model;
+
+/// The three kinds of decomposition data.
+#[derive(Clone, Copy, Debug, PartialEq, Eq)]
+pub enum Kind {
+    Canonical,
+    Compatibility,
+    /// Of the mapper (UTS #46, section 4).
+    Mapper,
+}
+
+/// A canonical mapping as it is recorded, before it is replaced further.
+#[derive(Clone, Copy, Debug, PartialEq, Eq)]
+pub enum Mapping {
+    One(char),
+    Two(char, char),
+}
+
+/// A character, its canonical combining class, its full decomposition in each kind of data, and its recorded canonical
+/// mapping.
+#[derive(Drop)]
+pub struct Entry {
+    pub character: char,
+    pub class: u8,
+    pub canonical: Vec<char>,
+    pub compatibility: Vec<char>,
+    /// Nothing where the mapper ignores the character.
+    pub mapper: Option<Vec<char>>,
+    pub mapping: Option<Mapping>,
+}
+
+impl Model for Entry {
+    ghost use Rattle.std.specs.Option.{option_map};
+    ghost use Rattle.normalizer_packing.specs.Entries.{CharacterEntry};
+
+    ghost Value = { CharacterEntry };
+
+    ghost view = { λ e. record { character = e.character; class = e.class; canonical = e.canonical.items; compatibility = e.compatibility.items; mapper = option_map (λ x. x.items) e.mapper; mapping = e.mapping } };
+}
+
+impl Entry {
+    /// The full decomposition in one kind of data. Nothing where the mapper ignores the character.
+    pub fn list(&self, kind: Kind) -> Option<&[char]>
+        ensures { option_copied result ≡ own_list kind self.now }
+    {
+        match kind {
+            Kind::Canonical => Some(self.canonical.as_slice()),
+            Kind::Compatibility => Some(self.compatibility.as_slice()),
+            Kind::Mapper => match &self.mapper {
+                Some(list) => Some(list.as_slice()),
+                None => None,
+            },
+        }
+    }
+}

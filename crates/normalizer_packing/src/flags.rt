@@ -1,0 +1,102 @@
+//! The two flags of a word.
+ghost use Rattle.std.specs.Prelude.{◌≡◌, ◌↔◌, ◌<◌, ◌≤◌, if◌then◌else◌, ◌||◌, ◌^◌, [], ◌∷◌, IsTrue, not};
+ghost use Rattle.normal_forms.specs.Composition.{compose, is_blocked, joined};
+ghost use Rattle.normalizer_tables.specs.Words.{is_backward_combining, is_class_form, is_non_round_trip};
+ghost use Rattle.normalizer_packing.specs.Entries.{composing_reading};
+ghost use Rattle.normalizer_packing.specs.Flags.{without_flags, BeginsUnpaired, IsFlagged};
+
+use crate::entries::Entries;
+use normalizer_tables::CanonicalCompositions;
+use normalizer_tables::word::is_class_form;
+
+/// The list of the character doesn't compose to it alone.
+const NON_ROUND_TRIP: u32 = 0x4000_0000;
+
+/// The list of the character begins with a mark or with the second of a pair.
+const BACKWARD_COMBINING: u32 = 0x8000_0000;
+
+/// The word of a character that spells its list, with its flags.
+pub fn flagged(
+    entries: &Entries<'_>,
+    compositions: &CanonicalCompositions,
+    character: char,
+    list: &[char],
+    word: u32,
+) -> u32
+    requires { word < 2 ^ 30 }
+    ensures word { without_flags result ≡ word }
+    ensures flags { IsFlagged (composing_reading entries.now compositions.now) compositions.now character list.now result }
+{
+    let changes = !composes_to(entries, compositions, list, character);
+    let combines = is_class_form(word) || !begins_unpaired(compositions, list);
+    with_flags(word, changes, combines)
+}
+
+/// A word with these flags.
+fn with_flags(word: u32, changes: bool, combines: bool) -> u32
+    requires { word < 2 ^ 30 }
+    ensures word { without_flags result ≡ word }
+    ensures round_trip { is_non_round_trip result ≡ changes }
+    ensures backward { is_backward_combining result ≡ combines }
+{
+    let round_trip = flag_if(changes, NON_ROUND_TRIP);
+    let backward = flag_if(combines, BACKWARD_COMBINING);
+    word + round_trip + backward
+}
+
+/// A flag where it is set.
+fn flag_if(is_set: bool, flag: u32) -> u32
+    ensures value { result ≡ (if is_set then flag else 0) }
+    ensures bound { result ≤ flag }
+{
+    if is_set { flag } else { 0 }
+}
+
+/// Whether the first of a list is second in no pair.
+pub fn begins_unpaired(compositions: &CanonicalCompositions, list: &[char]) -> bool
+    ensures { IsTrue result ↔ BeginsUnpaired compositions.now list.now }
+{
+    match list.first() {
+        Some(&first) => compositions.is_never_second(first),
+        None => true,
+    }
+}
+
+/// Whether a list composes to this character alone: all behind the first join.
+pub fn composes_to(
+    entries: &Entries<'_>,
+    compositions: &CanonicalCompositions,
+    list: &[char],
+    character: char,
+) -> bool
+    ensures { IsTrue result ↔ (compose (composing_reading entries.now compositions.now) list.now ≡ character ∷ []) }
+{
+    let Some(&first) = list.first() else {
+        return false;
+    };
+    let mut composite = first;
+    for place in 1..list.len() {
+        match joined(entries, compositions, composite, list[place]) {
+            Some(next) => composite = next,
+            None => return false,
+        }
+    }
+    composite == character
+}
+
+/// What a character becomes by the one right behind it.
+#[tactic(auto, unfolding(normal_forms::specs::Composition::joined, normal_forms::specs::Composition::is_blocked))]
+fn joined(
+    entries: &Entries<'_>,
+    compositions: &CanonicalCompositions,
+    first: char,
+    second: char,
+) -> Option<char>
+    ensures { result ≡ joined (composing_reading entries.now compositions.now) first [] second }
+{
+    if entries.class_of(first) == 0 {
+        compositions.compose(first, second)
+    } else {
+        None
+    }
+}

@@ -1,0 +1,84 @@
+//! Packs entries and pairs into normalization data.
+ghost use Rattle.std.specs.Prelude.{◌≡◌, ◌<◌, IfOk, IsErrOf};
+ghost use Rattle.normalizer_tables.specs.Conditions.{item_limit};
+ghost use Rattle.normalizer_packing.specs.PackedWords.{CanPoint, packed_tables};
+ghost use Rattle.normalizer_packing.specs.Packing.{ArePackable, Packs, PacksKind};
+ghost use Rattle.normalizer_packing.specs.Stored.{needed_items};
+
+use crate::Packed;
+use crate::cap::cap_of;
+use crate::entries::Entries;
+use crate::entry::{Entry, Kind};
+use crate::ranges::table_of;
+use crate::steps::supplement_of;
+use crate::stores::{PackError, Stores, stores_of};
+use crate::words::PackedWords;
+use normalizer_tables::{CanonicalCompositions, DecompositionData, TableError};
+use std::alloc::Global;
+
+/// Packs the entries of characters, and pairs of characters that compose (second, first and result), into data.
+pub fn pack(
+    alloc: Global,
+    entries: &[Entry],
+    pairs: Vec<(char, char, char)>,
+) -> Result<Packed, PackError>
+    requires { ArePackable entries.now }
+    ensures packed { IfOk result (Packs entries.now pairs.items) }
+    ensures full { IsErrOf result PackError.TableFull → item_limit < needed_items entries.now }
+{
+    let entries = Entries::new(entries);
+    let stores = stores_of(alloc, &entries)?;
+    match packed_with(alloc, entries, pairs, stores) {
+        Ok(packed) => Ok(packed),
+        Err(_) => Err(PackError::Memory),
+    }
+}
+
+/// The data whose lists stand in these stores.
+fn packed_with<'e>(
+    alloc: Global,
+    entries: Entries<'e>,
+    pairs: Vec<(char, char, char)>,
+    stores: Stores<'e>,
+) -> Result<Packed, TableError>
+    requires { CanPoint entries stores }
+    ensures packed { IfOk result (Packs entries.entry pairs.items) }
+{
+    let compositions = CanonicalCompositions::from_pairs(pairs)?;
+    let canonical = data_of(alloc, &entries, &compositions, &stores, Kind::Canonical)?;
+    let compatibility = data_of(alloc, &entries, &compositions, &stores, Kind::Compatibility)?;
+    let mapper = data_of(alloc, &entries, &compositions, &stores, Kind::Mapper)?;
+    let supplement = supplement_of(alloc, &entries)?;
+    Ok(Packed {
+        canonical,
+        compatibility,
+        mapper,
+        tables: stores.canonical.into_tables(),
+        supplementary_tables: stores.supplementary.into_tables(),
+        compositions,
+        supplement,
+    })
+}
+
+/// One kind of data.
+fn data_of<'a, 'e>(
+    alloc: Global,
+    entries: &'a Entries<'e>,
+    compositions: &'a CanonicalCompositions,
+    stores: &'a Stores<'e>,
+    kind: Kind,
+) -> Result<DecompositionData, TableError>
+    requires { CanPoint entries.now stores.now }
+    ensures { IfOk result (PacksKind kind entries.now compositions.now (packed_tables stores.now)) }
+{
+    let words = PackedWords {
+        entries,
+        compositions,
+        stores,
+        kind,
+    };
+    Ok(DecompositionData {
+        table: table_of(alloc, &words)?,
+        passthrough_cap: cap_of(entries, compositions, kind),
+    })
+}

@@ -1,0 +1,234 @@
+//! The supplement: one step of decomposition, where the word of canonical data doesn't tell it.
+ghost use Rattle.std.specs.Prelude.{◌≡◌, true, false, [], ◌∷◌, Some, IfOk, if◌then◌else◌, nat_le, take};
+ghost use Rattle.normalizer_packing.specs.Entries.{class_in, entry_of};
+ghost use Rattle.normalizer_packing.specs.Stored.{is_among};
+ghost use Rattle.normalizer_packing.specs.StepWords.{AreWide, HoldsWide, IsWordOfStep};
+ghost use Rattle.normalizer_packing.specs.Steps.{IsStoredStep, step_items, step_limit, are_narrow, asked_step, asks_supplement, step_in, stored_step, stored_steps, PacksSteps};
+
+use crate::entries::Entries;
+use crate::entry::{Entry, Mapping};
+use crate::ranges::{Words, table_of};
+use crate::spelling::{Spelling, spell};
+use crate::stored::Store;
+use normalizer_tables::word::is_class_form;
+use normalizer_tables::{NonRecursiveDecompositionSupplement, TableError};
+use std::alloc::{AllocError, Global};
+
+/// Whether one step of a character asks the supplement.
+#[tactic(auto, unfolding(crate::specs::Steps::asks_supplement))]
+fn asks_supplement(entries: &Entries<'_>, entry: &Entry) -> bool
+    ensures { result ≡ asks_supplement (class_in entries.now) entry.now }
+{
+    let list = entry.canonical.as_slice();
+    match spell(entries, entry.character, Some(list)) {
+        Spelling::Final(_) => false,
+        Spelling::Short(word) => {
+            !is_class_form(word)
+                && list.len() == 2
+                && '\u{1F71}' <= entry.character
+                && entry.character <= '\u{1FFB}'
+        }
+        Spelling::Listed => entry.character != '\u{212B}' && 2 < list.len(),
+    }
+}
+
+/// The mapping that one step of a character asks the supplement for.
+#[tactic(auto, unfolding(crate::specs::Steps::asked_step))]
+fn asked_step(entries: &Entries<'_>, entry: &Entry) -> Option<Mapping>
+    ensures { result ≡ asked_step entries.now entry.now }
+{
+    if asks_supplement(entries, entry) {
+        entry.mapping
+    } else {
+        None
+    }
+}
+
+/// Whether a word of the supplement spells two characters.
+#[tactic(auto, unfolding(crate::specs::Steps::are_narrow))]
+fn are_narrow(first: char, second: char) -> bool
+    ensures { result ≡ are_narrow first second }
+{
+    first <= '\u{FFFF}' && second <= '\u{FFFF}'
+}
+
+/// The two characters of a step that only the table can hold.
+#[tactic(auto, unfolding(crate::specs::Steps::stored_step))]
+fn stored_step(step: Option<Mapping>) -> Option<[char; 2]>
+    ensures { result ≡ stored_step step }
+{
+    match step {
+        Some(Mapping::Two(first, second)) => {
+            if are_narrow(first, second) {
+                None
+            } else {
+                Some([first, second])
+            }
+        }
+        _ => None,
+    }
+}
+
+/// The steps that only the table can hold.
+#[tactic(auto, unfolding(crate::specs::Steps::stored_steps))]
+fn stored_steps(alloc: Global, entries: &Entries<'_>) -> Result<Vec<[char; 2]>, AllocError>
+    ensures { IfOk result (λ v. v.items ≡ stored_steps entries.now) }
+{
+    entries
+        .as_slice()
+        .iter()
+        .filter_map(|entry| stored_step(asked_step(entries, entry)))
+        .collect(alloc)
+}
+
+/// The store of lists of two, an equal one once.
+fn store_of<'s>(alloc: Global, steps: &'s [[char; 2]]) -> Result<Store<'s>, AllocError>
+    requires { AreWide steps.now }
+    ensures { IfOk result (HoldsWide steps.now) }
+{
+    let mut store = Store::new(alloc);
+    for step in steps {
+        store.put(step)?;
+    }
+    Ok(store)
+}
+
+/// The most items of the supplement's table.
+const STEP_LIMIT: usize = 0xFFFE;
+
+/// The last place of two characters in it.
+const LAST_PLACE: usize = STEP_LIMIT - 2;
+
+/// What the words of the supplement are made of.
+#[derive(Drop)]
+struct StepWords<'a, 'e, 's> {
+    entries: &'a Entries<'e>,
+    store: Store<'s>,
+}
+
+impl Words for StepWords<'_, '_, '_> {
+    ghost is_ready = { λ w. HoldsWide (stored_steps w.entries.now) w.store };
+
+    ghost is_word = { λ w n. IsWordOfStep w.entries.now w.store (step_in w.entries.now n) };
+
+    fn word_of(&self, number: u32) -> u32 {
+        match char::from_u32(number) {
+            Some(character) => self.word_of_character(character),
+            None => 0,
+        }
+    }
+}
+
+impl StepWords<'_, '_, '_> {
+    #[tactic(auto, unfolding(crate::specs::Steps::step_in))]
+    fn word_of_character(&self, character: char) -> u32
+        requires { HoldsWide (stored_steps self.now.entries.now) self.now.store }
+        ensures { IsWordOfStep self.now.entries.now self.now.store (step_in self.now.entries.now character) result }
+    {
+        match self.entries.entry_of(character) {
+            Some(entry) => self.word_of_entry(entry),
+            None => 0,
+        }
+    }
+
+    fn word_of_entry(&self, entry: &Entry) -> u32
+        requires ready { HoldsWide (stored_steps self.now.entries.now) self.now.store }
+        requires held { entry_of self.now.entries.now entry.now.character ≡ Some entry.now }
+        ensures { IsWordOfStep self.now.entries.now self.now.store (asked_step self.now.entries.now entry.now) result }
+    {
+        match asked_step(self.entries, entry) {
+            Some(Mapping::One(character)) => word_of_one(character),
+            Some(Mapping::Two(first, second)) => self.word_of_two(first, second),
+            None => 0,
+        }
+    }
+
+    /// The word of a step to two characters.
+    fn word_of_two(&self, first: char, second: char) -> u32
+        requires ready { HoldsWide (stored_steps self.now.entries.now) self.now.store }
+        requires stored { are_narrow first second ≡ false → is_among (first ∷ second ∷ []) (stored_steps self.now.entries.now) ≡ true }
+        ensures { IsWordOfStep self.now.entries.now self.now.store (Some (Mapping.Two first second)) result }
+    {
+        if are_narrow(first, second) {
+            first as u32 + second as u32 * 0x10000
+        } else {
+            self.word_of_stored(first, second)
+        }
+    }
+
+    /// The word that points to a step in the table, or none where it stands past what the table may have.
+    fn word_of_stored(&self, first: char, second: char) -> u32
+        requires ready { HoldsWide (stored_steps self.now.entries.now) self.now.store }
+        requires stored { is_among (first ∷ second ∷ []) (stored_steps self.now.entries.now) ≡ true }
+        requires wide { are_narrow first second ≡ false }
+        ensures { IsStoredStep (take step_limit self.now.store.scalars24.items) (step_items self.now.entries.now) first second result }
+    {
+        match self.store.place_of(&[first, second]) {
+            Some(place) => {
+                if place <= LAST_PLACE {
+                    (place as u32 + 1) * 0x10000
+                } else {
+                    0
+                }
+            }
+            None => 0,
+        }
+    }
+}
+
+/// The word of a step to one character.
+fn word_of_one(character: char) -> u32
+    ensures { result ≡ (if nat_le character 0xFFFF then character else 0) }
+{
+    if character <= '\u{FFFF}' {
+        character as u32
+    } else {
+        0
+    }
+}
+
+/// The supplement of the entries.
+pub fn supplement_of(
+    alloc: Global,
+    entries: &Entries<'_>,
+) -> Result<NonRecursiveDecompositionSupplement, TableError>
+    ensures { IfOk result (PacksSteps entries.now) }
+{
+    match stored_steps(alloc, entries) {
+        Ok(steps) => supplement_with(alloc, entries, steps.as_slice()),
+        Err(_) => Err(TableError::Memory),
+    }
+}
+
+/// The supplement with these steps in its table.
+fn supplement_with(
+    alloc: Global,
+    entries: &Entries<'_>,
+    steps: &[[char; 2]],
+) -> Result<NonRecursiveDecompositionSupplement, TableError>
+    requires { steps.now ≡ stored_steps entries.now }
+    ensures { IfOk result (PacksSteps entries.now) }
+{
+    match store_of(alloc, steps) {
+        Ok(store) => supplement_in(alloc, StepWords { entries, store }),
+        Err(_) => Err(TableError::Memory),
+    }
+}
+
+/// The supplement with these words.
+fn supplement_in(
+    alloc: Global,
+    words: StepWords<'_, '_, '_>,
+) -> Result<NonRecursiveDecompositionSupplement, TableError>
+    requires { HoldsWide (stored_steps words.entries.now) words.store }
+    ensures { IfOk result (PacksSteps words.entry.entries.now) }
+{
+    let table = table_of(alloc, &words)?;
+    let StepWords { store, .. } = words;
+    let mut scalars24 = store.into_scalars24();
+    scalars24.truncate(STEP_LIMIT);
+    Ok(NonRecursiveDecompositionSupplement {
+        table,
+        scalars24: scalars24.into(),
+    })
+}

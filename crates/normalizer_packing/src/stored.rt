@@ -1,0 +1,180 @@
+//! Tables of the lists that no word spells.
+ghost use Rattle.std.specs.Prelude.{◌≡◌, ℕ, List, ◌++◌, nat_le, [], ◌∷◌, true, false, OnOk, IfOk, length, option_copied};
+ghost use Rattle.std.specs.List.{list_all};
+ghost use Rattle.normalizer_tables.specs.Conditions.{item_count};
+ghost use Rattle.normalizer_packing.specs.Entries.{class_in};
+ghost use Rattle.normalizer_packing.specs.Stored.{is_narrow, item_at, listed_in, listed_of, StandsAt};
+ghost use Rattle.normalizer_packing.specs.Stores.{place_in, tables_in, HoldsLists, HoldsMore, IsStoreOf};
+
+use crate::entries::Entries;
+use crate::entry::{Entry, Kind};
+use crate::spelling::{Spelling, spell};
+use normalizer_tables::DecompositionTables;
+use std::alloc::{AllocError, Global};
+use std::collections::BTreeMap;
+
+/// Lists in two tables, an equal one once, and where each stands in its table.
+#[derive(Drop)]
+pub struct Store<'a> {
+    scalars16: Vec<u16>,
+    scalars24: Vec<char>,
+    places: BTreeMap<&'a [char], usize>,
+}
+
+impl<'a> Store<'a> {
+    pub fn new(alloc: Global) -> Self
+        ensures holds { (before : List (List ℕ)) → IsStoreOf before [] result }
+        ensures narrow { result.scalars16.items ≡ [] }
+    {
+        Store {
+            scalars16: Vec::new(alloc),
+            scalars24: Vec::new(alloc),
+            places: BTreeMap::new(alloc),
+        }
+    }
+
+    /// Where a list stands in its table.
+    #[tactic(auto, unfolding(crate::specs::Stores::place_in))]
+    pub fn place_of(&self, list: &[char]) -> Option<usize>
+        ensures { result ≡ place_in self.now list.now }
+    {
+        self.places.get(list).copied()
+    }
+
+    /// The item of a place of a list, where the two tables are put one after the other.
+    #[tactic(auto, using(crate::proofs::PlaceLemmas::place_within), unfolding(crate::specs::Stored::item_at))]
+    pub fn item_at(&self, list: &[char], place: usize) -> usize
+        requires { StandsAt (tables_in self.now) list.now place }
+        ensures { result ≡ item_at (tables_in self.now) list.now place }
+    {
+        if is_narrow(list) {
+            place
+        } else {
+            self.scalars16.len() + place
+        }
+    }
+
+    /// Puts a list behind the others of its table, if it doesn't stand there.
+    pub fn put(&mut self, list: &'a [char]) -> Result<(), AllocError>
+        ensures holds { OnOk result (HoldsMore self.old list.now self.new) }
+        ensures narrow { is_narrow list.now ≡ false → OnOk result (self.new.scalars16.items ≡ self.old.scalars16.items) }
+    {
+        if self.place_of(list).is_some() {
+            return Ok(());
+        }
+        let place = if is_narrow(list) {
+            append_narrow(&mut self.scalars16, list)?
+        } else {
+            append_wide(&mut self.scalars24, list)?
+        };
+        match self.places.insert(list, place) {
+            Ok(_) => Ok(()),
+            Err(_) => Err(AllocError),
+        }
+    }
+
+    /// How many items the two tables have together.
+    pub fn len(&self) -> usize
+        ensures { result ≡ item_count (tables_in self.now) }
+    {
+        self.scalars16.len() + self.scalars24.len()
+    }
+
+    /// The table of characters alone.
+    pub fn into_scalars24(self) -> Vec<char>
+        ensures { result.items ≡ self.entry.scalars24.items }
+    {
+        self.scalars24
+    }
+
+    pub fn into_tables(self) -> DecompositionTables
+        ensures { result ≡ tables_in self.entry }
+    {
+        DecompositionTables {
+            scalars16: self.scalars16.into(),
+            scalars24: self.scalars24.into(),
+        }
+    }
+}
+
+/// Whether a list stands in the table of 16-bit numbers.
+#[tactic(auto, unfolding(crate::specs::Stored::is_narrow))]
+pub fn is_narrow(list: &[char]) -> bool
+    ensures { result ≡ is_narrow list.now }
+{
+    2 <= list.len() && fits_units(list)
+}
+
+/// Whether all members are up to U+FFFF.
+fn fits_units(list: &[char]) -> bool
+    ensures { result ≡ list_all (λ c. nat_le c 0xFFFF) list.now }
+{
+    list.iter().all(|member| *member <= '\u{FFFF}')
+}
+
+/// Puts a list behind a table of 16-bit numbers, and answers its place.
+fn append_narrow(units: &mut Vec<u16>, list: &[char]) -> Result<usize, AllocError>
+    requires { is_narrow list.now ≡ true }
+    ensures place { IfOk result (λ n. n ≡ length units.old.items) }
+    ensures appended { OnOk result (units.new.items ≡ units.old.items ++ list.now) }
+{
+    let place = units.len();
+    for member in list {
+        units.push(*member as u16)?;
+    }
+    Ok(place)
+}
+
+/// Puts a list behind a table of characters, and answers its place.
+fn append_wide(scalars: &mut Vec<char>, list: &[char]) -> Result<usize, AllocError>
+    ensures place { IfOk result (λ n. n ≡ length scalars.old.items) }
+    ensures appended { OnOk result (scalars.new.items ≡ scalars.old.items ++ list.now) }
+{
+    let place = scalars.len();
+    scalars.extend_from_slice(list)?;
+    Ok(place)
+}
+
+/// The list of an entry, where its word doesn't spell it.
+#[tactic(auto, unfolding(crate::specs::Stored::listed_of))]
+pub fn listed_of<'a>(entries: &Entries<'_>, kind: Kind, entry: &'a Entry) -> Option<&'a [char]>
+    ensures { option_copied result ≡ listed_of (class_in entries.now) kind entry.now }
+{
+    let list = entry.list(kind);
+    match spell(entries, entry.character, list) {
+        Spelling::Listed => list,
+        _ => None,
+    }
+}
+
+/// Puts the lists of one kind of data that no word spells into a store, but for those that stand in the one before.
+pub fn put_lists<'a>(
+    entries: &Entries<'a>,
+    kind: Kind,
+    before: &Store<'_>,
+    store: &mut Store<'a>,
+) -> Result<(), AllocError>
+    ensures { OnOk result (HoldsLists before.now store.old (listed_in entries.now kind) store.new) }
+{
+    for entry in entries.as_slice() {
+        if let Some(list) = listed_of(entries, kind, entry) {
+            put_behind(before, store, list)?;
+        }
+    }
+    Ok(())
+}
+
+/// Puts a list into a store, if it doesn't stand in the one before.
+fn put_behind<'a>(
+    before: &Store<'_>,
+    store: &mut Store<'a>,
+    list: &'a [char],
+) -> Result<(), AllocError>
+    ensures { OnOk result (HoldsLists before.now store.old (list.now ∷ []) store.new) }
+{
+    if before.place_of(list).is_some() {
+        return Ok(());
+    }
+    store.put(list)?;
+    Ok(())
+}

@@ -1,0 +1,80 @@
+//! The words of one kind of data.
+ghost use Rattle.std.specs.Prelude.{◌≡◌, ◌<◌, ◌≤◌, true, IsSome};
+ghost use Rattle.normalizer_tables.specs.Conditions.{item_limit};
+ghost use Rattle.normalizer_packing.specs.PackedWords.{CanPoint, packed_tables};
+ghost use Rattle.normalizer_packing.specs.Packing.{IsPackedWord};
+ghost use Rattle.normalizer_packing.specs.Stored.{StandsFrom, is_among, listed_in};
+
+use crate::entries::Entries;
+use crate::entry::Kind;
+use crate::flags::flagged;
+use crate::pointing::pointing_word;
+use crate::ranges::Words;
+use crate::spelling::{Spelling, spell};
+use crate::stores::Stores;
+use normalizer_tables::CanonicalCompositions;
+
+/// What the words of one kind of data are made of.
+#[derive(Drop)]
+pub struct PackedWords<'a, 'e> {
+    pub entries: &'a Entries<'e>,
+    pub compositions: &'a CanonicalCompositions,
+    pub stores: &'a Stores<'e>,
+    pub kind: Kind,
+}
+
+/// The word of surrogates, with its flags.
+const SURROGATE_WORD: u32 = 0xC000_FFFD;
+
+impl Words for PackedWords<'_, '_> {
+    ghost is_ready = { λ w. CanPoint w.entries.now w.stores.now };
+
+    ghost is_word = { λ w. IsPackedWord w.kind w.entries.now w.compositions.now (packed_tables w.stores.now) };
+
+    fn word_of(&self, number: u32) -> u32 {
+        match char::from_u32(number) {
+            Some(character) => self.word_of_character(character),
+            None => SURROGATE_WORD,
+        }
+    }
+}
+
+impl PackedWords<'_, '_> {
+    #[tactic(auto, using(crate::proofs::WordLemmas::final_packs, crate::proofs::WordLemmas::short_packs, crate::proofs::WordLemmas::listed_packs), unfolding(crate::specs::Entries::kept_list))]
+    fn word_of_character(&self, character: char) -> u32
+        requires { CanPoint self.now.entries.now self.now.stores.now }
+        ensures { IsPackedWord self.now.kind self.now.entries.now self.now.compositions.now (packed_tables self.now.stores.now) character result }
+    {
+        let alone = [character];
+        let list = self.entries.list_of(self.kind, character, &alone);
+        let kept = list.unwrap_or(&[]);
+        match spell(self.entries, character, list) {
+            Spelling::Final(word) => word,
+            Spelling::Short(word) => {
+                flagged(self.entries, self.compositions, character, kept, word)
+            }
+            Spelling::Listed => {
+                let word = pointing_word(self.entries, kept, self.item_of(kept));
+                flagged(self.entries, self.compositions, character, kept, word)
+            }
+        }
+    }
+
+    /// The item from which on a list stands in the four tables, put one after another.
+    fn item_of(&self, list: &[char]) -> u32
+        requires ready { CanPoint self.now.entries.now self.now.stores.now }
+        requires listed { is_among list.now (listed_in self.now.entries.now self.now.kind) ≡ true }
+        ensures within { result < 0xFFF }
+        ensures stands { StandsFrom self.now.entries.now (packed_tables self.now.stores.now) list.now result }
+    {
+        let canonical = &self.stores.canonical;
+        let supplementary = &self.stores.supplementary;
+        match canonical.place_of(list) {
+            Some(place) => canonical.item_at(list, place) as u32,
+            None => {
+                let place = supplementary.place_of(list).unwrap();
+                (canonical.len() + supplementary.item_at(list, place)) as u32
+            }
+        }
+    }
+}
