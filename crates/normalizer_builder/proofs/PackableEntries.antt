@@ -1,0 +1,146 @@
+-- Entries of records that aren't refused can be packed.
+use Rattle.std.proofs.Common.{◌≡◌, ◌≢◌, ◌⊎◌, inl, inr, ℕ, ◌+◌, ◌<◌, ◌≤◌, Bool, true, false, ◌&&◌, ◌||◌, ◌==◌, nat_lt, nat_le, List, [], ◌∷◌, length, map, Option, Some, None, All, IfSome, refl, subst, sym, ◌∙◌, arith, if◌then◌else◌, filter_map}
+use Rattle.std.specs.List.{cons_option, list_all, list_any}
+use Rattle.std.proofs.lemmas.Bool.{true≢false}
+use Rattle.std.proofs.lemmas.Bool.Decides.{nat_tests}
+use Rattle.std.proofs.lemmas.List.Elements.{All-cons}
+use Rattle.normalizer_tables.specs.SpecialLists.{fdfa_list}
+use Rattle.normalizer_packing.specs.declared.entry.Kind.{Kind}
+use Rattle.normalizer_packing.specs.declared.entry.Kind.TheVariants as kind
+use Rattle.normalizer_packing.specs.declared.spelling.Spelling.{Spelling}
+use Rattle.normalizer_packing.specs.declared.spelling.Spelling.TheVariants.{Final, Short, Listed}
+use Rattle.normalizer_packing.specs.Entries.{CharacterEntry, class_in, own_list}
+use Rattle.normalizer_packing.specs.Packing.{ArePackable}
+use Rattle.normalizer_packing.specs.Spelling.{final_word, spelling, spelling_or_ignored, spelling_by_list, spelling_of_list, has_fixed_list, list_eq}
+use Rattle.normalizer_packing.specs.Stored.{HasLengthOfWord, is_narrow, listed_of, listed_in}
+use Rattle.normalizer_records.specs.Entry.{Entry, MapperEntry}
+use Rattle.normalizer_records.specs.Faults.{IsFirstRefusal, IsTooLong, is_long}
+use Rattle.normalizer_records.specs.Meaning.{mapper_list}
+use Rattle.normalizer_builder.specs.Recorded.{AreEntriesOf, AreMadeOf, entry_for}
+use Rattle.normalizer_builder.proofs.NoRefusal.{canonical_fits, compatibility_fits, mapper_fits, canonical_some, compatibility_some, mapper_some}
+
+-- a list that may stand in a table, unless a word spells it
+record IsFit (x : List ℕ) : Type 0 where
+  some : 0 < length x
+  within : ¬ IsTooLong x
+
+bool_or_not : (b : Bool) → (b ≡ true) ⊎ (b ≡ false)
+bool_or_not true = inl refl
+bool_or_not false = inr refl
+
+not_long : (x : List ℕ) → IsFit x → x ≢ fdfa_list → is_long x ≡ false
+not_long x h other = elim (bool_or_not (is_long x)) [
+  | inl long ↦ absurd (h.within (long, other))
+  | inr e ↦ e
+]
+
+-- a character is past U+FFFF where not all are below
+some_past : (x : List ℕ) → list_all (λ c. nat_le c 0xFFFF) x ≡ false → list_any (λ c. nat_lt 0xFFFF c) x ≡ true
+some_past [] h = absurd (true≢false h)
+some_past (c ∷ x) h = elim (bool_or_not (nat_le c 0xFFFF)) [
+  | inl e ↦ or_second (nat_lt 0xFFFF c) _ (some_past x (and_second _ _ e h))
+  | inr e ↦ or_first (nat_lt 0xFFFF c) _ (grind (arith, nat_tests))
+]
+  where
+    or_first : (a b : Bool) → a ≡ true → (a || b) ≡ true
+    or_first true b e = refl
+    or_first false b e = absurd (true≢false (sym e))
+
+    or_second : (a b : Bool) → b ≡ true → (a || b) ≡ true
+    or_second true b e = refl
+    or_second false b e = e
+
+    and_second : (a b : Bool) → a ≡ true → (a && b) ≡ false → b ≡ false
+    and_second true b e f = f
+    and_second false b e f = absurd (true≢false (sym e))
+
+or_falls : (a b : Bool) → (a || b) ≡ false → (a ≡ false) × (b ≡ false)
+or_falls true b e = absurd (true≢false e)
+or_falls false b e = (refl, e)
+
+and_falls : (a b : Bool) → (a && b) ≡ false → (a ≡ false) ⊎ (b ≡ false)
+and_falls true b e = inr e
+and_falls false b e = inl refl
+
+wide_length : (x : List ℕ) → is_long x ≡ false → is_narrow x ≡ false → length x ≤ 16
+unfolding is_narrow
+wide_length x short wide =
+    let parts = or_falls (nat_lt 17 (length x)) (nat_lt 16 (length x) && list_any (λ c. nat_lt 0xFFFF c) x) short in
+    elim (and_falls (nat_le 2 (length x)) (list_all (λ c. nat_le c 0xFFFF) x) wide) [
+      | inl few ↦ grind (arith, nat_tests)
+      | inr past ↦ (
+          let beyond = some_past x past in
+          elim (and_falls (nat_lt 16 (length x)) (list_any (λ c. nat_lt 0xFFFF c) x) parts.1) [
+            | inl e ↦ grind (arith, nat_tests)
+            | inr e ↦ absurd (true≢false (sym beyond ∙ e))
+          ])
+    ]
+
+length_of_word : (x : List ℕ) → IsFit x → x ≢ fdfa_list → HasLengthOfWord x
+unfolding HasLengthOfWord
+length_of_word x h other =
+    let short : is_long x ≡ false = not_long x h other in
+    elim (is_narrow x) as (λ b. is_narrow x ≡ b → elim b as (λ _. Type 0) [ true ↦ length x ≤ 17 | false ↦ (0 < length x) × (length x ≤ 16) ]) [
+      | true ↦ λ narrow. (let part = (or_falls (nat_lt 17 (length x)) _ short).0 in grind (arith, nat_tests))
+      | false ↦ λ wide. (h.some, wide_length x short wide)
+    ] refl
+
+-- a word spells the list of U+FDFA
+fdfa_list_spelled : (class : ℕ → ℕ) (n : ℕ) → spelling_of_list class n fdfa_list ≢ Listed
+unfolding spelling_of_list fdfa_list
+fdfa_list_spelled class n e = absurd cc
+
+fdfa_by_list : (class : ℕ → ℕ) (n : ℕ) → spelling_by_list class n fdfa_list ≢ Listed
+unfolding spelling_by_list
+fdfa_by_list class n = elim (has_fixed_list class n fdfa_list) as (λ b. (if b then Short (0xD900 + class n) else if list_eq fdfa_list (n ∷ []) then Short (if class n == 0 then 0 else 0xD800 + class n) else spelling_of_list class n fdfa_list) ≢ Listed) [
+  | true ↦ λ e. absurd cc
+  | false ↦ elim (list_eq fdfa_list (n ∷ [])) as (λ b. (if b then Short (if class n == 0 then 0 else 0xD800 + class n) else spelling_of_list class n fdfa_list) ≢ Listed) [
+    | true ↦ λ e. absurd cc
+    | false ↦ fdfa_list_spelled class n
+  ]
+]
+
+fdfa_spelled : (class : ℕ → ℕ) (n : ℕ) → spelling class n (Some fdfa_list) ≢ Listed
+unfolding spelling spelling_or_ignored
+fdfa_spelled class n = elim (final_word n) as (λ o. elim o as (λ _. Spelling) [ Some w ↦ Final w | None ↦ spelling_or_ignored class n (Some fdfa_list) ] ≢ Listed) [
+  | Some w ↦ λ e. absurd cc
+  | None ↦ fdfa_by_list class n
+]
+
+-- the list of an entry, where it is fit, has the length of a word if it stands in a table
+listed_fit : (class : ℕ → ℕ) (k : Kind) (e : CharacterEntry) → IfSome (own_list k e) IsFit → IfSome (listed_of class k e) HasLengthOfWord
+unfolding listed_of
+listed_fit class k e fit = of_list (own_list k e) fit (spelling class e.character (own_list k e)) refl
+  where
+    of_list : (o : Option (List ℕ)) → IfSome o IsFit → (s : Spelling) → spelling class e.character o ≡ s → IfSome (elim s as (λ _. Option (List ℕ)) [ Final w ↦ None | Short w ↦ None | Listed ↦ o ]) HasLengthOfWord
+    of_list o fit (Final w) is = tt
+    of_list o fit (Short w) is = tt
+    of_list None fit Listed is = tt
+    of_list (Some x) fit Listed is = length_of_word x fit (λ same. fdfa_spelled class e.character (subst (λ (y : List ℕ). spelling class e.character (Some y) ≡ Listed) same is))
+
+All-made : {X Y : Type 0} (P : Y → Type 0) (make : ℕ → X) (h : X → Option Y) → ((c : ℕ) → IfSome (h (make c)) P) → (cs : List ℕ) → All P (filter_map h (map make cs))
+All-made P make h each [] = λ k d within. absurd (omega arith)
+All-made P make h each (c ∷ cs) = elim (h (make c)) as (λ o. IfSome o P → All P (cons_option o (filter_map h (map make cs)))) [
+  | Some y ↦ λ holds. All-cons P y (filter_map h (map make cs)) holds (All-made P make h each cs)
+  | None ↦ λ _. All-made P make h each cs
+] (each c)
+
+module _ (records : List Entry) (uts46 : List MapperEntry) (none : IsFirstRefusal records uts46 None) where
+  fit_both : (o : Option (List ℕ)) → IfSome o (λ x. ¬ IsTooLong x) → IfSome o (λ x. 0 < length x) → IfSome o IsFit
+  fit_both None h k = tt
+  fit_both (Some x) h k = record { some = k; within = h }
+
+  own_fit : (k : Kind) (c : ℕ) → IfSome (own_list k (entry_for records uts46 c)) IsFit
+  unfolding entry_for
+  own_fit kind.Canonical c = record { some = canonical_some records uts46 none c; within = canonical_fits records uts46 none c }
+  own_fit kind.Compatibility c = record { some = compatibility_some records uts46 none c; within = compatibility_fits records uts46 none c }
+  own_fit kind.Mapper c = fit_both (mapper_list records uts46 c) (mapper_fits records uts46 none c) (mapper_some records uts46 none c)
+
+  listed_lengths : (entries : List CharacterEntry) → AreMadeOf records uts46 entries → (k : Kind) → All HasLengthOfWord (listed_in entries k)
+  unfolding listed_in
+  listed_lengths entries made k =
+      subst (λ (es : List CharacterEntry). All HasLengthOfWord (filter_map (listed_of (class_in entries) k) es)) (sym made.made)
+      (All-made HasLengthOfWord (entry_for records uts46) (listed_of (class_in entries) k) (λ c. listed_fit (class_in entries) k (entry_for records uts46 c) (own_fit k c)) made.characters)
+
+  pub ArePackable-made : (entries : List CharacterEntry) → AreMadeOf records uts46 entries → AreEntriesOf records uts46 entries → ArePackable entries
+  ArePackable-made entries made meaning = record { rising = meaning.rising; lengths = listed_lengths entries made }

@@ -1,0 +1,117 @@
+-- What records build: data that pack them, or the smallest refusal.
+use Rattle.std.specs.Prelude.{◌≡◌, ℕ, ◌<◌, List, Option, Some, None, IfSome}
+use Rattle.std.specs.List.Sorted.{IsPermutation}
+use Rattle.normalizer_tables.specs.declared.provider.DataMarkerInfo.TheVariants.{NormalizerNfdSupplementV1}
+use Rattle.normalizer_tables.specs.declared.step.Step.{Step}
+use Rattle.normalizer_tables.specs.declared.step.Step.TheVariants.{Singleton, Expansion}
+use Rattle.normalizer_tables.specs.Conditions.{item_limit}
+use Rattle.normalizer_tables.specs.Pairs.{Pair, AreRising as ArePairsRising}
+use Rattle.normalizer_tables.specs.Steps.{step_of}
+use Rattle.normalizer_packing.specs.declared.Packed.{Packed}
+use Rattle.normalizer_packing.specs.declared.entry.Kind.TheVariants.{Canonical}
+use Rattle.normalizer_packing.specs.declared.entry.Mapping.{Mapping}
+use Rattle.normalizer_packing.specs.declared.entry.Mapping.TheVariants.{One, Two}
+use Rattle.normalizer_packing.specs.Entries.{CharacterEntry}
+use Rattle.normalizer_packing.specs.Packing.{Packs}
+use Rattle.normalizer_packing.specs.Stored.{needed_items}
+use Rattle.normalizer_records.specs.declared.records.BuildError.{BuildError}
+use Rattle.normalizer_records.specs.declared.records.BuildError.TheVariants as error
+use Rattle.normalizer_records.specs.declared.refusal.Refusal.{Refusal}
+use Rattle.normalizer_records.specs.declared.refusal.Refusal.TheVariants as refusal
+use Rattle.normalizer_records.specs.Entry.{Entry, MapperEntry}
+use Rattle.normalizer_records.specs.Faults.{IsFirstRefusal}
+use Rattle.normalizer_records.specs.Meaning.{pairs_of}
+use Rattle.normalizer_builder.specs.declared.rank.Unfit.{Unfit}
+use Rattle.normalizer_builder.specs.Demands.{Demand, IsMade, Meets, answer_to, characters_of}
+use Rattle.normalizer_builder.specs.Ranks.{IsFirstUnmet}
+use Rattle.normalizer_builder.specs.Recorded.{AreMadeOf, AreEntriesOf, recorded_step}
+
+-- what is packed of records: their entries, and their pairs in order
+pub record AreParts (records : List Entry) (uts46 : List MapperEntry) (entries : List CharacterEntry) (pairs : List Pair) : Type 0 where
+  pub made : AreMadeOf records uts46 entries
+  pub meaning : AreEntriesOf records uts46 entries
+  pub same_pairs : IsPermutation (pairs_of records) pairs
+  pub rising_pairs : ArePairsRising pairs
+
+-- data that pack records
+pub record PacksRecords (records : List Entry) (uts46 : List MapperEntry) (p : Packed) : Type 0 where
+  pub entries : List CharacterEntry
+  pub pairs : List Pair
+  pub parts : AreParts records uts46 entries pairs
+  pub packs : Packs entries pairs p
+
+-- the distinct lists that no word spells have more items than words can point to
+pub record HasTooManyItems (records : List Entry) (uts46 : List MapperEntry) : Type 0 where
+  pub entries : List CharacterEntry
+  pub made : AreMadeOf records uts46 entries
+  pub full : item_limit < needed_items entries
+
+abbrev pub step_of_mapping : Mapping → Step
+step_of_mapping (One a) = Singleton a
+step_of_mapping (Two a b) = Expansion a b
+
+-- one step of n is the canonical mapping that is recorded of it
+unfoldable pub KeepsMapping : List Entry → Packed → ℕ → Type 0
+KeepsMapping records p n = IfSome (recorded_step records n) (λ m. step_of (characters_of p Canonical) p.supplement n ≡ Some (step_of_mapping m))
+
+-- what is demanded of data that pack records: what constructors ask, and that one step keeps the recorded mappings
+pub data RecordDemand : Type 0 where
+  OfConstructors : Demand → RecordDemand
+  OfMappings : RecordDemand
+
+unfoldable pub IsMadeOfRecords : RecordDemand → Type 0
+IsMadeOfRecords (OfConstructors d) = IsMade d
+IsMadeOfRecords OfMappings = Unit {0}
+
+unfoldable pub MeetsRecords : List Entry → Packed → RecordDemand → Type 0
+MeetsRecords records p (OfConstructors d) = Meets p d
+MeetsRecords records p OfMappings = (n : ℕ) → KeepsMapping records p n
+
+-- a mapping that isn't kept is answered as the condition that steps are sound
+abbrev pub answer_to_mappings : Unfit
+answer_to_mappings = record { marker = NormalizerNfdSupplementV1; condition = 16 }
+
+abbrev pub answer_of_records : RecordDemand → Unfit
+answer_of_records (OfConstructors d) = answer_to d
+answer_of_records OfMappings = answer_to_mappings
+
+-- all that is demanded is met, or this is the least answer to what isn't
+abbrev pub IsFirstUnfitOfRecords : List Entry → Packed → Option Unfit → Type 0
+IsFirstUnfitOfRecords records p r = IsFirstUnmet IsMadeOfRecords answer_of_records (MeetsRecords records p) r
+
+abbrev pub IsOfMappings : RecordDemand → Type 0
+IsOfMappings d = d ≡ OfMappings
+
+-- the same of the mappings alone
+abbrev pub IsFirstUnfitOfMappings : List Entry → Packed → Option Unfit → Type 0
+IsFirstUnfitOfMappings records p r = IsFirstUnmet IsOfMappings answer_of_records (MeetsRecords records p) r
+
+-- no refusal of the records holds, and these data pack them and meet all that is demanded
+pub record Builds (records : List Entry) (uts46 : List MapperEntry) (p : Packed) : Type 0 where
+  pub unrefused : IsFirstRefusal records uts46 None
+  pub packs : PacksRecords records uts46 p
+  pub fit : IsFirstUnfitOfRecords records p None
+
+abbrev pub error_of : Refusal → BuildError
+error_of refusal.Order = error.Order
+error_of refusal.Fixed = error.Fixed
+error_of refusal.Class = error.Class
+error_of refusal.Mapping = error.Mapping
+error_of refusal.Chain = error.Chain
+error_of refusal.Length = error.Length
+error_of refusal.Pair = error.Pair
+
+-- the smallest refusal: the first of the records themselves, then too many items, then the least demand that data that pack
+-- them don't meet. Want of memory may come anywhere.
+unfoldable pub IsSmallest : List Entry → List MapperEntry → BuildError → Type 0
+IsSmallest records uts46 error.Memory = Unit {0}
+IsSmallest records uts46 error.TableFull = IsFirstRefusal records uts46 None × HasTooManyItems records uts46
+IsSmallest records uts46 (error.Unfit marker condition) =
+    IsFirstRefusal records uts46 None × ((p : Packed) × PacksRecords records uts46 p × IsFirstUnfitOfRecords records p (Some (record { marker = marker; condition = condition })))
+IsSmallest records uts46 error.Order = IsFirstRefusal records uts46 (Some refusal.Order)
+IsSmallest records uts46 error.Fixed = IsFirstRefusal records uts46 (Some refusal.Fixed)
+IsSmallest records uts46 error.Class = IsFirstRefusal records uts46 (Some refusal.Class)
+IsSmallest records uts46 error.Mapping = IsFirstRefusal records uts46 (Some refusal.Mapping)
+IsSmallest records uts46 error.Chain = IsFirstRefusal records uts46 (Some refusal.Chain)
+IsSmallest records uts46 error.Length = IsFirstRefusal records uts46 (Some refusal.Length)
+IsSmallest records uts46 error.Pair = IsFirstRefusal records uts46 (Some refusal.Pair)

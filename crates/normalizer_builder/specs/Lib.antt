@@ -1,0 +1,5 @@
+pub mod Building
+pub mod Demands
+pub mod Fitness
+pub mod Ranks
+pub mod Recorded

@@ -1,0 +1,65 @@
+-- What is packed of recorded characters.
+use Rattle.std.specs.Prelude.{◌≡◌, ℕ, ◌≤◌, false, List, [], ◌∷◌, ◌++◌, length, map, All, Contains, Option, Some, None, IfSome}
+use Rattle.std.specs.List.Sorted.{IsStrictlyIncreasing}
+use Rattle.std.specs.Option.{option_and_then}
+use Rattle.normalizer_tables.specs.Hangul.{is_hangul_syllable}
+use Rattle.normalizer_packing.specs.declared.entry.Kind.TheVariants as kind
+use Rattle.normalizer_packing.specs.declared.entry.Mapping.{Mapping}
+use Rattle.normalizer_packing.specs.declared.entry.Mapping.TheVariants.{One, Two}
+use Rattle.normalizer_packing.specs.Entries.{CharacterEntry, AreRising, class_in, entry_of as packed_entry_of, list_in}
+use Rattle.normalizer_records.specs.Entry.{Entry, MapperEntry}
+use Rattle.normalizer_records.specs.Meaning.{class_of, canonical_list, canonical_mapping_of, compatibility_list, mapper_list}
+
+abbrev pub recorded_characters : List Entry → List MapperEntry → List ℕ
+recorded_characters records uts46 = map (λ r. r.c) records ++ map (λ r. r.c) uts46
+
+-- every character that has a record of either kind, once, in their order
+pub record ListsCharacters (records : List Entry) (uts46 : List MapperEntry) (characters : List ℕ) : Type 0 where
+  pub all : All (Contains characters) (recorded_characters records uts46)
+  pub recorded : All (Contains (recorded_characters records uts46)) characters
+  pub rising : IsStrictlyIncreasing characters
+
+-- one step of a mapping to one or two characters
+abbrev pub step_to : List ℕ → Option Mapping
+step_to (a ∷ []) = Some (One a)
+step_to (a ∷ b ∷ []) = Some (Two a b)
+step_to x = None
+
+-- the recorded canonical mapping
+unfoldable pub recorded_step : List Entry → ℕ → Option Mapping
+recorded_step records c = step_to (canonical_mapping_of records c)
+
+-- what records say of a character, as it is packed
+unfoldable pub entry_for : List Entry → List MapperEntry → ℕ → CharacterEntry
+entry_for records uts46 c = record {
+  character = c;
+  class = class_of records c;
+  canonical = canonical_list records c;
+  compatibility = compatibility_list records c;
+  mapper = mapper_list records uts46 c;
+  mapping = recorded_step records c;
+}
+
+-- no list of a character is longer than the longest that can be packed
+pub record HasRoom (records : List Entry) (uts46 : List MapperEntry) (c : ℕ) : Type 0 where
+  pub canonical : length (canonical_list records c) ≤ 18
+  pub compatibility : length (compatibility_list records c) ≤ 18
+  pub mapper : IfSome (mapper_list records uts46 c) (λ x. length x ≤ 18)
+
+unfoldable pub mapping_in : List CharacterEntry → ℕ → Option Mapping
+mapping_in entries n = option_and_then (λ e. e.mapping) (packed_entry_of entries n)
+
+-- an entry for each character that has a record of either kind, in their order
+pub record AreMadeOf (records : List Entry) (uts46 : List MapperEntry) (entries : List CharacterEntry) : Type 0 where
+  pub characters : List ℕ
+  pub listed : ListsCharacters records uts46 characters
+  pub made : entries ≡ map (entry_for records uts46) characters
+
+-- the entries say of every character, but Hangul syllables, what the records say
+pub record AreEntriesOf (records : List Entry) (uts46 : List MapperEntry) (entries : List CharacterEntry) : Type 0 where
+  pub rising : AreRising entries
+  pub classes : (n : ℕ) → class_in entries n ≡ class_of records n
+  pub mappings : (n : ℕ) → mapping_in entries n ≡ recorded_step records n
+  pub canonical : (n : ℕ) → is_hangul_syllable n ≡ false → list_in kind.Canonical entries n ≡ Some (canonical_list records n)
+  pub compatibility : (n : ℕ) → is_hangul_syllable n ≡ false → list_in kind.Compatibility entries n ≡ Some (compatibility_list records n)
+  pub mapper : (n : ℕ) → is_hangul_syllable n ≡ false → list_in kind.Mapper entries n ≡ mapper_list records uts46 n

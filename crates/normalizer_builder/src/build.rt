@@ -1,0 +1,102 @@
+//! Builds data from records.
+ghost use Rattle.std.specs.Prelude.{◌≡◌, None, IfOk, MatchResult};
+ghost use Rattle.normalizer_records.specs.Faults.{IsFirstRefusal};
+ghost use Rattle.normalizer_builder.specs.Building.{AreParts, Builds, IsSmallest, PacksRecords, error_of};
+
+use crate::built::Built;
+use crate::entries::entries;
+use crate::mappings::first_unfit_of_records;
+use normalizer_packing::entry::Entry;
+use normalizer_packing::{PackError, Packed, pack};
+use normalizer_records::{BuildError, Record, Refusal, Uts46Record, first_refusal, pairs};
+use std::alloc::{AllocError, Global};
+
+/// Plain records of characters.
+pub struct Records;
+
+impl Records {
+    /// Data that pack records: their classes, lists and pairs, and the steps of their canonical mappings. Records that
+    /// give no such data, or data that a constructor would refuse, are refused for the smallest cause.
+    #[tactic(auto, unfolding(crate::specs::Building::IsSmallest))]
+    pub fn build(
+        alloc: Global,
+        records: &[Record],
+        uts46: &[Uts46Record],
+    ) -> Result<Built, BuildError>
+        ensures { MatchResult result (λ b. Builds records.now uts46.now b.packed) (IsSmallest records.now uts46.now) }
+    {
+        match first_refusal(alloc, records, uts46) {
+            Ok(None) => build_unrefused(alloc, records, uts46),
+            Ok(Some(refusal)) => Err(error_of(refusal)),
+            Err(_) => Err(BuildError::Memory),
+        }
+    }
+}
+
+/// The error that a refusal of the records is.
+fn error_of(refusal: Refusal) -> BuildError
+    ensures { result ≡ error_of refusal }
+{
+    match refusal {
+        Refusal::Order => BuildError::Order,
+        Refusal::Fixed => BuildError::Fixed,
+        Refusal::Class => BuildError::Class,
+        Refusal::Mapping => BuildError::Mapping,
+        Refusal::Chain => BuildError::Chain,
+        Refusal::Length => BuildError::Length,
+        Refusal::Pair => BuildError::Pair,
+    }
+}
+
+/// The data of records that aren't refused themselves.
+#[tactic(auto, unfolding(crate::specs::Building::IsSmallest))]
+fn build_unrefused(
+    alloc: Global,
+    records: &[Record],
+    uts46: &[Uts46Record],
+) -> Result<Built, BuildError>
+    requires { IsFirstRefusal records.now uts46.now None }
+    ensures { MatchResult result (λ b. Builds records.now uts46.now b.packed) (IsSmallest records.now uts46.now) }
+{
+    let packed = packed_of(alloc, records, uts46)?;
+    match first_unfit_of_records(records, &packed) {
+        None => Ok(Built { packed }),
+        Some(unfit) => Err(BuildError::Unfit {
+            marker: unfit.marker,
+            condition: unfit.condition,
+        }),
+    }
+}
+
+/// Data that pack such records.
+#[tactic(auto, unfolding(crate::specs::Building::IsSmallest))]
+fn packed_of(alloc: Global, records: &[Record], uts46: &[Uts46Record]) -> Result<Packed, BuildError>
+    requires { IsFirstRefusal records.now uts46.now None }
+    ensures { MatchResult result (PacksRecords records.now uts46.now) (IsSmallest records.now uts46.now) }
+{
+    match parts_of(alloc, records, uts46) {
+        Ok((entries, pairs)) => match pack(alloc, entries.as_slice(), pairs) {
+            Ok(packed) => Ok(packed),
+            Err(PackError::TableFull) => Err(BuildError::TableFull),
+            Err(PackError::Memory) => Err(BuildError::Memory),
+        },
+        Err(_) => Err(BuildError::Memory),
+    }
+}
+
+/// What is packed of such records: the entries and the pairs.
+fn parts_of(
+    alloc: Global,
+    records: &[Record],
+    uts46: &[Uts46Record],
+) -> Result<(Vec<Entry>, Vec<(char, char, char)>), AllocError>
+    requires { IsFirstRefusal records.now uts46.now None }
+    ensures { IfOk result (λ parts. AreParts records.now uts46.now parts.0.items parts.1.items) }
+{
+    let entries = entries(alloc, records, uts46)?;
+    let pairs = pairs(alloc, records)?;
+    Ok((entries, pairs))
+}
+
+#[cfg(test)]
+mod tests;

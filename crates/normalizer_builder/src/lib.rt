@@ -1,0 +1,15 @@
+//! Builds normalization data from plain records, and tells which written condition packed data break.
+#![tactic(auto)]
+
+mod build;
+mod built;
+mod characters;
+mod entries;
+mod mappings;
+mod rank;
+mod unfit;
+
+pub use build::Records;
+pub use built::Built;
+pub use rank::Unfit;
+pub use unfit::first_unfit;

@@ -1,0 +1,86 @@
+//! Whether one step of decomposition over packed data is what is recorded.
+ghost use Rattle.std.specs.Prelude.{◌≡◌, ◌↔◌, All, Some, IsTrue};
+ghost use Rattle.normalizer_packing.specs.declared.entry.Kind.TheVariants.{Canonical};
+ghost use Rattle.normalizer_records.specs.Faults.{AreRising};
+ghost use Rattle.normalizer_tables.specs.Steps.{step_of};
+ghost use Rattle.normalizer_builder.specs.Building.{IsFirstUnfitOfMappings, IsFirstUnfitOfRecords, KeepsMapping, step_of_mapping};
+ghost use Rattle.normalizer_builder.specs.Demands.{characters_of};
+
+use crate::entries::step_to;
+use crate::rank::{Unfit, least};
+use crate::unfit::{characters_of, first_unfit};
+use normalizer_packing::Packed;
+use normalizer_packing::entry::{Kind, Mapping};
+use normalizer_records::{Record, canonical_mapping_of};
+use normalizer_tables::DataMarkerInfo;
+use normalizer_tables::step::{Step, step_of};
+
+/// The first demand that data that pack records don't meet: what constructors ask, and that one step keeps the recorded
+/// mappings.
+pub(crate) fn first_unfit_of_records(records: &[Record], packed: &Packed) -> Option<Unfit>
+    requires { AreRising records.now }
+    ensures { IsFirstUnfitOfRecords records.now packed.now result }
+{
+    least(first_unfit(packed), answer_to_mappings(records, packed))
+}
+
+/// How data that don't keep the recorded mappings are answered.
+fn answer_to_mappings(records: &[Record], packed: &Packed) -> Option<Unfit>
+    requires { AreRising records.now }
+    ensures { IsFirstUnfitOfMappings records.now packed.now result }
+{
+    if keeps_mappings(records, packed) {
+        None
+    } else {
+        Some(Unfit {
+            marker: DataMarkerInfo::NormalizerNfdSupplementV1,
+            condition: 16,
+        })
+    }
+}
+
+/// Whether the data keep the mappings of all records.
+fn keeps_mappings(records: &[Record], packed: &Packed) -> bool
+    requires { AreRising records.now }
+    ensures { IsTrue result ↔ All (λ r. KeepsMapping records.now packed.now r.c) records.now }
+{
+    for recorded in records {
+        if !keeps_mapping(records, packed, recorded.c) {
+            return false;
+        }
+    }
+    true
+}
+
+/// Whether one step of a character is the mapping that is recorded of it.
+#[tactic(auto, unfolding(crate::specs::Building::KeepsMapping, crate::specs::Recorded::recorded_step))]
+fn keeps_mapping(records: &[Record], packed: &Packed, character: char) -> bool
+    requires { AreRising records.now }
+    ensures { IsTrue result ↔ KeepsMapping records.now packed.now character }
+{
+    match step_to(canonical_mapping_of(records, character)) {
+        Some(mapping) => is_step(packed, character, mapping),
+        None => true,
+    }
+}
+
+/// Whether one step of a character is this mapping.
+fn is_step(packed: &Packed, character: char, mapping: Mapping) -> bool
+    ensures { IsTrue result ↔ (step_of (characters_of packed.now Canonical) packed.now.supplement character ≡ Some (step_of_mapping mapping)) }
+{
+    let characters = characters_of(packed, Kind::Canonical);
+    match step_of(&characters, &packed.supplement, character) {
+        Some(step) => step == step_of_mapping(mapping),
+        None => false,
+    }
+}
+
+/// The step that is a mapping.
+fn step_of_mapping(mapping: Mapping) -> Step
+    ensures { result ≡ step_of_mapping mapping }
+{
+    match mapping {
+        Mapping::One(only) => Step::Singleton(only),
+        Mapping::Two(first, second) => Step::Expansion(first, second),
+    }
+}
