@@ -1,3 +1,4 @@
+pub mod AlikeReadings
 pub mod AppendLemmas
 pub mod BoundaryLemmas
 pub mod ChunkLemmas

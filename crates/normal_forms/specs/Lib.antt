@@ -1,3 +1,4 @@
+pub mod Alike
 pub mod Boundary
 pub mod Chunks
 pub mod Composition

@@ -4,6 +4,7 @@
 ghost use Rattle.std.specs.Prelude.{◌≡◌, ◌≢◌, ℕ, ◌≤◌, ◌<◌, ◌⊎◌, ◌+◌, ◌-◌, ◌↔◌, Bool, true, false, List, [], ◌∷◌, ◌++◌, length, take, drop, Some, All};
 ghost use Rattle.std.specs.List.{AllPass};
 ghost use Rattle.normal_forms.specs.Reading.{Reading, IsStarter, IsMark};
+ghost use Rattle.normal_forms.specs.Alike.{AreAlike};
 ghost use Rattle.normal_forms.specs.Decomposition.{expand};
 ghost use Rattle.normal_forms.specs.Boundary.{BeginsWithStarter, BeginsSafely};
 ghost use Rattle.normal_forms.specs.Chunks.{BeginsChunk};
@@ -178,4 +179,11 @@ pub fn composition_over_marks()
         compose_after d (compose_marks d a waiting marks).0 (compose_marks d a waiting marks).1 rest }
     ensures last_decides { (d : Reading) (waiting : List ℕ) (c : ℕ) → All (IsMark d) waiting → order d waiting ≡ waiting →
         (is_above d waiting c ≡ true) ↔ ((waiting ≡ []) ⊎ IsLastBelow d waiting c) }
+{}
+
+/// Readings that say the same make the same forms, and suit the laws alike.
+pub fn alike_readings_make_the_same_forms()
+    ensures same { (d e : Reading) → AreAlike d e → (form : Form) (x : List ℕ) → normal_form d form x ≡ normal_form e form x }
+    ensures suits { (d e : Reading) → AreAlike d e → (form : Form) → SuitsForm d form → SuitsForm e form }
+    ensures inhabited { (d e : Reading) → AreAlike d e → HasInhabitedLists d → HasInhabitedLists e }
 {}
