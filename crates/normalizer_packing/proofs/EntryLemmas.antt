@@ -1,6 +1,6 @@
 -- Look-ups in entries that rise.
 use Rattle.std.proofs.Common.{◌≡◌, ◌≢◌, ◌==◌, ℕ, ◌<◌, ◌≤◌, Bool, true, false, List, [], ◌∷◌, length, get_or, refl, Some, None, find, All, arith, ap, sym, subst, ◌∙◌, zero, suc, inl, inr, nat_lt}
-use Rattle.std.proofs.lemmas.Bool.{cases_order, ltb-true, ltb-false, lt-ltb}
+use Rattle.std.proofs.lemmas.Bool.{cases_order, eq-eqb, ltb-true, ltb-false, lt-ltb}
 use Rattle.std.proofs.lemmas.Bool.Decides.{nat_tests}
 use Rattle.std.proofs.lemmas.List.Elements.{All-head, All-tail, All-from_get_or}
 use Rattle.std.proofs.Math.Nat.{eq-or-lt_of_le}
@@ -17,6 +17,14 @@ find-first p (x ∷ xs) (suc k) d within here before = rw (before 0 (omega arith
 pub find-none : {A : Type 0} (p : A → Bool) (xs : List A) → All (λ x. p x ≡ false) xs → find p xs ≡ None
 find-none p [] h = refl
 find-none p (x ∷ xs) h = rw (All-head (λ y. p y ≡ false) x xs h) (find-none p xs (All-tail (λ y. p y ≡ false) x xs h))
+
+-- each entry is found by its character
+pub entry_of-each : (entries : List CharacterEntry) (k : ℕ) (d : CharacterEntry) → AreRising entries → k < length entries → entry_of entries (get_or entries k d).character ≡ Some (get_or entries k d)
+unfolding entry_of
+entry_of-each entries k d rising within = find-first (λ e. e.character == (get_or entries k d).character) entries k d within (eq-eqb _ _ refl) earlier
+  where
+    earlier : (j : ℕ) → j < k → ((get_or entries j d).character == (get_or entries k d).character) ≡ false
+    earlier j below = let less = rising j k d below within in grind (arith, nat_tests)
 
 -- entries that rise have those below a character in front
 pub IsPartitionedBy-character : (entries : List CharacterEntry) (n : ℕ) → AreRising entries → IsPartitionedBy (λ e. nat_lt e.character n) entries

@@ -3,6 +3,12 @@ pub mod FlagLemmas
 pub mod PackableLemmas
 pub mod PackingLemmas
 pub mod PlaceLemmas
+pub mod ReadBack
+pub mod ReadBackBits
+pub mod ReadBackFlags
+pub mod ReadBackLines
+pub mod ReadBackPlaces
+pub mod ReadBackWords
 pub mod StepLemmas
 pub mod StoreLemmas
 pub mod Tilings

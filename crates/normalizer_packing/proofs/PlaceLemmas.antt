@@ -47,7 +47,7 @@ same_some a b e = cc
 among_first : (x : List ℕ) (a b : List (List ℕ)) → is_among x a ≡ true → is_among x (a ++ b) ≡ true
 among_first x a b h = is_among-append x a b ∙ rw h refl
 
-or_true : (b : Bool) → (b || true) ≡ true
+pub or_true : (b : Bool) → (b || true) ≡ true
 or_true true = refl
 or_true false = refl
 

@@ -14,7 +14,7 @@ use Rattle.normalizer_packing.specs.declared.entry.Kind.{Kind}
 use Rattle.normalizer_packing.specs.Entries.{CharacterEntry, class_in}
 use Rattle.normalizer_packing.specs.Spelling.{list_eq}
 use Rattle.normalizer_packing.specs.Stored.{StandsAt, canonical_items, supplementary_items, needed_items, listed_of, listed_in, is_among, is_narrow, items_behind}
-use Rattle.normalizer_packing.specs.Stores.{Holds, AreStored, HoldsMore, place_in, tables_in}
+use Rattle.normalizer_packing.specs.Stores.{Holds, AreStored, HoldsMore, StandsLast, place_in, tables_in}
 use Rattle.normalizer_packing.specs.declared.stored.Store.{Store}
 use Rattle.std.specs.BTreeMap.{UpdatesBy, get_by}
 use Rattle.std.specs.Cmp.Lexicographic.{slice_cmp}
@@ -230,6 +230,10 @@ place_updated old mid new x n same updates y =
 pub HoldsMore-put : (old new : Store) (x more16 more24 : List ℕ) (n : ℕ) → place_in old x ≡ None → ((y : List ℕ) → place_in new y ≡ cond (list_eq x y) (Some n) (place_in old y)) → Extends (tables_in old) (tables_in new) more16 more24 → StandsAt (tables_in new) x n → length more16 + length more24 ≡ length x → HoldsMore old x new
 HoldsMore-put old new x more16 more24 n none finds e stands grown = λ before lists apart h.
     Holds-put before lists (tables_in old) (place_in old) x apart h (tables_in new) (place_in new) n none finds (λ y m. StandsAt-extends _ _ more16 more24 y m e) stands (omega (arith, item_count-extends _ _ more16 more24 e, grown))
+
+-- a list that is put behind the table of characters stands at its end
+pub StandsLast-put : (old new : Store) (x : List ℕ) (n : ℕ) → ((y : List ℕ) → place_in new y ≡ cond (list_eq x y) (Some n) (place_in old y)) → n ≡ length old.scalars24.items → new.scalars24.items ≡ old.scalars24.items ++ x → StandsLast new x
+StandsLast-put old new x n finds place items = (n, finds x ∙ rw (eq_list x x refl) refl, omega (arith, place, ap length items, length-append old.scalars24.items x))
 
 pub narrow_length : (x : List ℕ) → is_narrow x ≡ true → 2 ≤ length x
 unfolding is_narrow

@@ -104,7 +104,7 @@ module _ (kind : Kind) (entries : List CharacterEntry) (n : ℕ) (is : spelling 
       subst (λ (x : List ℕ). is_among x (listed_in entries kind) ≡ true) (sym kept) (found_among (λ f. f.character == n) (listed_of (class_in entries) kind) entries e some.0 found (listed_own (class_in entries) kind e here ∙ some.1))
 
   -- a list that no word spells is one of those of its kind
-  listed_among : is_among (kept_list kind entries n) (listed_in entries kind) ≡ true
+  pub listed_among : is_among (kept_list kind entries n) (listed_in entries kind) ≡ true
   listed_among = elim (entry_of entries n) as (λ o. entry_of entries n ≡ o → is_among (kept_list kind entries n) (listed_in entries kind) ≡ true) [
     | None ↦ λ none. without_entry none
     | Some e ↦ λ found. with_entry e found

@@ -4,6 +4,7 @@ pub mod Flags
 pub mod Packable
 pub mod PackedWords
 pub mod Packing
+pub mod ReadBack
 pub mod Spelling
 pub mod StepWords
 pub mod Steps

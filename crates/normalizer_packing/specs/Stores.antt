@@ -1,5 +1,5 @@
 -- A store of lists: tables, and where each list stands in them.
-use Rattle.std.specs.Prelude.{◌≡◌, ℕ, true, false, List, [], ◌∷◌, ◌++◌, ◌⊎◌, Option, Some, None}
+use Rattle.std.specs.Prelude.{◌≡◌, ℕ, ◌+◌, true, false, List, [], ◌∷◌, ◌++◌, length, ◌⊎◌, Option, Some, None}
 use Rattle.std.specs.BTreeMap.{get_by}
 use Rattle.std.specs.Cmp.Lexicographic.{slice_cmp}
 use Rattle.std.specs.Ordering.{nat_cmp}
@@ -29,6 +29,14 @@ IsStoreOf before lists s = Holds before lists (tables_in s) (place_in s)
 -- where a store held lists, it then holds x too, if x stands in no other tables
 abbrev pub HoldsMore : Store → List ℕ → Store → Type 0
 HoldsMore old x new = (before lists : List (List ℕ)) → is_among x before ≡ false → IsStoreOf before lists old → IsStoreOf before (lists ++ x ∷ []) new
+
+-- the list stands at the very end of the table of characters
+abbrev pub StandsLast : Store → List ℕ → Type 0
+StandsLast s x = (place : ℕ) × (place_in s x ≡ Some place) × (place + length x ≡ length s.scalars24.items)
+
+-- a list was there, and so the store is the same, or it then stands at the very end of the table of characters
+abbrev pub IsThereOrLast : Store → List ℕ → Store → Type 0
+IsThereOrLast old x new = (new ≡ old) ⊎ StandsLast new x
 
 -- where the store before held lists, and this one others, it then holds more lists too
 abbrev pub HoldsLists : Store → Store → List (List ℕ) → Store → Type 0

@@ -7,6 +7,7 @@ mod cap;
 mod entries;
 pub mod entry;
 mod flags;
+pub mod laws;
 mod packable;
 mod packing;
 mod pointing;

@@ -14,7 +14,7 @@ use crate::steps::supplement_of;
 use crate::stores::{PackError, Stores, stores_of};
 use crate::words::PackedWords;
 use normalizer_tables::{CanonicalCompositions, DecompositionData, TableError};
-use std::alloc::Global;
+use std::alloc::{AllocError, Global};
 
 /// Packs the entries of characters, and pairs of characters that compose (second, first and result), into data.
 pub fn pack(
@@ -30,7 +30,7 @@ pub fn pack(
     let stores = stores_of(alloc, &entries)?;
     match packed_with(alloc, entries, pairs, stores) {
         Ok(packed) => Ok(packed),
-        Err(_) => Err(PackError::Memory),
+        Err(AllocError) => Err(PackError::Memory),
     }
 }
 
@@ -40,11 +40,11 @@ fn packed_with<'e>(
     entries: Entries<'e>,
     pairs: Vec<(char, char, char)>,
     stores: Stores<'e>,
-) -> Result<Packed, TableError>
+) -> Result<Packed, AllocError>
     requires { CanPoint entries stores }
     ensures packed { IfOk result (Packs entries.entry pairs.items) }
 {
-    let compositions = CanonicalCompositions::from_pairs(pairs)?;
+    let compositions = compositions_of(pairs)?;
     let canonical = data_of(alloc, &entries, &compositions, &stores, Kind::Canonical)?;
     let compatibility = data_of(alloc, &entries, &compositions, &stores, Kind::Compatibility)?;
     let mapper = data_of(alloc, &entries, &compositions, &stores, Kind::Mapper)?;
@@ -60,6 +60,17 @@ fn packed_with<'e>(
     })
 }
 
+/// The pairs as they are handed in: only want of memory refuses them.
+fn compositions_of(pairs: Vec<(char, char, char)>) -> Result<CanonicalCompositions, AllocError>
+    ensures { IfOk result (λ c. c ≡ pairs.items) }
+{
+    match CanonicalCompositions::from_pairs(pairs) {
+        Ok(compositions) => Ok(compositions),
+        Err(TableError::Memory) => Err(AllocError),
+        Err(TableError::Ranges) => unreachable!(),
+    }
+}
+
 /// One kind of data.
 fn data_of<'a, 'e>(
     alloc: Global,
@@ -67,7 +78,7 @@ fn data_of<'a, 'e>(
     compositions: &'a CanonicalCompositions,
     stores: &'a Stores<'e>,
     kind: Kind,
-) -> Result<DecompositionData, TableError>
+) -> Result<DecompositionData, AllocError>
     requires { CanPoint entries.now stores.now }
     ensures { IfOk result (PacksKind kind entries.now compositions.now (packed_tables stores.now)) }
 {
@@ -82,3 +93,6 @@ fn data_of<'a, 'e>(
         passthrough_cap: cap_of(entries, compositions, kind),
     })
 }
+
+#[cfg(test)]
+mod tests;

@@ -25,13 +25,15 @@ pub trait Words {
 }
 
 /// The table of the words of all code points, where equal neighbours make one range.
-pub fn table_of<W: Words>(alloc: Global, words: &W) -> Result<CodePointTable, TableError>
+pub fn table_of<W: Words>(alloc: Global, words: &W) -> Result<CodePointTable, AllocError>
     requires { W.is_ready words.now }
     ensures { IfOk result (HasWords (W.is_word words.now)) }
 {
-    match ranges_of(alloc, words) {
-        Ok(ranges) => CodePointTable::from_ranges(ranges, 0),
-        Err(_) => Err(TableError::Memory),
+    let ranges = ranges_of(alloc, words)?;
+    match CodePointTable::from_ranges(ranges, 0) {
+        Ok(table) => Ok(table),
+        Err(TableError::Memory) => Err(AllocError),
+        Err(TableError::Ranges) => unreachable!(),
     }
 }
 

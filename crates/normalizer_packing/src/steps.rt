@@ -1,17 +1,17 @@
 //! The supplement: one step of decomposition, where the word of canonical data doesn't tell it.
-ghost use Rattle.std.specs.Prelude.{◌≡◌, true, false, [], ◌∷◌, Some, IfOk, if◌then◌else◌, nat_le, take};
-ghost use Rattle.normalizer_packing.specs.Entries.{class_in, entry_of};
+ghost use Rattle.std.specs.Prelude.{◌≡◌, true, false, [], ◌∷◌, Some, IfOk, if◌then◌else◌, nat_le};
+ghost use Rattle.normalizer_packing.specs.Entries.{AreRising, class_in, entry_of};
 ghost use Rattle.normalizer_packing.specs.Stored.{is_among};
-ghost use Rattle.normalizer_packing.specs.StepWords.{AreWide, HoldsWide, IsWordOfStep};
-ghost use Rattle.normalizer_packing.specs.Steps.{IsStoredStep, step_items, step_limit, are_narrow, asked_step, asks_supplement, step_in, stored_step, stored_steps, PacksSteps};
+ghost use Rattle.normalizer_packing.specs.StepWords.{AreWide, HoldsWide, IsPlacedStep, IsWordOfStep};
+ghost use Rattle.normalizer_packing.specs.Steps.{are_narrow, asked_step, asks_supplement, step_in, stored_step, stored_steps, PacksSteps};
 
 use crate::entries::Entries;
 use crate::entry::{Entry, Mapping};
 use crate::ranges::{Words, table_of};
 use crate::spelling::{Spelling, spell};
 use crate::stored::Store;
+use normalizer_tables::NonRecursiveDecompositionSupplement;
 use normalizer_tables::word::is_class_form;
-use normalizer_tables::{NonRecursiveDecompositionSupplement, TableError};
 use std::alloc::{AllocError, Global};
 
 /// Whether one step of a character asks the supplement.
@@ -109,7 +109,7 @@ struct StepWords<'a, 'e, 's> {
 impl Words for StepWords<'_, '_, '_> {
     ghost is_ready = { λ w. HoldsWide (stored_steps w.entries.now) w.store };
 
-    ghost is_word = { λ w n. IsWordOfStep w.entries.now w.store (step_in w.entries.now n) };
+    ghost is_word = { λ w n. IsWordOfStep w.store (step_in w.entries.now n) };
 
     fn word_of(&self, number: u32) -> u32 {
         match char::from_u32(number) {
@@ -123,7 +123,7 @@ impl StepWords<'_, '_, '_> {
     #[tactic(auto, unfolding(crate::specs::Steps::step_in))]
     fn word_of_character(&self, character: char) -> u32
         requires { HoldsWide (stored_steps self.now.entries.now) self.now.store }
-        ensures { IsWordOfStep self.now.entries.now self.now.store (step_in self.now.entries.now character) result }
+        ensures { IsWordOfStep self.now.store (step_in self.now.entries.now character) result }
     {
         match self.entries.entry_of(character) {
             Some(entry) => self.word_of_entry(entry),
@@ -134,7 +134,7 @@ impl StepWords<'_, '_, '_> {
     fn word_of_entry(&self, entry: &Entry) -> u32
         requires ready { HoldsWide (stored_steps self.now.entries.now) self.now.store }
         requires held { entry_of self.now.entries.now entry.now.character ≡ Some entry.now }
-        ensures { IsWordOfStep self.now.entries.now self.now.store (asked_step self.now.entries.now entry.now) result }
+        ensures { IsWordOfStep self.now.store (asked_step self.now.entries.now entry.now) result }
     {
         match asked_step(self.entries, entry) {
             Some(Mapping::One(character)) => word_of_one(character),
@@ -147,7 +147,7 @@ impl StepWords<'_, '_, '_> {
     fn word_of_two(&self, first: char, second: char) -> u32
         requires ready { HoldsWide (stored_steps self.now.entries.now) self.now.store }
         requires stored { are_narrow first second ≡ false → is_among (first ∷ second ∷ []) (stored_steps self.now.entries.now) ≡ true }
-        ensures { IsWordOfStep self.now.entries.now self.now.store (Some (Mapping.Two first second)) result }
+        ensures { IsWordOfStep self.now.store (Some (Mapping.Two first second)) result }
     {
         if are_narrow(first, second) {
             first as u32 + second as u32 * 0x10000
@@ -161,7 +161,7 @@ impl StepWords<'_, '_, '_> {
         requires ready { HoldsWide (stored_steps self.now.entries.now) self.now.store }
         requires stored { is_among (first ∷ second ∷ []) (stored_steps self.now.entries.now) ≡ true }
         requires wide { are_narrow first second ≡ false }
-        ensures { IsStoredStep (take step_limit self.now.store.scalars24.items) (step_items self.now.entries.now) first second result }
+        ensures { IsPlacedStep self.now.store first second result }
     {
         match self.store.place_of(&[first, second]) {
             Some(place) => {
@@ -191,13 +191,12 @@ fn word_of_one(character: char) -> u32
 pub fn supplement_of(
     alloc: Global,
     entries: &Entries<'_>,
-) -> Result<NonRecursiveDecompositionSupplement, TableError>
+) -> Result<NonRecursiveDecompositionSupplement, AllocError>
+    requires { AreRising entries.now }
     ensures { IfOk result (PacksSteps entries.now) }
 {
-    match stored_steps(alloc, entries) {
-        Ok(steps) => supplement_with(alloc, entries, steps.as_slice()),
-        Err(_) => Err(TableError::Memory),
-    }
+    let steps = stored_steps(alloc, entries)?;
+    supplement_with(alloc, entries, steps.as_slice())
 }
 
 /// The supplement with these steps in its table.
@@ -205,22 +204,22 @@ fn supplement_with(
     alloc: Global,
     entries: &Entries<'_>,
     steps: &[[char; 2]],
-) -> Result<NonRecursiveDecompositionSupplement, TableError>
-    requires { steps.now ≡ stored_steps entries.now }
+) -> Result<NonRecursiveDecompositionSupplement, AllocError>
+    requires rising { AreRising entries.now }
+    requires steps { steps.now ≡ stored_steps entries.now }
     ensures { IfOk result (PacksSteps entries.now) }
 {
-    match store_of(alloc, steps) {
-        Ok(store) => supplement_in(alloc, StepWords { entries, store }),
-        Err(_) => Err(TableError::Memory),
-    }
+    let store = store_of(alloc, steps)?;
+    supplement_in(alloc, StepWords { entries, store })
 }
 
 /// The supplement with these words.
 fn supplement_in(
     alloc: Global,
     words: StepWords<'_, '_, '_>,
-) -> Result<NonRecursiveDecompositionSupplement, TableError>
-    requires { HoldsWide (stored_steps words.entries.now) words.store }
+) -> Result<NonRecursiveDecompositionSupplement, AllocError>
+    requires rising { AreRising words.entries.now }
+    requires ready { HoldsWide (stored_steps words.entries.now) words.store }
     ensures { IfOk result (PacksSteps words.entry.entries.now) }
 {
     let table = table_of(alloc, &words)?;

@@ -4,7 +4,7 @@ ghost use Rattle.std.specs.List.{list_all};
 ghost use Rattle.normalizer_tables.specs.Conditions.{item_count};
 ghost use Rattle.normalizer_packing.specs.Entries.{class_in};
 ghost use Rattle.normalizer_packing.specs.Stored.{is_narrow, item_at, listed_in, listed_of, StandsAt};
-ghost use Rattle.normalizer_packing.specs.Stores.{place_in, tables_in, HoldsLists, HoldsMore, IsStoreOf};
+ghost use Rattle.normalizer_packing.specs.Stores.{place_in, tables_in, HoldsLists, HoldsMore, IsStoreOf, IsThereOrLast};
 
 use crate::entries::Entries;
 use crate::entry::{Entry, Kind};
@@ -58,6 +58,7 @@ impl<'a> Store<'a> {
     pub fn put(&mut self, list: &'a [char]) -> Result<(), AllocError>
         ensures holds { OnOk result (HoldsMore self.old list.now self.new) }
         ensures narrow { is_narrow list.now ≡ false → OnOk result (self.new.scalars16.items ≡ self.old.scalars16.items) }
+        ensures last { is_narrow list.now ≡ false → OnOk result (IsThereOrLast self.old list.now self.new) }
     {
         if self.place_of(list).is_some() {
             return Ok(());

@@ -16,6 +16,7 @@ pub enum PackError {
     /// The distinct lists that no word spells have together more items than words can point to.
     #[error("the lists have more items than words can point to")]
     TableFull,
+    /// A growth was refused.
     #[error("out of memory")]
     Memory,
 }

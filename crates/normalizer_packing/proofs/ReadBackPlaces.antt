@@ -1,0 +1,95 @@
+-- What the four tables give from the item on from which a list stands.
+use Rattle.std.proofs.Common.{◌≡◌, ℕ, ◌+◌, ◌-◌, ◌<◌, ◌≤◌, ◌⊎◌, true, false, List, length, Option, Some, None, refl, arith, sym, subst, ◌∙◌, inl, inr}
+use Rattle.std.proofs.lemmas.Bool.{lt-ltb, le-ltb}
+use Rattle.normalizer_tables.specs.Characters.{Characters, as_text, items_at, listed_at, listed_in, narrow_at, placed_in, wide_at}
+use Rattle.normalizer_tables.specs.Conditions.{item_count}
+use Rattle.normalizer_tables.specs.Data.{Lists}
+use Rattle.normalizer_packing.specs.declared.entry.Kind.TheVariants.{Canonical}
+use Rattle.normalizer_packing.specs.Entries.{CharacterEntry}
+use Rattle.normalizer_packing.specs.Stored.{StandsAt, StandsFrom, Tables, is_among, is_narrow, item_at, listed_in as packed_in, low_length}
+use Rattle.normalizer_packing.proofs.PlaceLemmas.{item_within, place_within}
+use Rattle.normalizer_packing.proofs.StoreLemmas.{narrow_length}
+
+module _ (table : List ℕ) (gives after : ℕ → Option (List ℕ)) where
+  placed_here : (place : ℕ) → place < length table → placed_in table gives after place ≡ gives place
+  unfolding placed_in
+  placed_here place within = rw (lt-ltb _ _ within) refl
+
+  placed_past : (item k : ℕ) → item ≡ length table + k → placed_in table gives after item ≡ after k
+  unfolding placed_in
+  placed_past item k e =
+      let back : item - length table ≡ k = omega arith in
+      rw (le-ltb item (length table) (omega arith), back) refl
+
+-- the item is past both tables
+past_both : (t : Lists) (low : ℕ) (after : ℕ → Option (List ℕ)) (k : ℕ) → listed_in t low after (item_count t + k) ≡ after k
+unfolding listed_in
+past_both t low after k =
+    placed_past t.scalars16 (narrow_at t.scalars16 low) (placed_in t.scalars24 (wide_at t.scalars24 low) after) (item_count t + k) (length t.scalars24 + k) (omega arith)
+    ∙ placed_past t.scalars24 (wide_at t.scalars24 low) after (length t.scalars24 + k) k refl
+
+module _ (t : Lists) (x : List ℕ) (place : ℕ) (some : 0 < length x) (after : ℕ → Option (List ℕ)) where
+  narrow_given : is_narrow x ≡ true → as_text x ≡ Some x → StandsAt t x place → listed_in t (low_length x) after (item_at t x place) ≡ Some x
+  unfolding listed_in StandsAt item_at low_length narrow_at
+  narrow_given narrow text stands =
+      let here : items_at t.scalars16 place (length x) ≡ Some x = rw narrow at stands in
+      let within : place + length x ≤ length t.scalars16 = rw narrow at (place_within t x place stands) in
+      let same : length x - 2 + 2 ≡ length x = omega (arith, narrow_length x narrow) in
+      rw narrow (placed_here t.scalars16 (narrow_at t.scalars16 (length x - 2)) (placed_in t.scalars24 (wide_at t.scalars24 (length x - 2)) after) place (omega arith)
+      ∙ rw (same, here) text)
+
+  wide_given : is_narrow x ≡ false → StandsAt t x place → listed_in t (low_length x) after (item_at t x place) ≡ Some x
+  unfolding listed_in StandsAt item_at low_length wide_at
+  wide_given wide stands =
+      let here : items_at t.scalars24 place (length x) ≡ Some x = rw wide at stands in
+      let within : place + length x ≤ length t.scalars24 = rw wide at (place_within t x place stands) in
+      let same : length x - 1 + 1 ≡ length x = omega arith in
+      rw wide (placed_past t.scalars16 (narrow_at t.scalars16 (length x - 1)) (placed_in t.scalars24 (wide_at t.scalars24 (length x - 1)) after) (length t.scalars16 + place) place refl
+      ∙ placed_here t.scalars24 (wide_at t.scalars24 (length x - 1)) after place (omega arith)
+      ∙ rw same here)
+
+  -- the list stands at its place in one of the two tables
+  given : as_text x ≡ Some x → StandsAt t x place → listed_in t (low_length x) after (item_at t x place) ≡ Some x
+  given text stands = elim (is_narrow x) as (λ b. is_narrow x ≡ b → listed_in t (low_length x) after (item_at t x place) ≡ Some x) [
+    | true ↦ λ narrow. narrow_given narrow text stands
+    | false ↦ λ wide. wide_given wide stands
+  ] refl
+
+-- what is known of a list that stands from an item on
+pub record IsGiven (s : Characters) (x : List ℕ) (item : ℕ) : Type 0 where
+  pub within : item < item_count s.tables + item_count s.supplementary
+  pub list : listed_at s item (low_length x) ≡ Some x
+
+module _ (entries : List CharacterEntry) (s : Characters) (t : Tables) (x : List ℕ) (first : s.tables ≡ t.canonical) (some : 0 < length x) (text : as_text x ≡ Some x) where
+  given_by_first : (place : ℕ) → StandsAt t.canonical x place → IsGiven s x (item_at t.canonical x place)
+  unfolding listed_at
+  given_by_first place stands =
+      let within : item_at t.canonical x place < item_count t.canonical = item_within t.canonical x place some stands in
+      record {
+        within = rw first (omega arith);
+        list = rw first (given t.canonical x place some (listed_in s.supplementary (low_length x) (λ past. None)) text stands);
+      }
+
+  given_by_second : (place : ℕ) → s.supplementary ≡ t.supplementary → StandsAt t.supplementary x place → IsGiven s x (item_count t.canonical + item_at t.supplementary x place)
+  unfolding listed_at
+  given_by_second place second stands =
+      let within : item_at t.supplementary x place < item_count t.supplementary = item_within t.supplementary x place some stands in
+      record {
+        within = rw (first, second) (omega arith);
+        list = rw (first, second) (past_both t.canonical (low_length x) (listed_in t.supplementary (low_length x) (λ past. None)) (item_at t.supplementary x place) ∙ given t.supplementary x place some (λ past. None) text stands);
+      }
+
+  -- a list that stands from an item on is what the tables give there
+  pub given_from : (item : ℕ) → (is_among x (packed_in entries Canonical) ≡ true) ⊎ (s.supplementary ≡ t.supplementary) → StandsFrom entries t x item → IsGiven s x item
+  unfolding StandsFrom
+  given_from item where_stands stands =
+      elim (is_among x (packed_in entries Canonical)) as (λ b. is_among x (packed_in entries Canonical) ≡ b → elim b as (λ _. Type 0) [
+        | true ↦ (place : ℕ) × StandsAt t.canonical x place × (item ≡ item_at t.canonical x place)
+        | false ↦ (place : ℕ) × StandsAt t.supplementary x place × (item ≡ item_count t.canonical + item_at t.supplementary x place)
+      ] → IsGiven s x item) [
+        | true ↦ λ e h. subst (λ (i : ℕ). IsGiven s x i) (sym h.2) (given_by_first h.0 h.1)
+        | false ↦ λ e h. elim where_stands as (λ _. IsGiven s x item) [
+          | inl among ↦ cc
+          | inr second ↦ subst (λ (i : ℕ). IsGiven s x i) (sym h.2) (given_by_second h.0 second h.1)
+        ]
+      ] refl stands

@@ -1,0 +1,15 @@
+//! The law of packed data. Its function does nothing: its contract is the law, and its proof stands in `proofs/`.
+ghost use Rattle.std.specs.Prelude.{List};
+ghost use Rattle.normalizer_tables.specs.Pairs.{Pair};
+ghost use Rattle.normalizer_packing.specs.declared.Packed.{Packed};
+ghost use Rattle.normalizer_packing.specs.declared.entry.Kind.{Kind};
+ghost use Rattle.normalizer_packing.specs.Entries.{CharacterEntry};
+ghost use Rattle.normalizer_packing.specs.Packing.{ArePackable, Packs};
+ghost use Rattle.normalizer_packing.specs.ReadBack.{AreReadable, ReadsBack, characters_of};
+
+/// Packed data read to what the entries say of every character: its list and, where a word can tell it, its class.
+pub fn packed_data_read_back()
+    ensures { (kind : Kind) (entries : List CharacterEntry) (pairs : List Pair) (p : Packed) →
+        ArePackable entries → AreReadable kind entries → Packs entries pairs p →
+        ReadsBack kind entries (characters_of p kind) }
+{}
