@@ -1,8 +1,9 @@
 -- Expansions, as far as there is room.
-use Rattle.std.proofs.Common.{◌≡◌, ◌≢◌, ℕ, zero, suc, ◌+◌, ◌-◌, ◌/◌, ◌%◌, ◌<◌, ◌≤◌, true, false, List, [], ◌∷◌, ◌++◌, length, get_or, take, refl, Some, sym, ap, ◌∙◌, arith, if◌then◌else◌, ◌==◌, slice_get, flat_map}
+use Rattle.std.proofs.Common.{◌≡◌, ◌≢◌, ℕ, zero, suc, ◌+◌, ◌-◌, ◌/◌, ◌%◌, ◌<◌, ◌≤◌, true, false, List, [], ◌∷◌, ◌++◌, length, get_or, take, drop, refl, Some, sym, ap, ◌∙◌, arith, if◌then◌else◌, ◌==◌, slice_get, flat_map}
 use Rattle.std.proofs.Math.Utf8.{low_scalar}
 use Rattle.std.proofs.lemmas.Bool.Decides.{nat_tests}
-use Rattle.std.proofs.lemmas.List.{append-nil, take_all, take_more, take-append-le, flat_map_more, length-take, length-append}
+use Rattle.std.proofs.lemmas.Grind.{flat_map-append}
+use Rattle.std.proofs.lemmas.List.{append-nil, append_assoc, take_all, take_more, take-append-le, take-append-drop, flat_map_more, length-take, length-append}
 use Rattle.std.proofs.lemmas.Option.{slice_get_within, get_or_from_slice_get}
 use Rattle.normalizer_tables.specs.Characters.{as_text}
 use Rattle.normalizer_tables.specs.Hangul.{is_hangul_syllable, hangul_decomposition, l_base, v_base, t_base, s_base, n_count, t_count}
@@ -74,6 +75,15 @@ module _ (f : ℕ → List ℕ) (room : ℕ) (start xs : List ℕ) where
   pub flat_map-cut_all : (out : List ℕ) (i : ℕ) → length xs ≤ i → out ≡ take room (start ++ flat_map f (take i xs)) → out ≡ take room (start ++ flat_map f xs)
   flat_map-cut_all out i past was = was ∙ ap (λ y. take room (start ++ flat_map f y)) (take_all i xs past)
 
+  -- no room for the lists of further members
+  pub flat_map-cut_full : (out : List ℕ) (i : ℕ) → room ≤ length out → out ≡ take room (start ++ flat_map f (take i xs)) → out ≡ take room (start ++ flat_map f xs)
+  flat_map-cut_full out i full was =
+      let so_far = start ++ flat_map f (take i xs) in
+      let len : length out ≤ length so_far = (let same = ap length was ∙ length-take room so_far in omega arith) in
+      let split : flat_map f xs ≡ flat_map f (take i xs) ++ flat_map f (drop i xs) = ap (flat_map f) (sym (take-append-drop i xs)) ∙ flat_map-append f (take i xs) (drop i xs) in
+      let whole : start ++ flat_map f xs ≡ so_far ++ flat_map f (drop i xs) = ap (λ y. start ++ y) split ∙ sym (append_assoc start (flat_map f (take i xs)) (flat_map f (drop i xs))) in
+      was ∙ sym (take-append-le room so_far (flat_map f (drop i xs)) (omega arith)) ∙ ap (take room) (sym whole)
+
 module _ (records : List Entry) (mappings : Mappings) where
   pub expansion-zero : (c : ℕ) → expansion records mappings 0 c ≡ c ∷ []
   unfolding expansion
@@ -95,3 +105,9 @@ module _ (records : List Entry) (mappings : Mappings) where
 
   pub expansion-deeper : (depth n c : ℕ) → depth ≡ n + 1 → replacement records mappings c ≢ [] → expansion records mappings depth c ≡ flat_map (expansion records mappings n) (replacement records mappings c)
   expansion-deeper depth n c e h = let more : depth ≡ suc n = omega arith in ap (λ d. expansion records mappings d c) more ∙ expansion-replaced n c h
+
+  -- what the lists of the members give, as far as there is room, is what the expansion gives
+  pub expansion-by_members : (depth c room : ℕ) (start members out : List ℕ) → 0 < depth → members ≡ replacement records mappings c → members ≢ [] → out ≡ take room (start ++ flat_map (expansion records mappings (depth - 1)) members) → out ≡ take room (start ++ expansion records mappings depth c)
+  expansion-by_members depth c room start members out deep are some is =
+      let e = expansion-deeper depth (depth - 1) c (omega arith) (λ none. some (are ∙ none)) in
+      is ∙ ap (λ (m : List ℕ). take room (start ++ flat_map (expansion records mappings (depth - 1)) m)) are ∙ ap (λ (y : List ℕ). take room (start ++ y)) (sym e)

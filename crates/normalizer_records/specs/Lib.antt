@@ -1,6 +1,8 @@
 pub mod ChainLengths
 pub mod Cut
 pub mod Entry
+pub mod Equal
+pub mod EqualLaws
 pub mod Faults
 pub mod Lookup
 pub mod Meaning

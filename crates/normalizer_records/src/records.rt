@@ -1,4 +1,9 @@
 //! What is recorded of characters.
+ghost use Rattle.std.specs.Prelude.{◌≡◌, ◌↔◌, IsTrue};
+ghost use Rattle.std.specs.Cmp.{partial_equiv_from_equiv};
+ghost use Rattle.normalizer_records.specs.Equal.{entry_eq, mapper_entry_eq};
+ghost use Rattle.normalizer_records.specs.EqualLaws.{entry_equivalence, mapper_entry_equivalence};
+
 use normalizer_tables::DataMarkerInfo;
 use std::marker::Model;
 use thiserror::Error;
@@ -22,8 +27,29 @@ impl Model for Record {
     ghost view = { λ r. record { c = r.c; class = r.class; mapping = r.mapping.items; compatibility = r.compatibility; excluded = r.excluded } };
 }
 
+impl PartialEq for Record {
+    ghost eq = { entry_eq };
+
+    ghost laws = { partial_equiv_from_equiv entry_equivalence };
+
+    fn eq(&self, other: &Record) -> bool
+        ensures value { result ≡ entry_eq self.now other.now }
+        ensures same { IsTrue result ↔ (self.now ≡ other.now) }
+    {
+        self.c == other.c
+            && self.class == other.class
+            && self.mapping == other.mapping
+            && self.compatibility == other.compatibility
+            && self.excluded == other.excluded
+    }
+}
+
+impl Eq for Record {
+    ghost laws = { entry_equivalence };
+}
+
 /// What the mapper does with a character (UTS #46, section 4).
-#[derive(Drop, Clone, Debug)]
+#[derive(Drop, Clone, PartialEq, Eq, Debug)]
 pub enum Uts46Status {
     Mapped(Vec<char>),
     Ignored,
@@ -45,6 +71,23 @@ impl Model for Uts46Record {
     ghost use Rattle.normalizer_records.specs.Statuses.{status_of};
 
     ghost view = { λ r. record { c = r.c; status = status_of r.status } };
+}
+
+impl PartialEq for Uts46Record {
+    ghost eq = { mapper_entry_eq };
+
+    ghost laws = { partial_equiv_from_equiv mapper_entry_equivalence };
+
+    fn eq(&self, other: &Uts46Record) -> bool
+        ensures value { result ≡ mapper_entry_eq self.now other.now }
+        ensures same { IsTrue result ↔ (self.now ≡ other.now) }
+    {
+        self.c == other.c && self.status == other.status
+    }
+}
+
+impl Eq for Uts46Record {
+    ghost laws = { mapper_entry_equivalence };
 }
 
 /// The mappings that are replaced: the canonical ones alone, or all.
