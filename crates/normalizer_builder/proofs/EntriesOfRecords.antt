@@ -68,16 +68,16 @@ find-made make number same (c ∷ cs) n = elim (eqb_tells (number (make c)) n) [
       ])
 ]
 
-abbrev class_of_found : Option CharacterEntry → ℕ
+abbrev pub class_of_found : Option CharacterEntry → ℕ
 class_of_found o = elim o [ Some e ↦ e.class | None ↦ 0 ]
 
-abbrev list_of_found : Kind → ℕ → Option CharacterEntry → Option (List ℕ)
+abbrev pub list_of_found : Kind → ℕ → Option CharacterEntry → Option (List ℕ)
 list_of_found k n o = elim o [ Some e ↦ own_list k e | None ↦ Some (n ∷ []) ]
 
 abbrev mapping_of_found : Option CharacterEntry → Option Mapping
 mapping_of_found o = option_and_then (λ e. e.mapping) o
 
-abbrev class_of_record : Option Entry → ℕ
+abbrev pub class_of_record : Option Entry → ℕ
 class_of_record o = option_map_or (λ r. r.class) o 0
 
 abbrev step_of_record : Option Entry → Option Mapping
@@ -87,11 +87,11 @@ abbrev status_of_record : Option MapperEntry → Option Status
 status_of_record o = option_map (λ r. r.status) o
 
 module _ (records : List Entry) (uts46 : List MapperEntry) (n : ℕ) where
-  no_entry : (Contains (recorded_characters records uts46) n → ⊥) → entry_of records n ≡ None
+  pub no_entry : (Contains (recorded_characters records uts46) n → ⊥) → entry_of records n ≡ None
   unfolding entry_of
   no_entry missing = find-missing {X = Entry} (λ r. r.c) records n (λ h. missing (Contains-append_left (map (λ r. r.c) records) (map (λ r. r.c) uts46) n h))
 
-  no_status : (Contains (recorded_characters records uts46) n → ⊥) → status_of uts46 n ≡ None
+  pub no_status : (Contains (recorded_characters records uts46) n → ⊥) → status_of uts46 n ≡ None
   unfolding status_of
   no_status missing = ap status_of_record (find-missing {X = MapperEntry} (λ r. r.c) uts46 n (λ h. missing (Contains-append_right (map (λ r. r.c) records) (map (λ r. r.c) uts46) n h)))
 
@@ -99,12 +99,12 @@ module _ (records : List Entry) (uts46 : List MapperEntry) (n : ℕ) where
   unfolding replacement
   no_replacement mappings other none = rw other (ap (λ o. option_map_or (mapping_among mappings) o []) none)
 
-  list_alone : (mappings : Mappings) → is_hangul_syllable n ≡ false → entry_of records n ≡ None → full_list records mappings n ≡ n ∷ []
+  pub list_alone : (mappings : Mappings) → is_hangul_syllable n ≡ false → entry_of records n ≡ None → full_list records mappings n ≡ n ∷ []
   unfolding full_list expansion replace_by order insert
   list_alone mappings other none =
       ap (λ x. order (recorded_classes records) (replace_by (expansion records mappings 16) x n)) (no_replacement mappings other none)
 
-  mapper_alone : is_hangul_syllable n ≡ false → entry_of records n ≡ None → status_of uts46 n ≡ None → mapper_list records uts46 n ≡ Some (n ∷ [])
+  pub mapper_alone : is_hangul_syllable n ≡ false → entry_of records n ≡ None → status_of uts46 n ≡ None → mapper_list records uts46 n ≡ Some (n ∷ [])
   unfolding mapper_list mapped_list
   mapper_alone other none unmapped = ap (mapped_list records n) unmapped ∙ ap Some (list_alone Canonical other none)
 

@@ -1,5 +1,5 @@
 -- What records are of which none of their own refusals holds.
-use Rattle.std.proofs.Common.{◌≡◌, inl, inr, ℕ, zero, suc, ◌<◌, ◌≤◌, Bool, true, false, ◌||◌, List, [], ◌∷◌, ◌++◌, length, get_or, Option, Some, None, IfSome, IsSomeAnd, refl, sym, ap, ◌∙◌, arith, find, ◌==◌, length-append, if◌then◌else◌}
+use Rattle.std.proofs.Common.{◌≡◌, ◌⊎◌, inl, inr, ℕ, zero, suc, ◌<◌, ◌≤◌, Bool, true, false, ◌||◌, List, [], ◌∷◌, ◌++◌, length, get_or, Option, Some, None, IfSome, IsSomeAnd, refl, sym, ap, ◌∙◌, arith, find, ◌==◌, length-append, if◌then◌else◌}
 use Rattle.std.specs.List.{list_any}
 use Rattle.std.specs.Option.{option_map}
 use Rattle.std.proofs.lemmas.Bool.{cases_lt, true≢false}
@@ -11,9 +11,13 @@ use Rattle.normalizer_records.specs.declared.records.Mappings.TheVariants.{Canon
 use Rattle.normalizer_records.specs.declared.refusal.Refusal.{Refusal}
 use Rattle.normalizer_records.specs.declared.refusal.Refusal.TheVariants as refusal
 use Rattle.normalizer_records.specs.Entry.{Entry, MapperEntry, Status, MapsTo, IsIgnored, IsDisallowed}
-use Rattle.normalizer_records.specs.Faults.{AreRising, AreMapperRising, HasFault, HasOrderFault, HasChainFault, HasLengthFault, HasLongList, HasPairFault, IsAsked, IsFirstRefusal, IsOnLongChain, IsTooLong, has_mapping_fault, is_bad_mapping, is_bad_status, mapped_to}
+use Rattle.normalizer_records.specs.Faults.{AreRising, AreMapperRising, HasFault, HasOrderFault, HasClassFault, HasWrongClass, HasChainFault, has_fixed_fault, HasLengthFault, HasLongList, HasPairFault, IsAsked, IsFirstRefusal, IsOnLongChain, IsTooLong, has_mapping_fault, is_bad_mapping, is_bad_status, mapped_to}
 use Rattle.normalizer_records.specs.Meaning.{canonical_list, compatibility_list, mapper_list, mapped_list, list_of_status, status_of, expansion, expand_all, full_list, replacement, replace_by, recorded_classes, levels}
 use Rattle.normalizer_builder.specs.Recorded.{HasRoom}
+
+pub bool_or_not : (b : Bool) → (b ≡ true) ⊎ (b ≡ false)
+bool_or_not true = inl refl
+bool_or_not false = inr refl
 
 stable : (a b : ℕ) → (¬ (a < b) → ⊥) → a < b
 stable a b h = elim (cases_lt a b) [ inl l ↦ l | inr g ↦ absurd (h (λ l. omega arith)) ]
@@ -56,7 +60,7 @@ or_second true b e = refl
 or_second false b e = e
 
 -- a status that is looked up is a record's
-bad_status : (uts46 : List MapperEntry) (c : ℕ) (s : Status) → option_map (λ (r : MapperEntry). r.status) (find (λ r. r.c == c) uts46) ≡ Some s → is_bad_status s ≡ true → list_any (λ r. is_bad_status r.status) uts46 ≡ true
+pub bad_status : (uts46 : List MapperEntry) (c : ℕ) (s : Status) → option_map (λ (r : MapperEntry). r.status) (find (λ r. r.c == c) uts46) ≡ Some s → is_bad_status s ≡ true → list_any (λ r. is_bad_status r.status) uts46 ≡ true
 bad_status [] c s found bad = absurd cc
 bad_status (r ∷ uts46) c s found bad = elim (r.c == c) as (λ b. option_map (λ (r : MapperEntry). r.status) (if b then Some r else find (λ r. r.c == c) uts46) ≡ Some s → list_any (λ r. is_bad_status r.status) (r ∷ uts46) ≡ true) [
   | true ↦ λ here. let same : r.status ≡ s = cc in or_first (is_bad_status r.status) _ (ap is_bad_status same ∙ bad)
@@ -80,12 +84,24 @@ module _ (records : List Entry) (uts46 : List MapperEntry) (none : IsFirstRefusa
   unfolding HasFault
   no_pair_fault = no_fault refusal.Pair
 
+  pub no_fixed_fault : has_fixed_fault records uts46 ≡ false
+  unfolding HasFault
+  no_fixed_fault = elim (bool_or_not (has_fixed_fault records uts46)) [
+    | inl e ↦ absurd (no_fault refusal.Fixed e)
+    | inr e ↦ e
+  ]
+
   off_chain : (c : ℕ) → ¬ IsOnLongChain records c
   unfolding HasFault HasChainFault IsOnLongChain
   off_chain c h = no_fault refusal.Chain (h.0 ++ c ∷ h.1, h.2, h.3)
 
   asked : (c : ℕ) → IsAsked records uts46 c
   asked c = record { off_chain = off_chain c; mapped_off_chain = λ k d within. off_chain (get_or (mapped_to (status_of uts46 c)) k d) }
+
+  -- no list begins with a mark, unless it may
+  pub no_wrong_class : (c : ℕ) → ¬ HasWrongClass records uts46 c
+  unfolding HasFault HasClassFault
+  no_wrong_class c h = no_fault refusal.Class (c, asked c, h)
 
   no_long_list : (c : ℕ) → ¬ HasLongList records uts46 c
   unfolding HasFault HasLengthFault
@@ -125,7 +141,7 @@ module _ (records : List Entry) (uts46 : List MapperEntry) (none : IsFirstRefusa
   pub compatibility_some : (c : ℕ) → 0 < length (compatibility_list records c)
   compatibility_some c = full_list_some records AllMappings c
 
-  no_mapping_fault : ¬ (has_mapping_fault records uts46 ≡ true)
+  pub no_mapping_fault : ¬ (has_mapping_fault records uts46 ≡ true)
   unfolding HasFault
   no_mapping_fault = no_fault refusal.Mapping
 

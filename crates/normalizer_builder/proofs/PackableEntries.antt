@@ -17,16 +17,12 @@ use Rattle.normalizer_records.specs.Entry.{Entry, MapperEntry}
 use Rattle.normalizer_records.specs.Faults.{IsFirstRefusal, IsTooLong, is_long}
 use Rattle.normalizer_records.specs.Meaning.{mapper_list}
 use Rattle.normalizer_builder.specs.Recorded.{AreEntriesOf, AreMadeOf, entry_for}
-use Rattle.normalizer_builder.proofs.NoRefusal.{canonical_fits, compatibility_fits, mapper_fits, canonical_some, compatibility_some, mapper_some}
+use Rattle.normalizer_builder.proofs.NoRefusal.{bool_or_not, canonical_fits, compatibility_fits, mapper_fits, canonical_some, compatibility_some, mapper_some}
 
 -- a list that may stand in a table, unless a word spells it
 record IsFit (x : List ℕ) : Type 0 where
   some : 0 < length x
   within : ¬ IsTooLong x
-
-bool_or_not : (b : Bool) → (b ≡ true) ⊎ (b ≡ false)
-bool_or_not true = inl refl
-bool_or_not false = inr refl
 
 not_long : (x : List ℕ) → IsFit x → x ≢ fdfa_list → is_long x ≡ false
 not_long x h other = elim (bool_or_not (is_long x)) [
@@ -54,7 +50,7 @@ some_past (c ∷ x) h = elim (bool_or_not (nat_le c 0xFFFF)) [
     and_second true b e f = f
     and_second false b e f = absurd (true≢false (sym e))
 
-or_falls : (a b : Bool) → (a || b) ≡ false → (a ≡ false) × (b ≡ false)
+pub or_falls : (a b : Bool) → (a || b) ≡ false → (a ≡ false) × (b ≡ false)
 or_falls true b e = absurd (true≢false e)
 or_falls false b e = (refl, e)
 

@@ -1,14 +1,15 @@
 -- What records build: data that pack them, or the smallest refusal.
-use Rattle.std.specs.Prelude.{◌≡◌, ℕ, ◌<◌, List, Option, Some, None, IfSome}
+use Rattle.std.specs.Prelude.{◌≡◌, ℕ, ◌<◌, List, [], Option, Some, None, All, IfSome, unwrap_or}
 use Rattle.std.specs.List.Sorted.{IsPermutation}
 use Rattle.normalizer_tables.specs.declared.provider.DataMarkerInfo.TheVariants.{NormalizerNfdSupplementV1}
 use Rattle.normalizer_tables.specs.declared.step.Step.{Step}
 use Rattle.normalizer_tables.specs.declared.step.Step.TheVariants.{Singleton, Expansion}
+use Rattle.normalizer_tables.specs.Characters.{class_of, list_of}
 use Rattle.normalizer_tables.specs.Conditions.{item_limit}
-use Rattle.normalizer_tables.specs.Pairs.{Pair, AreRising as ArePairsRising}
+use Rattle.normalizer_tables.specs.Pairs.{Pair, pair_of, AreRising as ArePairsRising}
 use Rattle.normalizer_tables.specs.Steps.{step_of}
 use Rattle.normalizer_packing.specs.declared.Packed.{Packed}
-use Rattle.normalizer_packing.specs.declared.entry.Kind.TheVariants.{Canonical}
+use Rattle.normalizer_packing.specs.declared.entry.Kind.TheVariants.{Canonical, Compatibility, Mapper}
 use Rattle.normalizer_packing.specs.declared.entry.Mapping.{Mapping}
 use Rattle.normalizer_packing.specs.declared.entry.Mapping.TheVariants.{One, Two}
 use Rattle.normalizer_packing.specs.Entries.{CharacterEntry}
@@ -20,15 +21,16 @@ use Rattle.normalizer_records.specs.declared.refusal.Refusal.{Refusal}
 use Rattle.normalizer_records.specs.declared.refusal.Refusal.TheVariants as refusal
 use Rattle.normalizer_records.specs.Entry.{Entry, MapperEntry}
 use Rattle.normalizer_records.specs.Faults.{IsFirstRefusal}
-use Rattle.normalizer_records.specs.Meaning.{pairs_of}
+use Rattle.normalizer_records.specs.Meaning.{canonical_list, class_of as recorded_class_of, compatibility_list, mapper_list, pairs_of}
 use Rattle.normalizer_builder.specs.declared.rank.Unfit.{Unfit}
 use Rattle.normalizer_builder.specs.Demands.{Demand, IsMade, Meets, answer_to, characters_of}
 use Rattle.normalizer_builder.specs.Ranks.{IsFirstUnmet}
-use Rattle.normalizer_builder.specs.Recorded.{AreMadeOf, AreEntriesOf, recorded_step}
+use Rattle.normalizer_builder.specs.Recorded.{AreMadeOf, AreEntriesOf, IsOfCharacters, mapper_class_of, recorded_step}
 
 -- what is packed of records: their entries, and their pairs in order
 pub record AreParts (records : List Entry) (uts46 : List MapperEntry) (entries : List CharacterEntry) (pairs : List Pair) : Type 0 where
   pub made : AreMadeOf records uts46 entries
+  pub characters : All IsOfCharacters entries
   pub meaning : AreEntriesOf records uts46 entries
   pub same_pairs : IsPermutation (pairs_of records) pairs
   pub rising_pairs : ArePairsRising pairs
@@ -53,6 +55,20 @@ step_of_mapping (Two a b) = Expansion a b
 -- one step of n is the canonical mapping that is recorded of it
 unfoldable pub KeepsMapping : List Entry → Packed → ℕ → Type 0
 KeepsMapping records p n = IfSome (recorded_step records n) (λ m. step_of (characters_of p Canonical) p.supplement n ≡ Some (step_of_mapping m))
+
+-- the data say of every character, and of every two, what the records mean
+pub record MeansRecords (records : List Entry) (uts46 : List MapperEntry) (p : Packed) : Type 0 where
+  -- the full decompositions. In the mapper's data `ignored` stands for characters that it ignores.
+  pub canonical : (n : ℕ) → list_of (characters_of p Canonical) [] n ≡ canonical_list records n
+  pub compatibility : (n : ℕ) → list_of (characters_of p Compatibility) [] n ≡ compatibility_list records n
+  pub mapper : (ignored : List ℕ) (n : ℕ) → list_of (characters_of p Mapper) ignored n ≡ unwrap_or (mapper_list records uts46 n) ignored
+  -- the recorded classes
+  pub canonical_classes : (n : ℕ) → class_of (characters_of p Canonical) n ≡ recorded_class_of records n
+  pub compatibility_classes : (n : ℕ) → class_of (characters_of p Compatibility) n ≡ recorded_class_of records n
+  pub mapper_classes : (n : ℕ) → class_of (characters_of p Mapper) n ≡ mapper_class_of records uts46 n
+  -- the pairs of canonical mappings, and one step of each mapping
+  pub pairs : (first second : ℕ) → pair_of p.compositions first second ≡ pair_of (pairs_of records) first second
+  pub steps : (n : ℕ) → KeepsMapping records p n
 
 -- what is demanded of data that pack records: what constructors ask, and that one step keeps the recorded mappings
 pub data RecordDemand : Type 0 where
@@ -86,10 +102,11 @@ IsOfMappings d = d ≡ OfMappings
 abbrev pub IsFirstUnfitOfMappings : List Entry → Packed → Option Unfit → Type 0
 IsFirstUnfitOfMappings records p r = IsFirstUnmet IsOfMappings answer_of_records (MeetsRecords records p) r
 
--- no refusal of the records holds, and these data pack them and meet all that is demanded
+-- no refusal of the records holds, and these data pack them, mean what they mean, and meet all that is demanded
 pub record Builds (records : List Entry) (uts46 : List MapperEntry) (p : Packed) : Type 0 where
   pub unrefused : IsFirstRefusal records uts46 None
   pub packs : PacksRecords records uts46 p
+  pub means : MeansRecords records uts46 p
   pub fit : IsFirstUnfitOfRecords records p None
 
 abbrev pub error_of : Refusal → BuildError

@@ -1,5 +1,5 @@
 -- What constructors demand of packed data, and how data that don't meet a demand are answered.
-use Rattle.std.specs.Prelude.{Bool, true, false, Option, Some, None, min}
+use Rattle.std.specs.Prelude.{min}
 use Rattle.normalizer_tables.specs.declared.condition.Bounds.{Bounds}
 use Rattle.normalizer_tables.specs.declared.condition.Condition.{Condition}
 use Rattle.normalizer_tables.specs.declared.condition.Condition.TheVariants as condition
@@ -9,14 +9,13 @@ use Rattle.normalizer_tables.specs.declared.provider.DataMarkerInfo.{DataMarkerI
 use Rattle.normalizer_tables.specs.declared.provider.DataMarkerInfo.TheVariants as marker
 use Rattle.normalizer_tables.specs.declared.step_condition.StepCondition.{StepCondition}
 use Rattle.normalizer_tables.specs.declared.step_condition.StepCondition.TheVariants.{FdfaForms, Steps}
-use Rattle.normalizer_tables.specs.Characters.{Characters}
 use Rattle.normalizer_tables.specs.Conditions.{Holds, number_of}
-use Rattle.normalizer_tables.specs.Data.{Decompositions, Lists, lists_or_none}
 use Rattle.normalizer_tables.specs.PairConditions.{HoldsOfPairs, number_of_pair_condition}
 use Rattle.normalizer_tables.specs.StepConditions.{HoldsOfSteps, number_of_step_condition}
 use Rattle.normalizer_packing.specs.declared.Packed.{Packed}
 use Rattle.normalizer_packing.specs.declared.entry.Kind.{Kind}
 use Rattle.normalizer_packing.specs.declared.entry.Kind.TheVariants.{Canonical, Compatibility, Mapper}
+pub use Rattle.normalizer_packing.specs.ReadBack.{characters_of, decompositions_of, is_mappers}
 use Rattle.normalizer_builder.specs.declared.rank.Unfit.{Unfit}
 
 -- what constructors ask: conditions on the characters of one kind of data, on these and the pairs, and on one step of
@@ -31,26 +30,6 @@ pub data Demand : Type 0 where
 unfoldable pub IsMade : Demand → Type 0
 IsMade (OfPairs Mapper Results) = ⊥
 IsMade d = Unit {0}
-
-abbrev pub decompositions_of : Packed → Kind → Decompositions
-decompositions_of p Canonical = p.canonical
-decompositions_of p Compatibility = p.compatibility
-decompositions_of p Mapper = p.mapper
-
--- canonical data have no supplementary tables
-abbrev pub supplementary_of : Packed → Kind → Option Lists
-supplementary_of p Canonical = None
-supplementary_of p Compatibility = Some p.supplementary_tables
-supplementary_of p Mapper = Some p.supplementary_tables
-
-abbrev pub is_mappers : Kind → Bool
-is_mappers Canonical = false
-is_mappers Compatibility = false
-is_mappers Mapper = true
-
--- what the data of one kind say of characters
-abbrev pub characters_of : Packed → Kind → Characters
-characters_of p kind = record { decompositions = decompositions_of p kind; tables = p.tables; supplementary = lists_or_none (supplementary_of p kind); is_mapper = is_mappers kind }
 
 -- below which numbers characters pass unseen
 abbrev pub bounds_of : Packed → Kind → Bounds

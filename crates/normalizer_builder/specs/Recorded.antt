@@ -1,12 +1,15 @@
 -- What is packed of recorded characters.
-use Rattle.std.specs.Prelude.{◌≡◌, ℕ, ◌≤◌, false, List, [], ◌∷◌, ◌++◌, length, map, All, Contains, Option, Some, None, IfSome}
+use Rattle.std.specs.Prelude.{◌≡◌, ℕ, ◌<◌, ◌≤◌, false, ◌||◌, List, [], ◌∷◌, ◌++◌, length, map, All, Contains, Option, Some, None, IfSome, unwrap_or, if◌then◌else◌}
+use Rattle.std.specs.Char.{IsScalar}
 use Rattle.std.specs.List.Sorted.{IsStrictlyIncreasing}
 use Rattle.std.specs.Option.{option_and_then}
+use Rattle.normal_forms.specs.Reading.{IsText}
 use Rattle.normalizer_tables.specs.Hangul.{is_hangul_syllable}
 use Rattle.normalizer_packing.specs.declared.entry.Kind.TheVariants as kind
 use Rattle.normalizer_packing.specs.declared.entry.Mapping.{Mapping}
 use Rattle.normalizer_packing.specs.declared.entry.Mapping.TheVariants.{One, Two}
 use Rattle.normalizer_packing.specs.Entries.{CharacterEntry, AreRising, class_in, entry_of as packed_entry_of, list_in}
+use Rattle.normalizer_packing.specs.Spelling.{has_fixed_list, list_eq}
 use Rattle.normalizer_records.specs.Entry.{Entry, MapperEntry}
 use Rattle.normalizer_records.specs.Meaning.{class_of, canonical_list, canonical_mapping_of, compatibility_list, mapper_list}
 
@@ -28,6 +31,14 @@ step_to x = None
 -- the recorded canonical mapping
 unfoldable pub recorded_step : List Entry → ℕ → Option Mapping
 recorded_step records c = step_to (canonical_mapping_of records c)
+
+-- an entry of scalar values (D76), whose class has 8 bits
+pub record IsOfCharacters (e : CharacterEntry) : Type 0 where
+  pub character : IsScalar e.character
+  pub class : e.class < 0x100
+  pub canonical : IsText e.canonical
+  pub compatibility : IsText e.compatibility
+  pub mapper : IfSome e.mapper IsText
 
 -- what records say of a character, as it is packed
 unfoldable pub entry_for : List Entry → List MapperEntry → ℕ → CharacterEntry
@@ -63,3 +74,10 @@ pub record AreEntriesOf (records : List Entry) (uts46 : List MapperEntry) (entri
   pub canonical : (n : ℕ) → is_hangul_syllable n ≡ false → list_in kind.Canonical entries n ≡ Some (canonical_list records n)
   pub compatibility : (n : ℕ) → is_hangul_syllable n ≡ false → list_in kind.Compatibility entries n ≡ Some (compatibility_list records n)
   pub mapper : (n : ℕ) → is_hangul_syllable n ≡ false → list_in kind.Mapper entries n ≡ mapper_list records uts46 n
+
+-- the class that the mapper's data have of a character: 0 where its list is neither its fixed one nor itself alone, since its
+-- word has then no room for a class
+unfoldable pub mapper_class_of : List Entry → List MapperEntry → ℕ → ℕ
+mapper_class_of records uts46 n =
+    let list = unwrap_or (mapper_list records uts46 n) [] in
+    if has_fixed_list (class_of records) n list || list_eq list (n ∷ []) then class_of records n else 0

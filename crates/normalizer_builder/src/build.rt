@@ -6,6 +6,7 @@ ghost use Rattle.normalizer_builder.specs.Building.{AreParts, Builds, IsSmallest
 use crate::built::Built;
 use crate::entries::entries;
 use crate::mappings::first_unfit_of_records;
+use crate::scalars::are_of_characters;
 use normalizer_packing::entry::Entry;
 use normalizer_packing::{PackError, Packed, pack};
 use normalizer_records::{BuildError, Record, Refusal, Uts46Record, first_refusal, pairs};
@@ -94,6 +95,7 @@ fn parts_of(
     ensures { IfOk result (λ parts. AreParts records.now uts46.now parts.0.items parts.1.items) }
 {
     let entries = entries(alloc, records, uts46)?;
+    are_of_characters(entries.as_slice());
     let pairs = pairs(alloc, records)?;
     Ok((entries, pairs))
 }

@@ -5,8 +5,10 @@ mod build;
 mod built;
 mod characters;
 mod entries;
+pub mod laws;
 mod mappings;
 mod rank;
+mod scalars;
 mod unfit;
 
 pub use build::Records;

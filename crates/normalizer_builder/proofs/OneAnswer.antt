@@ -1,0 +1,162 @@
+-- Records have but one smallest refusal, want of memory aside, and none where they build data.
+use Rattle.std.proofs.Common.{◌≡◌, ◌≢◌, ◌⊎◌, inl, inr, ℕ, ◌≤◌, List, [], ◌∷◌, get_or, Some, None, refl, ap, sym, subst, ◌∙◌, arith}
+use Rattle.std.proofs.lemmas.Bool.{cases_order}
+use Rattle.normalizer_tables.specs.declared.provider.DataMarkerInfo.{DataMarkerInfo}
+use Rattle.normalizer_tables.specs.declared.provider.DataMarkerInfo.TheVariants.{NormalizerNfdDataV1, NormalizerNfkdDataV1, NormalizerUts46DataV1, NormalizerNfdTablesV1, NormalizerNfkdTablesV1, NormalizerNfcV1, NormalizerNfdSupplementV1}
+use Rattle.normalizer_tables.specs.Conditions.{item_limit}
+use Rattle.normalizer_packing.specs.declared.Packed.{Packed}
+use Rattle.normalizer_packing.specs.Entries.{CharacterEntry}
+use Rattle.normalizer_packing.specs.Stored.{needed_items}
+use Rattle.normalizer_records.specs.declared.records.BuildError.{BuildError}
+use Rattle.normalizer_records.specs.declared.records.BuildError.TheVariants as error
+use Rattle.normalizer_records.specs.declared.refusal.Refusal.{Refusal}
+use Rattle.normalizer_records.specs.declared.refusal.Refusal.TheVariants.{Order, Fixed, Class, Mapping, Chain, Length, Pair}
+use Rattle.normalizer_records.specs.Entry.{Entry, MapperEntry}
+use Rattle.normalizer_records.specs.Faults.{IsFirstRefusal, rank_of}
+use Rattle.normalizer_builder.specs.declared.rank.Unfit.{Unfit}
+use Rattle.normalizer_builder.specs.Building.{Builds, HasTooManyItems, IsFirstUnfitOfRecords, IsMadeOfRecords, IsSmallest, MeetsRecords, PacksRecords, answer_of_records, error_of}
+use Rattle.normalizer_builder.specs.Ranks.{IsBefore, IsFirstUnmet, place_of}
+use Rattle.normalizer_builder.proofs.SameDemands.{same_unfit}
+use Rattle.normalizer_builder.proofs.SameParts.{same_entries}
+
+-- a refusal by its rank, and a marker by its place
+refusal_of : ℕ → Refusal
+refusal_of n = get_or (Pair ∷ Order ∷ Fixed ∷ Class ∷ Mapping ∷ Chain ∷ Length ∷ []) n Pair
+
+of_rank : (r : Refusal) → refusal_of (rank_of r) ≡ r
+unfolding refusal_of
+of_rank Order = refl
+of_rank Fixed = refl
+of_rank Class = refl
+of_rank Mapping = refl
+of_rank Chain = refl
+of_rank Length = refl
+of_rank Pair = refl
+
+marker_of : ℕ → DataMarkerInfo
+marker_of n = get_or (NormalizerNfdDataV1 ∷ NormalizerNfkdDataV1 ∷ NormalizerUts46DataV1 ∷ NormalizerNfdTablesV1 ∷ NormalizerNfkdTablesV1 ∷ NormalizerNfcV1 ∷ []) n NormalizerNfdSupplementV1
+
+of_place : (m : DataMarkerInfo) → marker_of (place_of m) ≡ m
+unfolding marker_of
+of_place NormalizerNfdDataV1 = refl
+of_place NormalizerNfkdDataV1 = refl
+of_place NormalizerUts46DataV1 = refl
+of_place NormalizerNfdTablesV1 = refl
+of_place NormalizerNfkdTablesV1 = refl
+of_place NormalizerNfcV1 = refl
+of_place NormalizerNfdSupplementV1 = refl
+
+-- of two answers one stands before the other, unless they are one
+one_before : (u v : Unfit) → (u ≡ v) ⊎ (IsBefore u v ⊎ IsBefore v u)
+unfolding IsBefore
+one_before u v = elim (cases_order u.condition v.condition) as (λ _. (u ≡ v) ⊎ (IsBefore u v ⊎ IsBefore v u)) [
+  | inl same ↦ elim (cases_order (place_of u.marker) (place_of v.marker)) as (λ _. (u ≡ v) ⊎ (IsBefore u v ⊎ IsBefore v u)) [
+    | inl place ↦ inl (same_unfits same (sym (of_place u.marker) ∙ ap marker_of place ∙ of_place v.marker))
+    | inr (inl below) ↦ inr (inl (inr (same, below)))
+    | inr (inr above) ↦ inr (inr (inr (sym same, above)))
+  ]
+  | inr (inl below) ↦ inr (inl (inl below))
+  | inr (inr above) ↦ inr (inr (inl above))
+]
+  where
+    same_unfits : u.condition ≡ v.condition → u.marker ≡ v.marker → u ≡ v
+    same_unfits e f = λ i. record { marker = f i; condition = e i }
+
+-- the least answer to demands that aren't met is one
+one_unmet : {D : Type 0} (made : D → Type 0) (answer : D → Unfit) (meets : D → Type 0) (u v : Unfit) → IsFirstUnmet made answer meets (Some u) → IsFirstUnmet made answer meets (Some v) → u ≡ v
+unfolding IsFirstUnmet
+one_unmet made answer meets u v h k = elim (one_before u v) as (λ _. u ≡ v) [
+  | inl same ↦ same
+  | inr (inl before) ↦ absurd (h.unmet.3 (k.before h.unmet.0 h.unmet.1 (subst (λ w. IsBefore w v) (sym h.unmet.2) before)))
+  | inr (inr before) ↦ absurd (k.unmet.3 (h.before k.unmet.0 k.unmet.1 (subst (λ w. IsBefore w u) (sym k.unmet.2) before)))
+]
+
+all_or_one : {D : Type 0} (made : D → Type 0) (answer : D → Unfit) (meets : D → Type 0) (u : Unfit) → IsFirstUnmet made answer meets None → IsFirstUnmet made answer meets (Some u) → ⊥
+unfolding IsFirstUnmet
+all_or_one made answer meets u all h = h.unmet.3 (all h.unmet.0 h.unmet.1)
+
+module _ (records : List Entry) (uts46 : List MapperEntry) where
+  one_refusal : (r s : Refusal) → IsFirstRefusal records uts46 (Some r) → IsFirstRefusal records uts46 (Some s) → r ≡ s
+  unfolding IsFirstRefusal
+  one_refusal r s h k = elim (cases_order (rank_of r) (rank_of s)) as (λ _. r ≡ s) [
+    | inl same ↦ sym (of_rank r) ∙ ap refusal_of same ∙ of_rank s
+    | inr (inl below) ↦ absurd (k.1 r below h.0)
+    | inr (inr above) ↦ absurd (h.1 s above k.0)
+  ]
+
+  refused_or_not : (r : Refusal) → IsFirstRefusal records uts46 (Some r) → IsFirstRefusal records uts46 None → ⊥
+  unfolding IsFirstRefusal
+  refused_or_not r h none = none r h.0
+
+  -- data pack no records whose lists are too many
+  too_many : (p : Packed) → PacksRecords records uts46 p → HasTooManyItems records uts46 → ⊥
+  too_many p packs h =
+      let same : h.entries ≡ packs.entries = same_entries records uts46 h.entries packs.entries h.made packs.parts.made in
+      let few : needed_items h.entries ≤ item_limit = subst (λ (es : List CharacterEntry). needed_items es ≤ item_limit) (sym same) packs.packs.within in
+      omega (arith, few, h.full)
+
+  -- data that pack the records, and the least answer to what they don't meet
+  record Unmet (u : Unfit) : Type 0 where
+    packed : Packed
+    packs : PacksRecords records uts46 packed
+    first : IsFirstUnfitOfRecords records packed (Some u)
+
+  module _ (none : IsFirstRefusal records uts46 None) where
+    one_unfit : (u v : Unfit) → Unmet u → Unmet v → u ≡ v
+    one_unfit u v h k = one_unmet IsMadeOfRecords answer_of_records (MeetsRecords records k.packed) u v (same_unfit records uts46 h.packed k.packed none h.packs k.packs (Some u) h.first) k.first
+
+    built_fits : (u : Unfit) → Unmet u → (p : Packed) → PacksRecords records uts46 p → IsFirstUnfitOfRecords records p None → ⊥
+    built_fits u h p packs fit = all_or_one IsMadeOfRecords answer_of_records (MeetsRecords records p) u fit (same_unfit records uts46 h.packed p none h.packs packs (Some u) h.first)
+
+  -- why records are refused, memory aside
+  data Cause : BuildError → Type 0 where
+    refused : (r : Refusal) → IsFirstRefusal records uts46 (Some r) → Cause (error_of r)
+    full : IsFirstRefusal records uts46 None → HasTooManyItems records uts46 → Cause error.TableFull
+    unfit : (u : Unfit) → IsFirstRefusal records uts46 None → Unmet u → Cause (error.Unfit u.marker u.condition)
+
+  cause_of : (e : BuildError) → IsSmallest records uts46 e → e ≢ error.Memory → Cause e
+  unfolding IsSmallest
+  cause_of error.Memory h other = absurd (other refl)
+  cause_of error.TableFull h other = full h.0 h.1
+  cause_of (error.Unfit marker condition) h other = unfit (record { marker = marker; condition = condition }) h.0 (record { packed = h.1.0; packs = h.1.1; first = h.1.2 })
+  cause_of error.Order h other = refused Order h
+  cause_of error.Fixed h other = refused Fixed h
+  cause_of error.Class h other = refused Class h
+  cause_of error.Mapping h other = refused Mapping h
+  cause_of error.Chain h other = refused Chain h
+  cause_of error.Length h other = refused Length h
+  cause_of error.Pair h other = refused Pair h
+
+  one_cause : (e f : BuildError) → Cause e → Cause f → e ≡ f
+  one_cause e f (refused r h) (refused s k) = ap error_of (one_refusal r s h k)
+  one_cause e f (refused r h) (full none k) = absurd (refused_or_not r h none)
+  one_cause e f (refused r h) (unfit u none k) = absurd (refused_or_not r h none)
+  one_cause e f (full none h) (refused s k) = absurd (refused_or_not s k none)
+  one_cause e f (full none h) (full also k) = refl
+  one_cause e f (full none h) (unfit u also k) = absurd (too_many k.packed k.packs h)
+  one_cause e f (unfit u none h) (refused s k) = absurd (refused_or_not s k none)
+  one_cause e f (unfit u none h) (full also k) = absurd (too_many h.packed h.packs k)
+  one_cause e f (unfit u none h) (unfit v also k) = ap (λ (w : Unfit). error.Unfit w.marker w.condition) (one_unfit none u v h k)
+
+  no_cause : (e : BuildError) (p : Packed) → Builds records uts46 p → Cause e → ⊥
+  no_cause e p built (refused r h) = refused_or_not r h built.unrefused
+  no_cause e p built (full none h) = too_many p built.packs h
+  no_cause e p built (unfit u none h) = built_fits none u h p built.packs built.fit
+
+pub one_smallest : (records : List Entry) (uts46 : List MapperEntry) (e f : BuildError) → IsSmallest records uts46 e → IsSmallest records uts46 f → e ≢ error.Memory → f ≢ error.Memory → e ≡ f
+one_smallest records uts46 e f h k some also = one_cause records uts46 e f (cause_of records uts46 e h some) (cause_of records uts46 f k also)
+
+built_unrefused : (records : List Entry) (uts46 : List MapperEntry) (p : Packed) (e : BuildError) → Builds records uts46 p → IsSmallest records uts46 e → e ≢ error.Memory → ⊥
+built_unrefused records uts46 p e built h some = no_cause records uts46 e p built (cause_of records uts46 e h some)
+
+pub built_or_memory : (records : List Entry) (uts46 : List MapperEntry) (p : Packed) (e : BuildError) → Builds records uts46 p → IsSmallest records uts46 e → e ≡ error.Memory
+built_or_memory records uts46 p error.Memory built h = refl
+built_or_memory records uts46 p error.TableFull built h = absurd (built_unrefused records uts46 p error.TableFull built h (λ same. cc))
+built_or_memory records uts46 p (error.Unfit marker condition) built h = absurd (built_unrefused records uts46 p (error.Unfit marker condition) built h (λ same. cc))
+built_or_memory records uts46 p error.Order built h = absurd (built_unrefused records uts46 p error.Order built h (λ same. cc))
+built_or_memory records uts46 p error.Fixed built h = absurd (built_unrefused records uts46 p error.Fixed built h (λ same. cc))
+built_or_memory records uts46 p error.Class built h = absurd (built_unrefused records uts46 p error.Class built h (λ same. cc))
+built_or_memory records uts46 p error.Mapping built h = absurd (built_unrefused records uts46 p error.Mapping built h (λ same. cc))
+built_or_memory records uts46 p error.Chain built h = absurd (built_unrefused records uts46 p error.Chain built h (λ same. cc))
+built_or_memory records uts46 p error.Length built h = absurd (built_unrefused records uts46 p error.Length built h (λ same. cc))
+built_or_memory records uts46 p error.Pair built h = absurd (built_unrefused records uts46 p error.Pair built h (λ same. cc))

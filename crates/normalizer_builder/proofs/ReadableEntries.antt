@@ -1,0 +1,246 @@
+-- Entries of records that aren't refused have words that can be read again.
+use Rattle.std.proofs.Common.{◌≡◌, ◌∙◌, ◌⊎◌, inl, inr, ℕ, ◌<◌, Bool, true, false, ◌==◌, ◌&&◌, nat_lt, List, [], ◌∷◌, map, All, Contains, Option, Some, None, IfSome, IsSomeAnd, unwrap_or, ap, ap₂, subst, sym, refl, arith}
+use Rattle.std.specs.Char.{IsScalar}
+use Rattle.std.proofs.lemmas.Bool.{true≢false, cases_eq}
+use Rattle.std.proofs.lemmas.Bool.Decides.{eqb_tells, nat_tests}
+use Rattle.std.proofs.lemmas.List.Elements.{All-cons, All-contains, All-head, All-nil, All-tail}
+use Rattle.normal_forms.specs.Boundary.{BeginsWithStarter}
+use Rattle.normal_forms.specs.Reading.{IsText}
+use Rattle.normalizer_tables.specs.Hangul.{is_hangul_syllable}
+use Rattle.normalizer_tables.specs.Pairs.{Pair}
+use Rattle.normalizer_tables.specs.SpecialLists.{FixedList, fixed_list_of}
+use Rattle.normalizer_packing.specs.declared.entry.Kind.{Kind}
+use Rattle.normalizer_packing.specs.declared.entry.Kind.TheVariants as kind
+use Rattle.normalizer_packing.specs.Entries.{CharacterEntry, class_in, composing_reading, entry_of as packed_entry_of, kept_list, list_in, own_list}
+use Rattle.normalizer_packing.specs.ReadBack.{AreReadable, tells_class}
+use Rattle.normalizer_packing.specs.Spelling.{has_fixed_list, have_classes, list_eq}
+use Rattle.normalizer_packing.proofs.StoreLemmas.{eq_list}
+use Rattle.normalizer_records.specs.declared.records.Mappings.TheVariants.{Canonical, All as AllMappings}
+use Rattle.normalizer_records.specs.Entry.{Entry, MapperEntry}
+use Rattle.normalizer_records.specs.Faults.{HasWrongClass, IsFirstRefusal, IsFixedForm, IsFreeForm, IsWrong, begins_with_mark, is_mark}
+use Rattle.normalizer_records.specs.Meaning.{canonical_list, class_of, compatibility_list, list_of_status, mapped_list, mapper_list}
+use Rattle.normalizer_builder.specs.Building.{AreParts}
+use Rattle.normalizer_builder.specs.Recorded.{AreEntriesOf, AreMadeOf, IsOfCharacters, entry_for, recorded_characters}
+use Rattle.normalizer_builder.proofs.EntriesOfRecords.{class_of_found, find-missing, list_alone, list_of_found, mapper_alone, no_entry}
+use Rattle.normalizer_builder.proofs.NoRefusal.{bool_or_not, no_wrong_class}
+use Rattle.normalizer_builder.proofs.NonzeroLists.{HasNoZero, HasNoZero-list, HasNoZero-mapper}
+use Rattle.normalizer_builder.proofs.PackableEntries.{or_falls}
+use Rattle.normalizer_builder.proofs.UnrecordedCharacters.{class_of-unrecorded, find-cases, missing_syllable, status_of_replacement, unrecorded_replacement}
+
+numbers_made : {X : Type 0} (make : ℕ → X) (number : X → ℕ) → ((c : ℕ) → number (make c) ≡ c) → (cs : List ℕ) → map number (map make cs) ≡ cs
+numbers_made make number same [] = refl
+numbers_made make number same (c ∷ cs) = ap₂ (λ a b. a ∷ b) (same c) (numbers_made make number same cs)
+
+-- classes that are the same make the same tests of them
+have_classes-same : (f g : ℕ → ℕ) → ((n : ℕ) → f n ≡ g n) → (ks x : List ℕ) → have_classes f ks x ≡ have_classes g ks x
+have_classes-same f g same [] [] = refl
+have_classes-same f g same [] (c ∷ x) = refl
+have_classes-same f g same (k ∷ ks) [] = refl
+have_classes-same f g same (k ∷ ks) (c ∷ x) = ap₂ (λ a b. (k == a) && b) (same c) (have_classes-same f g same ks x)
+
+eq_itself : (k : ℕ) → (k == k) ≡ true
+eq_itself k = elim (eqb_tells k k) [ inl h ↦ h.0 | inr h ↦ absurd (h.1 refl) ]
+
+have_classes-own : (f : ℕ → ℕ) (x : List ℕ) → have_classes f (map f x) x ≡ true
+have_classes-own f [] = refl
+have_classes-own f (c ∷ x) = ap₂ (λ a b. a && b) (eq_itself (f c)) (have_classes-own f x)
+
+-- the test of a fixed list, if n has one
+abbrev fixed_test : (ℕ → ℕ) → ℕ → List ℕ → Option FixedList → Bool
+fixed_test class n x o = elim o [ Some l ↦ list_eq l.list x && ((l.class == class n) && have_classes class l.member_classes x) | None ↦ false ]
+
+pub has_fixed_list-same : (f g : ℕ → ℕ) → ((n : ℕ) → f n ≡ g n) → (n : ℕ) (x : List ℕ) → has_fixed_list f n x ≡ has_fixed_list g n x
+unfolding has_fixed_list
+has_fixed_list-same f g same n x = by (fixed_list_of n)
+  where
+    by : (o : Option FixedList) → fixed_test f n x o ≡ fixed_test g n x o
+    by None = refl
+    by (Some l) = ap₂ (λ a b. list_eq l.list x && ((l.class == a) && b)) (same n) (have_classes-same f g same l.member_classes x)
+
+pub fixed_form-has : (records : List Entry) (n : ℕ) (x : List ℕ) → IsFixedForm records n x → has_fixed_list (class_of records) n x ≡ true
+unfolding has_fixed_list
+fixed_form-has records n x form = ap (fixed_test (class_of records) n x) form ∙ all
+  where
+    all : (list_eq x x && ((class_of records n == class_of records n) && have_classes (class_of records) (map (class_of records) x) x)) ≡ true
+    all = rw (eq_list x x refl, eq_itself (class_of records n), have_classes-own (class_of records) x) refl
+
+no_mark : (k : ℕ) → nat_lt 0 k ≡ false → k ≡ 0
+no_mark k e = grind (arith, nat_tests)
+
+-- a list that is neither begins with a starter, if it doesn't begin with a mark
+starter_first : (records : List Entry) (entries : List CharacterEntry) → ((n : ℕ) → class_in entries n ≡ class_of records n) → (x : List ℕ) → begins_with_mark records x ≡ false → BeginsWithStarter (composing_reading entries []) x
+starter_first records entries same [] h = tt
+starter_first records entries same (c ∷ x) h = same c ∙ no_mark (class_of records c) h
+
+scalars_made : (make : ℕ → CharacterEntry) → ((c : ℕ) → (make c).character ≡ c) → (cs : List ℕ) → All IsOfCharacters (map make cs) → All IsScalar cs
+scalars_made make same [] all = All-nil IsScalar
+scalars_made make same (c ∷ cs) all =
+    All-cons IsScalar c cs (subst IsScalar (same c) (All-head IsOfCharacters (make c) (map make cs) all).character) (scalars_made make same cs (All-tail IsOfCharacters (make c) (map make cs) all))
+
+own_text : (k : Kind) (e : CharacterEntry) → IsOfCharacters e → IsText (unwrap_or (own_list k e) [])
+own_text kind.Canonical e h = h.canonical
+own_text kind.Compatibility e h = h.compatibility
+own_text kind.Mapper e h = by e.mapper h.mapper
+  where
+    by : (o : Option (List ℕ)) → IfSome o IsText → IsText (unwrap_or o [])
+    by None h = All-nil IsScalar
+    by (Some x) h = h
+
+other_than_syllable : is_hangul_syllable 0xFFFD ≡ false
+unfolding is_hangul_syllable
+other_than_syllable = refl
+
+-- the list and the class of a character that no entry is of
+alone_kept : (kind : Kind) (entries : List CharacterEntry) (n : ℕ) → packed_entry_of entries n ≡ None → kept_list kind entries n ≡ n ∷ []
+unfolding kept_list list_in
+alone_kept kind entries n missing = ap (λ o. unwrap_or (list_of_found kind n o) []) missing
+
+-- the list of n in one kind of data, if records don't ignore n
+abbrev pub recorded_list : List Entry → List MapperEntry → Kind → ℕ → Option (List ℕ)
+recorded_list records uts46 kind.Canonical n = Some (canonical_list records n)
+recorded_list records uts46 kind.Compatibility n = Some (compatibility_list records n)
+recorded_list records uts46 kind.Mapper n = mapper_list records uts46 n
+
+module _ (records : List Entry) (uts46 : List MapperEntry) (none : IsFirstRefusal records uts46 None) (entries : List CharacterEntry) (made : AreMadeOf records uts46 entries) (characters : All IsOfCharacters entries) (meaning : AreEntriesOf records uts46 entries) where
+  entry_cases : (n : ℕ) → (packed_entry_of entries n ≡ None) ⊎ ((e : CharacterEntry) × (packed_entry_of entries n ≡ Some e) × (e.character ≡ n) × IsOfCharacters e)
+  unfolding packed_entry_of
+  entry_cases n = find-cases (λ (e : CharacterEntry). e.character) IsOfCharacters entries n characters
+
+  -- no entry is of a character that isn't recorded
+  no_packed_entry : (n : ℕ) → (Contains (recorded_characters records uts46) n → ⊥) → packed_entry_of entries n ≡ None
+  unfolding packed_entry_of entry_for
+  no_packed_entry n missing =
+      find-missing (λ (e : CharacterEntry). e.character) entries n (λ there.
+      missing (All-contains (Contains (recorded_characters records uts46)) made.characters n made.listed.recorded
+      (subst (λ (x : List ℕ). Contains x n) (numbers_made (entry_for records uts46) (λ e. e.character) (λ c. refl) made.characters) (subst (λ (es : List CharacterEntry). Contains (map (λ e. e.character) es) n) made.made there))))
+
+  -- recorded characters are scalar values
+  pub missing_beyond : (n : ℕ) → (IsScalar n → ⊥) → Contains (recorded_characters records uts46) n → ⊥
+  unfolding entry_for
+  missing_beyond n beyond there =
+      beyond (All-contains IsScalar made.characters n
+      (scalars_made (entry_for records uts46) (λ c. refl) made.characters (subst (λ (es : List CharacterEntry). All IsOfCharacters es) made.made characters))
+      (All-contains (Contains made.characters) (recorded_characters records uts46) n made.listed.all there))
+
+  -- the list that is kept of a character
+  pub kept_syllable : (k : Kind) (n : ℕ) → is_hangul_syllable n ≡ true → kept_list k entries n ≡ n ∷ []
+  kept_syllable k n h = alone_kept k entries n (no_packed_entry n (missing_syllable records uts46 none n h))
+
+  pub kept_other : (k : Kind) (n : ℕ) → is_hangul_syllable n ≡ false → kept_list k entries n ≡ unwrap_or (recorded_list records uts46 k n) []
+  unfolding kept_list
+  kept_other kind.Canonical n other = ap (λ o. unwrap_or o []) (meaning.canonical n other)
+  kept_other kind.Compatibility n other = ap (λ o. unwrap_or o []) (meaning.compatibility n other)
+  kept_other kind.Mapper n other = ap (λ o. unwrap_or o []) (meaning.mapper n other)
+
+  eight_bits : (n : ℕ) → class_in entries n < 0x100
+  unfolding class_in
+  eight_bits n = elim (entry_cases n) [
+    | inl missing ↦ subst (λ o. class_of_found o < 0x100) (sym missing) (omega arith)
+    | inr found ↦ subst (λ o. class_of_found o < 0x100) (sym found.1) found.3.class
+  ]
+
+  pub starter_syllable : (n : ℕ) → is_hangul_syllable n ≡ true → class_of records n ≡ 0
+  starter_syllable n h = class_of-unrecorded records uts46 none n (no_entry records uts46 n (missing_syllable records uts46 none n h))
+
+  kept_text : (k : Kind) (n : ℕ) → IsScalar n → IsText (kept_list k entries n)
+  unfolding kept_list list_in
+  kept_text k n scalar = elim (entry_cases n) [
+    | inl missing ↦ subst (λ o. IsText (unwrap_or (list_of_found k n o) [])) (sym missing) (All-cons IsScalar n [] scalar (All-nil IsScalar))
+    | inr found ↦ subst (λ o. IsText (unwrap_or (list_of_found k n o) [])) (sym found.1) (own_text k found.0 found.3)
+  ]
+
+  replacement_alone : (k : Kind) → list_in k entries 0xFFFD ≡ Some (0xFFFD ∷ [])
+  unfolding mapper_list mapped_list list_of_status
+  replacement_alone kind.Canonical = meaning.canonical 0xFFFD other_than_syllable ∙ ap Some (list_alone records uts46 0xFFFD Canonical other_than_syllable (unrecorded_replacement records uts46 none))
+  replacement_alone kind.Compatibility = meaning.compatibility 0xFFFD other_than_syllable ∙ ap Some (list_alone records uts46 0xFFFD AllMappings other_than_syllable (unrecorded_replacement records uts46 none))
+  replacement_alone kind.Mapper = meaning.mapper 0xFFFD other_than_syllable ∙ elim (status_of_replacement records uts46 none) [
+    | inl unmapped ↦ mapper_alone records uts46 0xFFFD other_than_syllable (unrecorded_replacement records uts46 none) unmapped
+    | inr disallowed ↦ ap (mapped_list records 0xFFFD) disallowed
+  ]
+
+  nonzero_or_ignored : (o : Option (List ℕ)) → IfSome o HasNoZero → HasNoZero (unwrap_or o [])
+  nonzero_or_ignored None h = tt
+  nonzero_or_ignored (Some x) h = h
+
+  nonzero_recorded : (k : Kind) (n : ℕ) → 0 < n → HasNoZero (unwrap_or (recorded_list records uts46 k n) [])
+  nonzero_recorded kind.Canonical n some = HasNoZero-list records uts46 none Canonical n some
+  nonzero_recorded kind.Compatibility n some = HasNoZero-list records uts46 none AllMappings n some
+  nonzero_recorded kind.Mapper n some = nonzero_or_ignored (mapper_list records uts46 n) (HasNoZero-mapper records uts46 none n some)
+
+  kept_nonzero : (k : Kind) (n : ℕ) → 0 < n → HasNoZero (kept_list k entries n)
+  kept_nonzero k n some = elim (bool_or_not (is_hangul_syllable n)) [
+    | inl h ↦ subst HasNoZero (sym (kept_syllable k n h)) (some, tt)
+    | inr other ↦ subst HasNoZero (sym (kept_other k n other)) (nonzero_recorded k n some)
+  ]
+
+  kept_zero : (k : Kind) (n : ℕ) → kept_list k entries n ≡ 0 ∷ [] → n ≡ 0
+  kept_zero k n e = elim (cases_eq n 0) [
+    | inl same ↦ same
+    | inr other ↦ (let none_zero : HasNoZero (0 ∷ []) = subst HasNoZero e (kept_nonzero k n (omega (arith, other))) in let never : 0 < 0 = none_zero.0 in omega (arith, never))
+  ]
+
+  -- a list that is neither the character alone nor its fixed one
+  free : (k : Kind) (n : ℕ) → is_hangul_syllable n ≡ false → tells_class k entries n ≡ false → (x : List ℕ) → recorded_list records uts46 k n ≡ Some x → IsFreeForm records n x
+  unfolding tells_class
+  free k n other h x e =
+      let here : kept_list k entries n ≡ x = kept_other k n other ∙ ap (λ o. unwrap_or o []) e in
+      let parts = or_falls (has_fixed_list (class_in entries) n (kept_list k entries n)) (list_eq (kept_list k entries n) (n ∷ [])) h in (
+        λ same. true≢false (sym (eq_list (kept_list k entries n) (n ∷ []) (here ∙ same)) ∙ parts.1),
+        λ form. true≢false (sym (has_fixed_list-same (class_in entries) (class_of records) meaning.classes n (kept_list k entries n) ∙ ap (has_fixed_list (class_of records) n) here ∙ fixed_form-has records n x form) ∙ parts.0),
+      )
+
+  not_so : (b : Bool) → (b ≡ true → ⊥) → b ≡ false
+  not_so true h = absurd (h refl)
+  not_so false h = refl
+
+  -- such a list begins with no mark
+  bare : (k : Kind) (n : ℕ) → ((x : List ℕ) → recorded_list records uts46 k n ≡ Some x → IsFreeForm records n x) → begins_with_mark records (unwrap_or (recorded_list records uts46 k n) []) ≡ false
+  unfolding HasWrongClass
+  bare kind.Canonical n form = not_so _ (λ e. no_wrong_class records uts46 none n (inr (inl (inr e, form (canonical_list records n) refl))))
+  bare kind.Compatibility n form = not_so _ (λ e. no_wrong_class records uts46 none n (inr (inr (inl (inr e, form (compatibility_list records n) refl)))))
+  bare kind.Mapper n form = by (mapper_list records uts46 n) refl
+    where
+      by : (o : Option (List ℕ)) → mapper_list records uts46 n ≡ o → begins_with_mark records (unwrap_or o []) ≡ false
+      by None e = refl
+      by (Some x) e = not_so _ (λ b. no_wrong_class records uts46 none n (inr (inr (inr (subst (λ (o : Option (List ℕ)). IsSomeAnd o (IsWrong records n false)) (sym e) (inr b, form x e))))))
+
+  told_syllable : (k : Kind) (n : ℕ) → is_hangul_syllable n ≡ true → tells_class k entries n ≡ false → ⊥
+  unfolding tells_class
+  told_syllable k n h e =
+      let parts = or_falls (has_fixed_list (class_in entries) n (kept_list k entries n)) (list_eq (kept_list k entries n) (n ∷ [])) e in
+      true≢false (sym (eq_list (kept_list k entries n) (n ∷ []) (kept_syllable k n h)) ∙ parts.1)
+
+  kept_first : (k : Kind) (n : ℕ) → tells_class k entries n ≡ false → BeginsWithStarter (composing_reading entries []) (kept_list k entries n)
+  kept_first k n h = elim (bool_or_not (is_hangul_syllable n)) [
+    | inl syllable ↦ absurd (told_syllable k n syllable h)
+    | inr other ↦ subst (BeginsWithStarter (composing_reading entries [])) (sym (kept_other k n other)) (starter_first records entries meaning.classes _ (bare k n (free k n other h)))
+  ]
+
+  -- the class of a character whose canonical or compatibility list is such a one
+  pub starter_canonical : (n : ℕ) → tells_class kind.Canonical entries n ≡ false → class_of records n ≡ 0
+  unfolding HasWrongClass
+  starter_canonical n h = elim (bool_or_not (is_hangul_syllable n)) [
+    | inl syllable ↦ absurd (told_syllable kind.Canonical n syllable h)
+    | inr other ↦ no_mark (class_of records n) (not_so (is_mark records n) (λ e. no_wrong_class records uts46 none n (inr (inl (inl e, free kind.Canonical n other h (canonical_list records n) refl)))))
+  ]
+
+  pub starter_compatibility : (n : ℕ) → tells_class kind.Compatibility entries n ≡ false → class_of records n ≡ 0
+  unfolding HasWrongClass
+  starter_compatibility n h = elim (bool_or_not (is_hangul_syllable n)) [
+    | inl syllable ↦ absurd (told_syllable kind.Compatibility n syllable h)
+    | inr other ↦ no_mark (class_of records n) (not_so (is_mark records n) (λ e. no_wrong_class records uts46 none n (inr (inr (inl (inl e, free kind.Compatibility n other h (compatibility_list records n) refl))))))
+  ]
+
+  pub AreReadable-made : (k : Kind) → AreReadable k entries
+  AreReadable-made k = record {
+    classes = eight_bits;
+    hangul = λ n h. meaning.classes n ∙ starter_syllable n h;
+    replacement = (replacement_alone k, meaning.classes 0xFFFD ∙ class_of-unrecorded records uts46 none 0xFFFD (unrecorded_replacement records uts46 none));
+    text = kept_text k;
+    zero = λ n scalar. kept_zero k n;
+    first = λ n scalar. kept_first k n;
+  }
+
+-- the parts of records that aren't refused can be read again
+pub PartsAreReadable : (records : List Entry) (uts46 : List MapperEntry) (entries : List CharacterEntry) (pairs : List Pair) → IsFirstRefusal records uts46 None → AreParts records uts46 entries pairs → (k : Kind) → AreReadable k entries
+PartsAreReadable records uts46 entries pairs none parts k = AreReadable-made records uts46 none entries parts.made parts.characters parts.meaning k
