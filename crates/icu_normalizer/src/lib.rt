@@ -15,6 +15,8 @@ pub use composition::Composition;
 pub use decomposition::Decomposition;
 pub use error::NormalizeError;
 pub use normalizer::{DecomposingNormalizer, DecomposingNormalizerBorrowed};
+pub use normalizer_builder::{Built, Records};
+pub use normalizer_records::{BuildError, Record, Uts46Record, Uts46Status};
 pub use normalizer_tables::{
     CanonicalCompositions, CodePointTable, DataError, DataMarker, DataMarkerInfo, DataProvider,
     DecompositionData, DecompositionTables, NonRecursiveDecompositionSupplement, NormalizerNfcV1,
@@ -23,8 +25,3 @@ pub use normalizer_tables::{
     check_nfd_data,
 };
 pub use normalizer_text::{Utf8Chars, Utf16Chars};
-
-#[cfg(test)]
-mod composing_tests;
-#[cfg(test)]
-mod tests;

@@ -21,9 +21,11 @@ pub(crate) struct StayingMarks {
 impl StayingMarks {
     ghost use Rattle.icu_normalizer.specs.StayingMarks.{staying, used, BlocksBelow};
 
-    #[tactic(auto, unfolding(crate::specs::StayingMarks::staying))]
+    #[tactic(auto, unfolding(crate::specs::StayingMarks::staying, crate::specs::StayingMarks::used))]
     pub(crate) fn new(alloc: Global) -> Self
-        ensures { staying result ≡ [] }
+        ensures staying { staying result ≡ [] }
+        ensures used { used result ≡ 0 }
+        ensures blocking { (d : Reading) → BlocksBelow d result }
     {
         StayingMarks {
             marks: SmallVec::new(alloc),

@@ -29,8 +29,6 @@ use normalizer_tables::{
     NormalizerNfdDataV1, NormalizerNfdTablesV1, NormalizerNfkdDataV1, NormalizerNfkdTablesV1,
 };
 
-#[cfg(test)]
-mod tests;
 mod unchecked;
 
 /// A normalizer to a decomposed form.

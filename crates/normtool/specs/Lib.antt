@@ -3,5 +3,7 @@ pub mod Faults
 pub mod Forms
 pub mod Normalizers
 pub mod Outcome
+pub mod RecordSets
+pub mod SetOutcome
 pub mod Transfer
 pub mod Words

@@ -5,10 +5,10 @@ use Rattle.normtool.specs.declared.words.RecordSet.TheVariants.{Rows, Nothing}
 use Rattle.normtool.specs.declared.words.Command.{Command}
 use Rattle.normtool.specs.declared.words.Command.TheVariants.{Nfd, Nfc, Nfkd, Nfkc}
 
--- the word of a record set; no word stands for no records yet
+-- the word of a record set
 abbrev pub NamesRecords : RecordSet → List ℕ → Type 0
 NamesRecords Rows word = word ≡ codes "rows"
-NamesRecords Nothing word = ⊥
+NamesRecords Nothing word = word ≡ codes "none"
 
 -- the word of a command
 abbrev pub NamesCommand : Command → List ℕ → Type 0

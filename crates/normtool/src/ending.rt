@@ -2,7 +2,7 @@
 ghost use Rattle.std.specs.Prelude.{◌≡◌};
 ghost use Rattle.normtool.specs.Endings.{status_of, line_of};
 
-use icu_normalizer::{DataError, TableError};
+use icu_normalizer::DataError;
 use std::alloc::AllocError;
 
 /// What a command answered.
@@ -23,7 +23,7 @@ pub enum ToolFault {
     Write,
     /// There was not enough memory.
     Memory,
-    /// The data are missing, or a constructor refused them.
+    /// The records give no data, the data are missing, or a constructor refused them.
     Data,
 }
 
@@ -46,19 +46,6 @@ impl From<DataError> for ToolFault {
         match error {
             DataError::Memory => ToolFault::Memory,
             _ => ToolFault::Data,
-        }
-    }
-}
-
-impl From<TableError> for ToolFault {
-    ghost use Rattle.normtool.specs.Faults.{fault_of_table};
-
-    ghost from_gives = { λ error fault. fault ≡ fault_of_table error };
-
-    fn from(error: TableError) -> ToolFault {
-        match error {
-            TableError::Memory => ToolFault::Memory,
-            TableError::Ranges => ToolFault::Data,
         }
     }
 }

@@ -2,24 +2,26 @@
 //! standard output as UTF-8.
 #![tactic(auto)]
 
+mod building;
 mod device;
 mod encoded;
 mod ending;
 #[cfg(test)]
 mod memory;
 mod normalizer;
-mod rows;
 mod run;
+mod set_run;
 mod standard;
 #[cfg(test)]
 mod tests;
 mod transfer;
 mod words;
 
+pub use building::built;
 pub use device::{DeviceError, Source, Target};
 pub use ending::{Answer, ToolFault, ending};
-pub use rows::HandMadeRows;
 pub use run::run;
+pub use set_run::run_over;
 use standard::{Input, Output};
 use std::env;
 use std::io::ErrorKind;
@@ -40,8 +42,7 @@ fn outcome(rt: &HostRuntime) -> (u8, &'static str) {
     match request(rt) {
         Err(fault) => ending(&Err(fault)),
         Ok(None) => (2, USAGE),
-        Ok(Some((RecordSet::Nothing, _))) => (2, USAGE),
-        Ok(Some((RecordSet::Rows, command))) => ending(&answer(rt, command)),
+        Ok(Some((records, command))) => ending(&answer(rt, records, command)),
     }
 }
 
@@ -56,10 +57,9 @@ fn request(rt: &HostRuntime) -> Result<Option<(RecordSet, Command)>, ToolFault> 
     Ok(words(&all))
 }
 
-/// Runs the command from standard input to standard output.
-fn answer(rt: &HostRuntime, command: Command) -> Result<Answer, ToolFault> {
-    let rows = HandMadeRows::new(rt.alloc())?;
+/// Runs the command over the records from standard input to standard output.
+fn answer(rt: &HostRuntime, records: RecordSet, command: Command) -> Result<Answer, ToolFault> {
     let mut input = Input(rt.stdin());
     let mut output = Output(rt.stdout());
-    run(rt.alloc(), &rows, command, &mut input, &mut output)
+    run_over(rt.alloc(), records, command, &mut input, &mut output)
 }

@@ -1,11 +1,10 @@
 //! Tests of what no clause says: that calls succeed, and the texts that are printed.
 use crate::memory::{Page, Pieces};
 use crate::{
-    Answer, Command, HandMadeRows, RecordSet, ToolFault, USAGE, ending, read_all, run, words,
-    write_all,
+    Answer, Command, RecordSet, ToolFault, USAGE, built, ending, read_all, run, words, write_all,
 };
 use icu_normalizer::{
-    CanonicalCompositions, DataError, DataMarkerInfo, DataProvider, DecompositionData,
+    Built, CanonicalCompositions, DataError, DataMarkerInfo, DataProvider, DecompositionData,
     DecompositionTables, NormalizerNfcV1, NormalizerNfdDataV1, NormalizerNfdTablesV1,
     NormalizerNfkdDataV1, NormalizerNfkdTablesV1,
 };
@@ -31,7 +30,14 @@ fn two_words_ask_for_a_command(rt: HostRuntime) -> Result<(), Fail> {
     for (name, command) in commands {
         let all = strings(rt.alloc(), &["rows", name])?;
         assert_eq!(rt; words(&all), Some((RecordSet::Rows, command)));
+        let all = strings(rt.alloc(), &["none", name])?;
+        assert_eq!(rt; words(&all), Some((RecordSet::Nothing, command)));
     }
+    Ok(())
+}
+
+#[test]
+fn other_words_ask_for_nothing(rt: HostRuntime) -> Result<(), Fail> {
     let wrong: [&[&str]; 8] = [
         &[],
         &["rows"],
@@ -39,7 +45,7 @@ fn two_words_ask_for_a_command(rt: HostRuntime) -> Result<(), Fail> {
         &["rows", "nfd", "nfd"],
         &["rows", "Nfd"],
         &["rows", ""],
-        &["none", "nfd"],
+        &["none", "none"],
         &["rows", "nfdd"],
     ];
     for texts in wrong {
@@ -86,21 +92,22 @@ fn a_refused_call_ends_the_transfer(rt: HostRuntime) {
     assert_eq!(rt; page.bytes.as_slice(), b"front a".as_slice());
 }
 
-// The outcome over the hand-made data, and the bytes that were written.
-fn run_over_rows(
+// The outcome over the data, and the bytes that were written.
+fn run_over(
     alloc: Global,
+    data: &Built,
     command: Command,
     input: &[u8],
     room: usize,
-) -> Result<(Result<Answer, ToolFault>, Vec<u8>), ToolFault> {
-    let rows = HandMadeRows::new(alloc)?;
+) -> (Result<Answer, ToolFault>, Vec<u8>) {
     let mut page = Page::new(alloc, room);
-    let outcome = run(alloc, &rows, command, &mut Pieces::of(input), &mut page);
-    Ok((outcome, page.bytes))
+    let outcome = run(alloc, data, command, &mut Pieces::of(input), &mut page);
+    (outcome, page.bytes)
 }
 
 #[test]
 fn texts_are_decomposed(rt: HostRuntime) -> Result<(), Fail> {
+    let data = built(rt.alloc(), RecordSet::Rows)?;
     let all: [(&[u8], &[u8]); 7] = [
         (b"\xE1\xBB\x87", b"\x65\xCC\xA3\xCC\x82"),
         (b"\xCC\x88\xCC\xA3", b"\xCC\xA3\xCC\x88"),
@@ -111,16 +118,38 @@ fn texts_are_decomposed(rt: HostRuntime) -> Result<(), Fail> {
         (b"\xC3\xAA\xCC\xA3", b"\x65\xCC\xA3\xCC\x82"),
     ];
     for (input, output) in all {
-        let (outcome, written) = run_over_rows(rt.alloc(), Command::Nfd, input, 100)?;
+        let (outcome, written) = run_over(rt.alloc(), &data, Command::Nfd, input, 100);
         assert_eq!(rt; outcome, Ok(Answer::Done), "{input:?}");
-        assert_eq!(rt; ending(&outcome), (0, ""));
         assert_eq!(rt; written.as_slice(), output);
     }
     Ok(())
 }
 
+// Without records nothing but Hangul syllables is replaced, and no mark is known.
+#[test]
+fn no_records_leave_texts_as_they_are(rt: HostRuntime) -> Result<(), Fail> {
+    let all = strings(rt.alloc(), &["none", "nfd"])?;
+    assert_eq!(rt; words(&all), Some((RecordSet::Nothing, Command::Nfd)));
+    let data = built(rt.alloc(), RecordSet::Nothing)?;
+    let input = b"\xE1\xBB\x87";
+    let (outcome, written) = run_over(rt.alloc(), &data, Command::Nfd, input, 100);
+    assert_eq!(rt; ending(&outcome), (0, ""));
+    assert_eq!(rt; written.as_slice(), input.as_slice());
+    let (outcome, written) = run_over(
+        rt.alloc(),
+        &data,
+        Command::Nfkc,
+        "\u{61}\u{308}".as_bytes(),
+        100,
+    );
+    assert_eq!(rt; ending(&outcome), (0, ""));
+    assert_eq!(rt; written.as_slice(), "\u{61}\u{308}".as_bytes());
+    Ok(())
+}
+
 #[test]
 fn texts_are_composed(rt: HostRuntime) -> Result<(), Fail> {
+    let data = built(rt.alloc(), RecordSet::Rows)?;
     let all = [
         ("\u{65}\u{302}\u{323}", "\u{1EC7}"),
         ("\u{65}\u{302}\u{302}", "\u{EA}\u{302}"),
@@ -128,17 +157,22 @@ fn texts_are_composed(rt: HostRuntime) -> Result<(), Fail> {
         ("\u{1100}\u{1161}\u{11A8}", "\u{AC01}"),
         ("\u{AC00}\u{11A7}", "\u{AC00}\u{11A7}"),
         ("\u{308}\u{61}", "\u{308}\u{61}"),
-        ("\u{61}\u{308}", "\u{E4}"),
         ("", ""),
     ];
     for (input, output) in all {
-        let (outcome, written) = run_over_rows(rt.alloc(), Command::Nfc, input.as_bytes(), 100)?;
+        let (outcome, written) = run_over(rt.alloc(), &data, Command::Nfc, input.as_bytes(), 100);
         assert_eq!(rt; outcome, Ok(Answer::Done), "{input:?}");
         assert_eq!(rt; written.as_slice(), output.as_bytes(), "{input:?}");
     }
-    let ill_formed = b"\xFF\x61\xCC\x88\xFF";
-    let (outcome, written) = run_over_rows(rt.alloc(), Command::Nfc, ill_formed, 100)?;
-    assert_eq!(rt; outcome, Ok(Answer::Done));
+    Ok(())
+}
+
+#[test]
+fn ill_formed_bytes_are_composed(rt: HostRuntime) -> Result<(), Fail> {
+    let data = built(rt.alloc(), RecordSet::Rows)?;
+    let input = b"\xFF\x61\xCC\x88\xFF";
+    let (outcome, written) = run_over(rt.alloc(), &data, Command::Nfc, input, 100);
+    assert_eq!(rt; ending(&outcome), (0, ""));
     assert_eq!(rt;
         written.as_slice(),
         b"\xEF\xBF\xBD\xC3\xA4\xEF\xBF\xBD".as_slice()
@@ -149,6 +183,7 @@ fn texts_are_composed(rt: HostRuntime) -> Result<(), Fail> {
 // Compatibility mappings take part in two of the forms alone.
 #[test]
 fn compatibility_characters_are_replaced(rt: HostRuntime) -> Result<(), Fail> {
+    let data = built(rt.alloc(), RecordSet::Rows)?;
     let rows = [
         (Command::Nfkd, "\u{FB01}", "fi"),
         (Command::Nfkc, "\u{FB01}", "fi"),
@@ -157,15 +192,10 @@ fn compatibility_characters_are_replaced(rt: HostRuntime) -> Result<(), Fail> {
         (Command::Nfkd, "\u{1EC7}\u{FF9E}", "e\u{3099}\u{323}\u{302}"),
         (Command::Nfkc, "\u{1EC7}\u{FF9E}", "\u{1EC7}\u{3099}"),
         (Command::Nfc, "\u{1EC7}\u{FF9E}", "\u{1EC7}\u{FF9E}"),
-        (
-            Command::Nfkd,
-            "\u{FDFA}\u{308}",
-            "\u{635}\u{644}\u{649} \u{627}\u{644}\u{644}\u{647} \u{639}\u{644}\u{64A}\u{647} \u{648}\u{633}\u{644}\u{645}\u{308}",
-        ),
         (Command::Nfkc, "\u{1100}\u{1161}\u{11A8}", "\u{AC01}"),
     ];
     for (command, input, output) in rows {
-        let (outcome, written) = run_over_rows(rt.alloc(), command, input.as_bytes(), 100)?;
+        let (outcome, written) = run_over(rt.alloc(), &data, command, input.as_bytes(), 100);
         assert_eq!(rt; outcome, Ok(Answer::Done), "{input:?}");
         assert_eq!(rt; written.as_slice(), output.as_bytes(), "{input:?}");
     }
@@ -175,12 +205,12 @@ fn compatibility_characters_are_replaced(rt: HostRuntime) -> Result<(), Fail> {
 // A source that breaks off at each place: nothing is written.
 #[test]
 fn nothing_is_written_where_a_read_is_refused(rt: HostRuntime) -> Result<(), Fail> {
-    let rows = HandMadeRows::new(rt.alloc())?;
+    let data = built(rt.alloc(), RecordSet::Rows)?;
     let input = b"\xE1\xBB\x87 and much more than one piece holds";
     for end in 0..=input.len() {
         let mut source = Pieces::broken_off(&input[..end]);
         let mut page = Page::new(rt.alloc(), 100);
-        let outcome = run(rt.alloc(), &rows, Command::Nfd, &mut source, &mut page);
+        let outcome = run(rt.alloc(), &data, Command::Nfd, &mut source, &mut page);
         assert_eq!(rt; outcome, Err(ToolFault::Read), "after {end} bytes");
         assert!(rt; page.bytes.is_empty());
     }
@@ -190,46 +220,38 @@ fn nothing_is_written_where_a_read_is_refused(rt: HostRuntime) -> Result<(), Fai
 // A target that is full at each place: it holds the beginning of the output.
 #[test]
 fn a_beginning_is_written_where_a_write_is_refused(rt: HostRuntime) -> Result<(), Fail> {
+    let data = built(rt.alloc(), RecordSet::Rows)?;
+    let input = b"\xE1\xBB\x87\xC3\xA4";
     let output = b"\x65\xCC\xA3\xCC\x82\x61\xCC\x88";
     for room in 0..output.len() {
-        let (outcome, written) = run_over_rows(
-            rt.alloc(),
-            Command::Nfd,
-            b"\xE1\xBB\x87\xC3\xA4",
-            room,
-        )?;
+        let (outcome, written) = run_over(rt.alloc(), &data, Command::Nfd, input, room);
         assert_eq!(rt; outcome, Err(ToolFault::Write), "room for {room} bytes");
         assert_eq!(rt; written.as_slice(), &output[..room]);
     }
-    let (outcome, written) = run_over_rows(
-        rt.alloc(),
-        Command::Nfd,
-        b"\xE1\xBB\x87\xC3\xA4",
-        output.len(),
-    )?;
+    let (outcome, written) = run_over(rt.alloc(), &data, Command::Nfd, input, output.len());
     assert_eq!(rt; outcome, Ok(Answer::Done));
     assert_eq!(rt; written.as_slice(), output.as_slice());
     Ok(())
 }
 
-/// Holds words alone, with the table of the rows cut off: U+1EC7 has a list that isn't there.
+/// What was built, with other tables in the place of the canonical ones, or none.
 #[derive(Drop)]
-struct WithoutLists {
-    rows: HandMadeRows,
+struct WithTables {
+    data: Built,
     tables: Option<DecompositionTables>,
 }
 
-impl DataProvider<NormalizerNfdDataV1> for WithoutLists {
+impl DataProvider<NormalizerNfdDataV1> for WithTables {
     ghost use Rattle.std.specs.Prelude.{Some};
 
-    ghost held = { λ p. Some p.rows.canonical };
+    ghost held = { λ p. Some p.data.packed.canonical };
 
     fn load(&self) -> Result<DecompositionData, DataError> {
-        <HandMadeRows as DataProvider<NormalizerNfdDataV1>>::load(&self.rows)
+        <Built as DataProvider<NormalizerNfdDataV1>>::load(&self.data)
     }
 }
 
-impl DataProvider<NormalizerNfdTablesV1> for WithoutLists {
+impl DataProvider<NormalizerNfdTablesV1> for WithTables {
     ghost held = { λ p. p.tables };
 
     fn load(&self) -> Result<DecompositionTables, DataError> {
@@ -240,33 +262,33 @@ impl DataProvider<NormalizerNfdTablesV1> for WithoutLists {
     }
 }
 
-impl DataProvider<NormalizerNfkdDataV1> for WithoutLists {
+impl DataProvider<NormalizerNfkdDataV1> for WithTables {
     ghost use Rattle.std.specs.Prelude.{Some};
 
-    ghost held = { λ p. Some p.rows.compatibility };
+    ghost held = { λ p. Some p.data.packed.compatibility };
 
     fn load(&self) -> Result<DecompositionData, DataError> {
-        <HandMadeRows as DataProvider<NormalizerNfkdDataV1>>::load(&self.rows)
+        <Built as DataProvider<NormalizerNfkdDataV1>>::load(&self.data)
     }
 }
 
-impl DataProvider<NormalizerNfkdTablesV1> for WithoutLists {
+impl DataProvider<NormalizerNfkdTablesV1> for WithTables {
     ghost use Rattle.std.specs.Prelude.{Some};
 
-    ghost held = { λ p. Some p.rows.compatibility_lists };
+    ghost held = { λ p. Some p.data.packed.supplementary_tables };
 
     fn load(&self) -> Result<DecompositionTables, DataError> {
-        <HandMadeRows as DataProvider<NormalizerNfkdTablesV1>>::load(&self.rows)
+        <Built as DataProvider<NormalizerNfkdTablesV1>>::load(&self.data)
     }
 }
 
-impl DataProvider<NormalizerNfcV1> for WithoutLists {
+impl DataProvider<NormalizerNfcV1> for WithTables {
     ghost use Rattle.std.specs.Prelude.{Some};
 
-    ghost held = { λ p. Some p.rows.pairs };
+    ghost held = { λ p. Some p.data.packed.compositions };
 
     fn load(&self) -> Result<CanonicalCompositions, DataError> {
-        <HandMadeRows as DataProvider<NormalizerNfcV1>>::load(&self.rows)
+        <Built as DataProvider<NormalizerNfcV1>>::load(&self.data)
     }
 }
 
@@ -278,8 +300,8 @@ fn nothing_is_read_where_data_do_not_serve(rt: HostRuntime) -> Result<(), Fail> 
         scalars24: Vec::new(rt.alloc()).into(),
     };
     for tables in [None, Some(empty)] {
-        let provider = WithoutLists {
-            rows: HandMadeRows::new(rt.alloc())?,
+        let provider = WithTables {
+            data: built(rt.alloc(), RecordSet::Rows)?,
             tables,
         };
         for command in [Command::Nfd, Command::Nfc, Command::Nfkd, Command::Nfkc] {

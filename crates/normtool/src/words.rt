@@ -10,7 +10,7 @@ pub const USAGE: &str = "normtool: usage: normtool RECORDS COMMAND";
 /// The records that the data are built from.
 #[derive(Clone, Copy, Debug, PartialEq, Eq)]
 pub enum RecordSet {
-    /// The record set that stands in the program.
+    /// The rows that stand in the program.
     Rows,
     /// No record at all.
     Nothing,
@@ -39,6 +39,7 @@ impl RecordSet {
     {
         match word {
             "rows" => Some(RecordSet::Rows),
+            "none" => Some(RecordSet::Nothing),
             _ => None,
         }
     }

@@ -18,7 +18,7 @@ returns-clause-text g c = λ ignored x h.
       source = h;
       text =
           nfc-composing_reading s ignored pairs c.requires.suits.starters x
-          ∙ ap (λ l. l ++ compose_by_starters (pairing_reading s pairs) y) (sym c.new-marks.ensures);
+          ∙ ap (λ l. l ++ compose_by_starters (pairing_reading s pairs) y) (sym c.new-marks.ensures.staying);
     }
 
 pub returns-clause-short : goal.returns-clause-short
