@@ -23,6 +23,9 @@ ghost use Rattle.icu_normalizer.specs.Decomposition.{WillGive, StaysShort, CanDe
 ghost use Rattle.icu_normalizer.specs.Spelling.{SpellsUnlessErr};
 ghost use Rattle.normalizer_uses.specs.Last.{last_of};
 
+mod by_records;
+
+pub use by_records::{NormalForm, form_by_records, what_is_built_suits_the_laws};
 use icu_normalizer::{
     ComposingNormalizer, ComposingNormalizerBorrowed, DataError, DataProvider,
     DecomposingNormalizerBorrowed, Decomposition, DecompositionData, DecompositionTables,

@@ -1,0 +1,36 @@
+-- The normal forms by plain records of characters, and by data.
+use Rattle.std.specs.Prelude.{ℕ, List}
+use Rattle.normal_forms.specs.declared.Form.TheVariants.{Decomposing, Composing}
+use Rattle.normal_forms.specs.Forms.{nfc, nfd, normal_form}
+use Rattle.normal_forms.specs.Reading.{Reading}
+use Rattle.normalizer_tables.specs.Characters.{own_reading}
+use Rattle.normalizer_tables.specs.PairConditions.{composing_reading}
+use Rattle.normalizer_tables.specs.Pairs.{pair_of}
+use Rattle.normalizer_packing.specs.declared.Packed.{Packed}
+use Rattle.normalizer_packing.specs.declared.entry.Kind.TheVariants as kind
+use Rattle.normalizer_packing.specs.ReadBack.{characters_of}
+use Rattle.normalizer_records.specs.declared.records.Mappings.{Mappings}
+use Rattle.normalizer_records.specs.declared.records.Mappings.TheVariants.{Canonical, All}
+use Rattle.normalizer_records.specs.Entry.{Entry}
+use Rattle.normalizer_records.specs.Meaning.{class_of, full_list, pairs_of}
+use Rattle.normalizer_uses.specs.declared.by_records.NormalForm.{NormalForm}
+use Rattle.normalizer_uses.specs.declared.by_records.NormalForm.TheVariants.{Nfd, Nfc, Nfkd, Nfkc}
+
+-- what the records mean: full decompositions by canonical mappings or by all (D65, D68), classes (D104), and primary
+-- composites, Hangul ones included (D114)
+abbrev pub recorded_reading : List Entry → Mappings → Reading
+recorded_reading records mappings = record { list = full_list records mappings; class = class_of records; pair = pair_of (pairs_of records) }
+
+-- D118 to D121
+abbrev pub recorded_form : List Entry → NormalForm → List ℕ → List ℕ
+recorded_form records Nfd x = normal_form (recorded_reading records Canonical) Decomposing x
+recorded_form records Nfc x = normal_form (recorded_reading records Canonical) Composing x
+recorded_form records Nfkd x = normal_form (recorded_reading records All) Decomposing x
+recorded_form records Nfkc x = normal_form (recorded_reading records All) Composing x
+
+-- the forms that normalizers over packed data give
+abbrev pub form_of_data : Packed → NormalForm → List ℕ → List ℕ
+form_of_data p Nfd x = nfd (own_reading (characters_of p kind.Canonical)) x
+form_of_data p Nfc x = nfc (composing_reading (characters_of p kind.Canonical) p.compositions) x
+form_of_data p Nfkd x = nfd (own_reading (characters_of p kind.Compatibility)) x
+form_of_data p Nfkc x = nfc (composing_reading (characters_of p kind.Compatibility) p.compositions) x

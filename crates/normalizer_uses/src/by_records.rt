@@ -1,0 +1,140 @@
+//! Text put into normal form by plain records of characters: data are built of the records, and a normalizer over them.
+ghost use Rattle.std.specs.Prelude.{◌≡◌, List, None, IfOk, IsOkUnless, MatchResult};
+ghost use Rattle.normal_forms.specs.declared.Form.{Form};
+ghost use Rattle.normal_forms.specs.Hypotheses.{HasInhabitedLists, SuitsForm};
+ghost use Rattle.normalizer_packing.specs.declared.Packed.{Packed};
+ghost use Rattle.normalizer_packing.specs.declared.entry.Kind.TheVariants.{Canonical, Compatibility};
+ghost use Rattle.normalizer_packing.specs.ReadBack.{characters_of};
+ghost use Rattle.normalizer_records.specs.declared.records.Mappings.{Mappings};
+ghost use Rattle.normalizer_records.specs.Entry.{Entry, MapperEntry};
+ghost use Rattle.normalizer_text.specs.Utf8.{decoded_utf8};
+ghost use Rattle.icu_normalizer.specs.ComposingNormalizers.{composing_data_of, pairs_of};
+ghost use Rattle.icu_normalizer.specs.Normalizers.{data_of};
+ghost use Rattle.normalizer_builder.specs.Building.{Builds, IsSmallest};
+ghost use Rattle.normalizer_builder.specs.Fitness.{IsFirstUnfit};
+ghost use Rattle.normalizer_uses.specs.RecordedForms.{form_of_data, recorded_form, recorded_reading};
+
+use crate::{nfc_of_bytes, nfd_of_bytes};
+use icu_normalizer::{ComposingNormalizer, DataError, DecomposingNormalizer, NormalizeError};
+use normalizer_builder::{Built, Records};
+use normalizer_records::{BuildError, Record, Uts46Record};
+use std::alloc::Global;
+
+/// The four normal forms (UAX #15, section 1.2).
+#[derive(Clone, Copy, Debug, PartialEq, Eq)]
+pub enum NormalForm {
+    Nfd,
+    Nfc,
+    Nfkd,
+    Nfkc,
+}
+
+/// The normal form, by plain records, of the text that bytes decode to. Records that can't be built are refused for the
+/// smallest cause, and nothing else is refused but memory. Those of the mapper have no part in the form.
+#[tactic(auto, unfolding(normalizer_builder::specs::Building::IsSmallest))]
+pub fn form_by_records(
+    alloc: Global,
+    records: &[Record],
+    uts46: &[Uts46Record],
+    form: NormalForm,
+    bytes: &[u8],
+) -> Result<Vec<char>, BuildError>
+    ensures { MatchResult result (λ v. v.items ≡ recorded_form records.now form (decoded_utf8 bytes.now)) (IsSmallest records.now uts46.now) }
+{
+    let built = Records::build(alloc, records, uts46)?;
+    match form_by_built(alloc, &built, form, bytes) {
+        Ok(text) => Ok(text),
+        Err(_) => Err(BuildError::Memory),
+    }
+}
+
+/// What records that build mean suits the laws of the normal forms. The function does nothing: its contract is the law.
+pub fn what_is_built_suits_the_laws()
+    ensures suits { (records : List Entry) (uts46 : List MapperEntry) (p : Packed) → Builds records uts46 p →
+        (mappings : Mappings) (form : Form) → SuitsForm (recorded_reading records mappings) form }
+    ensures inhabited { (records : List Entry) (uts46 : List MapperEntry) (p : Packed) → Builds records uts46 p →
+        (mappings : Mappings) → HasInhabitedLists (recorded_reading records mappings) }
+{}
+
+/// The normal form by data that were built.
+fn form_by_built(
+    alloc: Global,
+    built: &Built,
+    form: NormalForm,
+    bytes: &[u8],
+) -> Result<Vec<char>, NormalizeError>
+    requires { IsFirstUnfit built.now.packed None }
+    ensures form { IfOk result (λ v. v.items ≡ form_of_data built.now.packed form (decoded_utf8 bytes.now)) }
+    ensures refused { IsOkUnless result NormalizeError.Memory }
+{
+    match form {
+        NormalForm::Nfd => nfd_of_bytes(alloc, &nfd_normalizer(built)?.as_borrowed(), bytes),
+        NormalForm::Nfc => nfc_of_bytes(alloc, &nfc_normalizer(built)?.as_borrowed(), bytes),
+        NormalForm::Nfkd => nfd_of_bytes(alloc, &nfkd_normalizer(built)?.as_borrowed(), bytes),
+        NormalForm::Nfkc => nfc_of_bytes(alloc, &nfkc_normalizer(built)?.as_borrowed(), bytes),
+    }
+}
+
+/// The normalizer to NFD over data that were built, which it doesn't refuse.
+fn nfd_normalizer(built: &Built) -> Result<DecomposingNormalizer, NormalizeError>
+    requires { IsFirstUnfit built.now.packed None }
+    ensures held { IfOk result (λ n. data_of n ≡ characters_of built.now.packed Canonical) }
+    ensures refused { IsOkUnless result NormalizeError.Memory }
+{
+    match DecomposingNormalizer::try_new_nfd_unstable(built) {
+        Ok(normalizer) => Ok(normalizer),
+        Err(error) => Err(want_of_memory(error)),
+    }
+}
+
+fn nfkd_normalizer(built: &Built) -> Result<DecomposingNormalizer, NormalizeError>
+    requires { IsFirstUnfit built.now.packed None }
+    ensures held { IfOk result (λ n. data_of n ≡ characters_of built.now.packed Compatibility) }
+    ensures refused { IsOkUnless result NormalizeError.Memory }
+{
+    match DecomposingNormalizer::try_new_nfkd_unstable(built) {
+        Ok(normalizer) => Ok(normalizer),
+        Err(error) => Err(want_of_memory(error)),
+    }
+}
+
+/// The normalizer to NFC over data that were built, which it doesn't refuse.
+fn nfc_normalizer(built: &Built) -> Result<ComposingNormalizer, NormalizeError>
+    requires { IsFirstUnfit built.now.packed None }
+    ensures held { IfOk result (λ n. composing_data_of n ≡ characters_of built.now.packed Canonical) }
+    ensures pairs { IfOk result (λ n. pairs_of n ≡ built.now.packed.compositions) }
+    ensures refused { IsOkUnless result NormalizeError.Memory }
+{
+    match ComposingNormalizer::try_new_nfc_unstable(built) {
+        Ok(normalizer) => Ok(normalizer),
+        Err(error) => Err(want_of_memory(error)),
+    }
+}
+
+fn nfkc_normalizer(built: &Built) -> Result<ComposingNormalizer, NormalizeError>
+    requires { IsFirstUnfit built.now.packed None }
+    ensures held { IfOk result (λ n. composing_data_of n ≡ characters_of built.now.packed Compatibility) }
+    ensures pairs { IfOk result (λ n. pairs_of n ≡ built.now.packed.compositions) }
+    ensures refused { IsOkUnless result NormalizeError.Memory }
+{
+    match ComposingNormalizer::try_new_nfkc_unstable(built) {
+        Ok(normalizer) => Ok(normalizer),
+        Err(error) => Err(want_of_memory(error)),
+    }
+}
+
+/// The error of a constructor that refuses nothing but memory.
+fn want_of_memory(error: DataError) -> NormalizeError
+    requires { error ≡ DataError.Memory }
+    ensures { result ≡ NormalizeError.Memory }
+{
+    match error {
+        DataError::Memory => NormalizeError::Memory,
+        DataError::Provider(_) | DataError::FutureExtension(_) | DataError::Invalid { .. } => {
+            unreachable!()
+        }
+    }
+}
+
+#[cfg(test)]
+mod tests;
