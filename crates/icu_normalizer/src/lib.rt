@@ -1,21 +1,12 @@
 //! Unicode normalization over data handed in (Unicode Standard Annex #15).
 #![tactic(auto)]
 
-mod composing_normalizer;
-mod composition;
-mod decomposition;
-mod error;
-mod marks;
-mod normalizer;
-mod reading;
-mod waiting;
-
-pub use composing_normalizer::{ComposingNormalizer, ComposingNormalizerBorrowed};
-pub use composition::Composition;
-pub use decomposition::Decomposition;
-pub use error::NormalizeError;
-pub use normalizer::{DecomposingNormalizer, DecomposingNormalizerBorrowed};
 pub use normalizer_builder::{Built, Records};
+pub use normalizer_calls::{
+    ComposingNormalizer, ComposingNormalizerBorrowed, DecomposingNormalizer,
+    DecomposingNormalizerBorrowed,
+};
+pub use normalizer_iterators::{Composition, Decomposition, NormalizeError};
 pub use normalizer_records::{BuildError, Record, Uts46Record, Uts46Status};
 pub use normalizer_tables::{
     CanonicalCompositions, CodePointTable, DataError, DataMarker, DataMarkerInfo, DataProvider,

@@ -4,8 +4,8 @@ use Rattle.normalizer_tables.specs.declared.provider.DataError.{DataError}
 use Rattle.normalizer_tables.specs.declared.provider.DataError.TheVariants as error
 use Rattle.normalizer_tables.specs.declared.provider.DataMarkerInfo.{DataMarkerInfo}
 use Rattle.normalizer_tables.specs.Conditions.{IsFirstFailing}
-use Rattle.icu_normalizer.specs.Acceptance.{data_from, RefusesToDecompose}
-use Rattle.icu_normalizer.specs.ComposingAcceptance.{RefusesToCompose}
+use Rattle.normalizer_calls.specs.Acceptance.{data_from, RefusesToDecompose}
+use Rattle.normalizer_calls.specs.ComposingAcceptance.{RefusesToCompose}
 use Rattle.normalizer_packing.specs.declared.Packed.{Packed}
 use Rattle.normalizer_builder.specs.Fitness.{IsFirstUnfit}
 use Rattle.normalizer_packing.specs.declared.entry.Kind.{Kind}

@@ -1,9 +1,9 @@
 -- What came of a decomposition, and what is still to come.
 use Rattle.std.proofs.Common.{◌≡◌, ℕ, List, [], ◌∷◌, ◌++◌, refl, sym, ap, ◌∙◌, append_assoc, append-nil, Some, None, Ok, Err, Option}
 use Rattle.std.specs.Iterator.{Count}
-use Rattle.icu_normalizer.specs.declared.decomposition.Decomposition.{Decomposition}
-use Rattle.icu_normalizer.specs.declared.error.NormalizeError.{NormalizeError}
-use Rattle.icu_normalizer.specs.Decomposition.{WillGive, StaysShort, DecompositionSteps}
+use Rattle.normalizer_iterators.specs.declared.decomposition.Decomposition.{Decomposition}
+use Rattle.normalizer_iterators.specs.declared.error.NormalizeError.{NormalizeError}
+use Rattle.normalizer_iterators.specs.Decomposition.{WillGive, StaysShort, DecompositionSteps}
 use Rattle.normalizer_uses.specs.Last.{last_of}
 
 pub record CameSoFar {I : Type 0} (gives : I → Option ℕ → I → Type 0) (start : Decomposition I) (items : List ℕ) (now : Decomposition I) : Type 0 where

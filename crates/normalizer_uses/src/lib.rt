@@ -12,15 +12,15 @@ ghost use Rattle.normalizer_tables.specs.PairConditions.{composing_reading};
 ghost use Rattle.normalizer_tables.specs.Pairs.{Pair};
 ghost use Rattle.normalizer_tables.specs.Refusals.{RefusesFirstFailing};
 ghost use Rattle.normalizer_text.specs.Utf8.{decoded_utf8};
-ghost use Rattle.icu_normalizer.specs.Acceptance.{nfkd_data, AcceptsHeld};
-ghost use Rattle.icu_normalizer.specs.ComposingAcceptance.{with_pairs, SuitsComposing};
-ghost use Rattle.icu_normalizer.specs.ComposingNormalizers.{
+ghost use Rattle.normalizer_calls.specs.Acceptance.{nfkd_data, AcceptsHeld};
+ghost use Rattle.normalizer_calls.specs.ComposingAcceptance.{with_pairs, SuitsComposing};
+ghost use Rattle.normalizer_calls.specs.ComposingNormalizers.{
   composing_data_of_borrowed,
   pairs_of_borrowed,
 };
-ghost use Rattle.icu_normalizer.specs.Normalizers.{data_of_borrowed};
-ghost use Rattle.icu_normalizer.specs.Decomposition.{WillGive, StaysShort, CanDecompose};
-ghost use Rattle.icu_normalizer.specs.Spelling.{SpellsUnlessErr};
+ghost use Rattle.normalizer_calls.specs.Normalizers.{data_of_borrowed};
+ghost use Rattle.normalizer_iterators.specs.Decomposition.{WillGive, StaysShort, CanDecompose};
+ghost use Rattle.normalizer_iterators.specs.Spelling.{SpellsUnlessErr};
 ghost use Rattle.normalizer_uses.specs.Last.{last_of};
 
 mod by_records;

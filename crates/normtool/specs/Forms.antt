@@ -8,8 +8,8 @@ use Rattle.normalizer_tables.specs.declared.provider.DataMarkerInfo.{DataMarkerI
 use Rattle.normalizer_tables.specs.declared.provider.DataMarkerInfo.TheVariants as marker
 use Rattle.normalizer_tables.specs.PairConditions.{composing_reading}
 use Rattle.normalizer_tables.specs.Pairs.{Pair}
-use Rattle.icu_normalizer.specs.Acceptance.{AcceptsHeld, RefusesHeld, SuitsDecomposing, RefusesToDecompose}
-use Rattle.icu_normalizer.specs.ComposingAcceptance.{SuitsComposing, RefusesToCompose, with_pairs}
+use Rattle.normalizer_calls.specs.Acceptance.{AcceptsHeld, RefusesHeld, SuitsDecomposing, RefusesToDecompose}
+use Rattle.normalizer_calls.specs.ComposingAcceptance.{SuitsComposing, RefusesToCompose, with_pairs}
 use Rattle.normtool.specs.declared.words.Command.{Command}
 use Rattle.normtool.specs.declared.words.Command.TheVariants.{Nfd, Nfc, Nfkd, Nfkc}
 

@@ -3,8 +3,8 @@ use Rattle.std.specs.Prelude.{ℕ, List}
 use Rattle.normal_forms.specs.Forms.{nfd, nfc}
 use Rattle.normalizer_tables.specs.Characters.{own_reading}
 use Rattle.normalizer_tables.specs.PairConditions.{composing_reading}
-use Rattle.icu_normalizer.specs.Normalizers.{data_of}
-use Rattle.icu_normalizer.specs.ComposingNormalizers.{composing_data_of, pairs_of}
+use Rattle.normalizer_calls.specs.Normalizers.{data_of}
+use Rattle.normalizer_calls.specs.ComposingNormalizers.{composing_data_of, pairs_of}
 use Rattle.normtool.specs.declared.normalizer.Normalizer.{Normalizer}
 use Rattle.normtool.specs.declared.normalizer.Normalizer.TheVariants.{Decomposing, Composing}
 

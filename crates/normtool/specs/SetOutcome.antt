@@ -2,7 +2,7 @@
 use Rattle.std.specs.Prelude.{ℕ, List, Option, Some, Result, Ok, Err, ⊤, ◌⊎◌}
 use Rattle.normalizer_builder.specs.Building.{Builds}
 use Rattle.normalizer_packing.specs.declared.Packed.{Packed}
-use Rattle.icu_normalizer.specs.Acceptance.{nfd_data, nfkd_data}
+use Rattle.normalizer_calls.specs.Acceptance.{nfd_data, nfkd_data}
 use Rattle.normtool.specs.declared.ending.Answer.{Answer}
 use Rattle.normtool.specs.declared.ending.ToolFault.{ToolFault}
 use Rattle.normtool.specs.declared.ending.ToolFault.TheVariants.{Read, Write, Memory, Data}

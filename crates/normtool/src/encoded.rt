@@ -1,7 +1,7 @@
 //! The UTF-8 of characters that an iterator gives.
 ghost use Rattle.std.specs.Prelude.{◌≡◌, List, ℕ, IfOk, IfErr, string_bytes, encode_utf8_all};
 ghost use Rattle.std.specs.Iterator.{IsFinite};
-ghost use Rattle.icu_normalizer.specs.Spelling.{SpellsUnlessErr};
+ghost use Rattle.normalizer_iterators.specs.Spelling.{SpellsUnlessErr};
 
 use crate::ending::ToolFault;
 use std::alloc::Global;

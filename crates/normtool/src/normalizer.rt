@@ -3,9 +3,9 @@ ghost use Rattle.std.specs.Prelude.{◌≡◌, ◌⊎◌, IfOk, IfErr, IsErrOf, 
 ghost use Rattle.normal_forms.specs.Forms.{nfd, nfc};
 ghost use Rattle.normalizer_tables.specs.Characters.{own_reading};
 ghost use Rattle.normalizer_tables.specs.PairConditions.{composing_reading};
-ghost use Rattle.icu_normalizer.specs.Acceptance.{nfd_data, nfkd_data};
-ghost use Rattle.icu_normalizer.specs.Normalizers.{data_of};
-ghost use Rattle.icu_normalizer.specs.ComposingNormalizers.{composing_data_of, pairs_of};
+ghost use Rattle.normalizer_calls.specs.Acceptance.{nfd_data, nfkd_data};
+ghost use Rattle.normalizer_calls.specs.Normalizers.{data_of};
+ghost use Rattle.normalizer_calls.specs.ComposingNormalizers.{composing_data_of, pairs_of};
 ghost use Rattle.normtool.specs.Forms.{MakesForm, LacksData, output_of};
 ghost use Rattle.normtool.specs.Normalizers.{form_by};
 

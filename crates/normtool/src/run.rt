@@ -1,7 +1,7 @@
 //! A command, from the bytes of a source to the bytes of a target.
 ghost use Rattle.std.specs.Prelude.{◌≡◌, ◌≢◌, ◌⊎◌, IfOk, IfErr, IfSome, IsErrOf, OnOk, string_bytes};
 ghost use Rattle.std.specs.Io.KnownBytes.{Appends};
-ghost use Rattle.icu_normalizer.specs.Acceptance.{nfd_data, nfkd_data};
+ghost use Rattle.normalizer_calls.specs.Acceptance.{nfd_data, nfkd_data};
 ghost use Rattle.normtool.specs.Forms.{output_of};
 ghost use Rattle.normtool.specs.Normalizers.{form_by};
 ghost use Rattle.normtool.specs.Outcome.{IsOutcome};

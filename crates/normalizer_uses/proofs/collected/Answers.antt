@@ -1,5 +1,5 @@
 use Rattle.std.proofs.Common.{rules, ◌++◌, Some, Ok, append_assoc, append-nil, sym, ap, subst, ◌∙◌}
-use Rattle.icu_normalizer.proofs.SpellingLemmas.{SpellsUnlessErr-next, SpellsUnlessErr-end}
+use Rattle.normalizer_iterators.proofs.SpellingLemmas.{SpellsUnlessErr-next, SpellsUnlessErr-end}
 use Rattle.normalizer_uses.proofs.collected.Goals as goal
 
 pub loop-item-preserved : goal.loop-item-preserved

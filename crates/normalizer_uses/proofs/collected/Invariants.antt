@@ -1,5 +1,5 @@
 use Rattle.std.proofs.Common.{◌≡◌, ◌++◌, ℕ, List}
-use Rattle.icu_normalizer.specs.Spelling.{SpellsUnlessErr}
+use Rattle.normalizer_iterators.specs.Spelling.{SpellsUnlessErr}
 use Rattle.normalizer_uses.proofs.collected.Given as goal
 
 abbrev pub invariant-loop-item : goal.invariant-loop-item

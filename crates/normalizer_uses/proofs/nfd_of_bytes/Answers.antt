@@ -1,4 +1,4 @@
-use Rattle.icu_normalizer.proofs.SpellingLemmas.{SpellsUnlessErr-decomposition}
+use Rattle.normalizer_iterators.proofs.SpellingLemmas.{SpellsUnlessErr-decomposition}
 use Rattle.normalizer_uses.proofs.nfd_of_bytes.Goals as goal
 
 pub returns-clause-form : goal.returns-clause-form

@@ -1,5 +1,5 @@
 use Rattle.std.proofs.lemmas.Iterator.{YieldsList-from_chars}
-use Rattle.icu_normalizer.proofs.SpellingLemmas.{SpellsUnlessErr-decomposition}
+use Rattle.normalizer_iterators.proofs.SpellingLemmas.{SpellsUnlessErr-decomposition}
 use Rattle.normalizer_uses.proofs.nfd_of_text.Goals as goal
 
 pub returns-clause-form : goal.returns-clause-form

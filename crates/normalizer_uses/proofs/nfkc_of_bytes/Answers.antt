@@ -1,4 +1,4 @@
-use Rattle.icu_normalizer.specs.ComposingNormalizers.{composing_data_of, pairs_of}
+use Rattle.normalizer_calls.specs.ComposingNormalizers.{composing_data_of, pairs_of}
 use Rattle.normalizer_uses.proofs.nfkc_of_bytes.Goals as goal
 
 pub returns-in-Ok : goal.returns-in-Ok

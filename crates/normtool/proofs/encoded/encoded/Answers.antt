@@ -1,5 +1,5 @@
 use Rattle.std.proofs.Common.{rules, ◌++◌, Some, Ok, string_bytes, encode_utf8_all, append_assoc, append-nil, sym, ap, subst, ◌∙◌}
-use Rattle.icu_normalizer.proofs.SpellingLemmas.{SpellsUnlessErr-next, SpellsUnlessErr-end}
+use Rattle.normalizer_iterators.proofs.SpellingLemmas.{SpellsUnlessErr-next, SpellsUnlessErr-end}
 use Rattle.normtool.proofs.encoded.encoded.Goals as goal
 
 pub loop-character-preserved : goal.loop-character-preserved

@@ -1,5 +1,5 @@
 use Rattle.std.proofs.Common.{◌≡◌, ◌++◌, ℕ, List, string_bytes, encode_utf8_all}
-use Rattle.icu_normalizer.specs.Spelling.{SpellsUnlessErr}
+use Rattle.normalizer_iterators.specs.Spelling.{SpellsUnlessErr}
 use Rattle.normtool.proofs.encoded.encoded.Given as goal
 
 abbrev pub invariant-loop-character : goal.invariant-loop-character

@@ -1,5 +1,5 @@
 use Rattle.normalizer_text.specs.Utf8.{decoded_utf8}
-use Rattle.icu_normalizer.proofs.SpellingLemmas.{SpellsUnlessErr-composition}
+use Rattle.normalizer_iterators.proofs.SpellingLemmas.{SpellsUnlessErr-composition}
 use Rattle.normtool.proofs.normalizer.composed.Goals as goal
 
 pub returns-clause-text : goal.returns-clause-text

@@ -2,7 +2,7 @@ use Rattle.std.proofs.Common.{◌≡◌, IfOk, string_bytes, encode_utf8_all, su
 use Rattle.normal_forms.specs.Forms.{nfd}
 use Rattle.normalizer_tables.specs.Characters.{own_reading}
 use Rattle.normalizer_text.specs.Utf8.{decoded_utf8}
-use Rattle.icu_normalizer.proofs.SpellingLemmas.{SpellsUnlessErr-decomposition}
+use Rattle.normalizer_iterators.proofs.SpellingLemmas.{SpellsUnlessErr-decomposition}
 use Rattle.normtool.proofs.normalizer.decomposed.Goals as goal
 
 pub returns-clause-text : goal.returns-clause-text

@@ -1,5 +1,0 @@
-use Rattle.icu_normalizer.proofs.SoundData.{SuitsLazyReading-nfd}
-use Rattle.icu_normalizer.proofs.normalizer.DecomposingNormalizerBorrowed.new_with_data.Goals as goal
-
-pub invariant_of-result : goal.invariant_of-result
-invariant_of-result c = record { suits = SuitsLazyReading-nfd c.args.decompositions.now c.args.tables.now c.requires }

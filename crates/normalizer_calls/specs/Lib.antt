@@ -1,0 +1,4 @@
+pub mod Acceptance
+pub mod ComposingAcceptance
+pub mod ComposingNormalizers
+pub mod Normalizers

@@ -1,0 +1,213 @@
+//! Composing normalizers over data that a provider holds.
+ghost use Rattle.std.specs.Prelude.{◌≡◌, ◌⊎◌, ℕ, List, IfOk, IfErr, IsOk, IsOkUnless};
+ghost use Rattle.std.specs.Iterator.{IsFinite};
+ghost use Rattle.normal_forms.specs.Forms.{nfc};
+ghost use Rattle.normal_forms.specs.ShortRuns.{HasShortRuns};
+ghost use Rattle.normalizer_tables.specs.Characters.{has_class_form, own_reading};
+ghost use Rattle.normalizer_tables.specs.PairConditions.{composing_reading};
+ghost use Rattle.normalizer_text.specs.Steps.{Spells};
+ghost use Rattle.normalizer_calls.specs.Acceptance.{
+  bounds_of,
+  data_from,
+  borrowed_data,
+  nfd_data,
+  nfkd_data,
+  AcceptsHeld,
+  NamesMissing,
+  RefusesHeld,
+};
+ghost use Rattle.normalizer_calls.specs.ComposingAcceptance.{
+  refusal_of_pairs,
+  with_pairs,
+  RefusesToCompose,
+  SuitsComposing,
+};
+ghost use Rattle.normalizer_iterators.specs.LazyComposing.{SuitsLazyComposing};
+ghost use Rattle.normalizer_iterators.specs.LazyReading.{SuitsLazyReading};
+
+use normalizer_iterators::{Composition, Decomposition, NormalizeError};
+use normalizer_tables::characters::{CharacterData, IgnoredCharacters};
+use normalizer_tables::check::first_failing;
+use normalizer_tables::condition::{Bounds, DECOMPOSING};
+use normalizer_tables::nfd_check::refusal_of;
+use normalizer_tables::pair_check::first_failing_of_pairs;
+use normalizer_tables::pair_condition::PairCondition;
+use normalizer_tables::{
+    CanonicalCompositions, DataError, DataMarkerInfo, DataProvider, DecompositionData,
+    DecompositionTables, NormalizerNfcV1, NormalizerNfdDataV1, NormalizerNfdTablesV1,
+    NormalizerNfkdDataV1, NormalizerNfkdTablesV1,
+};
+
+/// How a condition on pairs that fails is answered, where the decomposition data have this marker.
+fn refusal_of_pairs(marker: DataMarkerInfo, condition: PairCondition) -> DataError
+    ensures { result ≡ refusal_of_pairs marker condition }
+{
+    let named = match condition {
+        PairCondition::Pairs | PairCondition::Results => DataMarkerInfo::NormalizerNfcV1,
+        PairCondition::RoundTrip | PairCondition::SafeBeginning => marker,
+    };
+    DataError::Invalid {
+        marker: named,
+        condition: condition.number(),
+    }
+}
+
+/// Refuses data and pairs that break a condition which is asked where text is composed, and names the first.
+fn check_composing(
+    marker: DataMarkerInfo,
+    characters: &CharacterData<'_>,
+    pairs: &CanonicalCompositions,
+) -> Result<(), DataError>
+    ensures ok { IfOk result (λ _. SuitsComposing (characters.now, pairs.now)) }
+    ensures err { IfErr result (RefusesToCompose marker (characters.now, pairs.now)) }
+{
+    let bounds = Bounds::of_cap(characters.cap());
+    if let Some(condition) = first_failing(characters, bounds, &DECOMPOSING) {
+        return Err(refusal_of(marker, condition));
+    }
+    match first_failing_of_pairs(characters, bounds, pairs) {
+        Some(condition) => Err(refusal_of_pairs(marker, condition)),
+        None => Ok(()),
+    }
+}
+
+/// A normalizer to a composed form.
+#[derive(Drop)]
+pub struct ComposingNormalizer {
+    decompositions: DecompositionData,
+    tables: DecompositionTables,
+    supplementary: Option<DecompositionTables>,
+    pairs: CanonicalCompositions,
+    ghost suits: { SuitsLazyReading (has_class_form (data_from decompositions tables supplementary)) (own_reading (data_from decompositions tables supplementary)) },
+    ghost composing: { SuitsLazyComposing (data_from decompositions tables supplementary) (bounds_of decompositions) pairs },
+}
+
+impl ComposingNormalizer {
+    ghost use Rattle.normalizer_calls.specs.ComposingNormalizers.{composing_data_of, composing_data_of_borrowed, pairs_of, pairs_of_borrowed};
+
+    /// A normalizer to NFC over what the provider holds. The data are loaded first, then their tables, then the pairs; the
+    /// first load that is refused is the answer, and else the first written condition that they break.
+    pub fn try_new_nfc_unstable<P>(provider: &P) -> Result<Self, DataError>
+    where
+        P: DataProvider<NormalizerNfdDataV1>
+            + DataProvider<NormalizerNfdTablesV1>
+            + DataProvider<NormalizerNfcV1>,
+        ensures ok { IfOk result (λ n. AcceptsHeld SuitsComposing (with_pairs (nfd_data (⟦<P as DataProvider<NormalizerNfdDataV1>>⟧.held provider.now) (⟦<P as DataProvider<NormalizerNfdTablesV1>>⟧.held provider.now)) (⟦<P as DataProvider<NormalizerNfcV1>>⟧.held provider.now)) (composing_data_of n, pairs_of n)) }
+        ensures err { IfErr result (λ e. (e ≡ DataError.Memory) ⊎ RefusesHeld (RefusesToCompose DataMarkerInfo.NormalizerNfdDataV1) (with_pairs (nfd_data (⟦<P as DataProvider<NormalizerNfdDataV1>>⟧.held provider.now) (⟦<P as DataProvider<NormalizerNfdTablesV1>>⟧.held provider.now)) (⟦<P as DataProvider<NormalizerNfcV1>>⟧.held provider.now)) e) }
+        ensures missing { NamesMissing (with_pairs (nfd_data (⟦<P as DataProvider<NormalizerNfdDataV1>>⟧.held provider.now) (⟦<P as DataProvider<NormalizerNfdTablesV1>>⟧.held provider.now)) (⟦<P as DataProvider<NormalizerNfcV1>>⟧.held provider.now)) result }
+    {
+        let decompositions = <P as DataProvider<NormalizerNfdDataV1>>::load(provider)?;
+        let tables = <P as DataProvider<NormalizerNfdTablesV1>>::load(provider)?;
+        let pairs = <P as DataProvider<NormalizerNfcV1>>::load(provider)?;
+        let marker = DataMarkerInfo::NormalizerNfdDataV1;
+        Self::over(marker, decompositions, tables, None, pairs)
+    }
+
+    /// A normalizer to NFKC over what the provider holds. The data are loaded first, then the tables of canonical data, the
+    /// supplementary ones and the pairs; the first load that is refused is the answer, and else the first written condition
+    /// that they break.
+    pub fn try_new_nfkc_unstable<P>(provider: &P) -> Result<Self, DataError>
+    where
+        P: DataProvider<NormalizerNfkdDataV1>
+            + DataProvider<NormalizerNfdTablesV1>
+            + DataProvider<NormalizerNfkdTablesV1>
+            + DataProvider<NormalizerNfcV1>,
+        ensures ok { IfOk result (λ n. AcceptsHeld SuitsComposing (with_pairs (nfkd_data (⟦<P as DataProvider<NormalizerNfkdDataV1>>⟧.held provider.now) (⟦<P as DataProvider<NormalizerNfdTablesV1>>⟧.held provider.now) (⟦<P as DataProvider<NormalizerNfkdTablesV1>>⟧.held provider.now)) (⟦<P as DataProvider<NormalizerNfcV1>>⟧.held provider.now)) (composing_data_of n, pairs_of n)) }
+        ensures err { IfErr result (λ e. (e ≡ DataError.Memory) ⊎ RefusesHeld (RefusesToCompose DataMarkerInfo.NormalizerNfkdDataV1) (with_pairs (nfkd_data (⟦<P as DataProvider<NormalizerNfkdDataV1>>⟧.held provider.now) (⟦<P as DataProvider<NormalizerNfdTablesV1>>⟧.held provider.now) (⟦<P as DataProvider<NormalizerNfkdTablesV1>>⟧.held provider.now)) (⟦<P as DataProvider<NormalizerNfcV1>>⟧.held provider.now)) e) }
+        ensures missing { NamesMissing (with_pairs (nfkd_data (⟦<P as DataProvider<NormalizerNfkdDataV1>>⟧.held provider.now) (⟦<P as DataProvider<NormalizerNfdTablesV1>>⟧.held provider.now) (⟦<P as DataProvider<NormalizerNfkdTablesV1>>⟧.held provider.now)) (⟦<P as DataProvider<NormalizerNfcV1>>⟧.held provider.now)) result }
+    {
+        let decompositions = <P as DataProvider<NormalizerNfkdDataV1>>::load(provider)?;
+        let tables = <P as DataProvider<NormalizerNfdTablesV1>>::load(provider)?;
+        let supplementary = <P as DataProvider<NormalizerNfkdTablesV1>>::load(provider)?;
+        let pairs = <P as DataProvider<NormalizerNfcV1>>::load(provider)?;
+        let marker = DataMarkerInfo::NormalizerNfkdDataV1;
+        Self::over(marker, decompositions, tables, Some(supplementary), pairs)
+    }
+
+    /// A normalizer over data and pairs that were loaded, where they meet the written conditions.
+    fn over(
+        marker: DataMarkerInfo,
+        decompositions: DecompositionData,
+        tables: DecompositionTables,
+        supplementary: Option<DecompositionTables>,
+        pairs: CanonicalCompositions,
+    ) -> Result<Self, DataError>
+        ensures ok { IfOk result (λ n. (composing_data_of n ≡ data_from decompositions tables supplementary) × (pairs_of n ≡ pairs) × SuitsComposing (data_from decompositions tables supplementary, pairs)) }
+        ensures err { IfErr result (RefusesToCompose marker (data_from decompositions tables supplementary, pairs)) }
+    {
+        let characters = CharacterData::new(
+            &decompositions,
+            &tables,
+            supplementary.as_ref(),
+            false,
+        );
+        match check_composing(marker, &characters, &pairs) {
+            Ok(()) => Ok(ComposingNormalizer {
+                decompositions,
+                tables,
+                supplementary,
+                pairs,
+            }),
+            Err(error) => Err(error),
+        }
+    }
+
+    /// The normalizer that borrows this one's data.
+    pub fn as_borrowed(&self) -> ComposingNormalizerBorrowed<'_>
+        ensures held { composing_data_of_borrowed result ≡ composing_data_of self.now }
+        ensures pairs { pairs_of_borrowed result ≡ pairs_of self.now }
+    {
+        ComposingNormalizerBorrowed {
+            decompositions: &self.decompositions,
+            tables: &self.tables,
+            supplementary: self.supplementary.as_ref(),
+            pairs: &self.pairs,
+        }
+    }
+}
+
+/// A normalizer to a composed form, over borrowed data.
+#[derive(Drop)]
+pub struct ComposingNormalizerBorrowed<'a> {
+    decompositions: &'a DecompositionData,
+    tables: &'a DecompositionTables,
+    supplementary: Option<&'a DecompositionTables>,
+    pairs: &'a CanonicalCompositions,
+    ghost suits: { SuitsLazyReading (has_class_form (borrowed_data decompositions tables supplementary)) (own_reading (borrowed_data decompositions tables supplementary)) },
+    ghost composing: { SuitsLazyComposing (borrowed_data decompositions tables supplementary) (bounds_of decompositions.now) pairs.now },
+}
+
+impl<'a> ComposingNormalizerBorrowed<'a> {
+    ghost use Rattle.normalizer_calls.specs.ComposingNormalizers.{composing_data_of_borrowed, pairs_of_borrowed};
+    ghost use Rattle.normalizer_iterators.specs.Composing.{WillGive, StaysShort, CanCompose};
+
+    /// The characters of the composed form of what `iter` gives, one by one.
+    pub fn normalize_iter<I: Iterator<Item = char> + Drop>(
+        &self,
+        iter: I,
+    ) -> Result<Composition<'a, I>, NormalizeError>
+        requires can { I.can_next iter }
+        requires ends { IsFinite (I.remaining iter) }
+        ensures text { IfOk result (λ it. (x : List ℕ) → Spells I.next_gives iter x → WillGive I.next_gives it (nfc (composing_reading (composing_data_of_borrowed self.now) (pairs_of_borrowed self.now)) x)) }
+        ensures short { IfOk result (λ it. (x : List ℕ) → Spells I.next_gives iter x → HasShortRuns (has_class_form (composing_data_of_borrowed self.now)) (own_reading (composing_data_of_borrowed self.now)) x → StaysShort I.next_gives it) }
+        ensures succeeds { (x : List ℕ) → Spells I.next_gives iter x → HasShortRuns (has_class_form (composing_data_of_borrowed self.now)) (own_reading (composing_data_of_borrowed self.now)) x → IsOk result }
+        ensures ready { IfOk result (CanCompose I.can_next I.remaining) }
+        ensures held { IfOk result (λ it. (it.characters ≡ composing_data_of_borrowed self.now) × (it.pairs.now ≡ pairs_of_borrowed self.now)) }
+        ensures refused { IsOkUnless result NormalizeError.Memory }
+    {
+        let decomposed = Decomposition::over(self.characters(), IgnoredCharacters::Dropped, iter)?;
+        Ok(Composition::over(decomposed, self.characters(), self.pairs, self.bounds()))
+    }
+
+    fn characters(&self) -> CharacterData<'a>
+        ensures { result ≡ composing_data_of_borrowed self.now }
+    {
+        CharacterData::new(self.decompositions, self.tables, self.supplementary, false)
+    }
+
+    fn bounds(&self) -> Bounds
+        ensures { result ≡ bounds_of (composing_data_of_borrowed self.now).decompositions }
+    {
+        Bounds::of_cap(self.characters().cap())
+    }
+}

@@ -1,0 +1,9 @@
+//! Normalizers over data that a provider holds, and over canonical data that a caller answers for.
+#![tactic(auto)]
+
+mod composing_normalizer;
+mod normalizer;
+mod unchecked;
+
+pub use composing_normalizer::{ComposingNormalizer, ComposingNormalizerBorrowed};
+pub use normalizer::{DecomposingNormalizer, DecomposingNormalizerBorrowed};

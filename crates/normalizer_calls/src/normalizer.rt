@@ -1,0 +1,150 @@
+//! Normalizers over data that a provider holds.
+ghost use Rattle.std.specs.Prelude.{◌≡◌, ◌⊎◌, ℕ, List, IfOk, IfErr, IsOk, IsOkUnless};
+ghost use Rattle.std.specs.Iterator.{IsFinite};
+ghost use Rattle.normal_forms.specs.Forms.{nfd};
+ghost use Rattle.normal_forms.specs.ShortRuns.{HasShortRuns};
+ghost use Rattle.normalizer_tables.specs.Characters.{has_class_form, own_reading};
+ghost use Rattle.normalizer_text.specs.Steps.{Spells};
+ghost use Rattle.normalizer_calls.specs.Acceptance.{
+  data_from,
+  borrowed_data,
+  nfd_data,
+  nfkd_data,
+  AcceptsHeld,
+  NamesMissing,
+  RefusesHeld,
+  RefusesToDecompose,
+  SuitsDecomposing,
+};
+ghost use Rattle.normalizer_iterators.specs.LazyReading.{SuitsLazyReading};
+
+use normalizer_iterators::{Decomposition, NormalizeError};
+use normalizer_tables::characters::{CharacterData, IgnoredCharacters};
+use normalizer_tables::check::first_failing;
+use normalizer_tables::condition::{Bounds, DECOMPOSING};
+use normalizer_tables::nfd_check::refusal_of;
+use normalizer_tables::{
+    DataError, DataMarkerInfo, DataProvider, DecompositionData, DecompositionTables,
+    NormalizerNfdDataV1, NormalizerNfdTablesV1, NormalizerNfkdDataV1, NormalizerNfkdTablesV1,
+};
+
+/// A normalizer to a decomposed form.
+#[derive(Drop)]
+pub struct DecomposingNormalizer {
+    decompositions: DecompositionData,
+    tables: DecompositionTables,
+    supplementary: Option<DecompositionTables>,
+    ghost suits: { SuitsLazyReading (has_class_form (data_from decompositions tables supplementary)) (own_reading (data_from decompositions tables supplementary)) },
+}
+
+impl DecomposingNormalizer {
+    ghost use Rattle.normalizer_calls.specs.Normalizers.{data_of, data_of_borrowed};
+
+    /// A normalizer to NFD over what the provider holds. The data are loaded first and then their tables; the first load
+    /// that is refused is the answer, and else the first written condition that the data break.
+    pub fn try_new_nfd_unstable<P>(provider: &P) -> Result<Self, DataError>
+    where
+        P: DataProvider<NormalizerNfdDataV1> + DataProvider<NormalizerNfdTablesV1>,
+        ensures ok { IfOk result (λ n. AcceptsHeld SuitsDecomposing (nfd_data (⟦<P as DataProvider<NormalizerNfdDataV1>>⟧.held provider.now) (⟦<P as DataProvider<NormalizerNfdTablesV1>>⟧.held provider.now)) (data_of n)) }
+        ensures err { IfErr result (λ e. (e ≡ DataError.Memory) ⊎ RefusesHeld (RefusesToDecompose DataMarkerInfo.NormalizerNfdDataV1) (nfd_data (⟦<P as DataProvider<NormalizerNfdDataV1>>⟧.held provider.now) (⟦<P as DataProvider<NormalizerNfdTablesV1>>⟧.held provider.now)) e) }
+        ensures missing { NamesMissing (nfd_data (⟦<P as DataProvider<NormalizerNfdDataV1>>⟧.held provider.now) (⟦<P as DataProvider<NormalizerNfdTablesV1>>⟧.held provider.now)) result }
+    {
+        let decompositions = <P as DataProvider<NormalizerNfdDataV1>>::load(provider)?;
+        let tables = <P as DataProvider<NormalizerNfdTablesV1>>::load(provider)?;
+        let marker = DataMarkerInfo::NormalizerNfdDataV1;
+        Self::over(marker, decompositions, tables, None)
+    }
+
+    /// A normalizer to NFKD over what the provider holds. The data are loaded first, then the tables of canonical data and
+    /// then the supplementary ones; the first load that is refused is the answer, and else the first written condition that
+    /// the data break.
+    pub fn try_new_nfkd_unstable<P>(provider: &P) -> Result<Self, DataError>
+    where
+        P: DataProvider<NormalizerNfkdDataV1>
+            + DataProvider<NormalizerNfdTablesV1>
+            + DataProvider<NormalizerNfkdTablesV1>,
+        ensures ok { IfOk result (λ n. AcceptsHeld SuitsDecomposing (nfkd_data (⟦<P as DataProvider<NormalizerNfkdDataV1>>⟧.held provider.now) (⟦<P as DataProvider<NormalizerNfdTablesV1>>⟧.held provider.now) (⟦<P as DataProvider<NormalizerNfkdTablesV1>>⟧.held provider.now)) (data_of n)) }
+        ensures err { IfErr result (λ e. (e ≡ DataError.Memory) ⊎ RefusesHeld (RefusesToDecompose DataMarkerInfo.NormalizerNfkdDataV1) (nfkd_data (⟦<P as DataProvider<NormalizerNfkdDataV1>>⟧.held provider.now) (⟦<P as DataProvider<NormalizerNfdTablesV1>>⟧.held provider.now) (⟦<P as DataProvider<NormalizerNfkdTablesV1>>⟧.held provider.now)) e) }
+        ensures missing { NamesMissing (nfkd_data (⟦<P as DataProvider<NormalizerNfkdDataV1>>⟧.held provider.now) (⟦<P as DataProvider<NormalizerNfdTablesV1>>⟧.held provider.now) (⟦<P as DataProvider<NormalizerNfkdTablesV1>>⟧.held provider.now)) result }
+    {
+        let decompositions = <P as DataProvider<NormalizerNfkdDataV1>>::load(provider)?;
+        let tables = <P as DataProvider<NormalizerNfdTablesV1>>::load(provider)?;
+        let supplementary = <P as DataProvider<NormalizerNfkdTablesV1>>::load(provider)?;
+        let marker = DataMarkerInfo::NormalizerNfkdDataV1;
+        Self::over(marker, decompositions, tables, Some(supplementary))
+    }
+
+    /// A normalizer over data that were loaded, where they meet the written conditions.
+    fn over(
+        marker: DataMarkerInfo,
+        decompositions: DecompositionData,
+        tables: DecompositionTables,
+        supplementary: Option<DecompositionTables>,
+    ) -> Result<Self, DataError>
+        ensures ok { IfOk result (λ n. (data_of n ≡ data_from decompositions tables supplementary) × SuitsDecomposing (data_from decompositions tables supplementary)) }
+        ensures err { IfErr result (RefusesToDecompose marker (data_from decompositions tables supplementary)) }
+    {
+        let characters = CharacterData::new(
+            &decompositions,
+            &tables,
+            supplementary.as_ref(),
+            false,
+        );
+        let bounds = Bounds::of_cap(characters.cap());
+        match first_failing(&characters, bounds, &DECOMPOSING) {
+            Some(condition) => Err(refusal_of(marker, condition)),
+            None => Ok(DecomposingNormalizer {
+                decompositions,
+                tables,
+                supplementary,
+            }),
+        }
+    }
+
+    /// The normalizer that borrows this one's data.
+    pub fn as_borrowed(&self) -> DecomposingNormalizerBorrowed<'_>
+        ensures { data_of_borrowed result ≡ data_of self.now }
+    {
+        DecomposingNormalizerBorrowed {
+            decompositions: &self.decompositions,
+            tables: &self.tables,
+            supplementary: self.supplementary.as_ref(),
+        }
+    }
+}
+
+/// A normalizer to a decomposed form, over borrowed data.
+#[derive(Drop)]
+pub struct DecomposingNormalizerBorrowed<'a> {
+    pub(crate) decompositions: &'a DecompositionData,
+    pub(crate) tables: &'a DecompositionTables,
+    pub(crate) supplementary: Option<&'a DecompositionTables>,
+    ghost suits: { SuitsLazyReading (has_class_form (borrowed_data decompositions tables supplementary)) (own_reading (borrowed_data decompositions tables supplementary)) },
+}
+
+impl<'a> DecomposingNormalizerBorrowed<'a> {
+    ghost use Rattle.normalizer_calls.specs.Normalizers.{data_of_borrowed};
+    ghost use Rattle.normalizer_iterators.specs.Decomposition.{WillGive, StaysShort, CanDecompose};
+
+    /// The characters of the decomposed form of what `iter` gives, one by one.
+    pub fn normalize_iter<I: Iterator<Item = char> + Drop>(
+        &self,
+        iter: I,
+    ) -> Result<Decomposition<'a, I>, NormalizeError>
+        requires can { I.can_next iter }
+        requires ends { IsFinite (I.remaining iter) }
+        ensures text { IfOk result (λ it. (x : List ℕ) → Spells I.next_gives iter x → WillGive I.next_gives it (nfd (own_reading (data_of_borrowed self.now)) x)) }
+        ensures short { IfOk result (λ it. (x : List ℕ) → Spells I.next_gives iter x → HasShortRuns (has_class_form (data_of_borrowed self.now)) (own_reading (data_of_borrowed self.now)) x → StaysShort I.next_gives it) }
+        ensures succeeds { (x : List ℕ) → Spells I.next_gives iter x → HasShortRuns (has_class_form (data_of_borrowed self.now)) (own_reading (data_of_borrowed self.now)) x → IsOk result }
+        ensures ready { IfOk result (CanDecompose I.can_next I.remaining) }
+        ensures refused { IsOkUnless result NormalizeError.Memory }
+    {
+        let characters = CharacterData::new(
+            self.decompositions,
+            self.tables,
+            self.supplementary,
+            false,
+        );
+        Decomposition::over(characters, IgnoredCharacters::Dropped, iter)
+    }
+}

@@ -1,0 +1,26 @@
+//! Canonical data that are taken as they are: the caller answers for what `check_nfd_data` tests. No memory is taken for
+//! the data.
+ghost use Rattle.std.specs.Prelude.{◌≡◌};
+ghost use Rattle.normalizer_tables.specs.NfdData.{IsSoundNfdData, nfd_characters};
+
+use crate::normalizer::DecomposingNormalizerBorrowed;
+use normalizer_tables::{DecompositionData, DecompositionTables};
+
+impl<'a> DecomposingNormalizerBorrowed<'a> {
+    ghost use Rattle.normalizer_calls.specs.Normalizers.{data_of_borrowed};
+
+    /// A normalizer to NFD over these data.
+    pub fn new_with_data(
+        decompositions: &'a DecompositionData,
+        tables: &'a DecompositionTables,
+    ) -> Self
+        requires { IsSoundNfdData decompositions.now tables.now }
+        ensures { data_of_borrowed result ≡ nfd_characters decompositions.now tables.now }
+    {
+        DecomposingNormalizerBorrowed {
+            decompositions,
+            tables,
+            supplementary: None,
+        }
+    }
+}

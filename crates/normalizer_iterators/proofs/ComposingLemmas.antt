@@ -1,0 +1,52 @@
+-- Composition, from one step to the next.
+use Rattle.std.proofs.Common.{◌≡◌, ℕ, List, ◌++◌, Option, Some, None, IfSome, refl, sym, ap, ◌∙◌}
+use Rattle.normal_forms.specs.Decomposition.{expand}
+use Rattle.normal_forms.specs.Order.{order, insert, is_reorderable}
+use Rattle.normal_forms.specs.Composition.{is_blocked, joined, visit, compose_from, compose}
+use Rattle.normal_forms.specs.CompositionByStarters.{compose_by_starters}
+use Rattle.normal_forms.specs.Forms.{nfd, nfc}
+use Rattle.normal_forms.specs.Hypotheses.{HasStarterResults, HasFaithfulResults}
+use Rattle.normal_forms.proofs.VisitLemmas.{compose_is_by_starters}
+use Rattle.normalizer_tables.specs.declared.characters.IgnoredCharacters.{IgnoredCharacters}
+use Rattle.normalizer_tables.specs.Characters.{Characters, class_of}
+use Rattle.normalizer_tables.specs.Pairs.{Pair, pair_of}
+use Rattle.normalizer_iterators.specs.LazyReading.{decomposing_reading}
+use Rattle.normalizer_iterators.specs.MarkRuns.{leading_marks, HasShortMarkRuns}
+use Rattle.normalizer_iterators.specs.Composing.{composing_reading, pairing_reading}
+
+-- ---- the reading that composes
+
+pub class-pairing_reading : (s : Characters) (pairs : List Pair) (c : ℕ) → (pairing_reading s pairs).class c ≡ class_of s c
+class-pairing_reading s pairs c = refl
+
+pair-composing_reading : (s : Characters) (ignored : IgnoredCharacters) (pairs : List Pair) (a c : ℕ) → (composing_reading s ignored pairs).pair a c ≡ pair_of pairs a c
+pair-composing_reading s ignored pairs a c = refl
+
+pub pair-pairing_reading : (s : Characters) (pairs : List Pair) (a c : ℕ) → (pairing_reading s pairs).pair a c ≡ pair_of pairs a c
+pair-pairing_reading s pairs a c = refl
+
+pub nfd-composing_reading : (s : Characters) (ignored : IgnoredCharacters) (pairs : List Pair) (x : List ℕ) → nfd (composing_reading s ignored pairs) x ≡ nfd (decomposing_reading s ignored) x
+unfolding nfd order insert is_reorderable expand
+nfd-composing_reading s ignored pairs x = refl
+
+-- what is composed has been decomposed: it no longer matters what stands for ignored characters
+compose-composing_reading : (s : Characters) (ignored : IgnoredCharacters) (pairs : List Pair) (y : List ℕ) → compose (composing_reading s ignored pairs) y ≡ compose (pairing_reading s pairs) y
+unfolding compose compose_from visit joined is_blocked
+compose-composing_reading s ignored pairs y = refl
+
+pub nfc-composing_reading : (s : Characters) (ignored : IgnoredCharacters) (pairs : List Pair) → HasStarterResults (pairing_reading s pairs) → (x : List ℕ) → nfc (composing_reading s ignored pairs) x ≡ compose_by_starters (pairing_reading s pairs) (nfd (decomposing_reading s ignored) x)
+unfolding nfc
+nfc-composing_reading s ignored pairs starters x =
+    ap (compose (composing_reading s ignored pairs)) (nfd-composing_reading s ignored pairs x)
+    ∙ compose-composing_reading s ignored pairs (nfd (decomposing_reading s ignored) x)
+    ∙ compose_is_by_starters (pairing_reading s pairs) starters (nfd (decomposing_reading s ignored) x)
+
+pub HasShortMarkRuns-pairing_reading : (s : Characters) (ignored : IgnoredCharacters) (pairs : List Pair) (y : List ℕ) → HasShortMarkRuns (decomposing_reading s ignored) y → HasShortMarkRuns (pairing_reading s pairs) y
+unfolding HasShortMarkRuns leading_marks
+HasShortMarkRuns-pairing_reading s ignored pairs y h = h
+
+-- ---- what a pair composes to
+
+pub lists-composing_reading : (s : Characters) (ignored : IgnoredCharacters) (pairs : List Pair) → HasFaithfulResults (composing_reading s ignored pairs) → (first second : ℕ) (result : Option ℕ) → result ≡ pair_of pairs first second → IfSome result (λ c. (composing_reading s ignored pairs).list c ≡ order (composing_reading s ignored pairs) ((composing_reading s ignored pairs).list first ++ (composing_reading s ignored pairs).list second))
+lists-composing_reading s ignored pairs faithful first second None is = tt
+lists-composing_reading s ignored pairs faithful first second (Some c) is = faithful.results first second c (pair-composing_reading s ignored pairs first second ∙ sym is)

@@ -1,0 +1,107 @@
+-- The steps of a decomposition.
+use Rattle.std.proofs.Common.{◌≡◌, ℕ, ◌+◌, ◌*◌, List, [], length, refl, ap, ◌∙◌, subst, arith, sym, Option, Some, None, IfSome, IfOk, IfErr, Ok, Err, Result}
+use Rattle.std.specs.Iterator.{Count, size, at_most, IsFinite, MakesProgress}
+use Rattle.normal_forms.specs.Forms.{nfd}
+use Rattle.normalizer_tables.specs.Characters.{has_class_form}
+use Rattle.normalizer_iterators.specs.declared.decomposition.Decomposition.{Decomposition}
+use Rattle.normalizer_iterators.specs.declared.error.NormalizeError.{NormalizeError}
+use Rattle.normalizer_iterators.specs.declared.error.NormalizeError.TheVariants.{Memory}
+use Rattle.normalizer_iterators.specs.Decomposition.{reading_by, WillGive, StaysShort, IsEnded, CanDecompose, items_left, DecompositionSteps}
+use Rattle.normalizer_iterators.specs.Delegate.{HasRead, IsReadyBehind}
+use Rattle.normalizer_iterators.specs.LazyReading.{longest_list}
+use Rattle.normalizer_iterators.specs.ReadingOn.{ReadsChunk, ChunkDidNotFit}
+use Rattle.normalizer_iterators.specs.ToCome.{IsToCome, AreShortToCome, reads_left}
+use Rattle.normalizer_iterators.specs.WaitingList.{ordered}
+use Rattle.normalizer_iterators.proofs.ToComeLemmas.{nfd-nil, IsToCome-none, IsToCome-ended, AreShortToCome-ended, IsToCome-chunk, AreShortToCome-chunk, short_chunk_fits, chunk_size}
+
+-- what a value says of the variant that it is
+pub at_some : {X : Type 0} (o : Option X) (P : X → Type 0) → IfSome o P → (x : X) → o ≡ Some x → P x
+at_some None P h x e = cc
+at_some (Some y) P h x e = let same : y ≡ x = cc in subst P same h
+
+-- a character that is pending was given by a delegate that may be called
+pub ready_behind : {I : Type 0} (can : I → Type 0) (left : I → Count) (s : Decomposition I) (c : ℕ) → s.pending ≡ Some c → CanDecompose can left s → can s.delegate × IsFinite (left s.delegate)
+ready_behind can left s c pending h = subst (λ o. IsReadyBehind can left o s.delegate) pending h
+
+module _ {I : Type 0} (can : I → Type 0) (gives : I → Option ℕ → I → Type 0) (left : I → Count) where
+  ended : (s : Decomposition I) → s.pending ≡ None → ordered s.waiting ≡ [] → WillGive gives s []
+  ended s none empty = IsToCome-ended gives (nfd (reading_by s)) s.pending s.delegate (ordered s.waiting) (nfd-nil (reading_by s)) none empty
+
+  pub Steps-ended : (s t : Decomposition I) → t.characters ≡ s.characters → t.ignored ≡ s.ignored → s.pending ≡ None → t.pending ≡ None → ordered s.waiting ≡ [] → ordered t.waiting ≡ [] → DecompositionSteps can gives left s None t
+  Steps-ended s t characters ignored before after empty empty_after = record {
+    item = record {
+      first = λ out h. (IsToCome-none gives (nfd (reading_by s)) s.pending s.delegate (ordered s.waiting) out (nfd-nil (reading_by s)) before empty h, ended t after empty_after);
+      fault = tt;
+      room = λ h. (tt, short h);
+      ends = (after, empty_after);
+      stays = λ h. refl;
+    };
+    ready = λ h. rw after tt;
+    kept = (characters, ignored);
+  }
+    where
+      short : StaysShort gives s → StaysShort gives t
+      short h = rw (characters, ignored, after)
+          (AreShortToCome-ended gives (has_class_form s.characters) (reading_by s) None s.delegate t.delegate refl
+          (subst (λ p. AreShortToCome gives (has_class_form s.characters) (reading_by s) p s.delegate) before h))
+
+  module _ (s : Decomposition I) (c : ℕ) (pending : s.pending ≡ Some c) (empty : ordered s.waiting ≡ []) where
+    to_come : (out : List ℕ) → WillGive gives s out → IsToCome gives (nfd (reading_by s)) (Some c) s.delegate (ordered s.waiting) out
+    to_come out h = subst (λ p. IsToCome gives (nfd (reading_by s)) p s.delegate (ordered s.waiting) out) pending h
+
+    short_to_come : StaysShort gives s → AreShortToCome gives (has_class_form s.characters) (reading_by s) (Some c) s.delegate
+    short_to_come h = subst (λ p. AreShortToCome gives (has_class_form s.characters) (reading_by s) p s.delegate) pending h
+
+    pub Steps-chunk : (t : Decomposition I) (first : ℕ) → t.characters ≡ s.characters → t.ignored ≡ s.ignored → ReadsChunk can gives left (has_class_form s.characters) (reading_by s) c s.delegate first t.pending t.delegate t.waiting → DecompositionSteps can gives left s (Some (Ok first)) t
+    Steps-chunk t first characters ignored r = record {
+      item = record {
+        first = λ out h.
+            let next = IsToCome-chunk gives can left (has_class_form s.characters) (reading_by s) s.suits c s.delegate t.delegate first t.pending t.waiting (ordered s.waiting) out empty (s.anew c pending) r (to_come out h) in
+            (next.0, next.1, rw (characters, ignored) next.2);
+        fault = tt;
+        room = λ h.
+            (refl, rw (characters, ignored) (AreShortToCome-chunk gives can left (has_class_form s.characters) (reading_by s) c s.delegate t.delegate first t.pending t.waiting r (short_to_come h)));
+        ends = tt;
+        stays = λ h. cc (h.0, pending);
+      };
+      ready = λ h. r.ready;
+      kept = (characters, ignored);
+    }
+
+    pub Steps-refused : (t : Decomposition I) → t.characters ≡ s.characters → t.ignored ≡ s.ignored → t.pending ≡ None → ordered t.waiting ≡ [] → ChunkDidNotFit gives (has_class_form s.characters) (reading_by s) c s.delegate → DecompositionSteps can gives left s (Some (Err Memory)) t
+    Steps-refused t characters ignored after empty_after long = record {
+      item = record {
+        first = λ out h. ended t after empty_after;
+        fault = refl;
+        room = λ h. absurd (short_chunk_fits gives can left (has_class_form s.characters) (reading_by s) c s.delegate (s.anew c pending) long (short_to_come h));
+        ends = (after, empty_after);
+        stays = λ h. cc (h.0, pending);
+      };
+      ready = λ h. rw after tt;
+      kept = (characters, ignored);
+    }
+
+    items_left-pending : items_left left s ≡ longest_list * (size (left s.delegate) + 1)
+    items_left-pending = ap (λ l. length l + longest_list * reads_left s.pending (size (left s.delegate))) empty ∙ ap (λ p. 0 + longest_list * reads_left p (size (left s.delegate))) pending ∙ omega arith
+
+    -- the chunk was read, behind a character that had been read, or didn't fit
+    module _ (following : Option ℕ) (u : I) (read : HasRead gives left s.delegate following u) (t : Decomposition I) (characters : t.characters ≡ s.characters) (ignored : t.ignored ≡ s.ignored) where
+      pub Steps-read : (r : Result ℕ NormalizeError) → IfOk r (λ first. (before : I) → HasRead gives left before following u → ReadsChunk can gives left (has_class_form s.characters) (reading_by s) c before first t.pending t.delegate t.waiting) → IfErr r (λ e. (e ≡ Memory) × IsEnded t × ((before : I) → HasRead gives left before following u → ChunkDidNotFit gives (has_class_form s.characters) (reading_by s) c before)) → DecompositionSteps can gives left s (Some r) t
+      Steps-read (Ok first) ok err = Steps-chunk t first characters ignored (ok s.delegate read)
+      Steps-read (Err e) ok err =
+          subst (λ k. DecompositionSteps can gives left s (Some (Err k)) t) (sym err.0) (Steps-refused t characters ignored err.1.0 err.1.1 (err.2 s.delegate read))
+
+    items_left-ended : (t : Decomposition I) → IsEnded t → items_left left t ≡ 0
+    items_left-ended t end = ap (λ l. length l + longest_list * reads_left t.pending (size (left t.delegate))) end.1 ∙ ap (λ p. 0 + longest_list * reads_left p (size (left t.delegate))) end.0 ∙ omega arith
+
+    pub Goes-chunk : (t : Decomposition I) (first : ℕ) → ReadsChunk can gives left (has_class_form s.characters) (reading_by s) c s.delegate first t.pending t.delegate t.waiting → MakesProgress {A = Result ℕ NormalizeError} (CanDecompose can left) (λ u. at_most (items_left left u)) s (Some (Ok first)) t
+    Goes-chunk t first r =
+        let smaller = chunk_size gives can left (has_class_form s.characters) (reading_by s) s.suits c s.delegate t.delegate first t.pending t.waiting r in
+        record { on = λ finite. (r.ready, tt, omega (arith, smaller, items_left-pending)); keeps = r.ready; rests = λ finite. tt }
+
+    -- what was read is nearer to the end
+    pub Goes-read : (following : Option ℕ) (u : I) → HasRead gives left s.delegate following u → (t : Decomposition I) (r : Result ℕ NormalizeError) → IfOk r (λ first. (before : I) → HasRead gives left before following u → ReadsChunk can gives left (has_class_form s.characters) (reading_by s) c before first t.pending t.delegate t.waiting) → IfErr r (λ e. (e ≡ Memory) × IsEnded t × ((before : I) → HasRead gives left before following u → ChunkDidNotFit gives (has_class_form s.characters) (reading_by s) c before)) → MakesProgress {A = Result ℕ NormalizeError} (CanDecompose can left) (λ v. at_most (items_left left v)) s (Some r) t
+    Goes-read following u read t (Ok first) ok err = Goes-chunk t first (ok s.delegate read)
+    Goes-read following u read t (Err e) ok err =
+        let ready : CanDecompose can left t = rw err.1.0 tt in
+        record { on = λ finite. (ready, tt, omega (arith, items_left-ended t err.1, items_left-pending)); keeps = ready; rests = λ finite. tt }

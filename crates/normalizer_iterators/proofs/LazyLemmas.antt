@@ -1,0 +1,92 @@
+-- Lemmas on what is read lazily: the reading that the data give, and runs of a delegate.
+use Rattle.std.proofs.Common.{◌≡◌, ℕ, ◌<◌, ◌≤◌, Bool, true, false, ◌||◌, List, [], ◌∷◌, ◌++◌, refl, sym, ap, ◌∙◌, subst, Option, Some, None, inl, inr, option_to_list}
+use Rattle.std.proofs.lemmas.Bool.{cases_Bool, cases_lt}
+use Rattle.std.specs.Iterator.{Yields, YieldsThen}
+use Rattle.normal_forms.specs.Reading.{Reading}
+use Rattle.normal_forms.specs.ShortRuns.{continues, is_empty}
+use Rattle.normalizer_tables.specs.declared.characters.IgnoredCharacters.{IgnoredCharacters}
+use Rattle.normalizer_tables.specs.Characters.{Characters, list_of}
+use Rattle.normalizer_tables.specs.Ignored.{ignored_list}
+use Rattle.normalizer_text.specs.Steps.{Spells}
+use Rattle.normalizer_iterators.specs.Delegate.{SpellsBehind}
+use Rattle.normalizer_iterators.specs.LazyReading.{decomposing_reading, HasClassesFrom}
+
+-- ---- the reading that the data give
+
+pub class-decomposing_reading : (s : Characters) (ignored : IgnoredCharacters) → HasClassesFrom s (decomposing_reading s ignored)
+class-decomposing_reading s ignored c = refl
+
+pub list-decomposing_reading : (s : Characters) (ignored : IgnoredCharacters) (c : ℕ) → (decomposing_reading s ignored).list c ≡ list_of s (ignored_list ignored) c
+list-decomposing_reading s ignored c = refl
+
+-- ---- what continues
+
+pub continues-class_form : (f : ℕ → Bool) (d : Reading) (c : ℕ) → f c ≡ true → continues f d c ≡ true
+unfolding continues
+continues-class_form f d c form = ap (λ b. b || is_empty (d.list c)) form
+
+pub continues-empty : (f : ℕ → Bool) (d : Reading) (c : ℕ) → d.list c ≡ [] → continues f d c ≡ true
+unfolding continues
+continues-empty f d c none =
+    elim (cases_Bool (f c)) [
+      | inl form ↦ ap (λ b. b || is_empty (d.list c)) form
+      | inr other ↦ ap (λ b. b || is_empty (d.list c)) other ∙ ap is_empty none
+    ]
+
+is_empty-false : (x : List ℕ) → (x ≡ [] → ⊥) → is_empty x ≡ false
+is_empty-false [] some = absurd (some refl)
+is_empty-false (c ∷ x) some = refl
+
+pub continues-anew : (f : ℕ → Bool) (d : Reading) (c : ℕ) → f c ≡ false → (d.list c ≡ [] → ⊥) → continues f d c ≡ false
+unfolding continues
+continues-anew f d c other some = ap (λ b. b || is_empty (d.list c)) other ∙ is_empty-false (d.list c) some
+
+is_empty-cases : (x : List ℕ) → is_empty x ≡ false → (first : ℕ) × (others : List ℕ) × (x ≡ first ∷ others)
+is_empty-cases [] e = cc
+is_empty-cases (c ∷ x) e = (c, x, refl)
+
+-- what begins anew has no class form, and a list with a first member
+pub anew-parts : (f : ℕ → Bool) (d : Reading) (c : ℕ) → continues f d c ≡ false → (f c ≡ false) × (first : ℕ) × (others : List ℕ) × (d.list c ≡ first ∷ others)
+unfolding continues
+anew-parts f d c e =
+    elim (cases_Bool (f c)) [
+      | inl form ↦ cc (e, ap (λ b. b || is_empty (d.list c)) form)
+      | inr other ↦
+          let some = is_empty-cases (d.list c) (sym (ap (λ b. b || is_empty (d.list c)) other) ∙ e) in
+          (other, some.0, some.1, some.2)
+    ]
+
+pub too_many : (n m : ℕ) → (n ≤ m → false ≡ true) → m < n
+too_many n m fails =
+    elim (cases_lt m n) [
+      | inl above ↦ above
+      | inr fits ↦ cc (fails fits)
+    ]
+
+-- ---- runs of a delegate
+
+module _ {I : Type 0} (gives : I → Option ℕ → I → Type 0) where
+  pub Yields-one_more : (s : I) (xs : List ℕ) (t : I) (x : ℕ) (u : I) → Yields gives s xs t → gives t (Some x) u → Yields gives s (xs ++ x ∷ []) u
+  Yields-one_more s [] t x u run step = (u, subst (λ j. gives j (Some x) u) (sym run) step, refl)
+  Yields-one_more s (y ∷ ys) t x u run step = (run.0, run.1, Yields-one_more run.0 ys t x u run.2 step)
+
+  -- what was given stands in front of what is spelled
+  pub spelled_behind : (s : I) (xs : List ℕ) (t : I) (x : List ℕ) → Yields gives s xs t → Spells gives s x → (rest : List ℕ) × (x ≡ xs ++ rest) × Spells gives t rest
+  spelled_behind s [] t x run spells = (x, refl, subst (λ j. Spells gives j x) run spells)
+  spelled_behind s (y ∷ ys) t [] run spells = absurd (spells y run.0 run.1)
+  spelled_behind s (y ∷ ys) t (c ∷ x) run spells =
+      let first = spells.1 y run.0 run.1 in
+      let later = spelled_behind run.0 ys t x run.2 first.1 in
+      (later.0, ap (λ z. z ∷ x) (sym first.0) ∙ ap (λ l. y ∷ l) later.1, later.2)
+
+  pub spelled_next : (t : I) (pending : Option ℕ) (u : I) (x : List ℕ) → gives t pending u → Spells gives t x → (rest : List ℕ) × (x ≡ option_to_list pending ++ rest) × SpellsBehind gives pending u rest
+  spelled_next t None u [] step spells = ([], refl, refl)
+  spelled_next t None u (c ∷ x) step spells = absurd (spells.0 u step)
+  spelled_next t (Some c) u [] step spells = absurd (spells c u step)
+  spelled_next t (Some c) u (b ∷ x) step spells = let first = spells.1 c u step in (x, ap (λ z. z ∷ x) (sym first.0), first.1)
+
+  pub spelled_then : (s : I) (xs : List ℕ) (pending : Option ℕ) (u : I) (x : List ℕ) → YieldsThen gives s xs pending u → Spells gives s x → (rest : List ℕ) × (x ≡ xs ++ (option_to_list pending ++ rest)) × SpellsBehind gives pending u rest
+  spelled_then s xs pending u x run spells =
+      let before = spelled_behind s xs run.0 x run.1 spells in
+      let next = spelled_next run.0 pending u before.0 run.2 before.2 in
+      (next.0, before.1 ∙ ap (λ l. xs ++ l) next.1, next.2)

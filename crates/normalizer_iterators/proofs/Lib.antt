@@ -1,0 +1,15 @@
+pub mod ComposingLemmas
+pub mod CompositionLemmas
+pub mod DecompositionLemmas
+pub mod LazyLemmas
+pub mod MarkLemmas
+pub mod MarkRunLemmas
+pub mod PassedClasses
+pub mod PassingLemmas
+pub mod ReadingLemmas
+pub mod ShortChunkLemmas
+pub mod SoundData
+pub mod SpellingLemmas
+pub mod StarterLemmas
+pub mod ToComeLemmas
+pub mod WaitingLemmas

@@ -1,0 +1,181 @@
+-- Characters that a composing loop passes, in a text that is decomposed.
+use Rattle.std.proofs.Common.{◌≡◌, ℕ, ◌+◌, ◌*◌, ◌<◌, Bool, false, List, [], ◌∷◌, ◌++◌, length, refl, sym, ap, ◌∙◌, subst, arith, Option, Some, None, IfSome, OnSome, MatchOption, option_to_list, append-nil}
+use Rattle.std.specs.Option.{ForSome}
+use Rattle.std.specs.Iterator.{Count, size, IsFinite}
+use Rattle.normal_forms.specs.Reading.{Reading}
+use Rattle.normal_forms.specs.Decomposition.{expand}
+use Rattle.normal_forms.specs.Order.{order, insert, is_reorderable}
+use Rattle.normal_forms.specs.Forms.{nfd, normal_form}
+use Rattle.normal_forms.specs.Boundary.{BeginsSafely}
+use Rattle.normal_forms.specs.CompositionByStarters.{is_above, join, compose_after, compose_by_starters}
+use Rattle.normal_forms.specs.ShortRuns.{continues}
+use Rattle.normal_forms.proofs.BoundaryLemmas.{nfd-boundary, BeginsWithStarter-from_safely, BeginsSafely-order, BeginsSafely-expand, composed_form-boundary}
+use Rattle.normal_forms.proofs.ChunkLemmas.{HasShortRuns-rest}
+use Rattle.normal_forms.proofs.ComposeLemmas.{composed_form, join-none, compose_after-nil, compose_after-starter, compose_by_starters-nil, compose_by_starters-starter}
+use Rattle.normal_forms.specs.ShortRuns.{HasShortRuns}
+use Rattle.normalizer_text.specs.Steps.{Spells}
+use Rattle.normalizer_tables.specs.declared.characters.IgnoredCharacters.{IgnoredCharacters}
+use Rattle.normalizer_tables.specs.declared.condition.Bounds.{Bounds}
+use Rattle.normalizer_tables.specs.Characters.{Characters, reading_of, has_class_form}
+use Rattle.normalizer_tables.specs.Ignored.{ignored_list}
+use Rattle.normalizer_tables.specs.PairConditions.{composing_reading}
+use Rattle.normalizer_tables.specs.Pairs.{Pair, pair_of}
+use Rattle.normalizer_iterators.specs.declared.decomposition.Decomposition.{Decomposition}
+use Rattle.normalizer_iterators.specs.Delegate.{SpellsBehind, IsReadyBehind}
+use Rattle.normalizer_iterators.specs.Decomposition.{reading_by, WillGive, StaysShort}
+use Rattle.normalizer_iterators.specs.LazyComposing.{IsPassed, StandsApart, StandsApartIn, PassedBeginAnew, SuitsLazyComposing}
+use Rattle.normalizer_iterators.specs.LazyReading.{decomposing_reading, longest_list}
+use Rattle.normalizer_iterators.specs.Passing.{AllPassed, StandsAtPassed, IsAtPassed, PassesOn, GivesStarter}
+use Rattle.normalizer_iterators.specs.ReadingOn.{ReadsChunk}
+use Rattle.normalizer_iterators.specs.ToCome.{reads_left}
+use Rattle.normalizer_iterators.specs.WaitingList.{ordered}
+use Rattle.normalizer_iterators.proofs.ComposingLemmas.{nfd-composing_reading, nfc-composing_reading}
+use Rattle.normalizer_iterators.proofs.DecompositionLemmas.{Steps-chunk, Goes-chunk}
+use Rattle.normalizer_iterators.proofs.LazyLemmas.{continues-anew, spelled_next}
+
+-- ---- what stands apart
+
+pub begins_anew : (s : Characters) (b : Bounds) (pairs : List Pair) → SuitsLazyComposing s b pairs → (ignored : IgnoredCharacters) → PassedBeginAnew s b ignored
+begins_anew s b pairs suits ignored = record {
+  anew = λ c passed. let apart = suits.apart ignored c passed in continues-anew (has_class_form s) (decomposing_reading s ignored) c apart.anew apart.inhabited;
+}
+
+pub all_anew : (s : Characters) (b : Bounds) (ignored : IgnoredCharacters) → PassedBeginAnew s b ignored → (following : Option ℕ) → AllPassed s b following → ForSome following (λ c. continues (has_class_form s) (decomposing_reading s ignored) c ≡ false)
+all_anew s b ignored anew None passed = λ c e. cc
+all_anew s b ignored anew (Some e) passed = λ c is. let same : e ≡ c = cc in subst (λ k. continues (has_class_form s) (decomposing_reading s ignored) k ≡ false) same (anew.anew e passed)
+
+pub all_apart : (s : Characters) (b : Bounds) (pairs : List Pair) → SuitsLazyComposing s b pairs → (ignored : IgnoredCharacters) (following : Option ℕ) → AllPassed s b following → IfSome following (StandsApartIn s pairs ignored)
+all_apart s b pairs suits ignored None passed = tt
+all_apart s b pairs suits ignored (Some c) passed = suits.apart ignored c passed
+
+first_passed : (s : Characters) (b : Bounds) (pending : Option ℕ) → MatchOption pending ⊥ (IsPassed s b) → AllPassed s b pending
+first_passed s b None h = tt
+first_passed s b (Some c) h = h
+
+pub IsAtPassed-stands : {I : Type 0} (b : Bounds) (pairs : List Pair) (s : Decomposition I) → SuitsLazyComposing s.characters b pairs → StandsAtPassed b s → IsAtPassed pairs s
+IsAtPassed-stands b pairs s suits stands = record { waiting = stands.0; apart = all_apart s.characters b pairs suits s.ignored s.pending (first_passed s.characters b s.pending stands.1) }
+
+-- ---- the composing form
+
+composed_form-is : (s : Characters) (ignored : IgnoredCharacters) (pairs : List Pair) (x : List ℕ) → composed_form (reading_of s (ignored_list ignored) (pair_of pairs)) x ≡ compose_by_starters (composing_reading s pairs) (nfd (decomposing_reading s ignored) x)
+unfolding composed_form nfd order insert is_reorderable expand compose_by_starters compose_after join is_above
+composed_form-is s ignored pairs x = refl
+
+own_form : (s : Characters) (b : Bounds) (pairs : List Pair) → SuitsLazyComposing s b pairs → (ignored : IgnoredCharacters) (c : ℕ) → StandsApartIn s pairs ignored c → composed_form (reading_of s (ignored_list ignored) (pair_of pairs)) (c ∷ []) ≡ c ∷ []
+unfolding normal_form
+own_form s b pairs suits ignored c apart =
+    composed_form-is s ignored pairs (c ∷ []) ∙ sym (nfc-composing_reading s ignored pairs suits.starters (c ∷ [])) ∙ apart.form
+
+none_of : (o : Option ℕ) → ((r : ℕ) → o ≡ Some r → ⊥) → o ≡ None
+none_of None h = refl
+none_of (Some r) h = absurd (h r refl)
+
+BeginsSafely-apart : (f : ℕ → Bool) (d : Reading) (c : ℕ) → StandsApart f d c → BeginsSafely d (d.list c)
+BeginsSafely-apart f d c apart = by (d.list c) refl
+  where
+    by : (x : List ℕ) → d.list c ≡ x → BeginsSafely d x
+    by [] e = tt
+    by (first ∷ others) e = let h = apart.safely first others e in (h.0, λ a. none_of (d.pair a first) (h.1 a))
+
+-- what stands apart and what is behind it begin safely
+begins_apart : {I : Type 0} (gives : I → Option ℕ → I → Type 0) (s : Characters) (pairs : List Pair) (ignored : IgnoredCharacters) (following : Option ℕ) (u : I) (rest : List ℕ) → IfSome following (StandsApartIn s pairs ignored) → SpellsBehind gives following u rest → BeginsSafely (reading_of s (ignored_list ignored) (pair_of pairs)) (expand (reading_of s (ignored_list ignored) (pair_of pairs)) (option_to_list following ++ rest))
+unfolding expand
+begins_apart gives s pairs ignored None u rest apart source = subst (λ l. BeginsSafely (reading_of s (ignored_list ignored) (pair_of pairs)) (expand (reading_of s (ignored_list ignored) (pair_of pairs)) l)) (sym source) tt
+begins_apart gives s pairs ignored (Some e) u rest apart source = BeginsSafely-expand (reading_of s (ignored_list ignored) (pair_of pairs)) e rest apart.inhabited (BeginsSafely-apart (has_class_form s) (reading_of s (ignored_list ignored) (pair_of pairs)) e apart)
+
+-- only classes and pairs matter to where a text may begin
+BeginsSafely-pairs : (s : Characters) (pairs : List Pair) (ignored : IgnoredCharacters) (x : List ℕ) → BeginsSafely (reading_of s (ignored_list ignored) (pair_of pairs)) x → BeginsSafely (composing_reading s pairs) x
+BeginsSafely-pairs s pairs ignored [] h = tt
+BeginsSafely-pairs s pairs ignored (c ∷ x) h = h
+
+nfd-begins : (s : Characters) (pairs : List Pair) (ignored : IgnoredCharacters) (x : List ℕ) → BeginsSafely (reading_of s (ignored_list ignored) (pair_of pairs)) (expand (reading_of s (ignored_list ignored) (pair_of pairs)) x) → BeginsSafely (composing_reading s pairs) (nfd (decomposing_reading s ignored) x)
+unfolding nfd
+nfd-begins s pairs ignored x begins =
+    let d = reading_of s (ignored_list ignored) (pair_of pairs) in
+    subst (BeginsSafely (composing_reading s pairs)) (nfd-composing_reading s ignored pairs x) (BeginsSafely-pairs s pairs ignored (nfd d x) (BeginsSafely-order d (expand d x) begins))
+
+-- a starter and its marks are done where what follows begins safely
+pub compose_after-boundary : (d : Reading) (a : ℕ) (p y : List ℕ) → BeginsSafely d y → compose_after d a p y ≡ (a ∷ p) ++ compose_by_starters d y
+compose_after-boundary d a p [] begins = compose_after-nil d a p ∙ sym (append-nil (a ∷ p)) ∙ ap (λ l. (a ∷ p) ++ l) (sym (compose_by_starters-nil d))
+compose_after-boundary d a p (c ∷ y) begins =
+    compose_after-starter d a p c y (join-none d a p c (begins.1 a)) begins.0 ∙ ap (λ l. (a ∷ p) ++ l) (sym (compose_by_starters-starter d c y begins.0))
+
+module _ {I : Type 0} (can : I → Type 0) (gives : I → Option ℕ → I → Type 0) (left : I → Count) (pairs : List Pair) (s : Decomposition I) (here : IsAtPassed pairs s) where
+  -- what is to come begins safely
+  pub BeginsSafely-to_come : (y : List ℕ) → WillGive gives s y → BeginsSafely (composing_reading s.characters pairs) y
+  BeginsSafely-to_come y h =
+      let x = option_to_list s.pending ++ h.unread in
+      subst (BeginsSafely (composing_reading s.characters pairs)) (sym (h.text ∙ ap (λ l. l ++ nfd (reading_by s) x) here.waiting))
+      (nfd-begins s.characters pairs s.ignored x (begins_apart gives s.characters pairs s.ignored s.pending s.delegate h.unread here.apart h.source))
+
+  module _ (b : Bounds) (suits : SuitsLazyComposing s.characters b pairs) (c : ℕ) (pending : s.pending ≡ Some c) where
+    first_apart : StandsApartIn s.characters pairs s.ignored c
+    first_apart = subst (λ o. IfSome o (StandsApartIn s.characters pairs s.ignored)) pending here.apart
+
+    module _ (following : Option ℕ) (t : Decomposition I) (step : gives s.delegate following t.delegate) (near : OnSome following (can t.delegate × IsFinite (left t.delegate) × (size (left t.delegate) < size (left s.delegate)))) (apart : IfSome following (StandsApartIn s.characters pairs s.ignored)) (reads : t.pending ≡ following) (empty : ordered t.waiting ≡ []) (characters : t.characters ≡ s.characters) (ignored : t.ignored ≡ s.ignored) where
+      to_come : (y : List ℕ) → WillGive gives s y → (own : List ℕ) × (rest : List ℕ) × (y ≡ own ++ rest) × (compose_by_starters (composing_reading s.characters pairs) y ≡ c ∷ compose_by_starters (composing_reading s.characters pairs) rest) × WillGive gives t rest
+      to_come y h =
+          let d = reading_by s in
+          let D = reading_of s.characters (ignored_list s.ignored) (pair_of pairs) in
+          let source : Spells gives s.delegate h.unread = subst (λ o. SpellsBehind gives o s.delegate h.unread) pending h.source in
+          let next = spelled_next gives s.delegate following t.delegate h.unread step source in
+          let rest = option_to_list following ++ next.0 in
+          let begins = begins_apart gives s.characters pairs s.ignored following t.delegate next.0 apart next.2 in
+          let all : y ≡ nfd d (c ∷ rest) =
+          h.text ∙ ap (λ l. l ++ nfd d (option_to_list s.pending ++ h.unread)) here.waiting ∙ ap (λ o. nfd d (option_to_list o ++ h.unread)) pending
+          ∙ ap (λ l. nfd d (c ∷ l)) next.1 in
+          let composed = λ (x : List ℕ). composed_form-is s.characters s.ignored pairs x in (
+            nfd d (c ∷ []),
+            nfd d rest,
+            all ∙ sym (nfd-composing_reading s.characters s.ignored pairs (c ∷ rest)) ∙ nfd-boundary D (c ∷ []) rest (BeginsWithStarter-from_safely D (expand D rest) begins)
+                ∙ ap (λ l. l ++ nfd D rest) (nfd-composing_reading s.characters s.ignored pairs (c ∷ []))
+                ∙ ap (λ l. nfd d (c ∷ []) ++ l) (nfd-composing_reading s.characters s.ignored pairs rest),
+            ap (compose_by_starters (composing_reading s.characters pairs)) all ∙ sym (composed (c ∷ rest)) ∙ composed_form-boundary D (c ∷ []) rest begins
+                ∙ ap (λ l. l ++ composed_form D rest) (own_form s.characters b pairs suits s.ignored c first_apart) ∙ ap (λ l. c ∷ l) (composed rest),
+            rw (characters, ignored, reads, empty) (record { unread = next.0; source = next.2; text = refl }),
+          )
+
+      short_to_come : StaysShort gives s → StaysShort gives t
+      short_to_come h =
+          let f = has_class_form s.characters in
+          let d = reading_by s in
+          let source : Spells gives s.delegate h.unread = subst (λ o. SpellsBehind gives o s.delegate h.unread) pending h.source in
+          let next = spelled_next gives s.delegate following t.delegate h.unread step source in
+          let short : HasShortRuns f d (c ∷ h.unread) = subst (λ o. HasShortRuns f d (option_to_list o ++ h.unread)) pending h.short in
+          rw (characters, ignored, reads)
+          (record {
+            unread = next.0;
+            source = next.2;
+            short = HasShortRuns-rest f d (c ∷ []) (option_to_list following ++ next.0) (subst (λ l. HasShortRuns f d (c ∷ l)) next.1 short);
+          })
+
+      fewer_by : (o : Option ℕ) (after before : ℕ) → OnSome o (after < before) → longest_list * reads_left o after < longest_list * (before + 1)
+      fewer_by None after before h = omega arith
+      fewer_by (Some e) after before h = omega arith
+
+      ready_by : (o : Option ℕ) → OnSome o (can t.delegate × IsFinite (left t.delegate) × (size (left t.delegate) < size (left s.delegate))) → IsReadyBehind can left o t.delegate × OnSome o (size (left t.delegate) < size (left s.delegate))
+      ready_by None h = (tt, tt)
+      ready_by (Some e) h = ((h.0, h.1), h.2)
+
+      pub PassesOn-next : PassesOn can gives left pairs s c t
+      PassesOn-next =
+          let both = ready_by following near in
+          record {
+            text = to_come;
+            short = short_to_come;
+            ready = rw reads both.0;
+            at_passed = record { waiting = empty; apart = rw (reads, characters, ignored) apart };
+            kept = characters;
+            fewer =
+                let before = ap (λ l. length l + longest_list * reads_left s.pending (size (left s.delegate))) here.waiting ∙ ap (λ p. 0 + longest_list * reads_left p (size (left s.delegate))) pending in
+                let after = ap (λ l. length l + longest_list * reads_left t.pending (size (left t.delegate))) empty ∙ ap (λ p. 0 + longest_list * reads_left p (size (left t.delegate))) reads in
+                omega (arith, before, after, fewer_by following (size (left t.delegate)) (size (left s.delegate)) both.1);
+          }
+
+    pub GivesStarter-next : (t : Decomposition I) (first : ℕ) → t.characters ≡ s.characters → t.ignored ≡ s.ignored → ReadsChunk can gives left (has_class_form s.characters) (reading_by s) c s.delegate first t.pending t.delegate t.waiting → GivesStarter can gives left s first t
+    GivesStarter-next t first characters ignored r =
+        record {
+          steps = Steps-chunk can gives left s c pending here.waiting t first characters ignored r;
+          starter = λ others. (first_apart.safely first r.others r.members).0;
+          fewer = ((Goes-chunk can gives left s c pending here.waiting t first r).on tt).2;
+        }

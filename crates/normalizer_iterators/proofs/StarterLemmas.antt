@@ -1,0 +1,153 @@
+-- A starter and what follows it: the composition so far.
+use Rattle.std.proofs.Common.{◌≡◌, ℕ, ◌+◌, ◌<◌, ◌≤◌, List, [], ◌∷◌, ◌++◌, length, Option, Some, None, Ok, Err, refl, sym, ap, ◌∙◌, subst, arith, inl, inr, append-nil, length-append}
+use Rattle.std.specs.Iterator.{Count}
+use Rattle.normal_forms.specs.Reading.{Reading, IsStarter, IsMark}
+use Rattle.normal_forms.specs.CompositionByStarters.{join, compose_after, compose_by_starters}
+use Rattle.normal_forms.specs.Boundary.{BeginsSafely}
+use Rattle.normal_forms.specs.ShortRuns.{places}
+use Rattle.normal_forms.proofs.ComposeLemmas.{starter_or_mark, compose_after-nil, compose_after-join, compose_after-starter, compose_after-mark}
+use Rattle.normalizer_iterators.specs.declared.composition.Ahead.TheVariants.{Starter, Passed, Ended}
+use Rattle.normalizer_iterators.specs.declared.decomposition.Decomposition.{Decomposition}
+use Rattle.normalizer_iterators.specs.declared.error.NormalizeError.{NormalizeError}
+use Rattle.normalizer_iterators.specs.declared.marks.StayingMarks.{StayingMarks}
+use Rattle.normalizer_iterators.specs.Decomposition as decomposition
+use Rattle.normalizer_iterators.specs.MarkRuns.{leading_marks, HasShortMarkRuns}
+use Rattle.normalizer_iterators.specs.StayingMarks.{staying, used, BlocksBelow}
+use Rattle.normalizer_iterators.specs.Composing.{GivesShort, ComposesStarter}
+use Rattle.normalizer_iterators.proofs.MarkLemmas.{join-starter}
+use Rattle.normalizer_iterators.proofs.PassingLemmas.{compose_after-boundary}
+use Rattle.normalizer_iterators.proofs.MarkRunLemmas.{leading_marks-mark, HasShortMarkRuns-leading, HasShortMarkRuns-tail}
+
+-- the starter has become `composite`, and these marks stay behind it
+pub record ComposedSoFar {I : Type 0} (can : I → Type 0) (gives : I → Option ℕ → I → Type 0) (left : I → Count) (d : Reading) (starter : ℕ) (old : Decomposition I) (composite : ℕ) (now : Decomposition I) (marks : StayingMarks) : Type 0 where
+  pub text : (all : List ℕ) → decomposition.WillGive gives old all → (y : List ℕ) × (compose_after d starter [] all ≡ compose_after d composite (staying marks) y) × decomposition.WillGive gives now y
+  pub short : GivesShort gives d old → (h : GivesShort gives d now) × (length (staying marks) + leading_marks d h.unread ≤ places)
+  pub blocking : BlocksBelow d marks
+  pub in_use : used marks ≡ length (staying marks)
+  pub ready : decomposition.CanDecompose can left now
+  pub kept : now.characters ≡ old.characters
+  pub fewer : length (staying marks) + decomposition.items_left left now ≤ decomposition.items_left left old
+
+room_after_join : (d : Reading) (a : ℕ) (p : List ℕ) (c r : ℕ) (y : List ℕ) → join d a p c ≡ Some r → HasShortMarkRuns d y → length p + leading_marks d (c ∷ y) ≤ places → length p + leading_marks d y ≤ places
+room_after_join d a p c r y joins short room =
+    elim (starter_or_mark d c) [
+      | inl starter ↦ omega (arith, HasShortMarkRuns-leading d y short, ap length (join-starter d a p c r starter joins))
+      | inr mark ↦ omega (arith, leading_marks-mark d c y mark)
+    ]
+
+module _ {I : Type 0} (can : I → Type 0) (gives : I → Option ℕ → I → Type 0) (left : I → Count) (d : Reading) where
+  -- the next character of a text with short runs
+  pub GivesShort-next : (now : Decomposition I) (c : ℕ) (next : Decomposition I) → decomposition.DecompositionSteps can gives left now (Some (Ok c)) next → (h : GivesShort gives d now) → (after : GivesShort gives d next) × (h.unread ≡ c ∷ after.unread)
+  GivesShort-next now c next step h =
+      let first = step.item.first h.unread h.source in (
+        record {
+          unread = first.0;
+          source = first.2;
+          short = (step.item.room h.short).1;
+          runs = HasShortMarkRuns-tail d c first.0 (subst (HasShortMarkRuns d) first.1 h.runs);
+        },
+        first.1,
+      )
+
+  -- text with short runs brings no fault
+  pub GivesShort-no_fault : (now : Decomposition I) (e : NormalizeError) (next : Decomposition I) → decomposition.DecompositionSteps can gives left now (Some (Err e)) next → GivesShort gives d now → ⊥
+  GivesShort-no_fault now e next step h = cc (step.item.room h.short).0
+
+  pub ComposedSoFar-none : (starter : ℕ) (old : Decomposition I) (marks : StayingMarks) → staying marks ≡ [] → used marks ≡ 0 → BlocksBelow d marks → decomposition.CanDecompose can left old → ComposedSoFar can gives left d starter old starter old marks
+  ComposedSoFar-none starter old marks none unused blocking ready = record {
+    text = λ all h. (all, ap (λ p. compose_after d starter p all) (sym none), h);
+    short = λ h. (h, omega (arith, ap length none, HasShortMarkRuns-leading d h.unread h.runs));
+    blocking = blocking;
+    in_use = omega (arith, ap length none);
+    ready = ready;
+    kept = refl;
+    fewer = omega (arith, ap length none);
+  }
+
+  pub ComposedSoFar-joined : (starter : ℕ) (old : Decomposition I) (composite : ℕ) (now : Decomposition I) (marks : StayingMarks) (c r : ℕ) (next : Decomposition I) (after : StayingMarks) → ComposedSoFar can gives left d starter old composite now marks → decomposition.DecompositionSteps can gives left now (Some (Ok c)) next → decomposition.items_left left next < decomposition.items_left left now → join d composite (staying marks) c ≡ Some r → after ≡ marks → ComposedSoFar can gives left d starter old r next after
+  ComposedSoFar-joined starter old composite now marks c r next after before step nearer joins kept =
+      subst (ComposedSoFar can gives left d starter old r next) (sym kept) (record {
+        text = λ all h.
+            let b = before.text all h in
+            let first = step.item.first b.0 b.2 in
+            (first.0, b.1 ∙ ap (compose_after d composite (staying marks)) first.1 ∙ compose_after-join d composite (staying marks) c r first.0 joins, first.2);
+        short = λ h.
+            let b = before.short h in
+            let n = GivesShort-next now c next step b.0 in
+            (n.0, room_after_join d composite (staying marks) c r n.0.unread joins n.0.runs (omega (arith, b.1, ap (leading_marks d) n.1)));
+        blocking = before.blocking;
+        in_use = before.in_use;
+        ready = step.ready before.ready;
+        kept = step.kept.0 ∙ before.kept;
+        fewer = omega (arith, before.fewer);
+      })
+
+  pub ComposedSoFar-stays : (starter : ℕ) (old : Decomposition I) (composite : ℕ) (now : Decomposition I) (marks : StayingMarks) (c : ℕ) (next : Decomposition I) (after : StayingMarks) → ComposedSoFar can gives left d starter old composite now marks → decomposition.DecompositionSteps can gives left now (Some (Ok c)) next → decomposition.items_left left next < decomposition.items_left left now → join d composite (staying marks) c ≡ None → IsMark d c → staying after ≡ staying marks ++ c ∷ [] → used after ≡ used marks + 1 → BlocksBelow d after → ComposedSoFar can gives left d starter old composite next after
+  ComposedSoFar-stays starter old composite now marks c next after before step nearer apart mark longer in_use blocking =
+      let one_more : length (staying after) ≡ length (staying marks) + 1 = ap length longer ∙ length-append (staying marks) (c ∷ []) in
+      record {
+        text = λ all h.
+            let b = before.text all h in
+            let first = step.item.first b.0 b.2 in (
+              first.0,
+              b.1 ∙ ap (compose_after d composite (staying marks)) first.1 ∙ compose_after-mark d composite (staying marks) c first.0 apart mark
+                  ∙ ap (λ p. compose_after d composite p first.0) (sym longer),
+              first.2,
+            );
+        short = λ h.
+            let b = before.short h in
+            let n = GivesShort-next now c next step b.0 in
+            (n.0, omega (arith, b.1, ap (leading_marks d) n.1, leading_marks-mark d c n.0.unread mark));
+        blocking = blocking;
+        in_use = omega (arith, before.in_use);
+        ready = step.ready before.ready;
+        kept = step.kept.0 ∙ before.kept;
+        fewer = omega (arith, before.fewer);
+      }
+
+  -- a mark that finds no room stands behind too many
+  pub ComposedSoFar-no_room : (starter : ℕ) (old : Decomposition I) (composite : ℕ) (now : Decomposition I) (marks : StayingMarks) (c : ℕ) (next : Decomposition I) → ComposedSoFar can gives left d starter old composite now marks → decomposition.DecompositionSteps can gives left now (Some (Ok c)) next → IsMark d c → places ≤ used marks → GivesShort gives d old → ⊥
+  ComposedSoFar-no_room starter old composite now marks c next before step mark full h =
+      let b = before.short h in
+      let n = GivesShort-next now c next step b.0 in
+      omega (arith, before.in_use, b.1, ap (leading_marks d) n.1, leading_marks-mark d c n.0.unread mark)
+
+  pub ComposesStarter-starts : (starter : ℕ) (old : Decomposition I) (composite : ℕ) (now : Decomposition I) (marks : StayingMarks) (c : ℕ) (next : Decomposition I) (after : StayingMarks) → ComposedSoFar can gives left d starter old composite now marks → decomposition.DecompositionSteps can gives left now (Some (Ok c)) next → decomposition.items_left left next < decomposition.items_left left now → join d composite (staying marks) c ≡ None → IsStarter d c → after ≡ marks → ComposesStarter gives left d starter old composite (staying after) (Starter c) next
+  ComposesStarter-starts starter old composite now marks c next after before step nearer apart starts kept =
+      subst (λ m. ComposesStarter gives left d starter old composite (staying m) (Starter c) next) (sym kept) (record {
+        text = λ all h.
+            let b = before.text all h in
+            let first = step.item.first b.0 b.2 in (
+              staying marks ++ compose_after d c [] first.0,
+              b.1 ∙ ap (compose_after d composite (staying marks)) first.1 ∙ compose_after-starter d composite (staying marks) c first.0 apart starts,
+              record { unread = first.0; source = first.2; text = refl },
+            );
+        short = λ h. (GivesShort-next now c next step (before.short h).0).0;
+        fewer = omega (arith, before.fewer);
+      })
+
+  pub ComposesStarter-ends : (starter : ℕ) (old : Decomposition I) (composite : ℕ) (now : Decomposition I) (marks : StayingMarks) (next : Decomposition I) → ComposedSoFar can gives left d starter old composite now marks → decomposition.DecompositionSteps can gives left now None next → ComposesStarter gives left d starter old composite (staying marks) Ended next
+  ComposesStarter-ends starter old composite now marks next before step = record {
+    text = λ all h.
+        let b = before.text all h in
+        let end = step.item.first b.0 b.2 in (
+          staying marks,
+          b.1 ∙ ap (compose_after d composite (staying marks)) end.0 ∙ compose_after-nil d composite (staying marks),
+          record { unread = []; source = tt; text = sym (append-nil (staying marks)) },
+        );
+    short = λ h. tt;
+    fewer = omega (arith, before.fewer);
+  }
+
+  -- what begins safely is not composed with what stands before it
+  pub ComposesStarter-passes : (starter : ℕ) (old : Decomposition I) (composite : ℕ) (now : Decomposition I) (marks : StayingMarks) → ComposedSoFar can gives left d starter old composite now marks → ((y : List ℕ) → decomposition.WillGive gives now y → BeginsSafely d y) → ComposesStarter gives left d starter old composite (staying marks) Passed now
+  ComposesStarter-passes starter old composite now marks before begins = record {
+    text = λ all h.
+        let b = before.text all h in (
+          staying marks ++ compose_by_starters d b.0,
+          b.1 ∙ compose_after-boundary d composite (staying marks) b.0 (begins b.0 b.2),
+          record { unread = b.0; source = b.2; text = refl },
+        );
+    short = λ h. (before.short h).0;
+    fewer = before.fewer;
+  }

@@ -1,0 +1,32 @@
+use Rattle.std.proofs.Common.{◌++◌, ap, sym, ◌∙◌}
+use Rattle.normal_forms.specs.Forms.{nfd}
+use Rattle.normal_forms.specs.CompositionByStarters.{compose_by_starters}
+use Rattle.normalizer_tables.specs.Characters.{has_class_form}
+use Rattle.normalizer_iterators.specs.LazyReading.{decomposing_reading}
+use Rattle.normalizer_iterators.specs.Composing.{pairing_reading}
+use Rattle.normalizer_iterators.proofs.ComposingLemmas.{nfc-composing_reading, HasShortMarkRuns-pairing_reading}
+use Rattle.normalizer_iterators.proofs.ShortChunkLemmas.{HasShortMarkRuns-nfd}
+use Rattle.normalizer_iterators.proofs.composition.Composition.over.Goals as goal
+
+pub returns-clause-text : goal.returns-clause-text
+returns-clause-text g c = λ ignored x h.
+    let s = c.args.characters in
+    let pairs = c.args.pairs.now in
+    let y = nfd (decomposing_reading s ignored) x in
+    record {
+      unread = y;
+      source = h;
+      text =
+          nfc-composing_reading s ignored pairs c.requires.suits.starters x
+          ∙ ap (λ l. l ++ compose_by_starters (pairing_reading s pairs) y) (sym c.new-marks.ensures.staying);
+    }
+
+pub returns-clause-short : goal.returns-clause-short
+returns-clause-short g c = λ ignored x suits h short runs.
+    let s = c.args.characters in
+    record {
+      unread = nfd (decomposing_reading s ignored) x;
+      source = h;
+      short = short;
+      runs = HasShortMarkRuns-pairing_reading s ignored c.args.pairs.now _ (HasShortMarkRuns-nfd (has_class_form s) (decomposing_reading s ignored) suits x runs);
+    }

@@ -1,0 +1,65 @@
+use Rattle.std.proofs.Common.{refl, sym, ◌∙◌, subst}
+use Rattle.normal_forms.specs.Boundary.{BeginsSafely}
+use Rattle.normalizer_tables.specs.PairConditions.{composing_reading}
+use Rattle.normalizer_iterators.specs.LazyComposing.{SuitsLazyComposing}
+use Rattle.normalizer_iterators.proofs.PassingLemmas.{IsAtPassed-stands, BeginsSafely-to_come}
+use Rattle.normalizer_iterators.proofs.StarterLemmas.{GivesShort-no_fault, ComposedSoFar-none, ComposedSoFar-joined, ComposedSoFar-stays, ComposedSoFar-no_room, ComposesStarter-starts, ComposesStarter-ends, ComposesStarter-passes}
+use Rattle.normalizer_iterators.proofs.composition.compose_starter.Goals as goal
+
+pub loop-bounds-init : goal.loop-bounds-init
+loop-bounds-init g c =
+    ComposedSoFar-none g.I.Iterator.can_next g.I.Iterator.next_gives g.I.Iterator.remaining _ _ _ _ c.clear.ensures.staying c.clear.ensures.used (c.clear.ensures.blocking _) c.requires.can
+
+pub visit-requires : goal.visit-requires
+visit-requires g c = c.loop-bounds.invariant.blocking
+
+pub returns-in-Err-clause-steps : goal.returns-in-Err-clause-steps
+returns-in-Err-clause-steps g c =
+    let step = rw c.in-Err.is at c.in-Some.ensures.steps in
+    (step.item.fault, λ h. GivesShort-no_fault g.I.Iterator.can_next g.I.Iterator.next_gives g.I.Iterator.remaining _ _ _ _ step (c.loop-bounds.invariant.short h).0)
+
+pub loop-bounds-preserved-in-Ok-Joined : goal.loop-bounds-preserved-in-Ok-Joined
+loop-bounds-preserved-in-Ok-Joined g c =
+    let step = rw c.in-Ok.is at c.in-Some.ensures.steps in
+    let nearer = (c.in-Some.ensures.goes.on tt).2 in
+    let visited = rw c.in-Ok-Joined.field-0-is at c.in-Ok-Joined.ensures.ok in
+    ComposedSoFar-joined g.I.Iterator.can_next g.I.Iterator.next_gives g.I.Iterator.remaining _ _ _ _ _ _ c.in-Ok.character _ _ _ c.loop-bounds.invariant step nearer visited.0 visited.1
+
+pub returns-in-Ok-StartsAnew-clause-steps : goal.returns-in-Ok-StartsAnew-clause-steps
+returns-in-Ok-StartsAnew-clause-steps g c =
+    let step = rw c.in-Ok.is at c.in-Some.ensures.steps in
+    let nearer = (c.in-Some.ensures.goes.on tt).2 in
+    let visited = rw c.in-Ok-StartsAnew.field-0-is at c.in-Ok-StartsAnew.ensures.ok in
+    ComposesStarter-starts g.I.Iterator.can_next g.I.Iterator.next_gives g.I.Iterator.remaining _ _ _ _ _ _ c.in-Ok.character _ _ c.loop-bounds.invariant step nearer visited.0 visited.1 visited.2
+
+pub loop-bounds-preserved : goal.loop-bounds-preserved
+loop-bounds-preserved g c =
+    let step = rw c.in-Ok.is at c.in-Some.ensures.steps in
+    let nearer = (c.in-Some.ensures.goes.on tt).2 in
+    let visited = rw c.in-Ok-Stays.field-0-is at c.in-Ok-Stays.ensures.ok in
+    ComposedSoFar-stays g.I.Iterator.can_next g.I.Iterator.next_gives g.I.Iterator.remaining _ _ _ _ _ _ c.in-Ok.character _ _ c.loop-bounds.invariant step nearer visited.0 visited.1 visited.2 visited.3 visited.4
+
+pub returns-in-Err-visit-clause-steps : goal.returns-in-Err-visit-clause-steps
+returns-in-Err-visit-clause-steps g c =
+    let step = rw c.in-Ok.is at c.in-Some.ensures.steps in
+    let full = c.in-Err-visit.ensures.err in
+    (refl, ComposedSoFar-no_room g.I.Iterator.can_next g.I.Iterator.next_gives g.I.Iterator.remaining _ _ _ _ _ _ c.in-Ok.character _ c.loop-bounds.invariant step full.1 full.0)
+
+pub returns-in_default-clause-steps : goal.returns-in_default-clause-steps
+returns-in_default-clause-steps g c =
+    ComposesStarter-ends g.I.Iterator.can_next g.I.Iterator.next_gives g.I.Iterator.remaining _ _ _ _ _ _ _ c.loop-bounds.invariant c.in_default.ensures.steps
+
+pub returns-clause-steps : goal.returns-clause-steps
+returns-clause-steps g c =
+    let before = c.loop-bounds.invariant in
+    let same = before.kept ∙ c.requires.same in
+    let suits = subst (λ k. SuitsLazyComposing k c.args.bounds c.args.pairs.now) (sym same) c.requires.suits in
+    let here = IsAtPassed-stands c.args.bounds c.args.pairs.now c.loop-bounds.decomposed suits (c.is_at_passed.ensures.0 c.loop-bounds-test.false) in
+    ComposesStarter-passes g.I.Iterator.can_next g.I.Iterator.next_gives g.I.Iterator.remaining _ _ _ _ c.loop-bounds.decomposed _ before
+    (λ y h. subst (λ k. BeginsSafely (composing_reading k c.args.pairs.now) y) same (BeginsSafely-to_come g.I.Iterator.can_next g.I.Iterator.next_gives g.I.Iterator.remaining c.args.pairs.now c.loop-bounds.decomposed here y h))
+
+pub returns-clause-passed : goal.returns-clause-passed
+returns-clause-passed g c =
+    let same = c.loop-bounds.invariant.kept ∙ c.requires.same in
+    let suits = subst (λ k. SuitsLazyComposing k c.args.bounds c.args.pairs.now) (sym same) c.requires.suits in
+    IsAtPassed-stands c.args.bounds c.args.pairs.now c.loop-bounds.decomposed suits (c.is_at_passed.ensures.0 c.loop-bounds-test.false)

@@ -1,0 +1,51 @@
+-- Passing characters of a text that is decomposed.
+use Rattle.std.specs.Prelude.{◌≡◌, ℕ, ◌<◌, List, [], ◌∷◌, ◌++◌, Option, Some, None, Result, Ok, Err, IfSome, MatchOption}
+use Rattle.std.specs.Iterator.{Count}
+use Rattle.normal_forms.specs.Reading.{IsStarter}
+use Rattle.normal_forms.specs.CompositionByStarters.{compose_by_starters}
+use Rattle.normalizer_tables.specs.declared.condition.Bounds.{Bounds}
+use Rattle.normalizer_tables.specs.Characters.{Characters}
+use Rattle.normalizer_tables.specs.PairConditions.{composing_reading}
+use Rattle.normalizer_tables.specs.Pairs.{Pair}
+use Rattle.normalizer_iterators.specs.declared.decomposition.Decomposition.{Decomposition}
+use Rattle.normalizer_iterators.specs.declared.decomposition.passing.Given.{Given}
+use Rattle.normalizer_iterators.specs.declared.decomposition.passing.Given.TheVariants.{Itself, FirstMember}
+use Rattle.normalizer_iterators.specs.declared.error.NormalizeError.{NormalizeError}
+use Rattle.normalizer_iterators.specs.Decomposition.{WillGive, StaysShort, CanDecompose, items_left, DecompositionSteps}
+use Rattle.normalizer_iterators.specs.LazyComposing.{IsPassed, StandsApartIn}
+use Rattle.normalizer_iterators.specs.WaitingList.{ordered}
+
+-- a composing loop passes the character, if there is one
+abbrev pub AllPassed : Characters → Bounds → Option ℕ → Type 0
+AllPassed s b c = IfSome c (IsPassed s b)
+
+module _ {I : Type 0} where
+  -- nothing waits, and a composing loop passes the character that is read next
+  abbrev pub StandsAtPassed : Bounds → Decomposition I → Type 0
+  StandsAtPassed b s = (ordered s.waiting ≡ []) × MatchOption s.pending ⊥ (IsPassed s.characters b)
+
+  -- nothing waits, and the character that is read next, if there is one, stands apart
+  pub record IsAtPassed (pairs : List Pair) (s : Decomposition I) : Type 0 where
+    pub waiting : ordered s.waiting ≡ []
+    pub apart : IfSome s.pending (StandsApartIn s.characters pairs s.ignored)
+
+  -- c was given as it is: what was to come for it composes to c alone, apart from the rest
+  pub record PassesOn (can : I → Type 0) (gives : I → Option ℕ → I → Type 0) (left : I → Count) (pairs : List Pair) (s : Decomposition I) (c : ℕ) (t : Decomposition I) : Type 0 where
+    pub text : (y : List ℕ) → WillGive gives s y → (own : List ℕ) × (rest : List ℕ) × (y ≡ own ++ rest) × (compose_by_starters (composing_reading s.characters pairs) y ≡ c ∷ compose_by_starters (composing_reading s.characters pairs) rest) × WillGive gives t rest
+    pub short : StaysShort gives s → StaysShort gives t
+    pub ready : CanDecompose can left t
+    pub at_passed : IsAtPassed pairs t
+    pub kept : t.characters ≡ s.characters
+    pub fewer : items_left left t < items_left left s
+
+  -- the first member of a list was given, a starter
+  pub record GivesStarter (can : I → Type 0) (gives : I → Option ℕ → I → Type 0) (left : I → Count) (s : Decomposition I) (c : ℕ) (t : Decomposition I) : Type 0 where
+    pub steps : DecompositionSteps can gives left s (Some (Ok c)) t
+    pub starter : (pairs : List Pair) → IsStarter (composing_reading s.characters pairs) c
+    pub fewer : items_left left t < items_left left s
+
+  abbrev pub Passes : (I → Type 0) → (I → Option ℕ → I → Type 0) → (I → Count) → List Pair → Decomposition I → Option (Result Given NormalizeError) → Decomposition I → Type 0
+  Passes can gives left pairs s None t = DecompositionSteps can gives left s None t
+  Passes can gives left pairs s (Some (Err e)) t = DecompositionSteps can gives left s (Some (Err e)) t × (items_left left t < items_left left s)
+  Passes can gives left pairs s (Some (Ok (Itself c))) t = PassesOn can gives left pairs s c t
+  Passes can gives left pairs s (Some (Ok (FirstMember c))) t = GivesStarter can gives left s c t

@@ -1,0 +1,18 @@
+-- The marks that stay behind a starter.
+use Rattle.std.specs.Prelude.{◌≡◌, ℕ, nat_le, List, drop}
+use Rattle.smallvec.specs.SmallVec.{small_vec_len}
+use Rattle.normal_forms.specs.Reading.{Reading}
+use Rattle.normal_forms.specs.CompositionByStarters.{is_above}
+use Rattle.normalizer_iterators.specs.declared.marks.StayingMarks.{StayingMarks}
+
+-- those that are left
+unfoldable pub staying : StayingMarks → List ℕ
+staying b = drop b.next b.marks.items
+
+-- how many places are in use
+unfoldable pub used : StayingMarks → ℕ
+used b = small_vec_len b.marks
+
+-- D115: one of them blocks a character exactly where its class is below `unblocked`
+unfoldable pub BlocksBelow : Reading → StayingMarks → Type 0
+BlocksBelow d b = (c : ℕ) → is_above d (staying b) c ≡ nat_le b.unblocked (d.class c)

@@ -1,0 +1,27 @@
+-- The characters that wait to be given out.
+use Rattle.std.specs.Prelude.{ℕ, List, ◌++◌, take, drop}
+use Rattle.smallvec.specs.SmallVec.{small_vec_len}
+use Rattle.normal_forms.specs.Reading.{Reading}
+use Rattle.normal_forms.specs.Order.{order}
+use Rattle.normalizer_iterators.specs.declared.waiting.WaitingList.{WaitingList}
+use Rattle.normalizer_iterators.specs.Waiting as entries
+
+-- those that come out next, as they follow one another
+unfoldable pub ordered : WaitingList → List ℕ
+ordered b = entries.characters (drop b.next (take b.run b.entries.items))
+
+-- the marks behind them, whose order is open
+unfoldable pub unordered : WaitingList → List ℕ
+unordered b = entries.characters (drop b.run b.entries.items)
+
+-- how many places are in use
+unfoldable pub held : WaitingList → ℕ
+held b = small_vec_len b.entries
+
+-- the classes are those that the reading gives
+unfoldable pub AgreesWith : Reading → WaitingList → Type 0
+AgreesWith d b = entries.HasClassesOf d b.entries.items
+
+-- what comes out, where `rest` is still to go in
+unfoldable pub reordered : Reading → WaitingList → List ℕ → List ℕ
+reordered d b rest = ordered b ++ order d (unordered b ++ rest)

@@ -1,0 +1,292 @@
+//! Composing text character by character (The Unicode Standard, D117, D120 and D121).
+ghost use Rattle.std.specs.Prelude.{◌≡◌, ◌≤◌, ℕ, List, [], Option, MatchResult, OnErr, IfOk, IfSome, ◌++◌};
+ghost use Rattle.std.specs.Iterator.{at_most, MakesProgress};
+ghost use Rattle.normal_forms.specs.Forms.{nfc, nfd};
+ghost use Rattle.normal_forms.specs.Order.{order};
+ghost use Rattle.normal_forms.specs.CompositionByStarters.{join};
+ghost use Rattle.normal_forms.specs.Reading.{IsMark, Reading};
+ghost use Rattle.normal_forms.specs.Hypotheses.{HasFaithfulResults};
+ghost use Rattle.normal_forms.specs.ShortRuns.{places, HasShortRuns};
+ghost use Rattle.normalizer_tables.specs.declared.characters.IgnoredCharacters.{IgnoredCharacters};
+ghost use Rattle.normalizer_tables.specs.Characters.{has_class_form, list_of};
+ghost use Rattle.normalizer_tables.specs.Ignored.{ignored_list};
+ghost use Rattle.normalizer_tables.specs.Pairs.{pair_of};
+ghost use Rattle.normalizer_iterators.specs.Decomposition.{CanDecompose};
+ghost use Rattle.normalizer_iterators.specs.Decomposition as decomposition;
+ghost use Rattle.normalizer_iterators.specs.LazyComposing.{SuitsLazyComposing};
+ghost use Rattle.normalizer_iterators.specs.Passing.{IsAtPassed};
+ghost use Rattle.normalizer_iterators.specs.LazyReading.{decomposing_reading, SuitsLazyReading};
+ghost use Rattle.normalizer_iterators.specs.StayingMarks.{staying, used, BlocksBelow};
+ghost use Rattle.normalizer_iterators.specs.Composing.{
+  composing_reading,
+  pairing_reading,
+  CanCompose,
+  ComposesOn,
+  ComposesStarter,
+  CompositionSteps,
+  GivesShort,
+  HasVisited,
+  IsBeforeStarter,
+  StaysShort,
+  WherePassed,
+  WillGive,
+  items_left,
+};
+
+use crate::decomposition::Decomposition;
+use crate::decomposition::passing::Given;
+use crate::error::NormalizeError;
+use crate::marks::StayingMarks;
+use normalizer_tables::CanonicalCompositions;
+use normalizer_tables::characters::CharacterData;
+use normalizer_tables::condition::Bounds;
+use std::alloc::AllocError;
+
+/// The characters of a text, decomposed, in canonical order, and composed.
+///
+/// It reads its delegate up to the first character without class form when it is made. After a fault, and once it
+/// ended, it gives `None` for good.
+#[derive(Drop)]
+pub struct Composition<'data, I> {
+    decomposed: Decomposition<'data, I>,
+    characters: CharacterData<'data>,
+    pairs: &'data CanonicalCompositions,
+    bounds: Bounds,
+    marks: StayingMarks,
+    ahead: Ahead,
+}
+
+/// What comes behind the marks that stay.
+#[derive(Clone, Copy)]
+enum Ahead {
+    /// What is decomposed, where no starter has come yet.
+    NoStarter,
+    /// A character that is passed, not yet decomposed, if any is left.
+    Passed,
+    /// A starter, and what is decomposed behind it.
+    Starter(char),
+    /// Nothing.
+    Ended,
+}
+
+/// What became of a character behind a starter and the marks that stay.
+#[derive(Clone, Copy)]
+enum Visited {
+    /// It joined: the starter has become this one.
+    Joined(char),
+    /// It is the next starter.
+    StartsAnew,
+    /// It is one more of the marks that stay.
+    Stays,
+}
+
+impl<'data, I: Iterator<Item = char> + Drop> Composition<'data, I> {
+    /// Composes what is decomposed.
+    pub fn over(
+        decomposed: Decomposition<'data, I>,
+        characters: CharacterData<'data>,
+        pairs: &'data CanonicalCompositions,
+        bounds: Bounds,
+    ) -> Self
+        requires can { CanDecompose I.can_next I.remaining decomposed }
+        requires same { decomposed.characters ≡ characters }
+        requires suits { SuitsLazyComposing characters bounds pairs.now }
+        ensures text { (ignored : IgnoredCharacters) (x : List ℕ) → decomposition.WillGive I.next_gives decomposed.entry (nfd (decomposing_reading characters.entry ignored) x) → WillGive I.next_gives result (nfc (composing_reading characters.entry ignored pairs.now) x) }
+        ensures short { (ignored : IgnoredCharacters) (x : List ℕ) → SuitsLazyReading (has_class_form characters.entry) (decomposing_reading characters.entry ignored) → decomposition.WillGive I.next_gives decomposed.entry (nfd (decomposing_reading characters.entry ignored) x) → decomposition.StaysShort I.next_gives decomposed.entry → HasShortRuns (has_class_form characters.entry) (decomposing_reading characters.entry ignored) x → StaysShort I.next_gives result }
+        ensures ready { CanCompose I.can_next I.remaining result }
+        ensures data { (result.characters ≡ characters.entry) × (result.pairs.now ≡ pairs.now) }
+    {
+        let marks = StayingMarks::new(characters.allocator());
+        Composition {
+            decomposed,
+            characters,
+            pairs,
+            bounds,
+            marks,
+            ahead: Ahead::NoStarter,
+        }
+    }
+
+    /// What two characters compose to.
+    pub fn compose(&self, first: char, second: char) -> Option<char>
+        ensures pair { result ≡ pair_of self.now.pairs.now first second }
+        ensures lists { (ignored : IgnoredCharacters) → HasFaithfulResults (composing_reading self.now.characters ignored self.now.pairs.now) → IfSome result (λ c. (composing_reading self.now.characters ignored self.now.pairs.now).list c ≡ order (composing_reading self.now.characters ignored self.now.pairs.now) ((composing_reading self.now.characters ignored self.now.pairs.now).list first ++ (composing_reading self.now.characters ignored self.now.pairs.now).list second)) }
+    {
+        self.pairs.compose(first, second)
+    }
+
+    /// Composes a starter with what follows it.
+    fn compose_on(&mut self, starter: char) -> Result<char, NormalizeError>
+        requires { CanCompose I.can_next I.remaining self.old }
+        ensures { ComposesOn I.can_next I.next_gives I.remaining starter self.old result self.new }
+    {
+        match compose_starter(
+            &mut self.decomposed,
+            &self.characters,
+            self.pairs,
+            self.bounds,
+            &mut self.marks,
+            starter,
+        ) {
+            Ok((composite, ahead)) => {
+                self.ahead = ahead;
+                Ok(composite)
+            }
+            Err(error) => {
+                self.marks.clear();
+                self.ahead = Ahead::Ended;
+                Err(error)
+            }
+        }
+    }
+
+    /// Gives a character that is passed as it is, or composes it with what follows it.
+    fn pass(&mut self) -> Option<Result<char, NormalizeError>>
+        requires can { CanCompose I.can_next I.remaining self.old }
+        requires marks { staying self.old.marks ≡ [] }
+        requires ahead { IsBeforeStarter self.old.ahead }
+        requires at_passed { IsAtPassed self.old.pairs.now self.old.decomposed }
+        ensures steps { CompositionSteps I.can_next I.next_gives I.remaining self.old result self.new }
+        ensures goes { MakesProgress (CanCompose I.can_next I.remaining) (λ s. at_most (items_left I.remaining s)) self.old result self.new }
+    {
+        match self.decomposed.pass(self.bounds) {
+            Some(Ok(Given::Itself(character))) => {
+                self.ahead = Ahead::Passed;
+                Some(Ok(character))
+            }
+            Some(Ok(Given::FirstMember(starter))) => {
+                self.ahead = Ahead::NoStarter;
+                Some(self.compose_on(starter))
+            }
+            Some(Err(error)) => {
+                self.ahead = Ahead::Ended;
+                Some(Err(error))
+            }
+            None => {
+                self.ahead = Ahead::Ended;
+                None
+            }
+        }
+    }
+}
+
+/// What a starter becomes by the characters that follow it, up to a character that is passed or the next starter that
+/// doesn't join; and what is ahead then, behind the marks that stay.
+fn compose_starter<I: Iterator<Item = char> + Drop>(
+    decomposed: &mut Decomposition<'_, I>,
+    characters: &CharacterData<'_>,
+    pairs: &CanonicalCompositions,
+    bounds: Bounds,
+    marks: &mut StayingMarks,
+    starter: char,
+) -> Result<(char, Ahead), NormalizeError>
+    requires can { CanDecompose I.can_next I.remaining decomposed.old }
+    requires same { decomposed.old.characters ≡ characters.now }
+    requires suits { SuitsLazyComposing characters.now bounds pairs.now }
+    ensures ready { CanDecompose I.can_next I.remaining decomposed.new }
+    ensures same { decomposed.new.characters ≡ characters.now }
+    ensures passed { IfOk result (λ r. WherePassed r.1 (IsAtPassed pairs.now decomposed.new)) }
+    ensures steps { MatchResult result (λ r. ComposesStarter I.next_gives I.remaining (pairing_reading characters.now pairs.now) starter decomposed.old r.0 (staying marks.new) r.1 decomposed.new) (λ e. (e ≡ NormalizeError.Memory) × (¬ GivesShort I.next_gives (pairing_reading characters.now pairs.now) decomposed.old)) }
+{
+    let mut composite = starter;
+    marks.clear();
+    while !decomposed.is_at_passed(bounds) {
+        let Some(item) = decomposed.next() else {
+            return Ok((composite, Ahead::Ended));
+        };
+        let character = match item {
+            Ok(character) => character,
+            Err(error) => return Err(error),
+        };
+        match visit(characters, pairs, marks, composite, character) {
+            Ok(Visited::Joined(joined)) => composite = joined,
+            Ok(Visited::StartsAnew) => return Ok((composite, Ahead::Starter(character))),
+            Ok(Visited::Stays) => {}
+            Err(_) => return Err(NormalizeError::Memory),
+        }
+    }
+    Ok((composite, Ahead::Passed))
+}
+
+/// Joins a character with a starter if none of the marks between them blocks it and the two compose; else a mark stays.
+fn visit(
+    characters: &CharacterData<'_>,
+    pairs: &CanonicalCompositions,
+    marks: &mut StayingMarks,
+    starter: char,
+    character: char,
+) -> Result<Visited, AllocError>
+    requires { BlocksBelow (pairing_reading characters.now pairs.now) marks.old }
+    ensures ok { IfOk result (λ v. HasVisited (pairing_reading characters.now pairs.now) starter character marks.old v marks.new) }
+    ensures err { OnErr result ((places ≤ used marks.old) × IsMark (pairing_reading characters.now pairs.now) character) }
+{
+    let class = characters.class_of(character);
+    if let Some(joined) = join(pairs, marks, starter, character, class) {
+        return Ok(Visited::Joined(joined));
+    }
+    if class == 0 {
+        return Ok(Visited::StartsAnew);
+    }
+    marks.push(character, class)?;
+    Ok(Visited::Stays)
+}
+
+/// What a character of this class and a starter compose to, if none of the marks between them blocks it.
+fn join(
+    pairs: &CanonicalCompositions,
+    marks: &StayingMarks,
+    starter: char,
+    character: char,
+    class: u8,
+) -> Option<char>
+    ensures { (d : Reading) → BlocksBelow d marks.now → class ≡ d.class character → pair_of pairs.now starter character ≡ d.pair starter character → result ≡ join d starter (staying marks.now) character }
+{
+    if marks.lets_pass(class) {
+        pairs.compose(starter, character)
+    } else {
+        None
+    }
+}
+
+impl<'data, I: Iterator<Item = char> + Drop> Iterator for Composition<'data, I> {
+    type Item = Result<char, NormalizeError>;
+
+    ghost can_next = { CanCompose I.can_next I.remaining };
+
+    ghost next_gives = { CompositionSteps I.can_next I.next_gives I.remaining };
+
+    ghost remaining = { λ s. at_most (items_left I.remaining s) };
+
+    fn next(&mut self) -> Option<Result<char, NormalizeError>> {
+        if let Some(mark) = self.marks.pop_front() {
+            return Some(Ok(mark));
+        }
+        match self.ahead {
+            Ahead::Ended => None,
+            Ahead::Starter(starter) => Some(self.compose_on(starter)),
+            Ahead::Passed => self.pass(),
+            Ahead::NoStarter => {
+                if self.decomposed.is_at_passed(self.bounds) {
+                    return self.pass();
+                }
+                match self.decomposed.next() {
+                    Some(Ok(character)) => {
+                        if self.characters.class_of(character) == 0 {
+                            Some(self.compose_on(character))
+                        } else {
+                            Some(Ok(character))
+                        }
+                    }
+                    Some(Err(error)) => {
+                        self.ahead = Ahead::Ended;
+                        Some(Err(error))
+                    }
+                    None => {
+                        self.ahead = Ahead::Ended;
+                        None
+                    }
+                }
+            }
+        }
+    }
+}

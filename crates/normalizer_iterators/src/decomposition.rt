@@ -1,0 +1,170 @@
+//! Decomposing text character by character (The Unicode Standard, D118 and D119).
+ghost use Rattle.std.specs.Prelude.{◌≡◌, ℕ, List, [], None, false, Ok, IfOk, IfErr, OnOk, OnErr, IsOk, IsOkUnless};
+ghost use Rattle.std.specs.Option.{ForSome};
+ghost use Rattle.std.specs.Iterator.{at_most, IsFinite};
+ghost use Rattle.normal_forms.specs.Forms.{nfd};
+ghost use Rattle.normal_forms.specs.ShortRuns.{continues, HasShortRuns};
+ghost use Rattle.normalizer_tables.specs.Characters.{has_class_form, own_reading};
+ghost use Rattle.normalizer_tables.specs.NfdData.{IsSoundNfdData, nfd_characters};
+ghost use Rattle.normalizer_text.specs.Steps.{Spells};
+ghost use Rattle.normalizer_iterators.specs.Delegate.{HasRead, IsReadyBehind};
+ghost use Rattle.normalizer_iterators.specs.LazyReading.{decomposing_reading, SuitsLazyReading};
+ghost use Rattle.normalizer_iterators.specs.WaitingList.{unordered};
+ghost use Rattle.normalizer_iterators.specs.ReadingOn.{ReadsChunk, ChunkDidNotFit};
+
+use crate::error::NormalizeError;
+use crate::reading::{push_from, read_on};
+use crate::waiting::WaitingList;
+use normalizer_tables::characters::{CharacterData, IgnoredCharacters};
+use normalizer_tables::{DecompositionData, DecompositionTables};
+use std::alloc::AllocError;
+
+pub(crate) mod passing;
+
+/// The characters of a text, decomposed and in canonical order.
+///
+/// It reads its delegate up to the first character without class form when it is made. After a fault, and once it
+/// ended, it gives `None` for good.
+#[derive(Drop)]
+pub struct Decomposition<'data, I> {
+    characters: CharacterData<'data>,
+    ignored: IgnoredCharacters,
+    delegate: I,
+    pending: Option<char>,
+    waiting: WaitingList,
+    ghost suits: { SuitsLazyReading (has_class_form characters) (decomposing_reading characters ignored) },
+    ghost anew: { ForSome pending (λ c. continues (has_class_form characters) (decomposing_reading characters ignored) c ≡ false) },
+    ghost settled: { unordered waiting ≡ [] },
+}
+
+impl<'data, I: Iterator<Item = char> + Drop> Decomposition<'data, I> {
+    ghost use Rattle.normalizer_iterators.specs.Decomposition.{WillGive, StaysShort, CanDecompose, IsEnded};
+
+    /// The characters of the NFD of what `delegate` gives, one by one.
+    pub fn new(
+        delegate: I,
+        decompositions: &'data DecompositionData,
+        tables: &'data DecompositionTables,
+    ) -> Result<Self, NormalizeError>
+        requires can { I.can_next delegate }
+        requires ends { IsFinite (I.remaining delegate) }
+        requires sound { IsSoundNfdData decompositions.now tables.now }
+        ensures text { IfOk result (λ it. (x : List ℕ) → Spells I.next_gives delegate x → WillGive I.next_gives it (nfd (own_reading (nfd_characters decompositions.now tables.now)) x)) }
+        ensures short { IfOk result (λ it. (x : List ℕ) → Spells I.next_gives delegate x → HasShortRuns (has_class_form (nfd_characters decompositions.now tables.now)) (own_reading (nfd_characters decompositions.now tables.now)) x → StaysShort I.next_gives it) }
+        ensures succeeds { (x : List ℕ) → Spells I.next_gives delegate x → HasShortRuns (has_class_form (nfd_characters decompositions.now tables.now)) (own_reading (nfd_characters decompositions.now tables.now)) x → IsOk result }
+        ensures ready { IfOk result (CanDecompose I.can_next I.remaining) }
+        ensures refused { IsOkUnless result NormalizeError.Memory }
+    {
+        let characters = CharacterData::new(decompositions, tables, None, false);
+        Decomposition::over(characters, IgnoredCharacters::Dropped, delegate)
+    }
+
+    /// Reads the delegate up to its first character that begins anew.
+    pub fn over(
+        characters: CharacterData<'data>,
+        ignored: IgnoredCharacters,
+        mut delegate: I,
+    ) -> Result<Self, NormalizeError>
+        requires can { I.can_next delegate }
+        requires ends { IsFinite (I.remaining delegate) }
+        requires suits { SuitsLazyReading (has_class_form characters) (decomposing_reading characters ignored) }
+        ensures text { IfOk result (λ it. (x : List ℕ) → Spells I.next_gives delegate x → WillGive I.next_gives it (nfd (decomposing_reading characters.entry ignored) x)) }
+        ensures short { IfOk result (λ it. (x : List ℕ) → Spells I.next_gives delegate x → HasShortRuns (has_class_form characters.entry) (decomposing_reading characters.entry ignored) x → StaysShort I.next_gives it) }
+        ensures succeeds { (x : List ℕ) → Spells I.next_gives delegate x → HasShortRuns (has_class_form characters.entry) (decomposing_reading characters.entry ignored) x → IsOk result }
+        ensures ready { IfOk result (CanDecompose I.can_next I.remaining) }
+        ensures kept { IfOk result (λ it. (it.characters ≡ characters.entry) × (it.ignored ≡ ignored)) }
+        ensures refused { IsOkUnless result NormalizeError.Memory }
+    {
+        let mut waiting = WaitingList::new(characters.allocator());
+        let first = delegate.next();
+        match read_on(&characters, ignored, first, &mut delegate, &mut waiting) {
+            Ok(pending) => Ok(Decomposition {
+                characters,
+                ignored,
+                delegate,
+                pending,
+                waiting,
+            }),
+            Err(_) => Err(NormalizeError::Memory),
+        }
+    }
+
+    /// The first member of the list of the character that was pending. The one behind it was read.
+    fn next_chunk(
+        &mut self,
+        character: char,
+        following: Option<char>,
+    ) -> Result<char, NormalizeError>
+        requires taken { self.old.pending ≡ None }
+        requires anew { continues (has_class_form self.old.characters) (decomposing_reading self.old.characters self.old.ignored) character ≡ false }
+        requires ready { IsReadyBehind I.can_next I.remaining following self.old.delegate }
+        requires read { (before : I) × HasRead I.next_gives I.remaining before following self.old.delegate }
+        ensures ok { IfOk result (λ first. (before : I) → HasRead I.next_gives I.remaining before following self.old.delegate → ReadsChunk I.can_next I.next_gives I.remaining (has_class_form self.old.characters) (decomposing_reading self.old.characters self.old.ignored) character before first self.new.pending self.new.delegate self.new.waiting) }
+        ensures err { IfErr result (λ e. (e ≡ NormalizeError.Memory) × IsEnded self.new × ((before : I) → HasRead I.next_gives I.remaining before following self.old.delegate → ChunkDidNotFit I.next_gives (has_class_form self.old.characters) (decomposing_reading self.old.characters self.old.ignored) character before)) }
+        ensures kept { (self.new.characters ≡ self.old.characters) × (self.new.ignored ≡ self.old.ignored) }
+    {
+        match read_chunk(
+            &self.characters,
+            self.ignored,
+            character,
+            following,
+            &mut self.delegate,
+            &mut self.waiting,
+        ) {
+            Ok((first, pending)) => {
+                self.pending = pending;
+                Ok(first)
+            }
+            Err(_) => {
+                self.waiting.clear();
+                Err(NormalizeError::Memory)
+            }
+        }
+    }
+}
+
+/// The first member of the list of a character that begins anew; the others wait, with the lists of the characters that
+/// continue it, and the next one that begins anew is found. The one behind it was read.
+fn read_chunk<I: Iterator<Item = char> + Drop>(
+    characters: &CharacterData<'_>,
+    ignored: IgnoredCharacters,
+    character: char,
+    following: Option<char>,
+    delegate: &mut I,
+    waiting: &mut WaitingList,
+) -> Result<(char, Option<char>), AllocError>
+    requires ready { IsReadyBehind I.can_next I.remaining following delegate.old }
+    requires anew { continues (has_class_form characters.now) (decomposing_reading characters.now ignored) character ≡ false }
+    ensures ok { IfOk result (λ r. (before : I) → HasRead I.next_gives I.remaining before following delegate.old → ReadsChunk I.can_next I.next_gives I.remaining (has_class_form characters.now) (decomposing_reading characters.now ignored) character before r.0 r.1 delegate.new waiting.new) }
+    ensures err { OnErr result ((before : I) → HasRead I.next_gives I.remaining before following delegate.old → ChunkDidNotFit I.next_gives (has_class_form characters.now) (decomposing_reading characters.now ignored) character before) }
+{
+    let members = characters.members(character, ignored);
+    let Some(first) = members.get(0) else {
+        unreachable!()
+    };
+    waiting.clear();
+    push_from(characters, &members, 1, waiting)?;
+    let pending = read_on(characters, ignored, following, delegate, waiting)?;
+    Ok((first, pending))
+}
+
+impl<'data, I: Iterator<Item = char> + Drop> Iterator for Decomposition<'data, I> {
+    ghost use Rattle.normalizer_iterators.specs.Decomposition.{DecompositionSteps, CanDecompose, items_left};
+
+    type Item = Result<char, NormalizeError>;
+
+    ghost can_next = { CanDecompose I.can_next I.remaining };
+
+    ghost next_gives = { DecompositionSteps I.can_next I.next_gives I.remaining };
+
+    ghost remaining = { λ s. at_most (items_left I.remaining s) };
+
+    fn next(&mut self) -> Option<Result<char, NormalizeError>> {
+        if let Some(character) = self.waiting.pop_front() {
+            return Some(Ok(character));
+        }
+        let character = self.pending.take()?;
+        let following = self.delegate.next();
+        Some(self.next_chunk(character, following))
+    }
+}

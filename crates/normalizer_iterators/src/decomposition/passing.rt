@@ -1,0 +1,75 @@
+//! Giving characters as they are, where a composing loop passes them.
+ghost use Rattle.std.specs.Prelude.{◌≡◌, ◌↔◌, List, IsTrue};
+ghost use Rattle.normalizer_tables.specs.Pairs.{Pair};
+ghost use Rattle.normalizer_iterators.specs.LazyComposing.{IsPassed, PassedBeginAnew, SuitsLazyComposing};
+ghost use Rattle.normalizer_iterators.specs.Passing.{Passes, IsAtPassed, StandsAtPassed, AllPassed};
+ghost use Rattle.normalizer_iterators.specs.Decomposition.{CanDecompose};
+
+use crate::decomposition::Decomposition;
+use crate::error::NormalizeError;
+use normalizer_tables::characters::CharacterData;
+use normalizer_tables::condition::Bounds;
+use normalizer_tables::word::{is_backward_combining, is_non_round_trip};
+
+/// How a character was given.
+#[derive(Clone, Copy)]
+pub(crate) enum Given {
+    /// As it is: it is composed.
+    Itself(char),
+    /// By the first member of its list; the others wait.
+    FirstMember(char),
+}
+
+impl<'data, I: Iterator<Item = char> + Drop> Decomposition<'data, I> {
+    /// Whether nothing waits, and a composing loop passes the character that is read next.
+    pub(crate) fn is_at_passed(&self, bounds: Bounds) -> bool
+        ensures { IsTrue result ↔ StandsAtPassed bounds self.now }
+    {
+        match self.pending {
+            Some(character) => {
+                self.waiting.is_empty() && is_passed(&self.characters, bounds, character)
+            }
+            None => false,
+        }
+    }
+
+    /// The next character: as it is if the one behind it is passed too, or none is; else the first member of its list.
+    pub(crate) fn pass(&mut self, bounds: Bounds) -> Option<Result<Given, NormalizeError>>
+        requires can { CanDecompose I.can_next I.remaining self.old }
+        requires anew { PassedBeginAnew self.old.characters bounds self.old.ignored }
+        ensures { (pairs : List Pair) → SuitsLazyComposing self.old.characters bounds pairs → IsAtPassed pairs self.old → Passes I.can_next I.next_gives I.remaining pairs self.old result self.new }
+    {
+        let character = self.pending.take()?;
+        let following = self.delegate.next();
+        if are_passed(&self.characters, bounds, following) {
+            self.pending = following;
+            return Some(Ok(Given::Itself(character)));
+        }
+        match self.next_chunk(character, following) {
+            Ok(first) => Some(Ok(Given::FirstMember(first))),
+            Err(error) => Some(Err(error)),
+        }
+    }
+}
+
+/// Whether a composing loop passes a character, or there is none.
+fn are_passed(characters: &CharacterData<'_>, bounds: Bounds, character: Option<char>) -> bool
+    ensures { IsTrue result ↔ AllPassed characters.now bounds character }
+{
+    match character {
+        Some(character) => is_passed(characters, bounds, character),
+        None => true,
+    }
+}
+
+/// Whether a composing loop passes a character: it lies below the bound, or its word has neither flag.
+#[tactic(auto, unfolding(normalizer_tables::specs::PairConditions::is_passed))]
+fn is_passed(characters: &CharacterData<'_>, bounds: Bounds, character: char) -> bool
+    ensures { IsTrue result ↔ IsPassed characters.now bounds character }
+{
+    if (character as u32) < bounds.composition {
+        return true;
+    }
+    let word = characters.word_of(character);
+    !is_non_round_trip(word) && !is_backward_combining(word)
+}

@@ -1,0 +1,13 @@
+//! Iterators that give text in a normal form character by character (The Unicode Standard, D118 to D121).
+#![tactic(auto)]
+
+pub mod composition;
+pub mod decomposition;
+mod error;
+mod marks;
+mod reading;
+mod waiting;
+
+pub use composition::Composition;
+pub use decomposition::Decomposition;
+pub use error::NormalizeError;

@@ -1,0 +1,81 @@
+//! The marks that stay behind a starter while it is composed.
+ghost use Rattle.std.specs.Prelude.{◌≡◌, ◌+◌, ◌<◌, ◌≤◌, ◌∷◌, ◌++◌, [], ℕ, IfSome, IfNone, IsOk, OnOk};
+ghost use Rattle.smallvec.specs.SmallVec.{small_vec_len};
+ghost use Rattle.normal_forms.specs.Reading.{Reading};
+ghost use Rattle.normal_forms.specs.CompositionByStarters.{is_above};
+ghost use Rattle.normal_forms.specs.ShortRuns.{places};
+
+use smallvec::SmallVec;
+use std::alloc::{AllocError, Global};
+
+/// Marks in the order in which they came, and the lowest class that none of them blocks (The Unicode Standard, D115).
+#[derive(Drop)]
+pub(crate) struct StayingMarks {
+    marks: SmallVec<char, 17>,
+    next: usize,
+    unblocked: u16,
+    ghost given: { next ≤ small_vec_len marks },
+    ghost room: { places ≤ marks.capacity },
+}
+
+impl StayingMarks {
+    ghost use Rattle.normalizer_iterators.specs.StayingMarks.{staying, used, BlocksBelow};
+
+    #[tactic(auto, unfolding(crate::specs::StayingMarks::staying, crate::specs::StayingMarks::used))]
+    pub(crate) fn new(alloc: Global) -> Self
+        ensures staying { staying result ≡ [] }
+        ensures used { used result ≡ 0 }
+        ensures blocking { (d : Reading) → BlocksBelow d result }
+    {
+        StayingMarks {
+            marks: SmallVec::new(alloc),
+            next: 0,
+            unblocked: 0,
+        }
+    }
+
+    #[tactic(auto, unfolding(crate::specs::StayingMarks::staying, crate::specs::StayingMarks::used))]
+    pub(crate) fn clear(&mut self)
+        ensures staying { staying self.new ≡ [] }
+        ensures used { used self.new ≡ 0 }
+        ensures blocking { (d : Reading) → BlocksBelow d self.new }
+    {
+        self.next = 0;
+        self.unblocked = 0;
+        self.marks.clear();
+    }
+
+    /// The next of them, if one is left.
+    pub(crate) fn pop_front(&mut self) -> Option<char>
+        ensures some { IfSome result (λ c. staying self.old ≡ c ∷ staying self.new) }
+        ensures none { IfNone result ((staying self.old ≡ []) × (staying self.new ≡ [])) }
+    {
+        if self.next < self.marks.len() {
+            let front = self.marks[self.next];
+            self.next += 1;
+            Some(front)
+        } else {
+            None
+        }
+    }
+
+    /// Whether none of them blocks a character of this class.
+    #[tactic(auto, unfolding(crate::specs::StayingMarks::BlocksBelow))]
+    pub(crate) fn lets_pass(&self, class: u8) -> bool
+        ensures { (d : Reading) (c : ℕ) → BlocksBelow d self.now → class ≡ d.class c → result ≡ is_above d (staying self.now) c }
+    {
+        self.unblocked <= class as u16
+    }
+
+    /// Adds a mark of this class.
+    pub(crate) fn push(&mut self, mark: char, class: u8) -> Result<(), AllocError>
+        ensures staying { OnOk result (staying self.new ≡ staying self.old ++ mark ∷ []) }
+        ensures used { OnOk result (used self.new ≡ used self.old + 1) }
+        ensures blocking { OnOk result ((d : Reading) → BlocksBelow d self.old → class ≡ d.class mark → BlocksBelow d self.new) }
+        ensures succeeds { used self.old < places → IsOk result }
+    {
+        self.marks.push(mark)?;
+        self.unblocked = self.unblocked.max(class as u16 + 1);
+        Ok(())
+    }
+}

@@ -1,0 +1,63 @@
+//! Reading characters on, until one begins anew.
+ghost use Rattle.std.specs.Prelude.{◌≡◌, ◌+◌, ◌≤◌, ℕ, List, ◌++◌, length, drop, IsOk, IfOk, OnOk, OnErr};
+ghost use Rattle.normal_forms.specs.Reading.{Reading};
+ghost use Rattle.normal_forms.specs.ShortRuns.{places};
+ghost use Rattle.normalizer_tables.specs.Characters.{has_class_form};
+ghost use Rattle.normalizer_iterators.specs.Delegate.{HasRead, IsReadyBehind};
+ghost use Rattle.normalizer_iterators.specs.WaitingList.{held, reordered, AgreesWith};
+ghost use Rattle.normalizer_iterators.specs.LazyReading.{decomposing_reading, HasClassesFrom};
+ghost use Rattle.normalizer_iterators.specs.ReadingOn.{ReadsOn, DidNotFit};
+
+use crate::waiting::WaitingList;
+use normalizer_tables::characters::{CharacterData, IgnoredCharacters};
+use normalizer_tables::members::Members;
+use std::alloc::AllocError;
+
+/// Lets the characters that continue what stands before them wait, in canonical order, up to the first one that begins
+/// anew: that one is the answer, and it does not wait. None where the delegate has ended. The first was read before.
+pub(crate) fn read_on<I: Iterator<Item = char> + Drop>(
+    characters: &CharacterData<'_>,
+    ignored: IgnoredCharacters,
+    first: Option<char>,
+    delegate: &mut I,
+    waiting: &mut WaitingList,
+) -> Result<Option<char>, AllocError>
+    requires ready { IsReadyBehind I.can_next I.remaining first delegate.old }
+    requires classes { AgreesWith (decomposing_reading characters.now ignored) waiting.old }
+    ensures ok { IfOk result (λ pending. (before : I) → HasRead I.next_gives I.remaining before first delegate.old → ReadsOn I.can_next I.next_gives I.remaining (has_class_form characters.now) (decomposing_reading characters.now ignored) before waiting.old pending delegate.new waiting.new) }
+    ensures err { OnErr result ((before : I) → HasRead I.next_gives I.remaining before first delegate.old → DidNotFit I.next_gives (has_class_form characters.now) (decomposing_reading characters.now ignored) before waiting.old) }
+{
+    let mut next = first;
+    while let Some(character) = next {
+        let members = characters.members(character, ignored);
+        if !members.is_empty() && !characters.has_class_form(character) {
+            waiting.put_in_order();
+            return Ok(Some(character));
+        }
+        push_from(characters, &members, 0, waiting)?;
+        next = delegate.next();
+    }
+    waiting.put_in_order();
+    Ok(None)
+}
+
+/// Lets the members of a list wait, those from this place on.
+pub(crate) fn push_from(
+    characters: &CharacterData<'_>,
+    members: &Members<'_>,
+    first: usize,
+    waiting: &mut WaitingList,
+) -> Result<(), AllocError>
+    requires { first ≤ length members.now }
+    ensures text { OnOk result ((d : Reading) → HasClassesFrom characters.now d → AgreesWith d waiting.old → (rest : List ℕ) → reordered d waiting.old (drop first members.now ++ rest) ≡ reordered d waiting.new rest) }
+    ensures classes { OnOk result ((d : Reading) → HasClassesFrom characters.now d → AgreesWith d waiting.old → AgreesWith d waiting.new) }
+    ensures held { OnOk result (held waiting.new + first ≡ held waiting.old + length members.now) }
+    ensures succeeds { held waiting.old + length members.now ≤ places + first → IsOk result }
+{
+    for place in first..members.len() {
+        if let Some(member) = members.get(place) {
+            waiting.push(member, characters.class_of(member))?;
+        }
+    }
+    Ok(())
+}
