@@ -1,6 +1,7 @@
 -- What the laws of the normal forms ask of a reading. Each law takes those that it needs.
 use Rattle.std.specs.Prelude.{◌≡◌, ◌≢◌, ℕ, [], ◌++◌, Some, All}
-use Rattle.normal_forms.specs.Reading.{Reading, IsStarter, ReadsAsItself}
+use Rattle.std.specs.Char.{IsScalar}
+use Rattle.normal_forms.specs.Reading.{Reading, IsStarter, ReadsAsItself, IsText}
 use Rattle.normal_forms.specs.Order.{order}
 use Rattle.normal_forms.specs.Forms.{Form, Decomposing, Composing}
 
@@ -19,6 +20,14 @@ pub record HasFaithfulResults (d : Reading) : Type 0 where
 -- no list is empty
 pub record HasInhabitedLists (d : Reading) : Type 0 where
   pub inhabited : (c : ℕ) → d.list c ≢ []
+
+-- the list of a Unicode scalar value is a text
+pub record HasTextLists (d : Reading) : Type 0 where
+  pub texts : (c : ℕ) → IsScalar c → IsText (d.list c)
+
+-- what two scalar values join to is a scalar value
+pub record HasScalarResults (d : Reading) : Type 0 where
+  pub scalars : (a c r : ℕ) → IsScalar a → IsScalar c → d.pair a c ≡ Some r → IsScalar r
 
 -- what the laws of canonicity and of the cut ask for a form: nothing is asked of pairs where nothing is composed
 abbrev pub SuitsForm : Reading → Form → Type 0

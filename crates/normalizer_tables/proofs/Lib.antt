@@ -1,3 +1,4 @@
+pub mod AcceptedLaws
 pub mod CharacterLemmas
 pub mod CodePoints
 pub mod CompositionLemmas
@@ -14,6 +15,7 @@ pub mod OrderedLists
 pub mod PairConditionLemmas
 pub mod PairLaws
 pub mod PairLemmas
+pub mod PartsOfConditions
 pub mod RangeLists
 pub mod RangeTables
 pub mod SoundLists

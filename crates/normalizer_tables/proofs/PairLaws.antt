@@ -32,7 +32,7 @@ use Rattle.normalizer_tables.proofs.PairLemmas.{All-listed_result}
 use Rattle.normalizer_tables.proofs.HangulLemmas.{IsLv, IsLvt, compose_hangul-some, hangul_decomposition-lv, hangul_decomposition-two, hangul_decomposition-lvt}
 
 -- a pair is one of Hangul or a listed one
-pair_of-some : (pairs : List Pair) (first second result : ℕ) → pair_of pairs first second ≡ Some result → (compose_hangul first second ≡ Some result) ⊎ (listed_result pairs first second ≡ Some result)
+pub pair_of-some : (pairs : List Pair) (first second result : ℕ) → pair_of pairs first second ≡ Some result → (compose_hangul first second ≡ Some result) ⊎ (listed_result pairs first second ≡ Some result)
 unfolding pair_of
 pair_of-some pairs first second result joins =
     cond_both (is_vowel_or_trailing_jamo second) _ _ (λ o. o ≡ Some result → (compose_hangul first second ≡ Some result) ⊎ (listed_result pairs first second ≡ Some result)) (λ _ e. inl e) (λ _ e. inr e) joins

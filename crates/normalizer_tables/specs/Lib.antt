@@ -1,3 +1,4 @@
+pub mod AcceptedData
 pub mod Characters
 pub mod ClassConditions
 pub mod Conditions

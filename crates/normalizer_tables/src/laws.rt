@@ -15,6 +15,7 @@ ghost use Rattle.normalizer_tables.specs.Characters.{
 ghost use Rattle.normalizer_tables.specs.Ignored.{IgnoredCharacters, Replaced, ignored_list};
 ghost use Rattle.normalizer_tables.specs.SoundData.{Bounds, IsSoundData};
 
+pub mod accepted;
 pub mod pairs;
 
 /// The members of every list read as themselves.

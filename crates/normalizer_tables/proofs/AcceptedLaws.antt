@@ -1,0 +1,137 @@
+-- What accepted data are to the laws of the normal forms, and to those who ask less of them.
+use Rattle.std.proofs.Common.{◌≡◌, ◌≢◌, ℕ, ◌<◌, true, false, List, [], ◌∷◌, ◌++◌, length, length-append, All, Option, None, inl, inr, refl, sym, ap, subst, ◌∙◌, arith}
+use Rattle.std.specs.Char.{IsScalar}
+use lib.Utf8.{scalar}
+use Rattle.std.proofs.Math.Utf8.{low_scalar}
+use Rattle.std.proofs.lemmas.Bool.{cases_Bool}
+use Rattle.normal_forms.specs.Reading.{Reading}
+use Rattle.normal_forms.specs.Order.{order}
+use Rattle.normal_forms.specs.declared.Form.{Form}
+use Rattle.normal_forms.specs.declared.Form.TheVariants.{Decomposing, Composing}
+use Rattle.normal_forms.specs.Hypotheses.{HasFullLists, HasStarterResults, HasFaithfulResults, HasInhabitedLists, HasTextLists, HasScalarResults, SuitsForm}
+use Rattle.normal_forms.proofs.OrderLemmas.{length-order}
+use Rattle.normalizer_tables.specs.declared.condition.Condition.TheVariants as condition
+use Rattle.normalizer_tables.specs.declared.pair_condition.PairCondition.TheVariants as of_pairs
+use Rattle.normalizer_tables.specs.AcceptedData.{IsAccepted, AreAcceptedPairs, SuitsMapper, SuitsTexts}
+use Rattle.normalizer_tables.specs.Characters.{Characters, list_of, own_reading, reading_of}
+use Rattle.normalizer_tables.specs.Data.{Decompositions, Lists}
+use Rattle.normalizer_tables.specs.Ignored.{IgnoredCharacters, Dropped, ignored_list}
+use Rattle.normalizer_tables.specs.NfdData.{IsSoundNfdData, nfd_bounds, nfd_characters}
+use Rattle.normalizer_tables.specs.PairConditions.{HoldsOfPairs, composing_reading, pair_conditions}
+use Rattle.normalizer_tables.specs.Pairs.{Pair, pair_of}
+use Rattle.normalizer_tables.specs.SoundData.{Bounds, IsSoundData}
+use Rattle.normalizer_tables.proofs.CharacterLemmas.{list_of-default}
+use Rattle.normalizer_tables.proofs.HangulLemmas.{compose_hangul-some}
+use Rattle.normalizer_tables.proofs.InhabitedLists.{HasInhabitedLists-reading_of}
+use Rattle.normalizer_tables.proofs.PairLaws.{pair_of-some, HasFaithfulResults-reading_of, HasStarterResults-reading_of}
+use Rattle.normalizer_tables.proofs.PairLemmas.{All-listed_result}
+use Rattle.normalizer_tables.proofs.SoundLists.{list_read-elsewhere, HasFullLists-sound, IsText-list_of}
+
+-- ---- sound data
+
+pub IsSoundData-accepted : (s : Characters) (b : Bounds) → IsAccepted s b → IsSoundData s b
+IsSoundData-accepted s b accepted = record {
+  replacement = accepted 2 condition.ReplacementCharacter (omega arith);
+  words = accepted 6 condition.Words (omega arith);
+  members = accepted 7 condition.Members (omega arith);
+  order = accepted 8 condition.Order (omega arith);
+}
+
+pub IsSoundData-handed_in : (decompositions : Decompositions) (tables : Lists) → IsSoundNfdData decompositions tables → IsSoundData (nfd_characters decompositions tables) nfd_bounds
+IsSoundData-handed_in decompositions tables accepted = record {
+  replacement = accepted 1 condition.ReplacementCharacter (omega arith);
+  words = accepted 5 condition.Words (omega arith);
+  members = accepted 6 condition.Members (omega arith);
+  order = accepted 7 condition.Order (omega arith);
+}
+
+HasTextLists-sound : (s : Characters) (b : Bounds) → IsSoundData s b → (i : IgnoredCharacters) (pairing : ℕ → ℕ → Option ℕ) → HasTextLists (reading_of s (ignored_list i) pairing)
+HasTextLists-sound s b sound i pairing = record { texts = IsText-list_of s b sound i }
+
+-- ---- what characters compose to
+
+nonempty : (x : List ℕ) → x ≢ [] → 0 < length x
+nonempty [] some = absurd (some refl)
+nonempty (c ∷ x) some = omega arith
+
+-- two lists together are no list of one
+not_one : (d : Reading) (x y : List ℕ) (r : ℕ) → x ≢ [] → y ≢ [] → r ∷ [] ≡ order d (x ++ y) → ⊥
+not_one d x y r first second e =
+    let lengths : 1 ≡ length (order d (x ++ y)) = ap length e in
+    omega (arith, length-order d (x ++ y), length-append x y, nonempty x first, nonempty y second)
+
+-- where a composite has the lists of its parts, and no list is empty, it is a character, since other numbers have themselves
+HasScalarResults-faithful : (d : Reading) → HasFaithfulResults d → HasInhabitedLists d → ((c : ℕ) → scalar c ≡ false → d.list c ≡ c ∷ []) → HasScalarResults d
+HasScalarResults-faithful d faithful inhabited alone = record {
+  scalars = λ a c r first second joins. elim (cases_Bool (scalar r)) as (λ _. scalar r ≡ true) [
+    | inl is ↦ is
+    | inr other ↦ absurd (not_one d (d.list a) (d.list c) r (inhabited.inhabited a) (inhabited.inhabited c) (sym (alone r other) ∙ faithful.results a c r joins))
+  ];
+}
+
+list_of-elsewhere : (s : Characters) (ignored : List ℕ) (n : ℕ) → scalar n ≡ false → list_of s ignored n ≡ n ∷ []
+list_of-elsewhere s ignored n other = list_of-default s ignored n (list_read-elsewhere s ignored n other)
+
+pub HasScalarResults-pairs : (s : Characters) (ignored : List ℕ) (pairs : List Pair) → All (λ p. IsScalar p.2) pairs → HasScalarResults (reading_of s ignored (pair_of pairs))
+HasScalarResults-pairs s ignored pairs scalars = record {
+  scalars = λ a c r first second joins. elim (pair_of-some pairs a c r joins) as (λ _. scalar r ≡ true) [
+    | inl by_hangul ↦ elim (compose_hangul-some a c r by_hangul) as (λ _. scalar r ≡ true) [
+      | inl h ↦ low_scalar r (omega arith)
+      | inr h ↦ low_scalar r (omega arith)
+    ]
+    | inr as_listed ↦ All-listed_result (λ p. IsScalar p.2) pairs a c r scalars as_listed
+  ];
+}
+
+-- ---- accepted data
+
+SuitsTexts-sound : (s : Characters) (b : Bounds) → s.is_mapper ≡ false → IsSoundData s b → SuitsTexts (own_reading s) Decomposing
+SuitsTexts-sound s b plain sound = record {
+  laws = HasFullLists-sound s b sound Dropped (λ x y. None);
+  inhabited = HasInhabitedLists-reading_of s Dropped (λ x y. None) (inl plain);
+  texts = HasTextLists-sound s b sound Dropped (λ x y. None);
+  scalars = record { scalars = λ a c r first second joins. cc };
+}
+
+pub SuitsTexts-accepted : (s : Characters) (b : Bounds) → s.is_mapper ≡ false → IsAccepted s b → SuitsTexts (own_reading s) Decomposing
+SuitsTexts-accepted s b plain accepted = SuitsTexts-sound s b plain (IsSoundData-accepted s b accepted)
+
+pub SuitsTexts-handed_in : (decompositions : Decompositions) (tables : Lists) → IsSoundNfdData decompositions tables → SuitsTexts (own_reading (nfd_characters decompositions tables)) Decomposing
+SuitsTexts-handed_in decompositions tables accepted =
+    SuitsTexts-sound (nfd_characters decompositions tables) nfd_bounds refl (IsSoundData-handed_in decompositions tables accepted)
+
+module _ (s : Characters) (b : Bounds) (pairs : List Pair) (accepted : IsAccepted s b) where
+  pub HasStarterResults-accepted : AreAcceptedPairs s b pairs → (ignored : List ℕ) → HasStarterResults (reading_of s ignored (pair_of pairs))
+  HasStarterResults-accepted accepted_pairs ignored =
+      HasStarterResults-reading_of s b (accepted 5 condition.Hangul (omega arith)) pairs (accepted_pairs 0 of_pairs.Pairs (omega arith)) ignored
+
+  pub SuitsMapper-accepted : AreAcceptedPairs s b pairs → (i : IgnoredCharacters) → SuitsMapper (reading_of s (ignored_list i) (pair_of pairs))
+  SuitsMapper-accepted accepted_pairs i =
+      let sound = IsSoundData-accepted s b accepted in
+      record {
+        full = HasFullLists-sound s b sound i (pair_of pairs);
+        starters = HasStarterResults-accepted accepted_pairs (ignored_list i);
+        texts = HasTextLists-sound s b sound i (pair_of pairs);
+      }
+
+  module _ (plain : s.is_mapper ≡ false) (accepted_pairs : AreAcceptedPairs s b pairs) where
+    HasFaithfulResults-accepted : HasFaithfulResults (composing_reading s pairs)
+    unfolding HoldsOfPairs
+    HasFaithfulResults-accepted =
+        let all : All (HoldsOfPairs s b pairs) (pair_conditions false) = subst (λ m. All (HoldsOfPairs s b pairs) (pair_conditions m)) plain accepted_pairs in
+        HasFaithfulResults-reading_of s b (accepted 5 condition.Hangul (omega arith)) pairs [] (all 3 of_pairs.Results (omega arith))
+
+    suits : (form : Form) → HasFullLists (composing_reading s pairs) → SuitsForm (composing_reading s pairs) form
+    suits Decomposing full = full
+    suits Composing full = (full, HasStarterResults-accepted accepted_pairs [], HasFaithfulResults-accepted)
+
+    pub SuitsTexts-accepted_pairs : (form : Form) → SuitsTexts (composing_reading s pairs) form
+    SuitsTexts-accepted_pairs form =
+        let sound = IsSoundData-accepted s b accepted in
+        let inhabited = HasInhabitedLists-reading_of s Dropped (pair_of pairs) (inl plain) in
+        record {
+          laws = suits form (HasFullLists-sound s b sound Dropped (pair_of pairs));
+          inhabited = inhabited;
+          texts = HasTextLists-sound s b sound Dropped (pair_of pairs);
+          scalars = HasScalarResults-faithful (composing_reading s pairs) HasFaithfulResults-accepted inhabited (list_of-elsewhere s []);
+        }

@@ -1,0 +1,70 @@
+//! What data that a constructor accepts are to the laws of the normal forms, and to those who ask less of them.
+ghost use Rattle.std.specs.Prelude.{◌≡◌, ℕ, List, false, true, All};
+ghost use Rattle.std.specs.Char.{IsScalar};
+ghost use Rattle.normal_forms.specs.declared.Form.{Form};
+ghost use Rattle.normal_forms.specs.declared.Form.TheVariants.{Decomposing};
+ghost use Rattle.normal_forms.specs.Hypotheses.{HasScalarResults};
+ghost use Rattle.normalizer_tables.specs.AcceptedData.{
+  AreAcceptedPairs,
+  IsAccepted,
+  SuitsMapper,
+  SuitsTexts,
+};
+ghost use Rattle.normalizer_tables.specs.Characters.{Characters, own_reading, reading_of};
+ghost use Rattle.normalizer_tables.specs.ClassConditions.{HoldsOfClasses, class_conditions};
+ghost use Rattle.normalizer_tables.specs.Conditions.{Holds};
+ghost use Rattle.normalizer_tables.specs.Data.{Decompositions, Lists};
+ghost use Rattle.normalizer_tables.specs.Ignored.{IgnoredCharacters, ignored_list};
+ghost use Rattle.normalizer_tables.specs.NfdData.{IsSoundNfdData, nfd_bounds, nfd_characters};
+ghost use Rattle.normalizer_tables.specs.PairConditions.{
+  AreSoundPairs,
+  HoldsOfPairs,
+  composing_reading,
+};
+ghost use Rattle.normalizer_tables.specs.Pairs.{Pair, pair_of};
+ghost use Rattle.normalizer_tables.specs.SoundData.{Bounds, IsSoundData};
+ghost use Rattle.normalizer_tables.specs.declared.condition.Condition.TheVariants as condition;
+ghost use Rattle.normalizer_tables.specs.declared.pair_condition.PairCondition.TheVariants as of_pairs;
+
+/// Accepted data that are no mapper's suit the laws of the decomposing form, and with accepted pairs those of both forms.
+/// Canonical data that are handed in unchecked suit them by their own conditions.
+pub fn accepted_data_suit_texts()
+    ensures decomposing { (s : Characters) (b : Bounds) → s.is_mapper ≡ false → IsAccepted s b →
+        SuitsTexts (own_reading s) Decomposing }
+    ensures composing { (s : Characters) (b : Bounds) (pairs : List Pair) → s.is_mapper ≡ false →
+        IsAccepted s b → AreAcceptedPairs s b pairs → (form : Form) → SuitsTexts (composing_reading s pairs) form }
+    ensures handed_in { (decompositions : Decompositions) (tables : Lists) → IsSoundNfdData decompositions tables →
+        SuitsTexts (own_reading (nfd_characters decompositions tables)) Decomposing }
+{}
+
+/// Accepted data with accepted pairs suit a mapper, however it treats ignored characters.
+pub fn accepted_data_suit_mappers()
+    ensures { (s : Characters) (b : Bounds) (pairs : List Pair) → IsAccepted s b → AreAcceptedPairs s b pairs →
+        (i : IgnoredCharacters) → SuitsMapper (reading_of s (ignored_list i) (pair_of pairs)) }
+{}
+
+/// Accepted data are sound: of their lists the laws of the normal forms may be used.
+pub fn accepted_data_are_sound()
+    ensures accepted { (s : Characters) (b : Bounds) → IsAccepted s b → IsSoundData s b }
+    ensures handed_in { (decompositions : Decompositions) (tables : Lists) → IsSoundNfdData decompositions tables →
+        IsSoundData (nfd_characters decompositions tables) nfd_bounds }
+{}
+
+/// What characters compose to are characters where the pairs hold characters alone; Hangul syllables are characters.
+pub fn results_are_characters()
+    ensures { (s : Characters) (ignored : List ℕ) (pairs : List Pair) → All (λ p. IsScalar p.2) pairs →
+        HasScalarResults (reading_of s ignored (pair_of pairs)) }
+{}
+
+/// What is asked for classes alone is part of what is asked of whole data: conditions 4, 5 and 7.
+pub fn accepted_data_have_sound_classes()
+    ensures { (s : Characters) (b : Bounds) →
+        Holds s b condition.Surrogates → Holds s b condition.PastTheEnd → Holds s b condition.Words →
+        All (HoldsOfClasses s.decompositions.table) class_conditions }
+{}
+
+/// What is asked of pairs alone is part of what is asked of data with pairs: condition 11.
+pub fn accepted_pairs_are_sound()
+    ensures { (s : Characters) (b : Bounds) (pairs : List Pair) → HoldsOfPairs s b pairs of_pairs.Pairs →
+        AreSoundPairs pairs }
+{}
