@@ -1,8 +1,10 @@
 -- The encodings, each with what stands in front of its units.
 use Rattle.std.specs.Prelude.{ℕ, Bool, List}
 use Rattle.normalizer_text.specs.declared.step.Step.{Step}
+use Rattle.std.specs.Str.{encode_utf8_all}
+use Rattle.normalizer_text.specs.Steps.{decoded}
 use Rattle.normalizer_text.specs.Utf8.{continuation, allows, first_of_utf8}
-use Rattle.normalizer_text.specs.Utf16.{is_low, first_of_utf16}
+use Rattle.normalizer_text.specs.Utf16.{is_low, first_of_utf16, encode_utf16_all}
 
 pub data Encoding : Type 0 where
   Utf8 : Encoding
@@ -11,6 +13,15 @@ pub data Encoding : Type 0 where
 abbrev pub first_in : Encoding → List ℕ → Step
 first_in Encoding.Utf8 = first_of_utf8
 first_in Encoding.Utf16 = first_of_utf16
+
+-- the encoding of a text
+abbrev pub encoded_in : Encoding → List ℕ → List ℕ
+encoded_in Encoding.Utf8 x = encode_utf8_all x
+encoded_in Encoding.Utf16 x = encode_utf16_all x
+
+-- the text that units decode to
+abbrev pub decoded_in : Encoding → List ℕ → List ℕ
+decoded_in e units = decoded (first_in e) units
 
 -- whether a unit can stand after the first one of a step, and how many units a step takes at most
 abbrev pub trails_in : Encoding → ℕ → Bool
