@@ -1,23 +1,21 @@
 -- Boundaries of steps that no error comes before: where they lie, and what stands before and behind them.
-use Rattle.std.proofs.Common.{◌≡◌, ℕ, zero, suc, ◌+◌, ◌<◌, ◌≤◌, ◌⊎◌, ◌↔◌, true, false, List, [], ◌∷◌, ◌++◌, length, take, drop, inl, inr, refl, sym, ap, subst, ◌∙◌, arith, length-drop, length-take-le, take-append-drop}
+use Rattle.std.proofs.Common.{◌≡◌, ℕ, zero, suc, ◌<◌, ◌≤◌, ◌⊎◌, ◌↔◌, true, false, List, [], ◌∷◌, ◌++◌, length, take, drop, inl, inr, refl, sym, ap, subst, ◌∙◌, arith, length-drop, take-append-drop}
 use Rattle.std.specs.Prelude.{All}
 use Rattle.std.proofs.lemmas.Bool.{true≢false, cases_Bool}
 use Rattle.std.proofs.lemmas.List.{length-map}
 use Rattle.std.proofs.lemmas.List.Elements.{All-nil, All-cons, All-head, All-tail, All-same, All-append}
 use Rattle.normalizer_text.specs.declared.step.Step.{Step}
-use Rattle.normalizer_text.specs.Steps.{steps, decoded, IsWellFormed, width_of}
-use Rattle.normalizer_text.proofs.Decoding.{IsDecoding}
-use Rattle.normalizer_text.proofs.StepLemmas.{steps-nil, steps-some, rest-shorter, steps-append, steps-apart, WellFormedDecodesApart-rule}
+use Rattle.normalizer_text.specs.Steps.{steps, IsWellFormed, width_of}
+use Rattle.normalizer_text.specs.Encodings.{Encoding, first_in, decoded_in}
+use Rattle.normalizer_text.proofs.EncodingRules.{IsDecoding-first}
+use Rattle.normalizer_text.proofs.StepLemmas.{steps-nil, steps-some, steps-append, decoded-append}
+use Rattle.normalizer_text.proofs.BoundaryLemmas.{boundary-le, boundary-well_formed, steps-parts}
 use Rattle.normalizer_input.specs.InputCut.{IsErrorFreeBoundary, IsErrorAt}
 
 -- ---- lists of steps
 
 abbrev pub AreErrorFree : List Step → Type 0
 AreErrorFree ss = All (λ s. s.is_error ≡ false) ss
-
-pub width_of-append : (p r : List Step) → width_of (p ++ r) ≡ width_of p + width_of r
-width_of-append [] r = omega arith
-width_of-append (s ∷ p) r = omega (arith, width_of-append p r)
 
 -- of two fronts of the same steps, the one of fewer steps takes no more units
 pub width_of-fewer : (p r q t : List Step) → p ++ r ≡ q ++ t → length p ≤ length q → width_of p ≤ width_of q
@@ -42,6 +40,18 @@ error_free-fewer (s' ∷ p) e r (s ∷ q) t error same free =
 pub AreErrorFree-rest : (p r : List Step) → AreErrorFree (p ++ r) → AreErrorFree r
 AreErrorFree-rest [] r free = free
 AreErrorFree-rest (s ∷ p) r free = AreErrorFree-rest p r (All-tail (λ s. s.is_error ≡ false) s (p ++ r) free)
+
+pub cases_error_free : (ss : List Step) → AreErrorFree ss ⊎ (AreErrorFree ss → ⊥)
+cases_error_free [] = inl (All-nil (λ s. s.is_error ≡ false))
+cases_error_free (s ∷ ss) =
+    elim (cases_Bool s.is_error) [
+      | inl error ↦ inr (λ free. true≢false (sym error ∙ All-head (λ s. s.is_error ≡ false) s ss free))
+      | inr fine ↦
+          elim (cases_error_free ss) [
+            | inl rest ↦ inl (All-cons (λ s. s.is_error ≡ false) s ss fine rest)
+            | inr wrong ↦ inr (λ free. wrong (All-tail (λ s. s.is_error ≡ false) s ss free))
+          ]
+    ]
 
 -- the steps begin with an error
 pub record BeginWithError (ss : List Step) : Type 0 where
@@ -85,100 +95,71 @@ longest_error_free (s ∷ ss) (suc k) within =
           }
     ]
 
-module _ (first : List ℕ → Step) where
-  pub length-decoded : (us : List ℕ) → length (decoded first us) ≡ length (steps first us)
-  length-decoded us = length-map (steps first us) (λ s. s.character)
+module _ (e : Encoding) where
+  pub length-decoded : (us : List ℕ) → length (decoded_in e us) ≡ length (steps (first_in e) us)
+  length-decoded us = length-map (steps (first_in e) us) (λ s. s.character)
 
-  pub IsWellFormed-nil : IsWellFormed first []
-  IsWellFormed-nil = All-same (λ s. s.is_error ≡ false) _ _ (steps-nil first) (All-nil (λ s. s.is_error ≡ false))
-
-module _ (first : List ℕ → Step) (rule : IsDecoding first) where
-  -- the steps of some units take all of them
-  pub width_of-steps : (us : List ℕ) → width_of (steps first us) ≡ length us
-  width_of-steps us = by (length us) us (omega arith)
-    where
-      by : (n : ℕ) (us : List ℕ) → length us ≤ n → width_of (steps first us) ≡ length us
-      by n [] h = ap width_of (steps-nil first)
-      by zero (u ∷ us) h = absurd (omega arith)
-      by (suc n) (u ∷ us) h =
-          let us' = u ∷ us in
-          let w = (first us').width in
-          let rest = by n (drop w us') (rest-shorter first rule us' n (omega arith) h) in
-          let cons : width_of (steps first us') ≡ w + width_of (steps first (drop w us')) = ap width_of (steps-some first rule us' (omega arith)) in
-          let fits = rule.fits us' (omega arith) in
-          cons ∙ ap (λ k. w + k) (rest ∙ length-drop w us') ∙ omega arith
+  pub IsWellFormed-nil : IsWellFormed (first_in e) []
+  IsWellFormed-nil = All-same (λ s. s.is_error ≡ false) _ _ (steps-nil (first_in e)) (All-nil (λ s. s.is_error ≡ false))
 
   -- ---- a well-formed front and the rest
 
-  pub IsWellFormed-append : (front rest : List ℕ) → IsWellFormed first front → IsWellFormed first rest → IsWellFormed first (front ++ rest)
+  pub IsWellFormed-append : (front rest : List ℕ) → IsWellFormed (first_in e) front → IsWellFormed (first_in e) rest → IsWellFormed (first_in e) (front ++ rest)
   IsWellFormed-append front rest a b =
-      All-same (λ s. s.is_error ≡ false) _ _ (steps-append first rule front rest a) (All-append (λ s. s.is_error ≡ false) _ _ a b)
+      All-same (λ s. s.is_error ≡ false) _ _ (steps-append (first_in e) (IsDecoding-first e) front rest a) (All-append (λ s. s.is_error ≡ false) _ _ a b)
 
-  pub IsWellFormed-rest : (front rest : List ℕ) → IsWellFormed first front → IsWellFormed first (front ++ rest) → IsWellFormed first rest
+  pub IsWellFormed-rest : (front rest : List ℕ) → IsWellFormed (first_in e) front → IsWellFormed (first_in e) (front ++ rest) → IsWellFormed (first_in e) rest
   IsWellFormed-rest front rest a all =
-      AreErrorFree-rest (steps first front) (steps first rest)
-      (All-same (λ s. s.is_error ≡ false) _ _ (sym (steps-append first rule front rest a)) all)
+      AreErrorFree-rest (steps (first_in e) front) (steps (first_in e) rest)
+      (All-same (λ s. s.is_error ≡ false) _ _ (sym (steps-append (first_in e) (IsDecoding-first e) front rest a)) all)
 
-  pub steps-parts : (units : List ℕ) (n : ℕ) → IsWellFormed first (take n units) → steps first units ≡ steps first (take n units) ++ steps first (drop n units)
-  steps-parts units n w = ap (steps first) (sym (take-append-drop n units)) ∙ steps-append first rule (take n units) (drop n units) w
-
-  pub decoded-parts : (units : List ℕ) (n : ℕ) → IsWellFormed first (take n units) → decoded first units ≡ decoded first (take n units) ++ decoded first (drop n units)
+  pub decoded-parts : (units : List ℕ) (n : ℕ) → IsWellFormed (first_in e) (take n units) → decoded_in e units ≡ decoded_in e (take n units) ++ decoded_in e (drop n units)
   decoded-parts units n w =
-      ap (decoded first) (sym (take-append-drop n units)) ∙ WellFormedDecodesApart-rule first rule (take n units) (drop n units) w
+      ap (decoded_in e) (sym (take-append-drop n units)) ∙ decoded-append (first_in e) (IsDecoding-first e) (take n units) (drop n units) w
 
   -- ---- where the boundaries lie
 
-  pub boundary_of_front : (units : List ℕ) (n : ℕ) → n ≤ length units → IsWellFormed first (take n units) → IsErrorFreeBoundary first units n
-  boundary_of_front units n within w = record {
-    boundary = record {
-      before = steps first (take n units);
-      after = steps first (drop n units);
-      apart = steps-parts units n w;
-      taken = width_of-steps (take n units) ∙ length-take-le n units within;
-    };
-    error_free = w;
-  }
+  pub boundary_of_front : (units : List ℕ) (n : ℕ) → n ≤ length units → IsWellFormed (first_in e) (take n units) → IsErrorFreeBoundary e units n
+  boundary_of_front units n within w =
+      let b = boundary-well_formed (first_in e) (IsDecoding-first e) units n within w in
+      record { boundary = b; error_free = All-same (λ s. s.is_error ≡ false) _ _ (sym (steps-parts (first_in e) (IsDecoding-first e) units n b).0) w }
 
-  pub front_of_boundary : (units : List ℕ) (n : ℕ) → IsErrorFreeBoundary first units n → (n ≤ length units) × IsWellFormed first (take n units)
-  front_of_boundary units n b =
-      let before = b.boundary.before in
-      let after = b.boundary.after in
-      let steps_before : steps first (take (width_of before) units) ≡ before = (steps-apart first rule before after units b.boundary.apart).0 in
-      let whole : width_of before + width_of after ≡ length units =
-      sym (width_of-append before after) ∙ ap width_of (sym b.boundary.apart) ∙ width_of-steps units in (
-        (let taken = b.boundary.taken in omega arith),
-        subst (λ k. IsWellFormed first (take k units)) b.boundary.taken (All-same (λ s. s.is_error ≡ false) _ _ steps_before b.error_free),
-      )
+  pub front_of_boundary : (units : List ℕ) (n : ℕ) → IsErrorFreeBoundary e units n → (n ≤ length units) × IsWellFormed (first_in e) (take n units)
+  front_of_boundary units n b = (
+    boundary-le (first_in e) (IsDecoding-first e) units n b.boundary,
+    All-same (λ s. s.is_error ≡ false) _ _ (steps-parts (first_in e) (IsDecoding-first e) units n b.boundary).0 b.error_free,
+  )
 
   -- a well-formed front ends at a boundary that no error comes before, and each of these ends one
-  pub front_iff_boundary : (units : List ℕ) (n : ℕ) → ((n ≤ length units) × IsWellFormed first (take n units)) ↔ IsErrorFreeBoundary first units n
+  pub front_iff_boundary : (units : List ℕ) (n : ℕ) → ((n ≤ length units) × IsWellFormed (first_in e) (take n units)) ↔ IsErrorFreeBoundary e units n
   front_iff_boundary units n = (λ f. boundary_of_front units n f.0 f.1, front_of_boundary units n)
 
   -- ---- errors
 
   -- an error stands where the steps behind a boundary begin with one
-  pub IsErrorAt-steps : (units : List ℕ) (n : ℕ) → BeginWithError (steps first (drop n units)) → IsErrorAt first units n
+  pub IsErrorAt-steps : (units : List ℕ) (n : ℕ) → BeginWithError (steps (first_in e) (drop n units)) → IsErrorAt e units n
   IsErrorAt-steps units n b = by (drop n units) refl b
     where
-      by : (us : List ℕ) → drop n units ≡ us → BeginWithError (steps first us) → IsErrorAt first units n
-      by [] e b = absurd (let none : [] ≡ b.error ∷ b.rest = sym (steps-nil first) ∙ b.parts in cc)
-      by (u ∷ us) e b =
-          let cons : b.error ∷ b.rest ≡ first (u ∷ us) ∷ steps first (drop (first (u ∷ us)).width (u ∷ us)) = sym b.parts ∙ steps-some first rule (u ∷ us) (omega arith) in
-          let same : first (u ∷ us) ≡ b.error = cc in
+      by : (us : List ℕ) → drop n units ≡ us → BeginWithError (steps (first_in e) us) → IsErrorAt e units n
+      by [] same b = absurd (let none : [] ≡ b.error ∷ b.rest = sym (steps-nil (first_in e)) ∙ b.parts in cc)
+      by (u ∷ us) same b =
+          let s = first_in e (u ∷ us) in
+          let cons : b.error ∷ b.rest ≡ s ∷ steps (first_in e) (drop s.width (u ∷ us)) = sym b.parts ∙ steps-some (first_in e) (IsDecoding-first e) (u ∷ us) (omega arith) in
+          let head : s ≡ b.error = cc in
           record {
-            within = (let some : length (drop n units) ≡ suc (length us) = ap length e in omega (arith, length-drop n units));
-            error = ap (λ x. (first x).is_error) e ∙ ap (λ s. s.is_error) same ∙ b.is_error;
+            within = (let some : length (drop n units) ≡ suc (length us) = ap length same in omega (arith, length-drop n units));
+            error = ap (λ x. (first_in e x).is_error) same ∙ ap (λ s. s.is_error) head ∙ b.is_error;
           }
 
   -- no error stands in well-formed units behind a well-formed front
-  pub no_error_at : (units : List ℕ) (n : ℕ) → IsWellFormed first units → IsWellFormed first (take n units) → IsErrorAt first units n → ⊥
+  pub no_error_at : (units : List ℕ) (n : ℕ) → IsWellFormed (first_in e) units → IsWellFormed (first_in e) (take n units) → IsErrorAt e units n → ⊥
   no_error_at units n w front at =
-      let rest : IsWellFormed first (drop n units) =
-      IsWellFormed-rest (take n units) (drop n units) front (subst (IsWellFormed first) (sym (take-append-drop n units)) w) in
+      let rest : IsWellFormed (first_in e) (drop n units) =
+      IsWellFormed-rest (take n units) (drop n units) front (subst (IsWellFormed (first_in e)) (sym (take-append-drop n units)) w) in
       let some : 0 < length (drop n units) = (let h = at.within in omega (arith, length-drop n units)) in
-      let s = first (drop n units) in
-      let more = steps first (drop s.width (drop n units)) in
+      let s = first_in e (drop n units) in
+      let more = steps (first_in e) (drop s.width (drop n units)) in
       let fine =
       All-head (λ s. s.is_error ≡ false) s more
-      (All-same (λ s. s.is_error ≡ false) (s ∷ more) (steps first (drop n units)) (sym (steps-some first rule (drop n units) some)) rest) in
+      (All-same (λ s. s.is_error ≡ false) (s ∷ more) (steps (first_in e) (drop n units)) (sym (steps-some (first_in e) (IsDecoding-first e) (drop n units) some)) rest) in
       true≢false (sym at.error ∙ fine)

@@ -9,6 +9,7 @@ use Rattle.normal_forms.specs.Hypotheses.{SuitsForm}
 use Rattle.normal_forms.proofs.OffenceLemmas.{parts_of_form}
 use Rattle.normalizer_text.specs.declared.step.Step.{Step}
 use Rattle.normalizer_text.specs.Steps.{replaced, steps, decoded, IsWellFormed, steps_past}
+use Rattle.normalizer_text.specs.Encodings.{Encoding}
 use Rattle.normalizer_text.specs.Utf8.{first_of_utf8, row_of}
 use Rattle.normalizer_text.proofs.EncodingLemmas.{read}
 use Rattle.normalizer_input.specs.InputCut.{IsInputNormalized}
@@ -32,7 +33,7 @@ error_first e ss error free = true≢false (sym error ∙ All-head (λ s. s.is_e
 pub broken_is_ill_formed : IsWellFormed first_of_utf8 (0xE2 ∷ 0x98 ∷ []) → ⊥
 broken_is_ill_formed w = error_first (replaced 2) [] refl (All-same (λ s. s.is_error ≡ false) _ _ (sym steps-broken) w)
 
-pub completed_is_normalized : (d : Reading) (form : Form) → IsNormalized d form (0x2603 ∷ []) → IsInputNormalized first_of_utf8 d form (0xE2 ∷ 0x98 ∷ 0x83 ∷ [])
+pub completed_is_normalized : (d : Reading) (form : Form) → IsNormalized d form (0x2603 ∷ []) → IsInputNormalized Encoding.Utf8 d form (0xE2 ∷ 0x98 ∷ 0x83 ∷ [])
 completed_is_normalized d form own =
     let text : decoded first_of_utf8 (0xE2 ∷ 0x98 ∷ 0x83 ∷ []) ≡ 0x2603 ∷ [] = ap (λ ss. map (λ s. s.character) ss) steps-completed in
     record {
@@ -72,7 +73,7 @@ front_before_error (suc (suc zero)) within w = absurd (error_second (0x61 ∷ 0x
 front_before_error (suc (suc (suc zero))) within w = absurd (error_second bytes (read 0x61 1) (replaced 1) (read 0x61 1 ∷ []) steps-bytes refl w)
 front_before_error (suc (suc (suc (suc m)))) within w = absurd (omega arith)
 
-pub offence_at_error : (d : Reading) (form : Form) → SuitsForm d form → IsNormalized d form (0x61 ∷ 0xFFFD ∷ 0x61 ∷ []) → IsInputOffence first_of_utf8 d form (0x61 ∷ 0xFF ∷ 0x61 ∷ []) 1 0xFFFD 0xFFFD
+pub offence_at_error : (d : Reading) (form : Form) → SuitsForm d form → IsNormalized d form (0x61 ∷ 0xFFFD ∷ 0x61 ∷ []) → IsInputOffence Encoding.Utf8 d form (0x61 ∷ 0xFF ∷ 0x61 ∷ []) 1 0xFFFD 0xFFFD
 offence_at_error d form suits own =
     let front : decoded first_of_utf8 (0x61 ∷ []) ≡ 0x61 ∷ [] = ap (λ ss. map (λ s. s.character) ss) steps-front in
     let rest : decoded first_of_utf8 (0xFF ∷ 0x61 ∷ []) ≡ 0xFFFD ∷ 0x61 ∷ [] = ap (λ ss. map (λ s. s.character) ss) steps-rest in

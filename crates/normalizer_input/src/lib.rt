@@ -3,3 +3,6 @@
 #![tactic(auto)]
 
 pub mod laws;
+mod offence;
+
+pub use offence::Offence;

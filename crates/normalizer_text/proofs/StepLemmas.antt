@@ -1,12 +1,11 @@
 -- Steps, one after another, of any rule.
 use Rattle.std.proofs.Common.{◌≡◌, subst, ℕ, zero, suc, ◌+◌, ◌-◌, ◌<◌, ◌≤◌, false, List, [], ◌∷◌, ◌++◌, length, length-drop, take, drop, map, arith, refl, ap, sym, ◌∙◌}
-use Rattle.std.specs.Prelude.{All}
+use Rattle.std.specs.Prelude.{◌↔◌, All}
 use Rattle.std.specs.Char.{IsScalar}
 use Rattle.std.proofs.lemmas.List.{drop-drop, drop-take, drop-append-le, map-append}
 use Rattle.std.proofs.lemmas.List.Elements.{All-nil, All-cons, All-head, All-tail, All-same}
 use Rattle.normalizer_text.specs.declared.step.Step.{Step}
 use Rattle.normalizer_text.specs.Steps.{steps_past, steps, decoded, Decodes, IsWellFormed, width_of, TakesFirst, Spells}
-use Rattle.normalizer_text.specs.Laws.{DecodesToOne, WellFormedDecodesApart, StepsPart}
 use Rattle.normalizer_text.proofs.Decoding.{IsDecoding}
 
 abbrev pub IsRight : Step → Type 0
@@ -151,11 +150,8 @@ module _ (first : List ℕ → Step) (d : IsDecoding first) where
 
   -- ---- what the public laws say
 
-  pub DecodesToOne-rule : DecodesToOne first
-  DecodesToOne-rule units x = (decoded_from_Decodes, λ e. subst (Decodes first units) (sym e) (Decodes-decoded units))
+  pub Decodes-iff : (units x : List ℕ) → Decodes first units x ↔ (x ≡ decoded first units)
+  Decodes-iff units x = (decoded_from_Decodes, λ e. subst (Decodes first units) (sym e) (Decodes-decoded units))
 
-  pub WellFormedDecodesApart-rule : WellFormedDecodesApart first
-  WellFormedDecodesApart-rule front rest w = ap (map (λ s. s.character)) (steps-append front rest w) ∙ map-append (λ s. s.character) (steps first front) (steps first rest)
-
-  pub StepsPart-rule : StepsPart first
-  StepsPart-rule units before after e = steps-apart before after units e
+  pub decoded-append : (front rest : List ℕ) → IsWellFormed first front → decoded first (front ++ rest) ≡ decoded first front ++ decoded first rest
+  decoded-append front rest w = ap (map (λ s. s.character)) (steps-append front rest w) ∙ map-append (λ s. s.character) (steps first front) (steps first rest)

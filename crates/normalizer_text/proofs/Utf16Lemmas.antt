@@ -1,17 +1,16 @@
 -- The rule of UTF-16 is a rule of decoding, and of an encoding.
 use Rattle.std.proofs.Common.{◌≡◌, ℕ, zero, suc, ◌+◌, ◌-◌, ◌/◌, ◌%◌, ◌<◌, ◌≤◌, ◌⊎◌, inl, inr, true, false, ◌&&◌, List, [], ◌∷◌, ◌++◌, length, take, get_or, arith, lit≤, refl, ap, sym, subst, ◌∙◌, ⊎_elim}
-use Rattle.std.specs.Prelude.{All}
 use Rattle.std.specs.Char.{IsScalar}
 use Rattle.std.specs.Char.Escape.{encode_utf16}
 use Rattle.std.specs.Int.{is_in_range}
 use Rattle.std.proofs.lemmas.Bool.{true≢false, cases_Bool, cases_lt, or_cases, and_parts, and_from, and_left, or_from, leb-true, le-leb, lt-ltb, le-ltb, cond-true, cond-false}
 use Rattle.std.proofs.lemmas.Bool.Decides.{nat_tests}
 use Rattle.normalizer_text.specs.declared.step.Step.{Step}
-use Rattle.normalizer_text.specs.Steps.{replaced, IsWellFormed}
-use Rattle.normalizer_text.specs.Utf16.{is_high, is_low, is_single, pair_value, unpaired, first_of_utf16, decoded_utf16, encode_utf16_all}
+use Rattle.normalizer_text.specs.Steps.{replaced}
+use Rattle.normalizer_text.specs.Utf16.{is_high, is_low, is_single, pair_value, unpaired, first_of_utf16, encode_utf16_all}
 use Rattle.normalizer_text.proofs.Decoding.{IsDecoding, HasTrails}
 use Rattle.normalizer_text.proofs.ScalarLemmas.{scalar_cases, IsScalar-low, IsScalar-high}
-use Rattle.normalizer_text.proofs.EncodingLemmas.{read, IsEncoding, DecodesBack, DecodesBack-text, all-decoded}
+use Rattle.normalizer_text.proofs.EncodingLemmas.{read, IsEncoding}
 
 -- ---- kinds of units
 
@@ -189,11 +188,3 @@ encode-first (u ∷ v ∷ us) h e = cases (λ s. s.is_error ≡ false → encode
 
 pub IsEncoding-utf16 : IsEncoding first_of_utf16 encode_utf16 encode_utf16_all
 IsEncoding-utf16 = record { nil = refl; cons = λ c x. refl; some = some-encode; front = first-encode; back = encode-first }
-
--- what a text encodes to is well-formed, and decodes to the text
-pub DecodesBack-utf16 : (x : List ℕ) → All IsScalar x → DecodesBack first_of_utf16 encode_utf16_all x
-DecodesBack-utf16 = DecodesBack-text first_of_utf16 IsDecoding-utf16 encode_utf16 encode_utf16_all IsEncoding-utf16
-
--- what is well-formed is the encoding of what it decodes to
-pub encode-decoded : (units : List ℕ) → IsWellFormed first_of_utf16 units → encode_utf16_all (decoded_utf16 units) ≡ units
-encode-decoded = all-decoded first_of_utf16 IsDecoding-utf16 encode_utf16 encode_utf16_all IsEncoding-utf16

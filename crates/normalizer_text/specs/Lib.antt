@@ -1,6 +1,5 @@
 pub mod Backwards
 pub mod Encodings
-pub mod Laws
 pub mod Sequences
 pub mod Steps
 pub mod Trails

@@ -1,56 +1,62 @@
 //! What is known of decoding, as contracts of functions that do nothing. Each holds of every list of numbers, and of each
 //! encoding unless it names one.
-ghost use Rattle.std.specs.Prelude.{◌≡◌, ◌↔◌, ℕ, ◌<◌, ◌^◌, List, All, encode_utf8_all};
+ghost use Rattle.std.specs.Prelude.{◌≡◌, ◌↔◌, ℕ, ◌<◌, ◌≤◌, ◌^◌, List, ◌++◌, length, take, drop, All, encode_utf8_all};
 ghost use Rattle.std.specs.Char.Utf16.{utf16_lossy_chars};
 ghost use Rattle.std.specs.Str.{IsUtf8, IsCharBoundary, chars};
 ghost use Rattle.std.specs.Str.Lossy.{utf8_lossy};
-ghost use Rattle.normalizer_text.specs.Encodings.{Encoding, first_in};
-ghost use Rattle.normalizer_text.specs.Laws.{DecodesToOne, DecodesToText, StepsTakeAll};
-ghost use Rattle.normalizer_text.specs.Laws.{WellFormedDecodesApart, WellFormedStepsApart, WellFormedEndsStep};
-ghost use Rattle.normalizer_text.specs.Laws.{StepsPart, TextIsTakenApart};
-ghost use Rattle.normalizer_text.specs.Laws.{WellFormedIsEncoded, EncodedDecodesBack, EncodedIsWellFormed};
-ghost use Rattle.normalizer_text.specs.Steps.{IsWellFormed, IsBoundary};
+ghost use Rattle.normal_forms.specs.Reading.{IsText};
+ghost use Rattle.normalizer_text.specs.declared.step.Step.{Step};
+ghost use Rattle.normalizer_text.specs.Encodings.{Encoding, first_in, encoded_in, decoded_in};
+ghost use Rattle.normalizer_text.specs.Steps.{steps, width_of, Decodes, IsWellFormed, IsBoundary, TakenFrom};
 ghost use Rattle.normalizer_text.specs.Utf8.{first_of_utf8, decoded_utf8};
-ghost use Rattle.normalizer_text.specs.Utf16.{first_of_utf16, decoded_utf16, encode_utf16_all};
+ghost use Rattle.normalizer_text.specs.Utf16.{decoded_utf16};
 
-/// Units decode to exactly one text, whose characters are scalar values, by steps that take all of them.
+/// Units decode to exactly one text, whose characters are scalar values, by steps that take all of the units.
 pub fn decodes_to_one_text()
-    ensures one { (e : Encoding) → DecodesToOne (first_in e) }
-    ensures text { (e : Encoding) → DecodesToText (first_in e) }
-    ensures all { (e : Encoding) → StepsTakeAll (first_in e) }
+    ensures one { (e : Encoding) (units x : List ℕ) → Decodes (first_in e) units x ↔ (x ≡ decoded_in e units) }
+    ensures text { (e : Encoding) (units : List ℕ) → IsText (decoded_in e units) }
+    ensures all { (e : Encoding) (units : List ℕ) → width_of (steps (first_in e) units) ≡ length units }
 {}
 
-/// Units that are well-formed decode apart from those after them, and a step ends with them.
+/// Units that are well-formed decode apart from those after them, whatever these are, and a step ends with them.
 pub fn decodes_apart_after_well_formed()
-    ensures text { (e : Encoding) → WellFormedDecodesApart (first_in e) }
-    ensures steps { (e : Encoding) → WellFormedStepsApart (first_in e) }
-    ensures ends { (e : Encoding) → WellFormedEndsStep (first_in e) }
+    ensures text { (e : Encoding) (front rest : List ℕ) → IsWellFormed (first_in e) front →
+        decoded_in e (front ++ rest) ≡ decoded_in e front ++ decoded_in e rest }
+    ensures steps { (e : Encoding) (front rest : List ℕ) → IsWellFormed (first_in e) front →
+        steps (first_in e) (front ++ rest) ≡ steps (first_in e) front ++ steps (first_in e) rest }
+    ensures ends { (e : Encoding) (units : List ℕ) (n : ℕ) → n ≤ length units →
+        IsWellFormed (first_in e) (take n units) → IsBoundary (first_in e) units n }
 {}
 
-/// At the end of each step, an error too, the units before it decode to the first characters and the others to the rest.
+/// At the end of each step, an error too, the units decode apart: those before it by the steps before it, those after it
+/// by the others.
 pub fn decodes_apart_after_steps()
-    ensures { (e : Encoding) → StepsPart (first_in e) }
+    ensures steps { (e : Encoding) (units : List ℕ) (before after : List Step) →
+        steps (first_in e) units ≡ before ++ after →
+        (steps (first_in e) (take (width_of before) units) ≡ before) ×
+        (steps (first_in e) (drop (width_of before) units) ≡ after) }
+    ensures text { (e : Encoding) (units : List ℕ) (n : ℕ) → IsBoundary (first_in e) units n →
+        decoded_in e units ≡ decoded_in e (take n units) ++ decoded_in e (drop n units) }
 {}
 
-/// Calls of `next` and `next_back` in any mixture take the text apart from both ends: the characters that are not yet taken
-/// are those that the units left decode to.
+/// Calls of `next` and `next_back` in any mixture take the text apart from both ends: where they took the characters x from
+/// the front and y from the back, the characters between them are those that the units left decode to.
 pub fn decodes_from_both_ends()
-    ensures { (e : Encoding) → TextIsTakenApart (first_in e) }
+    ensures { (e : Encoding) (units x rest y : List ℕ) → TakenFrom (first_in e) units x rest y →
+        decoded_in e units ≡ x ++ decoded_in e rest ++ y }
 {}
 
-/// The well-formed byte sequences are the encodings of texts, each of the text that it decodes to, and are std's.
-pub fn utf8_is_well_formed_where_encoded()
-    ensures encoded { WellFormedIsEncoded first_of_utf8 encode_utf8_all }
-    ensures back { EncodedDecodesBack first_of_utf8 encode_utf8_all }
-    ensures well_formed { EncodedIsWellFormed first_of_utf8 encode_utf8_all }
-    ensures utf8 { (bytes : List ℕ) → IsWellFormed first_of_utf8 bytes ↔ IsUtf8 bytes }
+/// The well-formed units are the encodings of texts, each of the text that it decodes to.
+pub fn well_formed_where_encoded()
+    ensures encoded { (e : Encoding) (units : List ℕ) → IsWellFormed (first_in e) units →
+        encoded_in e (decoded_in e units) ≡ units }
+    ensures back { (e : Encoding) (x : List ℕ) → IsText x → decoded_in e (encoded_in e x) ≡ x }
+    ensures well_formed { (e : Encoding) (x : List ℕ) → IsText x → IsWellFormed (first_in e) (encoded_in e x) }
 {}
 
-/// The well-formed sequences of 16-bit units are the encodings of texts, each of the text that it decodes to.
-pub fn utf16_is_well_formed_where_encoded()
-    ensures encoded { WellFormedIsEncoded first_of_utf16 encode_utf16_all }
-    ensures back { EncodedDecodesBack first_of_utf16 encode_utf16_all }
-    ensures well_formed { EncodedIsWellFormed first_of_utf16 encode_utf16_all }
+/// The well-formed bytes are those that std takes for UTF-8.
+pub fn utf8_is_well_formed_as_in_std()
+    ensures { (bytes : List ℕ) → IsWellFormed first_of_utf8 bytes ↔ IsUtf8 bytes }
 {}
 
 /// A `str` is well-formed, and decodes to its characters; its steps end where it may be cut.

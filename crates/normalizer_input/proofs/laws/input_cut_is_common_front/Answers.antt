@@ -1,16 +1,14 @@
-use Rattle.normalizer_text.specs.Encodings.{first_in}
-use Rattle.normalizer_text.proofs.EncodingRules.{IsDecoding-first}
 use Rattle.normalizer_input.proofs.InputCutLemmas.{qualifies_iff_front, qualifies_iff_characters, zero_input_qualifies, smaller_input_qualifies}
 use Rattle.normalizer_input.proofs.laws.input_cut_is_common_front.Goals as goal
 
 pub returns-clause-exactly : goal.returns-clause-exactly
-returns-clause-exactly c = λ e. qualifies_iff_front (first_in e) (IsDecoding-first e)
+returns-clause-exactly c = qualifies_iff_front
 
 pub returns-clause-characters : goal.returns-clause-characters
-returns-clause-characters c = λ e. qualifies_iff_characters (first_in e) (IsDecoding-first e)
+returns-clause-characters c = qualifies_iff_characters
 
 pub returns-clause-none : goal.returns-clause-none
 returns-clause-none c = zero_input_qualifies
 
 pub returns-clause-fewer : goal.returns-clause-fewer
-returns-clause-fewer c = λ e d form suits units n m q b fewer. smaller_input_qualifies (first_in e) (IsDecoding-first e) d form suits units m n fewer b q
+returns-clause-fewer c = λ e d form suits units n m q b le. smaller_input_qualifies e d form suits units m n le b q

@@ -1,0 +1,11 @@
+use Rattle.normalizer_text.proofs.EncodingRules.{DecodesBack-in, encoded-decoded}
+use Rattle.normalizer_text.proofs.laws.well_formed_where_encoded.Goals as goal
+
+pub returns-clause-encoded : goal.returns-clause-encoded
+returns-clause-encoded c = encoded-decoded
+
+pub returns-clause-back : goal.returns-clause-back
+returns-clause-back c = λ e x t. (DecodesBack-in e x t).text
+
+pub returns-clause-well_formed : goal.returns-clause-well_formed
+returns-clause-well_formed c = λ e x t. (DecodesBack-in e x t).well_formed
