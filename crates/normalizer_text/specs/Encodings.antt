@@ -1,7 +1,6 @@
 -- The encodings, each with what stands in front of its units.
-use Rattle.std.specs.Prelude.{ℕ, Bool, List}
+use Rattle.std.specs.Prelude.{ℕ, Bool, List, encode_utf8_all}
 use Rattle.normalizer_text.specs.declared.step.Step.{Step}
-use Rattle.std.specs.Str.{encode_utf8_all}
 use Rattle.normalizer_text.specs.Steps.{decoded}
 use Rattle.normalizer_text.specs.Utf8.{continuation, allows, first_of_utf8}
 use Rattle.normalizer_text.specs.Utf16.{is_low, first_of_utf16, encode_utf16_all}

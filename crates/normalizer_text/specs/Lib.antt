@@ -1,6 +1,8 @@
 pub mod Backwards
 pub mod Encodings
+pub mod Outputs
 pub mod Sequences
+pub mod Sinks
 pub mod Steps
 pub mod Trails
 pub mod Utf16

@@ -4,6 +4,8 @@
 
 mod chars;
 pub mod laws;
+pub mod output;
+pub mod sink;
 mod step;
 mod units;
 mod utf16;

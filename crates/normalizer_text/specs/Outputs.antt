@@ -1,0 +1,28 @@
+-- What a call on an output tells, which may know besides what it refuses.
+use Rattle.std.specs.Prelude.{◌≡◌, ℕ, List, [], Result, OnErr, ⊤}
+use Rattle.normalizer_text.specs.declared.sink.SinkError.{SinkError}
+use Rattle.normalizer_text.specs.Sinks.{AnswersWrite}
+
+module _ {S : Type 0} (taken : S → List ℕ) (refused left : S → S → Type 0) (refuses : S → List ℕ → Type 0) where
+  -- the output was given some units, and answered; where it refused them, so much is known
+  pub record AnswersUnits (old : S) (units : List ℕ) (answer : Result ⊤ SinkError) (new : S) : Type 0 where
+    pub written : AnswersWrite taken refused left old units answer new
+    pub known : OnErr answer (refuses old units)
+
+  -- the output was told that an input of so many units comes, and took none
+  pub record AnswersHint (hinted : S → ℕ → Result ⊤ SinkError → S → Type 0) (old : S) (len : ℕ) (answer : Result ⊤ SinkError) (new : S) : Type 0 where
+    pub units : AnswersUnits old [] answer new
+    pub none : taken new ≡ taken old
+    pub hint : hinted old len answer new
+
+-- nothing is known of units that are refused
+abbrev pub NothingKnown : {S : Type 0} → S → List ℕ → Type 0
+NothingKnown old units = ⊤
+
+-- a hint is not handed on
+abbrev pub NoHint : {S : Type 0} → S → ℕ → Result ⊤ SinkError → S → Type 0
+NoHint old len answer new = ⊤
+
+-- what a sink answers as an output
+abbrev pub SinkAnswers : {S : Type 0} → (S → List ℕ) → (S → S → Type 0) → (S → S → Type 0) → S → List ℕ → Result ⊤ SinkError → S → Type 0
+SinkAnswers taken refused left old units answer new = AnswersUnits taken refused left NothingKnown old units answer new

@@ -1,0 +1,133 @@
+//! Where text goes that is made from an input: pieces of the input in its own encoding, and characters.
+ghost use Rattle.std.specs.Prelude.{◌≡◌, ◌∷◌, ℕ, List, [], Result, ⊤, encode_utf8_all};
+ghost use Rattle.normalizer_text.specs.Encodings.{encoded_in, first_in};
+ghost use Rattle.normalizer_text.specs.Outputs.{AnswersHint, AnswersUnits, NothingKnown, NoHint, SinkAnswers};
+ghost use Rattle.normalizer_text.specs.Steps.{IsWellFormed};
+ghost use Rattle.normalizer_text.specs.Utf16.{encode_utf16_all};
+
+use crate::sink::{SinkError, Write, Write16};
+use crate::units::Units;
+
+/// What takes pieces of an input, and characters in the encoding of that input.
+pub trait Output<U: Units> {
+    ghost use Rattle.normalizer_text.specs.declared.sink.SinkError.{SinkError};
+
+    /// The units that were taken.
+    ghost taken: { Self → List ℕ };
+
+    /// Holds from the state before a refused call to the state after it, and also from the state before calls that
+    /// succeeded just ahead of it.
+    ghost refused: { Self → Self → Type 0 };
+
+    /// What a refused call leaves, from the state before it to the state after it.
+    ghost left: { Self → Self → Type 0 };
+
+    /// What is known where units are refused, of the state before the call and of the units.
+    ghost refuses: { Self → List ℕ → Type 0 };
+
+    /// What a hint of so many units is answered, from the state before it to the state after it.
+    ghost hinted: { Self → ℕ → Result ⊤ SinkError → Self → Type 0 };
+
+    /// Is told how many units the input has, before it is given any.
+    fn begin(&mut self, len: usize) -> Result<(), SinkError>
+        ensures { AnswersHint taken refused left refuses hinted self.old len result self.new };
+
+    /// Takes a piece of the input that is by itself well-formed, or refuses it.
+    fn write_piece(&mut self, piece: U) -> Result<(), SinkError>
+        requires { IsWellFormed (first_in U.encoding) (U.units piece) }
+        ensures { AnswersUnits taken refused left refuses self.old (U.units piece) result self.new };
+
+    /// Takes a character, or refuses it.
+    fn write_char(&mut self, c: char) -> Result<(), SinkError>
+        ensures { AnswersUnits taken refused left refuses self.old (encoded_in U.encoding (c ∷ [])) result self.new };
+}
+
+/// A sink of text is given the pieces of a text.
+impl<'a, W: Write> Output<&'a str> for W {
+    ghost taken = { W.taken };
+
+    ghost refused = { W.refused };
+
+    ghost left = { W.left };
+
+    ghost refuses = { NothingKnown };
+
+    ghost hinted = { NoHint };
+
+    fn begin(&mut self, _len: usize) -> Result<(), SinkError>
+        ensures { AnswersHint W.taken W.refused W.left NothingKnown NoHint self.old _len result self.new }
+    {
+        Ok(())
+    }
+
+    fn write_piece(&mut self, piece: &'a str) -> Result<(), SinkError> {
+        self.write_str(piece)
+    }
+
+    fn write_char(&mut self, c: char) -> Result<(), SinkError>
+        ensures { SinkAnswers W.taken W.refused W.left self.old (encode_utf8_all (c ∷ [])) result self.new }
+    {
+        <W as Write>::write_char(self, c)
+    }
+}
+
+/// A sink of text is given the well-formed pieces of bytes.
+impl<'a, W: Write> Output<&'a [u8]> for W {
+    ghost taken = { W.taken };
+
+    ghost refused = { W.refused };
+
+    ghost left = { W.left };
+
+    ghost refuses = { NothingKnown };
+
+    ghost hinted = { NoHint };
+
+    fn begin(&mut self, _len: usize) -> Result<(), SinkError>
+        ensures { AnswersHint W.taken W.refused W.left NothingKnown NoHint self.old _len result self.new }
+    {
+        Ok(())
+    }
+
+    fn write_piece(&mut self, piece: &'a [u8]) -> Result<(), SinkError> {
+        match str::from_utf8(piece) {
+            Ok(text) => self.write_str(text),
+            Err(_) => unreachable!(),
+        }
+    }
+
+    fn write_char(&mut self, c: char) -> Result<(), SinkError>
+        ensures { SinkAnswers W.taken W.refused W.left self.old (encode_utf8_all (c ∷ [])) result self.new }
+    {
+        <W as Write>::write_char(self, c)
+    }
+}
+
+/// A sink of 16-bit units is given the well-formed pieces of such units.
+impl<'a, W: Write16> Output<&'a [u16]> for W {
+    ghost taken = { W.taken };
+
+    ghost refused = { W.refused };
+
+    ghost left = { W.left };
+
+    ghost refuses = { NothingKnown };
+
+    ghost hinted = { W.hinted };
+
+    fn begin(&mut self, len: usize) -> Result<(), SinkError>
+        ensures { AnswersHint W.taken W.refused W.left NothingKnown W.hinted self.old len result self.new }
+    {
+        self.size_hint(len)
+    }
+
+    fn write_piece(&mut self, piece: &'a [u16]) -> Result<(), SinkError> {
+        self.write_slice(piece)
+    }
+
+    fn write_char(&mut self, c: char) -> Result<(), SinkError>
+        ensures { SinkAnswers W.taken W.refused W.left self.old (encode_utf16_all (c ∷ [])) result self.new }
+    {
+        <W as Write16>::write_char(self, c)
+    }
+}

@@ -1,0 +1,143 @@
+//! Sinks of text, in UTF-8 or in 16-bit units. A sink may refuse a call.
+ghost use Rattle.std.specs.Prelude.{
+  ◌≡◌,
+  ◌++◌,
+  ◌+◌,
+  ◌<◌,
+  ◌∷◌,
+  ℕ,
+  List,
+  [],
+  Result,
+  ⊤,
+  OnErr,
+  length,
+  encode_utf8,
+  vec_len,
+  vec_capacity,
+  string_bytes,
+  string_len,
+  string_capacity,
+};
+ghost use Rattle.std.specs.Char.Escape.{encode_utf16};
+ghost use Rattle.normalizer_text.specs.Sinks.{AnswersGrowth, AnswersWrite, AnyFault, TakesNothing};
+ghost use Rattle.normalizer_text.specs.Steps.{IsWellFormed};
+ghost use Rattle.normalizer_text.specs.Utf16.{first_of_utf16};
+
+use std::alloc::Allocator;
+
+/// A sink refused a call.
+#[derive(Clone, Copy, Debug, PartialEq, Eq)]
+pub struct SinkError;
+
+/// What takes text in UTF-8.
+pub trait Write {
+    /// The bytes that were taken.
+    ghost taken: { Self → List ℕ };
+
+    /// Holds from the state before a refused call to the state after it, and also from the state before calls that
+    /// succeeded just ahead of it.
+    ghost refused: { Self → Self → Type 0 };
+
+    /// What a refused call leaves, from the state before it to the state after it.
+    ghost left: { Self → Self → Type 0 };
+
+    /// Takes a text, or refuses it.
+    fn write_str(&mut self, text: &str) -> Result<(), SinkError>
+        ensures { AnswersWrite taken refused left self.old text.now result self.new };
+
+    /// Takes a character, or refuses it.
+    fn write_char(&mut self, c: char) -> Result<(), SinkError>
+        ensures { AnswersWrite taken refused left self.old (encode_utf8 c) result self.new };
+}
+
+/// What takes text in UTF-16.
+pub trait Write16 {
+    ghost use Rattle.normalizer_text.specs.declared.sink.SinkError.{SinkError};
+
+    /// The 16-bit units that were taken.
+    ghost taken: { Self → List ℕ };
+
+    /// Holds from the state before a refused call to the state after it, and also from the state before calls that
+    /// succeeded just ahead of it.
+    ghost refused: { Self → Self → Type 0 };
+
+    /// What a refused call leaves, from the state before it to the state after it.
+    ghost left: { Self → Self → Type 0 };
+
+    /// What a hint of so many units is answered, from the state before it to the state after it.
+    ghost hinted: { Self → ℕ → Result ⊤ SinkError → Self → Type 0 };
+
+    /// Is told that about so many units will come, or refuses them. It takes none.
+    fn size_hint(&mut self, len: usize) -> Result<(), SinkError>
+        ensures answer { AnswersWrite taken refused left self.old [] result self.new }
+        ensures none { taken self.new ≡ taken self.old }
+        ensures hint { hinted self.old len result self.new };
+
+    /// Takes units that are by themselves well-formed, or refuses them.
+    fn write_slice(&mut self, units: &[u16]) -> Result<(), SinkError>
+        requires { IsWellFormed first_of_utf16 units.now }
+        ensures { AnswersWrite taken refused left self.old units.now result self.new };
+
+    /// Takes a character, or refuses it.
+    fn write_char(&mut self, c: char) -> Result<(), SinkError>
+        ensures { AnswersWrite taken refused left self.old (encode_utf16 c) result self.new };
+}
+
+/// It refuses only where a growth was refused, and is then as it was.
+impl<A: Allocator> Write for String<A> {
+    ghost taken = { string_bytes };
+
+    ghost refused = { AnyFault };
+
+    ghost left = { TakesNothing string_bytes };
+
+    fn write_str(&mut self, text: &str) -> Result<(), SinkError>
+        ensures answer { AnswersGrowth string_bytes self.old text.now result self.new }
+        ensures full { OnErr result (string_capacity self.old < string_len self.old + length text.now) }
+    {
+        self.push_str(text).map_err(|_| SinkError)
+    }
+
+    fn write_char(&mut self, c: char) -> Result<(), SinkError>
+        ensures answer { AnswersGrowth string_bytes self.old (encode_utf8 c) result self.new }
+        ensures full { OnErr result (string_capacity self.old < string_len self.old + length (encode_utf8 c)) }
+    {
+        self.push(c).map_err(|_| SinkError)
+    }
+}
+
+/// It refuses only where a growth was refused, and is then as it was.
+impl<A: Allocator> Write16 for Vec<u16, A> {
+    ghost taken = { λ v. v.items };
+
+    ghost refused = { AnyFault };
+
+    ghost left = { TakesNothing (λ v. v.items) };
+
+    ghost hinted = { λ _ _ _ _. ⊤ };
+
+    fn size_hint(&mut self, len: usize) -> Result<(), SinkError>
+        ensures answer { AnswersGrowth (λ v. v.items) self.old [] result self.new }
+        ensures none { self.new.items ≡ self.old.items }
+        ensures full { OnErr result (vec_capacity self.old < vec_len self.old + len) }
+    {
+        self.reserve(len).map_err(|_| SinkError)
+    }
+
+    fn write_slice(&mut self, units: &[u16]) -> Result<(), SinkError>
+        ensures answer { AnswersGrowth (λ v. v.items) self.old units.now result self.new }
+        ensures full { OnErr result (vec_capacity self.old < vec_len self.old + length units.now) }
+    {
+        self.extend_from_slice(units).map_err(|_| SinkError)
+    }
+
+    fn write_char(&mut self, c: char) -> Result<(), SinkError>
+        ensures answer { AnswersGrowth (λ v. v.items) self.old (encode_utf16 c) result self.new }
+        ensures full { OnErr result (vec_capacity self.old < vec_len self.old + length (encode_utf16 c)) }
+    {
+        let mut buffer = [0; 2];
+        self.extend_from_slice(c.encode_utf16(&mut buffer))
+            .map_err(|_| SinkError)
+    }
+}
