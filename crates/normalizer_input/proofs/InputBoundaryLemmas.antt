@@ -5,7 +5,7 @@ use Rattle.std.proofs.lemmas.Bool.{true≢false, cases_Bool}
 use Rattle.std.proofs.lemmas.List.{length-map}
 use Rattle.std.proofs.lemmas.List.Elements.{All-nil, All-cons, All-head, All-tail, All-same, All-append}
 use Rattle.normalizer_text.specs.declared.step.Step.{Step}
-use Rattle.normalizer_text.specs.Steps.{steps, IsWellFormed, width_of}
+use Rattle.normalizer_text.specs.Steps.{steps, IsWellFormed}
 use Rattle.normalizer_text.specs.Encodings.{Encoding, first_in, decoded_in}
 use Rattle.normalizer_text.proofs.EncodingRules.{IsDecoding-first}
 use Rattle.normalizer_text.proofs.StepLemmas.{steps-nil, steps-some, steps-append, decoded-append}
@@ -16,16 +16,6 @@ use Rattle.normalizer_input.specs.InputCut.{IsErrorFreeBoundary, IsErrorAt}
 
 abbrev pub AreErrorFree : List Step → Type 0
 AreErrorFree ss = All (λ s. s.is_error ≡ false) ss
-
--- of two fronts of the same steps, the one of fewer steps takes no more units
-pub width_of-fewer : (p r q t : List Step) → p ++ r ≡ q ++ t → length p ≤ length q → width_of p ≤ width_of q
-width_of-fewer [] r q t e fewer = omega arith
-width_of-fewer (s ∷ p) r [] t e fewer = absurd (omega arith)
-width_of-fewer (s ∷ p) r (s' ∷ q) t e fewer =
-    let head : s ≡ s' = cc in
-    let tail : p ++ r ≡ q ++ t = cc in
-    let same : s.width ≡ s'.width = ap (λ x. x.width) head in
-    let rest = width_of-fewer p r q t tail (omega arith) in omega arith
 
 -- no error-free front goes on behind an error
 pub error_free-fewer : (p : List Step) (e : Step) (r q t : List Step) → e.is_error ≡ true → p ++ e ∷ r ≡ q ++ t → AreErrorFree q → length q ≤ length p

@@ -12,10 +12,11 @@ use Rattle.normal_forms.proofs.OffenceLemmas.{parts_of_form, cut_iff, smaller_qu
 use Rattle.normalizer_text.specs.Steps.{steps, IsWellFormed, width_of}
 use Rattle.normalizer_text.specs.Encodings.{Encoding, first_in, decoded_in}
 use Rattle.normalizer_text.proofs.EncodingRules.{IsDecoding-first}
+use Rattle.normalizer_text.proofs.BoundaryLemmas.{width_of-fewer}
 use Rattle.normalizer_text.proofs.StepLemmas.{decoded-nil, steps-apart}
 use Rattle.normalizer_input.proofs.FormLemmas.{normal_form-nil}
 use Rattle.normalizer_input.specs.InputCut.{IsInputNormalized, QualifiesForInputCut, IsInputCut, characters_before, IsErrorFreeBoundary, IsErrorAt}
-use Rattle.normalizer_input.proofs.InputBoundaryLemmas.{AreErrorFree, ErrorFreeFront, AreErrorFree-rest, cases_error_free, longest_error_free, width_of-fewer, error_free-fewer, length-decoded, IsWellFormed-nil, IsWellFormed-append, decoded-parts, boundary_of_front, front_of_boundary, IsErrorAt-steps}
+use Rattle.normalizer_input.proofs.InputBoundaryLemmas.{AreErrorFree, ErrorFreeFront, AreErrorFree-rest, cases_error_free, longest_error_free, error_free-fewer, length-decoded, IsWellFormed-nil, IsWellFormed-append, decoded-parts, boundary_of_front, front_of_boundary, IsErrorAt-steps}
 
 -- ---- the greatest number
 

@@ -8,10 +8,9 @@ use Rattle.normal_forms.specs.Forms.{normal_form, IsNormalized}
 use Rattle.normal_forms.specs.Hypotheses.{SuitsForm}
 use Rattle.normal_forms.proofs.OffenceLemmas.{parts_of_form}
 use Rattle.normalizer_text.specs.declared.step.Step.{Step}
-use Rattle.normalizer_text.specs.Steps.{replaced, steps, decoded, IsWellFormed, steps_past}
+use Rattle.normalizer_text.specs.Steps.{read, replaced, steps, decoded, IsWellFormed, steps_past}
 use Rattle.normalizer_text.specs.Encodings.{Encoding}
 use Rattle.normalizer_text.specs.Utf8.{first_of_utf8, row_of}
-use Rattle.normalizer_text.proofs.EncodingLemmas.{read}
 use Rattle.normalizer_input.specs.InputCut.{IsInputNormalized}
 use Rattle.normalizer_input.specs.InputOffence.{IsInputOffence}
 use Rattle.normalizer_input.proofs.InputBoundaryLemmas.{AreErrorFree}

@@ -11,11 +11,12 @@ use Rattle.normal_forms.proofs.OffenceLemmas.{cut_exists, found_differs, parts_o
 use Rattle.normalizer_text.specs.Steps.{steps, IsWellFormed}
 use Rattle.normalizer_text.specs.Encodings.{Encoding, first_in, decoded_in}
 use Rattle.normalizer_text.proofs.EncodingRules.{IsDecoding-first}
+use Rattle.normalizer_text.proofs.BoundaryLemmas.{width_of-fewer}
 use Rattle.normalizer_text.proofs.StepLemmas.{decoded-some, steps-append, decoded-append}
 use Rattle.normalizer_input.proofs.FormLemmas.{normal_form-nil, normal_form-some}
 use Rattle.normalizer_input.specs.InputCut.{IsInputNormalized, IsInputCut, characters_before, IsErrorAt}
 use Rattle.normalizer_input.specs.InputOffence.{IsInputOffence}
-use Rattle.normalizer_input.proofs.InputBoundaryLemmas.{width_of-fewer, IsWellFormed-rest, boundary_of_front}
+use Rattle.normalizer_input.proofs.InputBoundaryLemmas.{IsWellFormed-rest, boundary_of_front}
 use Rattle.normalizer_input.proofs.InputCutLemmas.{characters_before-steps, drop-characters_before, qualifies_iff_characters, input_cut_exists, input_cut_unique, cut_ends, input_cut_below, cut_of_well_formed}
 
 first_unique : (x : List ℕ) (a b : ℕ) → IsFirst x a → IsFirst x b → a ≡ b

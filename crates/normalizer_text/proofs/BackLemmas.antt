@@ -1,11 +1,13 @@
 -- Steps from the back, of any rule.
 use Rattle.std.proofs.Common.{◌≡◌, subst, ℕ, zero, suc, ◌+◌, ◌-◌, ◌<◌, ◌≤◌, true, false, Bool, List, [], ◌∷◌, ◌++◌, length, length-drop, length-append, length-take-le, get_or, get_or-drop, append_assoc, take, drop, map, reverse, arith, ap, sym, ◌∙◌, ⊎_elim}
+use Rattle.std.specs.Prelude.{slice_index}
 use Rattle.std.proofs.lemmas.List.{drop-drop, take_all, drop_all, append-nil, map-append, reverse-append, same_from_push}
 use Rattle.std.proofs.lemmas.Bool.{false_from_ne_true, cases_lt, cases_eq, true≢false}
 use Rattle.normalizer_text.specs.declared.step.Step.{Step}
-use Rattle.normalizer_text.specs.Steps.{steps, decoded, replaced, IsLastStep, TakesLast, TakenFrom, Spells}
+use Rattle.normalizer_text.specs.Steps.{steps, decoded, replaced, IsBoundary, IsLastStep, TakesLast, TakenFrom, Spells}
 use Rattle.normalizer_text.specs.Backwards.{IsLastStart}
 use Rattle.normalizer_text.proofs.Decoding.{IsDecoding, HasTrails}
+use Rattle.normalizer_text.proofs.BoundaryLemmas.{width_of-steps}
 use Rattle.normalizer_text.proofs.StepLemmas.{steps-nil, decoded-nil, decoded-some, steps-some, steps-take}
 
 plus : (w q : ℕ) → q ≡ w + q - w
@@ -140,6 +142,14 @@ module _ (first : List ℕ → Step) (d : IsDecoding first) (trails : ℕ → Bo
           ∙ ap (λ x. first us' ∷ (steps first (take (q - w) rest) ++ steps first x)) (drop-drop (q - w) w us' ∙ ap (λ i. drop i us') place)
           ∙ sym (ap (λ x. x ++ steps first (drop q us')) (steps-take first d us' q (omega arith) past)))
           (cases_lt q w)
+
+  pub boundary-at : (us : List ℕ) (p : ℕ) → p < length us → trails (slice_index us p) ≡ false → IsBoundary first us p
+  boundary-at us p l h = record {
+    before = steps first (take p us);
+    after = steps first (drop p us);
+    apart = steps-at us p (omega arith) (λ _ _. h);
+    taken = width_of-steps first d (take p us) ∙ length-take-le p us (omega arith);
+  }
 
   -- the step in front of the units from p on, where it takes all of them
   IsLastStep-whole : (us : List ℕ) (p : ℕ) → IsLastStart trails most us p → (first (drop p us)).width ≡ length us - p → IsLastStep first us (first (drop p us))

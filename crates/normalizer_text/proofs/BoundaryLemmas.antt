@@ -1,7 +1,9 @@
 -- Positions at which a step ends, of any rule.
-use Rattle.std.proofs.Common.{◌≡◌, subst, ℕ, zero, suc, ◌+◌, ◌-◌, ◌<◌, ◌≤◌, List, [], ◌∷◌, ◌++◌, length, length-drop, length-take-le, append_assoc, take, drop, arith, refl, ap, sym, ◌∙◌, map, take-append-drop}
+use Rattle.std.proofs.Common.{◌≡◌, subst, ℕ, zero, suc, ◌+◌, ◌-◌, ◌<◌, ◌≤◌, inl, inr, List, [], ◌∷◌, ◌++◌, length, length-drop, length-take-le, append_assoc, take, drop, arith, refl, ap, sym, ◌∙◌, map, take-append-drop}
 use Rattle.std.specs.Prelude.{All}
-use Rattle.std.proofs.lemmas.List.{append-nil, take_at, drop_at, map-append}
+use Rattle.std.proofs.lemmas.List.{append-nil, take_at, drop_at, drop-drop, map-append}
+use Rattle.std.proofs.lemmas.Bool.{cases_lt}
+use Rattle.std.specs.List.{slice_range}
 use Rattle.std.proofs.lemmas.List.Elements.{All-take, All-drop, All-same}
 use Rattle.normalizer_text.specs.declared.step.Step.{Step}
 use Rattle.normalizer_text.specs.Steps.{steps, width_of, IsBoundary, IsFirstStep, IsLastStep, IsWellFormed, decoded}
@@ -11,6 +13,26 @@ use Rattle.normalizer_text.proofs.StepLemmas.{IsRight, steps-nil, steps-some, st
 pub width_of-append : (a b : List Step) → width_of (a ++ b) ≡ width_of a + width_of b
 width_of-append [] b = omega arith
 width_of-append (s ∷ a) b = omega (arith, width_of-append a b)
+
+-- of two fronts of the same steps, the one of fewer steps takes no more units
+pub width_of-fewer : (p r q t : List Step) → p ++ r ≡ q ++ t → length p ≤ length q → width_of p ≤ width_of q
+width_of-fewer [] r q t same fewer = omega arith
+width_of-fewer (s ∷ p) r [] t same fewer = absurd (omega arith)
+width_of-fewer (s ∷ p) r (s' ∷ q) t same fewer =
+    let head : s ≡ s' = cc in
+    let tail : p ++ r ≡ q ++ t = cc in
+    let width : s.width ≡ s'.width = ap (λ x. x.width) head in
+    let rest = width_of-fewer p r q t tail (omega arith) in omega arith
+
+-- the longer one goes on behind the other
+longer_front : (p r q t : List Step) → p ++ r ≡ q ++ t → length p ≤ length q → (m : List Step) × (q ≡ p ++ m) × (r ≡ m ++ t)
+longer_front [] r q t same fewer = (q, refl, same)
+longer_front (s ∷ p) r [] t same fewer = absurd (omega arith)
+longer_front (s ∷ p) r (s' ∷ q) t same fewer =
+    let head : s ≡ s' = cc in
+    let tail : p ++ r ≡ q ++ t = cc in
+    let k = longer_front p r q t tail (omega arith) in
+    (k.0, ap (λ c. c ∷ q) (sym head) ∙ ap (λ l. s ∷ l) k.1, k.2)
 
 module _ (first : List ℕ → Step) (d : IsDecoding first) where
   -- the steps take all of the units
@@ -81,6 +103,23 @@ module _ (first : List ℕ → Step) (d : IsDecoding first) where
     taken = c.taken;
   }
 
+  -- a position behind another one, in what follows that
+  pub boundary-between : (us : List ℕ) (n m : ℕ) → IsBoundary first us n → IsBoundary first us m → n ≤ m → IsBoundary first (drop n us) (m - n)
+  boundary-between us n m b c le =
+      elim (cases_lt (length c.before) (length b.before)) [
+        | inl fewer ↦
+            let back = width_of-fewer c.before c.after b.before b.after (sym c.apart ∙ b.apart) (omega arith) in
+            let bn = b.taken in
+            let cm = c.taken in
+            subst (IsBoundary first (drop n us)) (omega arith) (boundary-start (drop n us))
+        | inr more ↦
+            let k = longer_front b.before b.after c.before c.after (sym b.apart ∙ c.apart) more in
+            let widths = ap width_of k.1 ∙ width_of-append b.before k.0 in
+            let bn = b.taken in
+            let cm = c.taken in
+            record { before = k.0; after = c.after; apart = (steps-parts us n b).1 ∙ k.2; taken = omega arith }
+      ]
+
   -- one step more
   pub boundary-more : (us : List ℕ) (n : ℕ) → IsBoundary first us n → n < length us → IsBoundary first us (n + (first (drop n us)).width)
   boundary-more us n b h = boundary-after us n (first (drop n us)).width b (boundary-first (drop n us) (first (drop n us)) (record { some = omega (arith, length-drop n us); is = refl }))
@@ -97,6 +136,18 @@ module _ (first : List ℕ → Step) (d : IsDecoding first) where
   -- the text of the two parts
   pub decoded-take-drop : (us : List ℕ) (n : ℕ) → IsBoundary first us n → decoded first us ≡ decoded first (take n us) ++ decoded first (drop n us)
   decoded-take-drop us n b = ap (map (λ s. s.character)) (steps-take-drop us n b) ∙ map-append (λ s. s.character) (steps first (take n us)) (steps first (drop n us))
+
+  -- the text of the three parts at two positions
+  pub decoded-between : (us : List ℕ) (n m : ℕ) → IsBoundary first us n → IsBoundary first us m → n ≤ m → decoded first us ≡ decoded first (take n us) ++ decoded first (slice_range us n m) ++ decoded first (drop m us)
+  decoded-between us n m b c le =
+      let front = decoded first (take n us) in
+      let middle = decoded first (slice_range us n m) in
+      let place : n + (m - n) ≡ m = omega arith in
+      let behind : drop (m - n) (drop n us) ≡ drop m us = drop-drop (m - n) n us ∙ ap (λ i. drop i us) place in
+      decoded-take-drop us n b
+      ∙ ap (λ l. front ++ l) (decoded-take-drop (drop n us) (m - n) (boundary-between us n m b c le))
+      ∙ ap (λ l. front ++ (middle ++ decoded first l)) behind
+      ∙ sym (append_assoc front middle (decoded first (drop m us)))
 
   -- a step ends where units that are well-formed do
   pub boundary-well_formed : (us : List ℕ) (n : ℕ) → n ≤ length us → IsWellFormed first (take n us) → IsBoundary first us n

@@ -1,17 +1,13 @@
 -- A text, its encoding, and what that decodes to, in any encoding.
-use Rattle.std.proofs.Common.{◌≡◌, ℕ, zero, suc, ◌<◌, ◌≤◌, false, List, [], ◌∷◌, ◌++◌, length, length-append, map, take, drop, take-append-drop, arith, refl, ap, sym, ◌∙◌}
+use Rattle.std.proofs.Common.{◌≡◌, ℕ, zero, suc, ◌<◌, ◌≤◌, false, List, [], ◌∷◌, ◌++◌, length, length-append, append_assoc, map, take, drop, take-append-drop, arith, refl, ap, sym, ◌∙◌}
 use Rattle.std.specs.Prelude.{All}
 use Rattle.std.specs.Char.{IsScalar}
 use Rattle.std.proofs.lemmas.List.{drop_at}
 use Rattle.std.proofs.lemmas.List.Elements.{All-nil, All-cons, All-head, All-tail, All-same}
 use Rattle.normalizer_text.specs.declared.step.Step.{Step}
-use Rattle.normalizer_text.specs.Steps.{steps, decoded, IsWellFormed}
+use Rattle.normalizer_text.specs.Steps.{read, steps, decoded, IsWellFormed}
 use Rattle.normalizer_text.proofs.Decoding.{IsDecoding}
 use Rattle.normalizer_text.proofs.StepLemmas.{IsRight, steps-nil, decoded-nil, steps-some, decoded-some, rest-shorter}
-
--- a step of n units that is no error
-abbrev pub read : ℕ → ℕ → Step
-read c n = record { character = c; width = n; is_error = false }
 
 -- `encode` gives the units of a character, and `all` those of a text
 pub record IsEncoding (first : List ℕ → Step) (encode : ℕ → List ℕ) (all : List ℕ → List ℕ) : Type 0 where
@@ -45,6 +41,14 @@ module _ (first : List ℕ → Step) (d : IsDecoding first) (encode : ℕ → Li
         well_formed = All-same IsRight (steps first (all (c ∷ x))) (s ∷ steps first (all x)) k (All-cons IsRight s (steps first (all x)) refl ih.well_formed);
         text = ap (map (λ s. s.character)) k ∙ ap (λ y. c ∷ y) ih.text;
       }
+
+  -- two texts are encoded apart
+  pub all-append : (x y : List ℕ) → all (x ++ y) ≡ all x ++ all y
+  all-append [] y = sym (ap (λ l. l ++ all y) e.nil)
+  all-append (c ∷ x) y =
+      e.cons c (x ++ y) ∙ ap (λ l. encode c ++ l) (all-append x y)
+      ∙ sym (append_assoc (encode c) (all x) (all y))
+      ∙ ap (λ l. l ++ all y) (sym (e.cons c x))
 
   -- what is well-formed is the encoding of what it decodes to
   pub all-decoded : (us : List ℕ) → IsWellFormed first us → all (decoded first us) ≡ us

@@ -1,12 +1,12 @@
 -- The rule of each encoding is a rule of decoding, and of an encoding.
-use Rattle.std.specs.Prelude.{◌≡◌, ℕ, List, All}
+use Rattle.std.specs.Prelude.{◌≡◌, ℕ, List, ◌++◌, All}
 use Rattle.std.specs.Char.{IsScalar, encode_utf8}
 use Rattle.std.specs.Char.Escape.{encode_utf16}
 use Rattle.normalizer_text.specs.Steps.{IsWellFormed}
 use Rattle.normalizer_text.specs.Encodings.{Encoding, first_in, encoded_in, decoded_in, trails_in, most_in}
 use Rattle.normalizer_text.proofs.Decoding.{IsDecoding, HasTrails}
 use Rattle.normalizer_text.proofs.Utf8Lemmas.{IsDecoding-utf8, HasTrails-utf8}
-use Rattle.normalizer_text.proofs.EncodingLemmas.{IsEncoding, DecodesBack, DecodesBack-text, all-decoded}
+use Rattle.normalizer_text.proofs.EncodingLemmas.{IsEncoding, DecodesBack, DecodesBack-text, all-append, all-decoded}
 use Rattle.normalizer_text.proofs.SequenceLemmas.{IsEncoding-utf8}
 use Rattle.normalizer_text.proofs.Utf16Lemmas.{IsDecoding-utf16, HasTrails-utf16, IsEncoding-utf16}
 
@@ -34,3 +34,7 @@ DecodesBack-in e = DecodesBack-text (first_in e) (IsDecoding-first e) (encode_in
 -- what is well-formed is the encoding of what it decodes to
 pub encoded-decoded : (e : Encoding) (units : List ℕ) → IsWellFormed (first_in e) units → encoded_in e (decoded_in e units) ≡ units
 encoded-decoded e = all-decoded (first_in e) (IsDecoding-first e) (encode_in e) (encoded_in e) (IsEncoding-in e)
+
+-- two texts are encoded apart
+pub encoded-append : (e : Encoding) (x y : List ℕ) → encoded_in e (x ++ y) ≡ encoded_in e x ++ encoded_in e y
+encoded-append e = all-append (first_in e) (IsDecoding-first e) (encode_in e) (encoded_in e) (IsEncoding-in e)

@@ -3,6 +3,7 @@ pub mod BoundaryLemmas
 pub mod Decoding
 pub mod EncodingLemmas
 pub mod EncodingRules
+pub mod LowLemmas
 pub mod MatchLemmas
 pub mod RowLemmas
 pub mod ScalarLemmas

@@ -8,20 +8,20 @@ use Rattle.std.proofs.lemmas.Bool.{true≢false, cases_eq, cases_lt, and_from, a
 use Rattle.std.proofs.lemmas.Bool.Decides.{nat_tests}
 use Rattle.std.proofs.lemmas.List.{take_at}
 use Rattle.std.proofs.lemmas.List.Elements.{All-nil, All-cons, All-head, All-tail}
-use Rattle.normalizer_text.specs.Steps.{IsWellFormed, IsBoundary}
+use Rattle.normalizer_text.specs.Steps.{read, IsWellFormed, IsBoundary}
 use Rattle.normalizer_text.specs.Utf8.{ByteRange, range, Row, row, row_of, continuation, allows, matched, scalar_value, first_by_row, first_of_utf8, decoded_utf8}
 use Rattle.normalizer_text.specs.Sequences.{IsSequence}
 use Rattle.normalizer_text.proofs.MatchLemmas.{IsWithin, AreWithin}
 use Rattle.normalizer_text.proofs.RowLemmas.{IsSequence-row, by_row-whole}
 use Rattle.normalizer_text.proofs.BoundaryLemmas.{boundary-le, boundary-well_formed, well_formed-parts}
-use Rattle.normalizer_text.proofs.EncodingLemmas.{read, IsEncoding, DecodesBack, DecodesBack-text, all-decoded}
+use Rattle.normalizer_text.proofs.EncodingLemmas.{IsEncoding, DecodesBack, DecodesBack-text, all-decoded}
 use Rattle.normalizer_text.proofs.ScalarLemmas.{encode-scalar_value, Encodes-encode}
 use Rattle.normalizer_text.proofs.StepLemmas.{decoded-IsText}
 use Rattle.normalizer_text.proofs.Utf8Lemmas.{by_cases, IsDecoding-utf8}
 
 -- ---- the row of a first byte
 
-row-ascii : (b : ℕ) → b ≤ 0x7F → row_of b ≡ Some (row (range 0x00 0x7F) [])
+pub row-ascii : (b : ℕ) → b ≤ 0x7F → row_of b ≡ Some (row (range 0x00 0x7F) [])
 unfolding row_of
 row-ascii b h = grind (arith, nat_tests)
 

@@ -6,11 +6,11 @@ use Rattle.std.specs.Int.{is_in_range}
 use Rattle.std.proofs.lemmas.Bool.{true≢false, cases_Bool, cases_lt, or_cases, and_parts, and_from, and_left, or_from, leb-true, le-leb, lt-ltb, le-ltb, cond-true, cond-false}
 use Rattle.std.proofs.lemmas.Bool.Decides.{nat_tests}
 use Rattle.normalizer_text.specs.declared.step.Step.{Step}
-use Rattle.normalizer_text.specs.Steps.{replaced}
+use Rattle.normalizer_text.specs.Steps.{read, replaced}
 use Rattle.normalizer_text.specs.Utf16.{is_high, is_low, is_single, pair_value, unpaired, first_of_utf16, encode_utf16_all}
 use Rattle.normalizer_text.proofs.Decoding.{IsDecoding, HasTrails}
 use Rattle.normalizer_text.proofs.ScalarLemmas.{scalar_cases, IsScalar-low, IsScalar-high}
-use Rattle.normalizer_text.proofs.EncodingLemmas.{read, IsEncoding}
+use Rattle.normalizer_text.proofs.EncodingLemmas.{IsEncoding}
 
 -- ---- kinds of units
 
@@ -28,6 +28,9 @@ above low high u h = grind (arith, nat_tests)
 
 below : (low high u : ℕ) → u < low → is_in_range low high u ≡ false
 below low high u h = grind (arith, nat_tests)
+
+pub low-is_single : (u : ℕ) → u < 0xD800 → is_single u ≡ true
+low-is_single u h = grind (arith, nat_tests)
 
 pub single-cases : (u : ℕ) → is_single u ≡ true → (u ≤ 0xD7FF) ⊎ ((0xE000 ≤ u) × (u ≤ 0xFFFF))
 single-cases u e = ⊎_elim (λ l. inl (between 0 0xD7FF u l).1) (λ h. inr (between 0xE000 0xFFFF u h)) (or_cases _ _ e)
@@ -151,7 +154,7 @@ some-encode c h = ⊎_elim (λ l. omega (arith, ap length (encode-single c l))) 
 single-scalar : (c : ℕ) → IsScalar c → c < 0x10000 → is_single c ≡ true
 single-scalar c h l = ⊎_elim (λ k. grind (arith, nat_tests)) (λ k. grind (arith, nat_tests)) (scalar_cases c h)
 
-first-single : (c : ℕ) (more : List ℕ) → is_single c ≡ true → first_of_utf16 (c ∷ more) ≡ read c 1
+pub first-single : (c : ℕ) (more : List ℕ) → is_single c ≡ true → first_of_utf16 (c ∷ more) ≡ read c 1
 first-single c [] e = cond-true (is_single c) (read c 1) (replaced 1) e
 first-single c (v ∷ more) e = first-unpaired c v more (and_left _ _ (single-high c e)) ∙ cond-true (is_single c) (read c 1) (replaced 1) e
 

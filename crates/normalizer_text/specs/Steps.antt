@@ -1,30 +1,38 @@
 -- Decoding step by step, over a rule `first` that says what stands in front of units of which there are some.
-use Rattle.std.specs.Prelude.{◌≡◌, ℕ, zero, suc, ◌+◌, ◌-◌, ◌<◌, ◌≤◌, true, false, List, [], ◌∷◌, ◌++◌, length, take, drop, map, Option, Some, MatchOption, All}
+use Rattle.std.specs.Prelude.{◌≡◌, ℕ, zero, suc, ◌+◌, ◌-◌, ◌<◌, ◌≤◌, true, false, List, [], ◌∷◌, ◌++◌, length, take, drop}
+use Rattle.std.specs.Prelude.{map, Option, Some, MatchOption, All}
 use Rattle.std.specs.Iterator.{AlwaysYields}
 use Rattle.normalizer_text.specs.declared.step.Step.{Step}
+
+-- the character c, read from n units
+abbrev pub read : ℕ → ℕ → Step
+read c n = record { character = c; width = n; is_error = false }
 
 -- U+FFFD for n units
 abbrev pub replaced : ℕ → Step
 replaced n = record { character = 0xFFFD; width = n; is_error = true }
 
--- the steps of some units of which the step before took the first n
+-- units decode to characters: no units to none; others to the character of the step in front, and then to what the units
+-- after that step decode to
+pub data Decodes (first : List ℕ → Step) : List ℕ → List ℕ → Type 0 where
+  nothing : Decodes first [] []
+  step : (u : ℕ) (us x : List ℕ) → Decodes first (drop (first (u ∷ us)).width (u ∷ us)) x
+      → Decodes first (u ∷ us) ((first (u ∷ us)).character ∷ x)
+
+-- the steps of the units behind the first n, which the step before took: the step that stands in front of them, and those
+-- behind the units that it takes. (The units are gone through one by one, so that the recursion ends.)
 unfoldable pub steps_past : (List ℕ → Step) → ℕ → List ℕ → List Step
 steps_past first n [] = []
 steps_past first zero (u ∷ us) = first (u ∷ us) ∷ steps_past first ((first (u ∷ us)).width - 1) us
 steps_past first (suc n) (u ∷ us) = steps_past first n us
 
+-- the steps of the units, from the front
 abbrev pub steps : (List ℕ → Step) → List ℕ → List Step
 steps first units = steps_past first 0 units
 
--- the characters that the units decode to
+-- the characters of the steps: the one text that the units decode to
 abbrev pub decoded : (List ℕ → Step) → List ℕ → List ℕ
 decoded first units = map (λ s. s.character) (steps first units)
-
--- the same as a relation, by cases: nothing decodes to nothing; where there are units, the character of the step in
--- front comes first, and then what the units after it decode to
-pub data Decodes (first : List ℕ → Step) : List ℕ → List ℕ → Type 0 where
-  nothing : Decodes first [] []
-  step : (u : ℕ) (us x : List ℕ) → Decodes first (drop (first (u ∷ us)).width (u ∷ us)) x → Decodes first (u ∷ us) ((first (u ∷ us)).character ∷ x)
 
 -- the units are decoded without an error (D85)
 abbrev pub IsWellFormed : (List ℕ → Step) → List ℕ → Type 0
@@ -67,8 +75,10 @@ TakesLast first units r rest = MatchOption r ((units ≡ []) × (rest ≡ []))
 -- calls in any mixture took the characters x from the front of the units and y from the back, and left the rest
 pub data TakenFrom (first : List ℕ → Step) (units : List ℕ) : List ℕ → List ℕ → List ℕ → Type 0 where
   none : TakenFrom first units [] units []
-  front : (x rest y : List ℕ) (c : ℕ) (left : List ℕ) → TakenFrom first units x rest y → TakesFirst first rest (Some c) left → TakenFrom first units (x ++ c ∷ []) left y
-  back : (x rest y : List ℕ) (c : ℕ) (left : List ℕ) → TakenFrom first units x rest y → TakesLast first rest (Some c) left → TakenFrom first units x left (c ∷ y)
+  front : (x rest y : List ℕ) (c : ℕ) (left : List ℕ) → TakenFrom first units x rest y
+      → TakesFirst first rest (Some c) left → TakenFrom first units (x ++ c ∷ []) left y
+  back : (x rest y : List ℕ) (c : ℕ) (left : List ℕ) → TakenFrom first units x rest y
+      → TakesLast first rest (Some c) left → TakenFrom first units x left (c ∷ y)
 
 -- each run of calls of an iterator of characters gives these
 abbrev pub Spells : {I : Type 0} → (I → Option ℕ → I → Type 0) → I → List ℕ → Type 0

@@ -1,10 +1,10 @@
 -- UTF-16, well-formed or not (The Unicode Standard, section 3.9).
-use Rattle.std.specs.Prelude.{ℕ, ◌+◌, ◌-◌, ◌*◌, Bool, false, ◌&&◌, ◌||◌, List, [], ◌∷◌, if◌then◌else◌}
+use Rattle.std.specs.Prelude.{ℕ, ◌+◌, ◌-◌, ◌*◌, Bool, ◌&&◌, ◌||◌, List, [], ◌∷◌, if◌then◌else◌}
 use Rattle.std.specs.Int.{is_in_range}
 use Rattle.std.specs.List.{flat_map}
 use Rattle.std.specs.Char.Escape.{encode_utf16}
 use Rattle.normalizer_text.specs.declared.step.Step.{Step}
-use Rattle.normalizer_text.specs.Steps.{replaced, decoded}
+use Rattle.normalizer_text.specs.Steps.{read, replaced, decoded}
 
 -- a high-surrogate code unit (D72)
 abbrev pub is_high : ℕ → Bool
@@ -24,13 +24,13 @@ pair_value high low = 0x10000 + (high - 0xD800) * 0x400 + (low - 0xDC00)
 
 -- a unit that is not the first of a pair: itself, or U+FFFD for a surrogate
 abbrev pub unpaired : ℕ → Step
-unpaired u = if is_single u then record { character = u; width = 1; is_error = false } else replaced 1
+unpaired u = if is_single u then read u 1 else replaced 1
 
 -- what stands in front
 abbrev pub first_of_utf16 : List ℕ → Step
 first_of_utf16 [] = replaced 0
 first_of_utf16 (u ∷ []) = unpaired u
-first_of_utf16 (u ∷ v ∷ us) = if is_high u && is_low v then record { character = pair_value u v; width = 2; is_error = false } else unpaired u
+first_of_utf16 (u ∷ v ∷ us) = if is_high u && is_low v then read (pair_value u v) 2 else unpaired u
 
 -- the text that 16-bit units decode to
 abbrev pub decoded_utf16 : List ℕ → List ℕ

@@ -1,8 +1,8 @@
 -- UTF-8, well-formed or not (The Unicode Standard, section 3.9).
-use Rattle.std.specs.Prelude.{ℕ, suc, ◌+◌, ◌-◌, ◌*◌, Bool, false, List, [], ◌∷◌, length, take, find, Option, Some, None, ◌==◌, if◌then◌else◌}
+use Rattle.std.specs.Prelude.{ℕ, suc, ◌+◌, ◌-◌, ◌*◌, ◌==◌, Bool, List, [], ◌∷◌, length, take, find, Option, Some, None, if◌then◌else◌}
 use Rattle.std.specs.Int.{is_in_range}
 use Rattle.normalizer_text.specs.declared.step.Step.{Step}
-use Rattle.normalizer_text.specs.Steps.{replaced, decoded}
+use Rattle.normalizer_text.specs.Steps.{read, replaced, decoded}
 
 -- the least and the greatest byte that may stand at a place
 pub record ByteRange : Type 0 where
@@ -65,7 +65,7 @@ scalar_value bytes = 0
 abbrev pub first_by_row : Option Row → ℕ → List ℕ → Step
 first_by_row None b bs = replaced 1
 first_by_row (Some r) b bs = if matched r.trail bs == length r.trail
-    then record { character = scalar_value (b ∷ take (length r.trail) bs); width = suc (length r.trail); is_error = false }
+    then read (scalar_value (b ∷ take (length r.trail) bs)) (suc (length r.trail))
     else replaced (suc (matched r.trail bs))
 
 abbrev pub first_of_utf8 : List ℕ → Step

@@ -1,15 +1,17 @@
 //! What is known of decoding, as contracts of functions that do nothing. Each holds of every list of numbers, and of each
 //! encoding unless it names one.
-ghost use Rattle.std.specs.Prelude.{◌≡◌, ◌↔◌, ℕ, ◌<◌, ◌≤◌, ◌^◌, List, ◌++◌, length, take, drop, All, encode_utf8_all};
+ghost use Rattle.std.specs.Prelude.{◌≡◌, ◌↔◌, ℕ, ◌<◌, ◌≤◌, ◌^◌, List, ◌++◌, length, take, drop, All};
+ghost use Rattle.std.specs.Prelude.{true, false, ◌∷◌, slice_index, encode_utf8_all};
+ghost use Rattle.std.specs.List.{slice_range};
 ghost use Rattle.std.specs.Char.Utf16.{utf16_lossy_chars};
 ghost use Rattle.std.specs.Str.{IsUtf8, IsCharBoundary, chars};
 ghost use Rattle.std.specs.Str.Lossy.{utf8_lossy};
 ghost use Rattle.normal_forms.specs.Reading.{IsText};
 ghost use Rattle.normalizer_text.specs.declared.step.Step.{Step};
-ghost use Rattle.normalizer_text.specs.Encodings.{Encoding, first_in, encoded_in, decoded_in};
-ghost use Rattle.normalizer_text.specs.Steps.{steps, width_of, Decodes, IsWellFormed, IsBoundary, TakenFrom};
+ghost use Rattle.normalizer_text.specs.Encodings.{Encoding, first_in, encoded_in, decoded_in, trails_in};
+ghost use Rattle.normalizer_text.specs.Steps.{read, steps, width_of, Decodes, IsWellFormed, IsBoundary, TakenFrom};
 ghost use Rattle.normalizer_text.specs.Utf8.{first_of_utf8, decoded_utf8};
-ghost use Rattle.normalizer_text.specs.Utf16.{decoded_utf16};
+ghost use Rattle.normalizer_text.specs.Utf16.{first_of_utf16, decoded_utf16};
 
 /// Units decode to exactly one text, whose characters are scalar values, by steps that take all of the units.
 pub fn decodes_to_one_text()
@@ -37,6 +39,32 @@ pub fn decodes_apart_after_steps()
         (steps (first_in e) (drop (width_of before) units) ≡ after) }
     ensures text { (e : Encoding) (units : List ℕ) (n : ℕ) → IsBoundary (first_in e) units n →
         decoded_in e units ≡ decoded_in e (take n units) ++ decoded_in e (drop n units) }
+    ensures between { (e : Encoding) (units : List ℕ) (n m : ℕ) → IsBoundary (first_in e) units n →
+        IsBoundary (first_in e) units m → n ≤ m →
+        decoded_in e units ≡
+        decoded_in e (take n units) ++ decoded_in e (slice_range units n m) ++ decoded_in e (drop m units) }
+{}
+
+/// A step begins at each unit that can't stand after the first one of a step: at each byte but those from 80 to BF, and at
+/// each 16-bit unit but the low surrogates.
+pub fn step_begins_at_unit_that_cannot_trail()
+    ensures { (e : Encoding) (units : List ℕ) (n : ℕ) → n < length units → trails_in e (slice_index units n) ≡ false →
+        IsBoundary (first_in e) units n }
+{}
+
+/// A byte below 80 is its character, and so is a 16-bit unit below D800. In what is well-formed, a byte below C3 begins a
+/// character below U+00C0, and one below CC a character below U+0300; no other character stands in bytes below these.
+pub fn low_units_begin_low_characters()
+    ensures ascii { (byte : ℕ) (rest : List ℕ) → byte < 0x80 → first_of_utf8 (byte ∷ rest) ≡ read byte 1 }
+    ensures unit { (unit : ℕ) (rest : List ℕ) → unit < 0xD800 → first_of_utf16 (unit ∷ rest) ≡ read unit 1 }
+    ensures below_C0 { (byte : ℕ) (rest : List ℕ) → byte < 0xC3 →
+        (first_of_utf8 (byte ∷ rest)).is_error ≡ false → (first_of_utf8 (byte ∷ rest)).character < 0xC0 }
+    ensures below_300 { (byte : ℕ) (rest : List ℕ) → byte < 0xCC →
+        (first_of_utf8 (byte ∷ rest)).is_error ≡ false → (first_of_utf8 (byte ∷ rest)).character < 0x300 }
+    ensures all_below_C0 { (bytes : List ℕ) → IsWellFormed first_of_utf8 bytes → All (λ b. b < 0xC3) bytes →
+        All (λ c. c < 0xC0) (decoded_utf8 bytes) }
+    ensures all_below_300 { (bytes : List ℕ) → IsWellFormed first_of_utf8 bytes → All (λ b. b < 0xCC) bytes →
+        All (λ c. c < 0x300) (decoded_utf8 bytes) }
 {}
 
 /// Calls of `next` and `next_back` in any mixture take the text apart from both ends: where they took the characters x from
@@ -52,6 +80,7 @@ pub fn well_formed_where_encoded()
         encoded_in e (decoded_in e units) ≡ units }
     ensures back { (e : Encoding) (x : List ℕ) → IsText x → decoded_in e (encoded_in e x) ≡ x }
     ensures well_formed { (e : Encoding) (x : List ℕ) → IsText x → IsWellFormed (first_in e) (encoded_in e x) }
+    ensures append { (e : Encoding) (x y : List ℕ) → encoded_in e (x ++ y) ≡ encoded_in e x ++ encoded_in e y }
 {}
 
 /// The well-formed bytes are those that std takes for UTF-8.

@@ -1,7 +1,7 @@
 use Rattle.normalizer_text.specs.Encodings.{first_in}
 use Rattle.normalizer_text.proofs.EncodingRules.{IsDecoding-first}
 use Rattle.normalizer_text.proofs.StepLemmas.{steps-apart}
-use Rattle.normalizer_text.proofs.BoundaryLemmas.{decoded-take-drop}
+use Rattle.normalizer_text.proofs.BoundaryLemmas.{decoded-take-drop, decoded-between}
 use Rattle.normalizer_text.proofs.laws.decodes_apart_after_steps.Goals as goal
 
 pub returns-clause-steps : goal.returns-clause-steps
@@ -9,3 +9,6 @@ returns-clause-steps c = λ e units before after. steps-apart (first_in e) (IsDe
 
 pub returns-clause-text : goal.returns-clause-text
 returns-clause-text c = λ e. decoded-take-drop (first_in e) (IsDecoding-first e)
+
+pub returns-clause-between : goal.returns-clause-between
+returns-clause-between c = λ e. decoded-between (first_in e) (IsDecoding-first e)

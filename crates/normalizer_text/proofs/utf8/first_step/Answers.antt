@@ -3,7 +3,7 @@ use Rattle.std.specs.Prelude.{option_map}
 use Rattle.std.proofs.lemmas.List.{take_rest}
 use Rattle.normalizer_text.specs.Utf8.{matched}
 use Rattle.normalizer_text.specs.Trails.{places}
-use Rattle.normalizer_text.proofs.EncodingLemmas.{read}
+use Rattle.normalizer_text.specs.Steps.{read}
 use Rattle.normalizer_text.proofs.MatchLemmas.{matched-le}
 use Rattle.normalizer_text.proofs.RowLemmas.{first-whole}
 use Rattle.normalizer_text.proofs.utf8.first_step.Goals as goal
