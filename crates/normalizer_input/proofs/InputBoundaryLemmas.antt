@@ -1,8 +1,9 @@
 -- Boundaries of steps that no error comes before: where they lie, and what stands before and behind them.
-use Rattle.std.proofs.Common.{◌≡◌, ℕ, zero, suc, ◌<◌, ◌≤◌, ◌⊎◌, ◌↔◌, true, false, List, [], ◌∷◌, ◌++◌, length, take, drop, inl, inr, refl, sym, ap, subst, ◌∙◌, arith, length-drop, take-append-drop}
+use Rattle.std.proofs.Common.{◌≡◌, ℕ, zero, suc, ◌+◌, ◌-◌, ◌<◌, ◌≤◌, ◌⊎◌, ◌↔◌, true, false, List, [], ◌∷◌, ◌++◌, length, take, drop, inl, inr, refl, sym, ap, subst, ◌∙◌, arith, length-drop, take-append-drop}
 use Rattle.std.specs.Prelude.{All}
 use Rattle.std.proofs.lemmas.Bool.{true≢false, cases_Bool}
-use Rattle.std.proofs.lemmas.List.{length-map}
+use Rattle.std.proofs.lemmas.List.{length-map, drop-take, take-take}
+use Rattle.std.specs.List.{slice_range}
 use Rattle.std.proofs.lemmas.List.Elements.{All-nil, All-cons, All-head, All-tail, All-same, All-append}
 use Rattle.normalizer_text.specs.declared.step.Step.{Step}
 use Rattle.normalizer_text.specs.Steps.{steps, IsWellFormed}
@@ -85,6 +86,11 @@ longest_error_free (s ∷ ss) (suc k) within =
           }
     ]
 
+slice-of_take : (units : List ℕ) (n m : ℕ) → n ≤ m → slice_range units n m ≡ drop n (take m units)
+slice-of_take units n m le =
+    let place : n + (m - n) ≡ m = omega arith in
+    sym (drop-take n (m - n) units) ∙ ap (λ i. drop n (take i units)) place
+
 module _ (e : Encoding) where
   pub length-decoded : (us : List ℕ) → length (decoded_in e us) ≡ length (steps (first_in e) us)
   length-decoded us = length-map (steps (first_in e) us) (λ s. s.character)
@@ -123,6 +129,15 @@ module _ (e : Encoding) where
   -- a well-formed front ends at a boundary that no error comes before, and each of these ends one
   pub front_iff_boundary : (units : List ℕ) (n : ℕ) → ((n ≤ length units) × IsWellFormed (first_in e) (take n units)) ↔ IsErrorFreeBoundary e units n
   front_iff_boundary units n = (λ f. boundary_of_front units n f.0 f.1, front_of_boundary units n)
+
+  -- what stands between two boundaries that no error comes before is well-formed
+  pub well_formed-between : (units : List ℕ) (n m : ℕ) → IsErrorFreeBoundary e units n → IsErrorFreeBoundary e units m → n ≤ m → IsWellFormed (first_in e) (slice_range units n m)
+  well_formed-between units n m a b le =
+      let front = front_of_boundary units m b in
+      let first_part = (front_of_boundary units n a).1 in
+      let apart : take n units ++ slice_range units n m ≡ take m units =
+      ap (λ l. l ++ slice_range units n m) (sym (take-take n m units le)) ∙ ap (λ l. take n (take m units) ++ l) (slice-of_take units n m le) ∙ take-append-drop n (take m units) in
+      IsWellFormed-rest (take n units) (slice_range units n m) first_part (subst (IsWellFormed (first_in e)) (sym apart) front.1)
 
   -- ---- errors
 

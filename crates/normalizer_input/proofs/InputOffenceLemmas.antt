@@ -1,6 +1,7 @@
 -- The first offence of an input of units, and of the input with a continuation.
-use Rattle.std.proofs.Common.{◌≡◌, ◌≢◌, ℕ, ◌<◌, ◌≤◌, ◌⊎◌, List, [], ◌∷◌, ◌++◌, length, drop, inl, inr, refl, sym, ap, subst, ◌∙◌, arith, append_assoc, append-nil, length-drop}
-use Rattle.std.proofs.Math.Seq.{take-length, drop-length}
+use Rattle.std.proofs.Common.{◌≡◌, ◌≢◌, ℕ, ◌<◌, ◌≤◌, ◌⊎◌, List, [], ◌∷◌, ◌++◌, length, take, drop, Option, Some, None, inl, inr, refl, sym, ap, subst, ◌∙◌, arith, append_assoc, append-nil, length-drop}
+use Rattle.std.proofs.Math.Seq.{take-length, drop-length, drop-append_seam}
+use Rattle.std.proofs.lemmas.Bool.{cases_eq}
 use Rattle.normal_forms.specs.Reading.{Reading}
 use Rattle.normal_forms.specs.declared.Form.{Form}
 use Rattle.normal_forms.specs.Forms.{normal_form}
@@ -15,9 +16,10 @@ use Rattle.normalizer_text.proofs.BoundaryLemmas.{width_of-fewer}
 use Rattle.normalizer_text.proofs.StepLemmas.{decoded-some, steps-append, decoded-append}
 use Rattle.normalizer_input.proofs.FormLemmas.{normal_form-nil, normal_form-some}
 use Rattle.normalizer_input.specs.InputCut.{IsInputNormalized, IsInputCut, characters_before, IsErrorAt}
-use Rattle.normalizer_input.specs.InputOffence.{IsInputOffence}
+use Rattle.normalizer_input.specs.InputOffence.{IsInputOffence, IsOffenceOf}
+use Rattle.normalizer_input.specs.declared.offence.Offence.{Offence}
 use Rattle.normalizer_input.proofs.InputBoundaryLemmas.{IsWellFormed-rest, boundary_of_front}
-use Rattle.normalizer_input.proofs.InputCutLemmas.{characters_before-steps, drop-characters_before, qualifies_iff_characters, input_cut_exists, input_cut_unique, cut_ends, input_cut_below, cut_of_well_formed}
+use Rattle.normalizer_input.proofs.InputCutLemmas.{characters_before-steps, drop-characters_before, qualifies_iff_characters, input_cut_exists, input_cut_unique, cut_ends, input_cut_below, is_normalized_iff_input_cut, cut_of_well_formed}
 
 first_unique : (x : List ℕ) (a b : ℕ) → IsFirst x a → IsFirst x b → a ≡ b
 first_unique x a b one two = let same = sym one.1 ∙ two.1 in cc
@@ -147,3 +149,39 @@ module _ (e : Encoding) (d : Reading) (form : Form) where
   continued_input_offence suits inhabited units more place found wanted w offence =
       let longer = input_offence_exists inhabited (units ++ more) (continued_input_differs suits units more w offence.differs) in
       (longer.0, longer.1, longer.2, longer.3, continued_input_cut suits units more place longer.0 w offence.differs offence.cut longer.3.cut)
+
+-- ---- the answer of a search
+
+module _ (e : Encoding) (d : Reading) (form : Form) where
+  pub offence_of_exists : HasInhabitedLists d → (units : List ℕ) → (answer : Option Offence) × IsOffenceOf e d form units answer
+  offence_of_exists inhabited units =
+      let at = input_cut_exists e d form units in
+      elim (cases_eq at.0 (length units)) [
+        | inl same ↦ (None, (is_normalized_iff_input_cut e d form units).1 (subst (IsInputCut e d form units) same at.1))
+        | inr other ↦
+            let found =
+            input_offence_exists e d form inhabited units
+            (λ own. other (input_cut_unique e d form units at.0 (length units) at.1 ((is_normalized_iff_input_cut e d form units).0 own))) in
+            (Some (record { place = found.0; found = found.1; wanted = found.2 }), found.3)
+      ]
+
+  pub offence_of_unique : (units : List ℕ) (one other : Option Offence) → IsOffenceOf e d form units one → IsOffenceOf e d form units other → one ≡ other
+  offence_of_unique units None None a b = refl
+  offence_of_unique units None (Some o) a b = absurd (b.differs a)
+  offence_of_unique units (Some o) None a b = absurd (a.differs b)
+  offence_of_unique units (Some o) (Some p) a b =
+      let same = input_offence_unique e d form units o.place o.found o.wanted p.place p.found p.wanted a b in
+      ap (λ n. Some (record { place = n; found = o.found; wanted = o.wanted })) same.0
+      ∙ ap (λ c. Some (record { place = p.place; found = c; wanted = o.wanted })) same.1
+      ∙ ap (λ c. Some (record { place = p.place; found = p.found; wanted = c })) same.2
+
+  -- the character found is that of the text, and the character wanted that of its form
+  pub found_in_text : (units : List ℕ) (place found wanted : ℕ) → IsInputOffence e d form units place found wanted → IsFirst (drop (characters_before e units place) (decoded_in e units)) found
+  found_in_text units place found wanted o =
+      subst (λ l. IsFirst l found) (sym (drop-characters_before e units place o.cut.qualifies.well_formed)) o.is_found
+
+  pub wanted_in_form : (units : List ℕ) (place found wanted : ℕ) → IsInputOffence e d form units place found wanted → IsFirst (drop (characters_before e units place) (normal_form d form (decoded_in e units))) wanted
+  wanted_in_form units place found wanted o =
+      let front : List ℕ = decoded_in e (take place units) in
+      let rest : List ℕ = normal_form d form (decoded_in e (drop place units)) in
+      subst (λ l. IsFirst l wanted) (sym (drop-append_seam front rest) ∙ ap (drop (length front)) o.cut.qualifies.keeps) o.is_wanted

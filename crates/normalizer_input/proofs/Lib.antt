@@ -1,3 +1,4 @@
+pub mod EncodedFormLemmas
 pub mod FormLemmas
 pub mod InputBoundaryLemmas
 pub mod InputCutLemmas

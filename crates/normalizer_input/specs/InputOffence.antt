@@ -9,9 +9,10 @@ use Rattle.normalizer_text.specs.Encodings.{Encoding, decoded_in}
 use Rattle.normalizer_input.specs.declared.offence.Offence.{Offence}
 use Rattle.normalizer_input.specs.InputCut.{IsInputNormalized, IsInputCut}
 
--- the units are not both well-formed and their own form; the place is the cut, `found` the first character that the rest
--- there decodes to, and `wanted` the first of the form of what it decodes to
-pub record IsInputOffence (e : Encoding) (d : Reading) (form : Form) (units : List ℕ) (place found wanted : ℕ) : Type 0 where
+-- the units are not both well-formed and their own form; the place is the cut, `found` the first character that the
+-- rest there decodes to, and `wanted` the first of the form of what it decodes to
+pub record IsInputOffence (e : Encoding) (d : Reading) (form : Form) (units : List ℕ) (place found wanted : ℕ)
+    : Type 0 where
   pub differs : IsInputNormalized e d form units → ⊥
   pub cut : IsInputCut e d form units place
   pub is_found : IsFirst (decoded_in e (drop place units)) found

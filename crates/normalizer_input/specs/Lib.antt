@@ -1,2 +1,3 @@
+pub mod EncodedForm
 pub mod InputCut
 pub mod InputOffence

@@ -1,19 +1,23 @@
 //! The laws of the cut and of the first offence of an input of bytes or 16-bit units, well-formed or not. Each function
 //! does nothing: its contract is the law, over both encodings, every reading and both forms.
 
-ghost use Rattle.std.specs.Prelude.{◌≡◌, ◌≢◌, ℕ, ◌≤◌, ◌⊎◌, ◌↔◌, List, [], ◌∷◌, ◌++◌, length, take, drop, encode_utf8_all};
+ghost use Rattle.std.specs.Prelude.{◌≡◌, ◌≢◌, ◌↔◌, ◌⊎◌, ℕ, suc, ◌≤◌, List, [], ◌∷◌, ◌++◌, length, take, drop, Option};
+ghost use Rattle.std.specs.Prelude.{encode_utf8_all};
+ghost use Rattle.std.specs.List.{slice_range};
 ghost use Rattle.std.specs.Str.{chars};
 ghost use Rattle.normal_forms.specs.Reading.{Reading};
 ghost use Rattle.normal_forms.specs.declared.Form.{Form};
 ghost use Rattle.normal_forms.specs.Forms.{normal_form, IsNormalized};
-ghost use Rattle.normal_forms.specs.Cut.{QualifiesForCut, IsCut, IsCommonFront};
-ghost use Rattle.normal_forms.specs.Offence.{IsFirstOffence};
+ghost use Rattle.normal_forms.specs.Cut.{QualifiesForCut, IsCut, IsCommonFront, IsFront};
+ghost use Rattle.normal_forms.specs.Offence.{IsFirst, IsFirstOffence};
 ghost use Rattle.normal_forms.specs.Hypotheses.{HasInhabitedLists, SuitsForm};
-ghost use Rattle.normalizer_text.specs.Steps.{IsWellFormed};
+ghost use Rattle.normalizer_text.specs.Steps.{IsWellFormed, IsBoundary};
 ghost use Rattle.normalizer_text.specs.Encodings.{Encoding, first_in, encoded_in, decoded_in};
 ghost use Rattle.normalizer_input.specs.InputCut.{IsInputNormalized, QualifiesForInputCut, IsInputCut};
 ghost use Rattle.normalizer_input.specs.InputCut.{characters_before, IsErrorFreeBoundary, IsErrorAt};
-ghost use Rattle.normalizer_input.specs.InputOffence.{IsInputOffence};
+ghost use Rattle.normalizer_input.specs.InputOffence.{IsInputOffence, IsOffenceOf};
+ghost use Rattle.normalizer_input.specs.EncodedForm.{HasTextForms, encoded_form, IsEncodedFront};
+ghost use Rattle.normalizer_input.specs.declared.offence.Offence.{Offence};
 
 /// The first n units are well-formed exactly where n is a boundary at or before the first error.
 pub fn well_formed_front_ends_at_boundary()
@@ -36,15 +40,17 @@ pub fn input_cut_is_common_front()
         QualifiesForInputCut e d form units m }
 {}
 
-/// Every input has exactly one cut. It is where the longest common front ends that no error comes before: as many characters
-/// stand before it as before the cut of the decoded text, or fewer, and then an error stands at it.
+/// Every input has exactly one cut. It is where the longest common front ends that no error comes before: as many
+/// characters stand before it as before the cut of the decoded text, or fewer, and then an error stands at it.
 pub fn one_input_cut()
-    ensures exists { (e : Encoding) (d : Reading) (form : Form) (units : List ℕ) → (n : ℕ) × IsInputCut e d form units n }
+    ensures exists { (e : Encoding) (d : Reading) (form : Form) (units : List ℕ) →
+        (n : ℕ) × IsInputCut e d form units n }
     ensures unique { (e : Encoding) (d : Reading) (form : Form) (units : List ℕ) (n m : ℕ) →
         IsInputCut e d form units n → IsInputCut e d form units m → n ≡ m }
     ensures longest { (e : Encoding) (d : Reading) (form : Form) → SuitsForm d form → (units : List ℕ) (n : ℕ) →
         IsInputCut e d form units n → (m : ℕ) → IsErrorFreeBoundary e units m →
-        IsCommonFront (decoded_in e units) (normal_form d form (decoded_in e units)) (characters_before e units m) → m ≤ n }
+        IsCommonFront (decoded_in e units) (normal_form d form (decoded_in e units)) (characters_before e units m) →
+        m ≤ n }
     ensures characters { (e : Encoding) (d : Reading) (form : Form) → SuitsForm d form → (units : List ℕ) (n k : ℕ) →
         IsInputCut e d form units n → IsCut d form (decoded_in e units) k →
         (characters_before e units n ≤ k) × ((characters_before e units n ≡ k) ⊎ IsErrorAt e units n) }
@@ -67,13 +73,15 @@ pub fn normalized_input_is_cut_at_its_end()
 /// Where an input is well-formed and its own form, so is each well-formed front of it, and so is the rest behind one.
 pub fn parts_of_normalized_input()
     ensures front { (e : Encoding) (d : Reading) (form : Form) → SuitsForm d form → (front rest : List ℕ) →
-        IsWellFormed (first_in e) front → IsInputNormalized e d form (front ++ rest) → IsInputNormalized e d form front }
+        IsWellFormed (first_in e) front → IsInputNormalized e d form (front ++ rest) →
+        IsInputNormalized e d form front }
     ensures rest { (e : Encoding) (d : Reading) (form : Form) → SuitsForm d form → (front rest : List ℕ) →
-        IsWellFormed (first_in e) front → IsInputNormalized e d form (front ++ rest) → IsInputNormalized e d form rest }
+        IsWellFormed (first_in e) front → IsInputNormalized e d form (front ++ rest) →
+        IsInputNormalized e d form rest }
 {}
 
-/// An input that is not well-formed and its own form has exactly one first offence. The character found there is not the
-/// one wanted, or an error stands there.
+/// An input that is not well-formed and its own form has exactly one first offence. The character found there is not
+/// the one wanted, or an error stands there.
 pub fn first_input_offence()
     ensures exists { (e : Encoding) (d : Reading) (form : Form) → HasInhabitedLists d → (units : List ℕ) →
         (IsInputNormalized e d form units → ⊥) →
@@ -86,8 +94,23 @@ pub fn first_input_offence()
         (found ≢ wanted) ⊎ IsErrorAt e units place }
 {}
 
-/// What is put behind a well-formed input mends no offence, well-formed itself or not: the longer input has one too, at a
-/// place no later.
+/// Every input has exactly one answer to a search for its first offence. The character found is the one of the
+/// decoded text, and the character wanted the one of its form, behind as many characters as stand before the place.
+pub fn offence_of_input()
+    ensures exists { (e : Encoding) (d : Reading) (form : Form) → HasInhabitedLists d → (units : List ℕ) →
+        (answer : Option Offence) × IsOffenceOf e d form units answer }
+    ensures unique { (e : Encoding) (d : Reading) (form : Form) (units : List ℕ) (one other : Option Offence) →
+        IsOffenceOf e d form units one → IsOffenceOf e d form units other → one ≡ other }
+    ensures found { (e : Encoding) (d : Reading) (form : Form) (units : List ℕ) (place found wanted : ℕ) →
+        IsInputOffence e d form units place found wanted →
+        IsFirst (drop (characters_before e units place) (decoded_in e units)) found }
+    ensures wanted { (e : Encoding) (d : Reading) (form : Form) (units : List ℕ) (place found wanted : ℕ) →
+        IsInputOffence e d form units place found wanted →
+        IsFirst (drop (characters_before e units place) (normal_form d form (decoded_in e units))) wanted }
+{}
+
+/// What is put behind a well-formed input mends no offence, well-formed itself or not: the longer input has one too,
+/// at a place no later.
 pub fn input_offence_under_continuation()
     ensures cut { (e : Encoding) (d : Reading) (form : Form) → SuitsForm d form → (units more : List ℕ) (n m : ℕ) →
         IsWellFormed (first_in e) units → (IsInputNormalized e d form units → ⊥) →
@@ -101,8 +124,8 @@ pub fn input_offence_under_continuation()
         (m : ℕ) × (found' : ℕ) × (wanted' : ℕ) × IsInputOffence e d form (units ++ more) m found' wanted' × (m ≤ n) }
 {}
 
-/// A well-formed input is its own form exactly where its text is. It is cut, and first differs from its form, where its text
-/// does: behind the units of as many characters.
+/// A well-formed input is its own form exactly where its text is. It is cut, and first differs from its form, where
+/// its text does: behind the units of as many characters.
 pub fn well_formed_input_goes_by_its_text()
     ensures normalized { (e : Encoding) (d : Reading) (form : Form) (units : List ℕ) → IsWellFormed (first_in e) units →
         IsInputNormalized e d form units ↔ IsNormalized d form (decoded_in e units) }
@@ -121,7 +144,8 @@ pub fn well_formed_input_goes_by_its_text()
         IsFirstOffence d form (decoded_in e units) (characters_before e units n) found wanted }
 {}
 
-/// A `str` is cut after the bytes of as many characters as stand before the cut of its text, and so with its first offence.
+/// A `str` is cut after the bytes of as many characters as stand before the cut of its text, and so with its first
+/// offence.
 pub fn str_goes_by_its_characters(text: &str)
     ensures normalized { (d : Reading) (form : Form) →
         IsInputNormalized Encoding.Utf8 d form text.now ↔ IsNormalized d form (chars text.now) }
@@ -133,8 +157,50 @@ pub fn str_goes_by_its_characters(text: &str)
         (place ≡ length (encode_utf8_all (take k (chars text.now))))) }
 {}
 
-/// Over every reading, bytes that end within a character are not well-formed, and may become so by what is put behind them:
-/// the law of continuations holds of well-formed inputs alone.
+/// An input is well-formed and its own form exactly where the form of what it decodes to, encoded, is the input.
+pub fn normalized_input_is_its_encoded_form()
+    ensures { (e : Encoding) (d : Reading) (form : Form) → HasTextForms d form → (units : List ℕ) →
+        IsInputNormalized e d form units ↔ (encoded_form e d form units ≡ units) }
+{}
+
+/// The first characters of the form, encoded, stand at the front of an input exactly where an error-free boundary
+/// with as many characters before it ends a common front of the decoded text and its form. The longest such front
+/// ends at the cut.
+pub fn encoded_front_ends_at_boundary()
+    ensures exactly { (e : Encoding) (d : Reading) (form : Form) → HasTextForms d form → (units : List ℕ) (n k : ℕ) →
+        IsEncodedFront e d form units n k ↔ (IsErrorFreeBoundary e units n × (characters_before e units n ≡ k) ×
+        IsCommonFront (decoded_in e units) (normal_form d form (decoded_in e units)) k) }
+    ensures fewer { (e : Encoding) (d : Reading) (form : Form) (units : List ℕ) (n k j : ℕ) →
+        IsEncodedFront e d form units n k → j ≤ k → (m : ℕ) × IsEncodedFront e d form units m j × (m ≤ n) }
+    ensures longest { (e : Encoding) (d : Reading) (form : Form) → SuitsForm d form → HasTextForms d form →
+        (units : List ℕ) (n k : ℕ) → IsEncodedFront e d form units n k →
+        ((m : ℕ) → IsEncodedFront e d form units m (suc k) → ⊥) → IsInputCut e d form units n }
+    ensures at_cut { (e : Encoding) (d : Reading) (form : Form) → SuitsForm d form → (units : List ℕ) (n : ℕ) →
+        IsInputCut e d form units n → IsEncodedFront e d form units n (characters_before e units n) }
+{}
+
+/// An input offered piece by piece: where the form of what a front up to a boundary decodes to, encoded, stands at
+/// the front of the input, that front is well-formed and its own form. So the form of the whole does not end early.
+pub fn offered_input()
+    ensures front { (e : Encoding) (d : Reading) (form : Form) → SuitsForm d form → HasInhabitedLists d →
+        HasTextForms d form → (units : List ℕ) (n : ℕ) → IsBoundary (first_in e) units n →
+        IsFront (encoded_form e d form (take n units)) units → IsInputNormalized e d form (take n units) }
+    ensures whole { (e : Encoding) (d : Reading) (form : Form) → SuitsForm d form → HasInhabitedLists d →
+        HasTextForms d form → (units : List ℕ) →
+        IsFront (encoded_form e d form units) units → encoded_form e d form units ≡ units }
+{}
+
+/// What stands between two boundaries at or before the first error is well-formed and decodes apart.
+pub fn units_between_boundaries()
+    ensures well_formed { (e : Encoding) (units : List ℕ) (n m : ℕ) → IsErrorFreeBoundary e units n →
+        IsErrorFreeBoundary e units m → n ≤ m → IsWellFormed (first_in e) (slice_range units n m) }
+    ensures text { (e : Encoding) (units : List ℕ) (n m : ℕ) → IsErrorFreeBoundary e units n →
+        IsErrorFreeBoundary e units m → n ≤ m → decoded_in e units ≡
+        decoded_in e (take n units) ++ decoded_in e (slice_range units n m) ++ decoded_in e (drop m units) }
+{}
+
+/// Over every reading, bytes that end within a character are not well-formed, and may become so by what is put behind
+/// them: the law of continuations holds of well-formed inputs alone.
 pub fn broken_sequence_may_be_completed()
     ensures broken { (d : Reading) (form : Form) → IsInputNormalized Encoding.Utf8 d form (0xE2 ∷ 0x98 ∷ []) → ⊥ }
     ensures completed { (d : Reading) (form : Form) → IsNormalized d form (0x2603 ∷ []) →

@@ -12,15 +12,15 @@ read c n = record { character = c; width = n; is_error = false }
 abbrev pub replaced : ℕ → Step
 replaced n = record { character = 0xFFFD; width = n; is_error = true }
 
--- units decode to characters: no units to none; others to the character of the step in front, and then to what the units
--- after that step decode to
+-- units decode to characters: no units to none; others to the character of the step in front, and then to what the
+-- units after that step decode to
 pub data Decodes (first : List ℕ → Step) : List ℕ → List ℕ → Type 0 where
   nothing : Decodes first [] []
   step : (u : ℕ) (us x : List ℕ) → Decodes first (drop (first (u ∷ us)).width (u ∷ us)) x
       → Decodes first (u ∷ us) ((first (u ∷ us)).character ∷ x)
 
--- the steps of the units behind the first n, which the step before took: the step that stands in front of them, and those
--- behind the units that it takes. (The units are gone through one by one, so that the recursion ends.)
+-- the steps of the units behind the first n, which the step before took: the step that stands in front of them, and
+-- those behind the units that it takes. (The units are gone through one by one, so that the recursion ends.)
 unfoldable pub steps_past : (List ℕ → Step) → ℕ → List ℕ → List Step
 steps_past first n [] = []
 steps_past first zero (u ∷ us) = first (u ∷ us) ∷ steps_past first ((first (u ∷ us)).width - 1) us

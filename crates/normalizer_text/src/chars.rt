@@ -7,8 +7,8 @@ ghost use Rattle.normalizer_text.specs.Encodings.{first_in};
 use crate::units::Units;
 use std::marker::Model;
 
-/// The characters that units decode to, from the front and from the back: of what is ill-formed, one U+FFFD for the longest
-/// beginning of a character that is cut short, and for each other unit that is part of none.
+/// The characters that units decode to, from the front and from the back: of what is ill-formed, one U+FFFD for the
+/// longest beginning of a character that is cut short, and for each other unit that is part of none.
 #[derive(Drop)]
 pub struct Chars<U: Units> {
     units: U,

@@ -1,5 +1,5 @@
-//! What is known of decoding, as contracts of functions that do nothing. Each holds of every list of numbers, and of each
-//! encoding unless it names one.
+//! What is known of decoding, as contracts of functions that do nothing. Each holds of every list of numbers, and of
+//! each encoding unless it names one.
 ghost use Rattle.std.specs.Prelude.{◌≡◌, ◌↔◌, ℕ, ◌<◌, ◌≤◌, ◌^◌, List, ◌++◌, length, take, drop, All};
 ghost use Rattle.std.specs.Prelude.{true, false, ◌∷◌, slice_index, encode_utf8_all};
 ghost use Rattle.std.specs.List.{slice_range};
@@ -30,8 +30,8 @@ pub fn decodes_apart_after_well_formed()
         IsWellFormed (first_in e) (take n units) → IsBoundary (first_in e) units n }
 {}
 
-/// At the end of each step, an error too, the units decode apart: those before it by the steps before it, those after it
-/// by the others.
+/// At the end of each step, an error too, the units decode apart: those before it by the steps before it, those after
+/// it by the others.
 pub fn decodes_apart_after_steps()
     ensures steps { (e : Encoding) (units : List ℕ) (before after : List Step) →
         steps (first_in e) units ≡ before ++ after →
@@ -45,15 +45,16 @@ pub fn decodes_apart_after_steps()
         decoded_in e (take n units) ++ decoded_in e (slice_range units n m) ++ decoded_in e (drop m units) }
 {}
 
-/// A step begins at each unit that can't stand after the first one of a step: at each byte but those from 80 to BF, and at
-/// each 16-bit unit but the low surrogates.
+/// A step begins at each unit that can't stand after the first one of a step: at each byte but those from 80 to BF,
+/// and at each 16-bit unit but the low surrogates.
 pub fn step_begins_at_unit_that_cannot_trail()
     ensures { (e : Encoding) (units : List ℕ) (n : ℕ) → n < length units → trails_in e (slice_index units n) ≡ false →
         IsBoundary (first_in e) units n }
 {}
 
-/// A byte below 80 is its character, and so is a 16-bit unit below D800. In what is well-formed, a byte below C3 begins a
-/// character below U+00C0, and one below CC a character below U+0300; no other character stands in bytes below these.
+/// A byte below 80 is its character, and so is a 16-bit unit below D800. In what is well-formed, a byte below C3
+/// begins a character below U+00C0, and one below CC a character below U+0300; no other character stands in bytes
+/// below these.
 pub fn low_units_begin_low_characters()
     ensures ascii { (byte : ℕ) (rest : List ℕ) → byte < 0x80 → first_of_utf8 (byte ∷ rest) ≡ read byte 1 }
     ensures unit { (unit : ℕ) (rest : List ℕ) → unit < 0xD800 → first_of_utf16 (unit ∷ rest) ≡ read unit 1 }
@@ -67,8 +68,8 @@ pub fn low_units_begin_low_characters()
         All (λ c. c < 0x300) (decoded_utf8 bytes) }
 {}
 
-/// Calls of `next` and `next_back` in any mixture take the text apart from both ends: where they took the characters x from
-/// the front and y from the back, the characters between them are those that the units left decode to.
+/// Calls of `next` and `next_back` in any mixture take the text apart from both ends: where they took the characters
+/// x from the front and y from the back, the characters between them are those that the units left decode to.
 pub fn decodes_from_both_ends()
     ensures { (e : Encoding) (units x rest y : List ℕ) → TakenFrom (first_in e) units x rest y →
         decoded_in e units ≡ x ++ decoded_in e rest ++ y }

@@ -1,0 +1,5 @@
+use Rattle.normalizer_input.proofs.EncodedFormLemmas.{is_normalized_iff_encoded_form}
+use Rattle.normalizer_input.proofs.laws.normalized_input_is_its_encoded_form.Goals as goal
+
+pub returns : goal.returns
+returns c = λ e d form texts units. is_normalized_iff_encoded_form e d form units texts
