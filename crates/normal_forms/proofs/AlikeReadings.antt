@@ -1,12 +1,12 @@
 -- Readings that say the same make the same forms.
 use Rattle.std.proofs.Common.{◌≡◌, ℕ, not, ◌&&◌, ◌||◌, ◌==◌, nat_lt, nat_le, if◌then◌else◌, List, [], ◌∷◌, ◌++◌, Option, Some, None, All, refl, sym, ap, ap₂, subst, ◌∙◌}
-use Rattle.normal_forms.specs.Reading.{Reading, ReadsAsItself}
+use Rattle.normal_forms.specs.Reading.{Reading, IsText, ReadsAsItself}
 use Rattle.normal_forms.specs.Alike.{AreAlike}
 use Rattle.normal_forms.specs.Decomposition.{expand}
 use Rattle.normal_forms.specs.Order.{is_reorderable, insert, order}
 use Rattle.normal_forms.specs.Composition.{is_blocked, joined, visit, compose_from, compose}
 use Rattle.std.proofs.lemmas.List.Elements.{All-weaker}
-use Rattle.normal_forms.specs.Hypotheses.{HasFaithfulResults, HasFullLists, HasInhabitedLists, HasStarterResults, SuitsForm}
+use Rattle.normal_forms.specs.Hypotheses.{HasFaithfulResults, HasFullLists, HasInhabitedLists, HasScalarResults, HasStarterResults, HasTextLists, SuitsForm}
 use Rattle.normal_forms.specs.Forms.{Form, Decomposing, Composing, nfd, nfc, normal_form}
 
 -- what a visit makes of a character and what follows it
@@ -100,6 +100,12 @@ module _ (d e : Reading) (alike : AreAlike d e) where
 
   pub HasInhabitedLists-alike : HasInhabitedLists d → HasInhabitedLists e
   HasInhabitedLists-alike inhabited = record { inhabited = λ c empty. inhabited.inhabited c (alike.lists c ∙ empty) }
+
+  pub HasTextLists-alike : HasTextLists d → HasTextLists e
+  HasTextLists-alike texts = record { texts = λ c is. subst IsText (alike.lists c) (texts.texts c is) }
+
+  pub HasScalarResults-alike : HasScalarResults d → HasScalarResults e
+  HasScalarResults-alike results = record { scalars = λ a c r first second joins. results.scalars a c r first second (alike.pairs a c ∙ joins) }
 
   pub SuitsForm-alike : (form : Form) → SuitsForm d form → SuitsForm e form
   SuitsForm-alike Decomposing suits = HasFullLists-alike suits

@@ -55,7 +55,7 @@ nfd-nil : (d : Reading) → nfd d [] ≡ []
 unfolding nfd
 nfd-nil d = ap (order d) (expand_of_self d [] (AreSelf-nil d)) ∙ order-nil d
 
-length-nfd : (d : Reading) (x : List ℕ) → length (nfd d x) ≡ length (expand d x)
+pub length-nfd : (d : Reading) (x : List ℕ) → length (nfd d x) ≡ length (expand d x)
 unfolding nfd
 length-nfd d x = length-order d (expand d x)
 
@@ -73,7 +73,7 @@ composed_form-by_nfd : (d : Reading) (r s : List ℕ) → nfd d r ≡ nfd d s �
 unfolding composed_form
 composed_form-by_nfd d r s e = ap (compose_by_starters d) e
 
-expand-empty : (d : Reading) → HasInhabitedLists d → (x : List ℕ) → length (expand d x) ≡ 0 → x ≡ []
+pub expand-empty : (d : Reading) → HasInhabitedLists d → (x : List ℕ) → length (expand d x) ≡ 0 → x ≡ []
 unfolding expand
 expand-empty d inhabited [] e = refl
 expand-empty d inhabited (c ∷ x) e =

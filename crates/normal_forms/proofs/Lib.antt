@@ -1,5 +1,6 @@
 pub mod AlikeReadings
 pub mod AppendLemmas
+pub mod BlockedLemmas
 pub mod BoundaryLemmas
 pub mod ChunkLemmas
 pub mod ComposeLemmas
@@ -11,8 +12,10 @@ pub mod ListLemmas
 pub mod MarkRunLemmas
 pub mod OffenceLemmas
 pub mod OrderLemmas
+pub mod PlaceLemmas
 pub mod PlainExample
 pub mod PlainLemmas
 pub mod RunLemmas
 pub mod SortLemmas
+pub mod TextLemmas
 pub mod VisitLemmas

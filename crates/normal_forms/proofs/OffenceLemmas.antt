@@ -1,16 +1,16 @@
 -- The cut and the first offence of a text, and of the text with a continuation.
-use Rattle.std.proofs.Common.{◌≡◌, ◌≢◌, ℕ, zero, suc, ◌<◌, ◌≤◌, ◌⊎◌, ◌↔◌, List, [], ◌∷◌, ◌++◌, length, take, drop, inl, inr, refl, sym, ap, subst, ◌∙◌, arith, append_assoc, append-nil, length-append, take-append-drop, length-take-le, take-take, take_at, drop_of_length-le}
+use Rattle.std.proofs.Common.{◌≡◌, ◌≢◌, ℕ, zero, suc, ◌≤◌, ◌↔◌, List, [], ◌∷◌, ◌++◌, length, take, drop, inl, inr, refl, sym, ap, subst, ◌∙◌, arith, append_assoc, append-nil, length-append, take-append-drop, length-take-le, take-take, take_at}
 use Rattle.std.proofs.lemmas.Bool.{cases_eq, cases_lt}
 use Rattle.std.proofs.lemmas.List.{take-append-le}
-use Rattle.std.proofs.Math.Seq.{drop-length}
 use Rattle.normal_forms.specs.Reading.{Reading}
 use Rattle.normal_forms.specs.Forms.{Form, normal_form, IsNormalized}
 use Rattle.normal_forms.specs.Hypotheses.{HasInhabitedLists, SuitsForm}
 use Rattle.normal_forms.specs.Cut.{QualifiesForCut, IsCut, IsCommonFront, IsFront}
-use Rattle.normal_forms.specs.Offence.{IsFirst, IsFirstOffence}
-use Rattle.normal_forms.proofs.ComposeLemmas.{composed_form-nil}
+use Rattle.normal_forms.specs.Offence.{IsFirstOffence}
 use Rattle.normal_forms.proofs.VisitLemmas.{pairs_for, normal_form-composed, pairs_for-full, pairs_for-faithful, pairs_for-inhabited}
-use Rattle.normal_forms.proofs.CutLemmas.{suffix_of_form, rest_of_common_front, front_of_form, form_of_offered_front, composed_form-empty}
+use Rattle.normal_forms.proofs.PlaceLemmas.{form_of_nothing, form_is_nothing, normalized_iff_cut, cut_of, cut_below, offence_of}
+pub use Rattle.normal_forms.proofs.PlaceLemmas.{cut_unique}
+use Rattle.normal_forms.proofs.CutLemmas.{suffix_of_form, rest_of_common_front, front_of_form, form_of_offered_front}
 use Rattle.normal_forms.proofs.AppendLemmas.{front_without_continuation, front_of_form_is_form}
 
 -- ---- common fronts of two lists
@@ -84,15 +84,6 @@ normal_form_behind_front d form suits p r s e =
     ∙ rest_of_common_front (pairs_for d form) (pairs_for-full d form suits) (pairs_for-faithful d form suits) p r s
     (sym (normal_form-composed d form suits (p ++ r)) ∙ e)
 
-pub normal_form-nil : (d : Reading) (form : Form) → SuitsForm d form → normal_form d form [] ≡ []
-normal_form-nil d form suits = normal_form-composed d form suits [] ∙ composed_form-nil (pairs_for d form)
-
--- no text but the empty one has an empty form
-pub normal_form-empty : (d : Reading) (form : Form) → SuitsForm d form → HasInhabitedLists d → (x : List ℕ) → normal_form d form x ≡ [] → x ≡ []
-normal_form-empty d form suits inhabited x e =
-    composed_form-empty (pairs_for d form) (pairs_for-full d form suits) (pairs_for-faithful d form suits) (pairs_for-inhabited d form inhabited)
-    x (sym (normal_form-composed d form suits x) ∙ e)
-
 -- every front and every suffix of a form is its own form
 pub parts_of_form : (d : Reading) (form : Form) → SuitsForm d form → (x q s : List ℕ) → normal_form d form x ≡ q ++ s → IsNormalized d form q × IsNormalized d form s
 parts_of_form d form suits x q s e =
@@ -129,6 +120,11 @@ offered_front_is_normalized d form suits inhabited u v front =
     composed
     ∙ form_of_offered_front (pairs_for d form) (pairs_for-full d form suits) (pairs_for-faithful d form suits) (pairs_for-inhabited d form inhabited)
     u v front.0 (front.1 ∙ ap (λ l. l ++ front.0) composed)
+
+-- a form is no front of its text but the whole
+pub form_ends_with_text : (d : Reading) (form : Form) → SuitsForm d form → HasInhabitedLists d → (x : List ℕ) → IsFront (normal_form d form x) x → IsNormalized d form x
+form_ends_with_text d form suits inhabited x front =
+    offered_front_is_normalized d form suits inhabited x [] (subst (IsFront (normal_form d form x)) (sym (append-nil x)) front)
 
 -- ---- the cut
 
@@ -168,96 +164,11 @@ cut_iff_longest d form suits x n = (
   },
 )
 
-pub cut_exists : (d : Reading) (form : Form) → SuitsForm d form → (x : List ℕ) → (n : ℕ) × IsCut d form x n
-cut_exists d form suits x =
-    let longest = longest_common_front x (normal_form d form x) in
-    (longest.0, (cut_iff_longest d form suits x longest.0).1 (longest.1, longest.2))
-
-pub cut_unique : (d : Reading) (form : Form) (x : List ℕ) (m n : ℕ) → IsCut d form x m → IsCut d form x n → m ≡ n
-cut_unique d form x m n a b =
-    let up = b.greatest m a.qualifies in let down = a.greatest n b.qualifies in omega arith
-
 -- the front before each number that qualifies is its own form
 pub front_at_cut : (d : Reading) (form : Form) → SuitsForm d form → (x : List ℕ) (n : ℕ) → QualifiesForCut d form x n → normal_form d form (take n x) ≡ take n x
 front_at_cut d form suits x n q = (parts_of_form d form suits x (take n x) (normal_form d form (drop n x)) (sym q.keeps)).0
 
--- where the rest behind a number that qualifies is its own form, so is the text
-normalized_from_rest : (d : Reading) (form : Form) (x : List ℕ) (n : ℕ) → QualifiesForCut d form x n → IsNormalized d form (drop n x) → IsNormalized d form x
-normalized_from_rest d form x n q own = sym q.keeps ∙ ap (λ l. take n x ++ l) own ∙ take-append-drop n x
-
--- where there is no rest behind a number that qualifies, the text is its own form
-normalized_from_whole : (d : Reading) (form : Form) → SuitsForm d form → (x : List ℕ) (n : ℕ) → QualifiesForCut d form x n → drop n x ≡ [] → IsNormalized d form x
-normalized_from_whole d form suits x n q none =
-    normalized_from_rest d form x n q (ap (normal_form d form) none ∙ normal_form-nil d form suits ∙ sym none)
-
--- a text is its own form exactly where the cut is its length
-pub is_normalized_iff_cut : (d : Reading) (form : Form) → SuitsForm d form → (x : List ℕ) → IsNormalized d form x ↔ IsCut d form x (length x)
-is_normalized_iff_cut d form suits x = (
-  λ own. record {
-    qualifies =
-        (cut_iff d form suits x (length x)).1
-        (common_front_from x (normal_form d form x) x [] [] (length x) refl (append-nil x) (append-nil x ∙ sym own));
-    greatest = λ m q. q.within;
-  },
-  λ cut. normalized_from_whole d form suits x (length x) cut.qualifies (drop-length x),
-)
-
--- the rest behind the cut is empty or not its own form
-pub rest_at_cut : (d : Reading) (form : Form) → SuitsForm d form → (x : List ℕ) (n : ℕ) → IsCut d form x n → (drop n x ≡ []) ⊎ (normal_form d form (drop n x) ≢ drop n x)
-rest_at_cut d form suits x n cut =
-    elim (cases_lt n (length x)) [
-      | inl within ↦
-          inr (λ own.
-          let whole = (is_normalized_iff_cut d form suits x).0 (normalized_from_rest d form x n cut.qualifies own) in
-          let same = cut_unique d form x n (length x) cut whole in
-          omega arith)
-      | inr past ↦ inl (drop_of_length-le x past)
-    ]
-
--- the cut of a text that is not its own form is below its length
-pub cut_below : (d : Reading) (form : Form) → SuitsForm d form → (x : List ℕ) (n : ℕ) → normal_form d form x ≢ x → IsCut d form x n → n < length x
-cut_below d form suits x n differs cut =
-    elim (cases_lt n (length x)) [
-      | inl within ↦ within
-      | inr past ↦ absurd (differs (normalized_from_whole d form suits x n cut.qualifies (drop_of_length-le x past)))
-    ]
-
 -- ---- the first offence
-
-cases_first : (x : List ℕ) → (x ≡ []) ⊎ ((c : ℕ) × IsFirst x c)
-cases_first [] = inl refl
-cases_first (c ∷ x) = inr (c, (x, refl))
-
--- a text that is not its own form has a first offence
-pub first_offence_exists : (d : Reading) (form : Form) → SuitsForm d form → HasInhabitedLists d → (x : List ℕ) → normal_form d form x ≢ x → (place : ℕ) × (found : ℕ) × (wanted : ℕ) × IsFirstOffence d form x place found wanted
-first_offence_exists d form suits inhabited x differs =
-    let at = cut_exists d form suits x in
-    let nonempty : drop at.0 x ≢ [] = λ none. differs (normalized_from_whole d form suits x at.0 at.1.qualifies none) in
-    elim (cases_first (drop at.0 x)) [
-      | inl none ↦ absurd (nonempty none)
-      | inr found ↦
-          elim (cases_first (normal_form d form (drop at.0 x))) [
-            | inl none ↦ absurd (nonempty (normal_form-empty d form suits inhabited (drop at.0 x) none))
-            | inr wanted ↦
-                (at.0, found.0, wanted.0, record { differs = differs; cut = at.1; is_found = found.1; is_wanted = wanted.1 })
-          ]
-    ]
-
-first_unique : (x : List ℕ) (a b : ℕ) → IsFirst x a → IsFirst x b → a ≡ b
-first_unique x a b first second = let same = sym first.1 ∙ second.1 in cc
-
-pub first_offence_unique : (d : Reading) (form : Form) (x : List ℕ) (place found wanted place' found' wanted' : ℕ) → IsFirstOffence d form x place found wanted → IsFirstOffence d form x place' found' wanted' → (place ≡ place') × (found ≡ found') × (wanted ≡ wanted')
-first_offence_unique d form x place found wanted place' found' wanted' a b =
-    let same : place ≡ place' = cut_unique d form x place place' a.cut b.cut in (
-      same,
-      first_unique (drop place' x) found found' (subst (λ n. IsFirst (drop n x) found) same a.is_found) b.is_found,
-      first_unique (normal_form d form (drop place' x)) wanted wanted'
-          (subst (λ n. IsFirst (normal_form d form (drop n x)) wanted) same a.is_wanted) b.is_wanted,
-    )
-
--- the place of a first offence is the cut
-pub place_is_cut : (d : Reading) (form : Form) (x : List ℕ) (place found wanted n : ℕ) → IsFirstOffence d form x place found wanted → IsCut d form x n → place ≡ n
-place_is_cut d form x place found wanted n offence cut = cut_unique d form x place n offence.cut cut
 
 -- what is found is not what is wanted: else one more character would qualify
 pub found_differs : (d : Reading) (form : Form) → SuitsForm d form → (x : List ℕ) (place found wanted : ℕ) → IsFirstOffence d form x place found wanted → found ≢ wanted
@@ -309,7 +220,7 @@ continued_cut d form suits x y n m differs cut longer =
           qualifies_without_continuation d form suits x y (length x) (omega arith)
           (smaller_qualifies d form suits (x ++ y) (length x) m (omega arith) longer.qualifies) in
           let le = cut.greatest (length x) whole in
-          let below = cut_below d form suits x n differs cut in
+          let below = cut_below d form x n differs cut in
           absurd (omega arith)
       | inr within ↦ cut.greatest m (qualifies_without_continuation d form suits x y m within longer.qualifies)
     ]
@@ -317,5 +228,19 @@ continued_cut d form suits x y n m differs cut longer =
 -- where a text has a first offence, it has one no later with every continuation
 pub continued_offence : (d : Reading) (form : Form) → SuitsForm d form → HasInhabitedLists d → (x y : List ℕ) (place found wanted : ℕ) → IsFirstOffence d form x place found wanted → (place' : ℕ) × (found' : ℕ) × (wanted' : ℕ) × IsFirstOffence d form (x ++ y) place' found' wanted' × (place' ≤ place)
 continued_offence d form suits inhabited x y place found wanted offence =
-    let longer = first_offence_exists d form suits inhabited (x ++ y) (continued_differs d form suits x y offence.differs) in
+    let longer = offence_of d form inhabited (x ++ y) (continued_differs d form suits x y offence.differs) in
     (longer.0, longer.1, longer.2, longer.3, continued_cut d form suits x y place longer.0 offence.differs offence.cut longer.3.cut)
+
+-- ---- the same by a reading that suits the form, for those who have one
+
+pub normal_form-nil : (d : Reading) (form : Form) → SuitsForm d form → normal_form d form [] ≡ []
+normal_form-nil d form suits = form_of_nothing d form
+
+pub normal_form-empty : (d : Reading) (form : Form) → SuitsForm d form → HasInhabitedLists d → (x : List ℕ) → normal_form d form x ≡ [] → x ≡ []
+normal_form-empty d form suits inhabited = form_is_nothing d form inhabited
+
+pub is_normalized_iff_cut : (d : Reading) (form : Form) → SuitsForm d form → (x : List ℕ) → IsNormalized d form x ↔ IsCut d form x (length x)
+is_normalized_iff_cut d form suits = normalized_iff_cut d form
+
+pub cut_exists : (d : Reading) (form : Form) → SuitsForm d form → (x : List ℕ) → (n : ℕ) × IsCut d form x n
+cut_exists d form suits = cut_of d form

@@ -12,10 +12,11 @@ unfoldable pub joined : Reading → ℕ → List ℕ → ℕ → Option ℕ
 joined d a between c = if is_starter d a && not (is_blocked d between c) then d.pair a c else None
 
 -- c is visited, behind the part of the working list that was visited before. A starter from which c isn't blocked is
--- the last one: it is replaced and c removed, or c stays.
+-- the last one (`laws::unblocked_starter_is_last`): it is replaced and c removed, or c stays.
 unfoldable pub visit : Reading → List ℕ → ℕ → List ℕ
 visit d [] c = c ∷ []
-visit d (a ∷ between) c = elim (joined d a between c) [ Some composite ↦ composite ∷ between | None ↦ a ∷ visit d between c ]
+visit d (a ∷ between) c =
+    elim (joined d a between c) [ Some composite ↦ composite ∷ between | None ↦ a ∷ visit d between c ]
 
 -- each character of `rest` is visited once, from the left
 unfoldable pub compose_from : Reading → List ℕ → List ℕ → List ℕ

@@ -1,4 +1,4 @@
--- Full decomposition, before ordering (The Unicode Standard, D68).
+-- Full decomposition, before ordering (The Unicode Standard, D64; D68 is this and the ordering).
 use Rattle.std.specs.Prelude.{ℕ, List, [], ◌∷◌, ◌++◌}
 use Rattle.normal_forms.specs.Reading.{Reading}
 

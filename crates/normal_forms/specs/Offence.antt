@@ -1,7 +1,7 @@
 -- The first place at which a text is not its own normal form.
-use Rattle.std.specs.Prelude.{◌≡◌, ◌≢◌, ℕ, List, ◌∷◌, drop}
+use Rattle.std.specs.Prelude.{◌≡◌, ◌≢◌, ℕ, List, ◌∷◌, drop, Option, Some, None}
 use Rattle.normal_forms.specs.Reading.{Reading}
-use Rattle.normal_forms.specs.Forms.{Form, normal_form}
+use Rattle.normal_forms.specs.Forms.{Form, normal_form, IsNormalized}
 use Rattle.normal_forms.specs.Cut.{IsCut}
 
 -- x begins with c
@@ -15,3 +15,8 @@ pub record IsFirstOffence (d : Reading) (form : Form) (x : List ℕ) (place foun
   pub cut : IsCut d form x place
   pub is_found : IsFirst (drop place x) found
   pub is_wanted : IsFirst (normal_form d form (drop place x)) wanted
+
+-- none where x is its own form, else its first offence: the place, what is found and what is wanted
+abbrev pub IsOffenceOf : Reading → Form → List ℕ → Option (ℕ × ℕ × ℕ) → Type 0
+IsOffenceOf d form x None = IsNormalized d form x
+IsOffenceOf d form x (Some o) = IsFirstOffence d form x o.0 o.1 o.2

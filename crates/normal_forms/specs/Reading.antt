@@ -2,8 +2,9 @@
 use Rattle.std.specs.Prelude.{◌≡◌, ℕ, ◌<◌, Bool, List, [], ◌∷◌, Option, All, ◌==◌}
 use Rattle.std.specs.Char.{IsScalar}
 
--- `list c` is the full decomposition of c (D68), in canonical order or not; `class c` its canonical combining
--- class (D104); `pair a c` the primary composite of a followed by c (D114). Each is total on all numbers.
+-- `list c` is the full decomposition of c (D64), whether its marks stand in canonical order or not; `class c` its
+-- canonical combining class (D104); `pair a c` the primary composite of a followed by c (D114). Each is total on all
+-- numbers.
 pub record Reading : Type 0 where
   pub list : ℕ → List ℕ
   pub class : ℕ → ℕ
@@ -20,7 +21,7 @@ is_starter d c = d.class c == 0
 abbrev pub IsMark : Reading → ℕ → Type 0
 IsMark d c = 0 < d.class c
 
--- c has no decomposition mapping: it decomposes to itself (D68)
+-- c has no decomposition mapping: it decomposes to itself (D64)
 abbrev pub ReadsAsItself : Reading → ℕ → Type 0
 ReadsAsItself d c = d.list c ≡ c ∷ []
 

@@ -17,12 +17,15 @@ continues has_class_form d c = has_class_form c || is_empty (d.list c)
 -- how many characters the lists of the leading characters that continue have together
 unfoldable pub leading_length : (ℕ → Bool) → Reading → List ℕ → ℕ
 leading_length has_class_form d [] = 0
-leading_length has_class_form d (c ∷ x) = if continues has_class_form d c then length (d.list c) + leading_length has_class_form d x else 0
+leading_length has_class_form d (c ∷ x) =
+    if continues has_class_form d c then length (d.list c) + leading_length has_class_form d x else 0
 
 -- the list of each other character after its first, with the lists of those that continue behind it, has at most 17
 unfoldable pub HasShortChunks : (ℕ → Bool) → Reading → List ℕ → Type 0
 HasShortChunks has_class_form d [] = Unit {0}
-HasShortChunks has_class_form d (c ∷ x) = (continues has_class_form d c ≡ false → length (d.list c) - 1 + leading_length has_class_form d x ≤ places) × HasShortChunks has_class_form d x
+HasShortChunks has_class_form d (c ∷ x) =
+    (continues has_class_form d c ≡ false → length (d.list c) - 1 + leading_length has_class_form d x ≤ places)
+    × HasShortChunks has_class_form d x
 
 pub record HasShortRuns (has_class_form : ℕ → Bool) (d : Reading) (x : List ℕ) : Type 0 where
   pub leading : leading_length has_class_form d x ≤ places

@@ -1,9 +1,9 @@
 //! The laws of the normal forms, over any reading of characters and both forms. Each function does nothing: its
 //! contract is the law, and its proof stands in `proofs/`.
 
-ghost use Rattle.std.specs.Prelude.{◌≡◌, ◌≢◌, ℕ, ◌≤◌, ◌<◌, ◌⊎◌, ◌+◌, ◌-◌, ◌↔◌, Bool, true, false, List, [], ◌∷◌, ◌++◌, length, take, drop, Some, All};
+ghost use Rattle.std.specs.Prelude.{◌≡◌, ◌≢◌, ℕ, ◌≤◌, ◌<◌, ◌⊎◌, ◌+◌, ◌-◌, ◌↔◌, Bool, true, false, List, [], ◌∷◌, ◌++◌, length, take, drop, slice_get, Option, Some, None, All};
 ghost use Rattle.std.specs.List.{AllPass};
-ghost use Rattle.normal_forms.specs.Reading.{Reading, IsStarter, IsMark};
+ghost use Rattle.normal_forms.specs.Reading.{Reading, IsStarter, IsMark, IsText};
 ghost use Rattle.normal_forms.specs.Alike.{AreAlike};
 ghost use Rattle.normal_forms.specs.Decomposition.{expand};
 ghost use Rattle.normal_forms.specs.Boundary.{BeginsWithStarter, BeginsSafely};
@@ -11,13 +11,13 @@ ghost use Rattle.normal_forms.specs.Chunks.{BeginsChunk};
 ghost use Rattle.normal_forms.specs.MarkRun.{compose_marks, IsLastBelow};
 ghost use Rattle.normal_forms.specs.ShortRuns.{continues, leading_length, places, HasShortRuns};
 ghost use Rattle.normal_forms.specs.Order.{InOrder, order};
-ghost use Rattle.normal_forms.specs.Composition.{compose};
+ghost use Rattle.normal_forms.specs.Composition.{compose, is_blocked};
 ghost use Rattle.normal_forms.specs.CompositionByStarters.{is_above, compose_after, compose_by_starters};
 ghost use Rattle.normal_forms.specs.Forms.{Form, Decomposing, Composing, nfd, nfc, normal_form, IsNormalized};
-ghost use Rattle.normal_forms.specs.Equivalence.{Equivalent};
+ghost use Rattle.normal_forms.specs.Equivalence.{Equivalent, EquivalentTexts};
 ghost use Rattle.normal_forms.specs.Cut.{QualifiesForCut, IsCut, IsCommonFront, IsFront};
-ghost use Rattle.normal_forms.specs.Offence.{IsFirstOffence};
-ghost use Rattle.normal_forms.specs.Hypotheses.{HasFullLists, HasStarterResults, HasFaithfulResults, HasInhabitedLists, SuitsForm};
+ghost use Rattle.normal_forms.specs.Offence.{IsFirstOffence, IsOffenceOf};
+ghost use Rattle.normal_forms.specs.Hypotheses.{HasFullLists, HasStarterResults, HasInhabitedLists, HasScalarResults, HasTextLists, SuitsForm};
 
 /// Exactly one list is in canonical order for a text: the relation by runs and the function agree (D109).
 pub fn canonical_order()
@@ -34,15 +34,33 @@ pub fn left_cancellation()
     ensures { (d : Reading) (u v w : List ℕ) → order d (u ++ v) ≡ order d (u ++ w) → order d v ≡ order d w }
 {}
 
-/// Two texts are equivalent (D70) exactly where their normal forms are equal.
+/// Two texts are equivalent exactly where their normal forms are equal: for the decomposing form, where their full
+/// decompositions in canonical order are (D70). They are so through texts alone where characters decompose to texts.
 pub fn canonicity()
-    ensures { (d : Reading) (form : Form) → SuitsForm d form → (x y : List ℕ) →
+    ensures lists { (d : Reading) (form : Form) → SuitsForm d form → (x y : List ℕ) →
         Equivalent d x y ↔ (normal_form d form x ≡ normal_form d form y) }
+    ensures texts { (d : Reading) (form : Form) → SuitsForm d form → HasTextLists d →
+        (x y : List ℕ) → IsText x → IsText y →
+        EquivalentTexts d x y ↔ (normal_form d form x ≡ normal_form d form y) }
+{}
+
+/// No two texts are equivalent only by way of lists that are no texts.
+pub fn equivalence_stays_within_texts()
+    ensures { (d : Reading) → HasFullLists d → HasTextLists d → (x y : List ℕ) → IsText x → IsText y →
+        Equivalent d x y ↔ EquivalentTexts d x y }
+{}
+
+/// The forms of a text are texts, where characters decompose to texts, and join to characters.
+pub fn forms_are_texts()
+    ensures decomposing { (d : Reading) → HasTextLists d → (x : List ℕ) → IsText x → IsText (nfd d x) }
+    ensures forms { (d : Reading) (form : Form) → HasTextLists d → HasScalarResults d →
+        (x : List ℕ) → IsText x → IsText (normal_form d form x) }
 {}
 
 /// A normal form is its own normal form.
 pub fn twice_is_once()
-    ensures { (d : Reading) (form : Form) → SuitsForm d form → (x : List ℕ) → IsNormalized d form (normal_form d form x) }
+    ensures { (d : Reading) (form : Form) → SuitsForm d form → (x : List ℕ) →
+        IsNormalized d form (normal_form d form x) }
 {}
 
 /// The two forms of a text have the same decomposing form and the same composing form; so two texts have equal
@@ -50,13 +68,8 @@ pub fn twice_is_once()
 pub fn composing_keeps_decomposing()
     ensures decomposed { (d : Reading) → SuitsForm d Composing → (x : List ℕ) → nfd d (nfc d x) ≡ nfd d x }
     ensures composed { (d : Reading) → HasFullLists d → (x : List ℕ) → nfc d (nfd d x) ≡ nfc d x }
-    ensures equal_together { (d : Reading) → SuitsForm d Composing → (x y : List ℕ) → (nfc d x ≡ nfc d y) ↔ (nfd d x ≡ nfd d y) }
-{}
-
-/// What a pair joins to has the ordered lists of the pair.
-pub fn join_keeps_lists()
-    ensures { (d : Reading) → HasFaithfulResults d → (a c r : ℕ) → d.pair a c ≡ Some r →
-        d.list r ≡ order d (d.list a ++ d.list c) }
+    ensures equal_together { (d : Reading) → SuitsForm d Composing → (x y : List ℕ) →
+        (nfc d x ≡ nfc d y) ↔ (nfd d x ≡ nfd d y) }
 {}
 
 /// A number qualifies for the cut exactly where so many characters are a common front of the text and its form. So 0
@@ -69,9 +82,10 @@ pub fn cut_is_common_front()
         QualifiesForCut d form x n → m ≤ n → QualifiesForCut d form x m }
 {}
 
-/// Every text has exactly one cut: the length of the longest common front of the text and its form.
+/// Every text has exactly one cut. Where the laws hold it is the length of the longest common front of the text and its
+/// form.
 pub fn one_cut()
-    ensures exists { (d : Reading) (form : Form) → SuitsForm d form → (x : List ℕ) → (n : ℕ) × IsCut d form x n }
+    ensures exists { (d : Reading) (form : Form) (x : List ℕ) → (n : ℕ) × IsCut d form x n }
     ensures unique { (d : Reading) (form : Form) (x : List ℕ) (n m : ℕ) → IsCut d form x n → IsCut d form x m → n ≡ m }
     ensures longest { (d : Reading) (form : Form) → SuitsForm d form → (x : List ℕ) (n : ℕ) → IsCut d form x n →
         (m : ℕ) → IsCommonFront x (normal_form d form x) m → m ≤ n }
@@ -81,29 +95,28 @@ pub fn one_cut()
 pub fn parts_at_cut()
     ensures prefix { (d : Reading) (form : Form) → SuitsForm d form → (x : List ℕ) (n : ℕ) → IsCut d form x n →
         IsNormalized d form (take n x) }
-    ensures rest { (d : Reading) (form : Form) → SuitsForm d form → (x : List ℕ) (n : ℕ) → IsCut d form x n →
+    ensures rest { (d : Reading) (form : Form) (x : List ℕ) (n : ℕ) → IsCut d form x n →
         IsNormalized d form (drop n x) → drop n x ≡ [] }
 {}
 
 /// Every front and every suffix of a normal form is a normal form.
 pub fn parts_of_normal_form()
-    ensures front { (d : Reading) (form : Form) → SuitsForm d form → (x front rest : List ℕ) → normal_form d form x ≡ front ++ rest →
-        IsNormalized d form front }
-    ensures suffix { (d : Reading) (form : Form) → SuitsForm d form → (x front rest : List ℕ) → normal_form d form x ≡ front ++ rest →
-        IsNormalized d form rest }
+    ensures front { (d : Reading) (form : Form) → SuitsForm d form → (x front rest : List ℕ) →
+        normal_form d form x ≡ front ++ rest → IsNormalized d form front }
+    ensures suffix { (d : Reading) (form : Form) → SuitsForm d form → (x front rest : List ℕ) →
+        normal_form d form x ≡ front ++ rest → IsNormalized d form rest }
 {}
 
 /// A text is its own form exactly where it is a front of its form, and exactly where its cut is its length.
 pub fn normalized_is_front()
     ensures front { (d : Reading) (form : Form) → SuitsForm d form → (x : List ℕ) →
         IsNormalized d form x ↔ IsFront x (normal_form d form x) }
-    ensures cut { (d : Reading) (form : Form) → SuitsForm d form → (x : List ℕ) →
-        IsNormalized d form x ↔ IsCut d form x (length x) }
+    ensures cut { (d : Reading) (form : Form) (x : List ℕ) → IsNormalized d form x ↔ IsCut d form x (length x) }
 {}
 
 /// A text that is not its own form has exactly one first offence, and the character found there is not the one wanted.
 pub fn first_offence()
-    ensures exists { (d : Reading) (form : Form) → SuitsForm d form → HasInhabitedLists d → (x : List ℕ) → normal_form d form x ≢ x →
+    ensures exists { (d : Reading) (form : Form) → HasInhabitedLists d → (x : List ℕ) → normal_form d form x ≢ x →
         (place : ℕ) × (found : ℕ) × (wanted : ℕ) × IsFirstOffence d form x place found wanted }
     ensures unique { (d : Reading) (form : Form) (x : List ℕ) (place found wanted place' found' wanted' : ℕ) →
         IsFirstOffence d form x place found wanted → IsFirstOffence d form x place' found' wanted' →
@@ -112,27 +125,49 @@ pub fn first_offence()
         IsFirstOffence d form x place found wanted → found ≢ wanted }
 {}
 
+/// Every text has exactly one answer: its first offence, or none exactly where it is its own form.
+pub fn offence_of_text()
+    ensures exists { (d : Reading) (form : Form) → HasInhabitedLists d → (x : List ℕ) →
+        (o : Option (ℕ × ℕ × ℕ)) × IsOffenceOf d form x o }
+    ensures unique { (d : Reading) (form : Form) (x : List ℕ) (o p : Option (ℕ × ℕ × ℕ)) →
+        IsOffenceOf d form x o → IsOffenceOf d form x p → o ≡ p }
+    ensures none { (d : Reading) (form : Form) (x : List ℕ) (o : Option (ℕ × ℕ × ℕ)) →
+        IsOffenceOf d form x o → (o ≡ None) ↔ IsNormalized d form x }
+{}
+
+/// What is found stands in the text at the place of the first offence, and what is wanted in the form of the whole.
+pub fn characters_at_offence()
+    ensures found { (d : Reading) (form : Form) (x : List ℕ) (place found wanted : ℕ) →
+        IsFirstOffence d form x place found wanted → slice_get x place ≡ Some found }
+    ensures wanted { (d : Reading) (form : Form) (x : List ℕ) (place found wanted : ℕ) →
+        IsFirstOffence d form x place found wanted → slice_get (normal_form d form x) place ≡ Some wanted }
+{}
+
 /// What is put behind a text mends no offence: the longer text has one too, at a place no later.
 pub fn offence_under_continuation()
-    ensures cut { (d : Reading) (form : Form) → SuitsForm d form → (x y : List ℕ) (n m : ℕ) → normal_form d form x ≢ x →
-        IsCut d form x n → IsCut d form (x ++ y) m → m ≤ n }
+    ensures cut { (d : Reading) (form : Form) → SuitsForm d form → (x y : List ℕ) (n m : ℕ) →
+        normal_form d form x ≢ x → IsCut d form x n → IsCut d form (x ++ y) m → m ≤ n }
     ensures differs { (d : Reading) (form : Form) → SuitsForm d form → (x y : List ℕ) → normal_form d form x ≢ x →
         normal_form d form (x ++ y) ≢ (x ++ y) }
-    ensures offence { (d : Reading) (form : Form) → SuitsForm d form → HasInhabitedLists d → (x y : List ℕ) (n found wanted : ℕ) →
-        IsFirstOffence d form x n found wanted →
+    ensures offence { (d : Reading) (form : Form) → SuitsForm d form → HasInhabitedLists d →
+        (x y : List ℕ) (n found wanted : ℕ) → IsFirstOffence d form x n found wanted →
         (place : ℕ) × (found' : ℕ) × (wanted' : ℕ) × IsFirstOffence d form (x ++ y) place found' wanted' × (place ≤ n) }
 {}
 
-/// A text offered piece by piece: where the form of a front stands at the front of the text, it is that front.
+/// A text offered piece by piece: where the form of a front stands at the front of the text, it is that front. So a
+/// form never ends early: where it stands at the front of its text, it is the text.
 pub fn offered_front()
-    ensures { (d : Reading) (form : Form) → SuitsForm d form → HasInhabitedLists d → (u v : List ℕ) →
+    ensures piece { (d : Reading) (form : Form) → SuitsForm d form → HasInhabitedLists d → (u v : List ℕ) →
         IsFront (normal_form d form u) (u ++ v) → IsNormalized d form u }
+    ensures whole { (d : Reading) (form : Form) → SuitsForm d form → HasInhabitedLists d → (x : List ℕ) →
+        IsFront (normal_form d form x) x → IsNormalized d form x }
 {}
 
-/// Each part is normalized apart where the second begins with a starter, for the composing form one that is second in no
-/// pair (UAX #15, section 1.4).
+/// Each part is normalized apart where the second begins with a starter, for the composing form one that is second in
+/// no pair (UAX #15, section 1.4).
 pub fn safe_boundary()
-    ensures decomposing { (d : Reading) (u v : List ℕ) → BeginsWithStarter d (expand d v) → nfd d (u ++ v) ≡ nfd d u ++ nfd d v }
+    ensures decomposing { (d : Reading) (u v : List ℕ) → BeginsWithStarter d (expand d v) →
+        nfd d (u ++ v) ≡ nfd d u ++ nfd d v }
     ensures composing { (d : Reading) → HasStarterResults d → (u v : List ℕ) → BeginsSafely d (expand d v) →
         nfc d (u ++ v) ≡ nfc d u ++ nfc d v }
 {}
@@ -147,24 +182,25 @@ pub fn run_passed_on()
         nfc d (u ++ (run ++ v)) ≡ nfc d u ++ (run ++ nfc d v) }
 {}
 
-/// The decomposing form may be read lazily. Ahead of the first chunk stands what leads it, in order; each chunk gives the
-/// first of its character's list, then the rest of that list and the lists of what follows up to the next chunk, in
+/// The decomposing form may be read lazily. Ahead of the first chunk stands what leads it, in order; each chunk gives
+/// the first of its character's list, then the rest of that list and the lists of what follows up to the next chunk, in
 /// order. Characters with an empty list may stand anywhere in a chunk.
 pub fn lazy_reading()
     ensures leading { (d : Reading) (leading rest : List ℕ) → BeginsChunk d rest →
         nfd d (leading ++ rest) ≡ order d (expand d leading) ++ nfd d rest }
-    ensures chunk { (d : Reading) (c first : ℕ) (tail following rest : List ℕ) → d.list c ≡ first ∷ tail → IsStarter d first →
-        BeginsChunk d rest →
+    ensures chunk { (d : Reading) (c first : ℕ) (tail following rest : List ℕ) →
+        d.list c ≡ first ∷ tail → IsStarter d first → BeginsChunk d rest →
         nfd d (c ∷ (following ++ rest)) ≡ first ∷ (order d (tail ++ expand d following) ++ nfd d rest) }
 {}
 
 /// Short runs pass to every rest, and bound what waits: the lists of the leading characters that continue, and the list
 /// of another character after its first with the lists of those that continue behind it.
 pub fn short_runs()
-    ensures rest { (has_class_form : ℕ → Bool) (d : Reading) (front rest : List ℕ) → HasShortRuns has_class_form d (front ++ rest) →
-        HasShortRuns has_class_form d rest }
-    ensures leading { (has_class_form : ℕ → Bool) (d : Reading) (leading rest : List ℕ) → HasShortRuns has_class_form d (leading ++ rest) →
-        AllPass (continues has_class_form d) leading → length (expand d leading) ≤ places }
+    ensures rest { (has_class_form : ℕ → Bool) (d : Reading) (front rest : List ℕ) →
+        HasShortRuns has_class_form d (front ++ rest) → HasShortRuns has_class_form d rest }
+    ensures leading { (has_class_form : ℕ → Bool) (d : Reading) (leading rest : List ℕ) →
+        HasShortRuns has_class_form d (leading ++ rest) → AllPass (continues has_class_form d) leading →
+        length (expand d leading) ≤ places }
     ensures chunk { (has_class_form : ℕ → Bool) (d : Reading) (c first : ℕ) (tail following rest : List ℕ) →
         HasShortRuns has_class_form d (c ∷ (following ++ rest)) → continues has_class_form d c ≡ false →
         d.list c ≡ first ∷ tail → AllPass (continues has_class_form d) following →
@@ -177,13 +213,28 @@ pub fn composition_over_marks()
     ensures pass { (d : Reading) (a : ℕ) (waiting marks rest : List ℕ) → All (IsMark d) marks →
         compose_after d a waiting (marks ++ rest) ≡
         compose_after d (compose_marks d a waiting marks).0 (compose_marks d a waiting marks).1 rest }
-    ensures last_decides { (d : Reading) (waiting : List ℕ) (c : ℕ) → All (IsMark d) waiting → order d waiting ≡ waiting →
+    ensures last_decides { (d : Reading) (waiting : List ℕ) (c : ℕ) →
+        All (IsMark d) waiting → order d waiting ≡ waiting →
         (is_above d waiting c ≡ true) ↔ ((waiting ≡ []) ⊎ IsLastBelow d waiting c) }
 {}
 
 /// Readings that say the same make the same forms, and suit the laws alike.
 pub fn alike_readings_make_the_same_forms()
-    ensures same { (d e : Reading) → AreAlike d e → (form : Form) (x : List ℕ) → normal_form d form x ≡ normal_form e form x }
+    ensures same { (d e : Reading) → AreAlike d e → (form : Form) (x : List ℕ) →
+        normal_form d form x ≡ normal_form e form x }
     ensures suits { (d e : Reading) → AreAlike d e → (form : Form) → SuitsForm d form → SuitsForm e form }
     ensures inhabited { (d e : Reading) → AreAlike d e → HasInhabitedLists d → HasInhabitedLists e }
+    ensures texts { (d e : Reading) → AreAlike d e → HasTextLists d → HasTextLists e }
+    ensures scalars { (d e : Reading) → AreAlike d e → HasScalarResults d → HasScalarResults e }
+{}
+
+/// The decomposing form looks at no pairs: readings of the same lists and classes have the same one.
+pub fn decomposing_looks_at_no_pairs()
+    ensures { (d e : Reading) → ((c : ℕ) → d.list c ≡ e.list c) → ((c : ℕ) → d.class c ≡ e.class c) →
+        (x : List ℕ) → nfd d x ≡ nfd e x }
+{}
+
+/// A starter from which a character isn't blocked is the last before it: only marks stand between (D115).
+pub fn unblocked_starter_is_last()
+    ensures { (d : Reading) (between : List ℕ) (c : ℕ) → is_blocked d between c ≡ false → All (IsMark d) between }
 {}

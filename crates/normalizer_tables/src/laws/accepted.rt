@@ -26,8 +26,8 @@ ghost use Rattle.normalizer_tables.specs.SoundData.{Bounds, IsSoundData};
 ghost use Rattle.normalizer_tables.specs.declared.condition.Condition.TheVariants as condition;
 ghost use Rattle.normalizer_tables.specs.declared.pair_condition.PairCondition.TheVariants as of_pairs;
 
-/// Accepted data that are no mapper's suit the laws of the decomposing form, and with accepted pairs those of both forms.
-/// Canonical data that are handed in unchecked suit them by their own conditions.
+/// Accepted data that are no mapper's suit the laws of the decomposing form, and with accepted pairs those of both
+/// forms. Canonical data that are handed in unchecked suit them by their own conditions.
 pub fn accepted_data_suit_texts()
     ensures decomposing { (s : Characters) (b : Bounds) → s.is_mapper ≡ false → IsAccepted s b →
         SuitsTexts (own_reading s) Decomposing }

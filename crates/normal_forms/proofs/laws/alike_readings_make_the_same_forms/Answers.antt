@@ -1,4 +1,4 @@
-use Rattle.normal_forms.proofs.AlikeReadings.{HasInhabitedLists-alike, SuitsForm-alike, normal_form-alike}
+use Rattle.normal_forms.proofs.AlikeReadings.{HasInhabitedLists-alike, HasScalarResults-alike, HasTextLists-alike, SuitsForm-alike, normal_form-alike}
 use Rattle.normal_forms.proofs.laws.alike_readings_make_the_same_forms.Goals as goal
 
 pub returns-clause-same : goal.returns-clause-same
@@ -9,3 +9,9 @@ returns-clause-suits c = SuitsForm-alike
 
 pub returns-clause-inhabited : goal.returns-clause-inhabited
 returns-clause-inhabited c = HasInhabitedLists-alike
+
+pub returns-clause-texts : goal.returns-clause-texts
+returns-clause-texts c = HasTextLists-alike
+
+pub returns-clause-scalars : goal.returns-clause-scalars
+returns-clause-scalars c = HasScalarResults-alike

@@ -1,8 +1,9 @@
-use Rattle.normal_forms.proofs.OffenceLemmas.{is_normalized_iff_front, is_normalized_iff_cut}
+use Rattle.normal_forms.proofs.OffenceLemmas.{is_normalized_iff_front}
+use Rattle.normal_forms.proofs.PlaceLemmas.{normalized_iff_cut}
 use Rattle.normal_forms.proofs.laws.normalized_is_front.Goals as goal
 
 pub returns-clause-front : goal.returns-clause-front
 returns-clause-front c = is_normalized_iff_front
 
 pub returns-clause-cut : goal.returns-clause-cut
-returns-clause-cut c = is_normalized_iff_cut
+returns-clause-cut c = normalized_iff_cut
