@@ -1,14 +1,8 @@
-pub mod AlikeCharacters
-pub mod AlikeData
-pub mod AlikePackings
-pub mod AlikeSteps
-pub mod AlikeWords
 pub mod BuildLemmas
 pub mod BuiltMeaning
 pub mod EntriesOfRecords
 pub mod FirstOfParts
 pub mod FitData
-pub mod LackingSteps
 pub mod LeastOfTwo
 pub mod MappingLemmas
 pub mod NoRefusal
@@ -17,8 +11,6 @@ pub mod OneAnswer
 pub mod PackableEntries
 pub mod PartsOfDemands
 pub mod ReadableEntries
-pub mod SameDemands
 pub mod SamePairs
 pub mod SameParts
-pub mod SameSteps
 pub mod UnrecordedCharacters

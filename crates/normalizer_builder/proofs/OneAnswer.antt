@@ -16,8 +16,7 @@ use Rattle.normalizer_records.specs.Faults.{IsFirstRefusal, rank_of}
 use Rattle.normalizer_builder.specs.declared.rank.Unfit.{Unfit}
 use Rattle.normalizer_builder.specs.Building.{Builds, HasTooManyItems, IsFirstUnfitOfRecords, IsMadeOfRecords, IsSmallest, MeetsRecords, PacksRecords, answer_of_records, error_of}
 use Rattle.normalizer_builder.specs.Ranks.{IsBefore, IsFirstUnmet, place_of}
-use Rattle.normalizer_builder.proofs.SameDemands.{same_unfit}
-use Rattle.normalizer_builder.proofs.SameParts.{same_entries}
+use Rattle.normalizer_builder.proofs.SameParts.{one_packing_of_records, same_entries}
 
 -- a refusal by its rank, and a marker by its place
 refusal_of : ℕ → Refusal
@@ -101,12 +100,15 @@ module _ (records : List Entry) (uts46 : List MapperEntry) where
     packs : PacksRecords records uts46 packed
     first : IsFirstUnfitOfRecords records packed (Some u)
 
-  module _ (none : IsFirstRefusal records uts46 None) where
-    one_unfit : (u v : Unfit) → Unmet u → Unmet v → u ≡ v
-    one_unfit u v h k = one_unmet IsMadeOfRecords answer_of_records (MeetsRecords records k.packed) u v (same_unfit records uts46 h.packed k.packed none h.packs k.packs (Some u) h.first) k.first
+  -- other data that pack them are the same
+  unfit_of : (u : Unfit) → Unmet u → (p : Packed) → PacksRecords records uts46 p → IsFirstUnfitOfRecords records p (Some u)
+  unfit_of u h p packs = subst (λ (q : Packed). IsFirstUnfitOfRecords records q (Some u)) (one_packing_of_records records uts46 h.packed p h.packs packs) h.first
 
-    built_fits : (u : Unfit) → Unmet u → (p : Packed) → PacksRecords records uts46 p → IsFirstUnfitOfRecords records p None → ⊥
-    built_fits u h p packs fit = all_or_one IsMadeOfRecords answer_of_records (MeetsRecords records p) u fit (same_unfit records uts46 h.packed p none h.packs packs (Some u) h.first)
+  one_unfit : (u v : Unfit) → Unmet u → Unmet v → u ≡ v
+  one_unfit u v h k = one_unmet IsMadeOfRecords answer_of_records (MeetsRecords records k.packed) u v (unfit_of u h k.packed k.packs) k.first
+
+  built_fits : (u : Unfit) → Unmet u → (p : Packed) → PacksRecords records uts46 p → IsFirstUnfitOfRecords records p None → ⊥
+  built_fits u h p packs fit = all_or_one IsMadeOfRecords answer_of_records (MeetsRecords records p) u fit (unfit_of u h p packs)
 
   -- why records are refused, memory aside
   data Cause : BuildError → Type 0 where
@@ -136,12 +138,12 @@ module _ (records : List Entry) (uts46 : List MapperEntry) where
   one_cause e f (full none h) (unfit u also k) = absurd (too_many k.packed k.packs h)
   one_cause e f (unfit u none h) (refused s k) = absurd (refused_or_not s k none)
   one_cause e f (unfit u none h) (full also k) = absurd (too_many h.packed h.packs k)
-  one_cause e f (unfit u none h) (unfit v also k) = ap (λ (w : Unfit). error.Unfit w.marker w.condition) (one_unfit none u v h k)
+  one_cause e f (unfit u none h) (unfit v also k) = ap (λ (w : Unfit). error.Unfit w.marker w.condition) (one_unfit u v h k)
 
   no_cause : (e : BuildError) (p : Packed) → Builds records uts46 p → Cause e → ⊥
   no_cause e p built (refused r h) = refused_or_not r h built.unrefused
   no_cause e p built (full none h) = too_many p built.packs h
-  no_cause e p built (unfit u none h) = built_fits none u h p built.packs built.fit
+  no_cause e p built (unfit u none h) = built_fits u h p built.packs built.fit
 
 pub one_smallest : (records : List Entry) (uts46 : List MapperEntry) (e f : BuildError) → IsSmallest records uts46 e → IsSmallest records uts46 f → e ≢ error.Memory → f ≢ error.Memory → e ≡ f
 one_smallest records uts46 e f h k some also = one_cause records uts46 e f (cause_of records uts46 e h some) (cause_of records uts46 f k also)

@@ -14,7 +14,7 @@ use Rattle.normalizer_packing.specs.declared.entry.Kind.TheVariants as kind
 use Rattle.normalizer_packing.specs.Entries.{CharacterEntry, class_in, composing_reading, entry_of as packed_entry_of, kept_list, list_in, own_list}
 use Rattle.normalizer_packing.specs.ReadBack.{AreReadable, tells_class}
 use Rattle.normalizer_packing.specs.Spelling.{has_fixed_list, have_classes, list_eq}
-use Rattle.normalizer_packing.proofs.StoreLemmas.{eq_list}
+use Rattle.normalizer_packing.proofs.TableLemmas.{eq_list}
 use Rattle.normalizer_records.specs.declared.records.Mappings.TheVariants.{Canonical, All as AllMappings}
 use Rattle.normalizer_records.specs.Entry.{Entry, MapperEntry}
 use Rattle.normalizer_records.specs.Faults.{HasWrongClass, IsFirstRefusal, IsFixedForm, IsFreeForm, IsWrong, begins_with_mark, is_mark}

@@ -5,8 +5,12 @@ use Rattle.std.proofs.lemmas.List.Elements.{All-contains}
 use Rattle.std.proofs.lemmas.List.Kept.{AllPairs-from_increasing}
 use Rattle.std.proofs.lemmas.List.Sorted.{Contains-permutation, IsPermutation-sym}
 use Rattle.normalizer_tables.specs.Pairs.{Pair, AreRising as ArePairsRising, is_before}
+use Rattle.normalizer_packing.specs.declared.Packed.{Packed}
 use Rattle.normalizer_packing.specs.Entries.{CharacterEntry}
+use Rattle.normalizer_packing.specs.Packing.{Packs}
+use Rattle.normalizer_packing.proofs.PackingLemmas.{one_packing}
 use Rattle.normalizer_records.specs.Entry.{Entry, MapperEntry}
+use Rattle.normalizer_builder.specs.Building.{PacksRecords}
 use Rattle.normalizer_builder.specs.Recorded.{AreMadeOf, ListsCharacters, entry_for, recorded_characters}
 
 -- lists in one strict order with the same members are the same
@@ -84,3 +88,11 @@ same_pairs all xs ys h k first second =
     same_members (λ p q. is_before p q.0 q.1 ≡ true) not_before_itself not_both_before xs ys first second
     (λ p there. Contains-permutation all ys p k (Contains-permutation xs all p (IsPermutation-sym all xs h) there))
     (λ p there. Contains-permutation all xs p h (Contains-permutation ys all p (IsPermutation-sym all ys k) there))
+
+-- data that pack the same records are equal
+pub one_packing_of_records : (records : List Entry) (uts46 : List MapperEntry) (p q : Packed) → PacksRecords records uts46 p → PacksRecords records uts46 q → p ≡ q
+one_packing_of_records records uts46 p q h k =
+    let entries : k.entries ≡ h.entries = same_entries records uts46 k.entries h.entries k.parts.made h.parts.made in
+    let pairs : k.pairs ≡ h.pairs = same_pairs _ k.pairs h.pairs k.parts.same_pairs h.parts.same_pairs k.parts.rising_pairs h.parts.rising_pairs in
+    let packs : Packs h.entries h.pairs q = subst (λ (l : List Pair). Packs h.entries l q) pairs (subst (λ (es : List CharacterEntry). Packs es k.pairs q) entries k.packs) in
+    one_packing h.entries h.pairs p q h.packs packs

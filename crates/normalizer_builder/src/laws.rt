@@ -1,22 +1,16 @@
 //! The laws of building. Each function does nothing: its contract is the law, and its proof stands in `proofs/`.
-ghost use Rattle.std.specs.Prelude.{◌≡◌, ◌≢◌, List, None, Option};
+ghost use Rattle.std.specs.Prelude.{◌≡◌, ◌≢◌, List};
 ghost use Rattle.normalizer_packing.specs.declared.Packed.{Packed};
 ghost use Rattle.normalizer_records.specs.declared.records.BuildError.{BuildError};
 ghost use Rattle.normalizer_records.specs.declared.records.BuildError.TheVariants.{Memory};
 ghost use Rattle.normalizer_records.specs.Entry.{Entry, MapperEntry};
-ghost use Rattle.normalizer_records.specs.Faults.{IsFirstRefusal};
-ghost use Rattle.normalizer_builder.specs.declared.rank.Unfit.{Unfit};
-ghost use Rattle.normalizer_builder.specs.Building.{Builds, IsFirstUnfitOfRecords, IsMadeOfRecords, IsSmallest, MeetsRecords, PacksRecords, RecordDemand};
+ghost use Rattle.normalizer_builder.specs.Building.{Builds, IsSmallest, PacksRecords};
 
-/// All data that pack the same records meet the same demands, so that the answer to those that aren't met doesn't depend
-/// on where lists stand in the tables.
-pub fn packings_meet_the_same_demands()
-    ensures demands { (records : List Entry) (uts46 : List MapperEntry) (p q : Packed) →
-        IsFirstRefusal records uts46 None → PacksRecords records uts46 p → PacksRecords records uts46 q →
-        (d : RecordDemand) → IsMadeOfRecords d → MeetsRecords records p d → MeetsRecords records q d }
-    ensures answer { (records : List Entry) (uts46 : List MapperEntry) (p q : Packed) →
-        IsFirstRefusal records uts46 None → PacksRecords records uts46 p → PacksRecords records uts46 q →
-        (r : Option Unfit) → IsFirstUnfitOfRecords records p r → IsFirstUnfitOfRecords records q r }
+/// All data that pack the same records are equal, so that what is answered to those that don't meet a demand depends on
+/// the records alone.
+pub fn packed_records_are_one()
+    ensures { (records : List Entry) (uts46 : List MapperEntry) (p q : Packed) →
+        PacksRecords records uts46 p → PacksRecords records uts46 q → p ≡ q }
 {}
 
 /// The records alone decide what is answered, but for want of memory: they have one smallest refusal at most, and none

@@ -11,5 +11,6 @@ pub mod ReadBackPlaces
 pub mod ReadBackWords
 pub mod StepLemmas
 pub mod StoreLemmas
+pub mod TableLemmas
 pub mod Tilings
 pub mod WordLemmas

@@ -1,44 +1,132 @@
--- Data made of stores.
-use Rattle.std.proofs.Common.{◌≡◌, List, refl, ap, subst, ◌∙◌}
-use Rattle.normalizer_tables.specs.Conditions.{item_count}
-use Rattle.normalizer_tables.specs.Data.{Decompositions}
+-- Data made of stores, and that packing is a function.
+use Rattle.std.proofs.Common.{◌≡◌, ◌↔◌, ℕ, ◌+◌, ◌*◌, ◌/◌, ◌%◌, ◌<◌, ◌^◌, Bool, true, false, ◌==◌, not, List, [], ◌∷◌, bit_and, refl, ap, sym, subst, ◌∙◌, arith, inl, inr}
+use Rattle.std.proofs.lemmas.Bool.{cases_lt, cases_order}
+use Rattle.std.proofs.lemmas.Bool.Decides.{nat_tests}
+use Rattle.std.proofs.lemmas.Nat.{and_mask}
+use Rattle.std.proofs.lemmas.Nat.Bits.{and_high}
+use Rattle.normal_forms.specs.Composition.{compose}
+use Rattle.normal_forms.specs.Reading.{Reading}
+use Rattle.normalizer_tables.specs.Data.{Decompositions, Lists, Supplement}
 use Rattle.normalizer_tables.specs.Pairs.{Pair}
+use Rattle.normalizer_tables.specs.Table.{Table, code_points, word_at}
+use Rattle.normalizer_tables.specs.Words.{is_backward_combining, is_class_form, is_non_round_trip}
+use Rattle.normalizer_tables.proofs.Tables.{same_from_word_at, word_at-past}
 use Rattle.normalizer_packing.specs.declared.Packed.{Packed}
 use Rattle.normalizer_packing.specs.declared.entry.Kind.{Kind}
 use Rattle.normalizer_packing.specs.declared.entry.Kind.TheVariants.{Canonical, Compatibility, Mapper}
+use Rattle.normalizer_packing.specs.declared.spelling.Spelling.{Spelling}
+use Rattle.normalizer_packing.specs.declared.spelling.Spelling.TheVariants.{Final, Short, Listed}
 use Rattle.normalizer_packing.specs.declared.stores.Stores.{Stores}
-use Rattle.normalizer_packing.specs.Entries.{CharacterEntry}
-use Rattle.normalizer_packing.specs.PackedWords.{CanPoint, packed_tables}
-use Rattle.normalizer_packing.specs.Packing.{Packs, PacksKind, tables_of}
+use Rattle.normalizer_packing.specs.Caps.{IsCap}
+use Rattle.normalizer_packing.specs.Entries.{CharacterEntry, class_in, composing_reading, kept_list, list_in}
+use Rattle.normalizer_packing.specs.Flags.{BeginsUnpaired, IsFlagged, without_flags}
+use Rattle.normalizer_packing.specs.PackedWords.{CanPoint}
+use Rattle.normalizer_packing.specs.Packing.{HasFlags, IsPackedWord, IsSpelled, Packs, PacksKind}
+use Rattle.normalizer_packing.specs.Spelling.{spelling}
 use Rattle.normalizer_packing.specs.Steps.{PacksSteps}
-use Rattle.normalizer_packing.specs.Stored.{Tables, canonical_items, supplementary_items}
 use Rattle.normalizer_packing.specs.Stores.{tables_in}
+use Rattle.normalizer_packing.specs.Words.{HasWords}
 
+-- the data put together
 module _ (entries : List CharacterEntry) (pairs : List Pair) (s : Stores) (p : Packed) (h : CanPoint entries s) (pairs_are : p.compositions ≡ pairs) (tables_are : p.tables ≡ tables_in s.canonical) (others_are : p.supplementary_tables ≡ tables_in s.supplementary) where
-  all_tables : packed_tables s ≡ tables_of p
-  all_tables = rw (tables_are, others_are) refl
-
-  with_tables : (kind : Kind) (d : Decompositions) → PacksKind kind entries p.compositions (packed_tables s) d → PacksKind kind entries pairs (tables_of p) d
-  with_tables kind d packs = subst (λ (t : Tables). PacksKind kind entries pairs t d) all_tables (subst (λ (q : List Pair). PacksKind kind entries q (packed_tables s) d) pairs_are packs)
-
-  first_count : item_count p.tables ≡ canonical_items entries
-  unfolding canonical_items
-  first_count = ap item_count tables_are ∙ h.stored.canonical.count
-
-  second_count : item_count p.supplementary_tables ≡ supplementary_items entries
-  unfolding supplementary_items
-  second_count = ap item_count others_are ∙ h.stored.supplementary.count
-
-  -- the data put together
-  pub all_packed : PacksKind Canonical entries p.compositions (packed_tables s) p.canonical → PacksKind Compatibility entries p.compositions (packed_tables s) p.compatibility → PacksKind Mapper entries p.compositions (packed_tables s) p.mapper → PacksSteps entries p.supplement → Packs entries pairs p
+  pub all_packed : PacksKind Canonical entries p.compositions p.canonical → PacksKind Compatibility entries p.compositions p.compatibility → PacksKind Mapper entries p.compositions p.mapper → PacksSteps entries p.supplement → Packs entries pairs p
   all_packed canonical compatibility mapper supplement =
       record {
-        canonical = with_tables Canonical p.canonical canonical;
-        compatibility = with_tables Compatibility p.compatibility compatibility;
-        mapper = with_tables Mapper p.mapper mapper;
-        tables = first_count;
-        supplementary_tables = second_count;
+        canonical = subst (λ (q : List Pair). PacksKind Canonical entries q p.canonical) pairs_are canonical;
+        compatibility = subst (λ (q : List Pair). PacksKind Compatibility entries q p.compatibility) pairs_are compatibility;
+        mapper = subst (λ (q : List Pair). PacksKind Mapper entries q p.mapper) pairs_are mapper;
+        tables = tables_are ∙ h.stored.canonical.tables;
+        supplementary_tables = others_are ∙ h.stored.supplementary.tables;
         within = h.within;
         compositions = pairs_are;
         supplement = supplement;
+      }
+
+-- a word is what it is without its flags, and these
+round_trip_bit : (w : ℕ) → is_non_round_trip w ≡ not (w / 2 ^ 30 % 2 ^ 1 == 0)
+unfolding is_non_round_trip
+round_trip_bit w = let bit : bit_and w 0x40000000 ≡ (w / 2 ^ 30 % 2 ^ 1) * 2 ^ 30 = and_high w 1 30 in grind (arith, nat_tests)
+
+backward_bit : (w : ℕ) → is_backward_combining w ≡ not (w / 2 ^ 31 % 2 ^ 1 == 0)
+unfolding is_backward_combining
+backward_bit w = let bit : bit_and w 0x80000000 ≡ (w / 2 ^ 31 % 2 ^ 1) * 2 ^ 31 = and_high w 1 31 in grind (arith, nat_tests)
+
+same_bit : (a b : ℕ) → a < 2 → b < 2 → not (a == 0) ≡ not (b == 0) → a ≡ b
+same_bit a b small also same = grind (arith, nat_tests)
+
+pub same_by_parts : (w v : ℕ) → w < 2 ^ 32 → v < 2 ^ 32 → without_flags w ≡ without_flags v → is_non_round_trip w ≡ is_non_round_trip v → is_backward_combining w ≡ is_backward_combining v → w ≡ v
+unfolding without_flags
+same_by_parts w v small also rest round_trip backward =
+    let low : w % 2 ^ 30 ≡ v % 2 ^ 30 = sym (and_mask w 30) ∙ rest ∙ and_mask v 30 in
+    let middle : w / 2 ^ 30 % 2 ^ 1 ≡ v / 2 ^ 30 % 2 ^ 1 = same_bit _ _ (omega arith) (omega arith) (sym (round_trip_bit w) ∙ round_trip ∙ round_trip_bit v) in
+    let high : w / 2 ^ 31 % 2 ^ 1 ≡ v / 2 ^ 31 % 2 ^ 1 = same_bit _ _ (omega arith) (omega arith) (sym (backward_bit w) ∙ backward ∙ backward_bit v) in
+    omega arith
+
+-- what two flags of one meaning say is the same
+same_flag : (P : Type 0) (a b : Bool) → (a ≡ false) ↔ P → (b ≡ false) ↔ P → a ≡ b
+same_flag P true true h k = refl
+same_flag P true false h k = h.1 (k.0 refl)
+same_flag P false true h k = sym (k.1 (h.0 refl))
+same_flag P false false h k = refl
+
+same_flagged : (d : Reading) (pairs : List Pair) (n : ℕ) (x : List ℕ) (w v : ℕ) → without_flags w ≡ without_flags v → IsFlagged d pairs n x w → IsFlagged d pairs n x v → w ≡ v
+same_flagged d pairs n x w v rest h k =
+    same_by_parts w v h.within k.within rest
+    (same_flag (compose d x ≡ n ∷ []) (is_non_round_trip w) (is_non_round_trip v) h.round_trip k.round_trip)
+    (same_flag ((is_class_form (without_flags v) ≡ false) × BeginsUnpaired pairs x) (is_backward_combining w) (is_backward_combining v)
+    (subst (λ (r : ℕ). (is_backward_combining w ≡ false) ↔ ((is_class_form r ≡ false) × BeginsUnpaired pairs x)) rest h.backward) k.backward)
+
+module _ (entries : List CharacterEntry) (pairs : List Pair) where
+  one_word : (kind : Kind) (n w v : ℕ) → IsPackedWord kind entries pairs n w → IsPackedWord kind entries pairs n v → w ≡ v
+  one_word kind n w v h k = by (spelling (class_in entries) n (list_in kind entries n)) h.spelled k.spelled h.flags k.flags
+    where
+      by : (s : Spelling) → IsSpelled entries (kept_list kind entries n) s w → IsSpelled entries (kept_list kind entries n) s v → HasFlags kind entries pairs n s w → HasFlags kind entries pairs n s v → w ≡ v
+      by (Final word) a b f g = a ∙ sym b
+      by (Short word) a b f g = same_flagged (composing_reading entries pairs) pairs n (kept_list kind entries n) w v (a ∙ sym b) f g
+      by Listed a b f g = same_flagged (composing_reading entries pairs) pairs n (kept_list kind entries n) w v (a ∙ sym b) f g
+
+  -- tables that have the same words
+  one_table : (is_word : ℕ → ℕ → Type 0) → ((n w v : ℕ) → is_word n w → is_word n v → w ≡ v) → (t u : Table) → HasWords is_word t → HasWords is_word u → t ≡ u
+  one_table is_word one t u h k = same_from_word_at t u h.complete k.complete (λ n. elim (cases_lt n code_points) as (λ _. word_at t n ≡ word_at u n) [
+    | inl within ↦ one n (word_at t n) (word_at u n) (h.words n within) (k.words n within)
+    | inr past ↦ word_at-past t n h.complete past ∙ h.past ∙ sym (word_at-past u n k.complete past ∙ k.past)
+  ])
+
+  one_cap : (kind : Kind) (c d : ℕ) → IsCap kind entries pairs c → IsCap kind entries pairs d → c ≡ d
+  one_cap kind c d h k = elim (cases_order c d) as (λ _. c ≡ d) [
+    | inl same ↦ same
+    | inr (inl below) ↦ absurd (h.at (omega (arith, k.within)) (k.before c below))
+    | inr (inr above) ↦ absurd (k.at (omega (arith, h.within)) (h.before d above))
+  ]
+
+  one_kind : (kind : Kind) (d e : Decompositions) → PacksKind kind entries pairs d → PacksKind kind entries pairs e → d ≡ e
+  one_kind kind d e h k =
+      let table : d.table ≡ e.table = one_table (IsPackedWord kind entries pairs) (one_word kind) d.table e.table h.words k.words in
+      let cap : d.cap ≡ e.cap = one_cap kind d.cap e.cap h.cap k.cap in
+      λ i. record { table = table i; cap = cap i }
+
+  one_supplement : (s t : Supplement) → PacksSteps entries s → PacksSteps entries t → s ≡ t
+  one_supplement s t h k =
+      let table : s.table ≡ t.table = one_table _ (λ n w v a b. a ∙ sym b) s.table t.table h.words k.words in
+      let items : s.scalars24 ≡ t.scalars24 = h.items ∙ sym k.items in
+      λ i. record { table = table i; scalars24 = items i }
+
+  -- data that pack the same entries and pairs are equal
+  pub one_packing : (p q : Packed) → Packs entries pairs p → Packs entries pairs q → p ≡ q
+  one_packing p q h k =
+      let canonical : p.canonical ≡ q.canonical = one_kind Canonical p.canonical q.canonical h.canonical k.canonical in
+      let compatibility : p.compatibility ≡ q.compatibility = one_kind Compatibility p.compatibility q.compatibility h.compatibility k.compatibility in
+      let mapper : p.mapper ≡ q.mapper = one_kind Mapper p.mapper q.mapper h.mapper k.mapper in
+      let tables : p.tables ≡ q.tables = h.tables ∙ sym k.tables in
+      let supplementary : p.supplementary_tables ≡ q.supplementary_tables = h.supplementary_tables ∙ sym k.supplementary_tables in
+      let compositions : p.compositions ≡ q.compositions = h.compositions ∙ sym k.compositions in
+      let supplement : p.supplement ≡ q.supplement = one_supplement p.supplement q.supplement h.supplement k.supplement in
+      λ i. record {
+        canonical = canonical i;
+        compatibility = compatibility i;
+        mapper = mapper i;
+        tables = tables i;
+        supplementary_tables = supplementary i;
+        compositions = compositions i;
+        supplement = supplement i;
       }

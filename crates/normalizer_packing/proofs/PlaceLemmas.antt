@@ -1,6 +1,6 @@
 -- Where lists stand in the four tables.
-use Rattle.std.proofs.Common.{◌≡◌, ℕ, ◌+◌, ◌<◌, ◌≤◌, Bool, true, false, ◌||◌, List, [], ◌∷◌, ◌++◌, length, Some, None, if◌then◌else◌, All, refl, arith, sym, subst, ◌∙◌, inl, inr}
-use Rattle.std.proofs.lemmas.Bool.{leb-true}
+use Rattle.std.proofs.Common.{◌≡◌, ℕ, ◌+◌, ◌<◌, ◌≤◌, Bool, true, false, List, [], ◌∷◌, ◌++◌, length, Some, None, if◌then◌else◌, All, refl, arith, sym, subst, ap, ◌∙◌, inl, inr}
+use Rattle.std.proofs.lemmas.Bool.{leb-true, or_left, or_right}
 use Rattle.std.proofs.lemmas.List.Elements.{All-head, All-tail}
 use Rattle.normalizer_tables.specs.Characters.{items_at}
 use Rattle.normalizer_tables.specs.Conditions.{item_count}
@@ -9,11 +9,12 @@ use Rattle.normalizer_packing.specs.declared.entry.Kind.{Kind}
 use Rattle.normalizer_packing.specs.declared.entry.Kind.TheVariants.{Canonical, Compatibility, Mapper}
 use Rattle.normalizer_packing.specs.declared.stores.Stores.{Stores}
 use Rattle.normalizer_packing.specs.Entries.{CharacterEntry}
+use Rattle.normalizer_packing.specs.PackedWords.{CanPoint}
 use Rattle.normalizer_packing.specs.Spelling.{list_eq}
-use Rattle.normalizer_packing.specs.PackedWords.{CanPoint, packed_tables}
-use Rattle.normalizer_packing.specs.Stored.{StandsAt, StandsFrom, HasLengthOfWord, is_among, is_narrow, item_at, listed_in}
-use Rattle.normalizer_packing.specs.Stores.{AreStored, place_in, tables_in}
-use Rattle.normalizer_packing.proofs.StoreLemmas.{chosen, or_cases, same_list, is_among-append, is_among-nil, among_if_placed, not_among_if_nowhere, needed_items_stored, narrow_length}
+use Rattle.normalizer_packing.specs.Stored.{HasLengthOfWord, canonical_lists, first_come, is_among, is_narrow, item_at, item_in, item_of, items_of, listed_in, needed_items, place_of, supplementary_lists, tables_of}
+use Rattle.normalizer_packing.specs.Stores.{StandsAt, place_in, tables_in}
+use Rattle.normalizer_packing.proofs.StoreLemmas.{chosen, or_cases, narrow_length, not_among_if_nowhere, place_if_some, placed}
+use Rattle.normalizer_packing.proofs.TableLemmas.{is_among-append, is_among-apart, is_among-first_come, same_list, stands_at_place}
 
 pub items_within : (t x : List ℕ) (place : ℕ) → items_at t place (length x) ≡ Some x → place + length x ≤ length t
 unfolding items_at
@@ -41,54 +42,13 @@ item_within t x place some h =
       | false ↦ λ within. omega arith
     ] (place_within t x place h)
 
-pub same_some : (a b : ℕ) → Some a ≡ Some b → a ≡ b
-same_some a b e = cc
-
-among_first : (x : List ℕ) (a b : List (List ℕ)) → is_among x a ≡ true → is_among x (a ++ b) ≡ true
-among_first x a b h = is_among-append x a b ∙ rw h refl
-
-pub or_true : (b : Bool) → (b || true) ≡ true
-or_true true = refl
-or_true false = refl
-
-among_second : (x : List ℕ) (a b : List (List ℕ)) → is_among x b ≡ true → is_among x (a ++ b) ≡ true
-among_second x a b h = is_among-append x a b ∙ rw h (or_true _)
-
-module _ (entries : List CharacterEntry) (s : Stores) (h : AreStored entries s.canonical s.supplementary) (x : List ℕ) where
-  -- a list with a place in the first store stands there
-  pub stands_in_canonical : (place : ℕ) → place_in s.canonical x ≡ Some place → StandsAt (tables_in s.canonical) x place
-  stands_in_canonical place placed =
-      let there = among_if_placed [] (listed_in entries Canonical) _ _ x (is_among-nil x) h.canonical place placed in
-      let found = h.canonical.present x (is_among-nil x) there in
-      subst (λ (n : ℕ). StandsAt (tables_in s.canonical) x n) (same_some _ _ (sym found.1 ∙ placed)) found.2
-
-  pub stands_from_canonical : (place : ℕ) → place_in s.canonical x ≡ Some place → StandsFrom entries (packed_tables s) x (item_at (tables_in s.canonical) x place)
-  unfolding StandsFrom
-  stands_from_canonical place placed =
-      let there = among_if_placed [] (listed_in entries Canonical) _ _ x (is_among-nil x) h.canonical place placed in
-      rw (there, StandsFrom) (place, stands_in_canonical place placed, refl)
-
-  module _ (kind : Kind) (listed : is_among x (listed_in entries kind) ≡ true) (nowhere : place_in s.canonical x ≡ None) where
-    not_canonical : is_among x (listed_in entries Canonical) ≡ false
-    not_canonical = not_among_if_nowhere [] (listed_in entries Canonical) _ _ x (is_among-nil x) h.canonical nowhere
-
-    among_others : (k : Kind) → is_among x (listed_in entries k) ≡ true → is_among x (listed_in entries Compatibility ++ listed_in entries Mapper) ≡ true
-    among_others Canonical is = (let no = not_canonical in cc)
-    among_others Compatibility is = among_first x _ _ is
-    among_others Mapper is = among_second x _ _ is
-
-    -- another has a place in the second store, and stands there
-    pub placed_in_supplementary : (place : ℕ) × (place_in s.supplementary x ≡ Some place) × StandsAt (tables_in s.supplementary) x place
-    placed_in_supplementary = h.supplementary.present x not_canonical (among_others kind listed)
-
-    pub stands_in_supplementary : (place : ℕ) → place_in s.supplementary x ≡ Some place → StandsAt (tables_in s.supplementary) x place
-    stands_in_supplementary place placed =
-        let found = placed_in_supplementary in
-        subst (λ (n : ℕ). StandsAt (tables_in s.supplementary) x n) (same_some _ _ (sym found.1 ∙ placed)) found.2
-
-    pub stands_from_supplementary : (place : ℕ) → place_in s.supplementary x ≡ Some place → StandsFrom entries (packed_tables s) x (item_count (tables_in s.canonical) + item_at (tables_in s.supplementary) x place)
-    unfolding StandsFrom
-    stands_from_supplementary place placed = rw (not_canonical, StandsFrom) (place, stands_in_supplementary place placed, refl)
+-- each of the lists stands at its place
+pub stands_among : (lists : List (List ℕ)) (x : List ℕ) → is_among x lists ≡ true → StandsAt (tables_of lists) x (place_of lists x)
+unfolding StandsAt
+stands_among lists x among = elim (is_narrow x) as (λ b. items_at (items_of b lists) (place_of lists x) (length x) ≡ Some x → items_at (if b then items_of true lists else items_of false lists) (place_of lists x) (length x) ≡ Some x) [
+  | true ↦ λ stands. stands
+  | false ↦ λ stands. stands
+] (stands_at_place lists x among)
 
 -- what holds of all lists holds of one among them
 pub among_all : (P : List ℕ → Type 0) (x : List ℕ) (lists : List (List ℕ)) → All P lists → is_among x lists ≡ true → P x
@@ -99,21 +59,80 @@ among_all P x (y ∷ lists) h is = elim (or_cases (list_eq x y) (is_among x list
   | inr later ↦ among_all P x lists (All-tail P y lists h) later
 ]
 
+module _ (entries : List CharacterEntry) (x : List ℕ) where
+  among_canonical : is_among x (canonical_lists entries) ≡ is_among x (listed_in entries Canonical)
+  unfolding canonical_lists
+  among_canonical = is_among-first_come x (listed_in entries Canonical)
+
+  among_others : (kind : Kind) → is_among x (listed_in entries kind) ≡ true → is_among x (listed_in entries Canonical) ≡ false → is_among x (listed_in entries Compatibility ++ listed_in entries Mapper) ≡ true
+  among_others Canonical is other = cc
+  among_others Compatibility is other = is_among-append x _ _ ∙ or_left _ _ is
+  among_others Mapper is other = is_among-append x _ _ ∙ or_right _ _ is
+
+  -- a list of one kind that canonical data don't need stands in the supplementary tables
+  pub among_supplementary : (kind : Kind) → is_among x (listed_in entries kind) ≡ true → is_among x (canonical_lists entries) ≡ false → is_among x (supplementary_lists entries) ≡ true
+  unfolding supplementary_lists
+  among_supplementary kind is other =
+      let new : is_among x (listed_in entries Canonical) ≡ false = sym among_canonical ∙ other in
+      is_among-apart (listed_in entries Canonical) (listed_in entries Compatibility ++ listed_in entries Mapper) x new ∙ among_others kind is new
+
+  pub canonical_kind : is_among x (listed_in entries Canonical) ≡ true → is_among x (canonical_lists entries) ≡ true
+  canonical_kind is = among_canonical ∙ is
+
+  pub item_of-canonical : is_among x (canonical_lists entries) ≡ true → item_of entries x ≡ item_in (canonical_lists entries) x
+  unfolding item_of
+  item_of-canonical among = rw among refl
+
+  pub item_of-supplementary : is_among x (canonical_lists entries) ≡ false → item_of entries x ≡ item_count (tables_of (canonical_lists entries)) + item_in (supplementary_lists entries) x
+  unfolding item_of
+  item_of-supplementary other = rw other refl
+
+  -- the item of a list is one of those of the four tables
+  pub item_of-within : (kind : Kind) → is_among x (listed_in entries kind) ≡ true → 0 < length x → item_of entries x < needed_items entries
+  item_of-within kind listed some = elim (is_among x (canonical_lists entries)) as (λ b. is_among x (canonical_lists entries) ≡ b → item_of entries x < needed_items entries) [
+    | true ↦ λ among. omega (arith, item_of-canonical among, item_within _ x _ some (stands_among (canonical_lists entries) x among))
+    | false ↦ λ other. omega (arith, item_of-supplementary other, item_within _ x _ some (stands_among (supplementary_lists entries) x (among_supplementary kind listed other)))
+  ] refl
+
 module _ (entries : List CharacterEntry) (s : Stores) (h : CanPoint entries s) (kind : Kind) (x : List ℕ) (listed : is_among x (listed_in entries kind) ≡ true) where
   -- a word can tell the length of each list that stands in a table
   pub length_of_listed : HasLengthOfWord x
   length_of_listed = among_all HasLengthOfWord x (listed_in entries kind) (h.packable.lengths kind) listed
 
-  all_items : item_count (tables_in s.canonical) + item_count (tables_in s.supplementary) ≤ 0xFFF
-  all_items = omega (arith, h.within, needed_items_stored entries s.canonical s.supplementary h.stored)
+  -- and its item is within the limit
+  pub item_within_limit : item_of entries x < 0xFFF
+  item_within_limit = omega (arith, h.within, item_of-within entries x kind listed (length_of_word x length_of_listed))
 
-  -- the item of a list is within the limit
-  pub item_in_canonical : (place : ℕ) → place_in s.canonical x ≡ Some place → item_at (tables_in s.canonical) x place < 0xFFF
-  item_in_canonical place placed =
-      let inside = item_within _ x place (length_of_word x length_of_listed) (stands_in_canonical entries s h.stored x place placed) in
-      omega (arith, all_items)
+  -- a list that the first store holds stands there
+  module _ (place : ℕ) (found : place_in s.canonical x ≡ Some place) where
+    in_first : (is_among x (canonical_lists entries) ≡ true) × (place ≡ place_of (canonical_lists entries) x)
+    in_first = place_if_some (canonical_lists entries) s.canonical x h.stored.canonical place found
 
-  pub item_in_supplementary : (place : ℕ) → place_in s.canonical x ≡ None → place_in s.supplementary x ≡ Some place → item_count (tables_in s.canonical) + item_at (tables_in s.supplementary) x place < 0xFFF
-  item_in_supplementary place nowhere placed =
-      let inside = item_within _ x place (length_of_word x length_of_listed) (stands_in_supplementary entries s h.stored x kind listed nowhere place placed) in
-      omega (arith, all_items)
+    pub stands_in_canonical : StandsAt (tables_in s.canonical) x place
+    stands_in_canonical = rw (in_first.1, h.stored.canonical.tables) (stands_among (canonical_lists entries) x in_first.0)
+
+    pub item_in_canonical : item_at (tables_in s.canonical) x place ≡ item_of entries x
+    item_in_canonical = rw (in_first.1, h.stored.canonical.tables) (sym (item_of-canonical entries x in_first.0))
+
+  -- another stands in the second
+  module _ (nowhere : place_in s.canonical x ≡ None) where
+    not_canonical : is_among x (canonical_lists entries) ≡ false
+    not_canonical = not_among_if_nowhere (canonical_lists entries) s.canonical x h.stored.canonical nowhere
+
+    in_second : is_among x (supplementary_lists entries) ≡ true
+    in_second = among_supplementary entries x kind listed not_canonical
+
+    pub placed_in_supplementary : place_in s.supplementary x ≡ Some (place_of (supplementary_lists entries) x)
+    placed_in_supplementary = placed (supplementary_lists entries) s.supplementary x h.stored.supplementary in_second
+
+    module _ (place : ℕ) (found : place_in s.supplementary x ≡ Some place) where
+      own_place : place ≡ place_of (supplementary_lists entries) x
+      own_place = (place_if_some (supplementary_lists entries) s.supplementary x h.stored.supplementary place found).1
+
+      pub stands_in_supplementary : StandsAt (tables_in s.supplementary) x place
+      stands_in_supplementary = rw (own_place, h.stored.supplementary.tables) (stands_among (supplementary_lists entries) x in_second)
+
+      pub item_in_supplementary : item_count (tables_in s.canonical) + item_at (tables_in s.supplementary) x place ≡ item_of entries x
+      item_in_supplementary =
+          let count : item_count (tables_in s.canonical) ≡ item_count (tables_of (canonical_lists entries)) = ap item_count h.stored.canonical.tables in
+          rw (own_place, h.stored.supplementary.tables, count) (sym (item_of-supplementary entries x not_canonical))

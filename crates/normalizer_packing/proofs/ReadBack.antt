@@ -4,7 +4,7 @@ use Rattle.std.specs.Char.{IsScalar}
 use lib.Utf8.{scalar_cases}
 use Rattle.std.proofs.lemmas.Bool.{and_parts}
 use Rattle.std.proofs.lemmas.Bool.Decides.{nat_tests}
-use Rattle.normalizer_tables.specs.Characters.{Characters, word_of}
+use Rattle.normalizer_tables.specs.Characters.{Characters, as_text, word_of}
 use Rattle.normalizer_tables.specs.Conditions.{is_surrogate, item_count}
 use Rattle.normalizer_tables.specs.Hangul.{is_hangul_syllable}
 use Rattle.normalizer_tables.specs.Pairs.{Pair}
@@ -19,10 +19,10 @@ use Rattle.normalizer_packing.specs.declared.spelling.Spelling.{Spelling}
 use Rattle.normalizer_packing.specs.declared.spelling.Spelling.TheVariants.{Final, Short, Listed}
 use Rattle.normalizer_packing.specs.Entries.{CharacterEntry, class_in, entry_of, kept_list, list_in}
 use Rattle.normalizer_packing.specs.Flags.{without_flags}
-use Rattle.normalizer_packing.specs.Packing.{ArePackable, IsPackedWord, IsSpelled, Packs, PacksKind, tables_of}
+use Rattle.normalizer_packing.specs.Packing.{ArePackable, IsPackedWord, IsSpelled, Packs, PacksKind}
 use Rattle.normalizer_packing.specs.ReadBack.{AreReadable, ReadsBack, characters_of, decompositions_of, is_mappers}
 use Rattle.normalizer_packing.specs.Spelling.{final_word, has_fixed_list, list_eq, spelling, spelling_by_list, spelling_of_list, spelling_or_ignored, spells_two}
-use Rattle.normalizer_packing.specs.Stored.{HasLengthOfWord, StandsFrom, is_among, listed_in, pointing_word}
+use Rattle.normalizer_packing.specs.Stored.{HasLengthOfWord, is_among, item_of, listed_in, pointing_word, supplementary_lists, tables_of}
 use Rattle.normalizer_packing.proofs.PlaceLemmas.{among_all, length_of_word}
 use Rattle.normalizer_packing.proofs.ReadBackLines.{IsReadBack, spelling_in, kept_is, line_alone, line_fdfa, line_fixed, line_hangul, line_ignored, line_listed, line_one, line_replacement, line_two, text_of}
 use Rattle.normalizer_packing.proofs.ReadBackPlaces.{IsGiven, given_from}
@@ -86,27 +86,27 @@ pub scalar_below : (n : ℕ) → IsScalar n → n < code_points
 scalar_below n is = lt-code_points n (elim (scalar_cases n is) as (λ _. n ≤ 0x10FFFF) [ inl low ↦ omega arith | inr high ↦ omega (arith, high.1) ])
 
 module _ (entries : List CharacterEntry) (pairs : List Pair) (p : Packed) (packs : Packs entries pairs p) where
-  pub of_kind : (kind : Kind) → PacksKind kind entries pairs (tables_of p) (decompositions_of p kind)
+  pub of_kind : (kind : Kind) → PacksKind kind entries pairs (decompositions_of p kind)
   of_kind Canonical = packs.canonical
   of_kind Compatibility = packs.compatibility
   of_kind Mapper = packs.mapper
 
   -- the word of a number of the table
-  pub packed_word : (kind : Kind) (n : ℕ) → n < code_points → IsPackedWord kind entries pairs (tables_of p) n (word_of (characters_of p kind) n)
+  pub packed_word : (kind : Kind) (n : ℕ) → n < code_points → IsPackedWord kind entries pairs n (word_of (characters_of p kind) n)
   unfolding word_of
   packed_word kind n within = (of_kind kind).words.words n within
 
   -- all tables that words of a kind point into have few items
   pub few_items : (kind : Kind) → item_count (characters_of p kind).tables + item_count (characters_of p kind).supplementary ≤ 0xFFF
-  few_items Canonical = omega (arith, packs.tables, packs.within)
-  few_items Compatibility = omega (arith, packs.tables, packs.supplementary_tables, packs.within)
-  few_items Mapper = omega (arith, packs.tables, packs.supplementary_tables, packs.within)
+  few_items Canonical = omega (arith, ap item_count packs.tables, packs.within)
+  few_items Compatibility = omega (arith, ap item_count packs.tables, ap item_count packs.supplementary_tables, packs.within)
+  few_items Mapper = omega (arith, ap item_count packs.tables, ap item_count packs.supplementary_tables, packs.within)
 
   -- a list of canonical data stands in the first tables, and words of other data point into all
-  where_stands : (kind : Kind) (x : List ℕ) → is_among x (listed_in entries kind) ≡ true → (is_among x (listed_in entries Canonical) ≡ true) ⊎ ((characters_of p kind).supplementary ≡ p.supplementary_tables)
+  where_stands : (kind : Kind) (x : List ℕ) → is_among x (listed_in entries kind) ≡ true → (is_among x (listed_in entries Canonical) ≡ true) ⊎ ((characters_of p kind).supplementary ≡ tables_of (supplementary_lists entries))
   where_stands Canonical x among = inl among
-  where_stands Compatibility x among = inr refl
-  where_stands Mapper x among = inr refl
+  where_stands Compatibility x among = inr packs.supplementary_tables
+  where_stands Mapper x among = inr packs.supplementary_tables
 
 module _ (kind : Kind) (entries : List CharacterEntry) (pairs : List Pair) (p : Packed) (packable : ArePackable entries) (readable : AreReadable kind entries) (packs : Packs entries pairs p) (n : ℕ) (is : IsScalar n) where
   abbrev s : Characters
@@ -115,12 +115,12 @@ module _ (kind : Kind) (entries : List CharacterEntry) (pairs : List Pair) (p : 
   abbrev w : ℕ
   w = word_of s n
 
-  packed : IsPackedWord kind entries pairs (tables_of p) n w
+  packed : IsPackedWord kind entries pairs n w
   packed = packed_word entries pairs p packs kind n (scalar_below n is)
 
   -- the word, by what spells the list
-  spelled_as : (x : List ℕ) (sp : Spelling) → kept_list kind entries n ≡ x → spelling_in kind entries n ≡ sp → IsSpelled entries (tables_of p) x sp w
-  spelled_as x sp kept e = subst (λ (y : List ℕ). IsSpelled entries (tables_of p) y sp w) kept (subst (λ (q : Spelling). IsSpelled entries (tables_of p) (kept_list kind entries n) q w) e packed.spelled)
+  spelled_as : (x : List ℕ) (sp : Spelling) → kept_list kind entries n ≡ x → spelling_in kind entries n ≡ sp → IsSpelled entries x sp w
+  spelled_as x sp kept e = subst (λ (y : List ℕ). IsSpelled entries y sp w) kept (subst (λ (q : Spelling). IsSpelled entries (kept_list kind entries n) q w) e packed.spelled)
 
   hangul_case : is_hangul_syllable n ≡ true → IsReadBack kind entries s n
   hangul_case syllable =
@@ -169,9 +169,9 @@ module _ (kind : Kind) (entries : List CharacterEntry) (pairs : List Pair) (p : 
               let spelled : spelling_in kind entries n ≡ Listed = by_other ∙ listed in
               let among : is_among x (listed_in entries kind) ≡ true = subst (λ (y : List ℕ). is_among y (listed_in entries kind) ≡ true) kept (listed_among kind entries n spelled) in
               let long : HasLengthOfWord x = among_all HasLengthOfWord x (listed_in entries kind) (packable.lengths kind) among in
-              let points : (item : ℕ) × StandsFrom entries (tables_of p) x item × (without_flags w ≡ pointing_word (class_in entries) x item) = spelled_as x Listed kept spelled in
-              let given : IsGiven s x points.0 = given_from entries s (tables_of p) x refl (length_of_word x long) (as_text-scalars x (text_of kind entries s n is other readable x list)) points.0 (where_stands entries pairs p packs kind x among) points.1 in
-              line_listed kind entries s n is other x list free differs points.0 given (omega (arith, given.within, few_items entries pairs p packs kind)) long points.2 spelled
+              let text : as_text x ≡ Some x = as_text-scalars x (text_of kind entries s n is other readable x list) in
+              let given : IsGiven s x (item_of entries x) = given_from entries s x packs.tables (length_of_word x long) text kind among (where_stands entries pairs p packs kind x among) in
+              line_listed kind entries s n is other x list free differs (item_of entries x) given (omega (arith, given.within, few_items entries pairs p packs kind)) long (spelled_as x Listed kept spelled) spelled
 
           long_case : spelling_of_list (class_in entries) n x ≡ (if list_eq x fdfa_list then Short 1 else Listed) → IsReadBack kind entries s n
           long_case e = elim (list_eq x fdfa_list) as (λ b. list_eq x fdfa_list ≡ b → spelling_of_list (class_in entries) n x ≡ (if b then Short 1 else Listed) → IsReadBack kind entries s n) [

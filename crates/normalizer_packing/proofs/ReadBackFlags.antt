@@ -19,7 +19,7 @@ use Rattle.normalizer_packing.specs.declared.spelling.Spelling.{Spelling}
 use Rattle.normalizer_packing.specs.declared.spelling.Spelling.TheVariants.{Final, Short, Listed}
 use Rattle.normalizer_packing.specs.Entries.{CharacterEntry, class_in, composing_reading, kept_list, list_in}
 use Rattle.normalizer_packing.specs.Flags.{BeginsUnpaired, IsFlagged, without_flags}
-use Rattle.normalizer_packing.specs.Packing.{HasFlags, IsSpelled, Packs, tables_of}
+use Rattle.normalizer_packing.specs.Packing.{HasFlags, IsSpelled, Packs}
 use Rattle.normalizer_packing.specs.ReadBack.{characters_of}
 use Rattle.normalizer_packing.specs.Spelling.{has_fixed_list, list_eq, spelling, spelling_by_list, spelling_of_list, spelling_or_ignored, spells_two}
 use Rattle.normalizer_packing.proofs.ReadBack.{final_hangul, final_none, final_replacement, of_kind, packed_word, scalar_below, spelled_else, spelled_final}
@@ -69,7 +69,7 @@ pub record TellsFlags (entries : List CharacterEntry) (pairs : List Pair) (s : C
 
 module _ (kind : Kind) (entries : List CharacterEntry) (pairs : List Pair) (p : Packed) (packs : Packs entries pairs p) where
   final_is : (n v : ℕ) → n < code_points → spelling (class_in entries) n (list_in kind entries n) ≡ Final v → word_of (characters_of p kind) n ≡ v
-  final_is n v within e = subst (λ (q : Spelling). IsSpelled entries (tables_of p) (kept_list kind entries n) q (word_of (characters_of p kind) n)) e (packed_word entries pairs p packs kind n within).spelled
+  final_is n v within e = subst (λ (q : Spelling). IsSpelled entries (kept_list kind entries n) q (word_of (characters_of p kind) n)) e (packed_word entries pairs p packs kind n within).spelled
 
   pub word_of_hangul : (n : ℕ) → is_hangul_syllable n ≡ true → word_of (characters_of p kind) n ≡ 1
   word_of_hangul n syllable = final_is n 1 (lt-code_points n (omega (arith, (is_hangul_syllable-true n syllable).1))) (spelled_final _ n _ 1 (final_hangul n syllable))

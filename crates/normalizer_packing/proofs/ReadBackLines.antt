@@ -25,7 +25,7 @@ use Rattle.normalizer_packing.specs.Spelling.{has_fixed_list, have_classes, list
 use Rattle.normalizer_packing.specs.Stored.{HasLengthOfWord, has_marks_behind, is_narrow, low_length, pointing_word}
 use Rattle.normalizer_packing.proofs.ReadBackPlaces.{IsGiven}
 use Rattle.normalizer_packing.proofs.ReadBackWords.{Reads, reads_fdfa, reads_hangul, reads_ignored, reads_itself, reads_listed, reads_one, reads_ordinary, reads_special, reads_two}
-use Rattle.normalizer_packing.proofs.StoreLemmas.{eq_list, same_list}
+use Rattle.normalizer_packing.proofs.TableLemmas.{eq_list, same_list}
 
 -- how the list of a character is spelled
 abbrev pub spelling_in : Kind → List CharacterEntry → ℕ → Spelling

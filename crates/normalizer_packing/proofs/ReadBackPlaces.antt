@@ -4,10 +4,12 @@ use Rattle.std.proofs.lemmas.Bool.{lt-ltb, le-ltb}
 use Rattle.normalizer_tables.specs.Characters.{Characters, as_text, items_at, listed_at, listed_in, narrow_at, placed_in, wide_at}
 use Rattle.normalizer_tables.specs.Conditions.{item_count}
 use Rattle.normalizer_tables.specs.Data.{Lists}
+use Rattle.normalizer_packing.specs.declared.entry.Kind.{Kind}
 use Rattle.normalizer_packing.specs.declared.entry.Kind.TheVariants.{Canonical}
 use Rattle.normalizer_packing.specs.Entries.{CharacterEntry}
-use Rattle.normalizer_packing.specs.Stored.{StandsAt, StandsFrom, Tables, is_among, is_narrow, item_at, listed_in as packed_in, low_length}
-use Rattle.normalizer_packing.proofs.PlaceLemmas.{item_within, place_within}
+use Rattle.normalizer_packing.specs.Stored.{canonical_lists, is_among, is_narrow, item_at, item_of, listed_in as packed_in, low_length, place_of, supplementary_lists, tables_of}
+use Rattle.normalizer_packing.specs.Stores.{StandsAt}
+use Rattle.normalizer_packing.proofs.PlaceLemmas.{among_supplementary, canonical_kind, item_of-canonical, item_of-supplementary, item_within, place_within, stands_among}
 use Rattle.normalizer_packing.proofs.StoreLemmas.{narrow_length}
 
 module _ (table : List ℕ) (gives after : ℕ → Option (List ℕ)) where
@@ -60,36 +62,38 @@ pub record IsGiven (s : Characters) (x : List ℕ) (item : ℕ) : Type 0 where
   pub within : item < item_count s.tables + item_count s.supplementary
   pub list : listed_at s item (low_length x) ≡ Some x
 
-module _ (entries : List CharacterEntry) (s : Characters) (t : Tables) (x : List ℕ) (first : s.tables ≡ t.canonical) (some : 0 < length x) (text : as_text x ≡ Some x) where
-  given_by_first : (place : ℕ) → StandsAt t.canonical x place → IsGiven s x (item_at t.canonical x place)
+module _ (entries : List CharacterEntry) (s : Characters) (x : List ℕ) (first : s.tables ≡ tables_of (canonical_lists entries)) (some : 0 < length x) (text : as_text x ≡ Some x) where
+  given_by_first : is_among x (canonical_lists entries) ≡ true → IsGiven s x (item_of entries x)
   unfolding listed_at
-  given_by_first place stands =
-      let within : item_at t.canonical x place < item_count t.canonical = item_within t.canonical x place some stands in
-      record {
+  given_by_first among =
+      let t : Lists = tables_of (canonical_lists entries) in
+      let place : ℕ = place_of (canonical_lists entries) x in
+      let stands : StandsAt t x place = stands_among (canonical_lists entries) x among in
+      let within : item_at t x place < item_count t = item_within t x place some stands in
+      rw (item_of-canonical entries x among) (record {
         within = rw first (omega arith);
-        list = rw first (given t.canonical x place some (listed_in s.supplementary (low_length x) (λ past. None)) text stands);
-      }
+        list = rw first (given t x place some (listed_in s.supplementary (low_length x) (λ past. None)) text stands);
+      })
 
-  given_by_second : (place : ℕ) → s.supplementary ≡ t.supplementary → StandsAt t.supplementary x place → IsGiven s x (item_count t.canonical + item_at t.supplementary x place)
+  given_by_second : is_among x (canonical_lists entries) ≡ false → is_among x (supplementary_lists entries) ≡ true → s.supplementary ≡ tables_of (supplementary_lists entries) → IsGiven s x (item_of entries x)
   unfolding listed_at
-  given_by_second place second stands =
-      let within : item_at t.supplementary x place < item_count t.supplementary = item_within t.supplementary x place some stands in
-      record {
+  given_by_second other among second =
+      let t : Lists = tables_of (canonical_lists entries) in
+      let u : Lists = tables_of (supplementary_lists entries) in
+      let place : ℕ = place_of (supplementary_lists entries) x in
+      let stands : StandsAt u x place = stands_among (supplementary_lists entries) x among in
+      let within : item_at u x place < item_count u = item_within u x place some stands in
+      rw (item_of-supplementary entries x other) (record {
         within = rw (first, second) (omega arith);
-        list = rw (first, second) (past_both t.canonical (low_length x) (listed_in t.supplementary (low_length x) (λ past. None)) (item_at t.supplementary x place) ∙ given t.supplementary x place some (λ past. None) text stands);
-      }
+        list = rw (first, second) (past_both t (low_length x) (listed_in u (low_length x) (λ past. None)) (item_at u x place) ∙ given u x place some (λ past. None) text stands);
+      })
 
-  -- a list that stands from an item on is what the tables give there
-  pub given_from : (item : ℕ) → (is_among x (packed_in entries Canonical) ≡ true) ⊎ (s.supplementary ≡ t.supplementary) → StandsFrom entries t x item → IsGiven s x item
-  unfolding StandsFrom
-  given_from item where_stands stands =
-      elim (is_among x (packed_in entries Canonical)) as (λ b. is_among x (packed_in entries Canonical) ≡ b → elim b as (λ _. Type 0) [
-        | true ↦ (place : ℕ) × StandsAt t.canonical x place × (item ≡ item_at t.canonical x place)
-        | false ↦ (place : ℕ) × StandsAt t.supplementary x place × (item ≡ item_count t.canonical + item_at t.supplementary x place)
-      ] → IsGiven s x item) [
-        | true ↦ λ e h. subst (λ (i : ℕ). IsGiven s x i) (sym h.2) (given_by_first h.0 h.1)
-        | false ↦ λ e h. elim where_stands as (λ _. IsGiven s x item) [
-          | inl among ↦ cc
-          | inr second ↦ subst (λ (i : ℕ). IsGiven s x i) (sym h.2) (given_by_second h.0 second h.1)
-        ]
-      ] refl stands
+  -- a list of one kind of data is what the tables give from its item on
+  pub given_from : (kind : Kind) → is_among x (packed_in entries kind) ≡ true → (is_among x (packed_in entries Canonical) ≡ true) ⊎ (s.supplementary ≡ tables_of (supplementary_lists entries)) → IsGiven s x (item_of entries x)
+  given_from kind among where_stands = elim (is_among x (canonical_lists entries)) as (λ b. is_among x (canonical_lists entries) ≡ b → IsGiven s x (item_of entries x)) [
+    | true ↦ λ here. given_by_first here
+    | false ↦ λ other. elim where_stands as (λ _. IsGiven s x (item_of entries x)) [
+      | inl canonical ↦ (let here = canonical_kind entries x canonical in cc)
+      | inr second ↦ given_by_second other (among_supplementary entries x kind among other) second
+    ]
+  ] refl

@@ -15,18 +15,18 @@ use Rattle.normalizer_packing.specs.Entries.{CharacterEntry, class_in, composing
 use Rattle.normalizer_packing.specs.Flags.{IsFlagged, without_flags}
 use Rattle.normalizer_packing.specs.Packing.{IsPackedWord}
 use Rattle.normalizer_packing.specs.Spelling.{final_word, has_fixed_list, list_eq, spelling, spelling_by_list, spelling_or_ignored}
-use Rattle.normalizer_packing.specs.Stored.{StandsFrom, Tables, is_among, listed_in, listed_of, pointing_word}
-use Rattle.normalizer_packing.proofs.StoreLemmas.{eq_list}
+use Rattle.normalizer_packing.specs.Stored.{is_among, item_of, listed_in, listed_of, pointing_word}
+use Rattle.normalizer_packing.proofs.TableLemmas.{eq_list}
 
-module _ (kind : Kind) (entries : List CharacterEntry) (pairs : List Pair) (t : Tables) (n : ℕ) where
-  pub final_packs : (w : ℕ) → spelling (class_in entries) n (list_in kind entries n) ≡ Final w → IsPackedWord kind entries pairs t n w
+module _ (kind : Kind) (entries : List CharacterEntry) (pairs : List Pair) (n : ℕ) where
+  pub final_packs : (w : ℕ) → spelling (class_in entries) n (list_in kind entries n) ≡ Final w → IsPackedWord kind entries pairs n w
   final_packs w is = record { spelled = rw is refl; flags = rw is tt }
 
-  pub short_packs : (word w : ℕ) → spelling (class_in entries) n (list_in kind entries n) ≡ Short word → without_flags w ≡ word → IsFlagged (composing_reading entries pairs) pairs n (kept_list kind entries n) w → IsPackedWord kind entries pairs t n w
+  pub short_packs : (word w : ℕ) → spelling (class_in entries) n (list_in kind entries n) ≡ Short word → without_flags w ≡ word → IsFlagged (composing_reading entries pairs) pairs n (kept_list kind entries n) w → IsPackedWord kind entries pairs n w
   short_packs word w is same flags = record { spelled = rw is same; flags = rw is flags }
 
-  pub listed_packs : (item w : ℕ) → spelling (class_in entries) n (list_in kind entries n) ≡ Listed → StandsFrom entries t (kept_list kind entries n) item → without_flags w ≡ pointing_word (class_in entries) (kept_list kind entries n) item → IsFlagged (composing_reading entries pairs) pairs n (kept_list kind entries n) w → IsPackedWord kind entries pairs t n w
-  listed_packs item w is stands same flags = record { spelled = rw is (item, stands, same); flags = rw is flags }
+  pub listed_packs : (item w : ℕ) → spelling (class_in entries) n (list_in kind entries n) ≡ Listed → item ≡ item_of entries (kept_list kind entries n) → without_flags w ≡ pointing_word (class_in entries) (kept_list kind entries n) item → IsFlagged (composing_reading entries pairs) pairs n (kept_list kind entries n) w → IsPackedWord kind entries pairs n w
+  listed_packs item w is item_is same flags = record { spelled = rw is (same ∙ ap (pointing_word (class_in entries) (kept_list kind entries n)) item_is); flags = rw is flags }
 
 found_first : (b : Bool) (y e : CharacterEntry) (o : Option CharacterEntry) → cond b (Some y) o ≡ Some e → ((b ≡ true) × (y ≡ e)) ⊎ (o ≡ Some e)
 found_first true y e o h = inl (refl, cc)
@@ -127,9 +127,9 @@ unfolding code_points
 below_all n h = h
 
 -- the word of a number that is no character
-pub surrogate_packs : (kind : Kind) (entries : List CharacterEntry) (pairs : List Pair) (t : Tables) (n : ℕ) → n < code_points → OutOfScalarRange n → IsPackedWord kind entries pairs t n 0xC000FFFD
-surrogate_packs kind entries pairs t n within out = elim out as (λ _. IsPackedWord kind entries pairs t n 0xC000FFFD) [
-  | inl surrogate ↦ final_packs kind entries pairs t n _ (surrogate_spelled _ n _ (omega arith) (omega arith))
+pub surrogate_packs : (kind : Kind) (entries : List CharacterEntry) (pairs : List Pair) (n : ℕ) → n < code_points → OutOfScalarRange n → IsPackedWord kind entries pairs n 0xC000FFFD
+surrogate_packs kind entries pairs n within out = elim out as (λ _. IsPackedWord kind entries pairs n 0xC000FFFD) [
+  | inl surrogate ↦ final_packs kind entries pairs n _ (surrogate_spelled _ n _ (omega arith) (omega arith))
   | inr past ↦ (let below = below_all n within in absurd (omega arith))
 ]
 

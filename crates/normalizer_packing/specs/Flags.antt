@@ -1,5 +1,5 @@
 -- The two flags of a word.
-use Rattle.std.specs.Prelude.{◌≡◌, ◌↔◌, ℕ, false, List, [], ◌∷◌, bit_and}
+use Rattle.std.specs.Prelude.{◌≡◌, ◌↔◌, ◌<◌, ◌^◌, ℕ, false, List, [], ◌∷◌, bit_and}
 use Rattle.normal_forms.specs.Reading.{Reading}
 use Rattle.normal_forms.specs.Composition.{compose}
 use Rattle.normalizer_tables.specs.Pairs.{Pair, IsNeverSecond}
@@ -16,5 +16,6 @@ BeginsUnpaired pairs (s ∷ x) = IsNeverSecond pairs s
 -- the flags of the word w of a character n with the list x: NON_ROUND_TRIP where the list doesn't compose to n alone,
 -- BACKWARD_COMBINING on class forms and where the list's first is second in a pair
 pub record IsFlagged (d : Reading) (pairs : List Pair) (n : ℕ) (x : List ℕ) (w : ℕ) : Type 0 where
+  pub within : w < 2 ^ 32
   pub round_trip : (is_non_round_trip w ≡ false) ↔ (compose d x ≡ n ∷ [])
   pub backward : (is_backward_combining w ≡ false) ↔ ((is_class_form (without_flags w) ≡ false) × BeginsUnpaired pairs x)

@@ -6,7 +6,6 @@ pub mod PackedWords
 pub mod Packing
 pub mod ReadBack
 pub mod Spelling
-pub mod StepWords
 pub mod Steps
 pub mod Stored
 pub mod Stores

@@ -4,11 +4,8 @@ use Rattle.normalizer_tables.specs.Conditions.{item_limit}
 use Rattle.normalizer_packing.specs.declared.stores.Stores.{Stores}
 use Rattle.normalizer_packing.specs.Entries.{CharacterEntry}
 use Rattle.normalizer_packing.specs.Packing.{ArePackable}
-use Rattle.normalizer_packing.specs.Stored.{Tables, needed_items}
-use Rattle.normalizer_packing.specs.Stores.{AreStored, tables_in}
-
-abbrev pub packed_tables : Stores → Tables
-packed_tables s = record { canonical = tables_in s.canonical; supplementary = tables_in s.supplementary }
+use Rattle.normalizer_packing.specs.Stored.{needed_items}
+use Rattle.normalizer_packing.specs.Stores.{AreStored}
 
 -- a word can point to each list that none spells
 pub record CanPoint (entries : List CharacterEntry) (s : Stores) : Type 0 where

@@ -1,16 +1,14 @@
 -- The words of the supplement: one step of decomposition, where the word of canonical data doesn't tell it.
-use Rattle.std.specs.Prelude.{◌≡◌, ℕ, ◌+◌, ◌*◌, ◌<◌, ◌⊎◌, Bool, true, false, not, ◌&&◌, ◌==◌, nat_lt, nat_le, List, [], ◌∷◌, length, filter_map, min, Option, Some, None, IsSome, if◌then◌else◌}
+use Rattle.std.specs.Prelude.{◌≡◌, ℕ, ◌+◌, ◌*◌, Bool, false, not, ◌&&◌, ◌==◌, nat_lt, nat_le, List, [], ◌∷◌, length, take, filter_map, Option, Some, None, if◌then◌else◌}
 use Rattle.std.specs.Int.{is_in_range}
-use Rattle.normalizer_tables.specs.Characters.{items_at}
 use Rattle.normalizer_tables.specs.Data.{Supplement}
-use Rattle.normalizer_tables.specs.Table.{Table, word_at}
 use Rattle.normalizer_tables.specs.Words.{is_class_form}
 use Rattle.normalizer_packing.specs.declared.entry.Mapping.{Mapping}
 use Rattle.normalizer_packing.specs.declared.entry.Mapping.TheVariants.{One, Two}
 use Rattle.normalizer_packing.specs.declared.spelling.Spelling.TheVariants.{Final, Short, Listed}
 use Rattle.normalizer_packing.specs.Entries.{CharacterEntry, class_in, entry_of}
 use Rattle.normalizer_packing.specs.Spelling.{spelling}
-use Rattle.normalizer_packing.specs.Stored.{items_behind}
+use Rattle.normalizer_packing.specs.Stored.{first_come, items_of, place_of}
 use Rattle.normalizer_packing.specs.Words.{HasWords}
 
 -- the most items of the supplement's table, which holds lists of two: an even number up to 0xFFFF
@@ -34,20 +32,6 @@ asked_step entries e = if asks_supplement (class_in entries) e then e.mapping el
 unfoldable pub are_narrow : ℕ → ℕ → Bool
 are_narrow a b = nat_le a 0xFFFF && nat_le b 0xFFFF
 
--- a word that points to two characters of the table, or none where all steps together have more items than it may
-unfoldable pub IsStoredStep : List ℕ → ℕ → ℕ → ℕ → ℕ → Type 0
-IsStoredStep table items a b w = ((place : ℕ) × (items_at table place 2 ≡ Some (a ∷ b ∷ [])) × (w ≡ (place + 1) * 0x10000)) ⊎ ((w ≡ 0) × (step_limit < items))
-
--- w is the word of a step, where `stored` says what word two characters have that only the table can hold
-abbrev pub IsStepWordBy : (ℕ → ℕ → ℕ → Type 0) → Option Mapping → ℕ → Type 0
-IsStepWordBy stored None w = w ≡ 0
-IsStepWordBy stored (Some (One a)) w = w ≡ (if nat_le a 0xFFFF then a else 0)
-IsStepWordBy stored (Some (Two a b)) w = elim (are_narrow a b) as (λ _. Type 0) [ true ↦ w ≡ a + b * 0x10000 | false ↦ stored a b w ]
-
--- the same, where all steps that only the table can hold have so many items
-abbrev pub IsStepWord : List ℕ → ℕ → Option Mapping → ℕ → Type 0
-IsStepWord table items step w = IsStepWordBy (IsStoredStep table items) step w
-
 -- the step, where it is of two characters that only the table can hold
 unfoldable pub stored_step : Option Mapping → Option (List ℕ)
 stored_step None = None
@@ -57,22 +41,25 @@ stored_step (Some (Two a b)) = if are_narrow a b then None else Some (a ∷ b �
 unfoldable pub stored_steps : List CharacterEntry → List (List ℕ)
 stored_steps entries = filter_map (λ e. stored_step (asked_step entries e)) entries
 
--- how many items they have together, an equal one counted once
-abbrev pub step_items : List CharacterEntry → ℕ
-step_items entries = items_behind [] (stored_steps entries)
+-- an equal one once, in the order in which characters first ask for them
+unfoldable pub step_lists : List CharacterEntry → List (List ℕ)
+step_lists entries = first_come (stored_steps entries)
+
+-- the word that points to a place, or none where two characters there stand past what the supplement's table may have
+abbrev pub word_of_place : ℕ → ℕ
+word_of_place place = if nat_le (place + 2) step_limit then (place + 1) * 0x10000 else 0
+
+-- the word of a step, where the table holds these lists
+unfoldable pub word_of_step : List (List ℕ) → Option Mapping → ℕ
+word_of_step lists None = 0
+word_of_step lists (Some (One a)) = if nat_le a 0xFFFF then a else 0
+word_of_step lists (Some (Two a b)) = if are_narrow a b then a + b * 0x10000 else word_of_place (place_of lists (a ∷ b ∷ []))
 
 -- the step that is asked of a number
 unfoldable pub step_in : List CharacterEntry → ℕ → Option Mapping
 step_in entries n = elim (entry_of entries n) [ Some e ↦ asked_step entries e | None ↦ None ]
 
--- some character has no word, though its step is one that only the table can hold
-pub record LacksStep (entries : List CharacterEntry) (t : Table) : Type 0 where
-  pub character : ℕ
-  pub stored : IsSome (stored_step (step_in entries character))
-  pub wordless : word_at t character ≡ 0
-
--- where the table can't hold all steps, which of them it holds is open, but not all have words
+-- a word for each step that is asked, and the table as far as it may have items: a step that stands past it has no word
 pub record PacksSteps (entries : List CharacterEntry) (s : Supplement) : Type 0 where
-  pub words : HasWords (λ n w. IsStepWord s.scalars24 (step_items entries) (step_in entries n) w) s.table
-  pub items : length s.scalars24 ≡ min step_limit (step_items entries)
-  pub full : step_limit < step_items entries → LacksStep entries s.table
+  pub words : HasWords (λ n w. w ≡ word_of_step (step_lists entries) (step_in entries n)) s.table
+  pub items : s.scalars24 ≡ take step_limit (items_of false (step_lists entries))

@@ -1,7 +1,6 @@
 -- Where lists that no word spells stand in the tables.
-use Rattle.std.specs.Prelude.{◌≡◌, ℕ, ◌+◌, ◌-◌, ◌*◌, ◌<◌, ◌≤◌, Bool, true, false, ◌&&◌, nat_lt, nat_le, List, [], ◌∷◌, ◌++◌, length, drop, Some, if◌then◌else◌, Option, filter_map, None}
-use Rattle.std.specs.List.{list_all, list_any}
-use Rattle.normalizer_tables.specs.Characters.{items_at}
+use Rattle.std.specs.Prelude.{ℕ, ◌+◌, ◌-◌, ◌*◌, ◌<◌, ◌≤◌, Bool, true, false, not, ◌&&◌, nat_lt, nat_le, List, [], ◌∷◌, ◌++◌, length, drop, filter, if◌then◌else◌, Option, None, filter_map}
+use Rattle.std.specs.List.{before_first, concat, list_all, list_any}
 use Rattle.normalizer_tables.specs.Conditions.{item_count}
 use Rattle.normalizer_tables.specs.Data.{Lists}
 use Rattle.normalizer_packing.specs.declared.entry.Kind.{Kind}
@@ -9,11 +8,6 @@ use Rattle.normalizer_packing.specs.declared.entry.Kind.TheVariants.{Canonical, 
 use Rattle.normalizer_packing.specs.declared.spelling.Spelling.TheVariants.{Final, Short, Listed}
 use Rattle.normalizer_packing.specs.Entries.{CharacterEntry, class_in, own_list}
 use Rattle.normalizer_packing.specs.Spelling.{list_eq, spelling}
-
--- the tables of canonical data, and those of the lists that only other data need
-pub record Tables : Type 0 where
-  pub canonical : Lists
-  pub supplementary : Lists
 
 -- the list stands in a table of 16-bit numbers
 unfoldable pub is_narrow : List ℕ → Bool
@@ -38,36 +32,56 @@ listed_in entries kind = filter_map (listed_of (class_in entries) kind) entries
 unfoldable pub is_among : List ℕ → List (List ℕ) → Bool
 is_among x lists = list_any (list_eq x) lists
 
--- how many items lists take of which an equal one is stored once, behind those that are stored
-unfoldable pub items_behind : List (List ℕ) → List (List ℕ) → ℕ
-items_behind stored [] = 0
-items_behind stored (x ∷ lists) = (if is_among x stored then 0 else length x) + items_behind (stored ++ x ∷ []) lists
+-- the lists in the order in which they first come, an equal one once
+unfoldable pub first_come : List (List ℕ) → List (List ℕ)
+first_come [] = []
+first_come (x ∷ lists) = x ∷ filter (λ y. not (list_eq y x)) (first_come lists)
 
--- how many items the lists of canonical data take, and those that only the other two kinds need
-unfoldable pub canonical_items : List CharacterEntry → ℕ
-canonical_items entries = items_behind [] (listed_in entries Canonical)
+-- the lists but for those that stand among the ones before
+unfoldable pub apart_from : List (List ℕ) → List (List ℕ) → List (List ℕ)
+apart_from before lists = filter (λ x. not (is_among x before)) lists
 
-unfoldable pub supplementary_items : List CharacterEntry → ℕ
-supplementary_items entries = items_behind (listed_in entries Canonical) (listed_in entries Compatibility ++ listed_in entries Mapper)
+-- the lists of canonical data, and those that only the other kinds need, of compatibility data first: in the order in which
+-- characters first need them
+unfoldable pub canonical_lists : List CharacterEntry → List (List ℕ)
+canonical_lists entries = first_come (listed_in entries Canonical)
 
--- all of them together
+unfoldable pub supplementary_lists : List CharacterEntry → List (List ℕ)
+supplementary_lists entries =
+    apart_from (listed_in entries Canonical) (first_come (listed_in entries Compatibility ++ listed_in entries Mapper))
+
+-- the list stands in this one of two tables: of 16-bit numbers, or of characters
+abbrev pub stands_in : Bool → List ℕ → Bool
+stands_in true x = is_narrow x
+stands_in false x = not (is_narrow x)
+
+-- the items of one table, where the lists stand one after another
+unfoldable pub items_of : Bool → List (List ℕ) → List ℕ
+items_of narrow lists = concat (filter (stands_in narrow) lists)
+
+abbrev pub tables_of : List (List ℕ) → Lists
+tables_of lists = record { scalars16 = items_of true lists; scalars24 = items_of false lists }
+
+-- the place of a list in its table: behind the items of the lists before it
+unfoldable pub place_of : List (List ℕ) → List ℕ → ℕ
+place_of lists x = length (items_of (is_narrow x) (before_first (list_eq x) lists))
+
+-- how many items the tables have together
 abbrev pub needed_items : List CharacterEntry → ℕ
-needed_items entries = canonical_items entries + supplementary_items entries
+needed_items entries = item_count (tables_of (canonical_lists entries)) + item_count (tables_of (supplementary_lists entries))
 
--- the place of the list in its table of the two
-unfoldable pub StandsAt : Lists → List ℕ → ℕ → Type 0
-StandsAt t x place = items_at (if is_narrow x then t.scalars16 else t.scalars24) place (length x) ≡ Some x
-
--- the item of a place, where the two tables are put one after the other
+-- the item of a place of a list, where the two tables are put one after the other
 unfoldable pub item_at : Lists → List ℕ → ℕ → ℕ
 item_at t x place = if is_narrow x then place else length t.scalars16 + place
 
--- the list stands from an item on of the four tables, put one after another: in the first two if canonical data need it
-unfoldable pub StandsFrom : List CharacterEntry → Tables → List ℕ → ℕ → Type 0
-StandsFrom entries t x item = elim (is_among x (listed_in entries Canonical)) as (λ _. Type 0) [
-  | true ↦ (place : ℕ) × StandsAt t.canonical x place × (item ≡ item_at t.canonical x place)
-  | false ↦ (place : ℕ) × StandsAt t.supplementary x place × (item ≡ item_count t.canonical + item_at t.supplementary x place)
-]
+abbrev pub item_in : List (List ℕ) → List ℕ → ℕ
+item_in lists x = item_at (tables_of lists) x (place_of lists x)
+
+-- the item from which on a list stands in the four tables, put one after another
+unfoldable pub item_of : List CharacterEntry → List ℕ → ℕ
+item_of entries x =
+    if is_among x (canonical_lists entries) then item_in (canonical_lists entries) x
+    else item_count (tables_of (canonical_lists entries)) + item_in (supplementary_lists entries) x
 
 -- all members after the first are marks, and there are some
 unfoldable pub has_marks_behind : (ℕ → ℕ) → List ℕ → Bool

@@ -1,11 +1,17 @@
-//! The law of packed data. Its function does nothing: its contract is the law, and its proof stands in `proofs/`.
-ghost use Rattle.std.specs.Prelude.{List};
+//! The laws of packed data. Their functions do nothing: the contract of each is the law, and its proof stands in `proofs/`.
+ghost use Rattle.std.specs.Prelude.{◌≡◌, List};
 ghost use Rattle.normalizer_tables.specs.Pairs.{Pair};
 ghost use Rattle.normalizer_packing.specs.declared.Packed.{Packed};
 ghost use Rattle.normalizer_packing.specs.declared.entry.Kind.{Kind};
 ghost use Rattle.normalizer_packing.specs.Entries.{CharacterEntry};
 ghost use Rattle.normalizer_packing.specs.Packing.{ArePackable, Packs};
 ghost use Rattle.normalizer_packing.specs.ReadBack.{AreReadable, ReadsBack, characters_of};
+
+/// Packing is a function: all data that pack the same entries and pairs are equal.
+pub fn packed_data_are_one()
+    ensures { (entries : List CharacterEntry) (pairs : List Pair) (p q : Packed) →
+        Packs entries pairs p → Packs entries pairs q → p ≡ q }
+{}
 
 /// Packed data read to what the entries say of every character: its list and, where a word can tell it, its class.
 pub fn packed_data_read_back()

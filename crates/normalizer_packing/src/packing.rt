@@ -1,7 +1,7 @@
 //! Packs entries and pairs into normalization data.
 ghost use Rattle.std.specs.Prelude.{◌≡◌, ◌<◌, IfOk, IsErrOf};
 ghost use Rattle.normalizer_tables.specs.Conditions.{item_limit};
-ghost use Rattle.normalizer_packing.specs.PackedWords.{CanPoint, packed_tables};
+ghost use Rattle.normalizer_packing.specs.PackedWords.{CanPoint};
 ghost use Rattle.normalizer_packing.specs.Packing.{ArePackable, Packs, PacksKind};
 ghost use Rattle.normalizer_packing.specs.Stored.{needed_items};
 
@@ -80,7 +80,7 @@ fn data_of<'a, 'e>(
     kind: Kind,
 ) -> Result<DecompositionData, AllocError>
     requires { CanPoint entries.now stores.now }
-    ensures { IfOk result (PacksKind kind entries.now compositions.now (packed_tables stores.now)) }
+    ensures { IfOk result (PacksKind kind entries.now compositions.now) }
 {
     let words = PackedWords {
         entries,

@@ -1,9 +1,9 @@
 //! The supplement: one step of decomposition, where the word of canonical data doesn't tell it.
 ghost use Rattle.std.specs.Prelude.{◌≡◌, true, false, [], ◌∷◌, Some, IfOk, if◌then◌else◌, nat_le};
-ghost use Rattle.normalizer_packing.specs.Entries.{AreRising, class_in, entry_of};
-ghost use Rattle.normalizer_packing.specs.Stored.{is_among};
-ghost use Rattle.normalizer_packing.specs.StepWords.{AreWide, HoldsWide, IsPlacedStep, IsWordOfStep};
-ghost use Rattle.normalizer_packing.specs.Steps.{are_narrow, asked_step, asks_supplement, step_in, stored_step, stored_steps, PacksSteps};
+ghost use Rattle.normalizer_packing.specs.Entries.{class_in, entry_of};
+ghost use Rattle.normalizer_packing.specs.Stored.{first_come, is_among, place_of};
+ghost use Rattle.normalizer_packing.specs.Stores.{Holds};
+ghost use Rattle.normalizer_packing.specs.Steps.{are_narrow, asked_step, asks_supplement, step_in, step_lists, stored_step, stored_steps, word_of_place, word_of_step, PacksSteps};
 
 use crate::entries::Entries;
 use crate::entry::{Entry, Mapping};
@@ -83,8 +83,7 @@ fn stored_steps(alloc: Global, entries: &Entries<'_>) -> Result<Vec<[char; 2]>, 
 
 /// The store of lists of two, an equal one once.
 fn store_of<'s>(alloc: Global, steps: &'s [[char; 2]]) -> Result<Store<'s>, AllocError>
-    requires { AreWide steps.now }
-    ensures { IfOk result (HoldsWide steps.now) }
+    ensures { IfOk result (Holds (first_come steps.now)) }
 {
     let mut store = Store::new(alloc);
     for step in steps {
@@ -107,9 +106,9 @@ struct StepWords<'a, 'e, 's> {
 }
 
 impl Words for StepWords<'_, '_, '_> {
-    ghost is_ready = { λ w. HoldsWide (stored_steps w.entries.now) w.store };
+    ghost is_ready = { λ w. Holds (step_lists w.entries.now) w.store };
 
-    ghost is_word = { λ w n. IsWordOfStep w.store (step_in w.entries.now n) };
+    ghost is_word = { λ w n v. v ≡ word_of_step (step_lists w.entries.now) (step_in w.entries.now n) };
 
     fn word_of(&self, number: u32) -> u32 {
         match char::from_u32(number) {
@@ -120,10 +119,10 @@ impl Words for StepWords<'_, '_, '_> {
 }
 
 impl StepWords<'_, '_, '_> {
-    #[tactic(auto, unfolding(crate::specs::Steps::step_in))]
+    #[tactic(auto, unfolding(crate::specs::Steps::step_in, crate::specs::Steps::word_of_step))]
     fn word_of_character(&self, character: char) -> u32
-        requires { HoldsWide (stored_steps self.now.entries.now) self.now.store }
-        ensures { IsWordOfStep self.now.store (step_in self.now.entries.now character) result }
+        requires { Holds (step_lists self.now.entries.now) self.now.store }
+        ensures { result ≡ word_of_step (step_lists self.now.entries.now) (step_in self.now.entries.now character) }
     {
         match self.entries.entry_of(character) {
             Some(entry) => self.word_of_entry(entry),
@@ -131,10 +130,11 @@ impl StepWords<'_, '_, '_> {
         }
     }
 
+    #[tactic(auto, unfolding(crate::specs::Steps::word_of_step))]
     fn word_of_entry(&self, entry: &Entry) -> u32
-        requires ready { HoldsWide (stored_steps self.now.entries.now) self.now.store }
+        requires ready { Holds (step_lists self.now.entries.now) self.now.store }
         requires held { entry_of self.now.entries.now entry.now.character ≡ Some entry.now }
-        ensures { IsWordOfStep self.now.store (asked_step self.now.entries.now entry.now) result }
+        ensures { result ≡ word_of_step (step_lists self.now.entries.now) (asked_step self.now.entries.now entry.now) }
     {
         match asked_step(self.entries, entry) {
             Some(Mapping::One(character)) => word_of_one(character),
@@ -144,10 +144,11 @@ impl StepWords<'_, '_, '_> {
     }
 
     /// The word of a step to two characters.
+    #[tactic(auto, unfolding(crate::specs::Steps::word_of_step))]
     fn word_of_two(&self, first: char, second: char) -> u32
-        requires ready { HoldsWide (stored_steps self.now.entries.now) self.now.store }
-        requires stored { are_narrow first second ≡ false → is_among (first ∷ second ∷ []) (stored_steps self.now.entries.now) ≡ true }
-        ensures { IsWordOfStep self.now.store (Some (Mapping.Two first second)) result }
+        requires ready { Holds (step_lists self.now.entries.now) self.now.store }
+        requires stored { are_narrow first second ≡ false → is_among (first ∷ second ∷ []) (step_lists self.now.entries.now) ≡ true }
+        ensures { result ≡ word_of_step (step_lists self.now.entries.now) (Some (Mapping.Two first second)) }
     {
         if are_narrow(first, second) {
             first as u32 + second as u32 * 0x10000
@@ -158,10 +159,9 @@ impl StepWords<'_, '_, '_> {
 
     /// The word that points to a step in the table, or none where it stands past what the table may have.
     fn word_of_stored(&self, first: char, second: char) -> u32
-        requires ready { HoldsWide (stored_steps self.now.entries.now) self.now.store }
-        requires stored { is_among (first ∷ second ∷ []) (stored_steps self.now.entries.now) ≡ true }
-        requires wide { are_narrow first second ≡ false }
-        ensures { IsPlacedStep self.now.store first second result }
+        requires ready { Holds (step_lists self.now.entries.now) self.now.store }
+        requires stored { is_among (first ∷ second ∷ []) (step_lists self.now.entries.now) ≡ true }
+        ensures { result ≡ word_of_place (place_of (step_lists self.now.entries.now) (first ∷ second ∷ [])) }
     {
         match self.store.place_of(&[first, second]) {
             Some(place) => {
@@ -192,7 +192,6 @@ pub fn supplement_of(
     alloc: Global,
     entries: &Entries<'_>,
 ) -> Result<NonRecursiveDecompositionSupplement, AllocError>
-    requires { AreRising entries.now }
     ensures { IfOk result (PacksSteps entries.now) }
 {
     let steps = stored_steps(alloc, entries)?;
@@ -200,13 +199,13 @@ pub fn supplement_of(
 }
 
 /// The supplement with these steps in its table.
+#[tactic(auto, unfolding(crate::specs::Steps::step_lists))]
 fn supplement_with(
     alloc: Global,
     entries: &Entries<'_>,
     steps: &[[char; 2]],
 ) -> Result<NonRecursiveDecompositionSupplement, AllocError>
-    requires rising { AreRising entries.now }
-    requires steps { steps.now ≡ stored_steps entries.now }
+    requires { steps.now ≡ stored_steps entries.now }
     ensures { IfOk result (PacksSteps entries.now) }
 {
     let store = store_of(alloc, steps)?;
@@ -218,8 +217,7 @@ fn supplement_in(
     alloc: Global,
     words: StepWords<'_, '_, '_>,
 ) -> Result<NonRecursiveDecompositionSupplement, AllocError>
-    requires rising { AreRising words.entries.now }
-    requires ready { HoldsWide (stored_steps words.entries.now) words.store }
+    requires { Holds (step_lists words.entries.now) words.store }
     ensures { IfOk result (PacksSteps words.entry.entries.now) }
 {
     let table = table_of(alloc, &words)?;

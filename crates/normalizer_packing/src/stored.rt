@@ -1,10 +1,10 @@
 //! Tables of the lists that no word spells.
-ghost use Rattle.std.specs.Prelude.{◌≡◌, ℕ, List, ◌++◌, nat_le, [], ◌∷◌, true, false, OnOk, IfOk, length, option_copied};
+ghost use Rattle.std.specs.Prelude.{◌≡◌, ◌++◌, nat_le, [], ◌∷◌, true, OnOk, IfOk, length, option_copied};
 ghost use Rattle.std.specs.List.{list_all};
 ghost use Rattle.normalizer_tables.specs.Conditions.{item_count};
 ghost use Rattle.normalizer_packing.specs.Entries.{class_in};
-ghost use Rattle.normalizer_packing.specs.Stored.{is_narrow, item_at, listed_in, listed_of, StandsAt};
-ghost use Rattle.normalizer_packing.specs.Stores.{place_in, tables_in, HoldsLists, HoldsMore, IsStoreOf, IsThereOrLast};
+ghost use Rattle.normalizer_packing.specs.Stored.{is_narrow, item_at, listed_in, listed_of};
+ghost use Rattle.normalizer_packing.specs.Stores.{place_in, tables_in, Holds, HoldsLists, HoldsMore, StandsAt};
 
 use crate::entries::Entries;
 use crate::entry::{Entry, Kind};
@@ -23,8 +23,7 @@ pub struct Store<'a> {
 
 impl<'a> Store<'a> {
     pub fn new(alloc: Global) -> Self
-        ensures holds { (before : List (List ℕ)) → IsStoreOf before [] result }
-        ensures narrow { result.scalars16.items ≡ [] }
+        ensures { Holds [] result }
     {
         Store {
             scalars16: Vec::new(alloc),
@@ -56,9 +55,7 @@ impl<'a> Store<'a> {
 
     /// Puts a list behind the others of its table, if it doesn't stand there.
     pub fn put(&mut self, list: &'a [char]) -> Result<(), AllocError>
-        ensures holds { OnOk result (HoldsMore self.old list.now self.new) }
-        ensures narrow { is_narrow list.now ≡ false → OnOk result (self.new.scalars16.items ≡ self.old.scalars16.items) }
-        ensures last { is_narrow list.now ≡ false → OnOk result (IsThereOrLast self.old list.now self.new) }
+        ensures { OnOk result (HoldsMore self.old list.now self.new) }
     {
         if self.place_of(list).is_some() {
             return Ok(());

@@ -1,9 +1,9 @@
 //! The words of one kind of data.
 ghost use Rattle.std.specs.Prelude.{◌≡◌, ◌<◌, ◌≤◌, true, IsSome};
 ghost use Rattle.normalizer_tables.specs.Conditions.{item_limit};
-ghost use Rattle.normalizer_packing.specs.PackedWords.{CanPoint, packed_tables};
+ghost use Rattle.normalizer_packing.specs.PackedWords.{CanPoint};
 ghost use Rattle.normalizer_packing.specs.Packing.{IsPackedWord};
-ghost use Rattle.normalizer_packing.specs.Stored.{StandsFrom, is_among, listed_in};
+ghost use Rattle.normalizer_packing.specs.Stored.{is_among, item_of, listed_in};
 
 use crate::entries::Entries;
 use crate::entry::Kind;
@@ -29,7 +29,7 @@ const SURROGATE_WORD: u32 = 0xC000_FFFD;
 impl Words for PackedWords<'_, '_> {
     ghost is_ready = { λ w. CanPoint w.entries.now w.stores.now };
 
-    ghost is_word = { λ w. IsPackedWord w.kind w.entries.now w.compositions.now (packed_tables w.stores.now) };
+    ghost is_word = { λ w. IsPackedWord w.kind w.entries.now w.compositions.now };
 
     fn word_of(&self, number: u32) -> u32 {
         match char::from_u32(number) {
@@ -43,7 +43,7 @@ impl PackedWords<'_, '_> {
     #[tactic(auto, using(crate::proofs::WordLemmas::final_packs, crate::proofs::WordLemmas::short_packs, crate::proofs::WordLemmas::listed_packs), unfolding(crate::specs::Entries::kept_list))]
     fn word_of_character(&self, character: char) -> u32
         requires { CanPoint self.now.entries.now self.now.stores.now }
-        ensures { IsPackedWord self.now.kind self.now.entries.now self.now.compositions.now (packed_tables self.now.stores.now) character result }
+        ensures { IsPackedWord self.now.kind self.now.entries.now self.now.compositions.now character result }
     {
         let alone = [character];
         let list = self.entries.list_of(self.kind, character, &alone);
@@ -65,7 +65,7 @@ impl PackedWords<'_, '_> {
         requires ready { CanPoint self.now.entries.now self.now.stores.now }
         requires listed { is_among list.now (listed_in self.now.entries.now self.now.kind) ≡ true }
         ensures within { result < 0xFFF }
-        ensures stands { StandsFrom self.now.entries.now (packed_tables self.now.stores.now) list.now result }
+        ensures item { result ≡ item_of self.now.entries.now list.now }
     {
         let canonical = &self.stores.canonical;
         let supplementary = &self.stores.supplementary;

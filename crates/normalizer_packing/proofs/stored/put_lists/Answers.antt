@@ -1,6 +1,7 @@
 use Rattle.std.proofs.Common.{◌++◌, List, ℕ, subst, sym, append_assoc}
 use Rattle.std.proofs.lemmas.List.{append-nil}
-use Rattle.normalizer_packing.specs.Stores.{Holds, place_in, tables_in}
+use Rattle.normalizer_packing.specs.Stored.{apart_from, first_come}
+use Rattle.normalizer_packing.specs.Stores.{Holds}
 use Rattle.normalizer_packing.proofs.StoreLemmas.{listed_so_far, listed_so_far-none, listed_so_far-some, listed_so_far-other, listed_so_far-all}
 use Rattle.normalizer_packing.proofs.stored.put_lists.Goals as goal
 use Rattle.normalizer_packing.proofs.stored.put_lists.Goals.{in-Some+in_ok-put_behind, in_default}
@@ -15,7 +16,7 @@ loop-entry-preserved c = λ before lists first h.
       | in-Some+in_ok-put_behind w ↦
           let more = w.in_ok-put_behind.ensures before (lists ++ listed_so_far c.args.kind c.args.entries.now c.loop-entry.entry-index) first so_far in
           let some = listed_so_far-some c.args.kind c.args.entries.now _ c.loop-entry.entry-index c.as_slice-entry-items.ensures c.entry-item.result w.in-Some.list.now c.loop-entry-test.true c.entry-item.is (sym w.in-Some.ensures) in
-          rw (w.store-is, some) (subst (λ (l : List (List ℕ)). Holds before l (tables_in w.put_behind.new.store) (place_in w.put_behind.new.store)) (append_assoc lists _ _) more)
+          rw (w.store-is, some) (subst (λ (l : List (List ℕ)). Holds (apart_from before (first_come l)) w.put_behind.new.store) (append_assoc lists _ _) more)
       | in_default w ↦
           let other = listed_so_far-other c.args.kind c.args.entries.now _ c.loop-entry.entry-index c.as_slice-entry-items.ensures c.entry-item.result c.loop-entry-test.true c.entry-item.is (sym w.in_default.ensures) in
           rw (w.store-is, other) so_far
@@ -24,4 +25,4 @@ loop-entry-preserved c = λ before lists first h.
 pub returns : goal.returns
 returns c = λ before lists first h.
     let all = listed_so_far-all c.args.kind c.args.entries.now _ c.loop-entry.entry-index c.as_slice-entry-items.ensures c.loop-entry-test.false in
-    subst (λ (l : List (List ℕ)). Holds before (lists ++ l) (tables_in c.loop-entry.store) (place_in c.loop-entry.store)) all (c.loop-entry.invariant before lists first h)
+    subst (λ (l : List (List ℕ)). Holds (apart_from before (first_come (lists ++ l))) c.loop-entry.store) all (c.loop-entry.invariant before lists first h)

@@ -1,12 +1,15 @@
-use Rattle.std.proofs.Common.{[]}
+use Rattle.std.proofs.Common.{◌≡◌, ◌++◌, ℕ, List, [], subst, ap, ◌∙◌, refl}
 use Rattle.normalizer_packing.specs.declared.entry.Kind.TheVariants.{Canonical, Compatibility}
-use Rattle.normalizer_packing.specs.Stored.{listed_in}
+use Rattle.normalizer_packing.specs.Stored.{apart_from, canonical_lists, first_come, listed_in, supplementary_lists}
+use Rattle.normalizer_packing.specs.Stores.{Holds}
+use Rattle.normalizer_packing.proofs.TableLemmas.{apart_from-none}
 use Rattle.normalizer_packing.proofs.stores.filled.Goals as goal
 
 pub returns : goal.returns
+unfolding canonical_lists supplementary_lists first_come apart_from
 returns c =
     let canonical = listed_in c.args.entries.now Canonical in
-    let first = c.in_ok-put_lists.ensures [] [] (c.new-nothing.ensures.holds []) (c.new-canonical.ensures.holds []) in
-    let second = c.in_ok-put_lists-2.ensures canonical [] first (c.new-supplementary.ensures.holds canonical) in
+    let first = subst (λ (l : List (List ℕ)). Holds l c.put_lists.new.store) (apart_from-none (first_come canonical)) (c.in_ok-put_lists.ensures [] [] c.new-nothing.ensures c.new-canonical.ensures) in
+    let second = c.in_ok-put_lists-2.ensures canonical [] first c.new-supplementary.ensures in
     let third = c.in_ok-put_lists-3.ensures canonical (listed_in c.args.entries.now Compatibility) first second in
     record { canonical = first; supplementary = third }
