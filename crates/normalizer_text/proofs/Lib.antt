@@ -10,5 +10,6 @@ pub mod ScalarLemmas
 pub mod SequenceLemmas
 pub mod StdLemmas
 pub mod StepLemmas
+pub mod SubpartLemmas
 pub mod Utf16Lemmas
 pub mod Utf8Lemmas

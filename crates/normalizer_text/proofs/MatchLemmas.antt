@@ -2,15 +2,7 @@
 use Rattle.std.proofs.Common.{◌≡◌, ℕ, zero, suc, ◌<◌, ◌≤◌, true, false, List, [], ◌∷◌, ◌++◌, length, take, get_or, arith, refl, ap, sym, ◌∙◌, ⊎_elim}
 use Rattle.std.proofs.lemmas.Bool.{false≢true, cases_Bool, and_parts, leb-true}
 use Rattle.normalizer_text.specs.Utf8.{ByteRange, continuation, allows, matched}
-
-abbrev pub IsWithin : ByteRange → ℕ → Type 0
-IsWithin r b = (r.least ≤ b) × (b ≤ r.greatest)
-
--- each byte stands at its place
-abbrev pub AreWithin : List ByteRange → List ℕ → Type 0
-AreWithin [] [] = Unit {0}
-AreWithin (r ∷ rs) (b ∷ bs) = IsWithin r b × AreWithin rs bs
-AreWithin _ _ = ⊥
+use Rattle.normalizer_text.specs.MaximalSubparts.{IsWithin, AreWithin}
 
 pub allows-true : (r : ByteRange) (b : ℕ) → allows r b ≡ true → IsWithin r b
 allows-true r b e = let k = and_parts _ _ e in (leb-true _ _ k.0, leb-true _ _ k.1)

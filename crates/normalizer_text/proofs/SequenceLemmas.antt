@@ -11,7 +11,7 @@ use Rattle.std.proofs.lemmas.List.Elements.{All-nil, All-cons, All-head, All-tai
 use Rattle.normalizer_text.specs.Steps.{read, IsWellFormed, IsBoundary}
 use Rattle.normalizer_text.specs.Utf8.{ByteRange, range, Row, row, row_of, continuation, allows, matched, scalar_value, first_by_row, first_of_utf8, decoded_utf8}
 use Rattle.normalizer_text.specs.Sequences.{IsSequence}
-use Rattle.normalizer_text.proofs.MatchLemmas.{IsWithin, AreWithin}
+use Rattle.normalizer_text.specs.MaximalSubparts.{IsWithin, AreWithin}
 use Rattle.normalizer_text.proofs.RowLemmas.{IsSequence-row, by_row-whole}
 use Rattle.normalizer_text.proofs.BoundaryLemmas.{boundary-le, boundary-well_formed, well_formed-parts}
 use Rattle.normalizer_text.proofs.EncodingLemmas.{IsEncoding, DecodesBack, DecodesBack-text, all-decoded}
@@ -25,35 +25,35 @@ pub row-ascii : (b : ℕ) → b ≤ 0x7F → row_of b ≡ Some (row (range 0x00 
 unfolding row_of
 row-ascii b h = grind (arith, nat_tests)
 
-row-two : (b : ℕ) → 0xC2 ≤ b → b ≤ 0xDF → row_of b ≡ Some (row (range 0xC2 0xDF) (continuation ∷ []))
+pub row-two : (b : ℕ) → 0xC2 ≤ b → b ≤ 0xDF → row_of b ≡ Some (row (range 0xC2 0xDF) (continuation ∷ []))
 unfolding row_of
 row-two b h l = grind (arith, nat_tests)
 
-row-E0 : (b : ℕ) → b ≡ 0xE0 → row_of b ≡ Some (row (range 0xE0 0xE0) (range 0xA0 0xBF ∷ continuation ∷ []))
+pub row-E0 : (b : ℕ) → b ≡ 0xE0 → row_of b ≡ Some (row (range 0xE0 0xE0) (range 0xA0 0xBF ∷ continuation ∷ []))
 unfolding row_of
 row-E0 b h = grind (arith, nat_tests)
 
-row-E1 : (b : ℕ) → 0xE1 ≤ b → b ≤ 0xEC → row_of b ≡ Some (row (range 0xE1 0xEC) (continuation ∷ continuation ∷ []))
+pub row-E1 : (b : ℕ) → 0xE1 ≤ b → b ≤ 0xEC → row_of b ≡ Some (row (range 0xE1 0xEC) (continuation ∷ continuation ∷ []))
 unfolding row_of
 row-E1 b h l = grind (arith, nat_tests)
 
-row-ED : (b : ℕ) → b ≡ 0xED → row_of b ≡ Some (row (range 0xED 0xED) (range 0x80 0x9F ∷ continuation ∷ []))
+pub row-ED : (b : ℕ) → b ≡ 0xED → row_of b ≡ Some (row (range 0xED 0xED) (range 0x80 0x9F ∷ continuation ∷ []))
 unfolding row_of
 row-ED b h = grind (arith, nat_tests)
 
-row-EE : (b : ℕ) → 0xEE ≤ b → b ≤ 0xEF → row_of b ≡ Some (row (range 0xEE 0xEF) (continuation ∷ continuation ∷ []))
+pub row-EE : (b : ℕ) → 0xEE ≤ b → b ≤ 0xEF → row_of b ≡ Some (row (range 0xEE 0xEF) (continuation ∷ continuation ∷ []))
 unfolding row_of
 row-EE b h l = grind (arith, nat_tests)
 
-row-F0 : (b : ℕ) → b ≡ 0xF0 → row_of b ≡ Some (row (range 0xF0 0xF0) (range 0x90 0xBF ∷ continuation ∷ continuation ∷ []))
+pub row-F0 : (b : ℕ) → b ≡ 0xF0 → row_of b ≡ Some (row (range 0xF0 0xF0) (range 0x90 0xBF ∷ continuation ∷ continuation ∷ []))
 unfolding row_of
 row-F0 b h = grind (arith, nat_tests)
 
-row-F1 : (b : ℕ) → 0xF1 ≤ b → b ≤ 0xF3 → row_of b ≡ Some (row (range 0xF1 0xF3) (continuation ∷ continuation ∷ continuation ∷ []))
+pub row-F1 : (b : ℕ) → 0xF1 ≤ b → b ≤ 0xF3 → row_of b ≡ Some (row (range 0xF1 0xF3) (continuation ∷ continuation ∷ continuation ∷ []))
 unfolding row_of
 row-F1 b h l = grind (arith, nat_tests)
 
-row-F4 : (b : ℕ) → b ≡ 0xF4 → row_of b ≡ Some (row (range 0xF4 0xF4) (range 0x80 0x8F ∷ continuation ∷ continuation ∷ []))
+pub row-F4 : (b : ℕ) → b ≡ 0xF4 → row_of b ≡ Some (row (range 0xF4 0xF4) (range 0x80 0x8F ∷ continuation ∷ continuation ∷ []))
 unfolding row_of
 row-F4 b h = grind (arith, nat_tests)
 
@@ -87,10 +87,10 @@ HasRow-sequence b (c ∷ d ∷ e ∷ []) s = ⊎_elim
     (cases_eq b 0xF0)
 HasRow-sequence b (c ∷ d ∷ e ∷ f ∷ bs) s = absurd s
 
-allows_from : (r : ByteRange) (b : ℕ) → IsWithin r b → allows r b ≡ true
+pub allows_from : (r : ByteRange) (b : ℕ) → IsWithin r b → allows r b ≡ true
 allows_from r b h = and_from _ _ (le-leb r.least b h.0) (le-leb b r.greatest h.1)
 
-matched-AreWithin : (rs : List ByteRange) (bs more : List ℕ) → AreWithin rs bs → (matched rs (bs ++ more) ≡ length rs) × (length bs ≡ length rs)
+pub matched-AreWithin : (rs : List ByteRange) (bs more : List ℕ) → AreWithin rs bs → (matched rs (bs ++ more) ≡ length rs) × (length bs ≡ length rs)
 matched-AreWithin [] [] more h = (refl, refl)
 matched-AreWithin [] (b ∷ bs) more h = absurd h
 matched-AreWithin (r ∷ rs) [] more h = absurd h

@@ -15,7 +15,8 @@ use Rattle.normalizer_text.specs.declared.step.Step.{Step}
 use Rattle.normalizer_text.specs.Steps.{steps, width_of, IsWellFormed}
 use Rattle.normalizer_text.specs.Utf8.{range, Row, row_of, well_formed_sequences, continuation, allows, matched, first_of_utf8, decoded_utf8}
 use Rattle.normalizer_text.specs.Utf16.{is_high, is_low, pair_value, unpaired, first_of_utf16, decoded_utf16}
-use Rattle.normalizer_text.proofs.MatchLemmas.{IsWithin, allows-true}
+use Rattle.normalizer_text.proofs.MatchLemmas.{allows-true}
+use Rattle.normalizer_text.specs.MaximalSubparts.{IsWithin}
 use Rattle.normalizer_text.proofs.RowLemmas.{Each, find-Each}
 use Rattle.normalizer_text.proofs.StepLemmas.{IsRight, steps-nil, decoded-nil, steps-some, decoded-some, steps-append, steps-apart}
 use Rattle.normalizer_text.proofs.BoundaryLemmas.{width_of-steps, width_of-append}

@@ -1,5 +1,6 @@
 pub mod Backwards
 pub mod Encodings
+pub mod MaximalSubparts
 pub mod Outputs
 pub mod Sequences
 pub mod Sinks

@@ -11,6 +11,7 @@ ghost use Rattle.normalizer_text.specs.declared.step.Step.{Step};
 ghost use Rattle.normalizer_text.specs.Encodings.{Encoding, first_in, encoded_in, decoded_in, trails_in};
 ghost use Rattle.normalizer_text.specs.Steps.{read, steps, width_of, Decodes, IsWellFormed, IsBoundary, TakenFrom};
 ghost use Rattle.normalizer_text.specs.Utf8.{first_of_utf8, decoded_utf8};
+ghost use Rattle.normalizer_text.specs.MaximalSubparts.{IsStepOfUtf8};
 ghost use Rattle.normalizer_text.specs.Utf16.{first_of_utf16, decoded_utf16};
 
 /// Units decode to exactly one text, whose characters are scalar values, by steps that take all of the units.
@@ -73,6 +74,13 @@ pub fn low_units_begin_low_characters()
 pub fn decodes_from_both_ends()
     ensures { (e : Encoding) (units x rest y : List ℕ) → TakenFrom (first_in e) units x rest y →
         decoded_in e units ≡ x ++ decoded_in e rest ++ y }
+{}
+
+/// The step in front of bytes is the one that the standard names, and no other is: the character of the well-formed
+/// sequence that stands there, or where none does, U+FFFD for the longest beginning of one, or else for the one byte.
+pub fn utf8_steps_are_the_standards()
+    ensures is { (bytes : List ℕ) → 0 < length bytes → IsStepOfUtf8 bytes (first_of_utf8 bytes) }
+    ensures only { (bytes : List ℕ) (s : Step) → 0 < length bytes → IsStepOfUtf8 bytes s → s ≡ first_of_utf8 bytes }
 {}
 
 /// The well-formed units are the encodings of texts, each of the text that it decodes to.
