@@ -5,6 +5,7 @@ use Rattle.std.proofs.lemmas.List.{drop-drop, take_all, drop_all, append-nil, ma
 use Rattle.std.proofs.lemmas.Bool.{false_from_ne_true, cases_lt, cases_eq, true≢false}
 use Rattle.normalizer_text.specs.declared.step.Step.{Step}
 use Rattle.normalizer_text.specs.Steps.{steps, decoded, replaced, IsBoundary, IsLastStep, TakesLast, TakenFrom, Spells}
+use Rattle.normalizer_text.specs.Encodings.{longest_step}
 use Rattle.normalizer_text.specs.Backwards.{IsLastStart}
 use Rattle.normalizer_text.proofs.Decoding.{IsDecoding, HasTrails}
 use Rattle.normalizer_text.proofs.BoundaryLemmas.{width_of-steps}
@@ -117,7 +118,7 @@ module _ (first : List ℕ → Step) (d : IsDecoding first) where
       ∙ ap (λ z. z ++ y) (sym (append_assoc x (decoded first left) (c ∷ [])))
       ∙ append_assoc (x ++ decoded first left) (c ∷ []) y
 
-module _ (first : List ℕ → Step) (d : IsDecoding first) (trails : ℕ → Bool) (most : ℕ) (t : HasTrails first trails most) where
+module _ (first : List ℕ → Step) (d : IsDecoding first) (trails : ℕ → Bool) (t : HasTrails first trails) where
   -- a step ends before each unit that can't stand after the first one of a step
   pub steps-at : (us : List ℕ) (p : ℕ) → p ≤ length us → (0 < p → p < length us → trails (get_or us p 0) ≡ false) → steps first us ≡ steps first (take p us) ++ steps first (drop p us)
   steps-at us p l h = by (length us) us p (omega arith) l h
@@ -152,9 +153,8 @@ module _ (first : List ℕ → Step) (d : IsDecoding first) (trails : ℕ → Bo
   }
 
   -- the step in front of the units from p on, where it takes all of them
-  IsLastStep-whole : (us : List ℕ) (p : ℕ) → IsLastStart trails most us p → (first (drop p us)).width ≡ length us - p → IsLastStep first us (first (drop p us))
+  IsLastStep-whole : (us : List ℕ) (p : ℕ) → IsLastStart trails us p → (first (drop p us)).width ≡ length us - p → IsLastStep first us (first (drop p us))
   IsLastStep-whole us p s e =
-      let several = t.several in
       let below = s.below in
       let rest = length-drop p us in
       let there : 0 < length (drop p us) = omega arith in
@@ -162,7 +162,7 @@ module _ (first : List ℕ → Step) (d : IsDecoding first) (trails : ℕ → Bo
       let lead : 0 < p → p < length us → trails (get_or us p 0) ≡ false = λ some _. ⊎_elim (λ low. s.at low) (λ high. false_from_ne_true (trails (get_or us p 0)) (λ trail.
       let one : first (drop p us) ≡ replaced 1 = t.alone (drop p us) there (ap trails (get_or-drop p us 0 0 ∙ ap (λ i. get_or us i 0) (plus-zero p)) ∙ trail) in
       let width = ap (λ s. s.width) one in
-      absurd (omega arith))) (cases_lt (length us - most) p) in
+      absurd (omega arith))) (cases_lt (length us - longest_step) p) in
       record {
         fits = omega arith;
         last = steps-at us p (omega arith) lead
@@ -173,7 +173,7 @@ module _ (first : List ℕ → Step) (d : IsDecoding first) (trails : ℕ → Bo
       }
 
   -- and where it doesn't: the last unit alone is an error
-  IsLastStep-alone : (us : List ℕ) (p : ℕ) → IsLastStart trails most us p → ((first (drop p us)).width ≡ length us - p → ⊥) → IsLastStep first us (replaced 1)
+  IsLastStep-alone : (us : List ℕ) (p : ℕ) → IsLastStart trails us p → ((first (drop p us)).width ≡ length us - p → ⊥) → IsLastStep first us (replaced 1)
   IsLastStep-alone us p s ne =
       let below = s.below in
       let low = s.low in
@@ -201,8 +201,8 @@ module _ (first : List ℕ → Step) (d : IsDecoding first) (trails : ℕ → Bo
       }
 
   -- the same of a step that was found there, and of the one that is then the last
-  pub IsLastStep-found : (us : List ℕ) (p n : ℕ) (s : Step) → IsLastStart trails most us p → n ≡ length us → s ≡ first (drop p us) → s.width ≡ n - p → IsLastStep first us s
+  pub IsLastStep-found : (us : List ℕ) (p n : ℕ) (s : Step) → IsLastStart trails us p → n ≡ length us → s ≡ first (drop p us) → s.width ≡ n - p → IsLastStep first us s
   IsLastStep-found us p n s l all e w = subst (IsLastStep first us) (sym e) (IsLastStep-whole us p l (sym (ap (λ s. s.width) e) ∙ w ∙ ap (λ n. n - p) all))
 
-  pub IsLastStep-other : (us : List ℕ) (p n : ℕ) (s r : Step) → IsLastStart trails most us p → n ≡ length us → s ≡ first (drop p us) → (s.width ≡ n - p → ⊥) → r ≡ replaced 1 → IsLastStep first us r
+  pub IsLastStep-other : (us : List ℕ) (p n : ℕ) (s r : Step) → IsLastStart trails us p → n ≡ length us → s ≡ first (drop p us) → (s.width ≡ n - p → ⊥) → r ≡ replaced 1 → IsLastStep first us r
   IsLastStep-other us p n s r l all e w one = subst (IsLastStep first us) (sym one) (IsLastStep-alone us p l (λ k. w (ap (λ s. s.width) e ∙ k ∙ sym (ap (λ n. n - p) all))))

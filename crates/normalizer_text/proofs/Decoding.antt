@@ -3,6 +3,7 @@ use Rattle.std.specs.Prelude.{◌≡◌, ℕ, ◌<◌, ◌≤◌, Bool, true, fa
 use Rattle.std.specs.Char.{IsScalar}
 use Rattle.normalizer_text.specs.declared.step.Step.{Step}
 use Rattle.normalizer_text.specs.Steps.{replaced}
+use Rattle.normalizer_text.specs.Encodings.{longest_step}
 
 -- what decoding from the front follows from
 pub record IsDecoding (first : List ℕ → Step) : Type 0 where
@@ -16,8 +17,7 @@ pub record IsDecoding (first : List ℕ → Step) : Type 0 where
 
 -- what decoding from the back follows from: a unit after the first one of a step is, where a step begins with it, one
 -- error; and a step takes few units
-pub record HasTrails (first : List ℕ → Step) (trails : ℕ → Bool) (most : ℕ) : Type 0 where
+pub record HasTrails (first : List ℕ → Step) (trails : ℕ → Bool) : Type 0 where
   pub inside : (us : List ℕ) (k : ℕ) → 0 < k → k < (first us).width → trails (slice_index us k) ≡ true
   pub alone : (us : List ℕ) → 0 < length us → trails (slice_index us 0) ≡ true → first us ≡ replaced 1
-  pub several : 2 ≤ most
-  pub short : (us : List ℕ) → (first us).width ≤ most
+  pub short : (us : List ℕ) → (first us).width ≤ longest_step

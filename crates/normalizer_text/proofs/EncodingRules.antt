@@ -3,7 +3,7 @@ use Rattle.std.specs.Prelude.{◌≡◌, ℕ, List, ◌++◌, All}
 use Rattle.std.specs.Char.{IsScalar, encode_utf8}
 use Rattle.std.specs.Char.Escape.{encode_utf16}
 use Rattle.normalizer_text.specs.Steps.{IsWellFormed}
-use Rattle.normalizer_text.specs.Encodings.{Encoding, first_in, encoded_in, decoded_in, trails_in, most_in}
+use Rattle.normalizer_text.specs.Encodings.{Encoding, first_in, encoded_in, decoded_in, trails_in}
 use Rattle.normalizer_text.proofs.Decoding.{IsDecoding, HasTrails}
 use Rattle.normalizer_text.proofs.Utf8Lemmas.{IsDecoding-utf8, HasTrails-utf8}
 use Rattle.normalizer_text.proofs.EncodingLemmas.{IsEncoding, DecodesBack, DecodesBack-text, all-append, all-decoded}
@@ -14,7 +14,7 @@ pub IsDecoding-first : (e : Encoding) → IsDecoding (first_in e)
 IsDecoding-first Encoding.Utf8 = IsDecoding-utf8
 IsDecoding-first Encoding.Utf16 = IsDecoding-utf16
 
-pub HasTrails-first : (e : Encoding) → HasTrails (first_in e) (trails_in e) (most_in e)
+pub HasTrails-first : (e : Encoding) → HasTrails (first_in e) (trails_in e)
 HasTrails-first Encoding.Utf8 = HasTrails-utf8
 HasTrails-first Encoding.Utf16 = HasTrails-utf16
 

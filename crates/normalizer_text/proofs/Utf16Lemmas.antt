@@ -1,5 +1,5 @@
 -- The rule of UTF-16 is a rule of decoding, and of an encoding.
-use Rattle.std.proofs.Common.{◌≡◌, ℕ, zero, suc, ◌+◌, ◌-◌, ◌/◌, ◌%◌, ◌<◌, ◌≤◌, ◌⊎◌, inl, inr, true, false, ◌&&◌, List, [], ◌∷◌, ◌++◌, length, take, get_or, arith, lit≤, refl, ap, sym, subst, ◌∙◌, ⊎_elim}
+use Rattle.std.proofs.Common.{◌≡◌, ℕ, zero, suc, ◌+◌, ◌-◌, ◌/◌, ◌%◌, ◌<◌, ◌≤◌, ◌⊎◌, inl, inr, true, false, ◌&&◌, List, [], ◌∷◌, ◌++◌, length, take, get_or, arith, refl, ap, sym, subst, ◌∙◌, ⊎_elim}
 use Rattle.std.specs.Char.{IsScalar}
 use Rattle.std.specs.Char.Escape.{encode_utf16}
 use Rattle.std.specs.Int.{is_in_range}
@@ -137,8 +137,8 @@ alone_utf16 [] h e = absurd (omega arith)
 alone_utf16 (u ∷ []) h e = alone-unpaired u e
 alone_utf16 (u ∷ v ∷ us) h e = first-unpaired u v us (and_left _ _ (low-high u e)) ∙ alone-unpaired u e
 
-pub HasTrails-utf16 : HasTrails first_of_utf16 is_low 2
-HasTrails-utf16 = record { inside = inside_utf16; alone = alone_utf16; several = lit≤ tt; short = short_utf16 }
+pub HasTrails-utf16 : HasTrails first_of_utf16 is_low
+HasTrails-utf16 = record { inside = inside_utf16; alone = alone_utf16; short = λ us. omega (arith, short_utf16 us) }
 
 -- ---- encoding
 

@@ -1,5 +1,5 @@
 -- The rule of UTF-8 is a rule of decoding.
-use Rattle.std.proofs.Common.{◌≡◌, ℕ, zero, suc, ◌<◌, ◌≤◌, ◌⊎◌, inl, inr, true, false, List, [], ◌∷◌, ◌++◌, length, take, get_or, Option, Some, None, arith, lit≤, refl, ap, sym, subst, ◌∙◌, ⊎_elim}
+use Rattle.std.proofs.Common.{◌≡◌, ℕ, zero, suc, ◌<◌, ◌≤◌, ◌⊎◌, inl, inr, true, false, List, [], ◌∷◌, ◌++◌, length, take, get_or, Option, Some, None, arith, refl, ap, sym, subst, ◌∙◌, ⊎_elim}
 use Rattle.std.specs.Char.{IsScalar}
 use Rattle.std.proofs.lemmas.List.{take-take, take-append-le}
 use Rattle.std.proofs.lemmas.Bool.{true≢false, cases_eq, and_from, le-leb}
@@ -113,5 +113,5 @@ IsDecoding-utf8 = record {
   extends = extends_utf8;
 }
 
-pub HasTrails-utf8 : HasTrails first_of_utf8 (allows continuation) 4
-HasTrails-utf8 = record { inside = inside_utf8; alone = alone_utf8; several = lit≤ tt; short = short_utf8 }
+pub HasTrails-utf8 : HasTrails first_of_utf8 (allows continuation)
+HasTrails-utf8 = record { inside = inside_utf8; alone = alone_utf8; short = short_utf8 }

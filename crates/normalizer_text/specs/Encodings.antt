@@ -22,11 +22,11 @@ encoded_in Encoding.Utf16 x = encode_utf16_all x
 abbrev pub decoded_in : Encoding → List ℕ → List ℕ
 decoded_in e units = decoded (first_in e) units
 
--- whether a unit can stand after the first one of a step, and how many units a step takes at most
+-- a unit can stand after the first one of a step: no character begins with it
 abbrev pub trails_in : Encoding → ℕ → Bool
 trails_in Encoding.Utf8 = allows continuation
 trails_in Encoding.Utf16 = is_low
 
-abbrev pub most_in : Encoding → ℕ
-most_in Encoding.Utf8 = 4
-most_in Encoding.Utf16 = 2
+-- no step takes more units
+abbrev pub longest_step : ℕ
+longest_step = 4

@@ -1,6 +1,6 @@
 -- Decoding step by step, over a rule `first` that says what stands in front of units of which there are some.
-use Rattle.std.specs.Prelude.{◌≡◌, ℕ, zero, suc, ◌+◌, ◌-◌, ◌<◌, ◌≤◌, true, false, List, [], ◌∷◌, ◌++◌, length, take, drop}
-use Rattle.std.specs.Prelude.{map, Option, Some, MatchOption, All}
+use Rattle.std.specs.Prelude.{◌≡◌, ℕ, zero, suc, ◌+◌, ◌-◌, ◌<◌, ◌≤◌, true, false, List, [], ◌∷◌, ◌++◌, length}
+use Rattle.std.specs.Prelude.{take, drop, map, Option, Some, MatchOption, All}
 use Rattle.std.specs.Iterator.{AlwaysYields}
 use Rattle.normalizer_text.specs.declared.step.Step.{Step}
 

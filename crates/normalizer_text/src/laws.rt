@@ -1,6 +1,6 @@
 //! What is known of decoding, as contracts of functions that do nothing. Each holds of every list of numbers, and of
 //! each encoding unless it names one.
-ghost use Rattle.std.specs.Prelude.{◌≡◌, ◌↔◌, ℕ, ◌<◌, ◌≤◌, ◌^◌, List, ◌++◌, length, take, drop, All};
+ghost use Rattle.std.specs.Prelude.{◌≡◌, ◌↔◌, ℕ, ◌<◌, ◌≤◌, ◌^◌, List, [], ◌++◌, length, take, drop, All};
 ghost use Rattle.std.specs.Prelude.{true, false, ◌∷◌, slice_index, encode_utf8_all};
 ghost use Rattle.std.specs.List.{slice_range};
 ghost use Rattle.std.specs.Char.Utf16.{utf16_lossy_chars};
@@ -13,6 +13,13 @@ ghost use Rattle.normalizer_text.specs.Steps.{read, steps, width_of, Decodes, Is
 ghost use Rattle.normalizer_text.specs.Utf8.{first_of_utf8, decoded_utf8};
 ghost use Rattle.normalizer_text.specs.MaximalSubparts.{IsStepOfUtf8};
 ghost use Rattle.normalizer_text.specs.Utf16.{first_of_utf16, decoded_utf16};
+
+/// The steps of units are the step in front and the steps of the units behind it.
+pub fn steps_follow_one_another()
+    ensures none { (e : Encoding) → steps (first_in e) [] ≡ [] }
+    ensures some { (e : Encoding) (units : List ℕ) → 0 < length units →
+        steps (first_in e) units ≡ first_in e units ∷ steps (first_in e) (drop (first_in e units).width units) }
+{}
 
 /// Units decode to exactly one text, whose characters are scalar values, by steps that take all of the units.
 pub fn decodes_to_one_text()

@@ -1,11 +1,14 @@
 //! The three encodings as one trait, over which every loop is written once.
-ghost use Rattle.std.specs.Prelude.{◌≡◌, ◌==◌, ℕ, ◌<◌, List, [], length, take, drop, MatchOption};
+ghost use Rattle.std.specs.Prelude.{◌≡◌, ◌==◌, ℕ, ◌<◌, List, [], length, take, drop, slice_index, MatchOption};
 ghost use Rattle.normalizer_text.specs.Steps.{IsBoundary, IsFirstStep, IsLastStep};
 ghost use Rattle.normalizer_text.specs.Backwards.{IsLastStart};
-ghost use Rattle.normalizer_text.specs.Encodings.{Encoding, first_in, trails_in, most_in};
+ghost use Rattle.normalizer_text.specs.Encodings.{Encoding, first_in, trails_in};
 
 use crate::step::Step;
 use crate::{utf8, utf16};
+
+// No step takes more units.
+const LONGEST_STEP: usize = 4;
 
 /// Text in an encoding: a `str`, bytes that may not be UTF-8, or 16-bit units that may not be UTF-16. A position counts
 /// units from the front.
@@ -24,10 +27,10 @@ pub trait Units: Copy {
         requires { position < length (units self) }
         ensures { result ≡ first_in encoding (drop position (units self)) };
 
-    // Where the last step begins, if it takes more than one unit.
-    fn last_start(self) -> usize
-        requires { 0 < length (units self) }
-        ensures { IsLastStart (trails_in encoding) (most_in encoding) (units self) result };
+    // Whether the unit at a position can stand after the first one of a step. No character begins with such a unit.
+    fn trails_at(self, position: usize) -> bool
+        requires { position < length (units self) }
+        ensures { result ≡ trails_in encoding (slice_index (units self) position) };
 
     // The units before a position at which a step ends.
     fn before(self, position: usize) -> Self
@@ -63,7 +66,7 @@ pub trait Units: Copy {
         if len == 0 {
             return None;
         }
-        let start = self.last_start();
+        let start = last_start(self);
         let step = self.step_at(start);
         if step.width == len - start {
             Some(step)
@@ -71,6 +74,19 @@ pub trait Units: Copy {
             Some(Step::replaced(1))
         }
     }
+}
+
+// Where the last step begins, if it takes more than one unit.
+fn last_start<U: Units>(units: U) -> usize
+    requires { 0 < length (U.units units) }
+    ensures { IsLastStart (trails_in U.encoding) (U.units units) result }
+{
+    let limit = units.len().saturating_sub(LONGEST_STEP);
+    let mut start = units.len() - 1;
+    while start > limit && units.trails_at(start) {
+        start -= 1;
+    }
+    start
 }
 
 impl<'a> Units for &'a str {
@@ -86,8 +102,8 @@ impl<'a> Units for &'a str {
         utf8::first_step(&self.as_bytes()[position..])
     }
 
-    fn last_start(self) -> usize {
-        utf8::last_start(self.as_bytes())
+    fn trails_at(self, position: usize) -> bool {
+        utf8::is_continuation(self.as_bytes()[position])
     }
 
     fn before(self, position: usize) -> Self {
@@ -112,8 +128,8 @@ impl<'a> Units for &'a [u8] {
         utf8::first_step(&self[position..])
     }
 
-    fn last_start(self) -> usize {
-        utf8::last_start(self)
+    fn trails_at(self, position: usize) -> bool {
+        utf8::is_continuation(self[position])
     }
 
     fn before(self, position: usize) -> Self {
@@ -138,8 +154,8 @@ impl<'a> Units for &'a [u16] {
         utf16::first_step(&self[position..])
     }
 
-    fn last_start(self) -> usize {
-        utf16::last_start(self)
+    fn trails_at(self, position: usize) -> bool {
+        utf16::is_low_surrogate(self[position])
     }
 
     fn before(self, position: usize) -> Self {

@@ -1,7 +1,6 @@
 //! Decoding 16-bit units that may not be UTF-16, with U+FFFD for what is ill-formed (The Unicode Standard, section
 //! 3.9).
 ghost use Rattle.std.specs.Prelude.{◌≡◌, ◌<◌, ◌≤◌, IsTrue, length};
-ghost use Rattle.normalizer_text.specs.Backwards.{IsLastStart};
 ghost use Rattle.normalizer_text.specs.Utf16.{is_high, is_low, pair_value, unpaired, first_of_utf16};
 
 use crate::step::Step;
@@ -14,7 +13,7 @@ fn is_high_surrogate(unit: u16) -> bool
 }
 
 // The second unit of a pair (D74).
-fn is_low_surrogate(unit: u16) -> bool
+pub(crate) fn is_low_surrogate(unit: u16) -> bool
     ensures { result ≡ is_low unit }
 {
     0xDC00 <= unit && unit <= 0xDFFF
@@ -58,18 +57,5 @@ pub(crate) fn first_step(units: &[u16]) -> Step
         }
     } else {
         unpaired_step(unit)
-    }
-}
-
-// Where the step begins that the last unit is part of, if that unit isn't an error by itself.
-pub(crate) fn last_start(units: &[u16]) -> usize
-    requires { 0 < length units.now }
-    ensures { IsLastStart is_low 2 units.now result }
-{
-    let last = units.len() - 1;
-    if last > 0 && is_low_surrogate(units[last]) {
-        last - 1
-    } else {
-        last
     }
 }

@@ -1,13 +1,12 @@
 //! Decoding bytes that may not be UTF-8, with U+FFFD for what is ill-formed (The Unicode Standard, section 3.9).
 ghost use Rattle.std.specs.Prelude.{◌≡◌, ◌+◌, ◌<◌, ◌≤◌, length, option_map, slice_index_or};
 ghost use Rattle.normalizer_text.specs.Utf8.{continuation, allows, row_of, matched, scalar_value, first_of_utf8};
-ghost use Rattle.normalizer_text.specs.Backwards.{IsLastStart};
 ghost use Rattle.normalizer_text.specs.Sequences.{IsSequence};
 
 use crate::step::Step;
 
 // A byte that may stand after the first one of a character.
-fn is_continuation(byte: u8) -> bool
+pub(crate) fn is_continuation(byte: u8) -> bool
     ensures { result ≡ allows continuation byte }
 {
     0x80 <= byte && byte <= 0xBF
@@ -108,17 +107,4 @@ pub(crate) fn first_step(bytes: &[u8]) -> Step
         width,
         is_error: false,
     }
-}
-
-// Where the step begins that the last byte is part of, if that byte isn't an error by itself.
-pub(crate) fn last_start(bytes: &[u8]) -> usize
-    requires { 0 < length bytes.now }
-    ensures { IsLastStart (allows continuation) 4 bytes.now result }
-{
-    let limit = bytes.len().saturating_sub(4);
-    let mut start = bytes.len() - 1;
-    while start > limit && is_continuation(bytes[start]) {
-        start -= 1;
-    }
-    start
 }
