@@ -1,5 +1,5 @@
 -- Data that pack records that aren't refused mean what the records mean.
-use Rattle.std.proofs.Common.{◌≡◌, ◌∙◌, inl, inr, ℕ, Bool, true, false, ◌||◌, List, [], ◌∷◌, Contains, Some, None, unwrap_or, ap, sym, refl, arith, if◌then◌else◌}
+use Rattle.std.proofs.Common.{◌≡◌, ◌∙◌, inl, inr, ℕ, All, Bool, true, false, ◌||◌, List, [], ◌∷◌, Contains, Some, None, unwrap_or, ap, sym, refl, arith, if◌then◌else◌}
 use lib.Utf8.{scalar}
 use Rattle.std.proofs.Math.Utf8.{low_scalar}
 use Rattle.std.proofs.lemmas.Bool.{true≢false}
@@ -19,12 +19,13 @@ use Rattle.normalizer_records.specs.Faults.{IsFirstRefusal}
 use Rattle.normalizer_records.specs.Meaning.{class_of as recorded_class_of, mapped_list, mapper_list, pairs_of}
 use Rattle.normalizer_records.proofs.ExpansionLemmas.{syllable-range}
 use Rattle.normalizer_builder.specs.Building.{Builds, IsFirstUnfitOfRecords, IsMadeOfRecords, KeepsMapping, MeansRecords, MeetsRecords, OfMappings, PacksRecords}
+use Rattle.normalizer_builder.specs.Parts.{IsOfCharacters}
 use Rattle.normalizer_builder.specs.Ranks.{IsFirstUnmet}
 use Rattle.normalizer_builder.specs.Recorded.{mapper_class_of, recorded_characters}
-use Rattle.normalizer_builder.proofs.EntriesOfRecords.{list_alone, mapper_alone, no_entry, no_status}
+use Rattle.normalizer_builder.proofs.EntriesOfRecords.{AreEntriesOf, AreEntriesOf-made, list_alone, mapper_alone, no_entry, no_status}
 use Rattle.normalizer_builder.proofs.NoRefusal.{bool_or_not}
 use Rattle.normalizer_builder.proofs.PackableEntries.{ArePackable-made}
-use Rattle.normalizer_builder.proofs.ReadableEntries.{PartsAreReadable, has_fixed_list-same, kept_other, missing_beyond, recorded_list, starter_canonical, starter_compatibility, starter_syllable}
+use Rattle.normalizer_builder.proofs.ReadableEntries.{AreReadable-made, has_fixed_list-same, kept_other, missing_beyond, recorded_list, starter_canonical, starter_compatibility, starter_syllable}
 use Rattle.normalizer_builder.proofs.SamePairs.{pair_of-permutation}
 use Rattle.normalizer_builder.proofs.UnrecordedCharacters.{class_of-unrecorded, missing_syllable, syllable_list}
 
@@ -47,14 +48,17 @@ zero_either : (b : Bool) (k : ℕ) → k ≡ 0 → (if b then k else 0) ≡ 0
 zero_either true k e = e
 zero_either false k e = refl
 
-module _ (records : List Entry) (uts46 : List MapperEntry) (none : IsFirstRefusal records uts46 None) (p : Packed) (packs : PacksRecords records uts46 p) where
+module _ (records : List Entry) (uts46 : List MapperEntry) (none : IsFirstRefusal records uts46 None) (p : Packed) (packs : PacksRecords records uts46 p) (characters : All IsOfCharacters packs.entries) where
+  meaning : AreEntriesOf records uts46 packs.entries
+  meaning = AreEntriesOf-made records uts46 packs.entries packs.made
+
   reads : (k : Kind) → ReadsBack k packs.entries (characters_of p k)
   reads k =
-      Packs-reads_back k packs.entries packs.pairs p (ArePackable-made records uts46 none packs.entries packs.parts.made packs.parts.meaning)
-      (PartsAreReadable records uts46 packs.entries packs.pairs none packs.parts k) packs.packs
+      Packs-reads_back k packs.entries packs.pairs p (ArePackable-made records uts46 none packs.entries packs.made)
+      (AreReadable-made records uts46 none packs.entries packs.made characters k) packs.packs
 
   missing : (n : ℕ) → scalar n ≡ false → Contains (recorded_characters records uts46) n → ⊥
-  missing n e = missing_beyond records uts46 none packs.entries packs.parts.made packs.parts.characters packs.parts.meaning n (λ s. true≢false (sym s ∙ e))
+  missing n e = missing_beyond records uts46 none packs.entries packs.made characters n (λ s. true≢false (sym s ∙ e))
 
   syllables : (k : Kind) (n : ℕ) → is_hangul_syllable n ≡ true → Some (hangul_decomposition n) ≡ recorded_list records uts46 k n
   unfolding mapper_list mapped_list
@@ -64,9 +68,9 @@ module _ (records : List Entry) (uts46 : List MapperEntry) (none : IsFirstRefusa
       sym (ap (mapped_list records n) (no_status records uts46 n (missing_syllable records uts46 none n h)) ∙ ap Some (syllable_list records uts46 none Canonical n h))
 
   others : (k : Kind) (n : ℕ) → is_hangul_syllable n ≡ false → list_in k packs.entries n ≡ recorded_list records uts46 k n
-  others kind.Canonical n other = packs.parts.meaning.canonical n other
-  others kind.Compatibility n other = packs.parts.meaning.compatibility n other
-  others kind.Mapper n other = packs.parts.meaning.mapper n other
+  others kind.Canonical n other = meaning.canonical n other
+  others kind.Compatibility n other = meaning.compatibility n other
+  others kind.Mapper n other = meaning.mapper n other
 
   by_records : (k : Kind) (n : ℕ) → list_by k packs.entries n ≡ recorded_list records uts46 k n
   unfolding list_by
@@ -95,17 +99,17 @@ module _ (records : List Entry) (uts46 : List MapperEntry) (none : IsFirstRefusa
   unfolding class_by
   same_classes k starts n = elim (bool_or_not (scalar n)) [
     | inl s ↦ (reads k).classes n s ∙ elim (bool_or_not (tells_class k packs.entries n)) [
-      | inl told ↦ ap (λ b. if b then class_in packs.entries n else 0) told ∙ packs.parts.meaning.classes n
+      | inl told ↦ ap (λ b. if b then class_in packs.entries n else 0) told ∙ meaning.classes n
       | inr untold ↦ ap (λ b. if b then class_in packs.entries n else 0) untold ∙ sym (starts n untold)
     ]
     | inr e ↦ class_of-beyond (characters_of p k) n e ∙ sym (no_class-beyond n e)
   ]
 
   starting_canonical : (n : ℕ) → tells_class kind.Canonical packs.entries n ≡ false → recorded_class_of records n ≡ 0
-  starting_canonical n untold = starter_canonical records uts46 none packs.entries packs.parts.made packs.parts.characters packs.parts.meaning n untold
+  starting_canonical n untold = starter_canonical records uts46 none packs.entries packs.made characters n untold
 
   starting_compatibility : (n : ℕ) → tells_class kind.Compatibility packs.entries n ≡ false → recorded_class_of records n ≡ 0
-  starting_compatibility n untold = starter_compatibility records uts46 none packs.entries packs.parts.made packs.parts.characters packs.parts.meaning n untold
+  starting_compatibility n untold = starter_compatibility records uts46 none packs.entries packs.made characters n untold
 
   mapper_class_of-starter : (n : ℕ) → recorded_class_of records n ≡ 0 → mapper_class_of records uts46 n ≡ 0
   unfolding mapper_class_of
@@ -113,22 +117,22 @@ module _ (records : List Entry) (uts46 : List MapperEntry) (none : IsFirstRefusa
 
   class_by-starter : (n : ℕ) → recorded_class_of records n ≡ 0 → class_by kind.Mapper packs.entries n ≡ 0
   unfolding class_by
-  class_by-starter n e = zero_either (tells_class kind.Mapper packs.entries n) (class_in packs.entries n) (packs.parts.meaning.classes n ∙ e)
+  class_by-starter n e = zero_either (tells_class kind.Mapper packs.entries n) (class_in packs.entries n) (meaning.classes n ∙ e)
 
   -- the mapper's words tell classes by its own lists
   class_by-mapper : (n : ℕ) → is_hangul_syllable n ≡ false → class_by kind.Mapper packs.entries n ≡ mapper_class_of records uts46 n
   unfolding class_by mapper_class_of tells_class
   class_by-mapper n other =
-      let kept = kept_other records uts46 none packs.entries packs.parts.made packs.parts.characters packs.parts.meaning kind.Mapper n other in
+      let kept = kept_other records uts46 none packs.entries packs.made characters kind.Mapper n other in
       ap (λ x. if has_fixed_list (class_in packs.entries) n x || list_eq x (n ∷ []) then class_in packs.entries n else 0) kept
       ∙ ap (λ b. if b || list_eq (unwrap_or (mapper_list records uts46 n) []) (n ∷ []) then class_in packs.entries n else 0)
-      (has_fixed_list-same (class_in packs.entries) (recorded_class_of records) packs.parts.meaning.classes n (unwrap_or (mapper_list records uts46 n) []))
-      ∙ ap (λ k. if has_fixed_list (recorded_class_of records) n (unwrap_or (mapper_list records uts46 n) []) || list_eq (unwrap_or (mapper_list records uts46 n) []) (n ∷ []) then k else 0) (packs.parts.meaning.classes n)
+      (has_fixed_list-same (class_in packs.entries) (recorded_class_of records) meaning.classes n (unwrap_or (mapper_list records uts46 n) []))
+      ∙ ap (λ k. if has_fixed_list (recorded_class_of records) n (unwrap_or (mapper_list records uts46 n) []) || list_eq (unwrap_or (mapper_list records uts46 n) []) (n ∷ []) then k else 0) (meaning.classes n)
 
   same_mapper_classes : (n : ℕ) → class_of (characters_of p kind.Mapper) n ≡ mapper_class_of records uts46 n
   same_mapper_classes n = elim (bool_or_not (scalar n)) [
     | inl s ↦ (reads kind.Mapper).classes n s ∙ elim (bool_or_not (is_hangul_syllable n)) [
-      | inl h ↦ (let starts = starter_syllable records uts46 none packs.entries packs.parts.made packs.parts.characters packs.parts.meaning n h in class_by-starter n starts ∙ sym (mapper_class_of-starter n starts))
+      | inl h ↦ (let starts = starter_syllable records uts46 none packs.entries packs.made characters n h in class_by-starter n starts ∙ sym (mapper_class_of-starter n starts))
       | inr other ↦ class_by-mapper n other
     ]
     | inr e ↦ class_of-beyond (characters_of p kind.Mapper) n e ∙ sym (mapper_class_of-starter n (no_class-beyond n e))
@@ -136,7 +140,7 @@ module _ (records : List Entry) (uts46 : List MapperEntry) (none : IsFirstRefusa
 
   same_pairs : (first second : ℕ) → pair_of p.compositions first second ≡ pair_of (pairs_of records) first second
   same_pairs first second =
-      ap (λ l. pair_of l first second) packs.packs.compositions ∙ pair_of-permutation (pairs_of records) packs.pairs packs.parts.same_pairs packs.parts.rising_pairs first second
+      ap (λ l. pair_of l first second) packs.packs.compositions ∙ pair_of-permutation (pairs_of records) packs.pairs packs.same_pairs packs.rising_pairs first second
 
   kept_steps : IsFirstUnfitOfRecords records p None → (n : ℕ) → KeepsMapping records p n
   unfolding IsFirstUnmet IsMadeOfRecords MeetsRecords

@@ -17,7 +17,7 @@ use Rattle.normalizer_records.specs.declared.records.Mappings.{Mappings}
 use Rattle.normalizer_records.specs.declared.records.Mappings.TheVariants.{Canonical, All as AllMappings}
 use Rattle.normalizer_records.specs.Entry.{Entry, MapperEntry, Status}
 use Rattle.normalizer_records.specs.Meaning.{class_of, entry_of, canonical_list, canonical_mapping_of, compatibility_list, mapper_list, replacement, expansion, replace_by, full_list, status_of, mapped_list, mapping_among, recorded_classes}
-use Rattle.normalizer_builder.specs.Recorded.{recorded_characters, ListsCharacters, recorded_step, step_to, entry_for, mapping_in, AreEntriesOf}
+use Rattle.normalizer_builder.specs.Recorded.{AreMadeOf, ListsCharacters, entry_for, recorded_characters}
 
 Contains-cons : {X : Type 0} (x : X) (xs : List X) (y : X) → Contains xs y → Contains (x ∷ xs) y
 Contains-cons x xs y h = Contains-append_right (x ∷ []) xs y h
@@ -74,14 +74,8 @@ class_of_found o = elim o [ Some e ↦ e.class | None ↦ 0 ]
 abbrev pub list_of_found : Kind → ℕ → Option CharacterEntry → Option (List ℕ)
 list_of_found k n o = elim o [ Some e ↦ own_list k e | None ↦ Some (n ∷ []) ]
 
-abbrev mapping_of_found : Option CharacterEntry → Option Mapping
-mapping_of_found o = option_and_then (λ e. e.mapping) o
-
 abbrev pub class_of_record : Option Entry → ℕ
 class_of_record o = option_map_or (λ r. r.class) o 0
-
-abbrev step_of_record : Option Entry → Option Mapping
-step_of_record o = step_to (option_map_or (mapping_among Canonical) o [])
 
 abbrev status_of_record : Option MapperEntry → Option Status
 status_of_record o = option_map (λ r. r.status) o
@@ -111,14 +105,12 @@ module _ (records : List Entry) (uts46 : List MapperEntry) (n : ℕ) where
   -- what the entries say of n
   abbrev SaysSame : List CharacterEntry → Type 0
   SaysSame entries = (class_in entries n ≡ class_of records n)
-      × (mapping_in entries n ≡ recorded_step records n)
       × (is_hangul_syllable n ≡ false → (list_in kind.Canonical entries n ≡ Some (canonical_list records n)) × (list_in kind.Compatibility entries n ≡ Some (compatibility_list records n)) × (list_in kind.Mapper entries n ≡ mapper_list records uts46 n))
 
   recorded_says : (entries : List CharacterEntry) → packed_entry_of entries n ≡ Some (entry_for records uts46 n) → SaysSame entries
-  unfolding class_in list_in mapping_in entry_for
+  unfolding class_in list_in entry_for
   recorded_says entries e = (
     ap class_of_found e,
-    ap mapping_of_found e,
     λ other. (
       ap (list_of_found kind.Canonical n) e,
       ap (list_of_found kind.Compatibility n) e,
@@ -127,11 +119,10 @@ module _ (records : List Entry) (uts46 : List MapperEntry) (n : ℕ) where
   )
 
   missing_says : (entries : List CharacterEntry) → packed_entry_of entries n ≡ None → (Contains (recorded_characters records uts46) n → ⊥) → SaysSame entries
-  unfolding class_in list_in mapping_in class_of recorded_step canonical_mapping_of
+  unfolding class_in list_in class_of
   missing_says entries e missing =
       let none : entry_of records n ≡ None = no_entry missing in (
         ap class_of_found e ∙ ap class_of_record (sym none),
-        ap mapping_of_found e ∙ ap step_of_record (sym none),
         λ other. (
           ap (list_of_found kind.Canonical n) e ∙ ap Some (sym (list_alone Canonical other none)),
           ap (list_of_found kind.Compatibility n) e ∙ ap Some (sym (list_alone AllMappings other none)),
@@ -155,12 +146,21 @@ entries_rise records uts46 cs h i j d ij within =
     let second : (get_or (map f cs) j d).character ≡ get_or cs j 0 = ap (λ e. e.character) (get_or-map f cs j 0 d below) in
     rw first (rw second (AllPairs-from_increasing cs h i j 0 ij below))
 
-pub AreEntriesOf-map : (records : List Entry) (uts46 : List MapperEntry) (cs : List ℕ) → ListsCharacters records uts46 cs → AreEntriesOf records uts46 (map (entry_for records uts46) cs)
-AreEntriesOf-map records uts46 cs h = record {
-  rising = entries_rise records uts46 cs h.rising;
-  classes = λ n. (entries_say records uts46 n cs h).0;
-  mappings = λ n. (entries_say records uts46 n cs h).1;
-  canonical = λ n other. ((entries_say records uts46 n cs h).2 other).0;
-  compatibility = λ n other. ((entries_say records uts46 n cs h).2 other).1;
-  mapper = λ n other. ((entries_say records uts46 n cs h).2 other).2;
-}
+-- the entries say of every character, but Hangul syllables, what the records say
+pub record AreEntriesOf (records : List Entry) (uts46 : List MapperEntry) (entries : List CharacterEntry) : Type 0 where
+  pub rising : AreRising entries
+  pub classes : (n : ℕ) → class_in entries n ≡ class_of records n
+  pub canonical : (n : ℕ) → is_hangul_syllable n ≡ false → list_in kind.Canonical entries n ≡ Some (canonical_list records n)
+  pub compatibility : (n : ℕ) → is_hangul_syllable n ≡ false → list_in kind.Compatibility entries n ≡ Some (compatibility_list records n)
+  pub mapper : (n : ℕ) → is_hangul_syllable n ≡ false → list_in kind.Mapper entries n ≡ mapper_list records uts46 n
+
+pub AreEntriesOf-made : (records : List Entry) (uts46 : List MapperEntry) (entries : List CharacterEntry) → AreMadeOf records uts46 entries → AreEntriesOf records uts46 entries
+AreEntriesOf-made records uts46 entries h =
+    let say : (n : ℕ) → SaysSame records uts46 n (map (entry_for records uts46) h.characters) = λ n. entries_say records uts46 n h.characters h.listed in
+    subst (AreEntriesOf records uts46) (sym h.made) (record {
+      rising = entries_rise records uts46 h.characters h.listed.rising;
+      classes = λ n. (say n).0;
+      canonical = λ n other. ((say n).1 other).0;
+      compatibility = λ n other. ((say n).1 other).1;
+      mapper = λ n other. ((say n).1 other).2;
+    })

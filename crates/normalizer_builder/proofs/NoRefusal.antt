@@ -13,7 +13,7 @@ use Rattle.normalizer_records.specs.declared.refusal.Refusal.TheVariants as refu
 use Rattle.normalizer_records.specs.Entry.{Entry, MapperEntry, Status, MapsTo, IsIgnored, IsDisallowed}
 use Rattle.normalizer_records.specs.Faults.{AreRising, AreMapperRising, HasFault, HasOrderFault, HasClassFault, HasWrongClass, HasChainFault, has_fixed_fault, HasLengthFault, HasLongList, HasPairFault, IsAsked, IsFirstRefusal, IsOnLongChain, IsTooLong, has_mapping_fault, is_bad_mapping, is_bad_status, mapped_to}
 use Rattle.normalizer_records.specs.Meaning.{canonical_list, compatibility_list, mapper_list, mapped_list, list_of_status, status_of, expansion, expand_all, full_list, replacement, replace_by, recorded_classes, levels}
-use Rattle.normalizer_builder.specs.Recorded.{HasRoom}
+use Rattle.normalizer_builder.specs.Parts.{HasRoom}
 
 pub bool_or_not : (b : Bool) → (b ≡ true) ⊎ (b ≡ false)
 bool_or_not true = inl refl

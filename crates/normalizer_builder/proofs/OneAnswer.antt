@@ -90,7 +90,7 @@ module _ (records : List Entry) (uts46 : List MapperEntry) where
   -- data pack no records whose lists are too many
   too_many : (p : Packed) → PacksRecords records uts46 p → HasTooManyItems records uts46 → ⊥
   too_many p packs h =
-      let same : h.entries ≡ packs.entries = same_entries records uts46 h.entries packs.entries h.made packs.parts.made in
+      let same : h.entries ≡ packs.entries = same_entries records uts46 h.entries packs.entries h.made packs.made in
       let few : needed_items h.entries ≤ item_limit = subst (λ (es : List CharacterEntry). needed_items es ≤ item_limit) (sym same) packs.packs.within in
       omega (arith, few, h.full)
 

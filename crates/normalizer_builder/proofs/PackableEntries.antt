@@ -16,7 +16,8 @@ use Rattle.normalizer_packing.specs.Stored.{HasLengthOfWord, is_narrow, listed_o
 use Rattle.normalizer_records.specs.Entry.{Entry, MapperEntry}
 use Rattle.normalizer_records.specs.Faults.{IsFirstRefusal, IsTooLong, is_long}
 use Rattle.normalizer_records.specs.Meaning.{mapper_list}
-use Rattle.normalizer_builder.specs.Recorded.{AreEntriesOf, AreMadeOf, entry_for}
+use Rattle.normalizer_builder.specs.Recorded.{AreMadeOf, entry_for}
+use Rattle.normalizer_builder.proofs.EntriesOfRecords.{AreEntriesOf-made}
 use Rattle.normalizer_builder.proofs.NoRefusal.{bool_or_not, canonical_fits, compatibility_fits, mapper_fits, canonical_some, compatibility_some, mapper_some}
 
 -- a list that may stand in a table, unless a word spells it
@@ -138,5 +139,5 @@ module _ (records : List Entry) (uts46 : List MapperEntry) (none : IsFirstRefusa
       subst (λ (es : List CharacterEntry). All HasLengthOfWord (filter_map (listed_of (class_in entries) k) es)) (sym made.made)
       (All-made HasLengthOfWord (entry_for records uts46) (listed_of (class_in entries) k) (λ c. listed_fit (class_in entries) k (entry_for records uts46 c) (own_fit k c)) made.characters)
 
-  pub ArePackable-made : (entries : List CharacterEntry) → AreMadeOf records uts46 entries → AreEntriesOf records uts46 entries → ArePackable entries
-  ArePackable-made entries made meaning = record { rising = meaning.rising; lengths = listed_lengths entries made }
+  pub ArePackable-made : (entries : List CharacterEntry) → AreMadeOf records uts46 entries → ArePackable entries
+  ArePackable-made entries made = record { rising = (AreEntriesOf-made records uts46 entries made).rising; lengths = listed_lengths entries made }

@@ -19,9 +19,9 @@ use Rattle.normalizer_records.specs.declared.records.Mappings.TheVariants.{Canon
 use Rattle.normalizer_records.specs.Entry.{Entry, MapperEntry}
 use Rattle.normalizer_records.specs.Faults.{HasWrongClass, IsFirstRefusal, IsFixedForm, IsFreeForm, IsWrong, begins_with_mark, is_mark}
 use Rattle.normalizer_records.specs.Meaning.{canonical_list, class_of, compatibility_list, list_of_status, mapped_list, mapper_list}
-use Rattle.normalizer_builder.specs.Building.{AreParts}
-use Rattle.normalizer_builder.specs.Recorded.{AreEntriesOf, AreMadeOf, IsOfCharacters, entry_for, recorded_characters}
-use Rattle.normalizer_builder.proofs.EntriesOfRecords.{class_of_found, find-missing, list_alone, list_of_found, mapper_alone, no_entry}
+use Rattle.normalizer_builder.specs.Parts.{IsOfCharacters}
+use Rattle.normalizer_builder.specs.Recorded.{AreMadeOf, entry_for, recorded_characters}
+use Rattle.normalizer_builder.proofs.EntriesOfRecords.{AreEntriesOf, AreEntriesOf-made, class_of_found, find-missing, list_alone, list_of_found, mapper_alone, no_entry}
 use Rattle.normalizer_builder.proofs.NoRefusal.{bool_or_not, no_wrong_class}
 use Rattle.normalizer_builder.proofs.NonzeroLists.{HasNoZero, HasNoZero-list, HasNoZero-mapper}
 use Rattle.normalizer_builder.proofs.PackableEntries.{or_falls}
@@ -101,7 +101,10 @@ recorded_list records uts46 kind.Canonical n = Some (canonical_list records n)
 recorded_list records uts46 kind.Compatibility n = Some (compatibility_list records n)
 recorded_list records uts46 kind.Mapper n = mapper_list records uts46 n
 
-module _ (records : List Entry) (uts46 : List MapperEntry) (none : IsFirstRefusal records uts46 None) (entries : List CharacterEntry) (made : AreMadeOf records uts46 entries) (characters : All IsOfCharacters entries) (meaning : AreEntriesOf records uts46 entries) where
+module _ (records : List Entry) (uts46 : List MapperEntry) (none : IsFirstRefusal records uts46 None) (entries : List CharacterEntry) (made : AreMadeOf records uts46 entries) (characters : All IsOfCharacters entries) where
+  meaning : AreEntriesOf records uts46 entries
+  meaning = AreEntriesOf-made records uts46 entries made
+
   entry_cases : (n : ℕ) → (packed_entry_of entries n ≡ None) ⊎ ((e : CharacterEntry) × (packed_entry_of entries n ≡ Some e) × (e.character ≡ n) × IsOfCharacters e)
   unfolding packed_entry_of
   entry_cases n = find-cases (λ (e : CharacterEntry). e.character) IsOfCharacters entries n characters
@@ -231,6 +234,7 @@ module _ (records : List Entry) (uts46 : List MapperEntry) (none : IsFirstRefusa
     | inr other ↦ no_mark (class_of records n) (not_so (is_mark records n) (λ e. no_wrong_class records uts46 none n (inr (inr (inl (inl e, free kind.Compatibility n other h (compatibility_list records n) refl))))))
   ]
 
+  -- the entries of records that aren't refused can be read again
   pub AreReadable-made : (k : Kind) → AreReadable k entries
   AreReadable-made k = record {
     classes = eight_bits;
@@ -240,7 +244,3 @@ module _ (records : List Entry) (uts46 : List MapperEntry) (none : IsFirstRefusa
     zero = λ n scalar. kept_zero k n;
     first = λ n scalar. kept_first k n;
   }
-
--- the parts of records that aren't refused can be read again
-pub PartsAreReadable : (records : List Entry) (uts46 : List MapperEntry) (entries : List CharacterEntry) (pairs : List Pair) → IsFirstRefusal records uts46 None → AreParts records uts46 entries pairs → (k : Kind) → AreReadable k entries
-PartsAreReadable records uts46 entries pairs none parts k = AreReadable-made records uts46 none entries parts.made parts.characters parts.meaning k

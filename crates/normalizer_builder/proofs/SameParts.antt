@@ -92,7 +92,7 @@ same_pairs all xs ys h k first second =
 -- data that pack the same records are equal
 pub one_packing_of_records : (records : List Entry) (uts46 : List MapperEntry) (p q : Packed) → PacksRecords records uts46 p → PacksRecords records uts46 q → p ≡ q
 one_packing_of_records records uts46 p q h k =
-    let entries : k.entries ≡ h.entries = same_entries records uts46 k.entries h.entries k.parts.made h.parts.made in
-    let pairs : k.pairs ≡ h.pairs = same_pairs _ k.pairs h.pairs k.parts.same_pairs h.parts.same_pairs k.parts.rising_pairs h.parts.rising_pairs in
+    let entries : k.entries ≡ h.entries = same_entries records uts46 k.entries h.entries k.made h.made in
+    let pairs : k.pairs ≡ h.pairs = same_pairs _ k.pairs h.pairs k.same_pairs h.same_pairs k.rising_pairs h.rising_pairs in
     let packs : Packs h.entries h.pairs q = subst (λ (l : List Pair). Packs h.entries l q) pairs (subst (λ (es : List CharacterEntry). Packs es k.pairs q) entries k.packs) in
     one_packing h.entries h.pairs p q h.packs packs

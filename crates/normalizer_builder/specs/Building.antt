@@ -1,5 +1,5 @@
 -- What records build: data that pack them, or the smallest refusal.
-use Rattle.std.specs.Prelude.{◌≡◌, ℕ, ◌<◌, List, [], Option, Some, None, All, IfSome, unwrap_or}
+use Rattle.std.specs.Prelude.{◌≡◌, ℕ, ◌<◌, List, [], Option, Some, None, IfSome, unwrap_or}
 use Rattle.std.specs.List.Sorted.{IsPermutation}
 use Rattle.normalizer_tables.specs.declared.provider.DataMarkerInfo.TheVariants.{NormalizerNfdSupplementV1}
 use Rattle.normalizer_tables.specs.declared.step.Step.{Step}
@@ -25,21 +25,15 @@ use Rattle.normalizer_records.specs.Meaning.{canonical_list, class_of as recorde
 use Rattle.normalizer_builder.specs.declared.rank.Unfit.{Unfit}
 use Rattle.normalizer_builder.specs.Demands.{Demand, IsMade, Meets, answer_to, characters_of}
 use Rattle.normalizer_builder.specs.Ranks.{IsFirstUnmet}
-use Rattle.normalizer_builder.specs.Recorded.{AreMadeOf, AreEntriesOf, IsOfCharacters, mapper_class_of, recorded_step}
+use Rattle.normalizer_builder.specs.Recorded.{AreMadeOf, mapper_class_of, recorded_step}
 
--- what is packed of records: their entries, and their pairs in order
-pub record AreParts (records : List Entry) (uts46 : List MapperEntry) (entries : List CharacterEntry) (pairs : List Pair) : Type 0 where
-  pub made : AreMadeOf records uts46 entries
-  pub characters : All IsOfCharacters entries
-  pub meaning : AreEntriesOf records uts46 entries
-  pub same_pairs : IsPermutation (pairs_of records) pairs
-  pub rising_pairs : ArePairsRising pairs
-
--- data that pack records
+-- data that pack records: an entry for each recorded character, and the pairs in order
 pub record PacksRecords (records : List Entry) (uts46 : List MapperEntry) (p : Packed) : Type 0 where
   pub entries : List CharacterEntry
   pub pairs : List Pair
-  pub parts : AreParts records uts46 entries pairs
+  pub made : AreMadeOf records uts46 entries
+  pub same_pairs : IsPermutation (pairs_of records) pairs
+  pub rising_pairs : ArePairsRising pairs
   pub packs : Packs entries pairs p
 
 -- the distinct lists that no word spells have more items than words can point to

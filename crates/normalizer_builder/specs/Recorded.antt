@@ -1,14 +1,9 @@
 -- What is packed of recorded characters.
-use Rattle.std.specs.Prelude.{◌≡◌, ℕ, ◌<◌, ◌≤◌, false, ◌||◌, List, [], ◌∷◌, ◌++◌, length, map, All, Contains, Option, Some, None, IfSome, unwrap_or, if◌then◌else◌}
-use Rattle.std.specs.Char.{IsScalar}
+use Rattle.std.specs.Prelude.{◌≡◌, ℕ, ◌||◌, List, [], ◌∷◌, ◌++◌, map, All, Contains, Option, Some, None, unwrap_or, if◌then◌else◌}
 use Rattle.std.specs.List.Sorted.{IsStrictlyIncreasing}
-use Rattle.std.specs.Option.{option_and_then}
-use Rattle.normal_forms.specs.Reading.{IsText}
-use Rattle.normalizer_tables.specs.Hangul.{is_hangul_syllable}
-use Rattle.normalizer_packing.specs.declared.entry.Kind.TheVariants as kind
 use Rattle.normalizer_packing.specs.declared.entry.Mapping.{Mapping}
 use Rattle.normalizer_packing.specs.declared.entry.Mapping.TheVariants.{One, Two}
-use Rattle.normalizer_packing.specs.Entries.{CharacterEntry, AreRising, class_in, entry_of as packed_entry_of, list_in}
+use Rattle.normalizer_packing.specs.Entries.{CharacterEntry}
 use Rattle.normalizer_packing.specs.Spelling.{has_fixed_list, list_eq}
 use Rattle.normalizer_records.specs.Entry.{Entry, MapperEntry}
 use Rattle.normalizer_records.specs.Meaning.{class_of, canonical_list, canonical_mapping_of, compatibility_list, mapper_list}
@@ -32,14 +27,6 @@ step_to x = None
 unfoldable pub recorded_step : List Entry → ℕ → Option Mapping
 recorded_step records c = step_to (canonical_mapping_of records c)
 
--- an entry of scalar values (D76), whose class has 8 bits
-pub record IsOfCharacters (e : CharacterEntry) : Type 0 where
-  pub character : IsScalar e.character
-  pub class : e.class < 0x100
-  pub canonical : IsText e.canonical
-  pub compatibility : IsText e.compatibility
-  pub mapper : IfSome e.mapper IsText
-
 -- what records say of a character, as it is packed
 unfoldable pub entry_for : List Entry → List MapperEntry → ℕ → CharacterEntry
 entry_for records uts46 c = record {
@@ -51,29 +38,11 @@ entry_for records uts46 c = record {
   mapping = recorded_step records c;
 }
 
--- no list of a character is longer than the longest that can be packed
-pub record HasRoom (records : List Entry) (uts46 : List MapperEntry) (c : ℕ) : Type 0 where
-  pub canonical : length (canonical_list records c) ≤ 18
-  pub compatibility : length (compatibility_list records c) ≤ 18
-  pub mapper : IfSome (mapper_list records uts46 c) (λ x. length x ≤ 18)
-
-unfoldable pub mapping_in : List CharacterEntry → ℕ → Option Mapping
-mapping_in entries n = option_and_then (λ e. e.mapping) (packed_entry_of entries n)
-
 -- an entry for each character that has a record of either kind, in their order
 pub record AreMadeOf (records : List Entry) (uts46 : List MapperEntry) (entries : List CharacterEntry) : Type 0 where
   pub characters : List ℕ
   pub listed : ListsCharacters records uts46 characters
   pub made : entries ≡ map (entry_for records uts46) characters
-
--- the entries say of every character, but Hangul syllables, what the records say
-pub record AreEntriesOf (records : List Entry) (uts46 : List MapperEntry) (entries : List CharacterEntry) : Type 0 where
-  pub rising : AreRising entries
-  pub classes : (n : ℕ) → class_in entries n ≡ class_of records n
-  pub mappings : (n : ℕ) → mapping_in entries n ≡ recorded_step records n
-  pub canonical : (n : ℕ) → is_hangul_syllable n ≡ false → list_in kind.Canonical entries n ≡ Some (canonical_list records n)
-  pub compatibility : (n : ℕ) → is_hangul_syllable n ≡ false → list_in kind.Compatibility entries n ≡ Some (compatibility_list records n)
-  pub mapper : (n : ℕ) → is_hangul_syllable n ≡ false → list_in kind.Mapper entries n ≡ mapper_list records uts46 n
 
 -- the class that the mapper's data have of a character: 0 where its list is neither its fixed one nor itself alone, since its
 -- word has then no room for a class

@@ -1,7 +1,8 @@
 //! Builds data from records.
 ghost use Rattle.std.specs.Prelude.{◌≡◌, None, IfOk, MatchResult};
 ghost use Rattle.normalizer_records.specs.Faults.{IsFirstRefusal};
-ghost use Rattle.normalizer_builder.specs.Building.{AreParts, Builds, IsSmallest, PacksRecords, error_of};
+ghost use Rattle.normalizer_builder.specs.Building.{Builds, IsSmallest, error_of};
+ghost use Rattle.normalizer_builder.specs.Parts.{AreParts, PacksCharacters};
 
 use crate::built::Built;
 use crate::entries::entries;
@@ -73,7 +74,7 @@ fn build_unrefused(
 #[tactic(auto, unfolding(crate::specs::Building::IsSmallest))]
 fn packed_of(alloc: Global, records: &[Record], uts46: &[Uts46Record]) -> Result<Packed, BuildError>
     requires { IsFirstRefusal records.now uts46.now None }
-    ensures { MatchResult result (PacksRecords records.now uts46.now) (IsSmallest records.now uts46.now) }
+    ensures { MatchResult result (PacksCharacters records.now uts46.now) (IsSmallest records.now uts46.now) }
 {
     match parts_of(alloc, records, uts46) {
         Ok((entries, pairs)) => match pack(alloc, entries.as_slice(), pairs) {

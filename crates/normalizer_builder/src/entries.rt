@@ -1,7 +1,8 @@
 //! What records say of each character, as it is packed.
 ghost use Rattle.std.specs.Prelude.{◌≡◌, ℕ, IfOk};
 ghost use Rattle.normalizer_records.specs.Faults.{AreRising, AreMapperRising};
-ghost use Rattle.normalizer_builder.specs.Recorded.{AreEntriesOf, AreMadeOf, HasRoom, entry_for, step_to};
+ghost use Rattle.normalizer_builder.specs.Parts.{HasRoom};
+ghost use Rattle.normalizer_builder.specs.Recorded.{AreMadeOf, entry_for, step_to};
 
 use crate::characters::sorted_characters;
 use normalizer_packing::entry::{Entry, Mapping};
@@ -20,8 +21,7 @@ pub(crate) fn entries(
     requires rising { AreRising records.now }
     requires mapper { AreMapperRising uts46.now }
     requires room { (c : ℕ) → HasRoom records.now uts46.now c }
-    ensures made { IfOk result (λ v. AreMadeOf records.now uts46.now v.items) }
-    ensures meaning { IfOk result (λ v. AreEntriesOf records.now uts46.now v.items) }
+    ensures { IfOk result (λ v. AreMadeOf records.now uts46.now v.items) }
 {
     let characters = sorted_characters(alloc, records, uts46)?;
     let mut entries = Vec::new(alloc);

@@ -7,8 +7,8 @@ pub first_unfit_of_records-requires : goal.first_unfit_of_records-requires
 first_unfit_of_records-requires c = rising c.args.records.now c.args.uts46.now c.requires
 
 pub returns-in-None : goal.returns-in-None
-returns-in-None c = Builds-packed c.args.records.now c.args.uts46.now c.requires c.in_ok-packed.packed c.in_ok-packed.ensures c.in-None.ensures
+returns-in-None c = Builds-packed c.args.records.now c.args.uts46.now c.requires c.in_ok-packed.packed c.in_ok-packed.ensures.packs c.in_ok-packed.ensures.characters c.in-None.ensures
 
 pub returns-in-Some : goal.returns-in-Some
 unfolding IsSmallest
-returns-in-Some c = (c.requires, (c.in_ok-packed.packed, c.in_ok-packed.ensures, c.in-Some.ensures))
+returns-in-Some c = (c.requires, (c.in_ok-packed.packed, c.in_ok-packed.ensures.packs, c.in-Some.ensures))

@@ -1,5 +1,5 @@
 use Rattle.std.proofs.Common.{All, subst}
-use Rattle.normalizer_builder.specs.Recorded.{IsOfCharacters}
+use Rattle.normalizer_builder.specs.Parts.{IsOfCharacters}
 use Rattle.normalizer_builder.proofs.NoRefusal.{rising, mapper_rising, no_pair_fault, room}
 use Rattle.normalizer_builder.proofs.build.parts_of.Goals as goal
 
@@ -14,9 +14,8 @@ entries-requires-clause-room c = room c.args.records.now c.args.uts46.now c.requ
 
 pub returns : goal.returns
 returns c = record {
-  made = c.in_ok-entries.ensures.made;
+  made = c.in_ok-entries.ensures;
   characters = subst (All IsOfCharacters) c.as_slice.ensures.value c.are_of_characters.ensures;
-  meaning = c.in_ok-entries.ensures.meaning;
   same_pairs = c.in_ok-pairs.ensures.same;
   rising_pairs = c.in_ok-pairs.ensures.rising (no_pair_fault c.args.records.now c.args.uts46.now c.requires);
 }
