@@ -2,7 +2,7 @@
 use Rattle.std.proofs.Common.{◌≡◌, ◌∙◌, inl, inr, ℕ, All, Bool, true, false, ◌||◌, List, [], ◌∷◌, Contains, Some, None, unwrap_or, ap, sym, refl, arith, if◌then◌else◌}
 use lib.Utf8.{scalar}
 use Rattle.std.proofs.Math.Utf8.{low_scalar}
-use Rattle.std.proofs.lemmas.Bool.{true≢false}
+use Rattle.std.proofs.lemmas.Bool.{cases_Bool, true≢false}
 use Rattle.normalizer_tables.specs.Characters.{Characters, class_of, list_of, list_read}
 use Rattle.normalizer_tables.specs.Hangul.{hangul_decomposition, is_hangul_syllable}
 use Rattle.normalizer_tables.specs.Pairs.{pair_of}
@@ -23,7 +23,6 @@ use Rattle.normalizer_builder.specs.Parts.{IsOfCharacters}
 use Rattle.normalizer_builder.specs.Ranks.{IsFirstUnmet}
 use Rattle.normalizer_builder.specs.Recorded.{mapper_class_of, recorded_characters}
 use Rattle.normalizer_builder.proofs.EntriesOfRecords.{AreEntriesOf, AreEntriesOf-made, list_alone, mapper_alone, no_entry, no_status}
-use Rattle.normalizer_builder.proofs.NoRefusal.{bool_or_not}
 use Rattle.normalizer_builder.proofs.PackableEntries.{ArePackable-made}
 use Rattle.normalizer_builder.proofs.ReadableEntries.{AreReadable-made, has_fixed_list-same, kept_other, missing_beyond, recorded_list, starter_canonical, starter_compatibility, starter_syllable}
 use Rattle.normalizer_builder.proofs.SamePairs.{pair_of-permutation}
@@ -39,7 +38,7 @@ unfolding class_of
 class_of-beyond s n e = rw e refl
 
 no_syllable-beyond : (n : ℕ) → scalar n ≡ false → is_hangul_syllable n ≡ false
-no_syllable-beyond n e = elim (bool_or_not (is_hangul_syllable n)) [
+no_syllable-beyond n e = elim (cases_Bool (is_hangul_syllable n)) [
   | inl h ↦ (let range = syllable-range n h in absurd (true≢false (sym (low_scalar n (omega (arith, range))) ∙ e)))
   | inr other ↦ other
 ]
@@ -74,7 +73,7 @@ module _ (records : List Entry) (uts46 : List MapperEntry) (none : IsFirstRefusa
 
   by_records : (k : Kind) (n : ℕ) → list_by k packs.entries n ≡ recorded_list records uts46 k n
   unfolding list_by
-  by_records k n = elim (bool_or_not (is_hangul_syllable n)) [
+  by_records k n = elim (cases_Bool (is_hangul_syllable n)) [
     | inl h ↦ ap (λ b. if b then Some (hangul_decomposition n) else list_in k packs.entries n) h ∙ syllables k n h
     | inr other ↦ ap (λ b. if b then Some (hangul_decomposition n) else list_in k packs.entries n) other ∙ others k n other
   ]
@@ -86,7 +85,7 @@ module _ (records : List Entry) (uts46 : List MapperEntry) (none : IsFirstRefusa
 
   same_lists : (k : Kind) (ignored : List ℕ) (n : ℕ) → list_of (characters_of p k) ignored n ≡ unwrap_or (recorded_list records uts46 k n) ignored
   unfolding list_of
-  same_lists k ignored n = elim (bool_or_not (scalar n)) [
+  same_lists k ignored n = elim (cases_Bool (scalar n)) [
     | inl s ↦ ap (λ o. unwrap_or o (n ∷ [])) ((reads k).lists ignored n s) ∙ ap (λ o. unwrap_or o ignored) (by_records k n)
     | inr e ↦ ap (λ o. unwrap_or o (n ∷ [])) (list_read-beyond (characters_of p k) ignored n e) ∙ sym (ap (λ o. unwrap_or o ignored) (beyond k n e))
   ]
@@ -97,8 +96,8 @@ module _ (records : List Entry) (uts46 : List MapperEntry) (none : IsFirstRefusa
   -- where the word of a character tells no class, its class is 0
   same_classes : (k : Kind) → ((n : ℕ) → tells_class k packs.entries n ≡ false → recorded_class_of records n ≡ 0) → (n : ℕ) → class_of (characters_of p k) n ≡ recorded_class_of records n
   unfolding class_by
-  same_classes k starts n = elim (bool_or_not (scalar n)) [
-    | inl s ↦ (reads k).classes n s ∙ elim (bool_or_not (tells_class k packs.entries n)) [
+  same_classes k starts n = elim (cases_Bool (scalar n)) [
+    | inl s ↦ (reads k).classes n s ∙ elim (cases_Bool (tells_class k packs.entries n)) [
       | inl told ↦ ap (λ b. if b then class_in packs.entries n else 0) told ∙ meaning.classes n
       | inr untold ↦ ap (λ b. if b then class_in packs.entries n else 0) untold ∙ sym (starts n untold)
     ]
@@ -130,8 +129,8 @@ module _ (records : List Entry) (uts46 : List MapperEntry) (none : IsFirstRefusa
       ∙ ap (λ k. if has_fixed_list (recorded_class_of records) n (unwrap_or (mapper_list records uts46 n) []) || list_eq (unwrap_or (mapper_list records uts46 n) []) (n ∷ []) then k else 0) (meaning.classes n)
 
   same_mapper_classes : (n : ℕ) → class_of (characters_of p kind.Mapper) n ≡ mapper_class_of records uts46 n
-  same_mapper_classes n = elim (bool_or_not (scalar n)) [
-    | inl s ↦ (reads kind.Mapper).classes n s ∙ elim (bool_or_not (is_hangul_syllable n)) [
+  same_mapper_classes n = elim (cases_Bool (scalar n)) [
+    | inl s ↦ (reads kind.Mapper).classes n s ∙ elim (cases_Bool (is_hangul_syllable n)) [
       | inl h ↦ (let starts = starter_syllable records uts46 none packs.entries packs.made characters n h in class_by-starter n starts ∙ sym (mapper_class_of-starter n starts))
       | inr other ↦ class_by-mapper n other
     ]

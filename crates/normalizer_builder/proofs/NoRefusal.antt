@@ -2,7 +2,7 @@
 use Rattle.std.proofs.Common.{◌≡◌, ◌⊎◌, inl, inr, ℕ, zero, suc, ◌<◌, ◌≤◌, Bool, true, false, ◌||◌, List, [], ◌∷◌, ◌++◌, length, get_or, Option, Some, None, IfSome, IsSomeAnd, refl, sym, ap, ◌∙◌, arith, find, ◌==◌, length-append, if◌then◌else◌}
 use Rattle.std.specs.List.{list_any}
 use Rattle.std.specs.Option.{option_map}
-use Rattle.std.proofs.lemmas.Bool.{cases_lt, true≢false}
+use Rattle.std.proofs.lemmas.Bool.{cases_Bool, cases_lt, or_left, or_right, true≢false}
 use Rattle.std.proofs.lemmas.Bool.Decides.{nat_tests}
 use Rattle.normal_forms.proofs.OrderLemmas.{length-order}
 use Rattle.normalizer_tables.specs.SpecialLists.{fdfa_list}
@@ -14,10 +14,6 @@ use Rattle.normalizer_records.specs.Entry.{Entry, MapperEntry, Status, MapsTo, I
 use Rattle.normalizer_records.specs.Faults.{AreRising, AreMapperRising, HasFault, HasOrderFault, HasClassFault, HasWrongClass, HasChainFault, has_fixed_fault, HasLengthFault, HasLongList, HasPairFault, IsAsked, IsFirstRefusal, IsOnLongChain, IsTooLong, has_mapping_fault, is_bad_mapping, is_bad_status, mapped_to}
 use Rattle.normalizer_records.specs.Meaning.{canonical_list, compatibility_list, mapper_list, mapped_list, list_of_status, status_of, expansion, expand_all, full_list, replacement, replace_by, recorded_classes, levels}
 use Rattle.normalizer_builder.specs.Parts.{HasRoom}
-
-pub bool_or_not : (b : Bool) → (b ≡ true) ⊎ (b ≡ false)
-bool_or_not true = inl refl
-bool_or_not false = inr refl
 
 stable : (a b : ℕ) → (¬ (a < b) → ⊥) → a < b
 stable a b h = elim (cases_lt a b) [ inl l ↦ l | inr g ↦ absurd (h (λ l. omega arith)) ]
@@ -51,20 +47,12 @@ expand_all_some : (records : List Entry) (m : ℕ) (x : List ℕ) → 0 < length
 unfolding expand_all
 expand_all_some records m x = simp length-append (omega (arith, expansion_some records Canonical levels m))
 
-or_first : (a b : Bool) → a ≡ true → (a || b) ≡ true
-or_first true b e = refl
-or_first false b e = absurd (true≢false (sym e))
-
-or_second : (a b : Bool) → b ≡ true → (a || b) ≡ true
-or_second true b e = refl
-or_second false b e = e
-
 -- a status that is looked up is a record's
 pub bad_status : (uts46 : List MapperEntry) (c : ℕ) (s : Status) → option_map (λ (r : MapperEntry). r.status) (find (λ r. r.c == c) uts46) ≡ Some s → is_bad_status s ≡ true → list_any (λ r. is_bad_status r.status) uts46 ≡ true
 bad_status [] c s found bad = absurd cc
 bad_status (r ∷ uts46) c s found bad = elim (r.c == c) as (λ b. option_map (λ (r : MapperEntry). r.status) (if b then Some r else find (λ r. r.c == c) uts46) ≡ Some s → list_any (λ r. is_bad_status r.status) (r ∷ uts46) ≡ true) [
-  | true ↦ λ here. let same : r.status ≡ s = cc in or_first (is_bad_status r.status) _ (ap is_bad_status same ∙ bad)
-  | false ↦ λ further. or_second (is_bad_status r.status) _ (bad_status uts46 c s further bad)
+  | true ↦ λ here. let same : r.status ≡ s = cc in or_left (is_bad_status r.status) _ (ap is_bad_status same ∙ bad)
+  | false ↦ λ further. or_right (is_bad_status r.status) _ (bad_status uts46 c s further bad)
 ] found
 
 module _ (records : List Entry) (uts46 : List MapperEntry) (none : IsFirstRefusal records uts46 None) where
@@ -86,7 +74,7 @@ module _ (records : List Entry) (uts46 : List MapperEntry) (none : IsFirstRefusa
 
   pub no_fixed_fault : has_fixed_fault records uts46 ≡ false
   unfolding HasFault
-  no_fixed_fault = elim (bool_or_not (has_fixed_fault records uts46)) [
+  no_fixed_fault = elim (cases_Bool (has_fixed_fault records uts46)) [
     | inl e ↦ absurd (no_fault refusal.Fixed e)
     | inr e ↦ e
   ]
@@ -150,7 +138,7 @@ module _ (records : List Entry) (uts46 : List MapperEntry) (none : IsFirstRefusa
   status_some c None e = canonical_some c
   status_some c (Some IsIgnored) e = tt
   status_some c (Some IsDisallowed) e = omega arith
-  status_some c (Some (MapsTo [])) e = absurd (no_mapping_fault (or_second (list_any is_bad_mapping records) _ (bad_status uts46 c (MapsTo []) e refl)))
+  status_some c (Some (MapsTo [])) e = absurd (no_mapping_fault (or_right (list_any is_bad_mapping records) _ (bad_status uts46 c (MapsTo []) e refl)))
   status_some c (Some (MapsTo (m ∷ x))) e = let some = expand_all_some records m x in let same = length-order (recorded_classes records) (expand_all records Canonical (m ∷ x)) in omega (arith, some, same)
 
   pub mapper_some : (c : ℕ) → IfSome (mapper_list records uts46 c) (λ x. 0 < length x)

@@ -1,5 +1,6 @@
 -- Lists of characters other than U+0000 don't have it.
 use Rattle.std.proofs.Common.{◌≡◌, ℕ, zero, suc, ◌+◌, ◌-◌, ◌/◌, ◌%◌, ◌<◌, Bool, true, false, ◌==◌, ◌||◌, List, [], ◌∷◌, flat_map, Option, Some, None, IfSome, ap, subst, sym, refl, arith, if◌then◌else◌, inl, inr, All}
+use Rattle.std.proofs.lemmas.Bool.{cases_Bool, or_parts, or_right}
 use Rattle.std.specs.List.{list_any, AllByRecursion}
 use Rattle.std.specs.Option.{option_map_or}
 use Rattle.std.proofs.lemmas.Bool.Decides.{nat_tests}
@@ -11,8 +12,7 @@ use Rattle.normalizer_records.specs.declared.records.Mappings.TheVariants.{Canon
 use Rattle.normalizer_records.specs.Entry.{Entry, MapperEntry, Status, MapsTo, IsIgnored, IsDisallowed}
 use Rattle.normalizer_records.specs.Faults.{IsFirstRefusal, has_mapping_fault, has_zero, is_bad_mapping, is_bad_status}
 use Rattle.normalizer_records.specs.Meaning.{entry_of, expand_all, expansion, full_list, levels, list_of_status, mapped_list, mapper_list, mapping_among, recorded_classes, replace_by, replacement, status_of}
-use Rattle.normalizer_builder.proofs.NoRefusal.{bad_status, bool_or_not, no_mapping_fault}
-use Rattle.normalizer_builder.proofs.PackableEntries.{or_falls}
+use Rattle.normalizer_builder.proofs.NoRefusal.{bad_status, no_mapping_fault}
 use Rattle.normalizer_builder.proofs.UnrecordedCharacters.{find-cases, none_passes}
 
 -- U+0000 isn't among x
@@ -21,7 +21,7 @@ HasNoZero x = AllByRecursion (λ c. 0 < c) x
 
 HasNoZero-test : (x : List ℕ) → has_zero x ≡ false → HasNoZero x
 HasNoZero-test [] h = tt
-HasNoZero-test (c ∷ x) h = let parts = or_falls (c == 0) (has_zero x) h in let first = parts.0 in (grind (arith, nat_tests), HasNoZero-test x parts.1)
+HasNoZero-test (c ∷ x) h = let parts = or_parts (c == 0) (has_zero x) h in let first = parts.0 in (grind (arith, nat_tests), HasNoZero-test x parts.1)
 
 HasNoZero-flat_map : (f : ℕ → List ℕ) → ((m : ℕ) → 0 < m → HasNoZero (f m)) → (x : List ℕ) → HasNoZero x → HasNoZero (flat_map f x)
 HasNoZero-flat_map f each [] h = tt
@@ -43,7 +43,7 @@ HasNoZero-replace_by f each (m ∷ x) c some h = HasNoZero-flat_map f each (m �
 
 good_mapping : (r : Entry) → is_bad_mapping r ≡ false → HasNoZero r.mapping
 unfolding is_bad_mapping
-good_mapping r h = HasNoZero-test r.mapping (or_falls (has_zero r.mapping) _ h).0
+good_mapping r h = HasNoZero-test r.mapping (or_parts (has_zero r.mapping) _ h).0
 
 HasNoZero-among : (mappings : Mappings) (r : Entry) → is_bad_mapping r ≡ false → HasNoZero (mapping_among mappings r)
 HasNoZero-among Canonical r h = elim r.compatibility as (λ b. HasNoZero (if b then [] else r.mapping)) [ true ↦ tt | false ↦ good_mapping r h ]
@@ -52,21 +52,17 @@ HasNoZero-among AllMappings r h = good_mapping r h
 module _ (records : List Entry) (uts46 : List MapperEntry) (none : IsFirstRefusal records uts46 None) where
   good_mappings : All (λ r. is_bad_mapping r ≡ false) records
   unfolding has_mapping_fault
-  good_mappings = none_passes is_bad_mapping records (elim (bool_or_not (list_any is_bad_mapping records)) as (λ _. list_any is_bad_mapping records ≡ false) [
+  good_mappings = none_passes is_bad_mapping records (elim (cases_Bool (list_any is_bad_mapping records)) as (λ _. list_any is_bad_mapping records ≡ false) [
     | inl e ↦ absurd (no_mapping_fault records uts46 none (ap (λ b. b || list_any (λ (r : MapperEntry). is_bad_status r.status) uts46) e))
     | inr e ↦ e
   ])
 
   good_status : (n : ℕ) (s : Status) → status_of uts46 n ≡ Some s → is_bad_status s ≡ false
   unfolding has_mapping_fault status_of
-  good_status n s found = elim (bool_or_not (is_bad_status s)) [
-    | inl bad ↦ absurd (no_mapping_fault records uts46 none (or_second (list_any is_bad_mapping records) _ (bad_status uts46 n s found bad)))
+  good_status n s found = elim (cases_Bool (is_bad_status s)) [
+    | inl bad ↦ absurd (no_mapping_fault records uts46 none (or_right (list_any is_bad_mapping records) _ (bad_status uts46 n s found bad)))
     | inr e ↦ e
   ]
-    where
-      or_second : (a b : Bool) → b ≡ true → (a || b) ≡ true
-      or_second true b e = refl
-      or_second false b e = e
 
   pub HasNoZero-recorded : (mappings : Mappings) (n : ℕ) → HasNoZero (option_map_or (mapping_among mappings) (entry_of records n) [])
   unfolding entry_of

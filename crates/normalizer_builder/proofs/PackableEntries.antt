@@ -1,7 +1,7 @@
 -- Entries of records that aren't refused can be packed.
 use Rattle.std.proofs.Common.{◌≡◌, ◌≢◌, ◌⊎◌, inl, inr, ℕ, ◌+◌, ◌<◌, ◌≤◌, Bool, true, false, ◌&&◌, ◌||◌, ◌==◌, nat_lt, nat_le, List, [], ◌∷◌, length, map, Option, Some, None, All, IfSome, refl, subst, sym, ◌∙◌, arith, if◌then◌else◌, filter_map}
 use Rattle.std.specs.List.{cons_option, list_all, list_any}
-use Rattle.std.proofs.lemmas.Bool.{true≢false}
+use Rattle.std.proofs.lemmas.Bool.{and_cases, cases_Bool, or_left, or_parts, or_right, true≢false}
 use Rattle.std.proofs.lemmas.Bool.Decides.{nat_tests}
 use Rattle.std.proofs.lemmas.List.Elements.{All-cons}
 use Rattle.normalizer_tables.specs.SpecialLists.{fdfa_list}
@@ -18,7 +18,7 @@ use Rattle.normalizer_records.specs.Faults.{IsFirstRefusal, IsTooLong, is_long}
 use Rattle.normalizer_records.specs.Meaning.{mapper_list}
 use Rattle.normalizer_builder.specs.Recorded.{AreMadeOf, entry_for}
 use Rattle.normalizer_builder.proofs.EntriesOfRecords.{AreEntriesOf-made}
-use Rattle.normalizer_builder.proofs.NoRefusal.{bool_or_not, canonical_fits, compatibility_fits, mapper_fits, canonical_some, compatibility_some, mapper_some}
+use Rattle.normalizer_builder.proofs.NoRefusal.{canonical_fits, compatibility_fits, mapper_fits, canonical_some, compatibility_some, mapper_some}
 
 -- a list that may stand in a table, unless a word spells it
 record IsFit (x : List ℕ) : Type 0 where
@@ -26,7 +26,7 @@ record IsFit (x : List ℕ) : Type 0 where
   within : ¬ IsTooLong x
 
 not_long : (x : List ℕ) → IsFit x → x ≢ fdfa_list → is_long x ≡ false
-not_long x h other = elim (bool_or_not (is_long x)) [
+not_long x h other = elim (cases_Bool (is_long x)) [
   | inl long ↦ absurd (h.within (long, other))
   | inr e ↦ e
 ]
@@ -34,40 +34,24 @@ not_long x h other = elim (bool_or_not (is_long x)) [
 -- a character is past U+FFFF where not all are below
 some_past : (x : List ℕ) → list_all (λ c. nat_le c 0xFFFF) x ≡ false → list_any (λ c. nat_lt 0xFFFF c) x ≡ true
 some_past [] h = absurd (true≢false h)
-some_past (c ∷ x) h = elim (bool_or_not (nat_le c 0xFFFF)) [
-  | inl e ↦ or_second (nat_lt 0xFFFF c) _ (some_past x (and_second _ _ e h))
-  | inr e ↦ or_first (nat_lt 0xFFFF c) _ (grind (arith, nat_tests))
+some_past (c ∷ x) h = elim (cases_Bool (nat_le c 0xFFFF)) [
+  | inl e ↦ or_right (nat_lt 0xFFFF c) _ (some_past x (and_second _ _ e h))
+  | inr e ↦ or_left (nat_lt 0xFFFF c) _ (grind (arith, nat_tests))
 ]
   where
-    or_first : (a b : Bool) → a ≡ true → (a || b) ≡ true
-    or_first true b e = refl
-    or_first false b e = absurd (true≢false (sym e))
-
-    or_second : (a b : Bool) → b ≡ true → (a || b) ≡ true
-    or_second true b e = refl
-    or_second false b e = e
-
     and_second : (a b : Bool) → a ≡ true → (a && b) ≡ false → b ≡ false
     and_second true b e f = f
     and_second false b e f = absurd (true≢false (sym e))
 
-pub or_falls : (a b : Bool) → (a || b) ≡ false → (a ≡ false) × (b ≡ false)
-or_falls true b e = absurd (true≢false e)
-or_falls false b e = (refl, e)
-
-and_falls : (a b : Bool) → (a && b) ≡ false → (a ≡ false) ⊎ (b ≡ false)
-and_falls true b e = inr e
-and_falls false b e = inl refl
-
 wide_length : (x : List ℕ) → is_long x ≡ false → is_narrow x ≡ false → length x ≤ 16
 unfolding is_narrow
 wide_length x short wide =
-    let parts = or_falls (nat_lt 17 (length x)) (nat_lt 16 (length x) && list_any (λ c. nat_lt 0xFFFF c) x) short in
-    elim (and_falls (nat_le 2 (length x)) (list_all (λ c. nat_le c 0xFFFF) x) wide) [
+    let parts = or_parts (nat_lt 17 (length x)) (nat_lt 16 (length x) && list_any (λ c. nat_lt 0xFFFF c) x) short in
+    elim (and_cases (nat_le 2 (length x)) (list_all (λ c. nat_le c 0xFFFF) x) wide) [
       | inl few ↦ grind (arith, nat_tests)
       | inr past ↦ (
           let beyond = some_past x past in
-          elim (and_falls (nat_lt 16 (length x)) (list_any (λ c. nat_lt 0xFFFF c) x) parts.1) [
+          elim (and_cases (nat_lt 16 (length x)) (list_any (λ c. nat_lt 0xFFFF c) x) parts.1) [
             | inl e ↦ grind (arith, nat_tests)
             | inr e ↦ absurd (true≢false (sym beyond ∙ e))
           ])
@@ -78,7 +62,7 @@ unfolding HasLengthOfWord
 length_of_word x h other =
     let short : is_long x ≡ false = not_long x h other in
     elim (is_narrow x) as (λ b. is_narrow x ≡ b → elim b as (λ _. Type 0) [ true ↦ length x ≤ 17 | false ↦ (0 < length x) × (length x ≤ 16) ]) [
-      | true ↦ λ narrow. (let part = (or_falls (nat_lt 17 (length x)) _ short).0 in grind (arith, nat_tests))
+      | true ↦ λ narrow. (let part = (or_parts (nat_lt 17 (length x)) _ short).0 in grind (arith, nat_tests))
       | false ↦ λ wide. (h.some, wide_length x short wide)
     ] refl
 

@@ -1,7 +1,7 @@
 -- Entries of records that aren't refused have words that can be read again.
 use Rattle.std.proofs.Common.{◌≡◌, ◌∙◌, ◌⊎◌, inl, inr, ℕ, ◌<◌, Bool, true, false, ◌==◌, ◌&&◌, nat_lt, List, [], ◌∷◌, map, All, Contains, Option, Some, None, IfSome, IsSomeAnd, unwrap_or, ap, ap₂, subst, sym, refl, arith}
 use Rattle.std.specs.Char.{IsScalar}
-use Rattle.std.proofs.lemmas.Bool.{true≢false, cases_eq}
+use Rattle.std.proofs.lemmas.Bool.{cases_Bool, cases_eq, or_parts, true≢false}
 use Rattle.std.proofs.lemmas.Bool.Decides.{eqb_tells, nat_tests}
 use Rattle.std.proofs.lemmas.List.Elements.{All-cons, All-contains, All-head, All-nil, All-tail}
 use Rattle.normal_forms.specs.Boundary.{BeginsWithStarter}
@@ -22,9 +22,8 @@ use Rattle.normalizer_records.specs.Meaning.{canonical_list, class_of, compatibi
 use Rattle.normalizer_builder.specs.Parts.{IsOfCharacters}
 use Rattle.normalizer_builder.specs.Recorded.{AreMadeOf, entry_for, recorded_characters}
 use Rattle.normalizer_builder.proofs.EntriesOfRecords.{AreEntriesOf, AreEntriesOf-made, class_of_found, find-missing, list_alone, list_of_found, mapper_alone, no_entry}
-use Rattle.normalizer_builder.proofs.NoRefusal.{bool_or_not, no_wrong_class}
+use Rattle.normalizer_builder.proofs.NoRefusal.{no_wrong_class}
 use Rattle.normalizer_builder.proofs.NonzeroLists.{HasNoZero, HasNoZero-list, HasNoZero-mapper}
-use Rattle.normalizer_builder.proofs.PackableEntries.{or_falls}
 use Rattle.normalizer_builder.proofs.UnrecordedCharacters.{class_of-unrecorded, find-cases, missing_syllable, status_of_replacement, unrecorded_replacement}
 
 numbers_made : {X : Type 0} (make : ℕ → X) (number : X → ℕ) → ((c : ℕ) → number (make c) ≡ c) → (cs : List ℕ) → map number (map make cs) ≡ cs
@@ -171,7 +170,7 @@ module _ (records : List Entry) (uts46 : List MapperEntry) (none : IsFirstRefusa
   nonzero_recorded kind.Mapper n some = nonzero_or_ignored (mapper_list records uts46 n) (HasNoZero-mapper records uts46 none n some)
 
   kept_nonzero : (k : Kind) (n : ℕ) → 0 < n → HasNoZero (kept_list k entries n)
-  kept_nonzero k n some = elim (bool_or_not (is_hangul_syllable n)) [
+  kept_nonzero k n some = elim (cases_Bool (is_hangul_syllable n)) [
     | inl h ↦ subst HasNoZero (sym (kept_syllable k n h)) (some, tt)
     | inr other ↦ subst HasNoZero (sym (kept_other k n other)) (nonzero_recorded k n some)
   ]
@@ -187,7 +186,7 @@ module _ (records : List Entry) (uts46 : List MapperEntry) (none : IsFirstRefusa
   unfolding tells_class
   free k n other h x e =
       let here : kept_list k entries n ≡ x = kept_other k n other ∙ ap (λ o. unwrap_or o []) e in
-      let parts = or_falls (has_fixed_list (class_in entries) n (kept_list k entries n)) (list_eq (kept_list k entries n) (n ∷ [])) h in (
+      let parts = or_parts (has_fixed_list (class_in entries) n (kept_list k entries n)) (list_eq (kept_list k entries n) (n ∷ [])) h in (
         λ same. true≢false (sym (eq_list (kept_list k entries n) (n ∷ []) (here ∙ same)) ∙ parts.1),
         λ form. true≢false (sym (has_fixed_list-same (class_in entries) (class_of records) meaning.classes n (kept_list k entries n) ∙ ap (has_fixed_list (class_of records) n) here ∙ fixed_form-has records n x form) ∙ parts.0),
       )
@@ -210,11 +209,11 @@ module _ (records : List Entry) (uts46 : List MapperEntry) (none : IsFirstRefusa
   told_syllable : (k : Kind) (n : ℕ) → is_hangul_syllable n ≡ true → tells_class k entries n ≡ false → ⊥
   unfolding tells_class
   told_syllable k n h e =
-      let parts = or_falls (has_fixed_list (class_in entries) n (kept_list k entries n)) (list_eq (kept_list k entries n) (n ∷ [])) e in
+      let parts = or_parts (has_fixed_list (class_in entries) n (kept_list k entries n)) (list_eq (kept_list k entries n) (n ∷ [])) e in
       true≢false (sym (eq_list (kept_list k entries n) (n ∷ []) (kept_syllable k n h)) ∙ parts.1)
 
   kept_first : (k : Kind) (n : ℕ) → tells_class k entries n ≡ false → BeginsWithStarter (composing_reading entries []) (kept_list k entries n)
-  kept_first k n h = elim (bool_or_not (is_hangul_syllable n)) [
+  kept_first k n h = elim (cases_Bool (is_hangul_syllable n)) [
     | inl syllable ↦ absurd (told_syllable k n syllable h)
     | inr other ↦ subst (BeginsWithStarter (composing_reading entries [])) (sym (kept_other k n other)) (starter_first records entries meaning.classes _ (bare k n (free k n other h)))
   ]
@@ -222,14 +221,14 @@ module _ (records : List Entry) (uts46 : List MapperEntry) (none : IsFirstRefusa
   -- the class of a character whose canonical or compatibility list is such a one
   pub starter_canonical : (n : ℕ) → tells_class kind.Canonical entries n ≡ false → class_of records n ≡ 0
   unfolding HasWrongClass
-  starter_canonical n h = elim (bool_or_not (is_hangul_syllable n)) [
+  starter_canonical n h = elim (cases_Bool (is_hangul_syllable n)) [
     | inl syllable ↦ absurd (told_syllable kind.Canonical n syllable h)
     | inr other ↦ no_mark (class_of records n) (not_so (is_mark records n) (λ e. no_wrong_class records uts46 none n (inr (inl (inl e, free kind.Canonical n other h (canonical_list records n) refl)))))
   ]
 
   pub starter_compatibility : (n : ℕ) → tells_class kind.Compatibility entries n ≡ false → class_of records n ≡ 0
   unfolding HasWrongClass
-  starter_compatibility n h = elim (bool_or_not (is_hangul_syllable n)) [
+  starter_compatibility n h = elim (cases_Bool (is_hangul_syllable n)) [
     | inl syllable ↦ absurd (told_syllable kind.Compatibility n syllable h)
     | inr other ↦ no_mark (class_of records n) (not_so (is_mark records n) (λ e. no_wrong_class records uts46 none n (inr (inr (inl (inl e, free kind.Compatibility n other h (compatibility_list records n) refl))))))
   ]

@@ -3,7 +3,7 @@ use Rattle.std.proofs.Common.{◌≡◌, ◌≢◌, ◌∙◌, ◌⊎◌, inl, i
 use Rattle.std.specs.Int.{is_in_range}
 use Rattle.std.specs.List.{list_any, AllByRecursion}
 use Rattle.std.specs.Option.{option_map}
-use Rattle.std.proofs.lemmas.Bool.{true≢false}
+use Rattle.std.proofs.lemmas.Bool.{cases_Bool, or_parts, or_right, true≢false}
 use Rattle.std.proofs.lemmas.Bool.Decides.{eqb_tells, nat_tests}
 use Rattle.std.proofs.lemmas.List.Elements.{All-append, All-contains, All-head, All-map, All-tail}
 use Rattle.std.proofs.lemmas.List.Folds.{list_any_at}
@@ -18,12 +18,11 @@ use Rattle.normalizer_records.proofs.ExpansionLemmas.{expansion-replaced, syllab
 use Rattle.normalizer_records.proofs.UnrecordedLemmas.{jamo_alone}
 use Rattle.normalizer_builder.specs.Recorded.{recorded_characters}
 use Rattle.normalizer_builder.proofs.EntriesOfRecords.{class_of_record, find-missing}
-use Rattle.normalizer_builder.proofs.NoRefusal.{bool_or_not, no_fixed_fault}
-use Rattle.normalizer_builder.proofs.PackableEntries.{or_falls}
+use Rattle.normalizer_builder.proofs.NoRefusal.{no_fixed_fault}
 
 -- none passes a test that not any passes
 pub none_passes : {X : Type 0} (p : X → Bool) (xs : List X) → list_any p xs ≡ false → All (λ x. p x ≡ false) xs
-none_passes p xs h k d within = elim (bool_or_not (p (get_or xs k d))) [
+none_passes p xs h k d within = elim (cases_Bool (p (get_or xs k d))) [
   | inl e ↦ absurd (true≢false (sym (list_any_at p xs k d within e) ∙ h))
   | inr e ↦ e
 ]
@@ -43,16 +42,10 @@ find-cases number P (x ∷ xs) n all = elim (eqb_tells (number x) n) [
 
 syllable_fixed : (c : ℕ) → is_hangul_syllable c ≡ true → is_fixed c ≡ true
 unfolding is_fixed
-syllable_fixed c h = rw h (or_true (c == 0xFFFD) (is_in_range 0x1100 0x11FF c))
-  where
-    or_true : (a b : Bool) → ((a || b) || true) ≡ true
-    or_true true true = refl
-    or_true true false = refl
-    or_true false true = refl
-    or_true false false = refl
+syllable_fixed c h = rw h (or_right (c == 0xFFFD || is_in_range 0x1100 0x11FF c) true refl)
 
 unfixed_syllable : (c : ℕ) → is_fixed c ≡ false → is_hangul_syllable c ≡ false
-unfixed_syllable c h = elim (bool_or_not (is_hangul_syllable c)) [
+unfixed_syllable c h = elim (cases_Bool (is_hangul_syllable c)) [
   | inl e ↦ absurd (true≢false (sym (syllable_fixed c e) ∙ h))
   | inr e ↦ e
 ]
@@ -114,11 +107,11 @@ order-starters d (c ∷ x) starters = ap (insert d c) (order-starters d x starte
 module _ (records : List Entry) (uts46 : List MapperEntry) (none : IsFirstRefusal records uts46 None) where
   unfixed_records : All (λ c. is_fixed c ≡ false) (map (λ (r : Entry). r.c) records)
   unfolding has_fixed_fault
-  unfixed_records = All-map (λ c. is_fixed c ≡ false) (λ (r : Entry). r.c) records (none_passes (λ (r : Entry). is_fixed r.c) records (or_falls _ _ (no_fixed_fault records uts46 none)).0)
+  unfixed_records = All-map (λ c. is_fixed c ≡ false) (λ (r : Entry). r.c) records (none_passes (λ (r : Entry). is_fixed r.c) records (or_parts _ _ (no_fixed_fault records uts46 none)).0)
 
   unfixed_statuses : All (λ r. is_fixed_for_mapper r ≡ false) uts46
   unfolding has_fixed_fault
-  unfixed_statuses = none_passes is_fixed_for_mapper uts46 (or_falls (list_any (λ (r : Entry). is_fixed r.c) records) _ (no_fixed_fault records uts46 none)).1
+  unfixed_statuses = none_passes is_fixed_for_mapper uts46 (or_parts (list_any (λ (r : Entry). is_fixed r.c) records) _ (no_fixed_fault records uts46 none)).1
 
   unfixed_statuses_syllables : All (λ c. is_hangul_syllable c ≡ false) (map (λ (r : MapperEntry). r.c) uts46)
   unfixed_statuses_syllables = All-map (λ c. is_hangul_syllable c ≡ false) (λ (r : MapperEntry). r.c) uts46 (λ k d within. unfixed_mapper_syllable (get_or uts46 k d) (unfixed_statuses k d within))

@@ -1,6 +1,6 @@
 -- Where lists stand in the four tables.
 use Rattle.std.proofs.Common.{◌≡◌, ℕ, ◌+◌, ◌<◌, ◌≤◌, Bool, true, false, List, [], ◌∷◌, ◌++◌, length, Some, None, if◌then◌else◌, All, refl, arith, sym, subst, ap, ◌∙◌, inl, inr}
-use Rattle.std.proofs.lemmas.Bool.{leb-true, or_left, or_right}
+use Rattle.std.proofs.lemmas.Bool.{leb-true, or_cases, or_left, or_right}
 use Rattle.std.proofs.lemmas.List.Elements.{All-head, All-tail}
 use Rattle.normalizer_tables.specs.Characters.{items_at}
 use Rattle.normalizer_tables.specs.Conditions.{item_count}
@@ -13,7 +13,7 @@ use Rattle.normalizer_packing.specs.PackedWords.{CanPoint}
 use Rattle.normalizer_packing.specs.Spelling.{list_eq}
 use Rattle.normalizer_packing.specs.Stored.{HasLengthOfWord, canonical_lists, first_come, is_among, is_narrow, item_at, item_in, item_of, items_of, listed_in, needed_items, place_of, supplementary_lists, tables_of}
 use Rattle.normalizer_packing.specs.Stores.{StandsAt, place_in, tables_in}
-use Rattle.normalizer_packing.proofs.StoreLemmas.{chosen, or_cases, narrow_length, not_among_if_nowhere, place_if_some, placed}
+use Rattle.normalizer_packing.proofs.StoreLemmas.{chosen, narrow_length, not_among_if_nowhere, place_if_some, placed}
 use Rattle.normalizer_packing.proofs.TableLemmas.{is_among-append, is_among-apart, is_among-first_come, same_list, stands_at_place}
 
 pub items_within : (t x : List ℕ) (place : ℕ) → items_at t place (length x) ≡ Some x → place + length x ≤ length t

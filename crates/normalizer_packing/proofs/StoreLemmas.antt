@@ -1,7 +1,7 @@
 -- What a store holds, list by list.
 use Rattle.std.proofs.Common.{◌≡◌, ℕ, ◌+◌, ◌<◌, ◌≤◌, ◌⊎◌, Bool, true, false, not, ◌||◌, List, [], ◌∷◌, ◌++◌, length, take, get_or, Option, Some, None, cond, if◌then◌else◌, nat_le, refl, arith, ap, sym, subst, ◌∙◌, inl, inr}
 use Rattle.std.specs.List.{filter_map}
-use Rattle.std.proofs.lemmas.Bool.{leb-true, and_parts}
+use Rattle.std.proofs.lemmas.Bool.{and_parts, leb-true, or_right}
 use Rattle.std.proofs.lemmas.List.{append-nil, take_all, take_more}
 use Rattle.std.proofs.lemmas.List.Sums.{AllPass-from_list_all}
 use Rattle.normalizer_tables.specs.Conditions.{item_count}
@@ -23,10 +23,6 @@ use Rattle.normalizer_packing.proofs.TableLemmas.{apart_from-more, apart_from-th
 pub chosen : (b : Bool) (y x : List ℕ) → (if b then Some y else None) ≡ Some x → (b ≡ true) × (y ≡ x)
 chosen true y x h = (refl, cc)
 chosen false y x h = cc
-
-pub or_cases : (a b : Bool) → (a || b) ≡ true → (a ≡ true) ⊎ (b ≡ true)
-or_cases true b h = inl refl
-or_cases false b h = inr h
 
 pub holds_nothing : (s : Store) → tables_in s ≡ record { scalars16 = []; scalars24 = [] } → ((x : List ℕ) → place_in s x ≡ None) → Holds [] s
 unfolding is_among items_of
@@ -58,13 +54,9 @@ module _ (lists : List (List ℕ)) (s : Store) (x : List ℕ) (h : Holds lists s
     place_at_end : (y : List ℕ) → list_eq x y ≡ true → Some n ≡ (if is_among y (lists ++ x ∷ []) then Some (place_of (lists ++ x ∷ []) y) else None)
     place_at_end y same =
         let here : x ≡ y = same_list x y same in
-        let among : is_among y (lists ++ x ∷ []) ≡ true = is_among-append y lists (x ∷ []) ∙ ap (λ b. is_among y lists || b) (is_among-one y x ∙ eq_list y x (sym here)) ∙ or_last (is_among y lists) in
+        let among : is_among y (lists ++ x ∷ []) ≡ true = is_among-append y lists (x ∷ []) ∙ ap (λ b. is_among y lists || b) (is_among-one y x ∙ eq_list y x (sym here)) ∙ or_right (is_among y lists) true refl in
         let place : place_of (lists ++ x ∷ []) y ≡ n = ap (place_of (lists ++ x ∷ [])) (sym here) ∙ place_of-end lists x (not_among_if_nowhere nowhere) ∙ sym at_end in
         rw (among, place) refl
-      where
-        or_last : (b : Bool) → (b || true) ≡ true
-        or_last true = refl
-        or_last false = refl
 
     place_kept : (y : List ℕ) → list_eq x y ≡ false → place_in s y ≡ (if is_among y (lists ++ x ∷ []) then Some (place_of (lists ++ x ∷ []) y) else None)
     place_kept y differs =

@@ -1,5 +1,6 @@
 -- What words say, by how their lists are spelled.
 use Rattle.std.proofs.Common.{◌≡◌, ◌==◌, ℕ, ◌<◌, ◌≤◌, ◌⊎◌, Bool, true, false, ◌||◌, List, [], ◌∷◌, Option, Some, None, find, cond, if◌then◌else◌, unwrap_or, Bor, refl, arith, ap, sym, subst, ◌∙◌, inl, inr, eqb-true}
+use Rattle.std.proofs.lemmas.Bool.{or_right}
 use Rattle.std.specs.Char.{OutOfScalarRange}
 use Rattle.std.specs.List.{cons_option, filter_map, list_any}
 use Rattle.std.specs.Option.{option_copied}
@@ -40,10 +41,6 @@ found_passes p (y ∷ entries) e found = elim (found_first (p y) y e (find p ent
   | inr later ↦ found_passes p entries e later
 ]
 
-or_true : (b : Bool) → (b || true) ≡ true
-or_true true = refl
-or_true false = refl
-
 among_here : (x : List ℕ) (o : Option (List ℕ)) (rest : List (List ℕ)) → o ≡ Some x → is_among x (cons_option o rest) ≡ true
 unfolding is_among
 among_here x o rest e = rw e (ap (λ b. b || list_any (list_eq x) rest) (eq_list x x refl))
@@ -51,7 +48,7 @@ among_here x o rest e = rw e (ap (λ b. b || list_any (list_eq x) rest) (eq_list
 among_later : (x : List ℕ) (o : Option (List ℕ)) (rest : List (List ℕ)) → is_among x rest ≡ true → is_among x (cons_option o rest) ≡ true
 unfolding is_among
 among_later x None rest h = h
-among_later x (Some z) rest h = ap (λ b. list_eq x z || b) h ∙ or_true (list_eq x z)
+among_later x (Some z) rest h = ap (λ b. list_eq x z || b) h ∙ or_right (list_eq x z) true refl
 
 -- what an element gives that a search finds is among what all give
 pub found_among : (p : CharacterEntry → Bool) (f : CharacterEntry → Option (List ℕ)) (entries : List CharacterEntry) (e : CharacterEntry) (x : List ℕ) → find p entries ≡ Some e → f e ≡ Some x → is_among x (filter_map f entries) ≡ true

@@ -2,7 +2,7 @@
 use Rattle.std.proofs.Common.{◌≡◌, ◌≢◌, ℕ, suc, ◌+◌, ◌-◌, ◌/◌, ◌%◌, ◌<◌, ◌≤◌, ◌⊎◌, ◌↔◌, ◌==◌, ◌||◌, Bool, true, false, List, [], ◌∷◌, ◌++◌, length, map, refl, Option, Some, None, is_some, IsSomeAnd, inl, inr, sym, ap, subst, ◌∙◌, arith, Contains, find, if◌then◌else◌, nat_lt, flat_map}
 use Rattle.std.specs.Option.{option_map, option_map_or}
 use Rattle.std.specs.List.{list_any}
-use Rattle.std.proofs.lemmas.Bool.{true≢false}
+use Rattle.std.proofs.lemmas.Bool.{or_left, or_parts, true≢false}
 use Rattle.std.proofs.lemmas.Bool.Decides.{nat_tests}
 use Rattle.std.proofs.lemmas.List.Elements.{Contains-append_left, Contains-append_right}
 use Rattle.normal_forms.proofs.OrderLemmas.{length-order}
@@ -28,21 +28,9 @@ contains_key {X} key (x ∷ xs) c h = elim (key x == c) as (λ b. (key x == c) �
 none_fixed : (c : ℕ) (xs : List Entry) → is_fixed c ≡ true → list_any (λ r. is_fixed r.c) xs ≡ false → find (λ r. r.c == c) xs ≡ None
 none_fixed c [] fixed h = refl
 none_fixed c (x ∷ xs) fixed h = elim (x.c == c) as (λ b. (x.c == c) ≡ b → (if b then Some x else find (λ r. r.c == c) xs) ≡ None) [
-  | true ↦ λ same. let e : x.c ≡ c = grind (arith, nat_tests) in let bad : is_fixed x.c ≡ true = ap is_fixed e ∙ fixed in absurd (true≢false (sym (first_of _ _ bad) ∙ h))
-  | false ↦ λ other. none_fixed c xs fixed (second_of _ _ h)
+  | true ↦ λ same. let e : x.c ≡ c = grind (arith, nat_tests) in let bad : is_fixed x.c ≡ true = ap is_fixed e ∙ fixed in absurd (true≢false (sym (or_left _ _ bad) ∙ h))
+  | false ↦ λ other. none_fixed c xs fixed (or_parts _ _ h).1
 ] refl
-  where
-    first_of : (a b : Bool) → a ≡ true → (a || b) ≡ true
-    first_of true b e = refl
-    first_of false b e = absurd (true≢false (sym e))
-
-    second_of : (a b : Bool) → (a || b) ≡ false → b ≡ false
-    second_of true b e = absurd (true≢false e)
-    second_of false b e = e
-
-or_first : (a b : Bool) → (a || b) ≡ false → a ≡ false
-or_first true b h = h
-or_first false b h = refl
 
 jamo_fixed : (c : ℕ) → 0x1100 ≤ c → c ≤ 0x11FF → is_fixed c ≡ true
 unfolding is_fixed
@@ -55,7 +43,7 @@ low_no_syllable c low = grind (arith, nat_tests)
 module _ (records : List Entry) (uts46 : List MapperEntry) (fixed : has_fixed_fault records uts46 ≡ false) where
   unrecorded_jamo : (c : ℕ) → 0x1100 ≤ c → c ≤ 0x11FF → entry_of records c ≡ None
   unfolding entry_of has_fixed_fault
-  unrecorded_jamo c low high = none_fixed c records (jamo_fixed c low high) (or_first _ _ fixed)
+  unrecorded_jamo c low high = none_fixed c records (jamo_fixed c low high) (or_parts _ _ fixed).0
 
   class_of-unrecorded : (c : ℕ) → entry_of records c ≡ None → class_of records c ≡ 0
   unfolding class_of
