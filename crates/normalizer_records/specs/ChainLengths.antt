@@ -1,10 +1,11 @@
 -- How long chains of records are, for the record at each place.
 use Rattle.std.specs.Prelude.{◌≡◌, ℕ, ◌+◌, ◌<◌, ◌≤◌, ◌⊎◌, min, false, List, [], ◌∷◌, length, slice_index, slice_index_or, Contains}
+use Rattle.normalizer_records.specs.declared.chains.ChainLengths.{ChainLengths}
 use Rattle.normalizer_records.specs.declared.chains.Direction.{Direction}
 use Rattle.normalizer_records.specs.declared.chains.Direction.TheVariants.{Down, Up}
 use Rattle.normalizer_records.specs.Entry.{Entry}
-use Rattle.normalizer_records.specs.Meaning.{mapping_of}
-use Rattle.normalizer_records.specs.Faults.{IsRecorded}
+use Rattle.normalizer_records.specs.Meaning.{chain_limit, mapping_of}
+use Rattle.normalizer_records.specs.Faults.{AreRising, IsRecorded}
 
 -- what stands past the end of the records
 abbrev pub no_entry : Entry
@@ -68,5 +69,12 @@ pub record Measures (records : List Entry) (direction : Direction) (limit : ℕ)
   pub attained : (k : ℕ) → k < length records → 0 < limit → (rest : List ℕ) × IsWalk records direction (character_at records k ∷ rest) × (length (character_at records k ∷ rest) ≡ slice_index lengths k)
   pub longest : (k : ℕ) (rest : List ℕ) → k < length records → IsWalk records direction (character_at records k ∷ rest) → min limit (length (character_at records k ∷ rest)) ≤ slice_index lengths k
 
+-- so many records in a row are too many
 abbrev pub chain_rounds : ℕ
-chain_rounds = 17
+chain_rounds = chain_limit + 1
+
+-- records that rise, and how long the longest chains are that lead down from each of them, and up from it
+pub record MeasuresChains (records : List Entry) (lengths : ChainLengths) : Type 0 where
+  pub rising : AreRising records
+  pub down : Measures records Down chain_rounds lengths.down.items
+  pub up : Measures records Up chain_rounds lengths.up.items

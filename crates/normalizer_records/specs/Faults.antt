@@ -7,7 +7,7 @@ use Rattle.normalizer_tables.specs.SpecialLists.{fixed_list_of, fdfa_list}
 use Rattle.normalizer_records.specs.declared.refusal.Refusal.{Refusal}
 use Rattle.normalizer_records.specs.declared.refusal.Refusal.TheVariants.{Order, Fixed, Class, Mapping, Chain, Length, Pair}
 use Rattle.normalizer_records.specs.Entry.{Entry, Status, MapsTo, IsIgnored, IsDisallowed, MapperEntry}
-use Rattle.normalizer_records.specs.Meaning.{entry_of, class_of, mapping_of, canonical_list, compatibility_list, status_of, mapper_list, pairs_of}
+use Rattle.normalizer_records.specs.Meaning.{canonical_list, chain_limit, class_of, compatibility_list, entry_of, mapper_list, mapping_of, pairs_of, status_of}
 
 -- Order
 
@@ -85,10 +85,6 @@ LeadsTo records c (next ∷ rest) = Contains (mapping_of records c) next
 unfoldable pub IsChain : List Entry → List ℕ → Type 0
 IsChain records [] = Unit {0}
 IsChain records (c ∷ rest) = IsRecorded records c × LeadsTo records c rest × IsChain records rest
-
--- how many records may lead from one to the next
-abbrev pub chain_limit : ℕ
-chain_limit = 16
 
 -- a chain of more than 16 records
 unfoldable pub HasChainFault : List Entry → Type 0

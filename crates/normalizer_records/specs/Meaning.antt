@@ -1,5 +1,5 @@
 -- What records mean: the classes, the full decompositions (The Unicode Standard, D68) and the pairs that they give.
-use Rattle.std.specs.Prelude.{◌≡◌, ◌≢◌, ℕ, zero, suc, not, ◌&&◌, ◌==◌, List, [], ◌∷◌, ◌++◌, find, flat_map, filter_map, Option, Some, None, is_some, if◌then◌else◌}
+use Rattle.std.specs.Prelude.{◌≡◌, ◌≢◌, ℕ, ◌+◌, zero, suc, not, ◌&&◌, ◌==◌, List, [], ◌∷◌, ◌++◌, find, flat_map, filter_map, Option, Some, None, is_some, if◌then◌else◌}
 use Rattle.std.specs.Option.{option_map_or, option_map}
 use Rattle.normal_forms.specs.Reading.{Reading}
 use Rattle.normal_forms.specs.Order.{order}
@@ -51,9 +51,13 @@ unfoldable pub expansion : List Entry → Mappings → ℕ → ℕ → List ℕ
 expansion records mappings zero c = c ∷ []
 expansion records mappings (suc n) c = replace_by (expansion records mappings n) (replacement records mappings c) c
 
--- deep enough where no more than 16 records lead from one to the next: one level for each, and one for Hangul
+-- how many records may lead from one to the next
+abbrev pub chain_limit : ℕ
+chain_limit = 16
+
+-- deep enough where no more records lead from one to the next: one level for each, and one for Hangul
 abbrev pub levels : ℕ
-levels = 17
+levels = chain_limit + 1
 
 -- the characters of a text replaced
 unfoldable pub expand_all : List Entry → Mappings → List ℕ → List ℕ

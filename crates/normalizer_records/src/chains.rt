@@ -9,6 +9,7 @@ ghost use Rattle.normalizer_records.specs.ChainLengths.{
   IsRaised,
   IsStep,
   Measures,
+  MeasuresChains,
 };
 ghost use Rattle.normalizer_records.specs.Faults.{AreRising, IsOnLongChain};
 
@@ -16,8 +17,11 @@ use crate::lookup::place_of;
 use crate::records::Record;
 use std::alloc::{AllocError, Global};
 
+/// How many records may lead from one to the next.
+pub(crate) const CHAIN_LIMIT: u8 = 16;
+
 /// So many records in a row are too many; no more are counted.
-const LIMIT: u8 = 17;
+const LIMIT: u8 = CHAIN_LIMIT + 1;
 
 /// A chain is followed to the characters of a mapping, or to the records that have a character in theirs.
 #[derive(Clone, Copy)]
@@ -137,8 +141,7 @@ fn lengths_of(
 /// How long the chains of records are.
 pub(crate) fn chain_lengths(alloc: Global, records: &[Record]) -> Result<ChainLengths, AllocError>
     requires { AreRising records.now }
-    ensures down { IfOk result (λ m. Measures records.now Direction.Down chain_rounds m.down.items) }
-    ensures up { IfOk result (λ m. Measures records.now Direction.Up chain_rounds m.up.items) }
+    ensures { IfOk result (MeasuresChains records.now) }
 {
     let down = lengths_of(alloc, records, Direction::Down)?;
     let up = lengths_of(alloc, records, Direction::Up)?;
@@ -154,9 +157,7 @@ pub(crate) fn has_long_chain(lengths: &ChainLengths) -> bool
 
 /// Whether a character is on such a chain.
 pub(crate) fn is_on_long_chain(records: &[Record], lengths: &ChainLengths, c: char) -> bool
-    requires rising { AreRising records.now }
-    requires down { Measures records.now Direction.Down chain_rounds lengths.now.down.items }
-    requires up { Measures records.now Direction.Up chain_rounds lengths.now.up.items }
+    requires { MeasuresChains records.now lengths.now }
     ensures { IsTrue result ↔ IsOnLongChain records.now c }
 {
     match place_of(records, c) {

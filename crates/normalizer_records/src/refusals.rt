@@ -1,6 +1,6 @@
 //! The first refusal that records alone decide.
 ghost use Rattle.std.specs.Prelude.{◌≡◌, ◌↔◌, ◌++◌, All, false, map, IfOk, IsTrue};
-ghost use Rattle.normalizer_records.specs.ChainLengths.{chain_rounds, Measures};
+ghost use Rattle.normalizer_records.specs.ChainLengths.{MeasuresChains};
 ghost use Rattle.normalizer_records.specs.Cut.{IsOfSome};
 ghost use Rattle.normalizer_records.specs.Faults.{
   AreMapperRising,
@@ -15,7 +15,6 @@ ghost use Rattle.normalizer_records.specs.Faults.{
   mapped_to,
 };
 ghost use Rattle.normalizer_records.specs.Meaning.{status_of};
-ghost use Rattle.normalizer_records.specs.declared.chains.Direction.TheVariants.{Down, Up};
 
 use crate::chains::{ChainLengths, chain_lengths, has_long_chain, is_on_long_chain};
 use crate::faults::{are_mapper_rising, are_rising, has_fixed_fault, has_mapping_fault};
@@ -28,9 +27,7 @@ use std::alloc::{AllocError, Global};
 
 /// Whether the characters of a text are on no long chain.
 fn are_off_chains(records: &[Record], lengths: &ChainLengths, text: &[char]) -> bool
-    requires rising { AreRising records.now }
-    requires down { Measures records.now Down chain_rounds lengths.now.down.items }
-    requires up { Measures records.now Up chain_rounds lengths.now.up.items }
+    requires { MeasuresChains records.now lengths.now }
     ensures { IsTrue result ↔ All (λ m. ¬ IsOnLongChain records.now m) text.now }
 {
     for place in 0..text.len() {
@@ -48,10 +45,8 @@ fn is_mapped_off_chains(
     lengths: &ChainLengths,
     c: char,
 ) -> bool
-    requires rising { AreRising records.now }
+    requires chains { MeasuresChains records.now lengths.now }
     requires mapper { AreMapperRising uts46.now }
-    requires down { Measures records.now Down chain_rounds lengths.now.down.items }
-    requires up { Measures records.now Up chain_rounds lengths.now.up.items }
     ensures { IsTrue result ↔ All (λ m. ¬ IsOnLongChain records.now m) (mapped_to (status_of uts46.now c)) }
 {
     match uts46_record_of(uts46, c) {
@@ -66,10 +61,8 @@ fn is_mapped_off_chains(
 
 /// Whether the class and the lists of a character are asked.
 fn is_asked(records: &[Record], uts46: &[Uts46Record], lengths: &ChainLengths, c: char) -> bool
-    requires rising { AreRising records.now }
+    requires chains { MeasuresChains records.now lengths.now }
     requires mapper { AreMapperRising uts46.now }
-    requires down { Measures records.now Down chain_rounds lengths.now.down.items }
-    requires up { Measures records.now Up chain_rounds lengths.now.up.items }
     ensures { IsTrue result ↔ IsAsked records.now uts46.now c }
 {
     !is_on_long_chain(records, lengths, c) && is_mapped_off_chains(records, uts46, lengths, c)
@@ -83,10 +76,8 @@ fn asked_faults(
     lengths: &ChainLengths,
     c: char,
 ) -> Result<ListFaults, AllocError>
-    requires rising { AreRising records.now }
+    requires chains { MeasuresChains records.now lengths.now }
     requires mapper { AreMapperRising uts46.now }
-    requires down { Measures records.now Down chain_rounds lengths.now.down.items }
-    requires up { Measures records.now Up chain_rounds lengths.now.up.items }
     ensures class { IfOk result (λ f. IsTrue f.class ↔ (IsAsked records.now uts46.now c × HasWrongClass records.now uts46.now c)) }
     ensures length { IfOk result (λ f. IsTrue f.length ↔ (IsAsked records.now uts46.now c × HasLongList records.now uts46.now c)) }
 {
@@ -108,10 +99,8 @@ fn list_faults(
     lengths: &ChainLengths,
     characters: &[char],
 ) -> Result<ListFaults, AllocError>
-    requires rising { AreRising records.now }
+    requires chains { MeasuresChains records.now lengths.now }
     requires mapper { AreMapperRising uts46.now }
-    requires down { Measures records.now Down chain_rounds lengths.now.down.items }
-    requires up { Measures records.now Up chain_rounds lengths.now.up.items }
     ensures class { IfOk result (λ f. IsTrue f.class ↔ IsOfSome (λ c. IsAsked records.now uts46.now c × HasWrongClass records.now uts46.now c) characters.now) }
     ensures length { IfOk result (λ f. IsTrue f.length ↔ IsOfSome (λ c. IsAsked records.now uts46.now c × HasLongList records.now uts46.now c) characters.now) }
 {
