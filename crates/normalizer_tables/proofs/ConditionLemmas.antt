@@ -88,7 +88,7 @@ read-plain n w is_mapper h =
     unread true = refl
     unread false = refl
 
-plain-no_class_form : (w : ℕ) → is_plain w ≡ true → is_class_form w ≡ false
+pub plain-no_class_form : (w : ℕ) → is_plain w ≡ true → is_class_form w ≡ false
 unfolding is_plain is_class_form is_ordinary_class_form is_special_class_form
 plain-no_class_form w h =
     let none : bit_and w 0x3FFFFFFF ≡ 0 = grind (arith, nat_tests) in

@@ -4,6 +4,7 @@ pub mod CodePoints
 pub mod CompositionLemmas
 pub mod ConditionLemmas
 pub mod FailingLemmas
+pub mod FdfaWords
 pub mod FirstFailing
 pub mod FirstFailingPairs
 pub mod HangulLemmas
@@ -16,6 +17,7 @@ pub mod PairConditionLemmas
 pub mod PairLaws
 pub mod PairLemmas
 pub mod PartsOfConditions
+pub mod PlainCharacters
 pub mod RangeLists
 pub mod RangeTables
 pub mod SoundLists

@@ -36,9 +36,10 @@ IsSoundStep s n Default = list_of s [] n ≡ n ∷ []
 IsSoundStep s n (Singleton a) = IsInOrder s n (list_of s [] a)
 IsSoundStep s n (Expansion a b) = IsInOrder s n (list_of s [] a ++ list_of s [] b)
 
--- what the conditions say of a number n
+-- what the conditions say of a number n. The word of a Hangul syllable never has the form of U+FDFA; surrogates and the
+-- numbers past the code points may not have it either.
 unfoldable pub AvoidsFdfa : Characters → ℕ → Type 0
-AvoidsFdfa s n = IsScalar n → reading_of_word s n ≢ Fdfa
+AvoidsFdfa s n = reading_of_word s n ≢ Fdfa
 
 unfoldable pub HasSoundStep : Characters → Supplement → ℕ → Type 0
 HasSoundStep s t n = IsScalar n → is_hangul_syllable n ≡ false → IsSomeAnd (step_of s t n) (IsSoundStep s n)

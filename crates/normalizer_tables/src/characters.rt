@@ -15,6 +15,7 @@ ghost use Rattle.normalizer_tables.specs.Characters.{
   word_of,
 };
 ghost use Rattle.normalizer_tables.specs.Found.{IsFound};
+ghost use Rattle.normalizer_tables.specs.Ranges.{IsComplete};
 
 use crate::members::Members;
 use crate::provider::{DecompositionData, DecompositionTables};
@@ -96,7 +97,10 @@ impl<'a> CharacterData<'a> {
     /// The word of any number.
     #[tactic(auto, unfolding(crate::specs::Characters::word_of))]
     pub fn word_of_number(&self, number: u32) -> u32
-        ensures { result ≡ word_of self.now number }
+        ensures word { result ≡ word_of self.now number }
+
+        // Stated for callers, who don't see the table: the list of words has all code points.
+        ensures complete { IsComplete self.now.decompositions.table }
     {
         let decompositions = self.decompositions;
         decompositions.table.get32(number)

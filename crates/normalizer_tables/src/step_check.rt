@@ -1,10 +1,9 @@
 //! The complete check of canonical data and the supplement, by which characters are decomposed one step.
-ghost use Rattle.std.specs.Prelude.{◌≡◌, ◌↔◌, [], IsTrue};
+ghost use Rattle.std.specs.Prelude.{◌≡◌, ◌≢◌, ◌↔◌, [], Bool, IsTrue};
 ghost use Rattle.normal_forms.specs.Order.{order};
 ghost use Rattle.normalizer_tables.specs.Characters.{list_of, own_reading, word_of};
 ghost use Rattle.normalizer_tables.specs.Conditions.{Holds, IsFirstFailing};
 ghost use Rattle.normalizer_tables.specs.StepConditions.{
-  AvoidsFdfa,
   HasSoundStep,
   HoldsOfSteps,
   IsSoundStep,
@@ -12,6 +11,8 @@ ghost use Rattle.normalizer_tables.specs.StepConditions.{
   step_conditions,
 };
 ghost use Rattle.normalizer_tables.specs.Steps.{step_of};
+ghost use Rattle.normalizer_tables.specs.Words.{read};
+ghost use Rattle.normalizer_tables.specs.declared.word.WordReading.TheVariants.{Fdfa};
 
 use crate::characters::{CODE_POINTS, CharacterData, IgnoredCharacters};
 use crate::check::first_failing;
@@ -21,7 +22,7 @@ use crate::pair_check::results::{has_ordered_lists, is_spelled, put_in_order, wr
 use crate::provider::NonRecursiveDecompositionSupplement;
 use crate::step::{Step, step_of};
 use crate::step_condition::StepCondition;
-use crate::word::{WordReading, is_hangul_syllable, is_plain, read};
+use crate::word::{is_hangul_syllable, is_plain};
 
 #[cfg(test)]
 mod tests;
@@ -54,9 +55,10 @@ pub fn first_failing_of_steps(
     ensures { IsFirstFailing (HoldsOfSteps data.now supplement.now) step_conditions result }
 {
     let mut are_sound = true;
-    for number in 0..CODE_POINTS {
+    // The word of the last number is that of all numbers past the code points.
+    for number in 0..=CODE_POINTS {
         let word = data.word_of_number(number);
-        if !avoids_fdfa(data, number, word) {
+        if !avoids_fdfa(number, word) {
             return Some(StepCondition::FdfaForms);
         }
         are_sound = are_sound && has_sound_step(data, supplement, number, word);
@@ -68,16 +70,11 @@ pub fn first_failing_of_steps(
     }
 }
 
-/// Whether the word of a number, which was looked up, has not the form of U+FDFA.
-#[tactic(auto, unfolding(crate::specs::StepConditions::AvoidsFdfa, crate::specs::Characters::reading_of_word))]
-fn avoids_fdfa(data: &CharacterData<'_>, number: u32, word: u32) -> bool
-    requires { word ≡ word_of data.now number }
-    ensures { IsTrue result ↔ AvoidsFdfa data.now number }
+/// Whether the word of a number, flags aside, has not the form of U+FDFA: that of a Hangul syllable never has.
+fn avoids_fdfa(number: u32, word: u32) -> bool
+    ensures { (is_mapper : Bool) → IsTrue result ↔ (read number word is_mapper ≢ Fdfa) }
 {
-    let Some(character) = char::from_u32(number) else {
-        return true;
-    };
-    !matches!(read(character, word, data.is_mapper()), WordReading::Fdfa)
+    is_hangul_syllable(number) || word & 0x3FFF_FFFF != 1
 }
 
 /// Whether a character, whose word was looked up, has a sound step unless it is a Hangul syllable.

@@ -5,7 +5,8 @@ ghost use Rattle.normalizer_tables.specs.StepConditions.{number_of_step_conditio
 /// A written condition on canonical data, or on them and the supplement.
 #[derive(Clone, Copy, PartialEq, Eq, Debug)]
 pub enum StepCondition {
-    /// No word outside the Hangul syllables has the form of U+FDFA.
+    /// No word outside the Hangul syllables has the form of U+FDFA, that of no surrogate and no number past the code
+    /// points either.
     FdfaForms,
     /// But for Hangul syllables, a character has a step. It is `Default` exactly where the list is the character alone,
     /// and else the list is the ordered lists of its parts.
