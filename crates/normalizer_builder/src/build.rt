@@ -100,6 +100,3 @@ fn parts_of(
     let pairs = pairs(alloc, records)?;
     Ok((entries, pairs))
 }
-
-#[cfg(test)]
-mod tests;

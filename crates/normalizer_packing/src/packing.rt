@@ -93,6 +93,3 @@ fn data_of<'a, 'e>(
         passthrough_cap: cap_of(entries, compositions, kind),
     })
 }
-
-#[cfg(test)]
-mod tests;

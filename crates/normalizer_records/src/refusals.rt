@@ -195,6 +195,3 @@ pub fn first_refusal(
     }
     first_of_rising(alloc, records, uts46)
 }
-
-#[cfg(test)]
-mod tests;

@@ -24,9 +24,6 @@ use crate::word::{WordReading, class_of_word, is_class_form, read};
 use std::alloc::Global;
 use std::marker::Model;
 
-#[cfg(test)]
-mod tests;
-
 /// What stands for a character that the mapper ignores (UTS #46, section 4).
 #[derive(Clone, Copy, PartialEq, Eq, Debug)]
 pub enum IgnoredCharacters {

@@ -15,8 +15,6 @@ use crate::condition::{Bounds, Condition};
 mod lists;
 pub(crate) mod numbers;
 mod overall;
-#[cfg(test)]
-pub(crate) mod tests;
 
 /// The first of these conditions that the data break.
 pub fn first_failing(

@@ -18,9 +18,6 @@ use crate::provider::DecompositionData;
 use crate::table::CodePointTable;
 use crate::word::{is_class_form, is_ordinary_class_form, is_special_class_form, low_byte};
 
-#[cfg(test)]
-mod tests;
-
 /// The first of the conditions on classes that data break. It takes no memory.
 pub fn first_failing_of_classes(data: &DecompositionData) -> Option<ClassCondition>
     ensures { IsFirstFailing (HoldsOfClasses data.now.table) class_conditions result }

@@ -14,9 +14,6 @@ use crate::check::first_failing;
 use crate::condition::{Bounds, Condition};
 use crate::provider::{DataError, DataMarkerInfo, DecompositionData, DecompositionTables};
 
-#[cfg(test)]
-mod tests;
-
 /// What is asked of canonical data that are handed in: nothing of their cap.
 const NFD_DATA: [Condition; 9] = [
     Condition::ItemLimit,

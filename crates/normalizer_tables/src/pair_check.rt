@@ -20,8 +20,6 @@ use crate::word::IGNORED_MARKER;
 
 mod beginnings;
 pub(crate) mod results;
-#[cfg(test)]
-mod tests;
 
 /// The first of the conditions on pairs that data and pairs break. Of the mapper's data the last is not asked.
 pub fn first_failing_of_pairs(

@@ -209,6 +209,3 @@ fn is_vowel_or_trailing_jamo(c: char) -> bool
 {
     '\u{1161}' <= c && c <= '\u{11FF}'
 }
-
-#[cfg(test)]
-mod tests;

@@ -197,6 +197,3 @@ impl DataMarker for NormalizerNfdSupplementV1 {
 
     const INFO: DataMarkerInfo = DataMarkerInfo::NormalizerNfdSupplementV1;
 }
-
-#[cfg(test)]
-mod tests;

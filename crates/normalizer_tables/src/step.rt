@@ -20,9 +20,6 @@ use crate::members::Members;
 use crate::provider::NonRecursiveDecompositionSupplement;
 use crate::word::{WordReading, is_hangul_syllable};
 
-#[cfg(test)]
-mod tests;
-
 /// What one step of canonical decomposition makes of a character.
 #[derive(Clone, Copy, PartialEq, Eq, Debug)]
 pub enum Step {

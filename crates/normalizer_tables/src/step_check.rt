@@ -24,9 +24,6 @@ use crate::step::{Step, step_of};
 use crate::step_condition::StepCondition;
 use crate::word::{is_hangul_syllable, is_plain};
 
-#[cfg(test)]
-mod tests;
-
 /// Room for a list, of at most 18 characters.
 const ROOM: usize = 18;
 

@@ -117,6 +117,3 @@ fn word_in_ranges(ranges: &[(u32, u32, u32)], number: u32) -> u32
         _ => 0,
     }
 }
-
-#[cfg(test)]
-mod tests;

@@ -14,6 +14,3 @@ mod utf8;
 pub use chars::{Chars, Utf8Chars, Utf16Chars};
 pub use step::Step;
 pub use units::Units;
-
-#[cfg(test)]
-mod tests;

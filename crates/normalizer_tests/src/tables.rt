@@ -1,0 +1,12 @@
+//! Tests of handed-in data: tables, words, lists, steps, pairs, providers, and the checks with each of their conditions.
+mod characters;
+mod class_check;
+mod data_check;
+mod edits;
+mod nfd_check;
+mod pair_check;
+mod pairs;
+mod provider;
+mod step;
+mod step_check;
+mod table;
