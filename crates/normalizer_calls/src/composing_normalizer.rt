@@ -1,11 +1,10 @@
 //! Composing normalizers over data that a provider holds.
-ghost use Rattle.std.specs.Prelude.{◌≡◌, ◌⊎◌, ℕ, List, IfOk, IfErr, IsOk, IsOkUnless};
+ghost use Rattle.std.specs.Prelude.{◌≡◌, ◌⊎◌, IfOk, IfErr};
 ghost use Rattle.std.specs.Iterator.{IsFinite};
 ghost use Rattle.normal_forms.specs.Forms.{nfc};
-ghost use Rattle.normal_forms.specs.ShortRuns.{HasShortRuns};
 ghost use Rattle.normalizer_tables.specs.Characters.{has_class_form, own_reading};
 ghost use Rattle.normalizer_tables.specs.PairConditions.{composing_reading};
-ghost use Rattle.normalizer_text.specs.Steps.{Spells};
+ghost use Rattle.normalizer_iterators.specs.Items.{GivesForm};
 ghost use Rattle.normalizer_calls.specs.Acceptance.{
   bounds_of,
   data_from,
@@ -25,7 +24,8 @@ ghost use Rattle.normalizer_calls.specs.ComposingAcceptance.{
 ghost use Rattle.normalizer_iterators.specs.LazyComposing.{SuitsLazyComposing};
 ghost use Rattle.normalizer_iterators.specs.LazyReading.{SuitsLazyReading};
 
-use normalizer_iterators::{Composition, Decomposition, NormalizeError};
+use normalizer_iterators::composition::composed;
+use normalizer_iterators::{Composition, NormalizeError};
 use normalizer_tables::characters::{CharacterData, IgnoredCharacters};
 use normalizer_tables::check::first_failing;
 use normalizer_tables::condition::{Bounds, DECOMPOSING};
@@ -179,7 +179,7 @@ pub struct ComposingNormalizerBorrowed<'a> {
 
 impl<'a> ComposingNormalizerBorrowed<'a> {
     ghost use Rattle.normalizer_calls.specs.ComposingNormalizers.{composing_data_of_borrowed, pairs_of_borrowed};
-    ghost use Rattle.normalizer_iterators.specs.Composing.{WillGive, StaysShort, CanCompose};
+    ghost use Rattle.normalizer_iterators.specs.Composing.{data_of_composition, pairs_of_composition};
 
     /// The characters of the composed form of what `iter` gives, one by one.
     pub fn normalize_iter<I: Iterator<Item = char> + Drop>(
@@ -188,15 +188,19 @@ impl<'a> ComposingNormalizerBorrowed<'a> {
     ) -> Result<Composition<'a, I>, NormalizeError>
         requires can { I.can_next iter }
         requires ends { IsFinite (I.remaining iter) }
-        ensures text { IfOk result (λ it. (x : List ℕ) → Spells I.next_gives iter x → WillGive I.next_gives it (nfc (composing_reading (composing_data_of_borrowed self.now) (pairs_of_borrowed self.now)) x)) }
-        ensures short { IfOk result (λ it. (x : List ℕ) → Spells I.next_gives iter x → HasShortRuns (has_class_form (composing_data_of_borrowed self.now)) (own_reading (composing_data_of_borrowed self.now)) x → StaysShort I.next_gives it) }
-        ensures succeeds { (x : List ℕ) → Spells I.next_gives iter x → HasShortRuns (has_class_form (composing_data_of_borrowed self.now)) (own_reading (composing_data_of_borrowed self.now)) x → IsOk result }
-        ensures ready { IfOk result (CanCompose I.can_next I.remaining) }
-        ensures held { IfOk result (λ it. (it.characters ≡ composing_data_of_borrowed self.now) × (it.pairs.now ≡ pairs_of_borrowed self.now)) }
-        ensures refused { IsOkUnless result NormalizeError.Memory }
+        ensures form { GivesForm I.next_gives ⟦<Composition<'a, I> as Iterator>⟧.next_gives (has_class_form (composing_data_of_borrowed self.now))
+            (composing_reading (composing_data_of_borrowed self.now) (pairs_of_borrowed self.now)) nfc iter result }
+        ensures ready { IfOk result ⟦<Composition<'a, I> as Iterator>⟧.can_next }
+        ensures held { IfOk result (λ it. (data_of_composition it ≡ composing_data_of_borrowed self.now) × (pairs_of_composition it ≡ pairs_of_borrowed self.now)) }
     {
-        let decomposed = Decomposition::over(self.characters(), IgnoredCharacters::Dropped, iter)?;
-        Ok(Composition::over(decomposed, self.characters(), self.pairs, self.bounds()))
+        let bounds = self.bounds();
+        composed(
+            self.characters(),
+            IgnoredCharacters::Dropped,
+            self.pairs,
+            bounds,
+            iter,
+        )
     }
 
     fn characters(&self) -> CharacterData<'a>

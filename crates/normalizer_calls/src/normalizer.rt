@@ -1,10 +1,9 @@
 //! Normalizers over data that a provider holds.
-ghost use Rattle.std.specs.Prelude.{◌≡◌, ◌⊎◌, ℕ, List, IfOk, IfErr, IsOk, IsOkUnless};
+ghost use Rattle.std.specs.Prelude.{◌≡◌, ◌⊎◌, IfOk, IfErr};
 ghost use Rattle.std.specs.Iterator.{IsFinite};
 ghost use Rattle.normal_forms.specs.Forms.{nfd};
-ghost use Rattle.normal_forms.specs.ShortRuns.{HasShortRuns};
 ghost use Rattle.normalizer_tables.specs.Characters.{has_class_form, own_reading};
-ghost use Rattle.normalizer_text.specs.Steps.{Spells};
+ghost use Rattle.normalizer_iterators.specs.Items.{GivesForm};
 ghost use Rattle.normalizer_calls.specs.Acceptance.{
   data_from,
   borrowed_data,
@@ -18,6 +17,7 @@ ghost use Rattle.normalizer_calls.specs.Acceptance.{
 };
 ghost use Rattle.normalizer_iterators.specs.LazyReading.{SuitsLazyReading};
 
+use normalizer_iterators::decomposition::decomposed;
 use normalizer_iterators::{Decomposition, NormalizeError};
 use normalizer_tables::characters::{CharacterData, IgnoredCharacters};
 use normalizer_tables::check::first_failing;
@@ -124,7 +124,6 @@ pub struct DecomposingNormalizerBorrowed<'a> {
 
 impl<'a> DecomposingNormalizerBorrowed<'a> {
     ghost use Rattle.normalizer_calls.specs.Normalizers.{data_of_borrowed};
-    ghost use Rattle.normalizer_iterators.specs.Decomposition.{WillGive, StaysShort, CanDecompose};
 
     /// The characters of the decomposed form of what `iter` gives, one by one.
     pub fn normalize_iter<I: Iterator<Item = char> + Drop>(
@@ -133,11 +132,9 @@ impl<'a> DecomposingNormalizerBorrowed<'a> {
     ) -> Result<Decomposition<'a, I>, NormalizeError>
         requires can { I.can_next iter }
         requires ends { IsFinite (I.remaining iter) }
-        ensures text { IfOk result (λ it. (x : List ℕ) → Spells I.next_gives iter x → WillGive I.next_gives it (nfd (own_reading (data_of_borrowed self.now)) x)) }
-        ensures short { IfOk result (λ it. (x : List ℕ) → Spells I.next_gives iter x → HasShortRuns (has_class_form (data_of_borrowed self.now)) (own_reading (data_of_borrowed self.now)) x → StaysShort I.next_gives it) }
-        ensures succeeds { (x : List ℕ) → Spells I.next_gives iter x → HasShortRuns (has_class_form (data_of_borrowed self.now)) (own_reading (data_of_borrowed self.now)) x → IsOk result }
-        ensures ready { IfOk result (CanDecompose I.can_next I.remaining) }
-        ensures refused { IsOkUnless result NormalizeError.Memory }
+        ensures form { GivesForm I.next_gives ⟦<Decomposition<'a, I> as Iterator>⟧.next_gives (has_class_form (data_of_borrowed self.now))
+            (own_reading (data_of_borrowed self.now)) nfd iter result }
+        ensures ready { IfOk result ⟦<Decomposition<'a, I> as Iterator>⟧.can_next }
     {
         let characters = CharacterData::new(
             self.decompositions,
@@ -145,6 +142,6 @@ impl<'a> DecomposingNormalizerBorrowed<'a> {
             self.supplementary,
             false,
         );
-        Decomposition::over(characters, IgnoredCharacters::Dropped, iter)
+        decomposed(characters, IgnoredCharacters::Dropped, iter)
     }
 }

@@ -1,10 +1,11 @@
 -- Composition, from one step to the next.
-use Rattle.std.proofs.Common.{◌≡◌, ℕ, List, ◌++◌, Option, Some, None, IfSome, refl, sym, ap, ◌∙◌}
+use Rattle.std.proofs.Common.{◌≡◌, ℕ, Bool, List, ◌++◌, Option, Some, None, IfSome, refl, sym, ap, ◌∙◌}
 use Rattle.normal_forms.specs.Decomposition.{expand}
 use Rattle.normal_forms.specs.Order.{order, insert, is_reorderable}
 use Rattle.normal_forms.specs.Composition.{is_blocked, joined, visit, compose_from, compose}
 use Rattle.normal_forms.specs.CompositionByStarters.{compose_by_starters}
 use Rattle.normal_forms.specs.Forms.{nfd, nfc}
+use Rattle.normal_forms.specs.ShortRuns.{continues, leading_length, HasShortChunks, HasShortRuns}
 use Rattle.normal_forms.specs.Hypotheses.{HasStarterResults, HasFaithfulResults}
 use Rattle.normal_forms.proofs.VisitLemmas.{compose_is_by_starters}
 use Rattle.normalizer_tables.specs.declared.characters.IgnoredCharacters.{IgnoredCharacters}
@@ -44,6 +45,10 @@ nfc-composing_reading s ignored pairs starters x =
 pub HasShortMarkRuns-pairing_reading : (s : Characters) (ignored : IgnoredCharacters) (pairs : List Pair) (y : List ℕ) → HasShortMarkRuns (decomposing_reading s ignored) y → HasShortMarkRuns (pairing_reading s pairs) y
 unfolding HasShortMarkRuns leading_marks
 HasShortMarkRuns-pairing_reading s ignored pairs y h = h
+
+pub HasShortRuns-composing_reading : (f : ℕ → Bool) (s : Characters) (ignored : IgnoredCharacters) (pairs : List Pair) (x : List ℕ) → HasShortRuns f (composing_reading s ignored pairs) x → HasShortRuns f (decomposing_reading s ignored) x
+unfolding leading_length HasShortChunks continues
+HasShortRuns-composing_reading f s ignored pairs x h = record { leading = h.leading; chunks = h.chunks }
 
 -- ---- what a pair composes to
 

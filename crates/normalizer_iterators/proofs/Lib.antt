@@ -1,6 +1,7 @@
 pub mod ComposingLemmas
 pub mod CompositionLemmas
 pub mod DecompositionLemmas
+pub mod ItemLemmas
 pub mod LazyLemmas
 pub mod MarkLemmas
 pub mod MarkRunLemmas
@@ -9,7 +10,6 @@ pub mod PassingLemmas
 pub mod ReadingLemmas
 pub mod ShortChunkLemmas
 pub mod SoundData
-pub mod SpellingLemmas
 pub mod StarterLemmas
 pub mod ToComeLemmas
 pub mod WaitingLemmas

@@ -90,6 +90,13 @@ module _ {I : Type 0} where
     pub short : GivesShort gives d old → UnlessEnded ahead (GivesShort gives d new)
     pub fewer : length marks + ahead_left ahead (decomposition.items_left left new) ≤ decomposition.items_left left old
 
+  -- the data and the pairs by which it composes
+  abbrev pub data_of_composition : Composition I → Characters
+  data_of_composition s = s.characters
+
+  abbrev pub pairs_of_composition : Composition I → List Pair
+  pairs_of_composition s = s.pairs.now
+
   abbrev pub pairing_by : Composition I → Reading
   pairing_by s = pairing_reading s.characters s.pairs.now
 

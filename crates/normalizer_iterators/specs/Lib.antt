@@ -1,13 +1,13 @@
 pub mod Composing
 pub mod Decomposition
 pub mod Delegate
+pub mod Items
 pub mod LazyComposing
 pub mod LazyReading
 pub mod MarkRuns
 pub mod NextItem
 pub mod Passing
 pub mod ReadingOn
-pub mod Spelling
 pub mod StayingMarks
 pub mod ToCome
 pub mod Waiting

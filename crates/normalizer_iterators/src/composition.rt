@@ -1,18 +1,18 @@
 //! Composing text character by character (The Unicode Standard, D117, D120 and D121).
-ghost use Rattle.std.specs.Prelude.{◌≡◌, ◌≤◌, ℕ, List, [], Option, MatchResult, OnErr, IfOk, IfSome, ◌++◌};
-ghost use Rattle.std.specs.Iterator.{at_most, MakesProgress};
-ghost use Rattle.normal_forms.specs.Forms.{nfc, nfd};
+ghost use Rattle.std.specs.Prelude.{◌≡◌, ◌≤◌, ℕ, List, [], Option, MatchResult, OnErr, IfOk, IsOk, IsOkUnless, IfSome, ◌++◌};
+ghost use Rattle.std.specs.Iterator.{at_most, IsFinite, MakesProgress};
+ghost use Rattle.normal_forms.specs.Forms.{nfc};
 ghost use Rattle.normal_forms.specs.Order.{order};
 ghost use Rattle.normal_forms.specs.CompositionByStarters.{join};
 ghost use Rattle.normal_forms.specs.Reading.{IsMark, Reading};
 ghost use Rattle.normal_forms.specs.Hypotheses.{HasFaithfulResults};
 ghost use Rattle.normal_forms.specs.ShortRuns.{places, HasShortRuns};
 ghost use Rattle.normalizer_tables.specs.declared.characters.IgnoredCharacters.{IgnoredCharacters};
-ghost use Rattle.normalizer_tables.specs.Characters.{has_class_form, list_of};
-ghost use Rattle.normalizer_tables.specs.Ignored.{ignored_list};
+ghost use Rattle.normalizer_tables.specs.Characters.{has_class_form};
 ghost use Rattle.normalizer_tables.specs.Pairs.{pair_of};
+ghost use Rattle.normalizer_text.specs.Steps.{Spells};
 ghost use Rattle.normalizer_iterators.specs.Decomposition.{CanDecompose};
-ghost use Rattle.normalizer_iterators.specs.Decomposition as decomposition;
+ghost use Rattle.normalizer_iterators.specs.Items.{GivesForm};
 ghost use Rattle.normalizer_iterators.specs.LazyComposing.{SuitsLazyComposing};
 ghost use Rattle.normalizer_iterators.specs.Passing.{IsAtPassed};
 ghost use Rattle.normalizer_iterators.specs.LazyReading.{decomposing_reading, SuitsLazyReading};
@@ -30,7 +30,9 @@ ghost use Rattle.normalizer_iterators.specs.Composing.{
   StaysShort,
   WherePassed,
   WillGive,
+  data_of_composition,
   items_left,
+  pairs_of_composition,
 };
 
 use crate::decomposition::Decomposition;
@@ -38,7 +40,7 @@ use crate::decomposition::passing::Given;
 use crate::error::NormalizeError;
 use crate::marks::StayingMarks;
 use normalizer_tables::CanonicalCompositions;
-use normalizer_tables::characters::CharacterData;
+use normalizer_tables::characters::{CharacterData, IgnoredCharacters};
 use normalizer_tables::condition::Bounds;
 use std::alloc::AllocError;
 
@@ -81,30 +83,35 @@ enum Visited {
 }
 
 impl<'data, I: Iterator<Item = char> + Drop> Composition<'data, I> {
-    /// Composes what is decomposed.
-    pub fn over(
-        decomposed: Decomposition<'data, I>,
+    /// Reads the delegate up to its first character that begins anew.
+    fn over(
         characters: CharacterData<'data>,
+        ignored: IgnoredCharacters,
         pairs: &'data CanonicalCompositions,
         bounds: Bounds,
-    ) -> Self
-        requires can { CanDecompose I.can_next I.remaining decomposed }
-        requires same { decomposed.characters ≡ characters }
-        requires suits { SuitsLazyComposing characters bounds pairs.now }
-        ensures text { (ignored : IgnoredCharacters) (x : List ℕ) → decomposition.WillGive I.next_gives decomposed.entry (nfd (decomposing_reading characters.entry ignored) x) → WillGive I.next_gives result (nfc (composing_reading characters.entry ignored pairs.now) x) }
-        ensures short { (ignored : IgnoredCharacters) (x : List ℕ) → SuitsLazyReading (has_class_form characters.entry) (decomposing_reading characters.entry ignored) → decomposition.WillGive I.next_gives decomposed.entry (nfd (decomposing_reading characters.entry ignored) x) → decomposition.StaysShort I.next_gives decomposed.entry → HasShortRuns (has_class_form characters.entry) (decomposing_reading characters.entry ignored) x → StaysShort I.next_gives result }
-        ensures ready { CanCompose I.can_next I.remaining result }
-        ensures data { (result.characters ≡ characters.entry) × (result.pairs.now ≡ pairs.now) }
+        delegate: I,
+    ) -> Result<Self, NormalizeError>
+        requires can { I.can_next delegate }
+        requires ends { IsFinite (I.remaining delegate) }
+        requires reading { SuitsLazyReading (has_class_form characters) (decomposing_reading characters ignored) }
+        requires composing { SuitsLazyComposing characters bounds pairs.now }
+        ensures text { IfOk result (λ it. (x : List ℕ) → Spells I.next_gives delegate x → WillGive I.next_gives it (nfc (composing_reading characters.entry ignored pairs.now) x)) }
+        ensures short { IfOk result (λ it. (x : List ℕ) → Spells I.next_gives delegate x → HasShortRuns (has_class_form characters.entry) (decomposing_reading characters.entry ignored) x → StaysShort I.next_gives it) }
+        ensures succeeds { (x : List ℕ) → Spells I.next_gives delegate x → HasShortRuns (has_class_form characters.entry) (decomposing_reading characters.entry ignored) x → IsOk result }
+        ensures ready { IfOk result (CanCompose I.can_next I.remaining) }
+        ensures kept { IfOk result (λ it. (data_of_composition it ≡ characters.entry) × (pairs_of_composition it ≡ pairs.now)) }
+        ensures refused { IsOkUnless result NormalizeError.Memory }
     {
         let marks = StayingMarks::new(characters.allocator());
-        Composition {
-            decomposed,
-            characters,
+        let copied = characters.copied();
+        Ok(Composition {
+            decomposed: Decomposition::over(characters, ignored, delegate)?,
+            characters: copied,
             pairs,
             bounds,
             marks,
             ahead: Ahead::NoStarter,
-        }
+        })
     }
 
     /// What two characters compose to.
@@ -168,6 +175,27 @@ impl<'data, I: Iterator<Item = char> + Drop> Composition<'data, I> {
             }
         }
     }
+}
+
+/// The composed form of what a delegate gives, character by character, by data and pairs that may be read and composed
+/// lazily.
+pub fn composed<'data, I: Iterator<Item = char> + Drop>(
+    characters: CharacterData<'data>,
+    ignored: IgnoredCharacters,
+    pairs: &'data CanonicalCompositions,
+    bounds: Bounds,
+    delegate: I,
+) -> Result<Composition<'data, I>, NormalizeError>
+    requires can { I.can_next delegate }
+    requires ends { IsFinite (I.remaining delegate) }
+    requires reading { SuitsLazyReading (has_class_form characters) (decomposing_reading characters ignored) }
+    requires composing { SuitsLazyComposing characters bounds pairs.now }
+    ensures form { GivesForm I.next_gives ⟦<Composition<'data, I> as Iterator>⟧.next_gives (has_class_form characters.entry)
+        (composing_reading characters.entry ignored pairs.now) nfc delegate result }
+    ensures ready { IfOk result ⟦<Composition<'data, I> as Iterator>⟧.can_next }
+    ensures kept { IfOk result (λ it. (data_of_composition it ≡ characters.entry) × (pairs_of_composition it ≡ pairs.now)) }
+{
+    Composition::over(characters, ignored, pairs, bounds, delegate)
 }
 
 /// What a starter becomes by the characters that follow it, up to a character that is passed or the next starter that

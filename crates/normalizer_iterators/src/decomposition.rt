@@ -8,6 +8,7 @@ ghost use Rattle.normalizer_tables.specs.Characters.{has_class_form, own_reading
 ghost use Rattle.normalizer_tables.specs.NfdData.{IsSoundNfdData, nfd_characters};
 ghost use Rattle.normalizer_text.specs.Steps.{Spells};
 ghost use Rattle.normalizer_iterators.specs.Delegate.{HasRead, IsReadyBehind};
+ghost use Rattle.normalizer_iterators.specs.Items.{GivesForm};
 ghost use Rattle.normalizer_iterators.specs.LazyReading.{decomposing_reading, SuitsLazyReading};
 ghost use Rattle.normalizer_iterators.specs.WaitingList.{unordered};
 ghost use Rattle.normalizer_iterators.specs.ReadingOn.{ReadsChunk, ChunkDidNotFit};
@@ -40,7 +41,7 @@ pub struct Decomposition<'data, I> {
 impl<'data, I: Iterator<Item = char> + Drop> Decomposition<'data, I> {
     ghost use Rattle.normalizer_iterators.specs.Decomposition.{WillGive, StaysShort, CanDecompose, IsEnded};
 
-    /// The characters of the NFD of what `delegate` gives, one by one.
+    /// The characters of the NFD of what `delegate` gives, one by one, by canonical data that the caller answers for.
     pub fn new(
         delegate: I,
         decompositions: &'data DecompositionData,
@@ -49,18 +50,16 @@ impl<'data, I: Iterator<Item = char> + Drop> Decomposition<'data, I> {
         requires can { I.can_next delegate }
         requires ends { IsFinite (I.remaining delegate) }
         requires sound { IsSoundNfdData decompositions.now tables.now }
-        ensures text { IfOk result (λ it. (x : List ℕ) → Spells I.next_gives delegate x → WillGive I.next_gives it (nfd (own_reading (nfd_characters decompositions.now tables.now)) x)) }
-        ensures short { IfOk result (λ it. (x : List ℕ) → Spells I.next_gives delegate x → HasShortRuns (has_class_form (nfd_characters decompositions.now tables.now)) (own_reading (nfd_characters decompositions.now tables.now)) x → StaysShort I.next_gives it) }
-        ensures succeeds { (x : List ℕ) → Spells I.next_gives delegate x → HasShortRuns (has_class_form (nfd_characters decompositions.now tables.now)) (own_reading (nfd_characters decompositions.now tables.now)) x → IsOk result }
-        ensures ready { IfOk result (CanDecompose I.can_next I.remaining) }
-        ensures refused { IsOkUnless result NormalizeError.Memory }
+        ensures form { GivesForm I.next_gives ⟦<Decomposition<'data, I> as Iterator>⟧.next_gives (has_class_form (nfd_characters decompositions.now tables.now))
+            (own_reading (nfd_characters decompositions.now tables.now)) nfd delegate result }
+        ensures ready { IfOk result ⟦<Decomposition<'data, I> as Iterator>⟧.can_next }
     {
         let characters = CharacterData::new(decompositions, tables, None, false);
-        Decomposition::over(characters, IgnoredCharacters::Dropped, delegate)
+        decomposed(characters, IgnoredCharacters::Dropped, delegate)
     }
 
     /// Reads the delegate up to its first character that begins anew.
-    pub fn over(
+    pub(crate) fn over(
         characters: CharacterData<'data>,
         ignored: IgnoredCharacters,
         mut delegate: I,
@@ -121,6 +120,22 @@ impl<'data, I: Iterator<Item = char> + Drop> Decomposition<'data, I> {
             }
         }
     }
+}
+
+/// The decomposed form of what a delegate gives, character by character, by data that may be read lazily.
+pub fn decomposed<'data, I: Iterator<Item = char> + Drop>(
+    characters: CharacterData<'data>,
+    ignored: IgnoredCharacters,
+    delegate: I,
+) -> Result<Decomposition<'data, I>, NormalizeError>
+    requires can { I.can_next delegate }
+    requires ends { IsFinite (I.remaining delegate) }
+    requires suits { SuitsLazyReading (has_class_form characters) (decomposing_reading characters ignored) }
+    ensures form { GivesForm I.next_gives ⟦<Decomposition<'data, I> as Iterator>⟧.next_gives (has_class_form characters.entry)
+        (decomposing_reading characters.entry ignored) nfd delegate result }
+    ensures ready { IfOk result ⟦<Decomposition<'data, I> as Iterator>⟧.can_next }
+{
+    Decomposition::over(characters, ignored, delegate)
 }
 
 /// The first member of the list of a character that begins anew; the others wait, with the lists of the characters that

@@ -1,4 +1,7 @@
 //! Faults of normalization.
+ghost use Rattle.std.specs.Prelude.{◌≡◌};
+
+use std::alloc::AllocError;
 use thiserror::Error;
 
 /// Why text could not be normalized.
@@ -10,4 +13,14 @@ pub enum NormalizeError {
     /// The sink refused a write.
     #[error("the sink refused a write")]
     Sink,
+}
+
+impl From<AllocError> for NormalizeError {
+    ghost use Rattle.normalizer_iterators.specs.declared.error.NormalizeError.TheVariants.{Memory};
+
+    ghost from_gives = { λ _ fault. fault ≡ Memory };
+
+    fn from(_error: AllocError) -> NormalizeError {
+        NormalizeError::Memory
+    }
 }

@@ -77,6 +77,18 @@ impl<'a> CharacterData<'a> {
         }
     }
 
+    /// The same data, borrowed once more.
+    pub fn copied(&self) -> CharacterData<'a>
+        ensures { result ≡ self.now }
+    {
+        CharacterData::new(
+            self.decompositions,
+            self.tables,
+            self.supplementary,
+            self.is_mapper,
+        )
+    }
+
     /// The allocator of the tables.
     pub fn allocator(&self) -> Global {
         let tables = self.tables;

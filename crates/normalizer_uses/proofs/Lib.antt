@@ -1,4 +1,4 @@
 pub mod AcceptedData
-pub mod CameLemmas
 pub mod FormsOfData
+pub mod LastLemmas
 pub mod RecordedLaws

@@ -19,8 +19,7 @@ ghost use Rattle.normalizer_calls.specs.ComposingNormalizers.{
   pairs_of_borrowed,
 };
 ghost use Rattle.normalizer_calls.specs.Normalizers.{data_of_borrowed};
-ghost use Rattle.normalizer_iterators.specs.Decomposition.{WillGive, StaysShort, CanDecompose};
-ghost use Rattle.normalizer_iterators.specs.Spelling.{SpellsUnlessErr};
+ghost use Rattle.normalizer_iterators.specs.Items.{SpellsOk, SpellsUnless};
 ghost use Rattle.normalizer_uses.specs.Last.{last_of};
 
 mod by_records;
@@ -104,20 +103,20 @@ where
     }
 }
 
-/// All that is still to come, up to the first fault, which is want of memory.
+/// All that is still to come, up to the first fault.
 pub fn collected<I: Iterator<Item = Result<char, NormalizeError>> + Drop>(
     alloc: Global,
     items: I,
 ) -> Result<Vec<char>, NormalizeError>
     requires can { I.can_next items }
     requires ends { IsFinite (I.remaining items) }
-    ensures all { (x : List ℕ) → SpellsUnlessErr I.next_gives items x → IfOk result (λ v. v.items ≡ x) }
-    ensures refused { IsOkUnless result NormalizeError.Memory }
+    ensures all { (x : List ℕ) → SpellsUnless I.next_gives NormalizeError.Memory items x → IfOk result (λ v. v.items ≡ x) × IsOkUnless result NormalizeError.Memory }
 {
     let mut characters = Vec::new(alloc);
     for item in items {
-        let Ok(character) = item else {
-            return Err(NormalizeError::Memory);
+        let character = match item {
+            Ok(character) => character,
+            Err(error) => return Err(error),
         };
         match characters.push(character) {
             Ok(()) => {}
@@ -141,17 +140,20 @@ pub fn last_of_nfd(
 }
 
 /// The last of what is still to come.
-pub fn last_item<I: Iterator<Item = char> + Drop>(
-    items: Decomposition<'_, I>,
+pub fn last_item<I: Iterator<Item = Result<char, NormalizeError>> + Drop>(
+    items: I,
 ) -> Result<Option<char>, NormalizeError>
-    requires { CanDecompose I.can_next I.remaining items }
-    ensures last { IfOk result (λ c. (out : List ℕ) → WillGive I.next_gives items.entry out → c ≡ last_of out) }
-    ensures succeeds { StaysShort I.next_gives items.entry → IsOk result }
-    ensures refused { IsOkUnless result NormalizeError.Memory }
+    requires can { I.can_next items }
+    requires ends { IsFinite (I.remaining items) }
+    ensures last { (x : List ℕ) → SpellsUnless I.next_gives NormalizeError.Memory items x → IfOk result (λ c. c ≡ last_of x) × IsOkUnless result NormalizeError.Memory }
+    ensures succeeds { (x : List ℕ) → SpellsOk I.next_gives items x → IsOk result }
 {
     let mut last = None;
     for item in items {
-        last = Some(item?);
+        match item {
+            Ok(character) => last = Some(character),
+            Err(error) => return Err(error),
+        }
     }
     Ok(last)
 }

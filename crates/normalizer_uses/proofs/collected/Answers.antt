@@ -1,18 +1,18 @@
-use Rattle.std.proofs.Common.{rules, ◌++◌, Some, Ok, append_assoc, append-nil, sym, ap, subst, ◌∙◌}
-use Rattle.normalizer_iterators.proofs.SpellingLemmas.{SpellsUnlessErr-next, SpellsUnlessErr-end}
+use Rattle.std.proofs.Common.{rules, ◌++◌, append_assoc, append-nil, sym, ap, ◌∙◌}
+use Rattle.normalizer_iterators.specs.declared.error.NormalizeError.TheVariants.{Memory}
+use Rattle.normalizer_iterators.proofs.ItemLemmas.{SpellsUnless-next, SpellsUnless-end, SpellsUnless-fault}
 use Rattle.normalizer_uses.proofs.collected.Goals as goal
 
 pub loop-item-preserved : goal.loop-item-preserved
 loop-item-preserved g c =
     let gives = g.I.Iterator.next_gives in
-    let came : gives c.loop-item.item-iterator (Some (Ok c.in-Ok.character)) c.next.new.self =
-    subst (λ item. gives c.loop-item.item-iterator (Some item) c.next.new.self) c.in-Ok.is c.in-Some.ensures.steps in
+    let came = rw c.in-Ok.is at c.in-Some.ensures.steps in
     record {
       can = search (rules, c.in-Some.ensures.goes);
       ends = search (rules, c.in-Some.ensures.goes);
       text = λ x h.
           let before = c.loop-item.invariant.text x h in
-          let next = SpellsUnlessErr-next gives _ _ _ before.0 came before.1 in (
+          let next = SpellsUnless-next gives Memory _ _ _ before.0 came before.1 in (
             next.0,
             next.2,
             before.2 ∙ ap (λ cs. c.loop-item.characters.items ++ cs) {x = before.0} next.1
@@ -21,8 +21,17 @@ loop-item-preserved g c =
           );
     }
 
-pub returns-clause-all : goal.returns-clause-all
-returns-clause-all g c x h =
-    let before = c.loop-item.invariant.text x h in
-    let ended = SpellsUnlessErr-end g.I.Iterator.next_gives _ _ before.0 c.in-None.ensures.steps before.1 in
-    sym (before.2 ∙ ap (λ cs. c.loop-item.characters.items ++ cs) ended ∙ append-nil _)
+pub returns-in-Err : goal.returns-in-Err
+returns-in-Err g c = record {
+  all = λ x h.
+      let before = c.loop-item.invariant.text x h in
+      (tt, SpellsUnless-fault g.I.Iterator.next_gives Memory _ _ _ before.0 (rw c.in-Err.is at c.in-Some.ensures.steps) before.1);
+}
+
+pub returns : goal.returns
+returns g c = record {
+  all = λ x h.
+      let before = c.loop-item.invariant.text x h in
+      let ended = SpellsUnless-end g.I.Iterator.next_gives Memory _ _ before.0 c.in-None.ensures.steps before.1 in
+      (sym (before.2 ∙ ap (λ cs. c.loop-item.characters.items ++ cs) ended ∙ append-nil _), tt);
+}

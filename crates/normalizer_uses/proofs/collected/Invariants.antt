@@ -1,10 +1,11 @@
 use Rattle.std.proofs.Common.{◌≡◌, ◌++◌, ℕ, List}
-use Rattle.normalizer_iterators.specs.Spelling.{SpellsUnlessErr}
+use Rattle.normalizer_iterators.specs.Items.{SpellsUnless}
+use Rattle.normalizer_iterators.specs.declared.error.NormalizeError.TheVariants.{Memory}
 use Rattle.normalizer_uses.proofs.collected.Given as goal
 
 abbrev pub invariant-loop-item : goal.invariant-loop-item
 invariant-loop-item g l = record {
   can : (goal.iterator-loop-item g).can_next l.item-iterator;
   ends : (goal.iterator-loop-item g).is_finite l.item-iterator;
-  text : (x : List ℕ) → SpellsUnlessErr g.I.Iterator.next_gives l.fn.items x → (rest : List ℕ) × SpellsUnlessErr g.I.Iterator.next_gives l.item-iterator rest × (x ≡ l.characters.items ++ rest);
+  text : (x : List ℕ) → SpellsUnless g.I.Iterator.next_gives Memory l.fn.items x → (rest : List ℕ) × SpellsUnless g.I.Iterator.next_gives Memory l.item-iterator rest × (x ≡ l.characters.items ++ rest);
 }

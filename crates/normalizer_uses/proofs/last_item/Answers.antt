@@ -1,19 +1,44 @@
-use Rattle.normalizer_uses.proofs.CameLemmas.{WalkedSoFar-none, WalkedSoFar-more, WalkedSoFar-all, WalkedSoFar-fault}
+use Rattle.std.proofs.Common.{rules, ◌++◌, ◌∷◌, [], append_assoc, append-nil, sym, ap, ◌∙◌}
+use Rattle.normalizer_iterators.specs.declared.error.NormalizeError.TheVariants.{Memory}
+use Rattle.normalizer_iterators.proofs.ItemLemmas.{SpellsOk-next, SpellsOk-no_fault, SpellsUnless-next, SpellsUnless-end, SpellsUnless-fault}
+use Rattle.normalizer_uses.specs.Last.{last_of}
+use Rattle.normalizer_uses.proofs.LastLemmas.{last_of-push}
 use Rattle.normalizer_uses.proofs.last_item.Goals as goal
-
-pub loop-item-init : goal.loop-item-init
-loop-item-init g c = WalkedSoFar-none g.I.Iterator.can_next g.I.Iterator.next_gives g.I.Iterator.remaining _
 
 pub loop-item-preserved : goal.loop-item-preserved
 loop-item-preserved g c =
-    WalkedSoFar-more g.I.Iterator.can_next g.I.Iterator.next_gives g.I.Iterator.remaining _ _ _ _ _ c.loop-item.invariant (rw c.in_ok-item.was at c.in-Some.ensures.steps)
+    let gives = g.I.Iterator.next_gives in
+    let came = rw c.in-Ok.is at c.in-Some.ensures.steps in
+    record {
+      can = search (rules, c.in-Some.ensures.goes);
+      ends = search (rules, c.in-Some.ensures.goes);
+      text = λ x h.
+          let so_far = c.loop-item.invariant.text x h in
+          let next = SpellsUnless-next gives Memory _ _ _ so_far.1 came so_far.2 in (
+            so_far.0 ++ c.in-Ok.character ∷ [],
+            next.0,
+            next.2,
+            so_far.3 ∙ ap (λ cs. so_far.0 ++ cs) next.1 ∙ sym (append_assoc so_far.0 _ _),
+            sym (last_of-push so_far.0 c.in-Ok.character),
+          );
+      short = λ x h.
+          let so_far = c.loop-item.invariant.short x h in
+          let next = SpellsOk-next gives _ _ _ so_far.0 came so_far.1 in
+          (next.0, next.2);
+    }
 
-pub returns-in_err-item-clause-succeeds : goal.returns-in_err-item-clause-succeeds
-returns-in_err-item-clause-succeeds g c = λ short.
-    absurd
-    (WalkedSoFar-fault g.I.Iterator.can_next g.I.Iterator.next_gives g.I.Iterator.remaining _ _ _ _ c.in_err-item.field-0.0 c.loop-item.invariant
-    (rw c.in_err-item.was at c.in-Some.ensures.steps) (rw c.into_iter-item-iterator.ensures.into_iter_gives short))
+pub returns-in-Err-clause-last : goal.returns-in-Err-clause-last
+returns-in-Err-clause-last g c = λ x h.
+    let so_far = c.loop-item.invariant.text x h in
+    (tt, SpellsUnless-fault g.I.Iterator.next_gives Memory _ _ _ so_far.1 (rw c.in-Err.is at c.in-Some.ensures.steps) so_far.2)
+
+pub returns-in-Err-clause-succeeds : goal.returns-in-Err-clause-succeeds
+returns-in-Err-clause-succeeds g c = λ x h.
+    let so_far = c.loop-item.invariant.short x h in
+    absurd (SpellsOk-no_fault g.I.Iterator.next_gives _ _ _ so_far.0 (rw c.in-Err.is at c.in-Some.ensures.steps) so_far.1)
 
 pub returns-clause-last : goal.returns-clause-last
-returns-clause-last g c = λ out h.
-    WalkedSoFar-all g.I.Iterator.can_next g.I.Iterator.next_gives g.I.Iterator.remaining _ _ _ _ c.loop-item.invariant c.in-None.ensures.steps out (rw c.into_iter-item-iterator.ensures.into_iter_gives h)
+returns-clause-last g c = λ x h.
+    let so_far = c.loop-item.invariant.text x h in
+    let ended = SpellsUnless-end g.I.Iterator.next_gives Memory _ _ so_far.1 c.in-None.ensures.steps so_far.2 in
+    (so_far.4 ∙ ap last_of (sym (so_far.3 ∙ ap (λ cs. so_far.0 ++ cs) ended ∙ append-nil so_far.0)), tt)

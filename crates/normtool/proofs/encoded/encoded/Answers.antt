@@ -1,5 +1,6 @@
 use Rattle.std.proofs.Common.{rules, ◌++◌, Some, Ok, string_bytes, encode_utf8_all, append_assoc, append-nil, sym, ap, subst, ◌∙◌}
-use Rattle.normalizer_iterators.proofs.SpellingLemmas.{SpellsUnlessErr-next, SpellsUnlessErr-end}
+use Rattle.normalizer_iterators.specs.declared.error.NormalizeError.TheVariants.{Memory}
+use Rattle.normalizer_iterators.proofs.ItemLemmas.{SpellsUnless-next, SpellsUnless-end}
 use Rattle.normtool.proofs.encoded.encoded.Goals as goal
 
 pub loop-character-preserved : goal.loop-character-preserved
@@ -12,7 +13,7 @@ loop-character-preserved g c =
       ends = search (rules, c.in-Some.ensures.goes);
       text = λ x h.
           let before = c.loop-character.invariant.text x h in
-          let next = SpellsUnlessErr-next gives _ _ _ before.0 came before.1 in (
+          let next = SpellsUnless-next gives Memory _ _ _ before.0 came before.1 in (
             next.0,
             next.2,
             before.2 ∙ ap (λ cs. string_bytes c.loop-character.text ++ encode_utf8_all cs) {x = before.0} next.1
@@ -24,5 +25,5 @@ loop-character-preserved g c =
 pub returns-clause-text : goal.returns-clause-text
 returns-clause-text g c x h =
     let before = c.loop-character.invariant.text x h in
-    let ended = SpellsUnlessErr-end g.I.Iterator.next_gives _ _ before.0 c.in-None.ensures.steps before.1 in
+    let ended = SpellsUnless-end g.I.Iterator.next_gives Memory _ _ before.0 c.in-None.ensures.steps before.1 in
     sym (before.2 ∙ ap (λ cs. string_bytes c.loop-character.text ++ encode_utf8_all cs) ended ∙ append-nil _)

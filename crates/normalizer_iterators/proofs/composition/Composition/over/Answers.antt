@@ -9,24 +9,26 @@ use Rattle.normalizer_iterators.proofs.ShortChunkLemmas.{HasShortMarkRuns-nfd}
 use Rattle.normalizer_iterators.proofs.composition.Composition.over.Goals as goal
 
 pub returns-clause-text : goal.returns-clause-text
-returns-clause-text g c = λ ignored x h.
+returns-clause-text g c = λ x spelled.
     let s = c.args.characters in
+    let ignored = c.args.ignored in
     let pairs = c.args.pairs.now in
     let y = nfd (decomposing_reading s ignored) x in
-    record {
+    rw c.copied-copied.ensures (record {
       unread = y;
-      source = h;
+      source = c.in_ok-over.ensures.text x spelled;
       text =
-          nfc-composing_reading s ignored pairs c.requires.suits.starters x
+          nfc-composing_reading s ignored pairs c.requires.composing.starters x
           ∙ ap (λ l. l ++ compose_by_starters (pairing_reading s pairs) y) (sym c.new-marks.ensures.staying);
-    }
+    })
 
 pub returns-clause-short : goal.returns-clause-short
-returns-clause-short g c = λ ignored x suits h short runs.
+returns-clause-short g c = λ x spelled runs.
     let s = c.args.characters in
-    record {
+    let ignored = c.args.ignored in
+    rw c.copied-copied.ensures (record {
       unread = nfd (decomposing_reading s ignored) x;
-      source = h;
-      short = short;
-      runs = HasShortMarkRuns-pairing_reading s ignored c.args.pairs.now _ (HasShortMarkRuns-nfd (has_class_form s) (decomposing_reading s ignored) suits x runs);
-    }
+      source = c.in_ok-over.ensures.text x spelled;
+      short = c.in_ok-over.ensures.short x spelled runs;
+      runs = HasShortMarkRuns-pairing_reading s ignored c.args.pairs.now _ (HasShortMarkRuns-nfd (has_class_form s) (decomposing_reading s ignored) c.requires.reading x runs);
+    })

@@ -1,0 +1,129 @@
+-- What an iterator of normalized text gives, from what is to come of it.
+use Rattle.std.proofs.Common.{◌≡◌, ℕ, Bool, IfOk, IsOk, IsOkUnless, List, [], ◌∷◌, Option, Some, None, Result, Ok, Err, All, MatchOption, MatchResult, refl, sym, ap, subst, ◌∙◌}
+use Rattle.std.proofs.lemmas.List.Elements.{All-nil, All-cons, All-head}
+use Rattle.std.specs.Iterator.{Count}
+use Rattle.normal_forms.specs.Reading.{Reading}
+use Rattle.normal_forms.specs.ShortRuns.{HasShortRuns}
+use Rattle.normalizer_text.specs.Steps.{Spells}
+use Rattle.normalizer_iterators.specs.Decomposition.{WillGive, StaysShort, IsEnded, DecompositionSteps}
+use Rattle.normalizer_iterators.specs.Composing as composing
+use Rattle.normalizer_iterators.specs.Composing.{CompositionSteps}
+use Rattle.normalizer_iterators.specs.declared.composition.Composition.{Composition}
+use Rattle.normalizer_iterators.specs.declared.decomposition.Decomposition.{Decomposition}
+use Rattle.normalizer_iterators.specs.declared.error.NormalizeError.{NormalizeError}
+use Rattle.normalizer_iterators.specs.declared.error.NormalizeError.TheVariants.{Memory}
+use Rattle.normalizer_iterators.specs.NextItem.{GivesNext}
+use Rattle.normalizer_iterators.specs.Items.{Answers, GivesForm, HasEnded, SpellsOk, SpellsUnless}
+
+-- ---- what an iterator gives next
+
+module _ {S E : Type 0} (gives : S → Option (Result ℕ E) → S → Type 0) where
+  -- a character that came is the first of those that were left
+  pub SpellsUnless-next : (fault : E) (s t : S) (c : ℕ) (x : List ℕ) → gives s (Some (Ok c)) t → SpellsUnless gives fault s x → (rest : List ℕ) × (x ≡ c ∷ rest) × SpellsUnless gives fault t rest
+  SpellsUnless-next fault s t c [] step h = absurd (h (Some (Ok c)) t step)
+  SpellsUnless-next fault s t c (d ∷ x) step h = let next = h (Some (Ok c)) t step in (x, ap (λ e. e ∷ x) (sym next.0), next.1)
+
+  -- where none came, none was left
+  pub SpellsUnless-end : (fault : E) (s t : S) (x : List ℕ) → gives s None t → SpellsUnless gives fault s x → x ≡ []
+  SpellsUnless-end fault s t [] step h = refl
+  SpellsUnless-end fault s t (c ∷ x) step h = absurd (h None t step)
+
+  pub SpellsUnless-fault : (fault : E) (s t : S) (e : E) (x : List ℕ) → gives s (Some (Err e)) t → SpellsUnless gives fault s x → e ≡ fault
+  SpellsUnless-fault fault s t e [] step h = (h (Some (Err e)) t step).0
+  SpellsUnless-fault fault s t e (c ∷ x) step h = (h (Some (Err e)) t step).0
+
+  -- where the end was reached, `None` comes
+  HasEnded-next : (s t : S) (r : Option (Result ℕ E)) → gives s r t → HasEnded gives s → r ≡ None
+  HasEnded-next s t r step h = All-head (λ q. q ≡ None) r [] (h.at (r ∷ []) t (t, step, refl))
+
+  pub SpellsOk-next : (s t : S) (c : ℕ) (x : List ℕ) → gives s (Some (Ok c)) t → SpellsOk gives s x → (rest : List ℕ) × (x ≡ c ∷ rest) × SpellsOk gives t rest
+  SpellsOk-next s t c [] step h = let none = HasEnded-next s t (Some (Ok c)) step h in absurd (cc none)
+  SpellsOk-next s t c (d ∷ x) step h = let next = h (Some (Ok c)) t step in let same : c ≡ d = cc in (x, ap (λ e. e ∷ x) (sym same), next.1)
+
+  pub SpellsOk-no_fault : (s t : S) (e : E) (x : List ℕ) → gives s (Some (Err e)) t → SpellsOk gives s x → ⊥
+  SpellsOk-no_fault s t e [] step h = let none = HasEnded-next s t (Some (Err e)) step h in cc none
+  SpellsOk-no_fault s t e (c ∷ x) step h = let next = h (Some (Err e)) t step in cc (next.0)
+
+-- an iterator of normalized text spells what is to come of it
+module _ {S : Type 0} (WillGive : S → List ℕ → Type 0) (StaysShort IsEnded : S → Type 0) (steps : S → Option (Result ℕ NormalizeError) → S → Type 0)
+    (item : (s : S) (r : Option (Result ℕ NormalizeError)) (t : S) → steps s r t → GivesNext WillGive StaysShort IsEnded s r t) where
+  stays_ended : (s : S) (r : Option (Result ℕ NormalizeError)) (t : S) → IsEnded s → steps s r t → (r ≡ None) × IsEnded t
+  stays_ended s r t ended step =
+      let gave = item s r t step in
+      let none : r ≡ None = gave.stays ended in
+      (none, subst (λ o. MatchOption o (IsEnded t) (λ i. MatchResult i (λ c. Unit {0}) (λ e. IsEnded t))) none gave.ends)
+
+  pub HasEnded-ended : (s : S) → IsEnded s → HasEnded steps s
+  HasEnded-ended s ended = record { at = all s ended }
+    where
+      all : (s : S) → IsEnded s → (rs : List (Option (Result ℕ NormalizeError))) (t : S) → Answers steps s rs t → All (λ r. r ≡ None) rs
+      all s ended [] t h = All-nil (λ r. r ≡ None)
+      all s ended (r ∷ rs) t h = let next = stays_ended s r h.0 ended h.1 in All-cons (λ q. q ≡ None) r rs next.0 (all h.0 next.1 rs t h.2)
+
+  pub SpellsUnless-to_come : (s : S) (x : List ℕ) → WillGive s x → SpellsUnless steps Memory s x
+  SpellsUnless-to_come s [] h = λ r t step. at_end r t (item s r t step)
+    where
+      at_end : (r : Option (Result ℕ NormalizeError)) (t : S) → GivesNext WillGive StaysShort IsEnded s r t → MatchOption r (HasEnded steps t) (λ i. MatchResult i (λ c. ⊥) (λ e. (e ≡ Memory) × HasEnded steps t))
+      at_end None t gave = HasEnded-ended t gave.ends
+      at_end (Some (Ok c)) t gave = let first = gave.first [] h in let none : [] ≡ c ∷ first.0 = first.1 in absurd (cc)
+      at_end (Some (Err e)) t gave = (gave.fault, HasEnded-ended t gave.ends)
+  SpellsUnless-to_come s (c ∷ x) h = λ r t step. at_item (λ u. SpellsUnless-to_come u x) r t (item s r t step)
+    where
+      at_item : ((u : S) → WillGive u x → SpellsUnless steps Memory u x) → (r : Option (Result ℕ NormalizeError)) (t : S) → GivesNext WillGive StaysShort IsEnded s r t → MatchOption r ⊥ (λ i. MatchResult i (λ d. (d ≡ c) × SpellsUnless steps Memory t x) (λ e. (e ≡ Memory) × HasEnded steps t))
+      at_item on None t gave = let none : c ∷ x ≡ [] = (gave.first (c ∷ x) h).0 in absurd (cc)
+      at_item on (Some (Ok d)) t gave =
+          let first = gave.first (c ∷ x) h in
+          let split : c ∷ x ≡ d ∷ first.0 = first.1 in
+          let rest : first.0 ≡ x = cc in (cc, on t (subst (WillGive t) rest first.2))
+      at_item on (Some (Err e)) t gave = (gave.fault, HasEnded-ended t gave.ends)
+
+  pub SpellsOk-to_come : (s : S) (x : List ℕ) → WillGive s x → StaysShort s → SpellsOk steps s x
+  SpellsOk-to_come s [] h short = record { at = all }
+    where
+      at_end : (r : Option (Result ℕ NormalizeError)) (t : S) → GivesNext WillGive StaysShort IsEnded s r t → (r ≡ None) × IsEnded t
+      at_end None t gave = (refl, gave.ends)
+      at_end (Some (Ok c)) t gave = let first = gave.first [] h in let none : [] ≡ c ∷ first.0 = first.1 in absurd (cc)
+      at_end (Some (Err e)) t gave = absurd (cc ((gave.room short).0))
+
+      all : (rs : List (Option (Result ℕ NormalizeError))) (t : S) → Answers steps s rs t → All (λ r. r ≡ None) rs
+      all [] t answers = All-nil (λ r. r ≡ None)
+      all (r ∷ rs) t answers =
+          let next = at_end r answers.0 (item s r answers.0 answers.1) in
+          All-cons (λ q. q ≡ None) r rs next.0 ((HasEnded-ended answers.0 next.1).at rs t answers.2)
+  SpellsOk-to_come s (c ∷ x) h short = λ r t step. at_item (λ u. SpellsOk-to_come u x) r t (item s r t step)
+    where
+      at_item : ((u : S) → WillGive u x → StaysShort u → SpellsOk steps u x) → (r : Option (Result ℕ NormalizeError)) (t : S) → GivesNext WillGive StaysShort IsEnded s r t → (r ≡ Some (Ok c)) × SpellsOk steps t x
+      at_item on None t gave = let none : c ∷ x ≡ [] = (gave.first (c ∷ x) h).0 in absurd (cc)
+      at_item on (Some (Ok d)) t gave =
+          let first = gave.first (c ∷ x) h in
+          let split : c ∷ x ≡ d ∷ first.0 = first.1 in
+          let rest : first.0 ≡ x = cc in (cc, on t (subst (WillGive t) rest first.2) (gave.room short).1)
+      at_item on (Some (Err e)) t gave = absurd (cc ((gave.room short).0))
+
+module _ {I : Type 0} (can : I → Type 0) (gives : I → Option ℕ → I → Type 0) (left : I → Count) where
+  -- a decomposition spells what is to come of it
+  pub SpellsUnless-decomposition : (s : Decomposition I) (x : List ℕ) → WillGive gives s x → SpellsUnless (DecompositionSteps can gives left) Memory s x
+  SpellsUnless-decomposition = SpellsUnless-to_come (WillGive gives) (StaysShort gives) IsEnded (DecompositionSteps can gives left) (λ s r t steps. steps.item)
+
+  pub SpellsOk-decomposition : (s : Decomposition I) (x : List ℕ) → WillGive gives s x → StaysShort gives s → SpellsOk (DecompositionSteps can gives left) s x
+  SpellsOk-decomposition = SpellsOk-to_come (WillGive gives) (StaysShort gives) IsEnded (DecompositionSteps can gives left) (λ s r t steps. steps.item)
+
+  -- a composition spells what is to come of it
+  pub SpellsUnless-composition : (s : Composition I) (x : List ℕ) → composing.WillGive gives s x → SpellsUnless (CompositionSteps can gives left) Memory s x
+  SpellsUnless-composition = SpellsUnless-to_come (composing.WillGive gives) (composing.StaysShort gives) composing.IsEnded (CompositionSteps can gives left) (λ s r t steps. steps.item)
+
+  pub SpellsOk-composition : (s : Composition I) (x : List ℕ) → composing.WillGive gives s x → composing.StaysShort gives s → SpellsOk (CompositionSteps can gives left) s x
+  SpellsOk-composition = SpellsOk-to_come (composing.WillGive gives) (composing.StaysShort gives) composing.IsEnded (CompositionSteps can gives left) (λ s r t steps. steps.item)
+
+-- ---- what a maker answers
+
+module _ {I S : Type 0} (source_gives : I → Option ℕ → I → Type 0) (WillGive : S → List ℕ → Type 0) (StaysShort : S → Type 0) (steps : S → Option (Result ℕ NormalizeError) → S → Type 0)
+    (unless : (s : S) (x : List ℕ) → WillGive s x → SpellsUnless steps Memory s x) (always : (s : S) (x : List ℕ) → WillGive s x → StaysShort s → SpellsOk steps s x) (f : ℕ → Bool) (d : Reading) (form : Reading → List ℕ → List ℕ) (source : I) where
+  -- the runs of a text may be short by any reading that has the same lists
+  pub GivesForm-made : (IsShort : List ℕ → Type 0) → ((x : List ℕ) → HasShortRuns f d x → IsShort x) → (made : Result S NormalizeError) → IfOk made (λ it. (x : List ℕ) → Spells source_gives source x → WillGive it (form d x)) → IfOk made (λ it. (x : List ℕ) → Spells source_gives source x → IsShort x → StaysShort it) → ((x : List ℕ) → Spells source_gives source x → IsShort x → IsOk made) → IsOkUnless made Memory → GivesForm source_gives steps f d form source made
+  GivesForm-made IsShort is_short (Ok it) text short succeeds refused = record {
+    text = λ x h. unless it (form d x) (text x h);
+    short = λ x h runs. always it (form d x) (text x h) (short x h (is_short x runs));
+    refused = refused;
+  }
+  GivesForm-made IsShort is_short (Err e) text short succeeds refused = record { text = tt; short = λ x h runs. absurd (cc (succeeds x h (is_short x runs))); refused = refused }

@@ -1,0 +1,39 @@
+-- What an iterator gives whose calls may fail: the characters of a text, a fault, the end.
+use Rattle.std.specs.Prelude.{◌≡◌, ℕ, Bool, List, [], ◌∷◌, Option, Some, None, Result, Ok, All, MatchOption, MatchResult, IfOk, IsOkAnd, IsOkUnless}
+use Rattle.normal_forms.specs.Reading.{Reading}
+use Rattle.normal_forms.specs.ShortRuns.{HasShortRuns}
+use Rattle.normalizer_text.specs.Steps.{Spells}
+use Rattle.normalizer_iterators.specs.declared.error.NormalizeError.{NormalizeError}
+use Rattle.normalizer_iterators.specs.declared.error.NormalizeError.TheVariants.{Memory}
+
+module _ {S E : Type 0} (gives : S → Option (Result ℕ E) → S → Type 0) where
+  -- calls from s gave these answers, one after another, and left t
+  abbrev pub Answers : S → List (Option (Result ℕ E)) → S → Type 0
+  Answers s [] t = s ≡ t
+  Answers s (r ∷ rs) t = (u : S) × gives s r u × Answers u rs t
+
+  -- each call from s on gives `None`, for good
+  pub record HasEnded (s : S) : Type 0 where
+    pub at : (rs : List (Option (Result ℕ E))) (t : S) → Answers s rs t → All (λ r. r ≡ None) rs
+
+  -- calls from s give these characters in turn, each `Ok`, and then `None` for good
+  abbrev pub SpellsOk : S → List ℕ → Type 0
+  SpellsOk s [] = HasEnded s
+  SpellsOk s (c ∷ x) = (r : Option (Result ℕ E)) (t : S) → gives s r t → (r ≡ Some (Ok c)) × SpellsOk t x
+
+  -- the same, unless a call gives the fault where another would give the next character or `None`; then comes `None` for good
+  abbrev pub SpellsUnless : E → S → List ℕ → Type 0
+  SpellsUnless fault s [] =
+      (r : Option (Result ℕ E)) (t : S) → gives s r t
+      → MatchOption r (HasEnded t) (λ item. MatchResult item (λ c. ⊥) (λ e. (e ≡ fault) × HasEnded t))
+  SpellsUnless fault s (c ∷ x) =
+      (r : Option (Result ℕ E)) (t : S) → gives s r t
+      → MatchOption r ⊥ (λ item. MatchResult item (λ d. (d ≡ c) × SpellsUnless fault t x) (λ e. (e ≡ fault) × HasEnded t))
+
+-- An iterator was made over a source: of each text that this spells it gives the form, unless memory is refused. Where the
+-- text has short runs nothing is refused, when the iterator is made or later.
+module _ {I S : Type 0} (source_gives : I → Option ℕ → I → Type 0) (gives : S → Option (Result ℕ NormalizeError) → S → Type 0) where
+  pub record GivesForm (has_class_form : ℕ → Bool) (d : Reading) (form : Reading → List ℕ → List ℕ) (source : I) (made : Result S NormalizeError) : Type 0 where
+    pub text : IfOk made (λ it. (x : List ℕ) → Spells source_gives source x → SpellsUnless gives Memory it (form d x))
+    pub short : (x : List ℕ) → Spells source_gives source x → HasShortRuns has_class_form d x → IsOkAnd made (λ it. SpellsOk gives it (form d x))
+    pub refused : IsOkUnless made Memory
