@@ -47,7 +47,8 @@ placed_in table gives after item = if nat_lt item (length table) then gives item
 
 -- the list from an item on of one pair of tables, or of those after them
 unfoldable pub listed_in : Lists → ℕ → (ℕ → Option (List ℕ)) → ℕ → Option (List ℕ)
-listed_in t low after = placed_in t.scalars16 (narrow_at t.scalars16 low) (placed_in t.scalars24 (wide_at t.scalars24 low) after)
+listed_in t low after =
+    placed_in t.scalars16 (narrow_at t.scalars16 low) (placed_in t.scalars24 (wide_at t.scalars24 low) after)
 
 -- the list from an item on of the four tables, put one after another
 unfoldable pub listed_at : Characters → ℕ → ℕ → Option (List ℕ)

@@ -17,7 +17,8 @@ number_of_class_condition Words = 7
 abbrev pub class_conditions : List ClassCondition
 class_conditions = Surrogates ∷ PastTheEnd ∷ Words ∷ []
 
--- of the character n with the word w, an ordinary class is 1 to 254, and the class of a special form that of n's fixed list
+-- of the character n with the word w, an ordinary class is 1 to 254, and the class of a special form that of n's fixed
+-- list
 pub record IsSoundClass (n w : ℕ) : Type 0 where
   pub ordinary : is_ordinary_class_form w ≡ true → (0 < low_byte w) × (low_byte w < 255)
   pub special : is_special_class_form w ≡ true → option_map (λ f. f.class) (fixed_list_of n) ≡ Some (low_byte w)

@@ -58,7 +58,9 @@ is_surrogate n = is_in_range 0xD800 0xDFFF n
 
 -- U+FFFD reads to itself with class 0, and has NON_ROUND_TRIP alone
 unfoldable pub IsFlaggedReplacement : Characters → Type 0
-IsFlaggedReplacement s = IsPlainStarter s 0xFFFD × (is_non_round_trip (word_of s 0xFFFD) ≡ true) × (is_backward_combining (word_of s 0xFFFD) ≡ false)
+IsFlaggedReplacement s =
+    IsPlainStarter s 0xFFFD × (is_non_round_trip (word_of s 0xFFFD) ≡ true)
+    × (is_backward_combining (word_of s 0xFFFD) ≡ false)
 
 -- a Hangul syllable has the word 1, and a jamo of one reads to itself with class 0
 pub record IsSoundHangul (s : Characters) (n : ℕ) : Type 0 where
@@ -85,11 +87,13 @@ HasMarksBehind s x = All (IsMark (own_reading s)) (drop 1 x)
 unfoldable pub KeepsPromise : Characters → ℕ → WordReading → Type 0
 KeepsPromise s n (TwoCharacters a b) = HasMarksBehind s (list_of s [] n)
 KeepsPromise s n (Listed item low rest_are_marks) = rest_are_marks ≡ true → HasMarksBehind s (list_of s [] n)
-KeepsPromise s n (SpecialForm k) = option_map (λ f. f.member_classes) (fixed_list_of n) ≡ Some (map (class_of s) (list_of s [] n))
+KeepsPromise s n (SpecialForm k) =
+    option_map (λ f. f.member_classes) (fixed_list_of n) ≡ Some (map (class_of s) (list_of s [] n))
 KeepsPromise s n Fdfa = All (IsStarter (own_reading s)) (list_of s [] n)
 KeepsPromise s n _ = Unit {0}
 
--- the list of n is in canonical order, begins with a starter where n has no class form, and keeps the promise of its word
+-- the list of n is in canonical order, begins with a starter where n has no class form, and keeps the promise of its
+-- word
 pub record IsOrderedList (s : Characters) (n : ℕ) : Type 0 where
   pub ordered : order (own_reading s) (list_of s [] n) ≡ list_of s [] n
   pub first : has_class_form s n ≡ false → BeginsWithStarter (own_reading s) (list_of s [] n)
@@ -126,4 +130,5 @@ pub record IsPlaceOfFirstFailing (holds : Condition → Type 0) (conditions : Li
 -- no condition of the list fails, or this one does, and none before it
 unfoldable pub IsFirstFailing : {C : Type 0} → (C → Type 0) → List C → Option C → Type 0
 IsFirstFailing holds conditions None = All holds conditions
-IsFirstFailing {C} holds conditions (Some c) = (before : List C) × (after : List C) × (conditions ≡ before ++ c ∷ after) × All holds before × (¬ holds c)
+IsFirstFailing {C} holds conditions (Some c) =
+    (before : List C) × (after : List C) × (conditions ≡ before ++ c ∷ after) × All holds before × (¬ holds c)

@@ -9,7 +9,12 @@ use Rattle.normalizer_tables.specs.Data.{Decompositions, Lists, lists_or_none}
 
 -- what canonical data say of characters, with the tables of canonical data alone
 abbrev pub nfd_characters : Decompositions → Lists → Characters
-nfd_characters decompositions tables = record { decompositions = decompositions; tables = tables; supplementary = lists_or_none None; is_mapper = false }
+nfd_characters decompositions tables = record {
+  decompositions = decompositions;
+  tables = tables;
+  supplementary = lists_or_none None;
+  is_mapper = false;
+}
 
 -- below which numbers characters pass unseen, whatever the cap of the data is
 abbrev pub nfd_bounds : Bounds
@@ -17,7 +22,8 @@ nfd_bounds = record { decomposition = 0xC0; composition = 0x0300 }
 
 -- what is asked of them: all conditions but the one on the cap
 abbrev pub nfd_conditions : List Condition
-nfd_conditions = ItemLimit ∷ ReplacementCharacter ∷ Surrogates ∷ PastTheEnd ∷ Hangul ∷ Words ∷ Members ∷ Order ∷ Passthrough ∷ []
+nfd_conditions =
+    ItemLimit ∷ ReplacementCharacter ∷ Surrogates ∷ PastTheEnd ∷ Hangul ∷ Words ∷ Members ∷ Order ∷ Passthrough ∷ []
 
 -- conditions 1, 3 to 9, and 10 at the bound 0xC0
 abbrev pub IsSoundNfdData : Decompositions → Lists → Type 0

@@ -47,7 +47,8 @@ is_taken_to_begin_safely s b n = not (is_backward_combining (word_of s n)) || na
 
 -- a composing loop passes n unseen: it lies below the bound, or has neither flag
 unfoldable pub is_passed : Characters → Bounds → ℕ → Bool
-is_passed s b n = nat_lt n b.composition || (not (is_non_round_trip (word_of s n)) && not (is_backward_combining (word_of s n)))
+is_passed s b n =
+    nat_lt n b.composition || (not (is_non_round_trip (word_of s n)) && not (is_backward_combining (word_of s n)))
 
 -- the list of n composes to n alone
 unfoldable pub RoundTrips : Characters → List Pair → ℕ → Type 0
@@ -67,7 +68,8 @@ KeepsBeginning s b pairs n = IsScalar n → is_taken_to_begin_safely s b n ≡ t
 
 -- a result has the ordered lists of first and second, where `ignored` stands for an ignored character
 unfoldable pub HasOrderedLists : Characters → List ℕ → Pair → Type 0
-HasOrderedLists s ignored p = list_of s ignored p.2 ≡ order (own_reading s) (list_of s ignored p.1 ++ list_of s ignored p.0)
+HasOrderedLists s ignored p =
+    list_of s ignored p.2 ≡ order (own_reading s) (list_of s ignored p.1 ++ list_of s ignored p.0)
 
 -- the conditions, each in its line
 unfoldable pub HoldsOfPairs : Characters → Bounds → List Pair → PairCondition → Type 0

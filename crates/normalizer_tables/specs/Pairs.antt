@@ -19,7 +19,8 @@ AreRising pairs = AllPairs (λ p q. is_before p q.0 q.1 ≡ true) pairs
 
 -- the triples below the place stand before those of this second and this first, and no others do
 unfoldable pub IsPlaceOf : List Pair → ℕ → ℕ → ℕ → Type 0
-IsPlaceOf pairs second first place = IsPartitionPoint (λ p. is_before p second first ≡ true) (λ p. is_before p second first ≡ false) pairs place
+IsPlaceOf pairs second first place =
+    IsPartitionPoint (λ p. is_before p second first ≡ true) (λ p. is_before p second first ≡ false) pairs place
 
 unfoldable pub is_of : Pair → ℕ → ℕ → Bool
 is_of p first second = (p.0 == second) && (p.1 == first)
@@ -35,7 +36,8 @@ is_vowel_or_trailing_jamo c = is_in_range 0x1161 0x11FF c
 -- what two characters compose to: by the arithmetic of Hangul alone where the second is a vowel or a trailing
 -- consonant, else as listed
 unfoldable pub pair_of : List Pair → ℕ → ℕ → Option ℕ
-pair_of pairs first second = if is_vowel_or_trailing_jamo second then compose_hangul first second else listed_result pairs first second
+pair_of pairs first second =
+    if is_vowel_or_trailing_jamo second then compose_hangul first second else listed_result pairs first second
 
 -- no character composes with this one behind it
 unfoldable pub IsNeverSecond : List Pair → ℕ → Type 0

@@ -17,4 +17,5 @@ refusal_of kind c = Invalid kind (number_of c)
 
 -- e answers the first of these conditions that fails
 abbrev pub RefusesFirstFailing : DataMarkerInfo → Characters → Bounds → List Condition → DataError → Type 0
-RefusesFirstFailing kind s b conditions e = (c : Condition) × IsFirstFailing (Holds s b) conditions (Some c) × (e ≡ refusal_of kind c)
+RefusesFirstFailing kind s b conditions e =
+    (c : Condition) × IsFirstFailing (Holds s b) conditions (Some c) × (e ≡ refusal_of kind c)

@@ -24,7 +24,9 @@ step_conditions = FdfaForms ∷ Steps ∷ []
 
 -- the conditions that are asked of the data before
 abbrev pub conditions_before_steps : List Condition
-conditions_before_steps = condition.ItemLimit ∷ condition.PastTheEnd ∷ condition.Hangul ∷ condition.Words ∷ condition.Members ∷ condition.Order ∷ []
+conditions_before_steps =
+    condition.ItemLimit ∷ condition.PastTheEnd ∷ condition.Hangul ∷ condition.Words ∷ condition.Members
+    ∷ condition.Order ∷ []
 
 -- the list of n is not n alone, but these characters in canonical order
 unfoldable pub IsInOrder : Characters → ℕ → List ℕ → Type 0

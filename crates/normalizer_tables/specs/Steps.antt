@@ -1,5 +1,5 @@
--- One step of canonical decomposition: the canonical mapping of a character, applied once (The Unicode Standard, section 3.7,
--- D68 repeats it).
+-- One step of canonical decomposition: the canonical mapping of a character, applied once (The Unicode Standard,
+-- section 3.7; D68 repeats it, and orders what comes of it).
 use Rattle.std.specs.Prelude.{ℕ, ◌+◌, ◌-◌, ◌/◌, ◌%◌, ◌^◌, Bool, not, ◌&&◌, ◌==◌, nat_le, bit_and, List, [], ◌∷◌, length, Option, Some, None, option_and_then, if◌then◌else◌}
 use Rattle.std.specs.Int.{is_in_range}
 use Rattle.normalizer_tables.specs.declared.step.Step.{Step}
@@ -28,8 +28,8 @@ hangul_mapping c =
     let trailing = (c - s_base) % t_count in
     if trailing == 0 then hangul_decomposition c else (c - trailing) ∷ (t_base + trailing) ∷ []
 
--- what a word of the supplement names: the lead in its low 16 bits and the trail in its high 16, the lead alone, or, where
--- the trail stands alone, the two characters at the places trail - 1 and trail of the supplement's list
+-- what a word of the supplement names: the lead in its low 16 bits and the trail in its high 16, the lead alone, or,
+-- where the trail stands alone, the two characters at the places trail - 1 and trail of the supplement's list
 unfoldable pub supplementary_mapping : List ℕ → ℕ → Option (List ℕ)
 supplementary_mapping scalars w =
     let lead = bit_and w 0xFFFF in
@@ -58,7 +58,8 @@ listed_step t n x =
 unfoldable pub two_characters_step : Characters → Supplement → ℕ → Option Step
 two_characters_step s t n = if may_have_oxia n then supplementary_step t n else step_by (list_read s [] n)
 
--- by the reading of the word; no step where it doesn't read, or reads to the list of U+FDFA, which is no canonical mapping
+-- by the reading of the word; no step where it doesn't read, or reads to the list of U+FDFA, which is no canonical
+-- mapping
 unfoldable pub step_of_reading : Characters → Supplement → ℕ → WordReading → Option Step
 step_of_reading s t n Itself = Some Default
 step_of_reading s t n (ClassForm k) = Some Default
@@ -70,4 +71,5 @@ step_of_reading s t n _ = None
 
 -- the step of a scalar value
 unfoldable pub step_of : Characters → Supplement → ℕ → Option Step
-step_of s t n = if is_hangul_syllable n then step_by (as_text (hangul_mapping n)) else step_of_reading s t n (reading_of_word s n)
+step_of s t n =
+    if is_hangul_syllable n then step_by (as_text (hangul_mapping n)) else step_of_reading s t n (reading_of_word s n)

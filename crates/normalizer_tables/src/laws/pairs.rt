@@ -2,10 +2,10 @@
 ghost use Rattle.std.specs.Prelude.{◌≡◌, ◌≢◌, ℕ, List, [], ◌∷◌, true, All};
 ghost use Rattle.std.specs.Char.{IsScalar};
 ghost use Rattle.normal_forms.specs.Boundary.{BeginsSafely};
-ghost use Rattle.normal_forms.specs.Forms.{IsNormalized};
+ghost use Rattle.normal_forms.specs.Forms.{IsNormalized, nfd};
 ghost use Rattle.normal_forms.specs.declared.Form.TheVariants as form;
 ghost use Rattle.normal_forms.specs.Hypotheses.{HasFaithfulResults, HasStarterResults};
-ghost use Rattle.normalizer_tables.specs.Characters.{Characters, list_of, reading_of};
+ghost use Rattle.normalizer_tables.specs.Characters.{Characters, list_of, own_reading, reading_of};
 ghost use Rattle.normalizer_tables.specs.Conditions.{Holds};
 ghost use Rattle.normalizer_tables.specs.Ignored.{IgnoredCharacters, ignored_list};
 ghost use Rattle.normalizer_tables.specs.PairConditions.{HasOrderedLists, HoldsOfPairs, composing_reading, is_passed};
@@ -47,4 +47,10 @@ pub fn passed_characters_stand_apart()
         HoldsOfPairs s b pairs of_pairs.SafeBeginning →
         (i : IgnoredCharacters) (c : ℕ) → IsScalar c → is_passed s b c ≡ true →
         list_of s (ignored_list i) c ≢ [] }
+{}
+
+/// The decomposing form of data is the same with pairs and without.
+pub fn decomposing_form_looks_at_no_pairs()
+    ensures { (s : Characters) (pairs : List Pair) (x : List ℕ) →
+        nfd (composing_reading s pairs) x ≡ nfd (own_reading s) x }
 {}
