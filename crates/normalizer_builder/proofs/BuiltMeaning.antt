@@ -47,7 +47,8 @@ zero_either : (b : Bool) (k : ℕ) → k ≡ 0 → (if b then k else 0) ≡ 0
 zero_either true k e = e
 zero_either false k e = refl
 
-module _ (records : List Entry) (uts46 : List MapperEntry) (none : IsFirstRefusal records uts46 None) (p : Packed) (packs : PacksRecords records uts46 p) (characters : All IsOfCharacters packs.entries) where
+module _ (records : List Entry) (uts46 : List MapperEntry) (none : IsFirstRefusal records uts46 None) (p : Packed) (packs : PacksRecords records uts46 p)
+    (characters : All IsOfCharacters packs.entries) where
   meaning : AreEntriesOf records uts46 packs.entries
   meaning = AreEntriesOf-made records uts46 packs.entries packs.made
 
@@ -126,7 +127,8 @@ module _ (records : List Entry) (uts46 : List MapperEntry) (none : IsFirstRefusa
       ap (λ x. if has_fixed_list (class_in packs.entries) n x || list_eq x (n ∷ []) then class_in packs.entries n else 0) kept
       ∙ ap (λ b. if b || list_eq (unwrap_or (mapper_list records uts46 n) []) (n ∷ []) then class_in packs.entries n else 0)
       (has_fixed_list-same (class_in packs.entries) (recorded_class_of records) meaning.classes n (unwrap_or (mapper_list records uts46 n) []))
-      ∙ ap (λ k. if has_fixed_list (recorded_class_of records) n (unwrap_or (mapper_list records uts46 n) []) || list_eq (unwrap_or (mapper_list records uts46 n) []) (n ∷ []) then k else 0) (meaning.classes n)
+      ∙ ap (λ k. if has_fixed_list (recorded_class_of records) n (unwrap_or (mapper_list records uts46 n) []) || list_eq (unwrap_or (mapper_list records uts46 n) []) (n ∷ []) then k else 0)
+      (meaning.classes n)
 
   same_mapper_classes : (n : ℕ) → class_of (characters_of p kind.Mapper) n ≡ mapper_class_of records uts46 n
   same_mapper_classes n = elim (cases_Bool (scalar n)) [

@@ -16,7 +16,8 @@ use Rattle.normalizer_packing.specs.Entries.{CharacterEntry, AreRising, own_list
 use Rattle.normalizer_records.specs.declared.records.Mappings.{Mappings}
 use Rattle.normalizer_records.specs.declared.records.Mappings.TheVariants.{Canonical, All as AllMappings}
 use Rattle.normalizer_records.specs.Entry.{Entry, MapperEntry, Status}
-use Rattle.normalizer_records.specs.Meaning.{class_of, entry_of, canonical_list, canonical_mapping_of, compatibility_list, mapper_list, replacement, expansion, replace_by, full_list, status_of, mapped_list, mapping_among, recorded_classes}
+use Rattle.normalizer_records.specs.Meaning.{class_of, entry_of, canonical_list, canonical_mapping_of, compatibility_list, mapper_list, replacement, expansion, replace_by, full_list, status_of}
+use Rattle.normalizer_records.specs.Meaning.{mapped_list, mapping_among, recorded_classes}
 use Rattle.normalizer_builder.specs.Recorded.{AreMadeOf, ListsCharacters, entry_for, recorded_characters}
 
 Contains-cons : {X : Type 0} (x : X) (xs : List X) (y : X) → Contains xs y → Contains (x ∷ xs) y
@@ -56,7 +57,8 @@ behind c cs n differs h = elim (Contains-append_cases (c ∷ []) cs n h) [
 ]
 
 -- what is made of a number is found by it, or the number is missing
-pub find-made : {X : Type 0} (make : ℕ → X) (number : X → ℕ) → ((c : ℕ) → number (make c) ≡ c) → (cs : List ℕ) (n : ℕ) → (find (λ x. number x == n) (map make cs) ≡ Some (make n)) ⊎ ((find (λ x. number x == n) (map make cs) ≡ None) × (Contains cs n → ⊥))
+pub find-made : {X : Type 0} (make : ℕ → X) (number : X → ℕ) → ((c : ℕ) → number (make c) ≡ c) → (cs : List ℕ) (n : ℕ) →
+    (find (λ x. number x == n) (map make cs) ≡ Some (make n)) ⊎ ((find (λ x. number x == n) (map make cs) ≡ None) × (Contains cs n → ⊥))
 find-made make number same [] n = inr (refl, λ h. omega (arith, h.1))
 find-made make number same (c ∷ cs) n = elim (eqb_tells (number (make c)) n) [
   | inl h ↦ inl (ap (λ b. cond b (Some (make c)) (find (λ x. number x == n) (map make cs))) h.0 ∙ ap (λ m. Some (make m)) (sym (same c) ∙ h.1))
@@ -105,7 +107,9 @@ module _ (records : List Entry) (uts46 : List MapperEntry) (n : ℕ) where
   -- what the entries say of n
   abbrev SaysSame : List CharacterEntry → Type 0
   SaysSame entries = (class_in entries n ≡ class_of records n)
-      × (is_hangul_syllable n ≡ false → (list_in kind.Canonical entries n ≡ Some (canonical_list records n)) × (list_in kind.Compatibility entries n ≡ Some (compatibility_list records n)) × (list_in kind.Mapper entries n ≡ mapper_list records uts46 n))
+      × (is_hangul_syllable n ≡ false →
+      (list_in kind.Canonical entries n ≡ Some (canonical_list records n)) × (list_in kind.Compatibility entries n ≡ Some (compatibility_list records n)) ×
+      (list_in kind.Mapper entries n ≡ mapper_list records uts46 n))
 
   recorded_says : (entries : List CharacterEntry) → packed_entry_of entries n ≡ Some (entry_for records uts46 n) → SaysSame entries
   unfolding class_in list_in entry_for

@@ -10,7 +10,8 @@ use Rattle.normalizer_builder.specs.declared.rank.Unfit.{Unfit}
 use Rattle.normalizer_builder.specs.Ranks.{place_of, IsBefore, IsFirstUnmet}
 
 -- conditions of a list whose numbers count up from the first
-module _ {C D : Type 0} (answer : D → Unfit) (meets : D → Type 0) (demand : C → D) (conditions : List C) (first : ℕ) (numbered : map (λ c. (answer (demand c)).condition) conditions ≡ range_with_len first (length conditions)) where
+module _ {C D : Type 0} (answer : D → Unfit) (meets : D → Type 0) (demand : C → D) (conditions : List C) (first : ℕ)
+    (numbered : map (λ c. (answer (demand c)).condition) conditions ≡ range_with_len first (length conditions)) where
   abbrev number : C → ℕ
   number c = (answer (demand c)).condition
 

@@ -55,7 +55,8 @@ module _ {D : Type 0} (answer : D → Unfit) (meets : D → Type 0) (A B : D →
   ]
 
 -- the same demands in other words
-pub IsFirstUnmet-same : {D : Type 0} (answer : D → Unfit) (meets : D → Type 0) (A B : D → Type 0) → ((d : D) → A d → B d) → ((d : D) → B d → A d) → (r : Option Unfit) → IsFirstUnmet A answer meets r → IsFirstUnmet B answer meets r
+pub IsFirstUnmet-same : {D : Type 0} (answer : D → Unfit) (meets : D → Type 0) (A B : D → Type 0) → ((d : D) → A d → B d) → ((d : D) → B d → A d) → (r : Option Unfit) → IsFirstUnmet A answer meets r →
+    IsFirstUnmet B answer meets r
 unfolding IsFirstUnmet
 IsFirstUnmet-same answer meets A B to back None h = λ d made. h d (back d made)
 IsFirstUnmet-same answer meets A B to back (Some u) h = record {

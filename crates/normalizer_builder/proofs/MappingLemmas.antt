@@ -4,7 +4,8 @@ use Rattle.normalizer_packing.specs.declared.Packed.{Packed}
 use Rattle.normalizer_records.specs.Entry.{Entry}
 use Rattle.normalizer_records.specs.Meaning.{entry_of, canonical_mapping_of}
 use Rattle.normalizer_builder.specs.declared.rank.Unfit.{Unfit}
-use Rattle.normalizer_builder.specs.Building.{RecordDemand, OfConstructors, OfMappings, IsMadeOfRecords, MeetsRecords, answer_of_records, IsOfMappings, IsFirstUnfitOfRecords, IsFirstUnfitOfMappings, KeepsMapping, answer_to_mappings}
+use Rattle.normalizer_builder.specs.Building.{RecordDemand, OfConstructors, OfMappings, IsMadeOfRecords, MeetsRecords, answer_of_records, IsOfMappings, IsFirstUnfitOfRecords, IsFirstUnfitOfMappings}
+use Rattle.normalizer_builder.specs.Building.{KeepsMapping, answer_to_mappings}
 use Rattle.normalizer_builder.specs.Demands.{Demand, IsMade}
 use Rattle.normalizer_builder.specs.Fitness.{IsFirstUnfit}
 use Rattle.normalizer_builder.specs.Ranks.{IsBefore, IsLeast, IsFirstUnmet}

@@ -1,5 +1,6 @@
 -- What records are of which none of their own refusals holds.
-use Rattle.std.proofs.Common.{◌≡◌, ◌⊎◌, inl, inr, ℕ, zero, suc, ◌<◌, ◌≤◌, Bool, true, false, ◌||◌, List, [], ◌∷◌, ◌++◌, length, get_or, Option, Some, None, IfSome, IsSomeAnd, refl, sym, ap, ◌∙◌, arith, find, ◌==◌, length-append, if◌then◌else◌}
+use Rattle.std.proofs.Common.{◌≡◌, ◌⊎◌, inl, inr, ℕ, zero, suc, ◌<◌, ◌≤◌, Bool, true, false, ◌||◌, List, [], ◌∷◌, ◌++◌, length, get_or, Option, Some, None, IfSome, IsSomeAnd, refl, sym, ap, ◌∙◌}
+use Rattle.std.proofs.Common.{arith, find, ◌==◌, length-append, if◌then◌else◌}
 use Rattle.std.specs.List.{list_any}
 use Rattle.std.specs.Option.{option_map}
 use Rattle.std.proofs.lemmas.Bool.{cases_Bool, cases_lt, or_left, or_right, true≢false}
@@ -11,8 +12,10 @@ use Rattle.normalizer_records.specs.declared.records.Mappings.TheVariants.{Canon
 use Rattle.normalizer_records.specs.declared.refusal.Refusal.{Refusal}
 use Rattle.normalizer_records.specs.declared.refusal.Refusal.TheVariants as refusal
 use Rattle.normalizer_records.specs.Entry.{Entry, MapperEntry, Status, MapsTo, IsIgnored, IsDisallowed}
-use Rattle.normalizer_records.specs.Faults.{AreRising, AreMapperRising, HasFault, HasOrderFault, HasClassFault, HasWrongClass, HasChainFault, has_fixed_fault, HasLengthFault, HasLongList, HasPairFault, IsAsked, IsFirstRefusal, IsOnLongChain, IsTooLong, has_mapping_fault, is_bad_mapping, is_bad_status, mapped_to}
-use Rattle.normalizer_records.specs.Meaning.{canonical_list, compatibility_list, mapper_list, mapped_list, list_of_status, status_of, expansion, expand_all, full_list, replacement, replace_by, recorded_classes, levels}
+use Rattle.normalizer_records.specs.Faults.{AreRising, AreMapperRising, HasFault, HasOrderFault, HasClassFault, HasWrongClass, HasChainFault, has_fixed_fault, HasLengthFault, HasLongList}
+use Rattle.normalizer_records.specs.Faults.{HasPairFault, IsAsked, IsFirstRefusal, IsOnLongChain, IsTooLong, has_mapping_fault, is_bad_mapping, is_bad_status, mapped_to}
+use Rattle.normalizer_records.specs.Meaning.{canonical_list, compatibility_list, mapper_list, mapped_list, list_of_status, status_of, expansion, expand_all, full_list, replacement, replace_by}
+use Rattle.normalizer_records.specs.Meaning.{recorded_classes, levels}
 use Rattle.normalizer_builder.specs.Parts.{HasRoom}
 
 stable : (a b : ℕ) → (¬ (a < b) → ⊥) → a < b
@@ -41,19 +44,22 @@ expansion_some records mappings (suc n) c = replace_by_some (expansion records m
 
 full_list_some : (records : List Entry) (mappings : Mappings) (c : ℕ) → 0 < length (full_list records mappings c)
 unfolding full_list
-full_list_some records mappings c = let some = expansion_some records mappings levels c in let same = length-order (recorded_classes records) (expansion records mappings levels c) in omega (arith, some, same)
+full_list_some records mappings c = let some = expansion_some records mappings levels c in let same =
+    length-order (recorded_classes records) (expansion records mappings levels c) in omega (arith, some, same)
 
 expand_all_some : (records : List Entry) (m : ℕ) (x : List ℕ) → 0 < length (expand_all records Canonical (m ∷ x))
 unfolding expand_all
 expand_all_some records m x = simp length-append (omega (arith, expansion_some records Canonical levels m))
 
 -- a status that is looked up is a record's
-pub bad_status : (uts46 : List MapperEntry) (c : ℕ) (s : Status) → option_map (λ (r : MapperEntry). r.status) (find (λ r. r.c == c) uts46) ≡ Some s → is_bad_status s ≡ true → list_any (λ r. is_bad_status r.status) uts46 ≡ true
+pub bad_status : (uts46 : List MapperEntry) (c : ℕ) (s : Status) → option_map (λ (r : MapperEntry). r.status) (find (λ r. r.c == c) uts46) ≡ Some s → is_bad_status s ≡ true →
+    list_any (λ r. is_bad_status r.status) uts46 ≡ true
 bad_status [] c s found bad = absurd cc
-bad_status (r ∷ uts46) c s found bad = elim (r.c == c) as (λ b. option_map (λ (r : MapperEntry). r.status) (if b then Some r else find (λ r. r.c == c) uts46) ≡ Some s → list_any (λ r. is_bad_status r.status) (r ∷ uts46) ≡ true) [
-  | true ↦ λ here. let same : r.status ≡ s = cc in or_left (is_bad_status r.status) _ (ap is_bad_status same ∙ bad)
-  | false ↦ λ further. or_right (is_bad_status r.status) _ (bad_status uts46 c s further bad)
-] found
+bad_status (r ∷ uts46) c s found bad =
+    elim (r.c == c) as (λ b. option_map (λ (r : MapperEntry). r.status) (if b then Some r else find (λ r. r.c == c) uts46) ≡ Some s → list_any (λ r. is_bad_status r.status) (r ∷ uts46) ≡ true) [
+      | true ↦ λ here. let same : r.status ≡ s = cc in or_left (is_bad_status r.status) _ (ap is_bad_status same ∙ bad)
+      | false ↦ λ further. or_right (is_bad_status r.status) _ (bad_status uts46 c s further bad)
+    ] found
 
 module _ (records : List Entry) (uts46 : List MapperEntry) (none : IsFirstRefusal records uts46 None) where
   no_fault : (r : Refusal) → ¬ HasFault records uts46 r
@@ -139,7 +145,8 @@ module _ (records : List Entry) (uts46 : List MapperEntry) (none : IsFirstRefusa
   status_some c (Some IsIgnored) e = tt
   status_some c (Some IsDisallowed) e = omega arith
   status_some c (Some (MapsTo [])) e = absurd (no_mapping_fault (or_right (list_any is_bad_mapping records) _ (bad_status uts46 c (MapsTo []) e refl)))
-  status_some c (Some (MapsTo (m ∷ x))) e = let some = expand_all_some records m x in let same = length-order (recorded_classes records) (expand_all records Canonical (m ∷ x)) in omega (arith, some, same)
+  status_some c (Some (MapsTo (m ∷ x))) e = let some = expand_all_some records m x in let same =
+      length-order (recorded_classes records) (expand_all records Canonical (m ∷ x)) in omega (arith, some, same)
 
   pub mapper_some : (c : ℕ) → IfSome (mapper_list records uts46 c) (λ x. 0 < length x)
   unfolding mapper_list

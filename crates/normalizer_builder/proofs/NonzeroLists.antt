@@ -1,5 +1,6 @@
 -- Lists of characters other than U+0000 don't have it.
-use Rattle.std.proofs.Common.{◌≡◌, ℕ, zero, suc, ◌+◌, ◌-◌, ◌/◌, ◌%◌, ◌<◌, Bool, true, false, ◌==◌, ◌||◌, List, [], ◌∷◌, flat_map, Option, Some, None, IfSome, ap, subst, sym, refl, arith, if◌then◌else◌, inl, inr, All}
+use Rattle.std.proofs.Common.{◌≡◌, ℕ, zero, suc, ◌+◌, ◌-◌, ◌/◌, ◌%◌, ◌<◌, Bool, true, false, ◌==◌, ◌||◌, List, [], ◌∷◌, flat_map, Option, Some, None, IfSome, ap, subst, sym, refl, arith}
+use Rattle.std.proofs.Common.{if◌then◌else◌, inl, inr, All}
 use Rattle.std.proofs.lemmas.Bool.{cases_Bool, or_parts, or_right}
 use Rattle.std.specs.List.{list_any, AllByRecursion}
 use Rattle.std.specs.Option.{option_map_or}
@@ -11,7 +12,8 @@ use Rattle.normalizer_records.specs.declared.records.Mappings.{Mappings}
 use Rattle.normalizer_records.specs.declared.records.Mappings.TheVariants.{Canonical, All as AllMappings}
 use Rattle.normalizer_records.specs.Entry.{Entry, MapperEntry, Status, MapsTo, IsIgnored, IsDisallowed}
 use Rattle.normalizer_records.specs.Faults.{IsFirstRefusal, has_mapping_fault, has_zero, is_bad_mapping, is_bad_status}
-use Rattle.normalizer_records.specs.Meaning.{entry_of, expand_all, expansion, full_list, levels, list_of_status, mapped_list, mapper_list, mapping_among, recorded_classes, replace_by, replacement, status_of}
+use Rattle.normalizer_records.specs.Meaning.{entry_of, expand_all, expansion, full_list, levels, list_of_status, mapped_list, mapper_list, mapping_among, recorded_classes, replace_by, replacement}
+use Rattle.normalizer_records.specs.Meaning.{status_of}
 use Rattle.normalizer_builder.proofs.NoRefusal.{bad_status, no_mapping_fault}
 use Rattle.normalizer_builder.proofs.UnrecordedCharacters.{find-cases, none_passes}
 
@@ -31,7 +33,8 @@ jamo_nonzero : (c : ℕ) → HasNoZero (hangul_decomposition c)
 unfolding hangul_decomposition
 jamo_nonzero c =
     let index = c - s_base in
-    elim (index % t_count == 0) as (λ b. HasNoZero (if b then (l_base + index / n_count) ∷ (v_base + index % n_count / t_count) ∷ [] else (l_base + index / n_count) ∷ (v_base + index % n_count / t_count) ∷ (t_base + index % t_count) ∷ [])) [
+    elim (index % t_count == 0) as (λ b. HasNoZero (if b then (l_base + index / n_count) ∷ (v_base + index % n_count / t_count) ∷ [] else (l_base + index / n_count) ∷
+    (v_base + index % n_count / t_count) ∷ (t_base + index % t_count) ∷ [])) [
       | true ↦ (omega arith, (omega arith, tt))
       | false ↦ (omega arith, (omega arith, (omega arith, tt)))
     ]
@@ -82,7 +85,8 @@ module _ (records : List Entry) (uts46 : List MapperEntry) (none : IsFirstRefusa
     HasNoZero-expansion : (depth c : ℕ) → 0 < c → HasNoZero (expansion records mappings depth c)
     unfolding expansion
     HasNoZero-expansion zero c some = (some, tt)
-    HasNoZero-expansion (suc depth) c some = HasNoZero-replace_by (expansion records mappings depth) (λ m h. HasNoZero-expansion depth m h) (replacement records mappings c) c some (HasNoZero-replacement c)
+    HasNoZero-expansion (suc depth) c some =
+        HasNoZero-replace_by (expansion records mappings depth) (λ m h. HasNoZero-expansion depth m h) (replacement records mappings c) c some (HasNoZero-replacement c)
 
     pub HasNoZero-list : (c : ℕ) → 0 < c → HasNoZero (full_list records mappings c)
     unfolding full_list

@@ -1,5 +1,6 @@
 -- Entries of records that aren't refused can be packed.
-use Rattle.std.proofs.Common.{◌≡◌, ◌≢◌, ◌⊎◌, inl, inr, ℕ, ◌+◌, ◌<◌, ◌≤◌, Bool, true, false, ◌&&◌, ◌||◌, ◌==◌, nat_lt, nat_le, List, [], ◌∷◌, length, map, Option, Some, None, All, IfSome, refl, subst, sym, ◌∙◌, arith, if◌then◌else◌, filter_map}
+use Rattle.std.proofs.Common.{◌≡◌, ◌≢◌, ◌⊎◌, inl, inr, ℕ, ◌+◌, ◌<◌, ◌≤◌, Bool, true, false, ◌&&◌, ◌||◌, ◌==◌, nat_lt, nat_le, List, [], ◌∷◌, length, map, Option, Some, None, All, IfSome, refl, subst}
+use Rattle.std.proofs.Common.{sym, ◌∙◌, arith, if◌then◌else◌, filter_map}
 use Rattle.std.specs.List.{cons_option, list_all, list_any}
 use Rattle.std.proofs.lemmas.Bool.{and_cases, cases_Bool, or_left, or_parts, or_right, true≢false}
 use Rattle.std.proofs.lemmas.Bool.Decides.{nat_tests}
@@ -73,13 +74,15 @@ fdfa_list_spelled class n e = absurd cc
 
 fdfa_by_list : (class : ℕ → ℕ) (n : ℕ) → spelling_by_list class n fdfa_list ≢ Listed
 unfolding spelling_by_list
-fdfa_by_list class n = elim (has_fixed_list class n fdfa_list) as (λ b. (if b then Short (0xD900 + class n) else if list_eq fdfa_list (n ∷ []) then Short (if class n == 0 then 0 else 0xD800 + class n) else spelling_of_list class n fdfa_list) ≢ Listed) [
-  | true ↦ λ e. absurd cc
-  | false ↦ elim (list_eq fdfa_list (n ∷ [])) as (λ b. (if b then Short (if class n == 0 then 0 else 0xD800 + class n) else spelling_of_list class n fdfa_list) ≢ Listed) [
-    | true ↦ λ e. absurd cc
-    | false ↦ fdfa_list_spelled class n
-  ]
-]
+fdfa_by_list class n =
+    elim (has_fixed_list class n fdfa_list) as (λ b. (if b then Short (0xD900 + class n) else if list_eq fdfa_list (n ∷ []) then Short (if class n == 0 then 0 else 0xD800 + class n) else
+    spelling_of_list class n fdfa_list) ≢ Listed) [
+      | true ↦ λ e. absurd cc
+      | false ↦ elim (list_eq fdfa_list (n ∷ [])) as (λ b. (if b then Short (if class n == 0 then 0 else 0xD800 + class n) else spelling_of_list class n fdfa_list) ≢ Listed) [
+        | true ↦ λ e. absurd cc
+        | false ↦ fdfa_list_spelled class n
+      ]
+    ]
 
 fdfa_spelled : (class : ℕ → ℕ) (n : ℕ) → spelling class n (Some fdfa_list) ≢ Listed
 unfolding spelling spelling_or_ignored
@@ -93,7 +96,8 @@ listed_fit : (class : ℕ → ℕ) (k : Kind) (e : CharacterEntry) → IfSome (o
 unfolding listed_of
 listed_fit class k e fit = of_list (own_list k e) fit (spelling class e.character (own_list k e)) refl
   where
-    of_list : (o : Option (List ℕ)) → IfSome o IsFit → (s : Spelling) → spelling class e.character o ≡ s → IfSome (elim s as (λ _. Option (List ℕ)) [ Final w ↦ None | Short w ↦ None | Listed ↦ o ]) HasLengthOfWord
+    of_list : (o : Option (List ℕ)) → IfSome o IsFit → (s : Spelling) → spelling class e.character o ≡ s →
+        IfSome (elim s as (λ _. Option (List ℕ)) [ Final w ↦ None | Short w ↦ None | Listed ↦ o ]) HasLengthOfWord
     of_list o fit (Final w) is = tt
     of_list o fit (Short w) is = tt
     of_list None fit Listed is = tt

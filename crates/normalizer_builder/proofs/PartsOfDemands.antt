@@ -17,7 +17,8 @@ use Rattle.normalizer_packing.specs.declared.Packed.{Packed}
 use Rattle.normalizer_packing.specs.declared.entry.Kind.{Kind}
 use Rattle.normalizer_packing.specs.declared.entry.Kind.TheVariants.{Canonical, Compatibility, Mapper}
 use Rattle.normalizer_builder.specs.declared.rank.Unfit.{Unfit}
-use Rattle.normalizer_builder.specs.Demands.{Demand, OfCharacters, OfPairs, OfSteps, IsMade, Meets, answer_to, answer_to_condition, answer_to_pair_condition, answer_to_step_condition, bounds_of, characters_of, is_mappers}
+use Rattle.normalizer_builder.specs.Demands.{Demand, OfCharacters, OfPairs, OfSteps, IsMade, Meets, answer_to, answer_to_condition, answer_to_pair_condition, answer_to_step_condition, bounds_of}
+use Rattle.normalizer_builder.specs.Demands.{characters_of, is_mappers}
 use Rattle.normalizer_builder.specs.Fitness.{IsFirstUnfit, IsFirstUnfitOfKind, IsFirstUnfitOfSteps, IsMadeOfKind, IsMadeOfSteps}
 use Rattle.normalizer_builder.specs.Ranks.{IsLeast, IsFirstUnmet}
 use Rattle.normalizer_builder.proofs.FirstOfParts.{IsFirstUnmet-first, number_at}
@@ -112,11 +113,13 @@ abbrev bounds_at : ℕ → ℕ → Bounds
 bounds_at decomposition composition = record { decomposition = decomposition; composition = composition }
 
 module _ (p : Packed) (kind : Kind) where
-  by_itself : (r : Option Condition) → IsFirstFailing (Holds (characters_of p kind) (bounds_of p kind)) decomposing r → IsFirstUnmet (OfListedCharacters kind) answer_to (Meets p) (option_map (answer_to_condition kind) r)
+  by_itself : (r : Option Condition) → IsFirstFailing (Holds (characters_of p kind) (bounds_of p kind)) decomposing r →
+      IsFirstUnmet (OfListedCharacters kind) answer_to (Meets p) (option_map (answer_to_condition kind) r)
   unfolding Meets
   by_itself r h = IsFirstUnmet-first answer_to (Meets p) (OfCharacters kind) decomposing 1 (numbered_conditions kind) r h
 
-  by_pairs : (r : Option PairCondition) → IsFirstFailing (HoldsOfPairs (characters_of p kind) (bounds_of p kind) p.compositions) (pair_conditions (is_mappers kind)) r → IsFirstUnmet (OfListedPairs kind) answer_to (Meets p) (option_map (answer_to_pair_condition kind) r)
+  by_pairs : (r : Option PairCondition) → IsFirstFailing (HoldsOfPairs (characters_of p kind) (bounds_of p kind) p.compositions) (pair_conditions (is_mappers kind)) r →
+      IsFirstUnmet (OfListedPairs kind) answer_to (Meets p) (option_map (answer_to_pair_condition kind) r)
   unfolding Meets
   by_pairs r h = IsFirstUnmet-first answer_to (Meets p) (OfPairs kind) (pair_conditions (is_mappers kind)) 11 (numbered_pair_conditions kind (is_mappers kind)) r h
 
@@ -124,27 +127,36 @@ module _ (p : Packed) (kind : Kind) where
   same_bounds b e f =
       ap (λ x. bounds_at x b.composition) e ∙ ap (λ x. bounds_at (bounds_of p kind).decomposition x) f
 
-  of_kind : (i : Option Condition) (j : Option PairCondition) (r : Option Unfit) → IsFirstFailing (Holds (characters_of p kind) (bounds_of p kind)) decomposing i → IsFirstFailing (HoldsOfPairs (characters_of p kind) (bounds_of p kind) p.compositions) (pair_conditions (is_mappers kind)) j → IsLeast (option_map (answer_to_condition kind) i) (option_map (answer_to_pair_condition kind) j) r → IsFirstUnfitOfKind p kind r
+  of_kind : (i : Option Condition) (j : Option PairCondition) (r : Option Unfit) → IsFirstFailing (Holds (characters_of p kind) (bounds_of p kind)) decomposing i →
+      IsFirstFailing (HoldsOfPairs (characters_of p kind) (bounds_of p kind) p.compositions) (pair_conditions (is_mappers kind)) j →
+      IsLeast (option_map (answer_to_condition kind) i) (option_map (answer_to_pair_condition kind) j) r → IsFirstUnfitOfKind p kind r
   of_kind i j r h k least =
       IsFirstUnmet-same answer_to (Meets p) (IsListed kind) (IsMadeOfKind kind) (to_kind kind) (from_kind kind) r
-      (IsFirstUnmet-least answer_to (Meets p) (OfListedCharacters kind) (OfListedPairs kind) (option_map (answer_to_condition kind) i) (option_map (answer_to_pair_condition kind) j) r least (by_itself i h) (by_pairs j k))
+      (IsFirstUnmet-least answer_to (Meets p) (OfListedCharacters kind) (OfListedPairs kind) (option_map (answer_to_condition kind) i)
+      (option_map (answer_to_pair_condition kind) j) r least (by_itself i h) (by_pairs j k))
 
   -- where the characters and the bounds were computed
-  pub first_unfit_of_kind : (s : Characters) (b : Bounds) (i : Option Condition) (j : Option PairCondition) (one other r : Option Unfit) → s ≡ characters_of p kind → b.decomposition ≡ min s.decompositions.cap 0xC0 → b.composition ≡ min s.decompositions.cap 0x0300 → IsFirstFailing (Holds s b) decomposing i → IsFirstFailing (HoldsOfPairs s b p.compositions) (pair_conditions s.is_mapper) j → one ≡ option_map (answer_to_condition kind) i → other ≡ option_map (answer_to_pair_condition kind) j → IsLeast one other r → IsFirstUnfitOfKind p kind r
+  pub first_unfit_of_kind : (s : Characters) (b : Bounds) (i : Option Condition) (j : Option PairCondition) (one other r : Option Unfit) → s ≡ characters_of p kind →
+      b.decomposition ≡ min s.decompositions.cap 0xC0 → b.composition ≡ min s.decompositions.cap 0x0300 → IsFirstFailing (Holds s b) decomposing i →
+      IsFirstFailing (HoldsOfPairs s b p.compositions) (pair_conditions s.is_mapper) j → one ≡ option_map (answer_to_condition kind) i → other ≡ option_map (answer_to_pair_condition kind) j →
+      IsLeast one other r → IsFirstUnfitOfKind p kind r
   first_unfit_of_kind s b i j one other r e narrow wide h k answer pair_answer least =
       let bounds : b ≡ bounds_of p kind = same_bounds b (narrow ∙ ap (λ x. min x.decompositions.cap 0xC0) e) (wide ∙ ap (λ x. min x.decompositions.cap 0x0300) e) in
       of_kind i j r
       (subst (λ x. IsFirstFailing (Holds (characters_of p kind) x) decomposing i) bounds (subst (λ x. IsFirstFailing (Holds x b) decomposing i) e h))
-      (subst (λ x. IsFirstFailing (HoldsOfPairs (characters_of p kind) x p.compositions) (pair_conditions (is_mappers kind)) j) bounds (subst (λ x. IsFirstFailing (HoldsOfPairs x b p.compositions) (pair_conditions x.is_mapper) j) e k))
+      (subst (λ x. IsFirstFailing (HoldsOfPairs (characters_of p kind) x p.compositions)
+      (pair_conditions (is_mappers kind)) j) bounds (subst (λ x. IsFirstFailing (HoldsOfPairs x b p.compositions) (pair_conditions x.is_mapper) j) e k))
       (subst (λ x. IsLeast x (option_map (answer_to_pair_condition kind) j) r) answer (subst (λ x. IsLeast one x r) pair_answer least))
 
-of_steps : (p : Packed) (s : Characters) (r : Option StepCondition) → s ≡ characters_of p Canonical → IsFirstFailing (HoldsOfSteps s p.supplement) step_conditions r → IsFirstUnfitOfSteps p (option_map answer_to_step_condition r)
+of_steps : (p : Packed) (s : Characters) (r : Option StepCondition) → s ≡ characters_of p Canonical → IsFirstFailing (HoldsOfSteps s p.supplement) step_conditions r →
+    IsFirstUnfitOfSteps p (option_map answer_to_step_condition r)
 unfolding Meets IsMadeOfSteps
 of_steps p s r e h =
     IsFirstUnmet-same answer_to (Meets p) OfListedSteps IsMadeOfSteps (λ d k. (k.0, k.2)) (λ d k. (k.0, listed_step_condition k.0, k.1)) (option_map answer_to_step_condition r)
     (IsFirstUnmet-first answer_to (Meets p) OfSteps step_conditions 15 numbered_step_conditions r (subst (λ x. IsFirstFailing (HoldsOfSteps x p.supplement) step_conditions r) e h))
 
-pub first_unfit_of_steps : (p : Packed) (s : Characters) (i : Option StepCondition) (r : Option Unfit) → s ≡ characters_of p Canonical → IsFirstFailing (HoldsOfSteps s p.supplement) step_conditions i → r ≡ option_map answer_to_step_condition i → IsFirstUnfitOfSteps p r
+pub first_unfit_of_steps : (p : Packed) (s : Characters) (i : Option StepCondition) (r : Option Unfit) → s ≡ characters_of p Canonical →
+    IsFirstFailing (HoldsOfSteps s p.supplement) step_conditions i → r ≡ option_map answer_to_step_condition i → IsFirstUnfitOfSteps p r
 first_unfit_of_steps p s i r e h answer = subst (IsFirstUnfitOfSteps p) (sym answer) (of_steps p s i e h)
 
 -- the parts are all that is demanded
@@ -174,7 +186,10 @@ part_of (OfPairs Compatibility c) made = inr (inl (made, inr (c, refl)))
 part_of (OfPairs Mapper c) made = inr (inr (made, inr (c, refl)))
 part_of (OfSteps c) made = inl (inr (c, refl))
 
-pub first_unfit_of_parts : (p : Packed) (canonical steps compatibility mapper one other r : Option Unfit) → IsFirstUnfitOfKind p Canonical canonical → IsFirstUnfitOfSteps p steps → IsFirstUnfitOfKind p Compatibility compatibility → IsFirstUnfitOfKind p Mapper mapper → IsLeast canonical steps one → IsLeast compatibility mapper other → IsLeast one other r → IsFirstUnfit p r
+pub first_unfit_of_parts : (p : Packed) (canonical steps compatibility mapper one other r : Option Unfit) → IsFirstUnfitOfKind p Canonical canonical → IsFirstUnfitOfSteps p steps →
+    IsFirstUnfitOfKind p Compatibility compatibility → IsFirstUnfitOfKind p Mapper mapper → IsLeast canonical steps one → IsLeast compatibility mapper other → IsLeast one other r → IsFirstUnfit p r
 first_unfit_of_parts p canonical steps compatibility mapper one other r h k l m least_one least_other least =
     IsFirstUnmet-same answer_to (Meets p) IsOfPart IsMade made_of_part part_of r
-    (IsFirstUnmet-least answer_to (Meets p) IsCanonicalPart IsOtherPart one other r least (IsFirstUnmet-least answer_to (Meets p) (IsMadeOfKind Canonical) IsMadeOfSteps canonical steps one least_one h k) (IsFirstUnmet-least answer_to (Meets p) (IsMadeOfKind Compatibility) (IsMadeOfKind Mapper) compatibility mapper other least_other l m))
+    (IsFirstUnmet-least answer_to (Meets p) IsCanonicalPart IsOtherPart one other r least (IsFirstUnmet-least answer_to (Meets p)
+    (IsMadeOfKind Canonical) IsMadeOfSteps canonical steps one least_one h k)
+    (IsFirstUnmet-least answer_to (Meets p) (IsMadeOfKind Compatibility) (IsMadeOfKind Mapper) compatibility mapper other least_other l m))

@@ -1,5 +1,6 @@
 -- Entries of records that aren't refused have words that can be read again.
-use Rattle.std.proofs.Common.{◌≡◌, ◌∙◌, ◌⊎◌, inl, inr, ℕ, ◌<◌, Bool, true, false, ◌==◌, ◌&&◌, nat_lt, List, [], ◌∷◌, map, All, Contains, Option, Some, None, IfSome, IsSomeAnd, unwrap_or, ap, ap₂, subst, sym, refl, arith}
+use Rattle.std.proofs.Common.{◌≡◌, ◌∙◌, ◌⊎◌, inl, inr, ℕ, ◌<◌, Bool, true, false, ◌==◌, ◌&&◌, nat_lt, List, [], ◌∷◌, map, All, Contains, Option, Some, None, IfSome, IsSomeAnd, unwrap_or, ap, ap₂}
+use Rattle.std.proofs.Common.{subst, sym, refl, arith}
 use Rattle.std.specs.Char.{IsScalar}
 use Rattle.std.proofs.lemmas.Bool.{cases_Bool, cases_eq, or_parts, true≢false}
 use Rattle.std.proofs.lemmas.Bool.Decides.{eqb_tells, nat_tests}
@@ -67,7 +68,8 @@ no_mark : (k : ℕ) → nat_lt 0 k ≡ false → k ≡ 0
 no_mark k e = grind (arith, nat_tests)
 
 -- a list that is neither begins with a starter, if it doesn't begin with a mark
-starter_first : (records : List Entry) (entries : List CharacterEntry) → ((n : ℕ) → class_in entries n ≡ class_of records n) → (x : List ℕ) → begins_with_mark records x ≡ false → BeginsWithStarter (composing_reading entries []) x
+starter_first : (records : List Entry) (entries : List CharacterEntry) → ((n : ℕ) → class_in entries n ≡ class_of records n) → (x : List ℕ) → begins_with_mark records x ≡ false →
+    BeginsWithStarter (composing_reading entries []) x
 starter_first records entries same [] h = tt
 starter_first records entries same (c ∷ x) h = same c ∙ no_mark (class_of records c) h
 
@@ -100,7 +102,8 @@ recorded_list records uts46 kind.Canonical n = Some (canonical_list records n)
 recorded_list records uts46 kind.Compatibility n = Some (compatibility_list records n)
 recorded_list records uts46 kind.Mapper n = mapper_list records uts46 n
 
-module _ (records : List Entry) (uts46 : List MapperEntry) (none : IsFirstRefusal records uts46 None) (entries : List CharacterEntry) (made : AreMadeOf records uts46 entries) (characters : All IsOfCharacters entries) where
+module _ (records : List Entry) (uts46 : List MapperEntry) (none : IsFirstRefusal records uts46 None) (entries : List CharacterEntry) (made : AreMadeOf records uts46 entries)
+    (characters : All IsOfCharacters entries) where
   meaning : AreEntriesOf records uts46 entries
   meaning = AreEntriesOf-made records uts46 entries made
 
@@ -114,7 +117,8 @@ module _ (records : List Entry) (uts46 : List MapperEntry) (none : IsFirstRefusa
   no_packed_entry n missing =
       find-missing (λ (e : CharacterEntry). e.character) entries n (λ there.
       missing (All-contains (Contains (recorded_characters records uts46)) made.characters n made.listed.recorded
-      (subst (λ (x : List ℕ). Contains x n) (numbers_made (entry_for records uts46) (λ e. e.character) (λ c. refl) made.characters) (subst (λ (es : List CharacterEntry). Contains (map (λ e. e.character) es) n) made.made there))))
+      (subst (λ (x : List ℕ). Contains x n) (numbers_made (entry_for records uts46) (λ e. e.character) (λ c. refl) made.characters)
+      (subst (λ (es : List CharacterEntry). Contains (map (λ e. e.character) es) n) made.made there))))
 
   -- recorded characters are scalar values
   pub missing_beyond : (n : ℕ) → (IsScalar n → ⊥) → Contains (recorded_characters records uts46) n → ⊥
@@ -154,7 +158,8 @@ module _ (records : List Entry) (uts46 : List MapperEntry) (none : IsFirstRefusa
   replacement_alone : (k : Kind) → list_in k entries 0xFFFD ≡ Some (0xFFFD ∷ [])
   unfolding mapper_list mapped_list list_of_status
   replacement_alone kind.Canonical = meaning.canonical 0xFFFD other_than_syllable ∙ ap Some (list_alone records uts46 0xFFFD Canonical other_than_syllable (unrecorded_replacement records uts46 none))
-  replacement_alone kind.Compatibility = meaning.compatibility 0xFFFD other_than_syllable ∙ ap Some (list_alone records uts46 0xFFFD AllMappings other_than_syllable (unrecorded_replacement records uts46 none))
+  replacement_alone kind.Compatibility = meaning.compatibility 0xFFFD other_than_syllable
+      ∙ ap Some (list_alone records uts46 0xFFFD AllMappings other_than_syllable (unrecorded_replacement records uts46 none))
   replacement_alone kind.Mapper = meaning.mapper 0xFFFD other_than_syllable ∙ elim (status_of_replacement records uts46 none) [
     | inl unmapped ↦ mapper_alone records uts46 0xFFFD other_than_syllable (unrecorded_replacement records uts46 none) unmapped
     | inr disallowed ↦ ap (mapped_list records 0xFFFD) disallowed
@@ -188,7 +193,8 @@ module _ (records : List Entry) (uts46 : List MapperEntry) (none : IsFirstRefusa
       let here : kept_list k entries n ≡ x = kept_other k n other ∙ ap (λ o. unwrap_or o []) e in
       let parts = or_parts (has_fixed_list (class_in entries) n (kept_list k entries n)) (list_eq (kept_list k entries n) (n ∷ [])) h in (
         λ same. true≢false (sym (eq_list (kept_list k entries n) (n ∷ []) (here ∙ same)) ∙ parts.1),
-        λ form. true≢false (sym (has_fixed_list-same (class_in entries) (class_of records) meaning.classes n (kept_list k entries n) ∙ ap (has_fixed_list (class_of records) n) here ∙ fixed_form-has records n x form) ∙ parts.0),
+        λ form. true≢false (sym (has_fixed_list-same (class_in entries) (class_of records) meaning.classes n (kept_list k entries n) ∙ ap (has_fixed_list (class_of records) n) here
+            ∙ fixed_form-has records n x form) ∙ parts.0),
       )
 
   not_so : (b : Bool) → (b ≡ true → ⊥) → b ≡ false
@@ -223,14 +229,16 @@ module _ (records : List Entry) (uts46 : List MapperEntry) (none : IsFirstRefusa
   unfolding HasWrongClass
   starter_canonical n h = elim (cases_Bool (is_hangul_syllable n)) [
     | inl syllable ↦ absurd (told_syllable kind.Canonical n syllable h)
-    | inr other ↦ no_mark (class_of records n) (not_so (is_mark records n) (λ e. no_wrong_class records uts46 none n (inr (inl (inl e, free kind.Canonical n other h (canonical_list records n) refl)))))
+    | inr other ↦ no_mark (class_of records n)
+        (not_so (is_mark records n) (λ e. no_wrong_class records uts46 none n (inr (inl (inl e, free kind.Canonical n other h (canonical_list records n) refl)))))
   ]
 
   pub starter_compatibility : (n : ℕ) → tells_class kind.Compatibility entries n ≡ false → class_of records n ≡ 0
   unfolding HasWrongClass
   starter_compatibility n h = elim (cases_Bool (is_hangul_syllable n)) [
     | inl syllable ↦ absurd (told_syllable kind.Compatibility n syllable h)
-    | inr other ↦ no_mark (class_of records n) (not_so (is_mark records n) (λ e. no_wrong_class records uts46 none n (inr (inr (inl (inl e, free kind.Compatibility n other h (compatibility_list records n) refl))))))
+    | inr other ↦ no_mark (class_of records n)
+        (not_so (is_mark records n) (λ e. no_wrong_class records uts46 none n (inr (inr (inl (inl e, free kind.Compatibility n other h (compatibility_list records n) refl))))))
   ]
 
   -- the entries of records that aren't refused can be read again

@@ -1,5 +1,6 @@
 -- Pairs in another order answer alike.
-use Rattle.std.proofs.Common.{◌≡◌, ◌∙◌, inl, inr, ℕ, ◌<◌, Bool, true, false, List, [], ◌∷◌, length, get_or, find, Contains, Option, Some, None, ap, subst, sym, refl, arith, if◌then◌else◌, All, IsPermutation}
+use Rattle.std.proofs.Common.{◌≡◌, ◌∙◌, inl, inr, ℕ, ◌<◌, Bool, true, false, List, [], ◌∷◌, length, get_or, find, Contains, Option, Some, None, ap, subst, sym, refl, arith, if◌then◌else◌, All}
+use Rattle.std.proofs.Common.{IsPermutation}
 use Rattle.std.specs.Option.{option_map}
 use Rattle.std.proofs.lemmas.Bool.{true≢false, cases_order}
 use Rattle.std.proofs.lemmas.Bool.Decides.{nat_tests}
@@ -59,10 +60,12 @@ one_of first second ys rising p q (i, inside, here) (j, within, there) h k = eli
     at_same same = at i p q inside ∙ ap (λ n. get_or ys n q) same
 
     before : i < j → is_before p q.0 q.1 ≡ true
-    before below = subst (λ (r : Pair). is_before p r.0 r.1 ≡ true) there (subst (λ (r : Pair). is_before r (get_or ys j q).0 (get_or ys j q).1 ≡ true) (at i q p inside ∙ here) (rising i j q below within))
+    before below = subst (λ (r : Pair). is_before p r.0 r.1 ≡
+        true) there (subst (λ (r : Pair). is_before r (get_or ys j q).0 (get_or ys j q).1 ≡ true) (at i q p inside ∙ here) (rising i j q below within))
 
     behind : j < i → is_before q p.0 p.1 ≡ true
-    behind above = subst (λ (r : Pair). is_before q r.0 r.1 ≡ true) here (subst (λ (r : Pair). is_before r (get_or ys i p).0 (get_or ys i p).1 ≡ true) (at j p q within ∙ there) (rising j i p above inside))
+    behind above = subst (λ (r : Pair). is_before q r.0 r.1 ≡
+        true) here (subst (λ (r : Pair). is_before r (get_or ys i p).0 (get_or ys i p).1 ≡ true) (at j p q within ∙ there) (rising j i p above inside))
 
 pub pair_of-permutation : (xs ys : List Pair) → IsPermutation xs ys → AreRising ys → (first second : ℕ) → pair_of ys first second ≡ pair_of xs first second
 unfolding pair_of listed_result

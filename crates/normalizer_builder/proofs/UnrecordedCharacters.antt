@@ -1,5 +1,6 @@
 -- Fixed characters, of which no record speaks where none is refused.
-use Rattle.std.proofs.Common.{◌≡◌, ◌≢◌, ◌∙◌, ◌⊎◌, inl, inr, ℕ, ◌+◌, ◌-◌, ◌/◌, ◌%◌, ◌≤◌, Bool, true, false, ◌==◌, ◌&&◌, ◌||◌, nat_lt, cond, List, [], ◌∷◌, ◌++◌, map, get_or, flat_map, find, All, Contains, Some, None, ap, sym, refl, arith, if◌then◌else◌}
+use Rattle.std.proofs.Common.{◌≡◌, ◌≢◌, ◌∙◌, ◌⊎◌, inl, inr, ℕ, ◌+◌, ◌-◌, ◌/◌, ◌%◌, ◌≤◌, Bool, true, false, ◌==◌, ◌&&◌, ◌||◌, nat_lt, cond, List, [], ◌∷◌, ◌++◌, map, get_or, flat_map, find, All}
+use Rattle.std.proofs.Common.{Contains, Some, None, ap, sym, refl, arith, if◌then◌else◌}
 use Rattle.std.specs.Int.{is_in_range}
 use Rattle.std.specs.List.{list_any, AllByRecursion}
 use Rattle.std.specs.Option.{option_map}
@@ -28,7 +29,8 @@ none_passes p xs h k d within = elim (cases_Bool (p (get_or xs k d))) [
 ]
 
 -- what is found by its number is of all, or none is found
-pub find-cases : {X : Type 0} (number : X → ℕ) (P : X → Type 0) (xs : List X) (n : ℕ) → All P xs → (find (λ x. number x == n) xs ≡ None) ⊎ ((x : X) × (find (λ y. number y == n) xs ≡ Some x) × (number x ≡ n) × P x)
+pub find-cases : {X : Type 0} (number : X → ℕ) (P : X → Type 0) (xs : List X) (n : ℕ) → All P xs →
+    (find (λ x. number x == n) xs ≡ None) ⊎ ((x : X) × (find (λ y. number y == n) xs ≡ Some x) × (number x ≡ n) × P x)
 find-cases number P [] n all = inl refl
 find-cases number P (x ∷ xs) n all = elim (eqb_tells (number x) n) [
   | inl h ↦ inr (x, ap (λ b. cond b (Some x) (find (λ y. number y == n) xs)) h.0, h.1, All-head P x xs all)
@@ -80,7 +82,8 @@ unfolding hangul_decomposition
 jamo_members c h =
     let range = syllable-range c h in
     let index = c - s_base in
-    elim (index % t_count == 0) as (λ b. AllByRecursion IsJamo (if b then (l_base + index / n_count) ∷ (v_base + index % n_count / t_count) ∷ [] else (l_base + index / n_count) ∷ (v_base + index % n_count / t_count) ∷ (t_base + index % t_count) ∷ [])) [
+    elim (index % t_count == 0) as (λ b. AllByRecursion IsJamo (if b then (l_base + index / n_count) ∷ (v_base + index % n_count / t_count) ∷ [] else (l_base + index / n_count) ∷
+    (v_base + index % n_count / t_count) ∷ (t_base + index % t_count) ∷ [])) [
       | true ↦ ((omega arith, omega arith), ((omega arith, omega arith), tt))
       | false ↦ ((omega arith, omega arith), ((omega arith, omega arith), ((omega arith, omega arith), tt)))
     ]
@@ -89,7 +92,8 @@ inhabited_syllable : (c : ℕ) → hangul_decomposition c ≢ []
 unfolding hangul_decomposition
 inhabited_syllable c =
     let index = c - s_base in
-    elim (index % t_count == 0) as (λ b. (if b then (l_base + index / n_count) ∷ (v_base + index % n_count / t_count) ∷ [] else (l_base + index / n_count) ∷ (v_base + index % n_count / t_count) ∷ (t_base + index % t_count) ∷ []) ≢ []) [
+    elim (index % t_count == 0) as (λ b. (if b then (l_base + index / n_count) ∷ (v_base + index % n_count / t_count) ∷ [] else (l_base + index / n_count) ∷ (v_base + index % n_count / t_count) ∷
+    (t_base + index % t_count) ∷ []) ≢ []) [
       | true ↦ λ e. absurd cc
       | false ↦ λ e. absurd cc
     ]
@@ -121,7 +125,9 @@ module _ (records : List Entry) (uts46 : List MapperEntry) (none : IsFirstRefusa
 
   pub missing_syllable : (n : ℕ) → is_hangul_syllable n ≡ true → Contains (recorded_characters records uts46) n → ⊥
   missing_syllable n h there =
-      true≢false (sym h ∙ All-contains (λ c. is_hangul_syllable c ≡ false) (recorded_characters records uts46) n (All-append (λ c. is_hangul_syllable c ≡ false) (map (λ (r : Entry). r.c) records) (map (λ (r : MapperEntry). r.c) uts46) unfixed_records_syllables unfixed_statuses_syllables) there)
+      true≢false (sym h ∙ All-contains (λ c. is_hangul_syllable c ≡ false)
+      (recorded_characters records uts46) n (All-append (λ c. is_hangul_syllable c ≡ false) (map (λ (r : Entry). r.c) records)
+      (map (λ (r : MapperEntry). r.c) uts46) unfixed_records_syllables unfixed_statuses_syllables) there)
 
   unrecorded_fixed : (n : ℕ) → is_fixed n ≡ true → entry_of records n ≡ None
   unfolding entry_of
@@ -165,5 +171,6 @@ module _ (records : List Entry) (uts46 : List MapperEntry) (none : IsFirstRefusa
     syllable_list n h =
         let jamo = jamo_members n h in
         let same = replaced_syllable n h in
-        ap (order (recorded_classes records)) (expansion-replaced records mappings 16 n (λ e. inhabited_syllable n (sym same ∙ e)) ∙ ap (flat_map (expansion records mappings 16)) same ∙ jamo_stay 16 (hangul_decomposition n) jamo)
+        ap (order (recorded_classes records))
+        (expansion-replaced records mappings 16 n (λ e. inhabited_syllable n (sym same ∙ e)) ∙ ap (flat_map (expansion records mappings 16)) same ∙ jamo_stay 16 (hangul_decomposition n) jamo)
         ∙ order-starters (recorded_classes records) (hangul_decomposition n) (jamo_starters (hangul_decomposition n) jamo)

@@ -21,7 +21,8 @@ use Rattle.normalizer_records.specs.declared.refusal.Refusal.{Refusal}
 use Rattle.normalizer_records.specs.declared.refusal.Refusal.TheVariants as refusal
 use Rattle.normalizer_records.specs.Entry.{Entry, MapperEntry}
 use Rattle.normalizer_records.specs.Faults.{IsFirstRefusal}
-use Rattle.normalizer_records.specs.Meaning.{canonical_list, class_of as recorded_class_of, compatibility_list, mapper_list, pairs_of}
+use Rattle.normalizer_records.specs.Meaning.{canonical_list, class_of as recorded_class_of, compatibility_list}
+use Rattle.normalizer_records.specs.Meaning.{mapper_list, pairs_of}
 use Rattle.normalizer_builder.specs.declared.rank.Unfit.{Unfit}
 use Rattle.normalizer_builder.specs.Demands.{Demand, IsMade, Meets, answer_to, characters_of}
 use Rattle.normalizer_builder.specs.Ranks.{IsFirstUnmet}
@@ -48,14 +49,17 @@ step_of_mapping (Two a b) = Expansion a b
 
 -- one step of n is the canonical mapping that is recorded of it
 unfoldable pub KeepsMapping : List Entry → Packed → ℕ → Type 0
-KeepsMapping records p n = IfSome (recorded_step records n) (λ m. step_of (characters_of p Canonical) p.supplement n ≡ Some (step_of_mapping m))
+KeepsMapping records p n =
+    IfSome (recorded_step records n)
+    (λ m. step_of (characters_of p Canonical) p.supplement n ≡ Some (step_of_mapping m))
 
 -- the data say of every character, and of every two, what the records mean
 pub record MeansRecords (records : List Entry) (uts46 : List MapperEntry) (p : Packed) : Type 0 where
   -- the full decompositions. In the mapper's data `ignored` stands for characters that it ignores.
   pub canonical : (n : ℕ) → list_of (characters_of p Canonical) [] n ≡ canonical_list records n
   pub compatibility : (n : ℕ) → list_of (characters_of p Compatibility) [] n ≡ compatibility_list records n
-  pub mapper : (ignored : List ℕ) (n : ℕ) → list_of (characters_of p Mapper) ignored n ≡ unwrap_or (mapper_list records uts46 n) ignored
+  pub mapper : (ignored : List ℕ) (n : ℕ) →
+      list_of (characters_of p Mapper) ignored n ≡ unwrap_or (mapper_list records uts46 n) ignored
   -- the recorded classes
   pub canonical_classes : (n : ℕ) → class_of (characters_of p Canonical) n ≡ recorded_class_of records n
   pub compatibility_classes : (n : ℕ) → class_of (characters_of p Compatibility) n ≡ recorded_class_of records n
@@ -112,13 +116,15 @@ error_of refusal.Chain = error.Chain
 error_of refusal.Length = error.Length
 error_of refusal.Pair = error.Pair
 
--- the smallest refusal: the first of the records themselves, then too many items, then the least demand that data that pack
--- them don't meet. Want of memory may come anywhere.
+-- the smallest refusal: the first of the records themselves, then too many items, then the least demand that data that
+-- pack them don't meet. Want of memory may come anywhere.
 unfoldable pub IsSmallest : List Entry → List MapperEntry → BuildError → Type 0
 IsSmallest records uts46 error.Memory = Unit {0}
 IsSmallest records uts46 error.TableFull = IsFirstRefusal records uts46 None × HasTooManyItems records uts46
 IsSmallest records uts46 (error.Unfit marker condition) =
-    IsFirstRefusal records uts46 None × ((p : Packed) × PacksRecords records uts46 p × IsFirstUnfitOfRecords records p (Some (record { marker = marker; condition = condition })))
+    IsFirstRefusal records uts46 None
+    × ((p : Packed) × PacksRecords records uts46 p
+    × IsFirstUnfitOfRecords records p (Some (record { marker = marker; condition = condition })))
 IsSmallest records uts46 error.Order = IsFirstRefusal records uts46 (Some refusal.Order)
 IsSmallest records uts46 error.Fixed = IsFirstRefusal records uts46 (Some refusal.Fixed)
 IsSmallest records uts46 error.Class = IsFirstRefusal records uts46 (Some refusal.Class)

@@ -4,7 +4,8 @@ use Rattle.normalizer_tables.specs.declared.condition.Bounds.{Bounds}
 use Rattle.normalizer_tables.specs.declared.condition.Condition.{Condition}
 use Rattle.normalizer_tables.specs.declared.condition.Condition.TheVariants as condition
 use Rattle.normalizer_tables.specs.declared.pair_condition.PairCondition.{PairCondition}
-use Rattle.normalizer_tables.specs.declared.pair_condition.PairCondition.TheVariants.{Pairs, RoundTrip, SafeBeginning, Results}
+use Rattle.normalizer_tables.specs.declared.pair_condition.PairCondition.TheVariants.{Pairs, RoundTrip, SafeBeginning}
+use Rattle.normalizer_tables.specs.declared.pair_condition.PairCondition.TheVariants.{Results}
 use Rattle.normalizer_tables.specs.declared.provider.DataMarkerInfo.{DataMarkerInfo}
 use Rattle.normalizer_tables.specs.declared.provider.DataMarkerInfo.TheVariants as marker
 use Rattle.normalizer_tables.specs.declared.step_condition.StepCondition.{StepCondition}
@@ -33,7 +34,8 @@ IsMade d = Unit {0}
 
 -- below which numbers characters pass unseen
 abbrev pub bounds_of : Packed → Kind → Bounds
-bounds_of p kind = let cap = (decompositions_of p kind).cap in record { decomposition = min cap 0xC0; composition = min cap 0x0300 }
+bounds_of p kind =
+    let cap = (decompositions_of p kind).cap in record { decomposition = min cap 0xC0; composition = min cap 0x0300 }
 
 -- what each demand says
 unfoldable pub Meets : Packed → Demand → Type 0
@@ -67,7 +69,8 @@ abbrev pub answer_to_condition : Kind → Condition → Unfit
 answer_to_condition kind c = record { marker = marker_of_condition kind c; condition = number_of c }
 
 abbrev pub answer_to_pair_condition : Kind → PairCondition → Unfit
-answer_to_pair_condition kind c = record { marker = marker_of_pair_condition kind c; condition = number_of_pair_condition c }
+answer_to_pair_condition kind c =
+    record { marker = marker_of_pair_condition kind c; condition = number_of_pair_condition c }
 
 abbrev pub answer_to_step_condition : StepCondition → Unfit
 answer_to_step_condition c = record { marker = marker_of_step_condition c; condition = number_of_step_condition c }

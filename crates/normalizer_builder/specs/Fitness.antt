@@ -15,7 +15,8 @@ IsFirstUnfit p r = IsFirstUnmet IsMade answer_to (Meets p) r
 
 -- a demand of the data of one kind, by themselves or with the pairs
 unfoldable pub IsMadeOfKind : Kind → Demand → Type 0
-IsMadeOfKind kind d = IsMade d × (((c : Condition) × (d ≡ OfCharacters kind c)) ⊎ ((c : PairCondition) × (d ≡ OfPairs kind c)))
+IsMadeOfKind kind d =
+    IsMade d × (((c : Condition) × (d ≡ OfCharacters kind c)) ⊎ ((c : PairCondition) × (d ≡ OfPairs kind c)))
 
 abbrev pub IsFirstUnfitOfKind : Packed → Kind → Option Unfit → Type 0
 IsFirstUnfitOfKind p kind r = IsFirstUnmet (IsMadeOfKind kind) answer_to (Meets p) r

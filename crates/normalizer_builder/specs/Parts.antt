@@ -26,7 +26,8 @@ pub record HasRoom (records : List Entry) (uts46 : List MapperEntry) (c : ℕ) :
   pub mapper : IfSome (mapper_list records uts46 c) (λ x. length x ≤ 18)
 
 -- what is packed of records: their entries, which are of characters, and their pairs in order
-pub record AreParts (records : List Entry) (uts46 : List MapperEntry) (entries : List CharacterEntry) (pairs : List Pair) : Type 0 where
+pub record AreParts (records : List Entry) (uts46 : List MapperEntry) (entries : List CharacterEntry)
+    (pairs : List Pair) : Type 0 where
   pub made : AreMadeOf records uts46 entries
   pub characters : All IsOfCharacters entries
   pub same_pairs : IsPermutation (pairs_of records) pairs

@@ -1,18 +1,18 @@
 -- Which of the demands that are not met is answered.
 use Rattle.std.specs.Prelude.{◌≡◌, ◌⊎◌, ℕ, ◌<◌, Option, Some, None}
 use Rattle.normalizer_tables.specs.declared.provider.DataMarkerInfo.{DataMarkerInfo}
-use Rattle.normalizer_tables.specs.declared.provider.DataMarkerInfo.TheVariants.{NormalizerNfdDataV1, NormalizerNfkdDataV1, NormalizerUts46DataV1, NormalizerNfdTablesV1, NormalizerNfkdTablesV1, NormalizerNfcV1, NormalizerNfdSupplementV1}
+use Rattle.normalizer_tables.specs.declared.provider.DataMarkerInfo.TheVariants as marker
 use Rattle.normalizer_builder.specs.declared.rank.Unfit.{Unfit}
 
 -- the place of a marker among all of them
 abbrev pub place_of : DataMarkerInfo → ℕ
-place_of NormalizerNfdDataV1 = 0
-place_of NormalizerNfkdDataV1 = 1
-place_of NormalizerUts46DataV1 = 2
-place_of NormalizerNfdTablesV1 = 3
-place_of NormalizerNfkdTablesV1 = 4
-place_of NormalizerNfcV1 = 5
-place_of NormalizerNfdSupplementV1 = 6
+place_of marker.NormalizerNfdDataV1 = 0
+place_of marker.NormalizerNfkdDataV1 = 1
+place_of marker.NormalizerUts46DataV1 = 2
+place_of marker.NormalizerNfdTablesV1 = 3
+place_of marker.NormalizerNfkdTablesV1 = 4
+place_of marker.NormalizerNfcV1 = 5
+place_of marker.NormalizerNfdSupplementV1 = 6
 
 -- the smaller condition stands first, and of one condition the earlier marker
 unfoldable pub IsBefore : Unfit → Unfit → Type 0
@@ -25,7 +25,8 @@ IsLeast (Some a) None r = r ≡ Some a
 IsLeast (Some a) (Some b) r = (IsBefore b a × (r ≡ Some b)) ⊎ ((¬ IsBefore b a) × (r ≡ Some a))
 
 -- of the demands that are made, one that is not met is answered so, and all that stand before it are met
-pub record IsLeastUnmet {D : Type 0} (made : D → Type 0) (answer : D → Unfit) (meets : D → Type 0) (u : Unfit) : Type 0 where
+pub record IsLeastUnmet {D : Type 0} (made : D → Type 0) (answer : D → Unfit) (meets : D → Type 0)
+    (u : Unfit) : Type 0 where
   pub unmet : (d : D) × made d × (answer d ≡ u) × (¬ meets d)
   pub before : (d : D) → made d → IsBefore (answer d) u → meets d
 

@@ -1,12 +1,14 @@
 -- What is packed of recorded characters.
-use Rattle.std.specs.Prelude.{◌≡◌, ℕ, ◌||◌, List, [], ◌∷◌, ◌++◌, map, All, Contains, Option, Some, None, unwrap_or, if◌then◌else◌}
+use Rattle.std.specs.Prelude.{◌≡◌, ℕ, ◌||◌, List, [], ◌∷◌, ◌++◌, map, All, Contains, Option, Some, None, unwrap_or}
+use Rattle.std.specs.Prelude.{if◌then◌else◌}
 use Rattle.std.specs.List.Sorted.{IsStrictlyIncreasing}
 use Rattle.normalizer_packing.specs.declared.entry.Mapping.{Mapping}
 use Rattle.normalizer_packing.specs.declared.entry.Mapping.TheVariants.{One, Two}
 use Rattle.normalizer_packing.specs.Entries.{CharacterEntry}
 use Rattle.normalizer_packing.specs.Spelling.{has_fixed_list, list_eq}
 use Rattle.normalizer_records.specs.Entry.{Entry, MapperEntry}
-use Rattle.normalizer_records.specs.Meaning.{class_of, canonical_list, canonical_mapping_of, compatibility_list, mapper_list}
+use Rattle.normalizer_records.specs.Meaning.{class_of, canonical_list, canonical_mapping_of, compatibility_list}
+use Rattle.normalizer_records.specs.Meaning.{mapper_list}
 
 abbrev pub recorded_characters : List Entry → List MapperEntry → List ℕ
 recorded_characters records uts46 = map (λ r. r.c) records ++ map (λ r. r.c) uts46
@@ -44,8 +46,8 @@ pub record AreMadeOf (records : List Entry) (uts46 : List MapperEntry) (entries 
   pub listed : ListsCharacters records uts46 characters
   pub made : entries ≡ map (entry_for records uts46) characters
 
--- the class that the mapper's data have of a character: 0 where its list is neither its fixed one nor itself alone, since its
--- word has then no room for a class
+-- the class that the mapper's data have of a character: 0 where its list is neither its fixed one nor itself alone,
+-- since its word has then no room for a class
 unfoldable pub mapper_class_of : List Entry → List MapperEntry → ℕ → ℕ
 mapper_class_of records uts46 n =
     let list = unwrap_or (mapper_list records uts46 n) [] in

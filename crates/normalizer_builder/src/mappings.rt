@@ -3,7 +3,8 @@ ghost use Rattle.std.specs.Prelude.{◌≡◌, ◌↔◌, All, Some, IsTrue};
 ghost use Rattle.normalizer_packing.specs.declared.entry.Kind.TheVariants.{Canonical};
 ghost use Rattle.normalizer_records.specs.Faults.{AreRising};
 ghost use Rattle.normalizer_tables.specs.Steps.{step_of};
-ghost use Rattle.normalizer_builder.specs.Building.{IsFirstUnfitOfMappings, IsFirstUnfitOfRecords, KeepsMapping, step_of_mapping};
+ghost use Rattle.normalizer_builder.specs.Building.{IsFirstUnfitOfMappings, IsFirstUnfitOfRecords, KeepsMapping};
+ghost use Rattle.normalizer_builder.specs.Building.{step_of_mapping};
 ghost use Rattle.normalizer_builder.specs.Demands.{characters_of};
 
 use crate::entries::step_to;
@@ -66,7 +67,9 @@ fn keeps_mapping(records: &[Record], packed: &Packed, character: char) -> bool
 
 /// Whether one step of a character is this mapping.
 fn is_step(packed: &Packed, character: char, mapping: Mapping) -> bool
-    ensures { IsTrue result ↔ (step_of (characters_of packed.now Canonical) packed.now.supplement character ≡ Some (step_of_mapping mapping)) }
+    ensures { IsTrue result ↔
+        (step_of (characters_of packed.now Canonical) packed.now.supplement character
+        ≡ Some (step_of_mapping mapping)) }
 {
     let characters = characters_of(packed, Kind::Canonical);
     match step_of(&characters, &packed.supplement, character) {

@@ -28,8 +28,8 @@ use normalizer_tables::pair_condition::PairCondition;
 use normalizer_tables::step_check::first_failing_of_steps;
 use normalizer_tables::step_condition::StepCondition;
 
-/// The first condition that the data break, of all that constructors ask: the least by its number, and of one number the
-/// one of the earliest marker. It takes no memory.
+/// The first condition that the data break, of all that constructors ask: the least by its number, and of one number
+/// the one of the earliest marker. It takes no memory.
 pub fn first_unfit(packed: &Packed) -> Option<Unfit>
     ensures { IsFirstUnfit packed.now result }
 {

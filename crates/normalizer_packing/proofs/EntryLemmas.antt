@@ -44,7 +44,8 @@ module _ (entries : List CharacterEntry) (n at : ℕ) (rising : AreRising entrie
   pub entry_of-found : (e : CharacterEntry) → at < length entries → e ≡ get_or entries at e → e.character ≡ n → entry_of entries n ≡ Some e
   unfolding entry_of
   entry_of-found e within here same =
-      find-first (λ f. f.character == n) entries at e within (subst (λ (f : CharacterEntry). (f.character == n) ≡ true) here (grind (arith, nat_tests))) (λ j below. other_before j e below (omega arith)) ∙ ap Some (sym here)
+      find-first (λ f. f.character == n) entries at e within (subst (λ (f : CharacterEntry). (f.character == n) ≡ true) here (grind (arith, nat_tests)))
+      (λ j below. other_before j e below (omega arith)) ∙ ap Some (sym here)
 
   pub entry_of-gap : (e : CharacterEntry) → at < length entries → e ≡ get_or entries at e → e.character ≢ n → entry_of entries n ≡ None
   unfolding entry_of

@@ -38,11 +38,36 @@ unfolding is_backward_combining
 back_clear w e = grind (arith, nat_tests)
 
 flags_put : (word : ℕ) (changes combines : Bool) → word < 2 ^ 30 → HasFlagParts (word + (if changes then 0x40000000 else 0) + (if combines then 0x80000000 else 0)) word changes combines
-flags_put word false false small = record { rest = low_part _ word 0 0 small (omega arith) (omega arith) (omega arith); round_trip = round_clear _ (round_part _ word 0 0 small (omega arith) (omega arith) (omega arith)); backward = back_clear _ (back_part _ word 0 0 small (omega arith) (omega arith) (omega arith)) }
-flags_put word true false small = record { rest = low_part _ word 1 0 small (omega arith) (omega arith) (omega arith); round_trip = round_set _ (round_part _ word 1 0 small (omega arith) (omega arith) (omega arith)); backward = back_clear _ (back_part _ word 1 0 small (omega arith) (omega arith) (omega arith)) }
-flags_put word false true small = record { rest = low_part _ word 0 1 small (omega arith) (omega arith) (omega arith); round_trip = round_clear _ (round_part _ word 0 1 small (omega arith) (omega arith) (omega arith)); backward = back_set _ (back_part _ word 0 1 small (omega arith) (omega arith) (omega arith)) }
-flags_put word true true small = record { rest = low_part _ word 1 1 small (omega arith) (omega arith) (omega arith); round_trip = round_set _ (round_part _ word 1 1 small (omega arith) (omega arith) (omega arith)); backward = back_set _ (back_part _ word 1 1 small (omega arith) (omega arith) (omega arith)) }
+flags_put word false false small =
+    record {
+      rest = low_part _ word 0 0 small (omega arith) (omega arith) (omega arith);
+      round_trip = round_clear _ (round_part _ word 0 0 small (omega arith) (omega arith) (omega arith));
+      backward =
+          back_clear _ (back_part _ word 0 0 small (omega arith) (omega arith) (omega arith));
+    }
+flags_put word true false small =
+    record {
+      rest = low_part _ word 1 0 small (omega arith) (omega arith) (omega arith);
+      round_trip = round_set _ (round_part _ word 1 0 small (omega arith) (omega arith) (omega arith));
+      backward =
+          back_clear _ (back_part _ word 1 0 small (omega arith) (omega arith) (omega arith));
+    }
+flags_put word false true small =
+    record {
+      rest = low_part _ word 0 1 small (omega arith) (omega arith) (omega arith);
+      round_trip = round_clear _ (round_part _ word 0 1 small (omega arith) (omega arith) (omega arith));
+      backward =
+          back_set _ (back_part _ word 0 1 small (omega arith) (omega arith) (omega arith));
+    }
+flags_put word true true small =
+    record {
+      rest = low_part _ word 1 1 small (omega arith) (omega arith) (omega arith);
+      round_trip = round_set _ (round_part _ word 1 1 small (omega arith) (omega arith) (omega arith));
+      backward =
+          back_set _ (back_part _ word 1 1 small (omega arith) (omega arith) (omega arith));
+    }
 
 -- a word with flags put on it
-pub flag_parts : (word r b : ℕ) (changes combines : Bool) → word < 2 ^ 30 → r ≡ (if changes then 0x40000000 else 0) → b ≡ (if combines then 0x80000000 else 0) → HasFlagParts (word + r + b) word changes combines
+pub flag_parts : (word r b : ℕ) (changes combines : Bool) → word < 2 ^ 30 → r ≡ (if changes then 0x40000000 else 0) → b ≡ (if combines then 0x80000000 else 0) →
+    HasFlagParts (word + r + b) word changes combines
 flag_parts word r b changes combines small one two = rw (one, two) (flags_put word changes combines small)

@@ -1,5 +1,6 @@
 -- What the tests of entries tell.
-use Rattle.std.proofs.Common.{◌≡◌, ◌↔◌, ℕ, ◌+◌, ◌-◌, ◌<◌, ◌≤◌, Bool, true, false, ◌&&◌, IsTrue, List, [], ◌∷◌, length, get_or, Option, Some, None, All, nat_le, nat_lt, zero, suc, refl, arith, ap, sym, subst, ◌∙◌, if◌then◌else◌}
+use Rattle.std.proofs.Common.{◌≡◌, ◌↔◌, ℕ, ◌+◌, ◌-◌, ◌<◌, ◌≤◌, Bool, true, false, ◌&&◌, IsTrue, List, [], ◌∷◌, length, get_or, Option, Some, None, All, nat_le, nat_lt, zero, suc, refl, arith, ap, sym}
+use Rattle.std.proofs.Common.{subst, ◌∙◌, if◌then◌else◌}
 use Rattle.std.specs.List.{cons_option, filter_map, list_all}
 use Rattle.std.proofs.lemmas.Bool.{le-leb, leb-true, lt-ltb, ltb-true, and_parts}
 use Rattle.std.proofs.lemmas.List.Elements.{All-cons, All-head, All-tail}
@@ -14,7 +15,8 @@ module _ (entries : List CharacterEntry) (adjacent : (i : ℕ) (d : CharacterEnt
   rising_by i zero d within = ltb-true _ _ (sym (adjacent i d (omega arith)))
   rising_by i (suc k) d within =
       let next : i + suc k + 1 ≡ i + suc (suc k) = omega arith in
-      let last : (get_or entries (i + suc k) d).character < (get_or entries (i + suc (suc k)) d).character = subst (λ (m : ℕ). (get_or entries (i + suc k) d).character < (get_or entries m d).character) next (ltb-true _ _ (sym (adjacent (i + suc k) d (omega arith)))) in
+      let last : (get_or entries (i + suc k) d).character < (get_or entries (i + suc (suc k)) d).character =
+      subst (λ (m : ℕ). (get_or entries (i + suc k) d).character < (get_or entries m d).character) next (ltb-true _ _ (sym (adjacent (i + suc k) d (omega arith)))) in
       omega (arith, rising_by i k d (omega arith), last)
 
   rising_from_adjacent : AreRising entries
@@ -35,17 +37,19 @@ and_both p q a b = rw (a, b) refl
 
 length_told : (x : List ℕ) → has_length_of_word x ≡ true → HasLengthOfWord x
 unfolding has_length_of_word HasLengthOfWord
-length_told x h = elim (is_narrow x) as (λ b. (if b then nat_le (length x) 17 else nat_lt 0 (length x) && nat_le (length x) 16) ≡ true → elim b as (λ _. Type 0) [ true ↦ length x ≤ 17 | false ↦ (0 < length x) × (length x ≤ 16) ]) [
-  | true ↦ λ short. leb-true _ _ short
-  | false ↦ λ both. (ltb-true _ _ (and_parts _ _ both).0, leb-true _ _ (and_parts _ _ both).1)
-] h
+length_told x h = elim (is_narrow x) as (λ b. (if b then nat_le (length x) 17 else nat_lt 0 (length x) && nat_le (length x) 16) ≡ true →
+    elim b as (λ _. Type 0) [ true ↦ length x ≤ 17 | false ↦ (0 < length x) × (length x ≤ 16) ]) [
+      | true ↦ λ short. leb-true _ _ short
+      | false ↦ λ both. (ltb-true _ _ (and_parts _ _ both).0, leb-true _ _ (and_parts _ _ both).1)
+    ] h
 
 length_passes : (x : List ℕ) → HasLengthOfWord x → has_length_of_word x ≡ true
 unfolding has_length_of_word HasLengthOfWord
-length_passes x h = elim (is_narrow x) as (λ b. elim b as (λ _. Type 0) [ true ↦ length x ≤ 17 | false ↦ (0 < length x) × (length x ≤ 16) ] → (if b then nat_le (length x) 17 else nat_lt 0 (length x) && nat_le (length x) 16) ≡ true) [
-  | true ↦ λ short. le-leb _ _ short
-  | false ↦ λ both. and_both _ _ (lt-ltb _ _ both.0) (le-leb _ _ both.1)
-] h
+length_passes x h = elim (is_narrow x) as (λ b. elim b as (λ _. Type 0) [ true ↦ length x ≤ 17 | false ↦ (0 < length x) × (length x ≤ 16) ] →
+    (if b then nat_le (length x) 17 else nat_lt 0 (length x) && nat_le (length x) 16) ≡ true) [
+      | true ↦ λ short. le-leb _ _ short
+      | false ↦ λ both. and_both _ _ (lt-ltb _ _ both.0) (le-leb _ _ both.1)
+    ] h
 
 lengths_told : (f : CharacterEntry → Option (List ℕ)) (es : List CharacterEntry) → list_all (λ e. has_length_if_any (f e)) es ≡ true → All HasLengthOfWord (filter_map f es)
 unfolding has_length_if_any
@@ -64,7 +68,8 @@ lengths_pass f (e ∷ es) h = elim (f e) as (λ o. All HasLengthOfWord (cons_opt
 ] h
 
 -- the test of each entry answers whether a word can tell the lengths
-pub lengths_decide : (entries same : List CharacterEntry) (kind : Kind) (r : Bool) → same ≡ entries → r ≡ list_all (λ e. has_length_if_any (listed_of (class_in entries) kind e)) same → IsTrue r ↔ All HasLengthOfWord (listed_in entries kind)
+pub lengths_decide : (entries same : List CharacterEntry) (kind : Kind) (r : Bool) → same ≡ entries → r ≡ list_all (λ e. has_length_if_any (listed_of (class_in entries) kind e)) same →
+    IsTrue r ↔ All HasLengthOfWord (listed_in entries kind)
 unfolding listed_in
 lengths_decide entries same kind r is answer = (
   λ passed. lengths_told (listed_of (class_in entries) kind) entries (ap (list_all (λ e. has_length_if_any (listed_of (class_in entries) kind e))) (sym is) ∙ sym answer ∙ passed),

@@ -28,8 +28,10 @@ use Rattle.normalizer_packing.specs.Stores.{tables_in}
 use Rattle.normalizer_packing.specs.Words.{HasWords}
 
 -- the data put together
-module _ (entries : List CharacterEntry) (pairs : List Pair) (s : Stores) (p : Packed) (h : CanPoint entries s) (pairs_are : p.compositions ≡ pairs) (tables_are : p.tables ≡ tables_in s.canonical) (others_are : p.supplementary_tables ≡ tables_in s.supplementary) where
-  pub all_packed : PacksKind Canonical entries p.compositions p.canonical → PacksKind Compatibility entries p.compositions p.compatibility → PacksKind Mapper entries p.compositions p.mapper → PacksSteps entries p.supplement → Packs entries pairs p
+module _ (entries : List CharacterEntry) (pairs : List Pair) (s : Stores) (p : Packed) (h : CanPoint entries s) (pairs_are : p.compositions ≡ pairs) (tables_are : p.tables ≡ tables_in s.canonical)
+    (others_are : p.supplementary_tables ≡ tables_in s.supplementary) where
+  pub all_packed : PacksKind Canonical entries p.compositions p.canonical → PacksKind Compatibility entries p.compositions p.compatibility → PacksKind Mapper entries p.compositions p.mapper →
+      PacksSteps entries p.supplement → Packs entries pairs p
   all_packed canonical compatibility mapper supplement =
       record {
         canonical = subst (λ (q : List Pair). PacksKind Canonical entries q p.canonical) pairs_are canonical;
@@ -80,7 +82,8 @@ module _ (entries : List CharacterEntry) (pairs : List Pair) where
   one_word : (kind : Kind) (n w v : ℕ) → IsPackedWord kind entries pairs n w → IsPackedWord kind entries pairs n v → w ≡ v
   one_word kind n w v h k = by (spelling (class_in entries) n (list_in kind entries n)) h.spelled k.spelled h.flags k.flags
     where
-      by : (s : Spelling) → IsSpelled entries (kept_list kind entries n) s w → IsSpelled entries (kept_list kind entries n) s v → HasFlags kind entries pairs n s w → HasFlags kind entries pairs n s v → w ≡ v
+      by : (s : Spelling) → IsSpelled entries (kept_list kind entries n) s w → IsSpelled entries (kept_list kind entries n) s v → HasFlags kind entries pairs n s w →
+          HasFlags kind entries pairs n s v → w ≡ v
       by (Final word) a b f g = a ∙ sym b
       by (Short word) a b f g = same_flagged (composing_reading entries pairs) pairs n (kept_list kind entries n) w v (a ∙ sym b) f g
       by Listed a b f g = same_flagged (composing_reading entries pairs) pairs n (kept_list kind entries n) w v (a ∙ sym b) f g

@@ -11,7 +11,8 @@ use Rattle.normalizer_packing.specs.declared.stores.Stores.{Stores}
 use Rattle.normalizer_packing.specs.Entries.{CharacterEntry}
 use Rattle.normalizer_packing.specs.PackedWords.{CanPoint}
 use Rattle.normalizer_packing.specs.Spelling.{list_eq}
-use Rattle.normalizer_packing.specs.Stored.{HasLengthOfWord, canonical_lists, first_come, is_among, is_narrow, item_at, item_in, item_of, items_of, listed_in, needed_items, place_of, supplementary_lists, tables_of}
+use Rattle.normalizer_packing.specs.Stored.{HasLengthOfWord, canonical_lists, first_come, is_among, is_narrow, item_at, item_in, item_of, items_of, listed_in, needed_items, place_of}
+use Rattle.normalizer_packing.specs.Stored.{supplementary_lists, tables_of}
 use Rattle.normalizer_packing.specs.Stores.{StandsAt, place_in, tables_in}
 use Rattle.normalizer_packing.proofs.StoreLemmas.{chosen, narrow_length, not_among_if_nowhere, place_if_some, placed}
 use Rattle.normalizer_packing.proofs.TableLemmas.{is_among-append, is_among-apart, is_among-first_come, same_list, stands_at_place}
@@ -45,10 +46,12 @@ item_within t x place some h =
 -- each of the lists stands at its place
 pub stands_among : (lists : List (List ℕ)) (x : List ℕ) → is_among x lists ≡ true → StandsAt (tables_of lists) x (place_of lists x)
 unfolding StandsAt
-stands_among lists x among = elim (is_narrow x) as (λ b. items_at (items_of b lists) (place_of lists x) (length x) ≡ Some x → items_at (if b then items_of true lists else items_of false lists) (place_of lists x) (length x) ≡ Some x) [
-  | true ↦ λ stands. stands
-  | false ↦ λ stands. stands
-] (stands_at_place lists x among)
+stands_among lists x among =
+    elim (is_narrow x) as (λ b. items_at (items_of b lists) (place_of lists x) (length x) ≡ Some x →
+    items_at (if b then items_of true lists else items_of false lists) (place_of lists x) (length x) ≡ Some x) [
+      | true ↦ λ stands. stands
+      | false ↦ λ stands. stands
+    ] (stands_at_place lists x among)
 
 -- what holds of all lists holds of one among them
 pub among_all : (P : List ℕ → Type 0) (x : List ℕ) (lists : List (List ℕ)) → All P lists → is_among x lists ≡ true → P x
@@ -64,7 +67,8 @@ module _ (entries : List CharacterEntry) (x : List ℕ) where
   unfolding canonical_lists
   among_canonical = is_among-first_come x (listed_in entries Canonical)
 
-  among_others : (kind : Kind) → is_among x (listed_in entries kind) ≡ true → is_among x (listed_in entries Canonical) ≡ false → is_among x (listed_in entries Compatibility ++ listed_in entries Mapper) ≡ true
+  among_others : (kind : Kind) → is_among x (listed_in entries kind) ≡ true → is_among x (listed_in entries Canonical) ≡ false →
+      is_among x (listed_in entries Compatibility ++ listed_in entries Mapper) ≡ true
   among_others Canonical is other = cc
   among_others Compatibility is other = is_among-append x _ _ ∙ or_left _ _ is
   among_others Mapper is other = is_among-append x _ _ ∙ or_right _ _ is

@@ -1,5 +1,6 @@
 -- Packed data read to what the entries say of every character.
-use Rattle.std.proofs.Common.{◌≡◌, ◌≢◌, ℕ, ◌+◌, ◌*◌, ◌<◌, ◌≤◌, ◌⊎◌, Bool, true, false, not, ◌&&◌, ◌==◌, nat_le, List, [], ◌∷◌, Option, Some, None, if◌then◌else◌, ne_eqb, eq-eqb, eqb-true, leb-true, refl, arith, ap, subst, ◌∙◌, inl, inr}
+use Rattle.std.proofs.Common.{◌≡◌, ◌≢◌, ℕ, ◌+◌, ◌*◌, ◌<◌, ◌≤◌, ◌⊎◌, Bool, true, false, not, ◌&&◌, ◌==◌, nat_le, List, [], ◌∷◌, Option, Some, None, if◌then◌else◌, ne_eqb, eq-eqb, eqb-true, leb-true}
+use Rattle.std.proofs.Common.{refl, arith, ap, subst, ◌∙◌, inl, inr}
 use Rattle.std.specs.Char.{IsScalar}
 use lib.Utf8.{scalar_cases}
 use Rattle.std.proofs.lemmas.Bool.{and_parts}
@@ -24,7 +25,8 @@ use Rattle.normalizer_packing.specs.ReadBack.{AreReadable, ReadsBack, characters
 use Rattle.normalizer_packing.specs.Spelling.{final_word, has_fixed_list, list_eq, spelling, spelling_by_list, spelling_of_list, spelling_or_ignored, spells_two}
 use Rattle.normalizer_packing.specs.Stored.{HasLengthOfWord, is_among, item_of, listed_in, pointing_word, supplementary_lists, tables_of}
 use Rattle.normalizer_packing.proofs.PlaceLemmas.{among_all, length_of_word}
-use Rattle.normalizer_packing.proofs.ReadBackLines.{IsReadBack, spelling_in, kept_is, line_alone, line_fdfa, line_fixed, line_hangul, line_ignored, line_listed, line_one, line_replacement, line_two, text_of}
+use Rattle.normalizer_packing.proofs.ReadBackLines.{IsReadBack, spelling_in, kept_is, line_alone, line_fdfa, line_fixed, line_hangul, line_ignored, line_listed, line_one, line_replacement, line_two}
+use Rattle.normalizer_packing.proofs.ReadBackLines.{text_of}
 use Rattle.normalizer_packing.proofs.ReadBackPlaces.{IsGiven, given_from}
 use Rattle.normalizer_packing.proofs.WordLemmas.{listed_among}
 
@@ -103,12 +105,14 @@ module _ (entries : List CharacterEntry) (pairs : List Pair) (p : Packed) (packs
   few_items Mapper = omega (arith, ap item_count packs.tables, ap item_count packs.supplementary_tables, packs.within)
 
   -- a list of canonical data stands in the first tables, and words of other data point into all
-  where_stands : (kind : Kind) (x : List ℕ) → is_among x (listed_in entries kind) ≡ true → (is_among x (listed_in entries Canonical) ≡ true) ⊎ ((characters_of p kind).supplementary ≡ tables_of (supplementary_lists entries))
+  where_stands : (kind : Kind) (x : List ℕ) → is_among x (listed_in entries kind) ≡ true →
+      (is_among x (listed_in entries Canonical) ≡ true) ⊎ ((characters_of p kind).supplementary ≡ tables_of (supplementary_lists entries))
   where_stands Canonical x among = inl among
   where_stands Compatibility x among = inr packs.supplementary_tables
   where_stands Mapper x among = inr packs.supplementary_tables
 
-module _ (kind : Kind) (entries : List CharacterEntry) (pairs : List Pair) (p : Packed) (packable : ArePackable entries) (readable : AreReadable kind entries) (packs : Packs entries pairs p) (n : ℕ) (is : IsScalar n) where
+module _ (kind : Kind) (entries : List CharacterEntry) (pairs : List Pair) (p : Packed) (packable : ArePackable entries) (readable : AreReadable kind entries) (packs : Packs entries pairs p) (n : ℕ)
+    (is : IsScalar n) where
   abbrev s : Characters
   s = characters_of p kind
 
@@ -171,7 +175,8 @@ module _ (kind : Kind) (entries : List CharacterEntry) (pairs : List Pair) (p : 
               let long : HasLengthOfWord x = among_all HasLengthOfWord x (listed_in entries kind) (packable.lengths kind) among in
               let text : as_text x ≡ Some x = as_text-scalars x (text_of kind entries s n is other readable x list) in
               let given : IsGiven s x (item_of entries x) = given_from entries s x packs.tables (length_of_word x long) text kind among (where_stands entries pairs p packs kind x among) in
-              line_listed kind entries s n is other x list free differs (item_of entries x) given (omega (arith, given.within, few_items entries pairs p packs kind)) long (spelled_as x Listed kept spelled) spelled
+              line_listed kind entries s n is other x list free differs (item_of entries x) given (omega (arith, given.within, few_items entries pairs p packs kind)) long
+              (spelled_as x Listed kept spelled) spelled
 
           long_case : spelling_of_list (class_in entries) n x ≡ (if list_eq x fdfa_list then Short 1 else Listed) → IsReadBack kind entries s n
           long_case e = elim (list_eq x fdfa_list) as (λ b. list_eq x fdfa_list ≡ b → spelling_of_list (class_in entries) n x ≡ (if b then Short 1 else Listed) → IsReadBack kind entries s n) [
@@ -181,20 +186,26 @@ module _ (kind : Kind) (entries : List CharacterEntry) (pairs : List Pair) (p : 
 
     one_case : (a : ℕ) → list_in kind entries n ≡ Some (a ∷ []) → has_fixed_list (class_in entries) n (a ∷ []) ≡ false → list_eq (a ∷ []) (n ∷ []) ≡ false → IsReadBack kind entries s n
     unfolding spelling_of_list
-    one_case a list free differs = elim (nat_le a 0xFFFF && not (a == 1)) as (λ b. (nat_le a 0xFFFF && not (a == 1)) ≡ b → spelling_of_list (class_in entries) n (a ∷ []) ≡ (if b then Short a else Listed) → IsReadBack kind entries s n) [
-      | true ↦ λ both short. (
-          let parts = and_parts _ _ both in
-          let more : a ≢ 1 = λ one. (let yes : (a == 1) ≡ true = eq-eqb a 1 one in let other : not (a == 1) ≡ true = parts.1 in not_unset (a == 1) yes other) in
-          line_one kind entries s n is other readable a list free differs (leb-true a 0xFFFF parts.0) more (spelled_as (a ∷ []) (Short a) (kept (a ∷ []) list) (by_other (a ∷ []) list free differs ∙ short)) (by_other (a ∷ []) list free differs ∙ short))
-      | false ↦ λ _ listed. listed_case (a ∷ []) list free differs listed
-    ] refl refl
+    one_case a list free differs =
+        elim (nat_le a 0xFFFF && not (a == 1)) as (λ b. (nat_le a 0xFFFF && not (a == 1)) ≡ b → spelling_of_list (class_in entries) n (a ∷ []) ≡ (if b then Short a else Listed) →
+        IsReadBack kind entries s n) [
+          | true ↦ λ both short. (
+              let parts = and_parts _ _ both in
+              let more : a ≢ 1 = λ one. (let yes : (a == 1) ≡ true = eq-eqb a 1 one in let other : not (a == 1) ≡ true = parts.1 in not_unset (a == 1) yes other) in
+              line_one kind entries s n is other readable a list free differs (leb-true a 0xFFFF parts.0) more (spelled_as (a ∷ []) (Short a) (kept (a ∷ []) list)
+              (by_other (a ∷ []) list free differs ∙ short)) (by_other (a ∷ []) list free differs ∙ short))
+          | false ↦ λ _ listed. listed_case (a ∷ []) list free differs listed
+        ] refl refl
 
     two_case : (a b : ℕ) → list_in kind entries n ≡ Some (a ∷ b ∷ []) → has_fixed_list (class_in entries) n (a ∷ b ∷ []) ≡ false → list_eq (a ∷ b ∷ []) (n ∷ []) ≡ false → IsReadBack kind entries s n
     unfolding spelling_of_list
-    two_case a b list free differs = elim (spells_two (class_in entries) n a b) as (λ q. spells_two (class_in entries) n a b ≡ q → spelling_of_list (class_in entries) n (a ∷ b ∷ []) ≡ (if q then Short (a + b * 0x8000) else Listed) → IsReadBack kind entries s n) [
-      | true ↦ λ two short. line_two kind entries s n is other readable a b list free differs two (spelled_as (a ∷ b ∷ []) (Short (a + b * 0x8000)) (kept (a ∷ b ∷ []) list) (by_other (a ∷ b ∷ []) list free differs ∙ short)) (by_other (a ∷ b ∷ []) list free differs ∙ short)
-      | false ↦ λ _ listed. listed_case (a ∷ b ∷ []) list free differs listed
-    ] refl refl
+    two_case a b list free differs =
+        elim (spells_two (class_in entries) n a b) as (λ q. spells_two (class_in entries) n a b ≡ q →
+        spelling_of_list (class_in entries) n (a ∷ b ∷ []) ≡ (if q then Short (a + b * 0x8000) else Listed) → IsReadBack kind entries s n) [
+          | true ↦ λ two short. line_two kind entries s n is other readable a b list free differs two (spelled_as (a ∷ b ∷ []) (Short (a + b * 0x8000)) (kept (a ∷ b ∷ []) list)
+              (by_other (a ∷ b ∷ []) list free differs ∙ short)) (by_other (a ∷ b ∷ []) list free differs ∙ short)
+          | false ↦ λ _ listed. listed_case (a ∷ b ∷ []) list free differs listed
+        ] refl refl
 
     other_case : (x : List ℕ) → list_in kind entries n ≡ Some x → has_fixed_list (class_in entries) n x ≡ false → list_eq x (n ∷ []) ≡ false → IsReadBack kind entries s n
     unfolding spelling_of_list
@@ -229,7 +240,8 @@ module _ (kind : Kind) (entries : List CharacterEntry) (pairs : List Pair) (p : 
   ] refl
 
 -- packed data read back
-pub Packs-reads_back : (kind : Kind) (entries : List CharacterEntry) (pairs : List Pair) (p : Packed) → ArePackable entries → AreReadable kind entries → Packs entries pairs p → ReadsBack kind entries (characters_of p kind)
+pub Packs-reads_back : (kind : Kind) (entries : List CharacterEntry) (pairs : List Pair) (p : Packed) → ArePackable entries → AreReadable kind entries → Packs entries pairs p →
+    ReadsBack kind entries (characters_of p kind)
 Packs-reads_back kind entries pairs p packable readable packs = record {
   lists = λ ignored n is. (character_reads_back kind entries pairs p packable readable packs n is).lists ignored;
   classes = λ n is. (character_reads_back kind entries pairs p packable readable packs n is).class;

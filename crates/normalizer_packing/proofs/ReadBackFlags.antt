@@ -57,7 +57,8 @@ by_list_flagged class n x =
     either_flagged (has_fixed_list class n x) (Short (0xD900 + class n)) _ tt
     (either_flagged (list_eq x (n ∷ [])) (Short (if class n == 0 then 0 else 0xD800 + class n)) (spelling_of_list class n x) tt (of_list_flagged class n x))
 
-flags_of_spelling : (kind : Kind) (entries : List CharacterEntry) (pairs : List Pair) (n : ℕ) (q : Spelling) (w : ℕ) → IsFlaggedSpelling q → HasFlags kind entries pairs n q w → IsFlagged (composing_reading entries pairs) pairs n (kept_list kind entries n) w
+flags_of_spelling : (kind : Kind) (entries : List CharacterEntry) (pairs : List Pair) (n : ℕ) (q : Spelling) (w : ℕ) → IsFlaggedSpelling q → HasFlags kind entries pairs n q w →
+    IsFlagged (composing_reading entries pairs) pairs n (kept_list kind entries n) w
 flags_of_spelling kind entries pairs n (Final v) w h flags = absurd h
 flags_of_spelling kind entries pairs n (Short v) w h flags = flags
 flags_of_spelling kind entries pairs n Listed w h flags = flags
@@ -100,8 +101,11 @@ module _ (kind : Kind) (entries : List CharacterEntry) (pairs : List Pair) (p : 
     flags_told x list =
         let w = word_of (characters_of p kind) n in
         let kept : kept_list kind entries n ≡ x = rw list refl in
-        let flags : HasFlags kind entries pairs n (spelling_by_list (class_in entries) n x) w = subst (λ (q : Spelling). HasFlags kind entries pairs n q w) (spelled_by (Some x) list) (packed_word entries pairs p packs kind n (scalar_below n is)).flags in
-        let flagged : IsFlagged (composing_reading entries pairs) pairs n x w = subst (λ (y : List ℕ). IsFlagged (composing_reading entries pairs) pairs n y w) kept (flags_of_spelling kind entries pairs n (spelling_by_list (class_in entries) n x) w (by_list_flagged (class_in entries) n x) flags) in
+        let flags : HasFlags kind entries pairs n (spelling_by_list (class_in entries) n x) w =
+        subst (λ (q : Spelling). HasFlags kind entries pairs n q w) (spelled_by (Some x) list) (packed_word entries pairs p packs kind n (scalar_below n is)).flags in
+        let flagged : IsFlagged (composing_reading entries pairs) pairs n x w =
+        subst (λ (y : List ℕ). IsFlagged (composing_reading entries pairs) pairs n y w) kept
+        (flags_of_spelling kind entries pairs n (spelling_by_list (class_in entries) n x) w (by_list_flagged (class_in entries) n x) flags) in
         record {
           round_trip = flagged.round_trip;
           backward = subst (λ (b : Bool). (is_backward_combining w ≡ false) ↔ ((b ≡ false) × BeginsUnpaired pairs x)) (is_class_form-without_flags w) flagged.backward;

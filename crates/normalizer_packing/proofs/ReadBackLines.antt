@@ -1,5 +1,6 @@
 -- What the word of a character reads to, by each way in which its list is spelled.
-use Rattle.std.proofs.Common.{◌≡◌, ◌≢◌, ℕ, ◌+◌, ◌-◌, ◌*◌, ◌/◌, ◌%◌, ◌^◌, ◌<◌, ◌≤◌, ◌⊎◌, Bool, true, false, not, ◌&&◌, ◌==◌, nat_lt, All, List, [], ◌∷◌, length, Option, Some, None, unwrap_or, if◌then◌else◌, ne_eqb, eqb-true, ltb-true, refl, arith, ap, sym, subst, ◌∙◌, inl, inr}
+use Rattle.std.proofs.Common.{◌≡◌, ◌≢◌, ℕ, ◌+◌, ◌-◌, ◌*◌, ◌/◌, ◌%◌, ◌^◌, ◌<◌, ◌≤◌, ◌⊎◌, Bool, true, false, not, ◌&&◌, ◌==◌, nat_lt, All, List, [], ◌∷◌, length, Option, Some, None, unwrap_or}
+use Rattle.std.proofs.Common.{if◌then◌else◌, ne_eqb, eqb-true, ltb-true, refl, arith, ap, sym, subst, ◌∙◌, inl, inr}
 use Rattle.std.specs.Char.{IsScalar}
 use Rattle.std.specs.Option.{option_map}
 use lib.Utf8.{scalar, scalar_cases}
@@ -52,7 +53,9 @@ pub record IsReadBack (kind : Kind) (entries : List CharacterEntry) (s : Charact
   pub spelled : IsSpellingOf (reading_of_word s n) (spelling_in kind entries n)
 
 -- by the reading of the word
-read_back : (kind : Kind) (entries : List CharacterEntry) (s : Characters) (n : ℕ) (r : WordReading) (k : ℕ) (b : Bool) → IsScalar n → Reads n (word_of s n) s.is_mapper r k b → ((ignored : List ℕ) → named_list s ignored n r ≡ Some (unwrap_or (list_by kind entries n) ignored)) → class_by kind entries n ≡ k → has_class_word kind entries n ≡ b → IsTold kind entries n r → IsSpellingOf r (spelling_in kind entries n) → IsReadBack kind entries s n
+read_back : (kind : Kind) (entries : List CharacterEntry) (s : Characters) (n : ℕ) (r : WordReading) (k : ℕ) (b : Bool) → IsScalar n → Reads n (word_of s n) s.is_mapper r k b →
+    ((ignored : List ℕ) → named_list s ignored n r ≡ Some (unwrap_or (list_by kind entries n) ignored)) → class_by kind entries n ≡ k → has_class_word kind entries n ≡ b → IsTold kind entries n r →
+    IsSpellingOf r (spelling_in kind entries n) → IsReadBack kind entries s n
 unfolding reading_of_word has_class_form
 read_back kind entries s n r k b is reads named class form told spelled = record {
   lists = λ ignored. list_read-scalar s ignored n r is reads.reading ∙ named ignored;
@@ -68,7 +71,8 @@ module _ (kind : Kind) (entries : List CharacterEntry) (n : ℕ) (x : List ℕ) 
   unfolding class_by tells_class has_class_word
   class_fixed fixed = (rw (kept, fixed) refl, rw (kept, fixed) refl)
 
-  class_alone : has_fixed_list (class_in entries) n x ≡ false → list_eq x (n ∷ []) ≡ true → (class_by kind entries n ≡ class_in entries n) × (has_class_word kind entries n ≡ nat_lt 0 (class_in entries n))
+  class_alone : has_fixed_list (class_in entries) n x ≡ false → list_eq x (n ∷ []) ≡ true →
+      (class_by kind entries n ≡ class_in entries n) × (has_class_word kind entries n ≡ nat_lt 0 (class_in entries n))
   unfolding class_by tells_class has_class_word
   class_alone free alone = (rw (kept, free, alone) refl, rw (kept, free, alone) refl)
 
@@ -127,10 +131,12 @@ no_hangul class n x syllable =
 -- the word of a character with its fixed list names that
 fixed_named : (class : ℕ → ℕ) (n : ℕ) (x : List ℕ) → has_fixed_list class n x ≡ true → option_map (λ f. f.list) (fixed_list_of n) ≡ Some x
 unfolding has_fixed_list
-fixed_named class n x h = elim (fixed_list_of n) as (λ o. elim o [ Some f ↦ list_eq f.list x && ((f.class == class n) && have_classes class f.member_classes x) | None ↦ false ] ≡ true → option_map (λ f. f.list) o ≡ Some x) [
-  | Some f ↦ λ g. ap Some (same_list f.list x (and_parts _ _ g).0)
-  | None ↦ λ g. cc
-] h
+fixed_named class n x h =
+    elim (fixed_list_of n) as (λ o. elim o [ Some f ↦ list_eq f.list x && ((f.class == class n) && have_classes class f.member_classes x) | None ↦ false ] ≡ true →
+    option_map (λ f. f.list) o ≡ Some x) [
+      | Some f ↦ λ g. ap Some (same_list f.list x (and_parts _ _ g).0)
+      | None ↦ λ g. cc
+    ] h
 
 -- a starter's class is told as 0
 class_of_starter : (kind : Kind) (entries : List CharacterEntry) (n : ℕ) → class_in entries n ≡ 0 → class_by kind entries n ≡ 0
@@ -140,7 +146,8 @@ class_of_starter kind entries n none = elim (tells_class kind entries n) as (λ 
   | false ↦ refl
 ]
 
-form_of_starter : (kind : Kind) (entries : List CharacterEntry) (n : ℕ) → class_in entries n ≡ 0 → has_fixed_list (class_in entries) n (kept_list kind entries n) ≡ false → has_class_word kind entries n ≡ false
+form_of_starter : (kind : Kind) (entries : List CharacterEntry) (n : ℕ) → class_in entries n ≡ 0 → has_fixed_list (class_in entries) n (kept_list kind entries n) ≡ false →
+    has_class_word kind entries n ≡ false
 unfolding has_class_word
 form_of_starter kind entries n none free = rw (none, free) (elim (list_eq (kept_list kind entries n) (n ∷ [])) as (λ b. (b && false) ≡ false) [ true ↦ refl | false ↦ refl ])
 
@@ -154,7 +161,10 @@ hangul_text n syllable =
     let leading : scalar (0x1100 + (n - 0xAC00) / 588) ≡ true = below_surrogates (0x1100 + (n - 0xAC00) / 588) (omega (arith, range.0, range.1)) in
     let vowel : scalar (0x1161 + (n - 0xAC00) % 588 / 28) ≡ true = below_surrogates (0x1161 + (n - 0xAC00) % 588 / 28) (omega (arith, range.0, range.1)) in
     let trailing : scalar (0x11A7 + (n - 0xAC00) % 28) ≡ true = below_surrogates (0x11A7 + (n - 0xAC00) % 28) (omega (arith, range.0, range.1)) in
-    elim ((n - 0xAC00) % 28 == 0) as (λ b. as_text (if b then (l_base + (n - s_base) / n_count) ∷ (v_base + (n - s_base) % n_count / t_count) ∷ [] else (l_base + (n - s_base) / n_count) ∷ (v_base + (n - s_base) % n_count / t_count) ∷ (t_base + (n - s_base) % t_count) ∷ []) ≡ Some (if b then (l_base + (n - s_base) / n_count) ∷ (v_base + (n - s_base) % n_count / t_count) ∷ [] else (l_base + (n - s_base) / n_count) ∷ (v_base + (n - s_base) % n_count / t_count) ∷ (t_base + (n - s_base) % t_count) ∷ [])) [
+    elim ((n - 0xAC00) % 28 == 0) as (λ b. as_text (if b then (l_base + (n - s_base) / n_count) ∷ (v_base + (n - s_base) % n_count / t_count) ∷ [] else (l_base + (n - s_base) / n_count) ∷
+    (v_base + (n - s_base) % n_count / t_count) ∷ (t_base + (n - s_base) % t_count) ∷ []) ≡ Some
+    (if b then (l_base + (n - s_base) / n_count) ∷ (v_base + (n - s_base) % n_count / t_count) ∷ [] else (l_base + (n - s_base) / n_count) ∷ (v_base + (n - s_base) % n_count / t_count) ∷
+    (t_base + (n - s_base) % t_count) ∷ [])) [
       | true ↦ rw (leading, vowel) refl
       | false ↦ rw (leading, vowel, trailing) refl
     ]
@@ -215,7 +225,8 @@ module _ (kind : Kind) (entries : List CharacterEntry) (s : Characters) (n : ℕ
     expected ignored = rw (other, list) refl
 
     -- its fixed list
-    pub line_fixed : class_in entries n < 0x100 → has_fixed_list (class_in entries) n x ≡ true → without_flags (word_of s n) ≡ 0xD900 + class_in entries n → spelling_in kind entries n ≡ by.Short (0xD900 + class_in entries n) → IsReadBack kind entries s n
+    pub line_fixed : class_in entries n < 0x100 → has_fixed_list (class_in entries) n x ≡ true → without_flags (word_of s n) ≡ 0xD900 + class_in entries n →
+        spelling_in kind entries n ≡ by.Short (0xD900 + class_in entries n) → IsReadBack kind entries s n
     unfolding named_list IsTold
     line_fixed small fixed rest spelled =
         let class = class_fixed kind entries n x kept_is fixed in
@@ -224,7 +235,8 @@ module _ (kind : Kind) (entries : List CharacterEntry) (s : Characters) (n : ℕ
 
     module _ (free : has_fixed_list (class_in entries) n x ≡ false) where
       -- the character alone, which is a mark
-      line_mark : class_in entries n < 0x100 → class_in entries n ≢ 0 → list_eq x (n ∷ []) ≡ true → without_flags (word_of s n) ≡ 0xD800 + class_in entries n → spelling_in kind entries n ≡ by.Short (0xD800 + class_in entries n) → IsReadBack kind entries s n
+      line_mark : class_in entries n < 0x100 → class_in entries n ≢ 0 → list_eq x (n ∷ []) ≡ true → without_flags (word_of s n) ≡ 0xD800 + class_in entries n →
+          spelling_in kind entries n ≡ by.Short (0xD800 + class_in entries n) → IsReadBack kind entries s n
       unfolding named_list IsTold
       line_mark small mark alone rest spelled =
           let class = class_alone kind entries n x kept_is free alone in
@@ -242,11 +254,14 @@ module _ (kind : Kind) (entries : List CharacterEntry) (s : Characters) (n : ℕ
           read_back kind entries s n Itself 0 false is (reads_itself n (word_of s n) s.is_mapper rest)
           (λ ignored. ap Some (sym same) ∙ expected ignored) (class.0 ∙ none) (class.1 ∙ rw none refl) (kept_is ∙ same, none) (inr spelled)
 
-      pub line_alone : class_in entries n < 0x100 → list_eq x (n ∷ []) ≡ true → without_flags (word_of s n) ≡ (if class_in entries n == 0 then 0 else 0xD800 + class_in entries n) → spelling_in kind entries n ≡ by.Short (if class_in entries n == 0 then 0 else 0xD800 + class_in entries n) → IsReadBack kind entries s n
-      line_alone small alone rest spelled = elim (class_in entries n == 0) as (λ b. (class_in entries n == 0) ≡ b → without_flags (word_of s n) ≡ (if b then 0 else 0xD800 + class_in entries n) → spelling_in kind entries n ≡ by.Short (if b then 0 else 0xD800 + class_in entries n) → IsReadBack kind entries s n) [
-        | true ↦ λ e h k. line_starter (eqb-true _ _ e) alone h k
-        | false ↦ λ e h k. (let mark : class_in entries n ≢ 0 = λ none. (let yes : (class_in entries n == 0) ≡ true = rw none refl in cc) in line_mark small mark alone h k)
-      ] refl rest spelled
+      pub line_alone : class_in entries n < 0x100 → list_eq x (n ∷ []) ≡ true → without_flags (word_of s n) ≡ (if class_in entries n == 0 then 0 else 0xD800 + class_in entries n) →
+          spelling_in kind entries n ≡ by.Short (if class_in entries n == 0 then 0 else 0xD800 + class_in entries n) → IsReadBack kind entries s n
+      line_alone small alone rest spelled =
+          elim (class_in entries n == 0) as (λ b. (class_in entries n == 0) ≡ b → without_flags (word_of s n) ≡ (if b then 0 else 0xD800 + class_in entries n) →
+          spelling_in kind entries n ≡ by.Short (if b then 0 else 0xD800 + class_in entries n) → IsReadBack kind entries s n) [
+            | true ↦ λ e h k. line_starter (eqb-true _ _ e) alone h k
+            | false ↦ λ e h k. (let mark : class_in entries n ≢ 0 = λ none. (let yes : (class_in entries n == 0) ≡ true = rw none refl in cc) in line_mark small mark alone h k)
+          ] refl rest spelled
 
       module _ (differs : list_eq x (n ∷ []) ≡ false) where
         -- U+FDFA
@@ -259,7 +274,8 @@ module _ (kind : Kind) (entries : List CharacterEntry) (s : Characters) (n : ℕ
             (λ ignored. ap Some (sym same) ∙ expected ignored) class.0 class.1 (kept_is ∙ same) spelled
 
         -- a list in the tables
-        pub line_listed : (item : ℕ) → IsGiven s x item → item < 0xFFF → HasLengthOfWord x → without_flags (word_of s n) ≡ pointing_word (class_in entries) x item → spelling_in kind entries n ≡ by.Listed → IsReadBack kind entries s n
+        pub line_listed : (item : ℕ) → IsGiven s x item → item < 0xFFF → HasLengthOfWord x → without_flags (word_of s n) ≡ pointing_word (class_in entries) x item →
+            spelling_in kind entries n ≡ by.Listed → IsReadBack kind entries s n
         unfolding named_list IsTold pointing_word
         line_listed item given within long rest spelled =
             let class = class_other kind entries n x kept_is free differs in
@@ -287,7 +303,8 @@ module _ (kind : Kind) (entries : List CharacterEntry) (s : Characters) (n : ℕ
   text_of x list = subst (λ (y : List ℕ). All IsScalar y) (kept_is kind entries s n is other x list) (readable.text n is)
 
   -- another character
-  pub line_one : (a : ℕ) → list_in kind entries n ≡ Some (a ∷ []) → has_fixed_list (class_in entries) n (a ∷ []) ≡ false → list_eq (a ∷ []) (n ∷ []) ≡ false → a ≤ 0xFFFF → a ≢ 1 → without_flags (word_of s n) ≡ a → spelling_in kind entries n ≡ by.Short a → IsReadBack kind entries s n
+  pub line_one : (a : ℕ) → list_in kind entries n ≡ Some (a ∷ []) → has_fixed_list (class_in entries) n (a ∷ []) ≡ false → list_eq (a ∷ []) (n ∷ []) ≡ false → a ≤ 0xFFFF → a ≢ 1 →
+      without_flags (word_of s n) ≡ a → spelling_in kind entries n ≡ by.Short a → IsReadBack kind entries s n
   unfolding named_list IsTold
   line_one a list free differs small more rest spelled =
       let kept = kept_is kind entries s n is other (a ∷ []) list in
@@ -299,7 +316,8 @@ module _ (kind : Kind) (entries : List CharacterEntry) (s : Characters) (n : ℕ
       (λ ignored. as_text-scalars (a ∷ []) text ∙ expected kind entries s n is other (a ∷ []) list ignored) class.0 class.1 kept spelled
 
   -- two characters
-  pub line_two : (a b : ℕ) → list_in kind entries n ≡ Some (a ∷ b ∷ []) → has_fixed_list (class_in entries) n (a ∷ b ∷ []) ≡ false → list_eq (a ∷ b ∷ []) (n ∷ []) ≡ false → spells_two (class_in entries) n a b ≡ true → without_flags (word_of s n) ≡ a + b * 0x8000 → spelling_in kind entries n ≡ by.Short (a + b * 0x8000) → IsReadBack kind entries s n
+  pub line_two : (a b : ℕ) → list_in kind entries n ≡ Some (a ∷ b ∷ []) → has_fixed_list (class_in entries) n (a ∷ b ∷ []) ≡ false → list_eq (a ∷ b ∷ []) (n ∷ []) ≡ false →
+      spells_two (class_in entries) n a b ≡ true → without_flags (word_of s n) ≡ a + b * 0x8000 → spelling_in kind entries n ≡ by.Short (a + b * 0x8000) → IsReadBack kind entries s n
   unfolding named_list IsTold spells_two
   line_two a b list free differs spells rest spelled =
       let kept = kept_is kind entries s n is other (a ∷ b ∷ []) list in
@@ -312,7 +330,8 @@ module _ (kind : Kind) (entries : List CharacterEntry) (s : Characters) (n : ℕ
       let small : a < 0x8000 = ltb-true _ _ one.0 in
       let also : b < 0x8000 = ltb-true _ _ two.0 in
       let mark : 0 < class_in entries b = ltb-true _ _ three.0 in
-      let begins : BeginsWithStarter (composing_reading entries []) (a ∷ b ∷ []) = subst (λ (y : List ℕ). BeginsWithStarter (composing_reading entries []) y) kept (readable.first n is (untold kind entries n (a ∷ b ∷ []) kept free differs)) in
+      let begins : BeginsWithStarter (composing_reading entries []) (a ∷ b ∷ []) =
+      subst (λ (y : List ℕ). BeginsWithStarter (composing_reading entries []) y) kept (readable.first n is (untold kind entries n (a ∷ b ∷ []) kept free differs)) in
       let starter : class_in entries a ≡ 0 = begins in
       read_back kind entries s n (TwoCharacters a b) 0 false is
       (reads_two n (word_of s n) a b s.is_mapper small also (unset _ zeros.0) (unset _ zeros.1) (unmarked_pair small also starter mark) rest)

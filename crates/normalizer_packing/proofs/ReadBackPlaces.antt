@@ -75,7 +75,8 @@ module _ (entries : List CharacterEntry) (s : Characters) (x : List ℕ) (first 
         list = rw first (given t x place some (listed_in s.supplementary (low_length x) (λ past. None)) text stands);
       })
 
-  given_by_second : is_among x (canonical_lists entries) ≡ false → is_among x (supplementary_lists entries) ≡ true → s.supplementary ≡ tables_of (supplementary_lists entries) → IsGiven s x (item_of entries x)
+  given_by_second : is_among x (canonical_lists entries) ≡ false → is_among x (supplementary_lists entries) ≡ true → s.supplementary ≡ tables_of (supplementary_lists entries) →
+      IsGiven s x (item_of entries x)
   unfolding listed_at
   given_by_second other among second =
       let t : Lists = tables_of (canonical_lists entries) in
@@ -89,7 +90,8 @@ module _ (entries : List CharacterEntry) (s : Characters) (x : List ℕ) (first 
       })
 
   -- a list of one kind of data is what the tables give from its item on
-  pub given_from : (kind : Kind) → is_among x (packed_in entries kind) ≡ true → (is_among x (packed_in entries Canonical) ≡ true) ⊎ (s.supplementary ≡ tables_of (supplementary_lists entries)) → IsGiven s x (item_of entries x)
+  pub given_from : (kind : Kind) → is_among x (packed_in entries kind) ≡ true → (is_among x (packed_in entries Canonical) ≡ true) ⊎ (s.supplementary ≡ tables_of (supplementary_lists entries)) →
+      IsGiven s x (item_of entries x)
   given_from kind among where_stands = elim (is_among x (canonical_lists entries)) as (λ b. is_among x (canonical_lists entries) ≡ b → IsGiven s x (item_of entries x)) [
     | true ↦ λ here. given_by_first here
     | false ↦ λ other. elim where_stands as (λ _. IsGiven s x (item_of entries x)) [

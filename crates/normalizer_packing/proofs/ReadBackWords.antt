@@ -5,7 +5,8 @@ use Rattle.std.proofs.lemmas.Nat.{and_mask}
 use Rattle.normalizer_tables.specs.declared.word.WordReading.{WordReading}
 use Rattle.normalizer_tables.specs.declared.word.WordReading.TheVariants.{Ignored, Itself, ClassForm, SpecialForm, TwoCharacters, HangulSyllable, Fdfa, OneCharacter, Listed}
 use Rattle.normalizer_tables.specs.Hangul.{is_hangul_syllable}
-use Rattle.normalizer_tables.specs.Words.{ignored_marker, class_of_word, is_class_form, is_ordinary_class_form, is_special_class_form, low_byte, is_plain, has_high_zeros, has_low_zeros, listed, read, read_low, two_characters}
+use Rattle.normalizer_tables.specs.Words.{ignored_marker, class_of_word, is_class_form, is_ordinary_class_form, is_special_class_form, low_byte, is_plain, has_high_zeros, has_low_zeros, listed, read}
+use Rattle.normalizer_tables.specs.Words.{read_low, two_characters}
 use Rattle.normalizer_packing.specs.Flags.{without_flags}
 use Rattle.normalizer_packing.proofs.ReadBackBits.{above_byte_seen, above_length_seen, byte_seen, first_seen, high_seen, length_seen, low_half_seen, promise_seen, second_seen, unmarked, whole_seen}
 
@@ -143,7 +144,8 @@ reads_one n w a m other some more small no_ordinary no_special rest =
     let half : bit_and w 0xFFFF ≡ a = low_half_seen w a rest ∙ (let b : a % 2 ^ 16 ≡ a = omega arith in b) in
     reads_low n w a m (OneCharacter a) rest some small no_ordinary no_special (rw (other, half, ne_eqb a 1 more) refl)
 
-pub reads_two : (n w a b : ℕ) (m : Bool) → a < 0x8000 → b < 0x8000 → has_high_zeros (a + b * 0x8000) ≡ false → has_low_zeros (a + b * 0x8000) ≡ false → a + b * 0x8000 ≢ 0x3FFFFFFF → without_flags w ≡ a + b * 0x8000 → Reads n w m (TwoCharacters a b) 0 false
+pub reads_two : (n w a b : ℕ) (m : Bool) → a < 0x8000 → b < 0x8000 → has_high_zeros (a + b * 0x8000) ≡ false → has_low_zeros (a + b * 0x8000) ≡ false → a + b * 0x8000 ≢ 0x3FFFFFFF →
+    without_flags w ≡ a + b * 0x8000 → Reads n w m (TwoCharacters a b) 0 false
 unfolding read two_characters
 reads_two n w a b m first second no_high no_low unlike rest =
     let v = a + b * 0x8000 in
@@ -157,7 +159,8 @@ reads_two n w a b m first second no_high no_low unlike rest =
     no_class n w m (TwoCharacters a b) ordinary special
     (rw (not_marked w v rest m unlike, plain_unless w v rest (λ e. omega arith), ordinary, special, high, low) (ap₂ TwoCharacters one two))
 
-reads_pointing : (n w item low q : ℕ) (marks m : Bool) → item < 0xFFF → low < 0x10 → q < 2 → not (q * 2 ^ 4 == 0) ≡ marks → without_flags w ≡ (item + 1) * 0x10000 + (q * 0x10 + low) → Reads n w m (Listed item low marks) 0 false
+reads_pointing : (n w item low q : ℕ) (marks m : Bool) → item < 0xFFF → low < 0x10 → q < 2 → not (q * 2 ^ 4 == 0) ≡ marks → without_flags w ≡ (item + 1) * 0x10000 + (q * 0x10 + low) →
+    Reads n w m (Listed item low marks) 0 false
 unfolding read listed
 reads_pointing n w item low q marks m within short bit told rest =
     let v = (item + 1) * 0x10000 + (q * 0x10 + low) in
@@ -165,13 +168,15 @@ reads_pointing n w item low q marks m within short bit told rest =
     let special = special_unless w v rest (λ e. omega arith) in
     let high = high_zeros_unless w v rest (omega arith) in
     let none : has_low_zeros w ≡ true = low_zeros_if w v rest (omega arith) in
-    let place : bit_and w 0x3FFFFFFF / 2 ^ 16 - 1 ≡ item = ap (λ k. k / 2 ^ 16 - 1) (whole_seen w v rest) ∙ (let e : ((item + 1) * 0x10000 + (q * 0x10 + low)) / 2 ^ 16 - 1 ≡ item = omega arith in e) in
+    let place : bit_and w 0x3FFFFFFF / 2 ^ 16 - 1 ≡ item = ap (λ k. k / 2 ^ 16 - 1) (whole_seen w v rest)
+    ∙ (let e : ((item + 1) * 0x10000 + (q * 0x10 + low)) / 2 ^ 16 - 1 ≡ item = omega arith in e) in
     let length : bit_and w 0xF ≡ low = length_seen w v rest ∙ (let e : ((item + 1) * 0x10000 + (q * 0x10 + low)) % 2 ^ 4 ≡ low = omega arith in e) in
     let promise : bit_and w 0x10 ≡ q * 2 ^ 4 = promise_seen w v rest ∙ (let e : ((item + 1) * 0x10000 + (q * 0x10 + low)) / 2 ^ 4 % 2 ^ 1 * 2 ^ 4 ≡ q * 2 ^ 4 = omega arith in e) in
     no_class n w m (Listed item low marks) ordinary special
     (rw (not_marked w v rest m (λ e. omega arith), plain_unless w v rest (λ e. omega arith), ordinary, special, high, none, place, length, promise, told) refl)
 
-pub reads_listed : (n w item low : ℕ) (marks m : Bool) → item < 0xFFF → low < 0x10 → without_flags w ≡ (item + 1) * 0x10000 + ((if marks then 0x10 else 0) + low) → Reads n w m (Listed item low marks) 0 false
+pub reads_listed : (n w item low : ℕ) (marks m : Bool) → item < 0xFFF → low < 0x10 → without_flags w ≡ (item + 1) * 0x10000 + ((if marks then 0x10 else 0) + low) →
+    Reads n w m (Listed item low marks) 0 false
 reads_listed n w item low true m within short rest = reads_pointing n w item low 1 true m within short (omega arith) refl rest
 reads_listed n w item low false m within short rest = reads_pointing n w item low 0 false m within short (omega arith) refl rest
 

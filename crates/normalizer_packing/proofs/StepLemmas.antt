@@ -1,5 +1,6 @@
 -- The words of the supplement.
-use Rattle.std.proofs.Common.{◌≡◌, ◌==◌, ℕ, ◌+◌, ◌*◌, ◌<◌, ◌≤◌, Bool, true, false, List, [], ◌∷◌, ◌++◌, take, get_or, length, Option, Some, None, nat_le, refl, arith, ap, sym, subst, ◌∙◌, inl, inr, eqb-true}
+use Rattle.std.proofs.Common.{◌≡◌, ◌==◌, ℕ, ◌+◌, ◌*◌, ◌<◌, ◌≤◌, Bool, true, false, List, [], ◌∷◌, ◌++◌, take, get_or, length, Option, Some, None, nat_le, refl, arith, ap, sym, subst, ◌∙◌, inl, inr}
+use Rattle.std.proofs.Common.{eqb-true}
 use Rattle.std.specs.Char.{OutOfScalarRange}
 use Rattle.std.proofs.lemmas.Bool.{le-leb, lt-leb, leb-true, and_parts}
 use Rattle.std.proofs.lemmas.List.{take_more}
@@ -32,7 +33,8 @@ unfolding stored_step
 not_narrow a b wide = rw (wide, stored_step) refl
 
 -- a step that only the table can hold is one of those in it
-pub step_among : (entries : List CharacterEntry) (n : ℕ) (e : CharacterEntry) (a b : ℕ) → entry_of entries n ≡ Some e → asked_step entries e ≡ Some (Two a b) → are_narrow a b ≡ false → is_among (a ∷ b ∷ []) (step_lists entries) ≡ true
+pub step_among : (entries : List CharacterEntry) (n : ℕ) (e : CharacterEntry) (a b : ℕ) → entry_of entries n ≡ Some e → asked_step entries e ≡ Some (Two a b) → are_narrow a b ≡ false →
+    is_among (a ∷ b ∷ []) (step_lists entries) ≡ true
 unfolding step_lists stored_steps entry_of
 step_among entries n e a b found asked wide =
     is_among-first_come (a ∷ b ∷ []) (stored_steps entries)
@@ -58,7 +60,8 @@ surrogate_step : (entries : List CharacterEntry) (n : ℕ) → 0xD800 ≤ n → 
 unfolding step_in
 surrogate_step entries n low high = elim (entry_of entries n) as (λ o. entry_of entries n ≡ o → elim o [ Some e ↦ asked_step entries e | None ↦ None ] ≡ None) [
   | None ↦ λ none. refl
-  | Some e ↦ λ found. (let same : e.character ≡ n = entry_of_own entries n e found in asked_none entries e _ (surrogate_spelled (class_in entries) e.character (Some e.canonical) (omega arith) (omega arith)))
+  | Some e ↦ λ found. (let same : e.character ≡ n =
+      entry_of_own entries n e found in asked_none entries e _ (surrogate_spelled (class_in entries) e.character (Some e.canonical) (omega arith) (omega arith)))
 ] refl
 
 pub no_step : (entries : List CharacterEntry) (n : ℕ) → n < code_points → OutOfScalarRange n → 0 ≡ word_of_step (step_lists entries) (step_in entries n)
@@ -69,6 +72,7 @@ no_step entries n within out = elim out as (λ _. 0 ≡ word_of_step (step_lists
 ]
 
 -- one more list
-pub Holds-more : (lists : List (List ℕ)) (i : ℕ) (old new : Store) → i < length lists → Holds (first_come (take i lists)) old → HoldsMore old (get_or lists i []) new → Holds (first_come (take (i + 1) lists)) new
+pub Holds-more : (lists : List (List ℕ)) (i : ℕ) (old new : Store) → i < length lists → Holds (first_come (take i lists)) old → HoldsMore old (get_or lists i []) new →
+    Holds (first_come (take (i + 1) lists)) new
 Holds-more lists i old new within h more =
     rw (take_more lists i [] within, first_come-append (take i lists) (get_or lists i [])) (more (first_come (take i lists)) h)

@@ -1,5 +1,6 @@
 -- What a store holds, list by list.
-use Rattle.std.proofs.Common.{◌≡◌, ℕ, ◌+◌, ◌<◌, ◌≤◌, ◌⊎◌, Bool, true, false, not, ◌||◌, List, [], ◌∷◌, ◌++◌, length, take, get_or, Option, Some, None, cond, if◌then◌else◌, nat_le, refl, arith, ap, sym, subst, ◌∙◌, inl, inr}
+use Rattle.std.proofs.Common.{◌≡◌, ℕ, ◌+◌, ◌<◌, ◌≤◌, ◌⊎◌, Bool, true, false, not, ◌||◌, List, [], ◌∷◌, ◌++◌, length, take, get_or, Option, Some, None, cond, if◌then◌else◌, nat_le, refl, arith, ap}
+use Rattle.std.proofs.Common.{sym, subst, ◌∙◌, inl, inr}
 use Rattle.std.specs.List.{filter_map}
 use Rattle.std.proofs.lemmas.Bool.{and_parts, leb-true, or_right}
 use Rattle.std.proofs.lemmas.List.{append-nil, take_all, take_more}
@@ -18,7 +19,8 @@ use Rattle.std.specs.Ordering.{nat_cmp}
 use Rattle.std.specs.Option.{is_some}
 use Rattle.std.proofs.lemmas.Map.Text.{btree_map_updates_str}
 use Rattle.std.proofs.lemmas.List.Elements.{filter_map-append}
-use Rattle.normalizer_packing.proofs.TableLemmas.{apart_from-more, apart_from-there, eq_list, is_among-append, is_among-first_come, is_among-one, items_of-append, place_of-end, place_of-kept, same_list}
+use Rattle.normalizer_packing.proofs.TableLemmas.{apart_from-more, apart_from-there, eq_list, is_among-append, is_among-first_come, is_among-one, items_of-append, place_of-end, place_of-kept}
+use Rattle.normalizer_packing.proofs.TableLemmas.{same_list}
 
 pub chosen : (b : Bool) (y x : List ℕ) → (if b then Some y else None) ≡ Some x → (b ≡ true) × (y ≡ x)
 chosen true y x h = (refl, cc)
@@ -50,11 +52,13 @@ module _ (lists : List (List ℕ)) (s : Store) (x : List ℕ) (h : Holds lists s
   unfolding with_list
   Holds-there among = rw among h
 
-  module _ (new : Store) (n : ℕ) (nowhere : place_in s x ≡ None) (finds : (y : List ℕ) → place_in new y ≡ cond (list_eq x y) (Some n) (place_in s y)) (at_end : n ≡ length (items_of (is_narrow x) lists)) where
+  module _ (new : Store) (n : ℕ) (nowhere : place_in s x ≡ None) (finds : (y : List ℕ) → place_in new y ≡ cond (list_eq x y) (Some n) (place_in s y))
+      (at_end : n ≡ length (items_of (is_narrow x) lists)) where
     place_at_end : (y : List ℕ) → list_eq x y ≡ true → Some n ≡ (if is_among y (lists ++ x ∷ []) then Some (place_of (lists ++ x ∷ []) y) else None)
     place_at_end y same =
         let here : x ≡ y = same_list x y same in
-        let among : is_among y (lists ++ x ∷ []) ≡ true = is_among-append y lists (x ∷ []) ∙ ap (λ b. is_among y lists || b) (is_among-one y x ∙ eq_list y x (sym here)) ∙ or_right (is_among y lists) true refl in
+        let among : is_among y (lists ++ x ∷ []) ≡ true = is_among-append y lists (x ∷ []) ∙ ap (λ b. is_among y lists || b) (is_among-one y x ∙ eq_list y x (sym here))
+        ∙ or_right (is_among y lists) true refl in
         let place : place_of (lists ++ x ∷ []) y ≡ n = ap (place_of (lists ++ x ∷ [])) (sym here) ∙ place_of-end lists x (not_among_if_nowhere nowhere) ∙ sym at_end in
         rw (among, place) refl
 
@@ -79,7 +83,8 @@ module _ (lists : List (List ℕ)) (s : Store) (x : List ℕ) (h : Holds lists s
     })
 
 -- tables with one more list
-pub tables_put : (lists : List (List ℕ)) (t u : Lists) (x : List ℕ) → t ≡ tables_of lists → u.scalars16 ≡ t.scalars16 ++ (if is_narrow x then x else []) → u.scalars24 ≡ t.scalars24 ++ (if not (is_narrow x) then x else []) → u ≡ tables_of (lists ++ x ∷ [])
+pub tables_put : (lists : List (List ℕ)) (t u : Lists) (x : List ℕ) → t ≡ tables_of lists → u.scalars16 ≡ t.scalars16 ++ (if is_narrow x then x else []) →
+    u.scalars24 ≡ t.scalars24 ++ (if not (is_narrow x) then x else []) → u ≡ tables_of (lists ++ x ∷ [])
 tables_put lists t u x same narrow wide =
     let first : u.scalars16 ≡ items_of true (lists ++ x ∷ []) = narrow ∙ ap (λ (v : Lists). v.scalars16 ++ (if is_narrow x then x else [])) same ∙ sym (items_of-append true lists x) in
     let second : u.scalars24 ≡ items_of false (lists ++ x ∷ []) = wide ∙ ap (λ (v : Lists). v.scalars24 ++ (if not (is_narrow x) then x else [])) same ∙ sym (items_of-append false lists x) in
@@ -100,7 +105,8 @@ listed_so_far-none kind [] = refl
 listed_so_far-none kind (e ∷ entries) = refl
 
 module _ (kind : Kind) (entries items : List CharacterEntry) (i : ℕ) (same : items ≡ entries) where
-  one_more : (e : CharacterEntry) → i < length items → e ≡ get_or items i e → listed_so_far kind entries (i + 1) ≡ listed_so_far kind entries i ++ filter_map (listed_of (class_in entries) kind) (e ∷ [])
+  one_more : (e : CharacterEntry) → i < length items → e ≡ get_or items i e →
+      listed_so_far kind entries (i + 1) ≡ listed_so_far kind entries i ++ filter_map (listed_of (class_in entries) kind) (e ∷ [])
   unfolding listed_so_far
   one_more e within is =
       let f = listed_of (class_in entries) kind in
@@ -109,11 +115,13 @@ module _ (kind : Kind) (entries items : List CharacterEntry) (i : ℕ) (same : i
       ap (filter_map f) (take_more entries i e inside) ∙ filter_map-append f (take i entries) (get_or entries i e ∷ []) ∙ ap (λ m. filter_map f (take i entries) ++ filter_map f (m ∷ [])) here
 
   -- the next entry has a list that no word spells
-  pub listed_so_far-some : (e : CharacterEntry) (x : List ℕ) → i < length items → e ≡ get_or items i e → listed_of (class_in entries) kind e ≡ Some x → listed_so_far kind entries (i + 1) ≡ listed_so_far kind entries i ++ x ∷ []
+  pub listed_so_far-some : (e : CharacterEntry) (x : List ℕ) → i < length items → e ≡ get_or items i e → listed_of (class_in entries) kind e ≡ Some x →
+      listed_so_far kind entries (i + 1) ≡ listed_so_far kind entries i ++ x ∷ []
   listed_so_far-some e x within is some = one_more e within is ∙ ap (λ l. listed_so_far kind entries i ++ l) (rw some refl)
 
   -- it has another
-  pub listed_so_far-other : (e : CharacterEntry) → i < length items → e ≡ get_or items i e → listed_of (class_in entries) kind e ≡ None → listed_so_far kind entries (i + 1) ≡ listed_so_far kind entries i
+  pub listed_so_far-other : (e : CharacterEntry) → i < length items → e ≡ get_or items i e → listed_of (class_in entries) kind e ≡ None →
+      listed_so_far kind entries (i + 1) ≡ listed_so_far kind entries i
   listed_so_far-other e within is none = one_more e within is ∙ ap (λ l. listed_so_far kind entries i ++ l) (rw none refl) ∙ append-nil _
 
   pub listed_so_far-all : length items ≤ i → listed_so_far kind entries i ≡ listed_in entries kind
@@ -129,18 +137,21 @@ nowhere_if_not_some (Some n) h = cc
 nowhere_if_not_some None h = refl
 
 -- where lists stand after one is put into the map of places
-pub place_updated : (old mid new : Store) (x : List ℕ) (n : ℕ) → mid.places ≡ old.places → UpdatesBy (λ a b. slice_cmp nat_cmp a.now b.now) (λ k. slice_cmp nat_cmp x k.now) mid.places new.places (Some n) → (y : List ℕ) → place_in new y ≡ cond (list_eq x y) (Some n) (place_in old y)
+pub place_updated : (old mid new : Store) (x : List ℕ) (n : ℕ) → mid.places ≡ old.places →
+    UpdatesBy (λ a b. slice_cmp nat_cmp a.now b.now) (λ k. slice_cmp nat_cmp x k.now) mid.places new.places (Some n) → (y : List ℕ) → place_in new y ≡ cond (list_eq x y) (Some n) (place_in old y)
 unfolding place_in
 place_updated old mid new x n same updates y =
     btree_map_updates_str x mid.places new.places (Some n) updates y ∙ ap (λ m. cond (list_eq x y) (Some n) (get_by (λ k. slice_cmp nat_cmp y k.now) m)) same
 
 -- the store before holds a list, and so this one needn't
-pub HoldsLists-there : (before lists : List (List ℕ)) (first s : Store) (x : List ℕ) (n : ℕ) → Holds (first_come before) first → place_in first x ≡ Some n → Holds (apart_from before (first_come lists)) s → Holds (apart_from before (first_come (lists ++ x ∷ []))) s
+pub HoldsLists-there : (before lists : List (List ℕ)) (first s : Store) (x : List ℕ) (n : ℕ) → Holds (first_come before) first → place_in first x ≡ Some n →
+    Holds (apart_from before (first_come lists)) s → Holds (apart_from before (first_come (lists ++ x ∷ []))) s
 HoldsLists-there before lists first s x n held found h =
     let there : is_among x before ≡ true = sym (is_among-first_come x before) ∙ (place_if_some (first_come before) first x held n found).0 in
     subst (λ (l : List (List ℕ)). Holds l s) (sym (apart_from-there before lists x there)) h
 
-pub HoldsLists-more : (before lists : List (List ℕ)) (first s new : Store) (x : List ℕ) → Holds (first_come before) first → place_in first x ≡ None → Holds (apart_from before (first_come lists)) s → HoldsMore s x new → Holds (apart_from before (first_come (lists ++ x ∷ []))) new
+pub HoldsLists-more : (before lists : List (List ℕ)) (first s new : Store) (x : List ℕ) → Holds (first_come before) first → place_in first x ≡ None → Holds (apart_from before (first_come lists)) s →
+    HoldsMore s x new → Holds (apart_from before (first_come (lists ++ x ∷ []))) new
 HoldsLists-more before lists first s new x held nowhere h more =
     let apart : is_among x before ≡ false = sym (is_among-first_come x before) ∙ not_among_if_nowhere (first_come before) first x held nowhere in
     subst (λ (l : List (List ℕ)). Holds l new) (sym (apart_from-more before lists x apart)) (more (apart_from before (first_come lists)) h)

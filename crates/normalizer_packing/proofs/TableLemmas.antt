@@ -1,5 +1,6 @@
 -- Lists in the order in which they first come, and their places in tables.
-use Rattle.std.proofs.Common.{◌≡◌, ℕ, ◌+◌, ◌<◌, ◌≤◌, Bool, true, false, not, ◌&&◌, ◌||◌, List, [], ◌∷◌, ◌++◌, length, take, drop, Some, if◌then◌else◌, nat_le, refl, arith, suc, ap, sym, subst, ◌∙◌, append_assoc, length-append}
+use Rattle.std.proofs.Common.{◌≡◌, ℕ, ◌+◌, ◌<◌, ◌≤◌, Bool, true, false, not, ◌&&◌, ◌||◌, List, [], ◌∷◌, ◌++◌, length, take, drop, Some, if◌then◌else◌, nat_le, refl, arith, suc, ap, sym, subst, ◌∙◌}
+use Rattle.std.proofs.Common.{append_assoc, length-append}
 use Rattle.std.specs.List.{before_first, concat, filter, prefix_len}
 use Rattle.std.proofs.lemmas.Bool.{le-leb, leb-true}
 use Rattle.std.proofs.lemmas.List.{append-nil, take-append-le}
@@ -45,7 +46,8 @@ pub is_among-first_come : (x : List ℕ) (lists : List (List ℕ)) → is_among 
 unfolding first_come is_among
 is_among-first_come x [] = refl
 is_among-first_come x (y ∷ lists) =
-    ap (λ b. list_eq x y || b) (is_among-filter (λ z. not (list_eq z y)) x (first_come lists) ∙ ap (λ b. not (list_eq x y) && b) (is_among-first_come x lists)) ∙ either (list_eq x y) (is_among x lists)
+    ap (λ b. list_eq x y || b) (is_among-filter (λ z. not (list_eq z y)) x (first_come lists) ∙ ap (λ b. not (list_eq x y) && b) (is_among-first_come x lists))
+    ∙ either (list_eq x y) (is_among x lists)
   where
     either : (a b : Bool) → (a || (not a && b)) ≡ (a || b)
     either true b = refl
@@ -112,7 +114,9 @@ items_of-append narrow lists x =
 
 items_of-cons : (narrow : Bool) (x : List ℕ) (lists : List (List ℕ)) → items_of narrow (x ∷ lists) ≡ (if stands_in narrow x then x else []) ++ items_of narrow lists
 unfolding items_of
-items_of-cons narrow x lists = elim (stands_in narrow x) as (λ b. concat (if b then x ∷ filter (stands_in narrow) lists else filter (stands_in narrow) lists) ≡ (if b then x else []) ++ concat (filter (stands_in narrow) lists)) [ true ↦ refl | false ↦ refl ]
+items_of-cons narrow x lists =
+    elim (stands_in narrow x) as (λ b. concat (if b then x ∷ filter (stands_in narrow) lists else filter (stands_in narrow) lists) ≡
+    (if b then x else []) ++ concat (filter (stands_in narrow) lists)) [ true ↦ refl | false ↦ refl ]
 
 before_first-here : (p : List ℕ → Bool) (y : List ℕ) (lists : List (List ℕ)) → p y ≡ true → before_first p (y ∷ lists) ≡ []
 before_first-here p y lists passes = rw passes refl
@@ -139,7 +143,8 @@ unfolding is_among
 place_of-kept [] x y among = cc
 place_of-kept (z ∷ lists) x y among = elim (list_eq x z) as (λ b. list_eq x z ≡ b → (b || is_among x lists) ≡ true → place_of (z ∷ (lists ++ y ∷ [])) x ≡ place_of (z ∷ lists) x) [
   | true ↦ λ same _. place_of-here x z (lists ++ y ∷ []) same ∙ sym (place_of-here x z lists same)
-  | false ↦ λ differs later. place_of-past x z (lists ++ y ∷ []) differs ∙ ap (λ n. length (if stands_in (is_narrow x) z then z else []) + n) (place_of-kept lists x y later) ∙ sym (place_of-past x z lists differs)
+  | false ↦ λ differs later. place_of-past x z (lists ++ y ∷ []) differs ∙ ap (λ n. length (if stands_in (is_narrow x) z then z else []) + n) (place_of-kept lists x y later)
+      ∙ sym (place_of-past x z lists differs)
 ] refl among
 
 -- and one that is put behind stands at the end of its table
@@ -177,9 +182,11 @@ own_table x = elim (is_narrow x) as (λ b. is_narrow x ≡ b → stands_in b x �
 pub stands_at_place : (lists : List (List ℕ)) (x : List ℕ) → is_among x lists ≡ true → items_at (items_of (is_narrow x) lists) (place_of lists x) (length x) ≡ Some x
 unfolding is_among
 stands_at_place [] x among = cc
-stands_at_place (y ∷ lists) x among = elim (list_eq x y) as (λ b. list_eq x y ≡ b → (b || is_among x lists) ≡ true → items_at (items_of (is_narrow x) (y ∷ lists)) (place_of (y ∷ lists) x) (length x) ≡ Some x) [
-  | true ↦ λ same _.
-      rw (items_of-cons (is_narrow x) y lists, place_of-here x y lists same, sym (same_list x y same), own_table x) (items_at-front x (items_of (is_narrow x) lists))
-  | false ↦ λ differs later.
-      rw (items_of-cons (is_narrow x) y lists, place_of-past x y lists differs) (items_at-behind (if stands_in (is_narrow x) y then y else []) (items_of (is_narrow x) lists) x (place_of lists x) (length x) (stands_at_place lists x later))
-] refl among
+stands_at_place (y ∷ lists) x among =
+    elim (list_eq x y) as (λ b. list_eq x y ≡ b → (b || is_among x lists) ≡ true → items_at (items_of (is_narrow x) (y ∷ lists)) (place_of (y ∷ lists) x) (length x) ≡ Some x) [
+      | true ↦ λ same _.
+          rw (items_of-cons (is_narrow x) y lists, place_of-here x y lists same, sym (same_list x y same), own_table x) (items_at-front x (items_of (is_narrow x) lists))
+      | false ↦ λ differs later.
+          rw (items_of-cons (is_narrow x) y lists, place_of-past x y lists differs)
+          (items_at-behind (if stands_in (is_narrow x) y then y else []) (items_of (is_narrow x) lists) x (place_of lists x) (length x) (stands_at_place lists x later))
+    ] refl among

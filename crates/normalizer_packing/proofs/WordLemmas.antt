@@ -1,5 +1,6 @@
 -- What words say, by how their lists are spelled.
-use Rattle.std.proofs.Common.{◌≡◌, ◌==◌, ℕ, ◌<◌, ◌≤◌, ◌⊎◌, Bool, true, false, ◌||◌, List, [], ◌∷◌, Option, Some, None, find, cond, if◌then◌else◌, unwrap_or, Bor, refl, arith, ap, sym, subst, ◌∙◌, inl, inr, eqb-true}
+use Rattle.std.proofs.Common.{◌≡◌, ◌==◌, ℕ, ◌<◌, ◌≤◌, ◌⊎◌, Bool, true, false, ◌||◌, List, [], ◌∷◌, Option, Some, None, find, cond, if◌then◌else◌, unwrap_or, Bor, refl, arith, ap, sym, subst, ◌∙◌, inl}
+use Rattle.std.proofs.Common.{inr, eqb-true}
 use Rattle.std.proofs.lemmas.Bool.{or_right}
 use Rattle.std.specs.Char.{OutOfScalarRange}
 use Rattle.std.specs.List.{cons_option, filter_map, list_any}
@@ -23,10 +24,13 @@ module _ (kind : Kind) (entries : List CharacterEntry) (pairs : List Pair) (n : 
   pub final_packs : (w : ℕ) → spelling (class_in entries) n (list_in kind entries n) ≡ Final w → IsPackedWord kind entries pairs n w
   final_packs w is = record { spelled = rw is refl; flags = rw is tt }
 
-  pub short_packs : (word w : ℕ) → spelling (class_in entries) n (list_in kind entries n) ≡ Short word → without_flags w ≡ word → IsFlagged (composing_reading entries pairs) pairs n (kept_list kind entries n) w → IsPackedWord kind entries pairs n w
+  pub short_packs : (word w : ℕ) → spelling (class_in entries) n (list_in kind entries n) ≡ Short word → without_flags w ≡ word →
+      IsFlagged (composing_reading entries pairs) pairs n (kept_list kind entries n) w → IsPackedWord kind entries pairs n w
   short_packs word w is same flags = record { spelled = rw is same; flags = rw is flags }
 
-  pub listed_packs : (item w : ℕ) → spelling (class_in entries) n (list_in kind entries n) ≡ Listed → item ≡ item_of entries (kept_list kind entries n) → without_flags w ≡ pointing_word (class_in entries) (kept_list kind entries n) item → IsFlagged (composing_reading entries pairs) pairs n (kept_list kind entries n) w → IsPackedWord kind entries pairs n w
+  pub listed_packs : (item w : ℕ) → spelling (class_in entries) n (list_in kind entries n) ≡ Listed → item ≡ item_of entries (kept_list kind entries n) →
+      without_flags w ≡ pointing_word (class_in entries) (kept_list kind entries n) item → IsFlagged (composing_reading entries pairs) pairs n (kept_list kind entries n) w →
+      IsPackedWord kind entries pairs n w
   listed_packs item w is item_is same flags = record { spelled = rw is (same ∙ ap (pointing_word (class_in entries) (kept_list kind entries n)) item_is); flags = rw is flags }
 
 found_first : (b : Bool) (y e : CharacterEntry) (o : Option CharacterEntry) → cond b (Some y) o ≡ Some e → ((b ≡ true) × (y ≡ e)) ⊎ (o ≡ Some e)
@@ -51,7 +55,8 @@ among_later x None rest h = h
 among_later x (Some z) rest h = ap (λ b. list_eq x z || b) h ∙ or_right (list_eq x z) true refl
 
 -- what an element gives that a search finds is among what all give
-pub found_among : (p : CharacterEntry → Bool) (f : CharacterEntry → Option (List ℕ)) (entries : List CharacterEntry) (e : CharacterEntry) (x : List ℕ) → find p entries ≡ Some e → f e ≡ Some x → is_among x (filter_map f entries) ≡ true
+pub found_among : (p : CharacterEntry → Bool) (f : CharacterEntry → Option (List ℕ)) (entries : List CharacterEntry) (e : CharacterEntry) (x : List ℕ) → find p entries ≡ Some e → f e ≡ Some x →
+    is_among x (filter_map f entries) ≡ true
 found_among p f [] e x found some = cc
 found_among p f (y ∷ entries) e x found some = elim (found_first (p y) y e (find p entries) found) as (λ _. is_among x (filter_map f (y ∷ entries)) ≡ true) [
   | inl here ↦ among_here x (f y) (filter_map f entries) (ap f here.1 ∙ some)
@@ -98,7 +103,8 @@ module _ (kind : Kind) (entries : List CharacterEntry) (n : ℕ) (is : spelling 
       let here : spelling (class_in entries) e.character (own_list kind e) ≡ Listed = subst (λ (m : ℕ). spelling (class_in entries) m (own_list kind e) ≡ Listed) (sym same) spelled in
       let some : (x : List ℕ) × (own_list kind e ≡ Some x) = listed_is_some (class_in entries) n (own_list kind e) spelled in
       let kept : kept_list kind entries n ≡ some.0 = ap (λ o. unwrap_or o []) (own ∙ some.1) in
-      subst (λ (x : List ℕ). is_among x (listed_in entries kind) ≡ true) (sym kept) (found_among (λ f. f.character == n) (listed_of (class_in entries) kind) entries e some.0 found (listed_own (class_in entries) kind e here ∙ some.1))
+      subst (λ (x : List ℕ). is_among x (listed_in entries kind) ≡ true) (sym kept)
+      (found_among (λ f. f.character == n) (listed_of (class_in entries) kind) entries e some.0 found (listed_own (class_in entries) kind e here ∙ some.1))
 
   -- a list that no word spells is one of those of its kind
   pub listed_among : is_among (kept_list kind entries n) (listed_in entries kind) ≡ true
@@ -136,7 +142,8 @@ kept_now None k d own is empty same = ap (λ r. r.now) is ∙ empty ∙ ap (λ x
 kept_now (Some r) k d own is empty same = ap (λ r. r.now) is ∙ ap (λ x. unwrap_or x []) same
 
 -- the same of a list that a look-up has lent
-pub listed_lent : (kind : Kind) (entries : List CharacterEntry) (n : ℕ) (o : Option (Bor (List ℕ))) (k d : Bor (List ℕ)) → k ≡ unwrap_or o d → d.now ≡ [] → option_copied o ≡ list_in kind entries n → Listed ≡ spelling (class_in entries) n (option_copied o) → is_among k.now (listed_in entries kind) ≡ true
+pub listed_lent : (kind : Kind) (entries : List CharacterEntry) (n : ℕ) (o : Option (Bor (List ℕ))) (k d : Bor (List ℕ)) → k ≡ unwrap_or o d → d.now ≡ [] → option_copied o ≡ list_in kind entries n →
+    Listed ≡ spelling (class_in entries) n (option_copied o) → is_among k.now (listed_in entries kind) ≡ true
 unfolding kept_list
 listed_lent kind entries n o k d is empty same spelled =
     let kept : k.now ≡ kept_list kind entries n = kept_now o k d _ is empty same in

@@ -18,4 +18,5 @@ BeginsUnpaired pairs (s ∷ x) = IsNeverSecond pairs s
 pub record IsFlagged (d : Reading) (pairs : List Pair) (n : ℕ) (x : List ℕ) (w : ℕ) : Type 0 where
   pub within : w < 2 ^ 32
   pub round_trip : (is_non_round_trip w ≡ false) ↔ (compose d x ≡ n ∷ [])
-  pub backward : (is_backward_combining w ≡ false) ↔ ((is_class_form (without_flags w) ≡ false) × BeginsUnpaired pairs x)
+  pub backward : (is_backward_combining w ≡ false) ↔
+      ((is_class_form (without_flags w) ≡ false) × BeginsUnpaired pairs x)

@@ -13,7 +13,8 @@ use Rattle.normalizer_packing.specs.Entries.{CharacterEntry, AreRising, class_in
 use Rattle.normalizer_packing.specs.Flags.{IsFlagged, without_flags}
 use Rattle.normalizer_packing.specs.Spelling.{spelling}
 use Rattle.normalizer_packing.specs.Steps.{PacksSteps}
-use Rattle.normalizer_packing.specs.Stored.{HasLengthOfWord, canonical_lists, item_of, listed_in, needed_items, pointing_word, supplementary_lists, tables_of}
+use Rattle.normalizer_packing.specs.Stored.{HasLengthOfWord, canonical_lists, item_of, listed_in, needed_items}
+use Rattle.normalizer_packing.specs.Stored.{pointing_word, supplementary_lists, tables_of}
 use Rattle.normalizer_packing.specs.Words.{HasWords}
 
 -- w without its flags, by the spelling of the list x
@@ -33,7 +34,8 @@ pub record IsPackedWord (kind : Kind) (entries : List CharacterEntry) (pairs : L
   pub flags : HasFlags kind entries pairs n (spelling (class_in entries) n (list_in kind entries n)) w
 
 -- one kind of decomposition data
-pub record PacksKind (kind : Kind) (entries : List CharacterEntry) (pairs : List Pair) (d : Decompositions) : Type 0 where
+pub record PacksKind (kind : Kind) (entries : List CharacterEntry) (pairs : List Pair)
+    (d : Decompositions) : Type 0 where
   pub words : HasWords (IsPackedWord kind entries pairs) d.table
   pub cap : IsCap kind entries pairs d.cap
 

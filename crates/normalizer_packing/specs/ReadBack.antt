@@ -1,10 +1,13 @@
 -- What packed data read to: the reading of their words undoes their packing.
-use Rattle.std.specs.Prelude.{◌≡◌, ℕ, ◌<◌, Bool, true, false, ◌&&◌, ◌||◌, nat_lt, List, [], ◌∷◌, Option, Some, None, unwrap_or, if◌then◌else◌}
+use Rattle.std.specs.Prelude.{◌≡◌, ℕ, ◌<◌, Bool, true, false, ◌&&◌, ◌||◌, nat_lt, List, [], ◌∷◌, Option, Some, None}
+use Rattle.std.specs.Prelude.{unwrap_or, if◌then◌else◌}
 use Rattle.std.specs.Char.{IsScalar}
 use Rattle.normal_forms.specs.Boundary.{BeginsWithStarter}
 use Rattle.normal_forms.specs.Reading.{IsText}
 use Rattle.normalizer_tables.specs.declared.word.WordReading.{WordReading}
-use Rattle.normalizer_tables.specs.declared.word.WordReading.TheVariants.{Ignored, Itself, ClassForm, SpecialForm, TwoCharacters, HangulSyllable, Fdfa, OneCharacter, Listed}
+use Rattle.normalizer_tables.specs.declared.word.WordReading.TheVariants.{Ignored, Itself, ClassForm, SpecialForm}
+use Rattle.normalizer_tables.specs.declared.word.WordReading.TheVariants.{TwoCharacters, HangulSyllable, Fdfa}
+use Rattle.normalizer_tables.specs.declared.word.WordReading.TheVariants.{OneCharacter, Listed}
 use Rattle.normalizer_tables.specs.Characters.{Characters, class_of, has_class_form, list_read, reading_of_word}
 use Rattle.normalizer_tables.specs.Data.{Decompositions, Lists, lists_or_none}
 use Rattle.normalizer_tables.specs.Hangul.{hangul_decomposition, is_hangul_syllable}
@@ -34,16 +37,22 @@ is_mappers Mapper = true
 
 -- what the data of one kind say of characters
 abbrev pub characters_of : Packed → Kind → Characters
-characters_of p kind = record { decompositions = decompositions_of p kind; tables = p.tables; supplementary = lists_or_none (supplementary_of p kind); is_mapper = is_mappers kind }
+characters_of p kind = record {
+  decompositions = decompositions_of p kind;
+  tables = p.tables;
+  supplementary = lists_or_none (supplementary_of p kind);
+  is_mapper = is_mappers kind;
+}
 
--- the list that data of one kind have of a character: that of a Hangul syllable by arithmetic, else what the entries say;
--- none where the character is ignored
+-- the list that data of one kind have of a character: that of a Hangul syllable by arithmetic, else what the entries
+-- say; none where the character is ignored
 unfoldable pub list_by : Kind → List CharacterEntry → ℕ → Option (List ℕ)
 list_by kind entries n = if is_hangul_syllable n then Some (hangul_decomposition n) else list_in kind entries n
 
 -- the list of the character is its fixed one, or itself alone: then its word has room for its class
 unfoldable pub tells_class : Kind → List CharacterEntry → ℕ → Bool
-tells_class kind entries n = has_fixed_list (class_in entries) n (kept_list kind entries n) || list_eq (kept_list kind entries n) (n ∷ [])
+tells_class kind entries n =
+    has_fixed_list (class_in entries) n (kept_list kind entries n) || list_eq (kept_list kind entries n) (n ∷ [])
 
 -- the class that data of one kind have of a character: 0 where its word can't tell it
 unfoldable pub class_by : Kind → List CharacterEntry → ℕ → ℕ
@@ -51,7 +60,9 @@ class_by kind entries n = if tells_class kind entries n then class_in entries n 
 
 -- the word is one that tells a class: of a fixed list, or of a mark that decomposes to itself
 unfoldable pub has_class_word : Kind → List CharacterEntry → ℕ → Bool
-has_class_word kind entries n = has_fixed_list (class_in entries) n (kept_list kind entries n) || (list_eq (kept_list kind entries n) (n ∷ []) && nat_lt 0 (class_in entries n))
+has_class_word kind entries n =
+    has_fixed_list (class_in entries) n (kept_list kind entries n)
+    || (list_eq (kept_list kind entries n) (n ∷ []) && nat_lt 0 (class_in entries n))
 
 -- entries whose words can be read again
 pub record AreReadable (kind : Kind) (entries : List CharacterEntry) : Type 0 where
@@ -64,24 +75,28 @@ pub record AreReadable (kind : Kind) (entries : List CharacterEntry) : Type 0 wh
   pub text : (n : ℕ) → IsScalar n → IsText (kept_list kind entries n)
   pub zero : (n : ℕ) → IsScalar n → kept_list kind entries n ≡ 0 ∷ [] → n ≡ 0
   -- the list of a character begins with a starter, if it is neither the character alone nor its fixed one
-  pub first : (n : ℕ) → IsScalar n → tells_class kind entries n ≡ false → BeginsWithStarter (composing_reading entries []) (kept_list kind entries n)
+  pub first : (n : ℕ) → IsScalar n → tells_class kind entries n ≡ false →
+      BeginsWithStarter (composing_reading entries []) (kept_list kind entries n)
 
 -- what the reading of n's word says is so
 unfoldable pub IsTold : Kind → List CharacterEntry → ℕ → WordReading → Type 0
 IsTold kind entries n Ignored = list_in kind entries n ≡ None
 IsTold kind entries n Itself = (kept_list kind entries n ≡ n ∷ []) × (class_in entries n ≡ 0)
 IsTold kind entries n (ClassForm k) = (kept_list kind entries n ≡ n ∷ []) × (class_in entries n ≡ k) × (0 < k)
-IsTold kind entries n (SpecialForm k) = (has_fixed_list (class_in entries) n (kept_list kind entries n) ≡ true) × (class_in entries n ≡ k)
+IsTold kind entries n (SpecialForm k) =
+    (has_fixed_list (class_in entries) n (kept_list kind entries n) ≡ true) × (class_in entries n ≡ k)
 IsTold kind entries n (TwoCharacters a b) = (kept_list kind entries n ≡ a ∷ b ∷ []) × (0 < class_in entries b)
 IsTold kind entries n HangulSyllable = is_hangul_syllable n ≡ true
 IsTold kind entries n Fdfa = kept_list kind entries n ≡ fdfa_list
 IsTold kind entries n (OneCharacter a) = kept_list kind entries n ≡ a ∷ []
-IsTold kind entries n (Listed item low rest_are_marks) = rest_are_marks ≡ has_marks_behind (class_in entries) (kept_list kind entries n)
+IsTold kind entries n (Listed item low rest_are_marks) =
+    rest_are_marks ≡ has_marks_behind (class_in entries) (kept_list kind entries n)
 
 -- what packed data read to
 pub record ReadsBack (kind : Kind) (entries : List CharacterEntry) (s : Characters) : Type 0 where
   -- the list of each character, `ignored` where the mapper ignores it
-  pub lists : (ignored : List ℕ) (n : ℕ) → IsScalar n → list_read s ignored n ≡ Some (unwrap_or (list_by kind entries n) ignored)
+  pub lists : (ignored : List ℕ) (n : ℕ) → IsScalar n →
+      list_read s ignored n ≡ Some (unwrap_or (list_by kind entries n) ignored)
   -- its class, where its word tells it, and whether its word has a class form
   pub classes : (n : ℕ) → IsScalar n → class_of s n ≡ class_by kind entries n
   pub class_forms : (n : ℕ) → IsScalar n → has_class_form s n ≡ has_class_word kind entries n

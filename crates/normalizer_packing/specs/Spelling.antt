@@ -1,5 +1,6 @@
 -- How the word of a character spells its list: the first line that fits decides.
-use Rattle.std.specs.Prelude.{ℕ, ◌+◌, ◌*◌, ◌<◌, ◌^◌, Bool, false, not, ◌&&◌, ◌==◌, nat_eq, nat_lt, nat_le, List, [], ◌∷◌, Option, Some, None, if◌then◌else◌}
+use Rattle.std.specs.Prelude.{ℕ, ◌+◌, ◌*◌, ◌<◌, ◌^◌, Bool, false, not, ◌&&◌, ◌==◌, nat_eq, nat_lt, nat_le, List, []}
+use Rattle.std.specs.Prelude.{◌∷◌, Option, Some, None, if◌then◌else◌}
 use Rattle.std.specs.Cmp.Lexicographic.{pointwise}
 use Rattle.normalizer_tables.specs.Conditions.{is_surrogate}
 use Rattle.normalizer_tables.specs.Hangul.{is_hangul_syllable}
@@ -35,7 +36,8 @@ has_fixed_list class n x = elim (fixed_list_of n) [
 -- characters, so its word isn't either.
 unfoldable pub spells_two : (ℕ → ℕ) → ℕ → ℕ → ℕ → Bool
 spells_two class n a b =
-    nat_lt a 0x8000 && (nat_lt b 0x8000 && (nat_lt 0 (class b) && (not (n == 0x212B) && (not (has_high_zeros (a + b * 0x8000)) && not (has_low_zeros (a + b * 0x8000))))))
+    nat_lt a 0x8000 && (nat_lt b 0x8000 && (nat_lt 0 (class b) && (not (n == 0x212B)
+    && (not (has_high_zeros (a + b * 0x8000)) && not (has_low_zeros (a + b * 0x8000))))))
 
 abbrev pub spelling_of_one : ℕ → Spelling
 spelling_of_one a = if nat_le a 0xFFFF && not (a == 1) then Short a else Listed

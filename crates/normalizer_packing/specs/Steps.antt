@@ -1,5 +1,6 @@
 -- The words of the supplement: one step of decomposition, where the word of canonical data doesn't tell it.
-use Rattle.std.specs.Prelude.{◌≡◌, ℕ, ◌+◌, ◌*◌, Bool, false, not, ◌&&◌, ◌==◌, nat_lt, nat_le, List, [], ◌∷◌, length, take, filter_map, Option, Some, None, if◌then◌else◌}
+use Rattle.std.specs.Prelude.{◌≡◌, ℕ, ◌+◌, ◌*◌, Bool, false, not, ◌&&◌, ◌==◌, nat_lt, nat_le, List, [], ◌∷◌, length}
+use Rattle.std.specs.Prelude.{take, filter_map, Option, Some, None, if◌then◌else◌}
 use Rattle.std.specs.Int.{is_in_range}
 use Rattle.normalizer_tables.specs.Data.{Supplement}
 use Rattle.normalizer_tables.specs.Words.{is_class_form}
@@ -53,7 +54,8 @@ word_of_place place = if nat_le (place + 2) step_limit then (place + 1) * 0x1000
 unfoldable pub word_of_step : List (List ℕ) → Option Mapping → ℕ
 word_of_step lists None = 0
 word_of_step lists (Some (One a)) = if nat_le a 0xFFFF then a else 0
-word_of_step lists (Some (Two a b)) = if are_narrow a b then a + b * 0x10000 else word_of_place (place_of lists (a ∷ b ∷ []))
+word_of_step lists (Some (Two a b)) =
+    if are_narrow a b then a + b * 0x10000 else word_of_place (place_of lists (a ∷ b ∷ []))
 
 -- the step that is asked of a number
 unfoldable pub step_in : List CharacterEntry → ℕ → Option Mapping

@@ -1,5 +1,6 @@
 -- Where lists that no word spells stand in the tables.
-use Rattle.std.specs.Prelude.{ℕ, ◌+◌, ◌-◌, ◌*◌, ◌<◌, ◌≤◌, Bool, true, false, not, ◌&&◌, nat_lt, nat_le, List, [], ◌∷◌, ◌++◌, length, drop, filter, if◌then◌else◌, Option, None, filter_map}
+use Rattle.std.specs.Prelude.{ℕ, ◌+◌, ◌-◌, ◌*◌, ◌<◌, ◌≤◌, Bool, true, false, not, ◌&&◌, nat_lt, nat_le, List, [], ◌∷◌}
+use Rattle.std.specs.Prelude.{◌++◌, length, drop, filter, if◌then◌else◌, Option, None, filter_map}
 use Rattle.std.specs.List.{before_first, concat, list_all, list_any}
 use Rattle.normalizer_tables.specs.Conditions.{item_count}
 use Rattle.normalizer_tables.specs.Data.{Lists}
@@ -15,7 +16,8 @@ is_narrow x = nat_le 2 (length x) && list_all (λ c. nat_le c 0xFFFF) x
 
 -- the list has a length that a word can tell
 unfoldable pub HasLengthOfWord : List ℕ → Type 0
-HasLengthOfWord x = elim (is_narrow x) as (λ _. Type 0) [ true ↦ length x ≤ 17 | false ↦ (0 < length x) × (length x ≤ 16) ]
+HasLengthOfWord x =
+    elim (is_narrow x) as (λ _. Type 0) [ true ↦ length x ≤ 17 | false ↦ (0 < length x) × (length x ≤ 16) ]
 
 -- the list of an entry, where its word doesn't spell it
 unfoldable pub listed_of : (ℕ → ℕ) → Kind → CharacterEntry → Option (List ℕ)
@@ -41,8 +43,8 @@ first_come (x ∷ lists) = x ∷ filter (λ y. not (list_eq y x)) (first_come li
 unfoldable pub apart_from : List (List ℕ) → List (List ℕ) → List (List ℕ)
 apart_from before lists = filter (λ x. not (is_among x before)) lists
 
--- the lists of canonical data, and those that only the other kinds need, of compatibility data first: in the order in which
--- characters first need them
+-- the lists of canonical data, and those that only the other kinds need, of compatibility data before the mapper's: in
+-- the order in which characters, as they rise, first need them
 unfoldable pub canonical_lists : List CharacterEntry → List (List ℕ)
 canonical_lists entries = first_come (listed_in entries Canonical)
 
@@ -68,7 +70,8 @@ place_of lists x = length (items_of (is_narrow x) (before_first (list_eq x) list
 
 -- how many items the tables have together
 abbrev pub needed_items : List CharacterEntry → ℕ
-needed_items entries = item_count (tables_of (canonical_lists entries)) + item_count (tables_of (supplementary_lists entries))
+needed_items entries =
+    item_count (tables_of (canonical_lists entries)) + item_count (tables_of (supplementary_lists entries))
 
 -- the item of a place of a list, where the two tables are put one after the other
 unfoldable pub item_at : Lists → List ℕ → ℕ → ℕ

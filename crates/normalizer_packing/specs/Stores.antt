@@ -7,7 +7,8 @@ use Rattle.normalizer_tables.specs.Characters.{items_at}
 use Rattle.normalizer_tables.specs.Data.{Lists}
 use Rattle.normalizer_packing.specs.declared.stored.Store.{Store}
 use Rattle.normalizer_packing.specs.Entries.{CharacterEntry}
-use Rattle.normalizer_packing.specs.Stored.{apart_from, canonical_lists, first_come, is_among, is_narrow, place_of, supplementary_lists, tables_of}
+use Rattle.normalizer_packing.specs.Stored.{apart_from, canonical_lists, first_come, is_among, is_narrow, place_of}
+use Rattle.normalizer_packing.specs.Stored.{supplementary_lists, tables_of}
 
 -- where a list stands in its table
 unfoldable pub place_in : Store → List ℕ → Option ℕ

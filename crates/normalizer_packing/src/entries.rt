@@ -60,8 +60,8 @@ impl<'a> Entries<'a> {
         }
     }
 
-    /// The list of a character in one kind of data, where `alone` is that of a character without an entry. Nothing where
-    /// the mapper ignores the character.
+    /// The list of a character in one kind of data, where `alone` is that of a character without an entry. Nothing
+    /// where the mapper ignores the character.
     #[tactic(auto, unfolding(crate::specs::Entries::list_in))]
     pub fn list_of<'b>(
         &'b self,

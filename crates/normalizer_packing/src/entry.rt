@@ -39,7 +39,14 @@ impl Model for Entry {
 
     ghost Value = { CharacterEntry };
 
-    ghost view = { λ e. record { character = e.character; class = e.class; canonical = e.canonical.items; compatibility = e.compatibility.items; mapper = option_map (λ x. x.items) e.mapper; mapping = e.mapping } };
+    ghost view = { λ e. record {
+      character = e.character;
+      class = e.class;
+      canonical = e.canonical.items;
+      compatibility = e.compatibility.items;
+      mapper = option_map (λ x. x.items) e.mapper;
+      mapping = e.mapping;
+    } };
 }
 
 impl Entry {

@@ -25,7 +25,8 @@ pub fn flagged(
 ) -> u32
     requires { word < 2 ^ 30 }
     ensures word { without_flags result ≡ word }
-    ensures flags { IsFlagged (composing_reading entries.now compositions.now) compositions.now character list.now result }
+    ensures flags { IsFlagged (composing_reading entries.now compositions.now)
+        compositions.now character list.now result }
 {
     let changes = !composes_to(entries, compositions, list, character);
     let combines = is_class_form(word) || !begins_unpaired(compositions, list);

@@ -1,4 +1,4 @@
-//! The laws of packed data. Their functions do nothing: the contract of each is the law, and its proof stands in `proofs/`.
+//! The laws of packed data. Each function does nothing: its contract is the law, and its proof stands in `proofs/`.
 ghost use Rattle.std.specs.Prelude.{◌≡◌, List};
 ghost use Rattle.normalizer_tables.specs.Pairs.{Pair};
 ghost use Rattle.normalizer_packing.specs.declared.Packed.{Packed};

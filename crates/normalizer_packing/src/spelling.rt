@@ -1,7 +1,9 @@
 //! How the word of a character spells its list.
 ghost use Rattle.std.specs.Prelude.{◌≡◌, option_copied};
 ghost use Rattle.normalizer_packing.specs.Entries.{class_in};
-ghost use Rattle.normalizer_packing.specs.Spelling.{HasRoomForFlags, final_word, has_fixed_list, have_classes, spelling, spelling_by_list, spelling_of_list, spelling_of_one, spelling_of_two};
+ghost use Rattle.normalizer_packing.specs.Spelling.{HasRoomForFlags, final_word, has_fixed_list, have_classes};
+ghost use Rattle.normalizer_packing.specs.Spelling.{spelling, spelling_by_list, spelling_of_list, spelling_of_one};
+ghost use Rattle.normalizer_packing.specs.Spelling.{spelling_of_two};
 ghost use Rattle.normalizer_tables.specs.Conditions.{is_surrogate};
 
 use crate::entries::Entries;

@@ -3,7 +3,8 @@ ghost use Rattle.std.specs.Prelude.{◌≡◌, true, false, [], ◌∷◌, Some,
 ghost use Rattle.normalizer_packing.specs.Entries.{class_in, entry_of};
 ghost use Rattle.normalizer_packing.specs.Stored.{first_come, is_among, place_of};
 ghost use Rattle.normalizer_packing.specs.Stores.{Holds};
-ghost use Rattle.normalizer_packing.specs.Steps.{are_narrow, asked_step, asks_supplement, step_in, step_lists, stored_step, stored_steps, word_of_place, word_of_step, PacksSteps};
+ghost use Rattle.normalizer_packing.specs.Steps.{are_narrow, asked_step, asks_supplement, step_in, step_lists};
+ghost use Rattle.normalizer_packing.specs.Steps.{stored_step, stored_steps, word_of_place, word_of_step, PacksSteps};
 
 use crate::entries::Entries;
 use crate::entry::{Entry, Mapping};
@@ -147,7 +148,8 @@ impl StepWords<'_, '_, '_> {
     #[tactic(auto, unfolding(crate::specs::Steps::word_of_step))]
     fn word_of_two(&self, first: char, second: char) -> u32
         requires ready { Holds (step_lists self.now.entries.now) self.now.store }
-        requires stored { are_narrow first second ≡ false → is_among (first ∷ second ∷ []) (step_lists self.now.entries.now) ≡ true }
+        requires stored { are_narrow first second ≡ false →
+            is_among (first ∷ second ∷ []) (step_lists self.now.entries.now) ≡ true }
         ensures { result ≡ word_of_step (step_lists self.now.entries.now) (Some (Mapping.Two first second)) }
     {
         if are_narrow(first, second) {

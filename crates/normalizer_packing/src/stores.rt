@@ -62,7 +62,8 @@ fn filled<'a>(alloc: Global, entries: &Entries<'a>) -> Result<Stores<'a>, AllocE
 
 /// Whether words can point to all items.
 fn is_within(stores: &Stores<'_>) -> bool
-    ensures { IsTrue result ↔ (item_count (tables_in stores.now.canonical) + item_count (tables_in stores.now.supplementary) ≤ item_limit) }
+    ensures { IsTrue result ↔
+        (item_count (tables_in stores.now.canonical) + item_count (tables_in stores.now.supplementary) ≤ item_limit) }
 {
     let first = stores.canonical.len();
     first <= ITEM_LIMIT && stores.supplementary.len() <= ITEM_LIMIT - first

@@ -1,5 +1,6 @@
 -- The lengths of chains, round by round.
-use Rattle.std.proofs.Common.{◌≡◌, ℕ, suc, ◌+◌, ◌<◌, ◌≤◌, ◌⊎◌, ◌==◌, true, false, List, [], ◌∷◌, ◌++◌, length, get_or, set, take, drop, refl, Some, is_some, inl, inr, sym, ap, subst, ◌∙◌, arith, Contains, find, if◌then◌else◌}
+use Rattle.std.proofs.Common.{◌≡◌, ℕ, suc, ◌+◌, ◌<◌, ◌≤◌, ◌⊎◌, ◌==◌, true, false, List, [], ◌∷◌, ◌++◌, length, get_or, set, take, drop, refl, Some, is_some, inl, inr, sym, ap, subst, ◌∙◌, arith}
+use Rattle.std.proofs.Common.{Contains, find, if◌then◌else◌}
 use Rattle.std.specs.Option.{option_map_or}
 use Rattle.std.proofs.lemmas.Bool.{cases_eq, cases_order}
 use Rattle.std.proofs.lemmas.Bool.Decides.{nat_tests}
@@ -36,7 +37,8 @@ IsRaised-same P Q old x y to from h = record {
 }
 
 -- raised twice
-pub IsRaised-both : (P Q R : ℕ → ℕ → Type 0) (old x y z : List ℕ) → ((k l : ℕ) → R k l → P k l ⊎ Q k l) → ((k l : ℕ) → P k l → R k l) → ((k l : ℕ) → Q k l → R k l) → IsRaised P old x y → IsRaised Q old y z → IsRaised R old x z
+pub IsRaised-both : (P Q R : ℕ → ℕ → Type 0) (old x y z : List ℕ) → ((k l : ℕ) → R k l → P k l ⊎ Q k l) → ((k l : ℕ) → P k l → R k l) → ((k l : ℕ) → Q k l → R k l) → IsRaised P old x y →
+    IsRaised Q old y z → IsRaised R old x z
 IsRaised-both P Q R old x y z apart first second h j = record {
   as_long = j.as_long ∙ h.as_long;
   keeps = λ k. let one = h.keeps k in let two = j.keeps k in omega arith;
@@ -61,10 +63,12 @@ module _ (old x : List ℕ) (place next longer : ℕ) (within : place < length x
   IsRaised-one below = record {
     as_long = length-set x place longer;
     keeps = λ k. elim (cases_eq k place) as (λ _. get_or x k 0 ≤ get_or (set x place longer) k 0) [
-      | inl same ↦ let now : get_or (set x place longer) k 0 ≡ longer = ap (λ m. get_or (set x place longer) m 0) same ∙ get_or-set_same x place longer 0 within in let was = ap (λ m. get_or x m 0) same in omega arith
+      | inl same ↦ let now : get_or (set x place longer) k 0 ≡ longer = ap (λ m. get_or (set x place longer) m 0) same ∙ get_or-set_same x place longer 0 within in let was =
+          ap (λ m. get_or x m 0) same in omega arith
       | inr other ↦ let now = get_or-set_other x place k longer 0 other in omega arith
     ];
-    reached = λ k l p. let now : get_or (set x place longer) k 0 ≡ longer = ap (λ m. get_or (set x place longer) m 0) p.0 ∙ get_or-set_same x place longer 0 within in let at = ap (λ m. get_or old m 0) p.1 in omega arith;
+    reached = λ k l p. let now : get_or (set x place longer) k 0 ≡ longer = ap (λ m. get_or (set x place longer) m 0) p.0 ∙ get_or-set_same x place longer 0 within in let at =
+        ap (λ m. get_or old m 0) p.1 in omega arith;
     attained = λ k. elim (cases_eq k place) as (λ _. (get_or (set x place longer) k 0 ≡ get_or x k 0) ⊎ ((l : ℕ) × One k l × (get_or (set x place longer) k 0 ≡ get_or old l 0 + 1))) [
       | inl same ↦ inr (next, (same, refl), ap (λ m. get_or (set x place longer) m 0) same ∙ get_or-set_same x place longer 0 within ∙ is)
       | inr other ↦ inl (get_or-set_other x place k longer 0 other)
@@ -104,10 +108,11 @@ module _ (records : List Entry) (rising : AreRising records) where
 -- what a look-up finds has a place
 pub find_place : {X : Type 0} (key : X → ℕ) → (xs : List X) (c : ℕ) → is_some (find (λ r. key r == c) xs) ≡ true → (k : ℕ) × (k < length xs) × ((d : X) → key (get_or xs k d) ≡ c)
 find_place key [] c h = absurd cc
-find_place {X} key (x ∷ xs) c h = elim (key x == c) as (λ b. (key x == c) ≡ b → is_some (if b then Some x else find (λ r. key r == c) xs) ≡ true → (k : ℕ) × (k < length (x ∷ xs)) × ((d : X) → key (get_or (x ∷ xs) k d) ≡ c)) [
-  | true ↦ λ same found. (0, omega arith, λ d. grind (arith, nat_tests))
-  | false ↦ λ other found. let further = find_place key xs c found in let inside = further.1 in (suc further.0, omega arith, λ d. further.2 d)
-] refl h
+find_place {X} key (x ∷ xs) c h =
+    elim (key x == c) as (λ b. (key x == c) ≡ b → is_some (if b then Some x else find (λ r. key r == c) xs) ≡ true → (k : ℕ) × (k < length (x ∷ xs)) × ((d : X) → key (get_or (x ∷ xs) k d) ≡ c)) [
+      | true ↦ λ same found. (0, omega arith, λ d. grind (arith, nat_tests))
+      | false ↦ λ other found. let further = find_place key xs c found in let inside = further.1 in (suc further.0, omega arith, λ d. further.2 d)
+    ] refl h
 
 pub place_of_recorded : (records : List Entry) (c : ℕ) → IsRecorded records c → (k : ℕ) × (k < length records) × (character_at records k ≡ c)
 unfolding entry_of
@@ -156,10 +161,11 @@ module _ (records : List Entry) (direction : Direction) (place : ℕ) where
 
     pub linked_more : (k l : ℕ) → IsLinkedByAny records direction place (take (i + 1) xs) k l → IsLinkedByAny records direction place (take i xs) k l ⊎ IsLinked records direction place m k l
     unfolding IsLinkedByAny
-    linked_more k l h = elim (Contains-push_cases (take i xs) m h.0 (subst (λ (y : List ℕ). Contains y h.0) grown h.1)) as (λ _. IsLinkedByAny records direction place (take i xs) k l ⊎ IsLinked records direction place m k l) [
-      | inl before ↦ inl (h.0, before, h.2)
-      | inr last ↦ inr (subst (λ (y : ℕ). IsLinked records direction place y k l) (sym last) h.2)
-    ]
+    linked_more k l h = elim (Contains-push_cases (take i xs) m h.0 (subst (λ (y : List ℕ). Contains y h.0) grown h.1)) as
+        (λ _. IsLinkedByAny records direction place (take i xs) k l ⊎ IsLinked records direction place m k l) [
+          | inl before ↦ inl (h.0, before, h.2)
+          | inr last ↦ inr (subst (λ (y : ℕ). IsLinked records direction place y k l) (sym last) h.2)
+        ]
 
     pub linked_before : (k l : ℕ) → IsLinkedByAny records direction place (take i xs) k l → IsLinkedByAny records direction place (take (i + 1) xs) k l
     unfolding IsLinkedByAny

@@ -1,5 +1,6 @@
 -- What is asked of a list may be asked of what stands for it.
-use Rattle.std.proofs.Common.{◌≡◌, ℕ, zero, suc, ◌==◌, ◌<◌, ◌≤◌, ◌⊎◌, ◌↔◌, Bool, true, false, nat_lt, ◌&&◌, List, [], ◌∷◌, length, take, refl, Option, Some, None, IfSome, inl, inr, sym, ap, subst, ◌∙◌, arith, if◌then◌else◌}
+use Rattle.std.proofs.Common.{◌≡◌, ℕ, zero, suc, ◌==◌, ◌<◌, ◌≤◌, ◌⊎◌, ◌↔◌, Bool, true, false, nat_lt, ◌&&◌, List, [], ◌∷◌, length, take, refl, Option, Some, None, IfSome, inl, inr, sym, ap, subst}
+use Rattle.std.proofs.Common.{◌∙◌, arith, if◌then◌else◌}
 use Rattle.std.proofs.lemmas.Bool.Decides.{nat_tests}
 use Rattle.std.proofs.lemmas.List.{take_all, length-take}
 use Rattle.normal_forms.specs.Reading.{Reading}
@@ -15,10 +16,12 @@ module _ (records : List Entry) where
   begins-insert : (c : ℕ) (y : List ℕ) → begins_with_mark records (insert (recorded_classes records) c y) ≡ nat_lt 0 (class_of records c)
   unfolding insert is_reorderable
   begins-insert c [] = refl
-  begins-insert c (e ∷ v) = elim (nat_lt 0 (class_of records e) && nat_lt (class_of records e) (class_of records c)) as (λ b. (nat_lt 0 (class_of records e) && nat_lt (class_of records e) (class_of records c)) ≡ b → begins_with_mark records (if b then e ∷ insert (recorded_classes records) c v else c ∷ e ∷ v) ≡ nat_lt 0 (class_of records c)) [
-    | true ↦ λ passes. grind (arith, nat_tests)
-    | false ↦ λ stays. refl
-  ] refl
+  begins-insert c (e ∷ v) =
+      elim (nat_lt 0 (class_of records e) && nat_lt (class_of records e) (class_of records c)) as (λ b. (nat_lt 0 (class_of records e) && nat_lt (class_of records e) (class_of records c)) ≡ b →
+      begins_with_mark records (if b then e ∷ insert (recorded_classes records) c v else c ∷ e ∷ v) ≡ nat_lt 0 (class_of records c)) [
+        | true ↦ λ passes. grind (arith, nat_tests)
+        | false ↦ λ stays. refl
+      ] refl
 
   -- a list put in order begins with a mark exactly where it did
   pub begins-order : (x : List ℕ) → begins_with_mark records (order (recorded_classes records) x) ≡ begins_with_mark records x

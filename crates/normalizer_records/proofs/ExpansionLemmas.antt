@@ -1,5 +1,6 @@
 -- Expansions, as far as there is room.
-use Rattle.std.proofs.Common.{◌≡◌, ◌≢◌, ℕ, zero, suc, ◌+◌, ◌-◌, ◌/◌, ◌%◌, ◌<◌, ◌≤◌, true, false, List, [], ◌∷◌, ◌++◌, length, get_or, take, drop, refl, Some, sym, ap, ◌∙◌, arith, if◌then◌else◌, ◌==◌, slice_get, flat_map}
+use Rattle.std.proofs.Common.{◌≡◌, ◌≢◌, ℕ, zero, suc, ◌+◌, ◌-◌, ◌/◌, ◌%◌, ◌<◌, ◌≤◌, true, false, List, [], ◌∷◌, ◌++◌, length, get_or, take, drop, refl, Some, sym, ap, ◌∙◌, arith, if◌then◌else◌, ◌==◌}
+use Rattle.std.proofs.Common.{slice_get, flat_map}
 use Rattle.std.proofs.Math.Utf8.{low_scalar}
 use Rattle.std.proofs.lemmas.Bool.Decides.{nat_tests}
 use Rattle.std.proofs.lemmas.Grind.{flat_map-append}
@@ -29,7 +30,9 @@ unfolding hangul_decomposition
 as_text-jamo c h =
     let range = syllable-range c h in
     let index = c - s_base in
-    elim (index % t_count == 0) as (λ b. as_text (if b then (l_base + index / n_count) ∷ (v_base + index % n_count / t_count) ∷ [] else (l_base + index / n_count) ∷ (v_base + index % n_count / t_count) ∷ (t_base + index % t_count) ∷ []) ≡ Some (if b then (l_base + index / n_count) ∷ (v_base + index % n_count / t_count) ∷ [] else (l_base + index / n_count) ∷ (v_base + index % n_count / t_count) ∷ (t_base + index % t_count) ∷ [])) [
+    elim (index % t_count == 0) as (λ b. as_text (if b then (l_base + index / n_count) ∷ (v_base + index % n_count / t_count) ∷ [] else (l_base + index / n_count) ∷
+    (v_base + index % n_count / t_count) ∷ (t_base + index % t_count) ∷ []) ≡ Some (if b then (l_base + index / n_count) ∷ (v_base + index % n_count / t_count) ∷ [] else (l_base + index / n_count)
+    ∷ (v_base + index % n_count / t_count) ∷ (t_base + index % t_count) ∷ [])) [
       | true ↦ two_jamo (l_base + index / n_count) (v_base + index % n_count / t_count) (omega arith) (omega arith)
       | false ↦ three_jamo (l_base + index / n_count) (v_base + index % n_count / t_count) (t_base + index % t_count) (omega arith) (omega arith) (omega arith)
     ]
@@ -57,7 +60,8 @@ take-room n x y c room e =
 
 module _ (f : ℕ → List ℕ) (room : ℕ) (start xs : List ℕ) where
   -- one member more
-  pub flat_map-cut_more : (before after : List ℕ) (i m : ℕ) → slice_get xs i ≡ Some m → before ≡ take room (start ++ flat_map f (take i xs)) → after ≡ take room (before ++ f m) → after ≡ take room (start ++ flat_map f (take (i + 1) xs))
+  pub flat_map-cut_more : (before after : List ℕ) (i m : ℕ) → slice_get xs i ≡ Some m → before ≡ take room (start ++ flat_map f (take i xs)) → after ≡ take room (before ++ f m) →
+      after ≡ take room (start ++ flat_map f (take (i + 1) xs))
   flat_map-cut_more before after i m at was now =
       let within : i < length xs = slice_get_within xs i m at in
       let here : get_or xs i 0 ≡ m = get_or_from_slice_get xs i m 0 at in
@@ -103,11 +107,13 @@ module _ (records : List Entry) (mappings : Mappings) where
   unfolding expansion
   expansion-replaced n c h = replace_by-some (expansion records mappings n) (replacement records mappings c) c h
 
-  pub expansion-deeper : (depth n c : ℕ) → depth ≡ n + 1 → replacement records mappings c ≢ [] → expansion records mappings depth c ≡ flat_map (expansion records mappings n) (replacement records mappings c)
+  pub expansion-deeper : (depth n c : ℕ) → depth ≡ n + 1 → replacement records mappings c ≢ [] →
+      expansion records mappings depth c ≡ flat_map (expansion records mappings n) (replacement records mappings c)
   expansion-deeper depth n c e h = let more : depth ≡ suc n = omega arith in ap (λ d. expansion records mappings d c) more ∙ expansion-replaced n c h
 
   -- what the lists of the members give, as far as there is room, is what the expansion gives
-  pub expansion-by_members : (depth c room : ℕ) (start members out : List ℕ) → 0 < depth → members ≡ replacement records mappings c → members ≢ [] → out ≡ take room (start ++ flat_map (expansion records mappings (depth - 1)) members) → out ≡ take room (start ++ expansion records mappings depth c)
+  pub expansion-by_members : (depth c room : ℕ) (start members out : List ℕ) → 0 < depth → members ≡ replacement records mappings c → members ≢ [] →
+      out ≡ take room (start ++ flat_map (expansion records mappings (depth - 1)) members) → out ≡ take room (start ++ expansion records mappings depth c)
   expansion-by_members depth c room start members out deep are some is =
       let e = expansion-deeper depth (depth - 1) c (omega arith) (λ none. some (are ∙ none)) in
       is ∙ ap (λ (m : List ℕ). take room (start ++ flat_map (expansion records mappings (depth - 1)) m)) are ∙ ap (λ (y : List ℕ). take room (start ++ y)) (sym e)

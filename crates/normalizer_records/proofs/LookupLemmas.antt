@@ -1,5 +1,6 @@
 -- Look-ups in a list that rises.
-use Rattle.std.proofs.Common.{◌≡◌, ◌≢◌, ℕ, zero, suc, ◌+◌, ◌-◌, ◌<◌, ◌≤◌, ◌==◌, ◌↔◌, nat_lt, Bool, true, false, List, [], ◌∷◌, length, get_or, refl, Some, None, All, AllPairs, find, inl, inr, subst, sym, ap, ◌∙◌, arith, IsTrue}
+use Rattle.std.proofs.Common.{◌≡◌, ◌≢◌, ℕ, zero, suc, ◌+◌, ◌-◌, ◌<◌, ◌≤◌, ◌==◌, ◌↔◌, nat_lt, Bool, true, false, List, [], ◌∷◌, length, get_or, refl, Some, None, All, AllPairs, find, inl, inr, subst}
+use Rattle.std.proofs.Common.{sym, ap, ◌∙◌, arith, IsTrue}
 use Rattle.std.proofs.lemmas.Bool.{cases_order}
 use Rattle.std.proofs.lemmas.Bool.Decides.{nat_tests}
 use Rattle.std.proofs.lemmas.List.Elements.{All-head, All-tail, All-from_get_or}
@@ -52,7 +53,8 @@ module _ {X : Type 0} (key : X → ℕ) (xs : List X) (adjacent : AllAdjacentBel
   rising_by i zero d within = let lt : true ≡ nat_lt (key (get_or xs i d)) (key (get_or xs (i + 1) d)) = adjacent i d (omega arith) in grind (arith, nat_tests)
   rising_by i (suc k) d within =
       let next : i + suc k + 1 ≡ i + suc (suc k) = omega arith in
-      let last : true ≡ nat_lt (key (get_or xs (i + suc k) d)) (key (get_or xs (i + suc (suc k)) d)) = subst (λ (m : ℕ). true ≡ nat_lt (key (get_or xs (i + suc k) d)) (key (get_or xs m d))) next (adjacent (i + suc k) d (omega arith)) in
+      let last : true ≡ nat_lt (key (get_or xs (i + suc k) d)) (key (get_or xs (i + suc (suc k)) d)) =
+      subst (λ (m : ℕ). true ≡ nat_lt (key (get_or xs (i + suc k) d)) (key (get_or xs m d))) next (adjacent (i + suc k) d (omega arith)) in
       let before = rising_by i k d (omega arith) in
       grind (arith, nat_tests)
 

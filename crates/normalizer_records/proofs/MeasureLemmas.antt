@@ -50,7 +50,8 @@ module _ (records : List Entry) (direction : Direction) where
     unfolding Attains
     attained_alone k inside one = ([], IsWalk-one (character_at records k) (IsRecorded-at records rising k inside), sym one)
 
-    attained_by : (m k l : ℕ) → n ≡ m → k < length records → l < length records → Follows records direction (character_at records k) (character_at records l) → get_or new k 0 ≡ get_or old l 0 + 1 → Attains k
+    attained_by : (m k l : ℕ) → n ≡ m → k < length records → l < length records → Follows records direction (character_at records k) (character_at records l) → get_or new k 0 ≡ get_or old l 0 + 1 →
+        Attains k
     unfolding Attains
     attained_by zero k l none inside there follows e = let nothing = h.within l there in attained_alone k inside (omega arith)
     attained_by (suc m) k l some inside there follows e =

@@ -1,5 +1,6 @@
 -- Tests of several things.
-use Rattle.std.proofs.Common.{◌≡◌, ℕ, ◌+◌, ◌<◌, ◌⊎◌, ◌↔◌, ◌||◌, ◌==◌, Bool, true, false, List, [], ◌∷◌, ◌++◌, length, get_or, take, refl, IsTrue, inl, inr, sym, ap, subst, ◌∙◌, arith, Option, Some, None, IsSomeAnd, Contains}
+use Rattle.std.proofs.Common.{◌≡◌, ℕ, ◌+◌, ◌<◌, ◌⊎◌, ◌↔◌, ◌||◌, ◌==◌, Bool, true, false, List, [], ◌∷◌, ◌++◌, length, get_or, take, refl, IsTrue, inl, inr, sym, ap, subst, ◌∙◌, arith, Option, Some}
+use Rattle.std.proofs.Common.{None, IsSomeAnd, Contains}
 use Rattle.std.proofs.lemmas.Bool.{true≢false}
 use Rattle.std.proofs.lemmas.Bool.Decides.{nat_tests}
 use Rattle.std.proofs.lemmas.List.{take_more}
@@ -23,7 +24,8 @@ pub eqb_decides : (m n : ℕ) → IsTrue (m == n) ↔ (m ≡ n)
 eqb_decides m n = (λ h. grind (arith, nat_tests), λ e. grind (arith, nat_tests))
 
 -- the mapper's list may be asked through what stands for it
-pub MayStandFor-some : (records : List Entry) (P : List ℕ → Type 0) → ((list cut : List ℕ) → StandsFor records list cut → P cut ↔ P list) → (o p : Option (List ℕ)) → MayStandFor records o p → IsSomeAnd p P ↔ IsSomeAnd o P
+pub MayStandFor-some : (records : List Entry) (P : List ℕ → Type 0) → ((list cut : List ℕ) → StandsFor records list cut → P cut ↔ P list) → (o p : Option (List ℕ)) → MayStandFor records o p →
+    IsSomeAnd p P ↔ IsSomeAnd o P
 MayStandFor-some records P same None None h = (λ x. x, λ x. x)
 MayStandFor-some records P same None (Some cut) h = absurd h
 MayStandFor-some records P same (Some list) None h = absurd h

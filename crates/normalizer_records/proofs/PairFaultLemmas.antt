@@ -1,5 +1,6 @@
 -- Two records give the same pair exactly where the sorted pairs don't strictly rise.
-use Rattle.std.proofs.Common.{◌≡◌, ℕ, zero, suc, ◌+◌, ◌<◌, ◌≤◌, ◌↔◌, ◌==◌, ◌&&◌, not, Bool, true, false, List, [], ◌∷◌, ◌++◌, length, take, get_or, refl, sym, ap, ap₂, subst, ◌∙◌, inl, inr, cond, Less, Equal, nat_cmp, is_lt, IsPermutation, IsSorted, IsTrue, count_by, zero-add, arith}
+use Rattle.std.proofs.Common.{◌≡◌, ℕ, zero, suc, ◌+◌, ◌<◌, ◌≤◌, ◌↔◌, ◌==◌, ◌&&◌, not, Bool, true, false, List, [], ◌∷◌, ◌++◌, length, take, get_or, refl, sym, ap, ap₂, subst, ◌∙◌, inl, inr, cond}
+use Rattle.std.proofs.Common.{Less, Equal, nat_cmp, is_lt, IsPermutation, IsSorted, IsTrue, count_by, zero-add, arith}
 use Rattle.std.proofs.lemmas.Bool.{cases_order, true≢false}
 use Rattle.std.proofs.lemmas.Bool.Decides.{nat_tests}
 use Rattle.std.proofs.lemmas.List.{get_or_default, take_more}
@@ -77,7 +78,9 @@ other p q first second before same = grind (arith, nat_tests)
 rising_once : (first second : ℕ) (ps : List Pair) → AreRising ps → count_by (same_as first second) ps ≤ 1
 rising_once first second [] h = omega arith
 rising_once first second (p ∷ ps) h = elim (same_as first second p) as (λ b. same_as first second p ≡ b → count_by (same_as first second) (p ∷ ps) ≤ 1) [
-  | true ↦ λ same. let none = counts_none (same_as first second) ps (λ j d within. other p (get_or ps j d) first second (h 0 (suc j) d (omega arith) (omega arith)) same) in omega (arith, counts (same_as first second) p ps same)
+  | true ↦ λ same. let none =
+      counts_none (same_as first second) ps (λ j d within. other p (get_or ps j d) first second (h 0 (suc j) d (omega arith) (omega arith)) same) in
+      omega (arith, counts (same_as first second) p ps same)
   | false ↦ λ apart. let later = rising_once first second ps (rising_tail p ps h) in let same = counts_not (same_as first second) p ps apart in omega arith
 ] refl
 
@@ -115,13 +118,14 @@ module _ (records : List Entry) (ps : List Pair) (moved : IsPermutation (pairs_o
     rising_unless none = AreRising_from_adjacent ps (λ k d within. steps k d (omega arith))
       where
         steps : (k : ℕ) (d : Pair) → k + 1 < length ps → true ≡ is_before (get_or ps k d) (get_or ps (k + 1) d).0 (get_or ps (k + 1) d).1
-        steps k d within = elim (is_before (get_or ps k any_pair) (get_or ps (k + 1) any_pair).0 (get_or ps (k + 1) any_pair).1) as (λ b. is_before (get_or ps k any_pair) (get_or ps (k + 1) any_pair).0 (get_or ps (k + 1) any_pair).1 ≡ b → true ≡ is_before (get_or ps k d) (get_or ps (k + 1) d).0 (get_or ps (k + 1) d).1) [
-          | true ↦ λ goes.
-              let e = get_or_default ps k any_pair d (omega arith) in
-              let f = get_or_default ps (k + 1) any_pair d within in
-              sym goes ∙ ap₂ (λ (p q : Pair). is_before p q.0 q.1) e f
-          | false ↦ λ stays. absurd (none (neighbours k within stays))
-        ] refl
+        steps k d within = elim (is_before (get_or ps k any_pair) (get_or ps (k + 1) any_pair).0 (get_or ps (k + 1) any_pair).1) as (λ b. is_before (get_or ps k any_pair)
+            (get_or ps (k + 1) any_pair).0 (get_or ps (k + 1) any_pair).1 ≡ b → true ≡ is_before (get_or ps k d) (get_or ps (k + 1) d).0 (get_or ps (k + 1) d).1) [
+              | true ↦ λ goes.
+                  let e = get_or_default ps k any_pair d (omega arith) in
+                  let f = get_or_default ps (k + 1) any_pair d within in
+                  sym goes ∙ ap₂ (λ (p q : Pair). is_before p q.0 q.1) e f
+              | false ↦ λ stays. absurd (none (neighbours k within stays))
+            ] refl
 
     pub decides : (b : Bool) → IsTrue b ↔ AreRising ps → (b ≡ false → FallsSomewhere ps) → IsTrue (not b) ↔ HasPairFault records
     decides true h falls = (λ passes. absurd (true≢false (sym passes)), λ fault. absurd (HasPairFault-not_rising fault (h.0 refl)))
@@ -133,7 +137,8 @@ falls_from_answer ps true h fails = absurd (true≢false fails)
 falls_from_answer ps false h fails = (h.0, h.1, λ d. sym (h.2 d))
 
 -- the pairs of one record more
-pub pairs_of-more : (records : List Entry) (i : ℕ) (r : Entry) (before after : List Pair) → i < length records → r ≡ get_or records i r → before ≡ pairs_of (take i records) → after ≡ before ++ cons_option (pair_of_record r) [] → after ≡ pairs_of (take (i + 1) records)
+pub pairs_of-more : (records : List Entry) (i : ℕ) (r : Entry) (before after : List Pair) → i < length records → r ≡ get_or records i r → before ≡ pairs_of (take i records) →
+    after ≡ before ++ cons_option (pair_of_record r) [] → after ≡ pairs_of (take (i + 1) records)
 unfolding pairs_of
 pairs_of-more records i r before after within here was now =
     now ∙ ap (λ y. y ++ cons_option (pair_of_record r) []) was ∙ sym (filter_map-append pair_of_record (take i records) (r ∷ []))

@@ -1,5 +1,6 @@
 -- The first refusal, one after another.
-use Rattle.std.proofs.Common.{◌≡◌, ℕ, zero, suc, ◌+◌, ◌<◌, ◌↔◌, Bool, true, false, ◌||◌, ◌==◌, List, [], ◌∷◌, length, get_or, refl, Option, Some, None, IsTrue, if◌then◌else◌, inl, inr, sym, ap, subst, ◌∙◌, arith, nat_lt}
+use Rattle.std.proofs.Common.{◌≡◌, ℕ, zero, suc, ◌+◌, ◌<◌, ◌↔◌, Bool, true, false, ◌||◌, ◌==◌, List, [], ◌∷◌, length, get_or, refl, Option, Some, None, IsTrue, if◌then◌else◌, inl, inr, sym, ap, subst}
+use Rattle.std.proofs.Common.{◌∙◌, arith, nat_lt}
 use Rattle.std.specs.List.{list_any}
 use Rattle.std.proofs.lemmas.Bool.{true≢false, cases_eq}
 use Rattle.std.proofs.lemmas.Bool.Decides.{nat_tests}
@@ -8,7 +9,8 @@ use Rattle.normalizer_records.specs.declared.refusal.Refusal.{Refusal}
 use Rattle.normalizer_records.specs.declared.refusal.Refusal.TheVariants.{Order, Fixed, Class, Mapping, Chain, Length, Pair}
 use Rattle.normalizer_records.specs.Entry.{Entry, MapperEntry}
 use Rattle.normalizer_records.specs.ChainLengths.{Measures, chain_rounds}
-use Rattle.normalizer_records.specs.Faults.{HasFault, has_fixed_fault, has_mapping_fault, HasClassFault, HasLengthFault, HasPairFault, first_among, rank_of, IsFirstRefusal, HasOrderFault, HasChainFault, AreRising, AreMapperRising}
+use Rattle.normalizer_records.specs.Faults.{HasFault, has_fixed_fault, has_mapping_fault, HasClassFault, HasLengthFault, HasPairFault, first_among, rank_of, IsFirstRefusal, HasOrderFault}
+use Rattle.normalizer_records.specs.Faults.{HasChainFault, AreRising, AreMapperRising}
 use Rattle.normalizer_records.proofs.WalkLemmas.{HasChainFault-from_length, length_from_HasChainFault}
 
 -- a number above 16 somewhere
@@ -32,7 +34,14 @@ module _ (records : List Entry) (down : List ℕ) (downs : Measures records Down
   any-HasChainFault h = let at = length_from_HasChainFault records down downs h in let inside = at.1 in let long = downs.as_long in place_any down at.0 (omega arith) at.2
 
 refusal_at : ℕ → Refusal
-refusal_at n = elim (n == 1) [ true ↦ Order | false ↦ elim (n == 2) [ true ↦ Fixed | false ↦ elim (n == 3) [ true ↦ Class | false ↦ elim (n == 4) [ true ↦ Mapping | false ↦ elim (n == 5) [ true ↦ Chain | false ↦ elim (n == 6) [ true ↦ Length | false ↦ Pair ] ] ] ] ] ]
+refusal_at n = elim (n == 1) [
+  | true ↦ Order
+  | false ↦ elim (n == 2) [
+    | true ↦ Fixed
+    | false ↦ elim (n == 3)
+        [ true ↦ Class | false ↦ elim (n == 4) [ true ↦ Mapping | false ↦ elim (n == 5) [ true ↦ Chain | false ↦ elim (n == 6) [ true ↦ Length | false ↦ Pair ] ] ] ]
+  ]
+]
 
 refusal_at-rank : (r : Refusal) → refusal_at (rank_of r) ≡ r
 unfolding refusal_at
@@ -105,14 +114,20 @@ module _ (records : List Entry) (uts46 : List MapperEntry) where
     none3 = none_more Fixed none2 no_fixed
 
     -- one test after another
-    test : (r : Refusal) (b : Bool) (rest : Option Refusal) → IsTrue b ↔ HasFault records uts46 r → NoneBelow (rank_of r) → (NoneBelow (rank_of r + 1) → IsFirstRefusal records uts46 rest) → IsFirstRefusal records uts46 (if b then Some r else rest)
+    test : (r : Refusal) (b : Bool) (rest : Option Refusal) → IsTrue b ↔ HasFault records uts46 r → NoneBelow (rank_of r) → (NoneBelow (rank_of r + 1) → IsFirstRefusal records uts46 rest) →
+        IsFirstRefusal records uts46 (if b then Some r else rest)
     test r true rest h below further = first_is r below (h.0 refl)
     test r false rest h below further = further (none_more r below (λ fault. true≢false (sym (h.1 fault))))
 
-    pub first_among-is : (class mapping chain long pair : Bool) → IsTrue class ↔ HasClassFault records uts46 → mapping ≡ has_mapping_fault records uts46 → IsTrue chain ↔ HasChainFault records → IsTrue long ↔ HasLengthFault records uts46 → IsTrue pair ↔ HasPairFault records → IsFirstRefusal records uts46 (first_among class mapping chain long pair)
+    pub first_among-is : (class mapping chain long pair : Bool) → IsTrue class ↔ HasClassFault records uts46 → mapping ≡ has_mapping_fault records uts46 → IsTrue chain ↔ HasChainFault records →
+        IsTrue long ↔ HasLengthFault records uts46 → IsTrue pair ↔ HasPairFault records → IsFirstRefusal records uts46 (first_among class mapping chain long pair)
     unfolding HasFault
     first_among-is class mapping chain long pair a b c d e =
-        test Class class _ a none3 (λ below. test Mapping mapping _ (λ h. sym b ∙ h, λ h. b ∙ h) below (λ below. test Chain chain _ c below (λ below. test Length long _ d below (λ below. test Pair pair _ e below none_is))))
+        test Class class _ a none3 (λ below. test Mapping mapping _ (
+          λ h. sym b ∙ h,
+          λ h. b
+              ∙ h,
+        ) below (λ below. test Chain chain _ c below (λ below. test Length long _ d below (λ below. test Pair pair _ e below none_is))))
 
   pub order_first : HasOrderFault records uts46 → IsFirstRefusal records uts46 (Some Order)
   unfolding HasFault

@@ -1,5 +1,6 @@
 -- What the expansion gives is what comes of replacing until nothing changes.
-use Rattle.std.proofs.Common.{◌≡◌, ◌≢◌, ℕ, zero, suc, ◌+◌, ◌-◌, ◌/◌, ◌%◌, ◌≤◌, ◌↔◌, ◌==◌, Bool, true, false, List, [], ◌∷◌, ◌++◌, length, refl, Option, Some, None, is_some, sym, ap, ap₂, subst, ◌∙◌, arith, inl, inr, ◌⊎◌, Contains, append_assoc, length-append, if◌then◌else◌, flat_map}
+use Rattle.std.proofs.Common.{◌≡◌, ◌≢◌, ℕ, zero, suc, ◌+◌, ◌-◌, ◌/◌, ◌%◌, ◌≤◌, ◌↔◌, ◌==◌, Bool, true, false, List, [], ◌∷◌, ◌++◌, length, refl, Option, Some, None, is_some, sym, ap, ap₂, subst, ◌∙◌}
+use Rattle.std.proofs.Common.{arith, inl, inr, ◌⊎◌, Contains, append_assoc, length-append, if◌then◌else◌, flat_map}
 use Rattle.std.specs.Option.{option_map_or}
 use Rattle.std.proofs.lemmas.Bool.{cases_lt}
 use Rattle.std.proofs.lemmas.Grind.{flat_map-append}
@@ -43,9 +44,11 @@ unfolding hangul_decomposition
 jamo_of_syllable c x h =
     let range = syllable-range c h in
     let index = c - s_base in
-    elim (index % t_count == 0) as (λ b. Contains (if b then (l_base + index / n_count) ∷ (v_base + index % n_count / t_count) ∷ [] else (l_base + index / n_count) ∷ (v_base + index % n_count / t_count) ∷ (t_base + index % t_count) ∷ []) x → (0x1100 ≤ x) × (x ≤ 0x11FF)) [
+    elim (index % t_count == 0) as (λ b. Contains (if b then (l_base + index / n_count) ∷ (v_base + index % n_count / t_count) ∷ [] else (l_base + index / n_count) ∷
+    (v_base + index % n_count / t_count) ∷ (t_base + index % t_count) ∷ []) x → (0x1100 ≤ x) × (x ≤ 0x11FF)) [
       | true ↦ two_members (λ y. (0x1100 ≤ y) × (y ≤ 0x11FF)) (l_base + index / n_count) (v_base + index % n_count / t_count) x (omega arith, omega arith) (omega arith, omega arith)
-      | false ↦ three_members (λ y. (0x1100 ≤ y) × (y ≤ 0x11FF)) (l_base + index / n_count) (v_base + index % n_count / t_count) (t_base + index % t_count) x (omega arith, omega arith) (omega arith, omega arith) (omega arith, omega arith)
+      | false ↦ three_members (λ y. (0x1100 ≤ y) × (y ≤ 0x11FF)) (l_base + index / n_count) (v_base + index % n_count / t_count) (t_base + index % t_count) x (omega arith, omega arith)
+          (omega arith, omega arith) (omega arith, omega arith)
     ]
 
 module _ (records : List Entry) (uts46 : List MapperEntry) (fixed : has_fixed_fault records uts46 ≡ false) (short : HasChainFault records → ⊥) (mappings : Mappings) where
@@ -81,7 +84,8 @@ module _ (records : List Entry) (uts46 : List MapperEntry) (fixed : has_fixed_fa
           of_canonical true given = absurd (given refl)
           of_canonical false given = refl
 
-      of_option : (o : Option Entry) → (option_map_or (mapping_among mappings) o [] ≢ []) → replacement records mappings c ≡ option_map_or (mapping_among mappings) o [] → (is_some o ≡ true) × (replacement records mappings c ≡ option_map_or (λ r. r.mapping) o [])
+      of_option : (o : Option Entry) → (option_map_or (mapping_among mappings) o [] ≢ []) → replacement records mappings c ≡ option_map_or (mapping_among mappings) o [] →
+          (is_some o ≡ true) × (replacement records mappings c ≡ option_map_or (λ r. r.mapping) o [])
       of_option None none is = absurd (none refl)
       of_option (Some r) given is = (refl, is ∙ of_record mappings r given)
 
@@ -96,14 +100,17 @@ module _ (records : List Entry) (uts46 : List MapperEntry) (fixed : has_fixed_fa
   syllable_or_not c = elim (is_hangul_syllable c) as (λ b. (b ≡ true) ⊎ (b ≡ false)) [ true ↦ inl refl | false ↦ inr refl ]
 
   -- nothing replaces c, or it is a syllable, or recorded
-  kind_of : (c : ℕ) → (replacement records mappings c ≡ []) ⊎ (((replacement records mappings c ≢ []) × (is_hangul_syllable c ≡ true)) ⊎ ((replacement records mappings c ≢ []) × (is_hangul_syllable c ≡ false)))
-  kind_of c = elim (replaced_or_not c) as (λ _. (replacement records mappings c ≡ []) ⊎ (((replacement records mappings c ≢ []) × (is_hangul_syllable c ≡ true)) ⊎ ((replacement records mappings c ≢ []) × (is_hangul_syllable c ≡ false)))) [
-    | inl none ↦ inl none
-    | inr some ↦ elim (syllable_or_not c) as (λ _. (replacement records mappings c ≡ []) ⊎ (((replacement records mappings c ≢ []) × (is_hangul_syllable c ≡ true)) ⊎ ((replacement records mappings c ≢ []) × (is_hangul_syllable c ≡ false)))) [
-      | inl syllable ↦ inr (inl (some, syllable))
-      | inr other ↦ inr (inr (some, other))
-    ]
-  ]
+  kind_of : (c : ℕ) → (replacement records mappings c ≡
+      []) ⊎ (((replacement records mappings c ≢ []) × (is_hangul_syllable c ≡ true)) ⊎ ((replacement records mappings c ≢ []) × (is_hangul_syllable c ≡ false)))
+  kind_of c = elim (replaced_or_not c) as (λ _. (replacement records mappings c ≡
+      []) ⊎ (((replacement records mappings c ≢ []) × (is_hangul_syllable c ≡ true)) ⊎ ((replacement records mappings c ≢ []) × (is_hangul_syllable c ≡ false)))) [
+        | inl none ↦ inl none
+        | inr some ↦ elim (syllable_or_not c) as (λ _. (replacement records mappings c ≡
+            []) ⊎ (((replacement records mappings c ≢ []) × (is_hangul_syllable c ≡ true)) ⊎ ((replacement records mappings c ≢ []) × (is_hangul_syllable c ≡ false)))) [
+              | inl syllable ↦ inr (inl (some, syllable))
+              | inr other ↦ inr (inr (some, other))
+            ]
+      ]
 
   replacement-syllable : (c : ℕ) → is_hangul_syllable c ≡ true → replacement records mappings c ≡ hangul_decomposition c
   unfolding replacement
@@ -153,14 +160,16 @@ module _ (records : List Entry) (uts46 : List MapperEntry) (fixed : has_fixed_fa
   stays_alone : (n c : ℕ) (x y : List ℕ) → replacement records mappings c ≡ [] → ExpandsTo records mappings x y → ExpandsTo records mappings (c ∷ x) (expansion records mappings n c ++ y)
   stays_alone n c x y none rest = subst (λ (z : List ℕ). ExpandsTo records mappings (c ∷ x) (z ++ y)) (sym (expansion-alone records mappings n c none)) (stays c none rest)
 
-  members_replaced : (f : ℕ → List ℕ) (ms x y : List ℕ) → ((m : ℕ) → Contains ms m → (x' y' : List ℕ) → ExpandsTo records mappings x' y' → ExpandsTo records mappings (m ∷ x') (f m ++ y')) → ExpandsTo records mappings x y → ExpandsTo records mappings (ms ++ x) (flat_map f ms ++ y)
+  members_replaced : (f : ℕ → List ℕ) (ms x y : List ℕ) → ((m : ℕ) → Contains ms m → (x' y' : List ℕ) → ExpandsTo records mappings x' y' → ExpandsTo records mappings (m ∷ x') (f m ++ y')) →
+      ExpandsTo records mappings x y → ExpandsTo records mappings (ms ++ x) (flat_map f ms ++ y)
   members_replaced f [] x y each rest = rest
   members_replaced f (m ∷ ms) x y each rest =
       subst (ExpandsTo records mappings (m ∷ (ms ++ x))) (sym (append_assoc (f m) (flat_map f ms) y))
       (each m (0, omega arith, refl) (ms ++ x) (flat_map f ms ++ y) (members_replaced f ms x y (λ k there x' y' h. each k (let inside = there.1 in (suc there.0, omega arith, there.2)) x' y' h) rest))
 
   -- what the expansion gives comes of replacing
-  comes_of_replacing : (n c : ℕ) (ups : List ℕ) → GoesOn records Up c ups → IsWalk records Up ups → 17 ≤ n + length ups → (x y : List ℕ) → ExpandsTo records mappings x y → ExpandsTo records mappings (c ∷ x) (expansion records mappings n c ++ y)
+  comes_of_replacing : (n c : ℕ) (ups : List ℕ) → GoesOn records Up c ups → IsWalk records Up ups → 17 ≤ n + length ups → (x y : List ℕ) → ExpandsTo records mappings x y →
+      ExpandsTo records mappings (c ∷ x) (expansion records mappings n c ++ y)
   comes_of_replacing zero c ups goes walk deep x y rest = let few = ups-short ups walk in absurd (omega arith)
   comes_of_replacing (suc n) c ups goes walk deep x y rest = elim (kind_of c) as (λ _. ExpandsTo records mappings (c ∷ x) (expansion records mappings (suc n) c ++ y)) [
     | inl none ↦ stays_alone (suc n) c x y none rest

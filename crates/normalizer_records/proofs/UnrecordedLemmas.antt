@@ -1,5 +1,6 @@
 -- The lists of characters of which nothing is recorded show no fault.
-use Rattle.std.proofs.Common.{◌≡◌, ◌≢◌, ℕ, suc, ◌+◌, ◌-◌, ◌/◌, ◌%◌, ◌<◌, ◌≤◌, ◌⊎◌, ◌↔◌, ◌==◌, ◌||◌, Bool, true, false, List, [], ◌∷◌, ◌++◌, length, map, refl, Option, Some, None, is_some, IsSomeAnd, inl, inr, sym, ap, subst, ◌∙◌, arith, Contains, find, if◌then◌else◌, nat_lt, flat_map}
+use Rattle.std.proofs.Common.{◌≡◌, ◌≢◌, ℕ, suc, ◌+◌, ◌-◌, ◌/◌, ◌%◌, ◌<◌, ◌≤◌, ◌⊎◌, ◌↔◌, ◌==◌, ◌||◌, Bool, true, false, List, [], ◌∷◌, ◌++◌, length, map, refl, Option, Some, None, is_some, IsSomeAnd}
+use Rattle.std.proofs.Common.{inl, inr, sym, ap, subst, ◌∙◌, arith, Contains, find, if◌then◌else◌, nat_lt, flat_map}
 use Rattle.std.specs.Option.{option_map, option_map_or}
 use Rattle.std.specs.List.{list_any}
 use Rattle.std.proofs.lemmas.Bool.{or_left, or_parts, true≢false}
@@ -88,16 +89,19 @@ module _ (records : List Entry) (uts46 : List MapperEntry) (fixed : has_fixed_fa
     IsBare-jamo n c h =
         let range = syllable-range c h in
         let index = c - s_base in
-        elim (index % t_count == 0) as (λ b. IsBare (flat_map (expansion records mappings n) (if b then (l_base + index / n_count) ∷ (v_base + index % n_count / t_count) ∷ [] else (l_base + index / n_count) ∷ (v_base + index % n_count / t_count) ∷ (t_base + index % t_count) ∷ []))) [
+        elim (index % t_count == 0) as (λ b. IsBare (flat_map (expansion records mappings n)
+        (if b then (l_base + index / n_count) ∷ (v_base + index % n_count / t_count) ∷ [] else (l_base + index / n_count) ∷ (v_base + index % n_count / t_count) ∷ (t_base + index % t_count) ∷ []))) [
           | true ↦ IsBare-two n (l_base + index / n_count) (v_base + index % n_count / t_count) (omega arith) (omega arith) (omega arith) (omega arith)
-          | false ↦ IsBare-three n (l_base + index / n_count) (v_base + index % n_count / t_count) (t_base + index % t_count) (omega arith) (omega arith) (omega arith) (omega arith) (omega arith) (omega arith)
+          | false ↦ IsBare-three n (l_base + index / n_count) (v_base + index % n_count / t_count) (t_base + index % t_count) (omega arith) (omega arith) (omega arith) (omega arith) (omega arith)
+              (omega arith)
         ]
 
     jamo_some : (c : ℕ) → hangul_decomposition c ≢ []
     unfolding hangul_decomposition
     jamo_some c =
         let index = c - s_base in
-        elim (index % t_count == 0) as (λ b. (if b then (l_base + index / n_count) ∷ (v_base + index % n_count / t_count) ∷ [] else (l_base + index / n_count) ∷ (v_base + index % n_count / t_count) ∷ (t_base + index % t_count) ∷ []) ≢ []) [
+        elim (index % t_count == 0) as (λ b. (if b then (l_base + index / n_count) ∷ (v_base + index % n_count / t_count) ∷ [] else (l_base + index / n_count) ∷ (v_base + index % n_count / t_count) ∷
+        (t_base + index % t_count) ∷ []) ≢ []) [
           | true ↦ λ e. absurd cc
           | false ↦ λ e. absurd cc
         ]
@@ -106,7 +110,8 @@ module _ (records : List Entry) (uts46 : List MapperEntry) (fixed : has_fixed_fa
     IsBare-expansion c h = elim (is_hangul_syllable c) as (λ b. is_hangul_syllable c ≡ b → IsBare (expansion records mappings levels c)) [
       | true ↦ λ syllable.
           let same : replacement records mappings c ≡ hangul_decomposition c = replacement-syllable c syllable in
-          let e : expansion records mappings 17 c ≡ flat_map (expansion records mappings 16) (hangul_decomposition c) = expansion-replaced records mappings 16 c (λ none. jamo_some c (sym same ∙ none)) ∙ ap (flat_map (expansion records mappings 16)) same in
+          let e : expansion records mappings 17 c ≡ flat_map (expansion records mappings 16) (hangul_decomposition c) = expansion-replaced records mappings 16 c (λ none. jamo_some c (sym same ∙ none))
+          ∙ ap (flat_map (expansion records mappings 16)) same in
           subst IsBare (sym e) (IsBare-jamo 16 c syllable)
       | false ↦ λ other. subst IsBare (sym (expansion-alone records mappings 17 c (replacement-unrecorded c other h))) (IsBare-one c h)
     ] refl
@@ -135,7 +140,8 @@ module _ (records : List Entry) (uts46 : List MapperEntry) (fixed : has_fixed_fa
   HasWrongClass-unrecorded c h k (inl highest) = let none = class_of-unrecorded c h in omega arith
   HasWrongClass-unrecorded c h k (inr (inl wrong)) = not_wrong c _ _ (starter Canonical c h) (full_list-begins Canonical c h) wrong
   HasWrongClass-unrecorded c h k (inr (inr (inl wrong))) = not_wrong c _ _ (starter AllMappings c h) (full_list-begins AllMappings c h) wrong
-  HasWrongClass-unrecorded c h k (inr (inr (inr wrong))) = not_wrong c false _ refl (full_list-begins Canonical c h) (subst (λ (o : Option (List ℕ)). IsSomeAnd o (IsWrong records c false)) (mapper_list-unrecorded c k) wrong)
+  HasWrongClass-unrecorded c h k (inr (inr (inr wrong))) =
+      not_wrong c false _ refl (full_list-begins Canonical c h) (subst (λ (o : Option (List ℕ)). IsSomeAnd o (IsWrong records c false)) (mapper_list-unrecorded c k) wrong)
 
   HasLongList-unrecorded : (c : ℕ) → entry_of records c ≡ None → status_of uts46 c ≡ None → HasLongList records uts46 c → ⊥
   unfolding HasLongList
@@ -152,13 +158,15 @@ module _ (records : List Entry) (uts46 : List MapperEntry) (fixed : has_fixed_fa
 
   is_recorded : (c : ℕ) → Contains characters c ⊎ ((entry_of records c ≡ None) × (status_of uts46 c ≡ None))
   unfolding entry_of status_of nothing
-  is_recorded c = elim (find (λ (r : Entry). r.c == c) records) as (λ o. find (λ (r : Entry). r.c == c) records ≡ o → Contains characters c ⊎ ((o ≡ None) × (option_map (λ (r : MapperEntry). r.status) (find (λ r. r.c == c) uts46) ≡ None))) [
-    | Some r ↦ λ found. inl (Contains-append_left _ _ c (contains_key (λ (r : Entry). r.c) records c (ap is_some found)))
-    | None ↦ λ missing. elim (find (λ (r : MapperEntry). r.c == c) uts46) as (λ o. find (λ (r : MapperEntry). r.c == c) uts46 ≡ o → Contains characters c ⊎ ((nothing ≡ None) × (option_map (λ (r : MapperEntry). r.status) o ≡ None))) [
-      | Some r ↦ λ found. inl (Contains-append_right _ _ c (contains_key (λ (r : MapperEntry). r.c) uts46 c (ap is_some found)))
-      | None ↦ λ gone. inr (refl, refl)
-    ] refl
-  ] refl
+  is_recorded c = elim (find (λ (r : Entry). r.c == c) records) as (λ o. find (λ (r : Entry). r.c == c) records ≡ o →
+      Contains characters c ⊎ ((o ≡ None) × (option_map (λ (r : MapperEntry). r.status) (find (λ r. r.c == c) uts46) ≡ None))) [
+        | Some r ↦ λ found. inl (Contains-append_left _ _ c (contains_key (λ (r : Entry). r.c) records c (ap is_some found)))
+        | None ↦ λ missing. elim (find (λ (r : MapperEntry). r.c == c) uts46) as (λ o. find (λ (r : MapperEntry). r.c == c) uts46 ≡ o →
+            Contains characters c ⊎ ((nothing ≡ None) × (option_map (λ (r : MapperEntry). r.status) o ≡ None))) [
+              | Some r ↦ λ found. inl (Contains-append_right _ _ c (contains_key (λ (r : MapperEntry). r.c) uts46 c (ap is_some found)))
+              | None ↦ λ gone. inr (refl, refl)
+            ] refl
+      ] refl
 
   pub HasClassFault-recorded : IsOfSome (λ c. IsAsked records uts46 c × HasWrongClass records uts46 c) characters ↔ HasClassFault records uts46
   unfolding HasClassFault

@@ -32,7 +32,8 @@ module _ (records : List Entry) where
       (higher.0 ++ u ∷ [], subst (IsWalk records Down) (sym (append_assoc higher.0 (u ∷ []) (c ∷ downs))) higher.1, simp length-append (omega arith))
 
   -- what leads up from c, by what leads down to it
-  climb : (b : ℕ) (before : List ℕ) (c : ℕ) (downs above : List ℕ) → IsWalk records Down (b ∷ (before ++ c ∷ downs)) → IsWalk records Up (b ∷ above) → (ups : List ℕ) × IsWalk records Up (c ∷ ups) × (length ups ≡ length above + length before + 1)
+  climb : (b : ℕ) (before : List ℕ) (c : ℕ) (downs above : List ℕ) → IsWalk records Down (b ∷ (before ++ c ∷ downs)) → IsWalk records Up (b ∷ above) →
+      (ups : List ℕ) × IsWalk records Up (c ∷ ups) × (length ups ≡ length above + length before + 1)
   climb b [] c downs above down up =
       let rest = IsWalk-rest records Down b (c ∷ downs) down in
       (b ∷ above, IsWalk-more records Up c b above (IsWalk-first records Down c downs rest) (IsWalk-goes records Down b (c ∷ downs) down) up, omega arith)

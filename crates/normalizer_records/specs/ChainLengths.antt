@@ -1,5 +1,6 @@
 -- How long chains of records are, for the record at each place.
-use Rattle.std.specs.Prelude.{◌≡◌, ℕ, ◌+◌, ◌<◌, ◌≤◌, ◌⊎◌, min, false, List, [], ◌∷◌, length, slice_index, slice_index_or, Contains}
+use Rattle.std.specs.Prelude.{◌≡◌, ℕ, ◌+◌, ◌<◌, ◌≤◌, ◌⊎◌, min, false, List, [], ◌∷◌, length, slice_index}
+use Rattle.std.specs.Prelude.{slice_index_or, Contains}
 use Rattle.normalizer_records.specs.declared.chains.ChainLengths.{ChainLengths}
 use Rattle.normalizer_records.specs.declared.chains.Direction.{Direction}
 use Rattle.normalizer_records.specs.declared.chains.Direction.TheVariants.{Down, Up}
@@ -27,7 +28,8 @@ GoesOn records direction c (d ∷ rest) = Follows records direction c d
 -- recorded characters, each followed by the next
 unfoldable pub IsWalk : List Entry → Direction → List ℕ → Type 0
 IsWalk records direction [] = Unit {0}
-IsWalk records direction (c ∷ rest) = IsRecorded records c × GoesOn records direction c rest × IsWalk records direction rest
+IsWalk records direction (c ∷ rest) =
+    IsRecorded records c × GoesOn records direction c rest × IsWalk records direction rest
 
 -- the places of a record, and of the one of a member of its mapping
 abbrev pub AreEnds : Direction → ℕ → ℕ → ℕ → ℕ → Type 0
@@ -36,20 +38,24 @@ AreEnds Up place other k l = (k ≡ other) × (l ≡ place)
 
 -- k and l are the places of a record and of this member of its mapping
 unfoldable pub IsLinked : List Entry → Direction → ℕ → ℕ → ℕ → ℕ → Type 0
-IsLinked records direction place member k l = (other : ℕ) × (other < length records) × ((entry_at records other).c ≡ member) × AreEnds direction place other k l
+IsLinked records direction place member k l =
+    (other : ℕ) × (other < length records) × ((entry_at records other).c ≡ member) × AreEnds direction place other k l
 
 unfoldable pub IsLinkedByAny : List Entry → Direction → ℕ → List ℕ → ℕ → ℕ → Type 0
-IsLinkedByAny records direction place members k l = (member : ℕ) × Contains members member × IsLinked records direction place member k l
+IsLinkedByAny records direction place members k l =
+    (member : ℕ) × Contains members member × IsLinked records direction place member k l
 
 unfoldable pub IsLinkedBelow : List Entry → Direction → ℕ → ℕ → ℕ → Type 0
-IsLinkedBelow records direction end k l = (place : ℕ) × (place < end) × IsLinkedByAny records direction place (entry_at records place).mapping k l
+IsLinkedBelow records direction end k l =
+    (place : ℕ) × (place < end) × IsLinkedByAny records direction place (entry_at records place).mapping k l
 
 -- for each two places of P, the length at the first is raised above the old one at the second, and no further
 pub record IsRaised (P : ℕ → ℕ → Type 0) (old before after : List ℕ) : Type 0 where
   pub as_long : length after ≡ length before
   pub keeps : (k : ℕ) → slice_index before k ≤ slice_index after k
   pub reached : (k l : ℕ) → P k l → slice_index old l < slice_index after k
-  pub attained : (k : ℕ) → (slice_index after k ≡ slice_index before k) ⊎ ((l : ℕ) × P k l × (slice_index after k ≡ slice_index old l + 1))
+  pub attained : (k : ℕ) →
+      (slice_index after k ≡ slice_index before k) ⊎ ((l : ℕ) × P k l × (slice_index after k ≡ slice_index old l + 1))
 
 -- the character of the record at a place
 abbrev pub character_at : List Entry → ℕ → ℕ
@@ -59,15 +65,24 @@ character_at records place = (entry_at records place).c
 pub record IsStep (records : List Entry) (direction : Direction) (old new : List ℕ) : Type 0 where
   pub as_long : length new ≡ length records
   pub positive : (k : ℕ) → k < length records → 0 < slice_index new k
-  pub reached : (k l : ℕ) → k < length records → l < length records → Follows records direction (character_at records k) (character_at records l) → slice_index old l < slice_index new k
-  pub attained : (k : ℕ) → k < length records → (slice_index new k ≡ 1) ⊎ ((l : ℕ) × (l < length records) × Follows records direction (character_at records k) (character_at records l) × (slice_index new k ≡ slice_index old l + 1))
+  pub reached : (k l : ℕ) → k < length records → l < length records →
+      Follows records direction (character_at records k) (character_at records l) →
+      slice_index old l < slice_index new k
+  pub attained : (k : ℕ) → k < length records →
+      (slice_index new k ≡ 1) ⊎ ((l : ℕ) × (l < length records)
+      × Follows records direction (character_at records k) (character_at records l)
+      × (slice_index new k ≡ slice_index old l + 1))
 
 -- the length at each place is that of the longest walk from there, or the limit where there is a longer one
 pub record Measures (records : List Entry) (direction : Direction) (limit : ℕ) (lengths : List ℕ) : Type 0 where
   pub as_long : length lengths ≡ length records
   pub within : (k : ℕ) → k < length records → slice_index lengths k ≤ limit
-  pub attained : (k : ℕ) → k < length records → 0 < limit → (rest : List ℕ) × IsWalk records direction (character_at records k ∷ rest) × (length (character_at records k ∷ rest) ≡ slice_index lengths k)
-  pub longest : (k : ℕ) (rest : List ℕ) → k < length records → IsWalk records direction (character_at records k ∷ rest) → min limit (length (character_at records k ∷ rest)) ≤ slice_index lengths k
+  pub attained : (k : ℕ) → k < length records → 0 < limit →
+      (rest : List ℕ) × IsWalk records direction (character_at records k ∷ rest)
+      × (length (character_at records k ∷ rest) ≡ slice_index lengths k)
+  pub longest : (k : ℕ) (rest : List ℕ) → k < length records →
+      IsWalk records direction (character_at records k ∷ rest) →
+      min limit (length (character_at records k ∷ rest)) ≤ slice_index lengths k
 
 -- so many records in a row are too many
 abbrev pub chain_rounds : ℕ

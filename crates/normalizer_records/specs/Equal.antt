@@ -5,7 +5,9 @@ use Rattle.std.specs.Cmp.Lexicographic.{pointwise}
 use Rattle.normalizer_records.specs.Entry.{Entry, Status, MapsTo, IsIgnored, IsDisallowed, MapperEntry}
 
 abbrev pub entry_eq : Entry → Entry → Bool
-entry_eq r s = (r.c == s.c) && ((r.class == s.class) && (pointwise nat_eq r.mapping s.mapping && (beq r.compatibility s.compatibility && beq r.excluded s.excluded)))
+entry_eq r s =
+    (r.c == s.c) && ((r.class == s.class) && (pointwise nat_eq r.mapping s.mapping
+    && (beq r.compatibility s.compatibility && beq r.excluded s.excluded)))
 
 -- two mappings are equal, or the mapper does the same without one
 abbrev pub status_eq : Status → Status → Bool

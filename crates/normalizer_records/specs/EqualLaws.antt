@@ -20,8 +20,18 @@ entry_decides r s =
     (Decides-and _ _ (bytes_decides r.mapping s.mapping)
     (Decides-and _ _ (booleans_Decides r.compatibility s.compatibility)
     (booleans_Decides r.excluded s.excluded)))))
-    (λ p i. record { c = p.0 i; class = p.1.0 i; mapping = p.1.1.0 i; compatibility = p.1.1.1.0 i; excluded = p.1.1.1.1 i })
-    (λ e. (ap (λ (t : Entry). t.c) e, (ap (λ (t : Entry). t.class) e, (ap (λ (t : Entry). t.mapping) e, (ap (λ (t : Entry). t.compatibility) e, ap (λ (t : Entry). t.excluded) e)))))
+    (λ p i.
+    record { c = p.0 i; class = p.1.0 i; mapping = p.1.1.0 i; compatibility = p.1.1.1.0 i; excluded = p.1.1.1.1 i })
+    (λ e. (
+      ap (λ (t : Entry). t.c) e,
+      (
+        ap (λ (t : Entry). t.class) e,
+        (
+          ap (λ (t : Entry). t.mapping) e,
+          (ap (λ (t : Entry). t.compatibility) e, ap (λ (t : Entry). t.excluded) e),
+        ),
+      ),
+    ))
 
 -- the mapping of a status, and which of the three it is
 mapping_or : Status → List ℕ

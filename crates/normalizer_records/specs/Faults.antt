@@ -1,13 +1,17 @@
 -- What is wrong with records, told from the records alone.
-use Rattle.std.specs.Prelude.{◌≡◌, ◌≢◌, ℕ, ◌<◌, Bool, true, false, not, ◌&&◌, ◌||◌, ◌⊎◌, ◌==◌, nat_lt, List, [], ◌∷◌, ◌++◌, length, map, All, AllPairs, Contains, IsSomeAnd, count_by, Option, Some, None, is_some, if◌then◌else◌}
+use Rattle.std.specs.Prelude.{◌≡◌, ◌≢◌, ℕ, ◌<◌, Bool, true, false, not, ◌&&◌, ◌||◌, ◌⊎◌, ◌==◌, nat_lt, List, [], ◌∷◌}
+use Rattle.std.specs.Prelude.{◌++◌, length, map, All, AllPairs, Contains, IsSomeAnd, count_by, Option, Some, None}
+use Rattle.std.specs.Prelude.{is_some, if◌then◌else◌}
 use Rattle.std.specs.List.{list_any}
 use Rattle.std.specs.Int.{is_in_range}
 use Rattle.normalizer_tables.specs.Hangul.{is_hangul_syllable}
 use Rattle.normalizer_tables.specs.SpecialLists.{fixed_list_of, fdfa_list}
 use Rattle.normalizer_records.specs.declared.refusal.Refusal.{Refusal}
-use Rattle.normalizer_records.specs.declared.refusal.Refusal.TheVariants.{Order, Fixed, Class, Mapping, Chain, Length, Pair}
+use Rattle.normalizer_records.specs.declared.refusal.Refusal.TheVariants.{Order, Fixed, Class, Mapping, Chain, Length}
+use Rattle.normalizer_records.specs.declared.refusal.Refusal.TheVariants.{Pair}
 use Rattle.normalizer_records.specs.Entry.{Entry, Status, MapsTo, IsIgnored, IsDisallowed, MapperEntry}
-use Rattle.normalizer_records.specs.Meaning.{canonical_list, chain_limit, class_of, compatibility_list, entry_of, mapper_list, mapping_of, pairs_of, status_of}
+use Rattle.normalizer_records.specs.Meaning.{canonical_list, chain_limit, class_of, compatibility_list, entry_of}
+use Rattle.normalizer_records.specs.Meaning.{mapper_list, mapping_of, pairs_of, status_of}
 
 -- Order
 
@@ -36,7 +40,8 @@ is_disallowed (MapsTo mapping) = false
 
 -- the mapper may speak of the two Hangul fillers, and disallow U+FFFD
 unfoldable pub is_fixed_for_mapper : MapperEntry → Bool
-is_fixed_for_mapper r = is_fixed r.c && not (is_in_range 0x115F 0x1160 r.c) && not ((r.c == 0xFFFD) && is_disallowed r.status)
+is_fixed_for_mapper r =
+    is_fixed r.c && not (is_in_range 0x115F 0x1160 r.c) && not ((r.c == 0xFFFD) && is_disallowed r.status)
 
 unfoldable pub has_fixed_fault : List Entry → List MapperEntry → Bool
 has_fixed_fault records uts46 = list_any (λ r. is_fixed r.c) records || list_any is_fixed_for_mapper uts46
@@ -59,7 +64,8 @@ is_bad_canonical (first ∷ second ∷ third ∷ rest) = true
 
 -- a compatibility mapping of at most 18, and neither has U+0000
 unfoldable pub is_bad_mapping : Entry → Bool
-is_bad_mapping r = has_zero r.mapping || (if r.compatibility then nat_lt 18 (length r.mapping) else is_bad_canonical r.mapping)
+is_bad_mapping r =
+    has_zero r.mapping || (if r.compatibility then nat_lt 18 (length r.mapping) else is_bad_canonical r.mapping)
 
 -- the mapper maps to something, and not to U+0000
 abbrev pub is_bad_status : Status → Bool
@@ -92,7 +98,8 @@ HasChainFault records = (chain : List ℕ) × IsChain records chain × (chain_li
 
 -- c is on such a chain
 unfoldable pub IsOnLongChain : List Entry → ℕ → Type 0
-IsOnLongChain records c = (before after : List ℕ) × IsChain records (before ++ c ∷ after) × (chain_limit < length (before ++ c ∷ after))
+IsOnLongChain records c =
+    (before after : List ℕ) × IsChain records (before ++ c ∷ after) × (chain_limit < length (before ++ c ∷ after))
 
 -- what the mapper maps c to
 abbrev pub mapped_to : Option Status → List ℕ
@@ -110,7 +117,9 @@ pub record IsAsked (records : List Entry) (uts46 : List MapperEntry) (c : ℕ) :
 
 -- the list is the fixed one of c, and the classes of c and of the members are its
 abbrev pub IsFixedForm : List Entry → ℕ → List ℕ → Type 0
-IsFixedForm records c list = fixed_list_of c ≡ Some (record { list = list; class = class_of records c; member_classes = map (class_of records) list })
+IsFixedForm records c list =
+    fixed_list_of c
+    ≡ Some (record { list = list; class = class_of records c; member_classes = map (class_of records) list })
 
 -- the list begins with a mark, by the recorded classes
 abbrev pub begins_with_mark : List Entry → List ℕ → Bool
@@ -151,7 +160,9 @@ IsTooLong list = (is_long list ≡ true) × (list ≢ fdfa_list)
 
 -- one of the lists is
 unfoldable pub HasLongList : List Entry → List MapperEntry → ℕ → Type 0
-HasLongList records uts46 c = IsTooLong (canonical_list records c) ⊎ (IsTooLong (compatibility_list records c) ⊎ IsSomeAnd (mapper_list records uts46 c) IsTooLong)
+HasLongList records uts46 c =
+    IsTooLong (canonical_list records c)
+    ⊎ (IsTooLong (compatibility_list records c) ⊎ IsSomeAnd (mapper_list records uts46 c) IsTooLong)
 
 unfoldable pub HasLengthFault : List Entry → List MapperEntry → Type 0
 HasLengthFault records uts46 = (c : ℕ) × IsAsked records uts46 c × HasLongList records uts46 c
@@ -187,9 +198,15 @@ rank_of Pair = 7
 -- none where nothing is wrong, else the smallest refusal whose fault the records have
 unfoldable pub IsFirstRefusal : List Entry → List MapperEntry → Option Refusal → Type 0
 IsFirstRefusal records uts46 None = (r : Refusal) → ¬ HasFault records uts46 r
-IsFirstRefusal records uts46 (Some r) = HasFault records uts46 r × ((s : Refusal) → rank_of s < rank_of r → ¬ HasFault records uts46 s)
+IsFirstRefusal records uts46 (Some r) =
+    HasFault records uts46 r × ((s : Refusal) → rank_of s < rank_of r → ¬ HasFault records uts46 s)
 
 -- the smallest of those past the second that are so
 abbrev pub first_among : Bool → Bool → Bool → Bool → Bool → Option Refusal
 first_among class mapping chain long pair =
-    if class then Some Class else if mapping then Some Mapping else if chain then Some Chain else if long then Some Length else if pair then Some Pair else None
+    if class then Some Class
+    else if mapping then Some Mapping
+    else if chain then Some Chain
+    else if long then Some Length
+    else if pair then Some Pair
+    else None

@@ -1,5 +1,6 @@
 -- What records mean: the classes, the full decompositions (The Unicode Standard, D68) and the pairs that they give.
-use Rattle.std.specs.Prelude.{◌≡◌, ◌≢◌, ℕ, ◌+◌, zero, suc, not, ◌&&◌, ◌==◌, List, [], ◌∷◌, ◌++◌, find, flat_map, filter_map, Option, Some, None, is_some, if◌then◌else◌}
+use Rattle.std.specs.Prelude.{◌≡◌, ◌≢◌, ℕ, ◌+◌, zero, suc, not, ◌&&◌, ◌==◌, List, [], ◌∷◌, ◌++◌, find, flat_map}
+use Rattle.std.specs.Prelude.{filter_map, Option, Some, None, is_some, if◌then◌else◌}
 use Rattle.std.specs.Option.{option_map_or, option_map}
 use Rattle.normal_forms.specs.Reading.{Reading}
 use Rattle.normal_forms.specs.Order.{order}
@@ -33,13 +34,17 @@ canonical_mapping_of records c = option_map_or (mapping_among Canonical) (entry_
 
 -- what a character is replaced by: the jamo of a Hangul syllable, by arithmetic, else what is recorded, else nothing
 unfoldable pub replacement : List Entry → Mappings → ℕ → List ℕ
-replacement records mappings c = if is_hangul_syllable c then hangul_decomposition c else option_map_or (mapping_among mappings) (entry_of records c) []
+replacement records mappings c =
+    if is_hangul_syllable c then hangul_decomposition c
+    else option_map_or (mapping_among mappings) (entry_of records c) []
 
 -- x becomes y where its characters are replaced until nothing changes
 pub data ExpandsTo (records : List Entry) (mappings : Mappings) : List ℕ → List ℕ → Type 0 where
   done : ExpandsTo records mappings [] []
-  stays : {x y : List ℕ} (c : ℕ) → replacement records mappings c ≡ [] → ExpandsTo records mappings x y → ExpandsTo records mappings (c ∷ x) (c ∷ y)
-  replaced : {x y : List ℕ} (c : ℕ) → replacement records mappings c ≢ [] → ExpandsTo records mappings (replacement records mappings c ++ x) y → ExpandsTo records mappings (c ∷ x) y
+  stays : {x y : List ℕ} (c : ℕ) → replacement records mappings c ≡ [] → ExpandsTo records mappings x y →
+      ExpandsTo records mappings (c ∷ x) (c ∷ y)
+  replaced : {x y : List ℕ} (c : ℕ) → replacement records mappings c ≢ [] →
+      ExpandsTo records mappings (replacement records mappings c ++ x) y → ExpandsTo records mappings (c ∷ x) y
 
 -- what replaces a character, each member by its own list; the character itself where nothing does
 unfoldable pub replace_by : (ℕ → List ℕ) → List ℕ → ℕ → List ℕ
@@ -102,7 +107,9 @@ pair_of_mapping c _ = None
 
 -- the pair that a record gives, unless it is excluded or its character has a fixed list
 unfoldable pub pair_of_record : Entry → Option Pair
-pair_of_record r = if not r.compatibility && not r.excluded && not (is_some (fixed_list_of r.c)) then pair_of_mapping r.c r.mapping else None
+pair_of_record r =
+    if not r.compatibility && not r.excluded && not (is_some (fixed_list_of r.c)) then pair_of_mapping r.c r.mapping
+    else None
 
 unfoldable pub pairs_of : List Entry → List Pair
 pairs_of records = filter_map pair_of_record records

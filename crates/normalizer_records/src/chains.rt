@@ -89,7 +89,8 @@ fn raise_by_record(
     requires old { length old.now ≡ length records.now }
     requires lengths { length lengths.old ≡ length records.now }
     requires small { (k : ℕ) → k < length old.now → slice_index old.now k < 255 }
-    ensures { IsRaised (IsLinkedByAny records.now direction place (entry_at records.now place).mapping) old.now lengths.old lengths.new }
+    ensures { IsRaised (IsLinkedByAny records.now direction place (entry_at records.now place).mapping)
+        old.now lengths.old lengths.new }
 {
     let members = mapping_of(&records[place]);
     for index in 0..members.len() {

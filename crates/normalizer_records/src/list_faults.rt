@@ -1,5 +1,6 @@
 //! The faults that the lists of characters show.
-ghost use Rattle.std.specs.Prelude.{◌≡◌, ℕ, ◌≢◌, ◌<◌, ◌↔◌, ◌⊎◌, ◌||◌, ◌++◌, ◌∷◌, [], Some, map, true, false, nat_lt, IfOk, IsSomeAnd, IsTrue};
+ghost use Rattle.std.specs.Prelude.{◌≡◌, ℕ, ◌≢◌, ◌<◌, ◌↔◌, ◌⊎◌, ◌||◌, ◌++◌, ◌∷◌, [], Some, map, true, false, nat_lt};
+ghost use Rattle.std.specs.Prelude.{IfOk, IsSomeAnd, IsTrue};
 ghost use Rattle.std.specs.List.{list_any};
 ghost use Rattle.std.specs.Option.{option_map};
 ghost use Rattle.normalizer_tables.specs.SpecialLists.{fdfa_list, fixed_list_of};
@@ -59,7 +60,8 @@ pub(crate) fn cut_mapper_list(
 ) -> Result<Option<Vec<char>>, AllocError>
     requires records { AreRising records.now }
     requires mapper { AreMapperRising uts46.now }
-    ensures { IfOk result (λ o. MayStandFor records.now (mapper_list records.now uts46.now c) (option_map (λ v. v.items) o)) }
+    ensures { IfOk result (λ o.
+        MayStandFor records.now (mapper_list records.now uts46.now c) (option_map (λ v. v.items) o)) }
 {
     match uts46_record_of(uts46, c) {
         None => Ok(Some(cut_list(alloc, records, Mappings::Canonical, c)?)),
@@ -73,7 +75,8 @@ fn cut_mapped_list(
     status: &Uts46Status,
 ) -> Result<Option<Vec<char>>, AllocError>
     requires { AreRising records.now }
-    ensures { IfOk result (λ o. MayStandFor records.now (list_of_status records.now (status_value status.now)) (option_map (λ v. v.items) o)) }
+    ensures { IfOk result (λ o.
+        MayStandFor records.now (list_of_status records.now (status_value status.now)) (option_map (λ v. v.items) o)) }
 {
     match status {
         Uts46Status::Ignored => Ok(None),

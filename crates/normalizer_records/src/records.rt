@@ -24,7 +24,13 @@ impl Model for Record {
 
     ghost Value = { Entry };
 
-    ghost view = { λ r. record { c = r.c; class = r.class; mapping = r.mapping.items; compatibility = r.compatibility; excluded = r.excluded } };
+    ghost view = { λ r. record {
+      c = r.c;
+      class = r.class;
+      mapping = r.mapping.items;
+      compatibility = r.compatibility;
+      excluded = r.excluded;
+    } };
 }
 
 impl PartialEq for Record {

@@ -78,8 +78,10 @@ fn asked_faults(
 ) -> Result<ListFaults, AllocError>
     requires chains { MeasuresChains records.now lengths.now }
     requires mapper { AreMapperRising uts46.now }
-    ensures class { IfOk result (λ f. IsTrue f.class ↔ (IsAsked records.now uts46.now c × HasWrongClass records.now uts46.now c)) }
-    ensures length { IfOk result (λ f. IsTrue f.length ↔ (IsAsked records.now uts46.now c × HasLongList records.now uts46.now c)) }
+    ensures class { IfOk result (λ f.
+        IsTrue f.class ↔ (IsAsked records.now uts46.now c × HasWrongClass records.now uts46.now c)) }
+    ensures length { IfOk result (λ f.
+        IsTrue f.length ↔ (IsAsked records.now uts46.now c × HasLongList records.now uts46.now c)) }
 {
     if is_asked(records, uts46, lengths, c) {
         faults_of(alloc, records, uts46, c)
@@ -101,8 +103,10 @@ fn list_faults(
 ) -> Result<ListFaults, AllocError>
     requires chains { MeasuresChains records.now lengths.now }
     requires mapper { AreMapperRising uts46.now }
-    ensures class { IfOk result (λ f. IsTrue f.class ↔ IsOfSome (λ c. IsAsked records.now uts46.now c × HasWrongClass records.now uts46.now c) characters.now) }
-    ensures length { IfOk result (λ f. IsTrue f.length ↔ IsOfSome (λ c. IsAsked records.now uts46.now c × HasLongList records.now uts46.now c) characters.now) }
+    ensures class { IfOk result (λ f. IsTrue f.class ↔
+        IsOfSome (λ c. IsAsked records.now uts46.now c × HasWrongClass records.now uts46.now c) characters.now) }
+    ensures length { IfOk result (λ f. IsTrue f.length ↔
+        IsOfSome (λ c. IsAsked records.now uts46.now c × HasLongList records.now uts46.now c) characters.now) }
 {
     let mut class = false;
     let mut length = false;

@@ -15,5 +15,8 @@ loop-recorded-preserved c =
     (subst (λ (e : Entry). KeepsMapping records packed e.c) c.recorded-item.is keeps)
 
 pub returns : goal.returns
-returns c =
-    (λ _. subst (All (λ (e : Entry). KeepsMapping c.args.records.now c.args.packed.now e.c)) (take_all c.loop-recorded.recorded-index c.args.records.now c.loop-recorded-test.false) c.loop-recorded.invariant, λ _. refl)
+returns c = (
+  λ _. subst (All (λ (e : Entry). KeepsMapping c.args.records.now c.args.packed.now e.c))
+      (take_all c.loop-recorded.recorded-index c.args.records.now c.loop-recorded-test.false) c.loop-recorded.invariant,
+  λ _. refl,
+)

@@ -19,7 +19,8 @@ pub loop-number-preserved : goal.loop-number-preserved
 loop-number-preserved g c = elim c.if-next-word.branch [
   | then-next-word+in_ok-push w ↦
       let ends : c.loop-number.number - 1 + 1 ≡ c.loop-number.number = omega (arith, c.loop-number.invariant.below) in
-      rw (w.ranges-is, w.first-is, w.word-is, w.in_ok-push.ensures.items) (CoversUpTo-push _ _ _ _ _ c.loop-number.invariant c.word_of-next.result (c.loop-number.number - 1) ends c.word_of-next.ensures)
+      rw (w.ranges-is, w.first-is, w.word-is, w.in_ok-push.ensures.items)
+      (CoversUpTo-push _ _ _ _ _ c.loop-number.invariant c.word_of-next.result (c.loop-number.number - 1) ends c.word_of-next.ensures)
   | else-next-word w ↦ rw (w.ranges-is, w.first-is, w.word-is) (CoversUpTo-same _ _ _ _ _ c.loop-number.invariant c.word_of-next.result c.word_of-next.ensures w.if-next-word.false)
 ]
 

@@ -15,10 +15,12 @@ loop-entry-preserved c = λ before lists first h.
     elim c.match-listed_of.branch [
       | in-Some+in_ok-put_behind w ↦
           let more = w.in_ok-put_behind.ensures before (lists ++ listed_so_far c.args.kind c.args.entries.now c.loop-entry.entry-index) first so_far in
-          let some = listed_so_far-some c.args.kind c.args.entries.now _ c.loop-entry.entry-index c.as_slice-entry-items.ensures c.entry-item.result w.in-Some.list.now c.loop-entry-test.true c.entry-item.is (sym w.in-Some.ensures) in
+          let some = listed_so_far-some c.args.kind c.args.entries.now _ c.loop-entry.entry-index c.as_slice-entry-items.ensures c.entry-item.result w.in-Some.list.now c.loop-entry-test.true
+          c.entry-item.is (sym w.in-Some.ensures) in
           rw (w.store-is, some) (subst (λ (l : List (List ℕ)). Holds (apart_from before (first_come l)) w.put_behind.new.store) (append_assoc lists _ _) more)
       | in_default w ↦
-          let other = listed_so_far-other c.args.kind c.args.entries.now _ c.loop-entry.entry-index c.as_slice-entry-items.ensures c.entry-item.result c.loop-entry-test.true c.entry-item.is (sym w.in_default.ensures) in
+          let other = listed_so_far-other c.args.kind c.args.entries.now _ c.loop-entry.entry-index c.as_slice-entry-items.ensures c.entry-item.result c.loop-entry-test.true c.entry-item.is
+          (sym w.in_default.ensures) in
           rw (w.store-is, other) so_far
     ]
 

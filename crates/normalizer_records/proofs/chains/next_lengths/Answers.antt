@@ -16,7 +16,8 @@ loop-place-preserved c =
     let new = c.raise_by_record.new.lengths in
     let raised = rw c.as_mut_slice.ensures.value at c.raise_by_record.ensures in
     let same = whole c.loop-place.lengths.len new c.loop-place.lengths.items raised.as_long (omega (arith, c.as_mut_slice.ensures.len, c.as_mut_slice.ensures.value)) in
-    rw same (IsRaised-both (IsLinkedBelow records c.args.direction place) (IsLinkedByAny records c.args.direction place (entry_at records place).mapping) (IsLinkedBelow records c.args.direction (place + 1)) _ _ _ _
+    rw same (IsRaised-both (IsLinkedBelow records c.args.direction place) (IsLinkedByAny records c.args.direction place (entry_at records place).mapping)
+    (IsLinkedBelow records c.args.direction (place + 1)) _ _ _ _
     (below_more records c.args.direction place) (below_before records c.args.direction place) (below_last records c.args.direction place)
     c.loop-place.invariant raised)
 

@@ -15,7 +15,8 @@ loop-index-preserved c =
     let member = c.index-members-index.result in
     let within : index < length members = omega arith in
     let here = get_or_read members _ _ within c.index-members-index.is 0 in
-    IsRaised-both (IsLinkedByAny records c.args.direction c.args.place (take index members)) (IsLinked records c.args.direction c.args.place member) (IsLinkedByAny records c.args.direction c.args.place (take (index + 1) members)) _ _ _ _
+    IsRaised-both (IsLinkedByAny records c.args.direction c.args.place (take index members)) (IsLinked records c.args.direction c.args.place member)
+    (IsLinkedByAny records c.args.direction c.args.place (take (index + 1) members)) _ _ _ _
     (linked_more records c.args.direction c.args.place members index member within here)
     (linked_before records c.args.direction c.args.place members index member within here)
     (linked_last records c.args.direction c.args.place members index member within here)

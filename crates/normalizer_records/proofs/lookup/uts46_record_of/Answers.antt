@@ -22,4 +22,5 @@ unfolding IsMapperPlaceOf status_of
 returns-else-record-c c =
     let seen = ap (λ (e : MapperEntry). e.c) c.record.view_is in
     let other : c.in-Some.record.now.c ≢ c.args.c = λ same. c.if-record-c.false cc in
-    ap (option_map (λ r. r.status)) (sym (find-none _ _ (misses_all (λ r. r.c) _ c.requires _ _ c.first_mapper_place-at.ensures c.in-Some.record.now c.in-Some.ensures.lookup.3.0 c.in-Some.ensures.lookup.1 other)))
+    ap (option_map (λ r. r.status))
+    (sym (find-none _ _ (misses_all (λ r. r.c) _ c.requires _ _ c.first_mapper_place-at.ensures c.in-Some.record.now c.in-Some.ensures.lookup.3.0 c.in-Some.ensures.lookup.1 other)))

@@ -13,4 +13,5 @@ returns-then-not-are_rising c = elim c.then-not-are_rising.branch [
 ]
 
 pub returns-then-has_fixed_fault : goal.returns-then-has_fixed_fault
-returns-then-has_fixed_fault c = fixed_first _ _ (c.are_rising.ensures.0 c.if-not-are_rising.false) (c.are_mapper_rising.ensures.0 c.if-not-are_mapper_rising.false) (sym c.has_fixed_fault.ensures ∙ c.if-has_fixed_fault.true)
+returns-then-has_fixed_fault c =
+    fixed_first _ _ (c.are_rising.ensures.0 c.if-not-are_rising.false) (c.are_mapper_rising.ensures.0 c.if-not-are_mapper_rising.false) (sym c.has_fixed_fault.ensures ∙ c.if-has_fixed_fault.true)

@@ -6,4 +6,5 @@ use Rattle.normalizer_records.proofs.refusals.list_faults.Given as goal
 -- what the characters so far show
 abbrev pub invariant-loop-place : goal.invariant-loop-place
 invariant-loop-place l =
-    (IsTrue l.class ↔ IsOfSome (λ c. IsAsked l.records l.uts46 c × HasWrongClass l.records l.uts46 c) (take l.place l.characters)) × (IsTrue l.length ↔ IsOfSome (λ c. IsAsked l.records l.uts46 c × HasLongList l.records l.uts46 c) (take l.place l.characters))
+    (IsTrue l.class ↔ IsOfSome (λ c. IsAsked l.records l.uts46 c × HasWrongClass l.records l.uts46 c) (take l.place l.characters)) ×
+    (IsTrue l.length ↔ IsOfSome (λ c. IsAsked l.records l.uts46 c × HasLongList l.records l.uts46 c) (take l.place l.characters))

@@ -16,6 +16,8 @@ returns-in_default c =
     let parted = IsPartitionedBy-character c.self.inside.entries.now c.args.character c.self.invariant in
     let point = IsPartitionPoint-from_clause (λ e. nat_lt e.character c.args.character) _ _ c.partition_point-at.ensures.partitioned parted (λ a r q k. search rules) in
     elim c.in_default.branch [
-      | in_default-via-in-Some+else-entry-character w ↦ rw (← c.self.view_is) (sym (entry_of-gap _ _ _ c.self.invariant point w.in-Some.entry.now w.in-Some.ensures.lookup.3.0 w.in-Some.ensures.lookup.1 (λ same. w.if-entry-character.false (ap (λ e. e.character) w.entry.view_is ∙ same))))
+      | in_default-via-in-Some+else-entry-character w ↦ rw (← c.self.view_is)
+          (sym (entry_of-gap _ _ _ c.self.invariant point w.in-Some.entry.now w.in-Some.ensures.lookup.3.0 w.in-Some.ensures.lookup.1
+          (λ same. w.if-entry-character.false (ap (λ e. e.character) w.entry.view_is ∙ same))))
       | in_default-via-in_default w ↦ rw (← c.self.view_is) (sym (entry_of-above _ _ _ c.self.invariant point (rw w.in_default.is at c.get.ensures.lookup.3)))
     ]

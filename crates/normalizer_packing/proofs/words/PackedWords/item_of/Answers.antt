@@ -27,23 +27,29 @@ unwrap-place-requires c =
 
 pub item_at-requires-in-None : goal.item_at-requires-in-None
 item_at-requires-in-None c =
-    stands_in_supplementary _ _ c.requires.ready _ c.args.list.now c.requires.listed (sym c.place_of.ensures ∙ c.in-None.is) c.unwrap-place.result (sym c.place_of-in-None.ensures ∙ c.unwrap-place.ensures)
+    stands_in_supplementary _ _ c.requires.ready _ c.args.list.now c.requires.listed (sym c.place_of.ensures ∙ c.in-None.is) c.unwrap-place.result (sym c.place_of-in-None.ensures
+    ∙ c.unwrap-place.ensures)
 
 pub overflow_add-result : goal.overflow_add-result
 overflow_add-result c =
-    let same = item_in_supplementary _ _ c.requires.ready _ c.args.list.now c.requires.listed (sym c.place_of.ensures ∙ c.in-None.is) c.unwrap-place.result (sym c.place_of-in-None.ensures ∙ c.unwrap-place.ensures) in
+    let same = item_in_supplementary _ _ c.requires.ready _ c.args.list.now c.requires.listed (sym c.place_of.ensures ∙ c.in-None.is) c.unwrap-place.result (sym c.place_of-in-None.ensures
+    ∙ c.unwrap-place.ensures) in
     omega (arith, c.len.ensures, c.item_at-in-None.ensures, item_within_limit _ _ c.requires.ready _ c.args.list.now c.requires.listed)
 
 pub overflow_cast-result-in-None : goal.overflow_cast-result-in-None
 overflow_cast-result-in-None c =
-    let same = item_in_supplementary _ _ c.requires.ready _ c.args.list.now c.requires.listed (sym c.place_of.ensures ∙ c.in-None.is) c.unwrap-place.result (sym c.place_of-in-None.ensures ∙ c.unwrap-place.ensures) in
+    let same = item_in_supplementary _ _ c.requires.ready _ c.args.list.now c.requires.listed (sym c.place_of.ensures ∙ c.in-None.is) c.unwrap-place.result (sym c.place_of-in-None.ensures
+    ∙ c.unwrap-place.ensures) in
     omega (arith, c.len.ensures, c.item_at-in-None.ensures, item_within_limit _ _ c.requires.ready _ c.args.list.now c.requires.listed)
 
 pub returns-in-None-clause-within : goal.returns-in-None-clause-within
 returns-in-None-clause-within c =
-    let same = item_in_supplementary _ _ c.requires.ready _ c.args.list.now c.requires.listed (sym c.place_of.ensures ∙ c.in-None.is) c.unwrap-place.result (sym c.place_of-in-None.ensures ∙ c.unwrap-place.ensures) in
+    let same = item_in_supplementary _ _ c.requires.ready _ c.args.list.now c.requires.listed (sym c.place_of.ensures ∙ c.in-None.is) c.unwrap-place.result (sym c.place_of-in-None.ensures
+    ∙ c.unwrap-place.ensures) in
     omega (arith, c.len.ensures, c.item_at-in-None.ensures, item_within_limit _ _ c.requires.ready _ c.args.list.now c.requires.listed)
 
 pub returns-in-None-clause-item : goal.returns-in-None-clause-item
 returns-in-None-clause-item c =
-    rw (c.len.ensures, c.item_at-in-None.ensures) (item_in_supplementary _ _ c.requires.ready _ c.args.list.now c.requires.listed (sym c.place_of.ensures ∙ c.in-None.is) c.unwrap-place.result (sym c.place_of-in-None.ensures ∙ c.unwrap-place.ensures))
+    rw (c.len.ensures, c.item_at-in-None.ensures)
+    (item_in_supplementary _ _ c.requires.ready _ c.args.list.now c.requires.listed (sym c.place_of.ensures ∙ c.in-None.is) c.unwrap-place.result (sym c.place_of-in-None.ensures
+    ∙ c.unwrap-place.ensures))

@@ -7,4 +7,5 @@ pub item_of-requires-clause-listed : goal.item_of-requires-clause-listed
 item_of-requires-clause-listed c = listed_lent _ _ _ _ _ _ c.unwrap_or-kept.ensures refl c.list_of-list.ensures c.in-Listed.ensures.line
 
 pub pointing_word-word-requires-clause-length : goal.pointing_word-word-requires-clause-length
-pointing_word-word-requires-clause-length c = length_of_listed _ _ c.requires _ c.unwrap_or-kept.result.now (listed_lent _ _ _ _ _ _ c.unwrap_or-kept.ensures refl c.list_of-list.ensures c.in-Listed.ensures.line)
+pointing_word-word-requires-clause-length c =
+    length_of_listed _ _ c.requires _ c.unwrap_or-kept.result.now (listed_lent _ _ _ _ _ _ c.unwrap_or-kept.ensures refl c.list_of-list.ensures c.in-Listed.ensures.line)
