@@ -1,5 +1,6 @@
 -- Fronts of the form, encoded as the units are, and fronts of the units.
-use Rattle.std.proofs.Common.{◌≡◌, ℕ, suc, ◌≤◌, ◌↔◌, List, ◌++◌, length, take, drop, inl, inr, refl, sym, ap, subst, ◌∙◌, arith, length-append, length-take-le, take-append-drop, append_assoc, take-take}
+use Rattle.std.proofs.Common.{◌≡◌, ℕ, suc, ◌≤◌, ◌↔◌, List, ◌++◌, length, take, drop, inl}
+use Rattle.std.proofs.Common.{inr, refl, sym, ap, subst, ◌∙◌, arith, length-append, length-take-le, take-append-drop, append_assoc, take-take}
 use Rattle.std.specs.Char.{IsScalar}
 use Rattle.std.proofs.lemmas.Bool.{cases_lt}
 use Rattle.std.proofs.lemmas.List.{take_at}
@@ -67,7 +68,8 @@ module _ (e : Encoding) (d : Reading) (form : Form) (units : List ℕ) where
       }
 
   -- a front of the form stands at the front of the units exactly where a common front ends at a boundary
-  pub encoded_iff_boundary : HasTextForms d form → (n k : ℕ) → IsEncodedFront e d form units n k ↔ (IsErrorFreeBoundary e units n × (characters_before e units n ≡ k) × IsCommonFront text form_of_text k)
+  pub encoded_iff_boundary : HasTextForms d form → (n k : ℕ)
+      → IsEncodedFront e d form units n k ↔ (IsErrorFreeBoundary e units n × (characters_before e units n ≡ k) × IsCommonFront text form_of_text k)
   encoded_iff_boundary texts n k = (boundary_of_encoded texts n k, λ b. encoded_of_boundary n k b.0 b.1 b.2)
 
   -- and so does each shorter one
@@ -94,7 +96,8 @@ module _ (e : Encoding) (d : Reading) (form : Form) (units : List ℕ) where
       )
 
   -- the longest of them ends at the cut
-  pub longest_encoded_is_cut : SuitsForm d form → HasTextForms d form → (n k : ℕ) → IsEncodedFront e d form units n k → ((m : ℕ) → IsEncodedFront e d form units m (suc k) → ⊥) → IsInputCut e d form units n
+  pub longest_encoded_is_cut : SuitsForm d form → HasTextForms d form → (n k : ℕ) → IsEncodedFront e d form units n k
+      → ((m : ℕ) → IsEncodedFront e d form units m (suc k) → ⊥) → IsInputCut e d form units n
   longest_encoded_is_cut suits texts n k f stops =
       let here = boundary_of_encoded texts n k f in
       record {

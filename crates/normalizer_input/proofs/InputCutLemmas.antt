@@ -1,5 +1,6 @@
 -- The cut of an input of units: by characters it is a cut of the text that the units decode to, or the first error.
-use Rattle.std.proofs.Common.{◌≡◌, ℕ, zero, suc, ◌<◌, ◌≤◌, ◌⊎◌, ◌↔◌, false, List, [], ◌∷◌, ◌++◌, length, take, drop, inl, inr, refl, sym, ap, subst, ◌∙◌, arith, append-nil, length-append, take-append-drop, drop_of_length-le}
+use Rattle.std.proofs.Common.{◌≡◌, ℕ, zero, suc, ◌<◌, ◌≤◌, ◌⊎◌, ◌↔◌, false, List, [], ◌∷◌, ◌++◌, length}
+use Rattle.std.proofs.Common.{take, drop, inl, inr, refl, sym, ap, subst, ◌∙◌, arith, append-nil, length-append, take-append-drop, drop_of_length-le}
 use Rattle.std.proofs.lemmas.Bool.{cases_lt, cases_eq, true≢false}
 use Rattle.std.proofs.lemmas.List.Elements.{All-head, All-same}
 use Rattle.std.proofs.Math.Seq.{take-append_seam, drop-append_seam, take-length, drop-length}
@@ -16,7 +17,8 @@ use Rattle.normalizer_text.proofs.BoundaryLemmas.{width_of-fewer}
 use Rattle.normalizer_text.proofs.StepLemmas.{decoded-nil, steps-apart}
 use Rattle.normalizer_input.proofs.FormLemmas.{normal_form-nil}
 use Rattle.normalizer_input.specs.InputCut.{IsInputNormalized, QualifiesForInputCut, IsInputCut, characters_before, IsErrorFreeBoundary, IsErrorAt}
-use Rattle.normalizer_input.proofs.InputBoundaryLemmas.{AreErrorFree, ErrorFreeFront, AreErrorFree-rest, cases_error_free, longest_error_free, error_free-fewer, length-decoded, IsWellFormed-nil, IsWellFormed-append, decoded-parts, boundary_of_front, front_of_boundary, IsErrorAt-steps}
+use Rattle.normalizer_input.proofs.InputBoundaryLemmas.{AreErrorFree, ErrorFreeFront, AreErrorFree-rest, cases_error_free, longest_error_free, error_free-fewer}
+use Rattle.normalizer_input.proofs.InputBoundaryLemmas.{length-decoded, IsWellFormed-nil, IsWellFormed-append, decoded-parts, boundary_of_front, front_of_boundary, IsErrorAt-steps}
 
 -- ---- the greatest number
 
@@ -114,7 +116,8 @@ module _ (e : Encoding) where
       omega (arith, ap length (decoded-parts e units n w), length-append p r)
 
   -- in well-formed units a boundary stands behind each number of characters
-  pub boundary_of_characters : (units : List ℕ) (k : ℕ) → IsWellFormed (first_in e) units → k ≤ length (decoded_in e units) → (n : ℕ) × IsErrorFreeBoundary e units n × (characters_before e units n ≡ k)
+  pub boundary_of_characters : (units : List ℕ) (k : ℕ) → IsWellFormed (first_in e) units → k ≤ length (decoded_in e units)
+      → (n : ℕ) × IsErrorFreeBoundary e units n × (characters_before e units n ≡ k)
   boundary_of_characters units k w within =
       let front = longest_error_free (steps (first_in e) units) k (omega (arith, length-decoded e units)) in
       let b : IsErrorFreeBoundary e units (width_of front.before) = record {
@@ -137,7 +140,8 @@ module _ (e : Encoding) where
 
     -- a number qualifies where it is a boundary at or before the first error, and so many characters as stand before it
     -- qualify for the cut of the decoded text
-    pub qualifies_iff_characters : (units : List ℕ) (n : ℕ) → QualifiesForInputCut e d form units n ↔ (IsErrorFreeBoundary e units n × QualifiesForCut d form (decoded_in e units) (characters_before e units n))
+    pub qualifies_iff_characters : (units : List ℕ) (n : ℕ)
+        → QualifiesForInputCut e d form units n ↔ (IsErrorFreeBoundary e units n × QualifiesForCut d form (decoded_in e units) (characters_before e units n))
     qualifies_iff_characters units n = (
       λ q. (
         boundary_of_front e units n q.within q.well_formed,
@@ -156,7 +160,8 @@ module _ (e : Encoding) where
     )
 
     -- so it does where so many characters are a common front of the decoded text and its form
-    pub qualifies_iff_front : SuitsForm d form → (units : List ℕ) (n : ℕ) → QualifiesForInputCut e d form units n ↔ (IsErrorFreeBoundary e units n × IsCommonFront (decoded_in e units) (normal_form d form (decoded_in e units)) (characters_before e units n))
+    pub qualifies_iff_front : SuitsForm d form → (units : List ℕ) (n : ℕ)
+        → QualifiesForInputCut e d form units n ↔ (IsErrorFreeBoundary e units n × IsCommonFront (decoded_in e units) (normal_form d form (decoded_in e units)) (characters_before e units n))
     qualifies_iff_front suits units n =
         let by_characters = qualifies_iff_characters units n in
         let by_front = cut_iff d form suits (decoded_in e units) (characters_before e units n) in (
@@ -196,7 +201,9 @@ module _ (e : Encoding) where
         (found.0, record { qualifies = found.1.passes; greatest = found.1.greatest })
 
     -- where the longest error-free front of as many steps as the cut of the text has characters ends, the input is cut
-    cut_at_front : SuitsForm d form → (units : List ℕ) (k : ℕ) → IsCut d form (decoded_in e units) k → (front : ErrorFreeFront (steps (first_in e) units) k) → IsInputCut e d form units (width_of front.before) × ((characters_before e units (width_of front.before) ≡ k) ⊎ IsErrorAt e units (width_of front.before))
+    cut_at_front : SuitsForm d form → (units : List ℕ) (k : ℕ) → IsCut d form (decoded_in e units) k
+        → (front : ErrorFreeFront (steps (first_in e) units) k)
+        → IsInputCut e d form units (width_of front.before) × ((characters_before e units (width_of front.before) ≡ k) ⊎ IsErrorAt e units (width_of front.before))
     cut_at_front suits units k cut front =
         let n = width_of front.before in
         let b : IsErrorFreeBoundary e units n = record {
@@ -231,7 +238,8 @@ module _ (e : Encoding) where
         )
 
     -- the cut comes at or after the end of each such front
-    pub longest_front : SuitsForm d form → (units : List ℕ) (n : ℕ) → IsInputCut e d form units n → (m : ℕ) → IsErrorFreeBoundary e units m → IsCommonFront (decoded_in e units) (normal_form d form (decoded_in e units)) (characters_before e units m) → m ≤ n
+    pub longest_front : SuitsForm d form → (units : List ℕ) (n : ℕ) → IsInputCut e d form units n → (m : ℕ) → IsErrorFreeBoundary e units m
+        → IsCommonFront (decoded_in e units) (normal_form d form (decoded_in e units)) (characters_before e units m) → m ≤ n
     longest_front suits units n cut m b front = cut.greatest m ((qualifies_iff_front suits units m).1 (b, front))
 
     front_to_cut : (units : List ℕ) (k : ℕ) → IsCut d form (decoded_in e units) k → ErrorFreeFront (steps (first_in e) units) k
@@ -239,7 +247,8 @@ module _ (e : Encoding) where
         longest_error_free (steps (first_in e) units) k (let le = cut.qualifies.within in omega (arith, length-decoded e units))
 
     -- before the cut stand as many characters as before that of the text, or fewer and an error stands at it
-    pub cut_ends : SuitsForm d form → (units : List ℕ) (n k : ℕ) → IsInputCut e d form units n → IsCut d form (decoded_in e units) k → (characters_before e units n ≤ k) × ((characters_before e units n ≡ k) ⊎ IsErrorAt e units n)
+    pub cut_ends : SuitsForm d form → (units : List ℕ) (n k : ℕ) → IsInputCut e d form units n → IsCut d form (decoded_in e units) k
+        → (characters_before e units n ≤ k) × ((characters_before e units n ≡ k) ⊎ IsErrorAt e units n)
     cut_ends suits units n k input text =
         let front = front_to_cut units k text in
         let found = cut_at_front suits units k text front in

@@ -19,7 +19,8 @@ pub is_normalized_iff_text : (e : Encoding) (d : Reading) (form : Form) (units :
 is_normalized_iff_text e d form units w = (λ own. own.own, λ own. record { well_formed = w; own = own })
 
 -- a well-formed front is as long as the encoding of the characters that it decodes to
-pub length-front : (e : Encoding) (units : List ℕ) (n : ℕ) → n ≤ length units → IsWellFormed (first_in e) (take n units) → n ≡ length (encoded_in e (take (characters_before e units n) (decoded_in e units)))
+pub length-front : (e : Encoding) (units : List ℕ) (n : ℕ) → n ≤ length units → IsWellFormed (first_in e) (take n units)
+    → n ≡ length (encoded_in e (take (characters_before e units n) (decoded_in e units)))
 length-front e units n within w =
     sym (length-take-le n units within)
     ∙ ap length (sym (encoded-decoded e (take n units) w))
@@ -41,7 +42,8 @@ module _ (e : Encoding) (d : Reading) (form : Form) (units : List ℕ) (well_for
   )
 
   -- the first offence comes after the units of as many characters as stand before that of the text
-  pub input_offence_iff_text : (place found wanted : ℕ) → IsInputOffence e d form units place found wanted ↔ ((k : ℕ) × IsFirstOffence d form (decoded_in e units) k found wanted × (place ≡ length (encoded_in e (take k (decoded_in e units)))))
+  pub input_offence_iff_text : (place found wanted : ℕ)
+      → IsInputOffence e d form units place found wanted ↔ ((k : ℕ) × IsFirstOffence d form (decoded_in e units) k found wanted × (place ≡ length (encoded_in e (take k (decoded_in e units)))))
   input_offence_iff_text place found wanted = (
     λ offence. (
       characters_before e units place,

@@ -1,5 +1,6 @@
 -- The first offence of an input of units, and of the input with a continuation.
-use Rattle.std.proofs.Common.{◌≡◌, ◌≢◌, ℕ, ◌<◌, ◌≤◌, ◌⊎◌, List, [], ◌∷◌, ◌++◌, length, take, drop, Option, Some, None, inl, inr, refl, sym, ap, subst, ◌∙◌, arith, append_assoc, append-nil, length-drop}
+use Rattle.std.proofs.Common.{◌≡◌, ◌≢◌, ℕ, ◌<◌, ◌≤◌, ◌⊎◌, List, [], ◌∷◌, ◌++◌, length, take, drop}
+use Rattle.std.proofs.Common.{Option, Some, None, inl, inr, refl, sym, ap, subst, ◌∙◌, arith, append_assoc, append-nil, length-drop}
 use Rattle.std.proofs.Math.Seq.{take-length, drop-length, drop-append_seam}
 use Rattle.std.proofs.lemmas.Bool.{cases_eq}
 use Rattle.normal_forms.specs.Reading.{Reading}
@@ -19,7 +20,8 @@ use Rattle.normalizer_input.specs.InputCut.{IsInputNormalized, IsInputCut, chara
 use Rattle.normalizer_input.specs.InputOffence.{IsInputOffence, IsOffenceOf}
 use Rattle.normalizer_input.specs.declared.offence.Offence.{Offence}
 use Rattle.normalizer_input.proofs.InputBoundaryLemmas.{IsWellFormed-rest, boundary_of_front}
-use Rattle.normalizer_input.proofs.InputCutLemmas.{characters_before-steps, drop-characters_before, qualifies_iff_characters, input_cut_exists, input_cut_unique, cut_ends, input_cut_below, is_normalized_iff_input_cut, cut_of_well_formed}
+use Rattle.normalizer_input.proofs.InputCutLemmas.{characters_before-steps, drop-characters_before, qualifies_iff_characters, input_cut_exists}
+use Rattle.normalizer_input.proofs.InputCutLemmas.{input_cut_unique, cut_ends, input_cut_below, is_normalized_iff_input_cut, cut_of_well_formed}
 
 first_unique : (x : List ℕ) (a b : ℕ) → IsFirst x a → IsFirst x b → a ≡ b
 first_unique x a b one two = let same = sym one.1 ∙ two.1 in cc
@@ -29,7 +31,8 @@ cases_first [] = inl refl
 cases_first (c ∷ x) = inr (c, (x, refl))
 
 module _ (e : Encoding) (d : Reading) (form : Form) where
-  pub input_offence_unique : (units : List ℕ) (place found wanted place' found' wanted' : ℕ) → IsInputOffence e d form units place found wanted → IsInputOffence e d form units place' found' wanted' → (place ≡ place') × (found ≡ found') × (wanted ≡ wanted')
+  pub input_offence_unique : (units : List ℕ) (place found wanted place' found' wanted' : ℕ) → IsInputOffence e d form units place found wanted
+      → IsInputOffence e d form units place' found' wanted' → (place ≡ place') × (found ≡ found') × (wanted ≡ wanted')
   input_offence_unique units place found wanted place' found' wanted' a b =
       let same : place ≡ place' = input_cut_unique e d form units place place' a.cut b.cut in (
         same,
@@ -46,7 +49,8 @@ module _ (e : Encoding) (d : Reading) (form : Form) where
   decoded-nonempty units some none =
       let parts : (first_in e units).character ∷ decoded_in e (drop (first_in e units).width units) ≡ [] = sym (decoded-some (first_in e) (IsDecoding-first e) units some) ∙ none in cc
 
-  pub input_offence_exists : HasInhabitedLists d → (units : List ℕ) → (IsInputNormalized e d form units → ⊥) → (place : ℕ) × (found : ℕ) × (wanted : ℕ) × IsInputOffence e d form units place found wanted
+  pub input_offence_exists : HasInhabitedLists d → (units : List ℕ) → (IsInputNormalized e d form units → ⊥)
+      → (place : ℕ) × (found : ℕ) × (wanted : ℕ) × IsInputOffence e d form units place found wanted
   input_offence_exists inhabited units differs =
       let at = input_cut_exists e d form units in
       let below = input_cut_below e d form units at.0 differs at.1 in
@@ -70,7 +74,8 @@ module _ (e : Encoding) (d : Reading) (form : Form) where
       record { within = omega arith; keeps = rw (take-length x, drop-length x, normal_form-nil d form) (append-nil x ∙ sym own) }
 
   -- where as many characters stand before an input offence as before the cut of the text, it is the text's
-  text_offence : (units : List ℕ) (place found wanted : ℕ) → IsInputOffence e d form units place found wanted → IsCut d form (decoded_in e units) (characters_before e units place) → IsFirstOffence d form (decoded_in e units) (characters_before e units place) found wanted
+  text_offence : (units : List ℕ) (place found wanted : ℕ) → IsInputOffence e d form units place found wanted
+      → IsCut d form (decoded_in e units) (characters_before e units place) → IsFirstOffence d form (decoded_in e units) (characters_before e units place) found wanted
   text_offence units place found wanted offence cut =
       let x : List ℕ = decoded_in e units in
       let k : ℕ = characters_before e units place in
@@ -100,14 +105,16 @@ module _ (e : Encoding) (d : Reading) (form : Form) where
   -- ---- well-formed inputs
 
   -- the first offence of a well-formed input is that of its text
-  pub offence_of_well_formed : (units : List ℕ) (place found wanted : ℕ) → IsWellFormed (first_in e) units → IsInputOffence e d form units place found wanted → IsFirstOffence d form (decoded_in e units) (characters_before e units place) found wanted
+  pub offence_of_well_formed : (units : List ℕ) (place found wanted : ℕ) → IsWellFormed (first_in e) units
+      → IsInputOffence e d form units place found wanted → IsFirstOffence d form (decoded_in e units) (characters_before e units place) found wanted
   offence_of_well_formed units place found wanted w offence =
       text_offence units place found wanted offence (cut_of_well_formed e d form units place w offence.cut)
 
   -- ---- continuations
 
   -- the well-formed parts of an input that is its own form are their own forms
-  pub parts_of_normalized : SuitsForm d form → (front rest : List ℕ) → IsWellFormed (first_in e) front → IsInputNormalized e d form (front ++ rest) → IsInputNormalized e d form front × IsInputNormalized e d form rest
+  pub parts_of_normalized : SuitsForm d form → (front rest : List ℕ) → IsWellFormed (first_in e) front → IsInputNormalized e d form (front ++ rest)
+      → IsInputNormalized e d form front × IsInputNormalized e d form rest
   parts_of_normalized suits front rest w own =
       let x : List ℕ = decoded_in e front in
       let y : List ℕ = decoded_in e rest in
@@ -122,7 +129,8 @@ module _ (e : Encoding) (d : Reading) (form : Form) where
   continued_input_differs suits units more w differs own = differs (parts_of_normalized suits units more w own).0
 
   -- where a well-formed input is not its own form, no continuation moves its cut behind
-  pub continued_input_cut : SuitsForm d form → (units more : List ℕ) (n m : ℕ) → IsWellFormed (first_in e) units → (IsInputNormalized e d form units → ⊥) → IsInputCut e d form units n → IsInputCut e d form (units ++ more) m → m ≤ n
+  pub continued_input_cut : SuitsForm d form → (units more : List ℕ) (n m : ℕ) → IsWellFormed (first_in e) units
+      → (IsInputNormalized e d form units → ⊥) → IsInputCut e d form units n → IsInputCut e d form (units ++ more) m → m ≤ n
   continued_input_cut suits units more n m w differs cut longer =
       let x : List ℕ = decoded_in e units in
       let y : List ℕ = decoded_in e more in
@@ -136,7 +144,8 @@ module _ (e : Encoding) (d : Reading) (form : Form) where
       let count = characters_before-steps e units n here in
       let count_longer = characters_before-steps e (units ++ more) m there.0 in
       let whole : steps (first_in e) (units ++ more) ≡ here.boundary.before ++ (here.boundary.after ++ steps (first_in e) more) =
-      steps-append (first_in e) (IsDecoding-first e) units more w ∙ ap (λ l. l ++ steps (first_in e) more) here.boundary.apart ∙ append_assoc here.boundary.before here.boundary.after (steps (first_in e) more) in
+      steps-append (first_in e) (IsDecoding-first e) units more w ∙ ap (λ l. l ++ steps (first_in e) more) here.boundary.apart
+      ∙ append_assoc here.boundary.before here.boundary.after (steps (first_in e) more) in
       let le =
       width_of-fewer there.0.boundary.before there.0.boundary.after here.boundary.before (here.boundary.after ++ steps (first_in e) more)
       (sym there.0.boundary.apart ∙ whole) (omega arith) in
@@ -145,7 +154,9 @@ module _ (e : Encoding) (d : Reading) (form : Form) where
       omega arith
 
   -- where a well-formed input has a first offence, it has one no later with every continuation
-  pub continued_input_offence : SuitsForm d form → HasInhabitedLists d → (units more : List ℕ) (place found wanted : ℕ) → IsWellFormed (first_in e) units → IsInputOffence e d form units place found wanted → (place' : ℕ) × (found' : ℕ) × (wanted' : ℕ) × IsInputOffence e d form (units ++ more) place' found' wanted' × (place' ≤ place)
+  pub continued_input_offence : SuitsForm d form → HasInhabitedLists d → (units more : List ℕ) (place found wanted : ℕ)
+      → IsWellFormed (first_in e) units → IsInputOffence e d form units place found wanted
+      → (place' : ℕ) × (found' : ℕ) × (wanted' : ℕ) × IsInputOffence e d form (units ++ more) place' found' wanted' × (place' ≤ place)
   continued_input_offence suits inhabited units more place found wanted w offence =
       let longer = input_offence_exists inhabited (units ++ more) (continued_input_differs suits units more w offence.differs) in
       (longer.0, longer.1, longer.2, longer.3, continued_input_cut suits units more place longer.0 w offence.differs offence.cut longer.3.cut)
@@ -180,7 +191,8 @@ module _ (e : Encoding) (d : Reading) (form : Form) where
   found_in_text units place found wanted o =
       subst (λ l. IsFirst l found) (sym (drop-characters_before e units place o.cut.qualifies.well_formed)) o.is_found
 
-  pub wanted_in_form : (units : List ℕ) (place found wanted : ℕ) → IsInputOffence e d form units place found wanted → IsFirst (drop (characters_before e units place) (normal_form d form (decoded_in e units))) wanted
+  pub wanted_in_form : (units : List ℕ) (place found wanted : ℕ) → IsInputOffence e d form units place found wanted
+      → IsFirst (drop (characters_before e units place) (normal_form d form (decoded_in e units))) wanted
   wanted_in_form units place found wanted o =
       let front : List ℕ = decoded_in e (take place units) in
       let rest : List ℕ = normal_form d form (decoded_in e (drop place units)) in

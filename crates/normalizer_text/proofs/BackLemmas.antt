@@ -1,5 +1,6 @@
 -- Steps from the back, of any rule.
-use Rattle.std.proofs.Common.{◌≡◌, subst, ℕ, zero, suc, ◌+◌, ◌-◌, ◌<◌, ◌≤◌, true, false, Bool, List, [], ◌∷◌, ◌++◌, length, length-drop, length-append, length-take-le, get_or, get_or-drop, append_assoc, take, drop, map, reverse, arith, ap, sym, ◌∙◌, ⊎_elim}
+use Rattle.std.proofs.Common.{◌≡◌, subst, ℕ, zero, suc, ◌+◌, ◌-◌, ◌<◌, ◌≤◌, true, false, Bool, List, [], ◌∷◌, ◌++◌}
+use Rattle.std.proofs.Common.{length, length-drop, length-append, length-take-le, get_or, get_or-drop, append_assoc, take, drop, map, reverse, arith, ap, sym, ◌∙◌, ⊎_elim}
 use Rattle.std.specs.Prelude.{slice_index}
 use Rattle.std.proofs.lemmas.List.{drop-drop, take_all, drop_all, append-nil, map-append, reverse-append, same_from_push}
 use Rattle.std.proofs.lemmas.Bool.{false_from_ne_true, cases_lt, cases_eq, true≢false}
@@ -92,7 +93,8 @@ module _ (first : List ℕ → Step) (d : IsDecoding first) where
           let found = last-step us' (omega arith) in
           let q = found.0 in
           let e = found.1 in
-          let whole : decoded first us' ≡ decoded first (take q us') ++ (first (drop q us')).character ∷ [] = ap (map (λ s. s.character)) e.last ∙ map-append (λ s. s.character) (steps first (take q us')) (first (drop q us') ∷ []) in
+          let whole : decoded first us' ≡ decoded first (take q us') ++ (first (drop q us')).character ∷ [] =
+          ap (map (λ s. s.character)) e.last ∙ map-append (λ s. s.character) (steps first (take q us')) (first (drop q us') ∷ []) in
           subst (Spells (TakesLast first) us') (sym (ap reverse whole ∙ reverse-append (decoded first (take q us')) ((first (drop q us')).character ∷ []))) (
             (λ j p. absurd (let k : length us' ≡ 0 = ap length p.0 in omega arith)),
             λ x j p.
@@ -110,10 +112,12 @@ module _ (first : List ℕ → Step) (d : IsDecoding first) where
   pub decoded-TakenFrom : {us x rest y : List ℕ} → TakenFrom first us x rest y → decoded first us ≡ x ++ decoded first rest ++ y
   decoded-TakenFrom {us = us} TakenFrom.none = sym (append-nil (decoded first us))
   decoded-TakenFrom (TakenFrom.front x rest y c left t p) =
-      let some : decoded first rest ≡ c ∷ decoded first left = decoded-some first d rest p.0 ∙ ap (λ z. z ∷ decoded first (drop (first rest).width rest)) (sym p.1) ∙ ap (λ z. c ∷ decoded first z) (sym p.2) in
+      let some : decoded first rest ≡ c ∷ decoded first left =
+      decoded-some first d rest p.0 ∙ ap (λ z. z ∷ decoded first (drop (first rest).width rest)) (sym p.1) ∙ ap (λ z. c ∷ decoded first z) (sym p.2) in
       decoded-TakenFrom t ∙ ap (λ z. x ++ z ++ y) some ∙ ap (λ z. z ++ y) (sym (append_assoc x (c ∷ []) (decoded first left)))
   decoded-TakenFrom (TakenFrom.back x rest y c left t p) =
-      let some : decoded first rest ≡ decoded first left ++ c ∷ [] = decoded-last rest p.0 p.1 ∙ ap (λ z. decoded first (take (length rest - p.0.width) rest) ++ z ∷ []) (sym p.2) ∙ ap (λ z. decoded first z ++ c ∷ []) (sym p.3) in
+      let some : decoded first rest ≡ decoded first left ++ c ∷ [] =
+      decoded-last rest p.0 p.1 ∙ ap (λ z. decoded first (take (length rest - p.0.width) rest) ++ z ∷ []) (sym p.2) ∙ ap (λ z. decoded first z ++ c ∷ []) (sym p.3) in
       decoded-TakenFrom t ∙ ap (λ z. x ++ z ++ y) some
       ∙ ap (λ z. z ++ y) (sym (append_assoc x (decoded first left) (c ∷ [])))
       ∙ append_assoc (x ++ decoded first left) (c ∷ []) y
@@ -123,7 +127,8 @@ module _ (first : List ℕ → Step) (d : IsDecoding first) (trails : ℕ → Bo
   pub steps-at : (us : List ℕ) (p : ℕ) → p ≤ length us → (0 < p → p < length us → trails (get_or us p 0) ≡ false) → steps first us ≡ steps first (take p us) ++ steps first (drop p us)
   steps-at us p l h = by (length us) us p (omega arith) l h
     where
-      by : (n : ℕ) (us : List ℕ) (p : ℕ) → length us ≤ n → p ≤ length us → (0 < p → p < length us → trails (get_or us p 0) ≡ false) → steps first us ≡ steps first (take p us) ++ steps first (drop p us)
+      by : (n : ℕ) (us : List ℕ) (p : ℕ) → length us ≤ n → p ≤ length us → (0 < p → p < length us → trails (get_or us p 0) ≡ false)
+          → steps first us ≡ steps first (take p us) ++ steps first (drop p us)
       by n us zero m l h = sym (ap (λ x. x ++ steps first us) (steps-nil first))
       by n [] (suc p) m l h = absurd (omega arith)
       by zero (u ∷ us) (suc p) m l h = absurd (omega arith)

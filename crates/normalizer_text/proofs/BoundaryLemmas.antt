@@ -1,5 +1,6 @@
 -- Positions at which a step ends, of any rule.
-use Rattle.std.proofs.Common.{◌≡◌, subst, ℕ, zero, suc, ◌+◌, ◌-◌, ◌<◌, ◌≤◌, inl, inr, List, [], ◌∷◌, ◌++◌, length, length-drop, length-take-le, append_assoc, take, drop, arith, refl, ap, sym, ◌∙◌, map, take-append-drop}
+use Rattle.std.proofs.Common.{◌≡◌, subst, ℕ, zero, suc, ◌+◌, ◌-◌, ◌<◌, ◌≤◌, inl, inr, List, [], ◌∷◌}
+use Rattle.std.proofs.Common.{◌++◌, length, length-drop, length-take-le, append_assoc, take, drop, arith, refl, ap, sym, ◌∙◌, map, take-append-drop}
 use Rattle.std.specs.Prelude.{All}
 use Rattle.std.proofs.lemmas.List.{append-nil, take_at, drop_at, drop-drop, map-append}
 use Rattle.std.proofs.lemmas.Bool.{cases_lt}
@@ -129,8 +130,10 @@ module _ (first : List ℕ → Step) (d : IsDecoding first) where
   well_formed-parts us n b w =
       let k = steps-parts us n b in
       let all : All IsRight (b.before ++ b.after) = All-same IsRight (b.before ++ b.after) (steps first us) (sym b.apart) w in (
-        All-same IsRight (steps first (take n us)) (take (length b.before) (b.before ++ b.after)) (k.0 ∙ sym (take_at b.before b.after (length b.before) refl)) (All-take IsRight (length b.before) (b.before ++ b.after) all),
-        All-same IsRight (steps first (drop n us)) (drop (length b.before) (b.before ++ b.after)) (k.1 ∙ sym (drop_at b.before b.after (length b.before) refl)) (All-drop IsRight (length b.before) (b.before ++ b.after) all),
+        All-same IsRight (steps first (take n us)) (take (length b.before) (b.before ++ b.after)) (k.0 ∙ sym (take_at b.before b.after (length b.before) refl))
+            (All-take IsRight (length b.before) (b.before ++ b.after) all),
+        All-same IsRight (steps first (drop n us)) (drop (length b.before) (b.before ++ b.after)) (k.1 ∙ sym (drop_at b.before b.after (length b.before) refl))
+            (All-drop IsRight (length b.before) (b.before ++ b.after) all),
       )
 
   -- the text of the two parts
@@ -138,7 +141,8 @@ module _ (first : List ℕ → Step) (d : IsDecoding first) where
   decoded-take-drop us n b = ap (map (λ s. s.character)) (steps-take-drop us n b) ∙ map-append (λ s. s.character) (steps first (take n us)) (steps first (drop n us))
 
   -- the text of the three parts at two positions
-  pub decoded-between : (us : List ℕ) (n m : ℕ) → IsBoundary first us n → IsBoundary first us m → n ≤ m → decoded first us ≡ decoded first (take n us) ++ decoded first (slice_range us n m) ++ decoded first (drop m us)
+  pub decoded-between : (us : List ℕ) (n m : ℕ) → IsBoundary first us n → IsBoundary first us m → n ≤ m
+      → decoded first us ≡ decoded first (take n us) ++ decoded first (slice_range us n m) ++ decoded first (drop m us)
   decoded-between us n m b c le =
       let front = decoded first (take n us) in
       let middle = decoded first (slice_range us n m) in

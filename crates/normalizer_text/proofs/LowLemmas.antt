@@ -39,7 +39,8 @@ character-low limit b bs least most below right =
     right
 
 -- what holds of the character that each unit begins, holds of all that well-formed units decode to
-decoded-All : (first : List ℕ → Step) → IsDecoding first → (P Q : ℕ → Type 0) → ((u : ℕ) (us : List ℕ) → P u → (first (u ∷ us)).is_error ≡ false → Q (first (u ∷ us)).character) → (units : List ℕ) → IsWellFormed first units → All P units → All Q (decoded first units)
+decoded-All : (first : List ℕ → Step) → IsDecoding first → (P Q : ℕ → Type 0)
+    → ((u : ℕ) (us : List ℕ) → P u → (first (u ∷ us)).is_error ≡ false → Q (first (u ∷ us)).character) → (units : List ℕ) → IsWellFormed first units → All P units → All Q (decoded first units)
 decoded-All first d P Q holds units w all = by (length units) units (omega arith) w all
   where
     by : (n : ℕ) (us : List ℕ) → length us ≤ n → IsWellFormed first us → All P us → All Q (decoded first us)

@@ -12,7 +12,10 @@ pub allows-below_matched : (rs : List ByteRange) (bs : List ℕ) (n : ℕ) → n
 allows-below_matched [] bs n h = absurd (omega arith)
 allows-below_matched (r ∷ rs) [] n h = absurd (omega arith)
 allows-below_matched (r ∷ rs) (b ∷ bs) zero h = ⊎_elim (λ yes. yes) (λ no. absurd (let k = rw no at h in omega arith)) (cases_Bool (allows r b))
-allows-below_matched (r ∷ rs) (b ∷ bs) (suc n) h = ⊎_elim (λ yes. allows-below_matched rs bs n (let k = rw yes at h in omega arith)) (λ no. absurd (let k = rw no at h in omega arith)) (cases_Bool (allows r b))
+allows-below_matched (r ∷ rs) (b ∷ bs) (suc n) h = ⊎_elim
+    (λ yes. allows-below_matched rs bs n (let k = rw yes at h in omega arith))
+    (λ no. absurd (let k = rw no at h in omega arith))
+    (cases_Bool (allows r b))
 
 pub matched-le : (rs : List ByteRange) (bs : List ℕ) → (matched rs bs ≤ length rs) × (matched rs bs ≤ length bs)
 matched-le [] bs = (omega arith, omega arith)

@@ -1,5 +1,6 @@
 -- What the rows of the table of well-formed sequences have in common.
-use Rattle.std.proofs.Common.{◌≡◌, ℕ, suc, ◌+◌, ◌<◌, ◌≤◌, Bool, true, List, [], ◌∷◌, length, take, drop, get_or, Option, Some, None, arith, lit<, lit≤, ◌⊎◌, inl, inr, refl, ap, sym, subst, ◌∙◌, ⊎_elim}
+use Rattle.std.proofs.Common.{◌≡◌, ℕ, suc, ◌+◌, ◌<◌, ◌≤◌, Bool, true, List, [], ◌∷◌, length, take, drop, get_or}
+use Rattle.std.proofs.Common.{Option, Some, None, arith, lit<, lit≤, ◌⊎◌, inl, inr, refl, ap, sym, subst, ◌∙◌, ⊎_elim}
 use Rattle.std.specs.Prelude.{find, option_map}
 use Rattle.std.proofs.lemmas.List.{length-replicate}
 use Rattle.std.proofs.lemmas.Bool.{cases_Bool, ne_eqb, eq-eqb, cases_eq}
@@ -108,21 +109,24 @@ each-IsRow = (
             },
             (
               record {
-                sequences = λ b bs h. four b _ _ _ (λ c d e k l m. (omega arith, omega arith, (λ e. omega arith), (λ e. omega arith), omega arith, omega arith, omega arith, omega arith, omega arith, omega arith)) bs;
+                sequences = λ b bs h. four b _ _ _
+                    (λ c d e k l m. (omega arith, omega arith, (λ e. omega arith), (λ e. omega arith), omega arith, omega arith, omega arith, omega arith, omega arith, omega arith)) bs;
                 lead = inr (lit< tt);
                 trail = ((lit≤ tt, lit≤ tt), ((lit≤ tt, lit≤ tt), ((lit≤ tt, lit≤ tt), tt)));
                 short = lit≤ tt;
               },
               (
                 record {
-                  sequences = λ b bs h. four b _ _ _ (λ c d e k l m. (omega arith, omega arith, (λ e. omega arith), (λ e. omega arith), omega arith, omega arith, omega arith, omega arith, omega arith, omega arith)) bs;
+                  sequences = λ b bs h. four b _ _ _
+                      (λ c d e k l m. (omega arith, omega arith, (λ e. omega arith), (λ e. omega arith), omega arith, omega arith, omega arith, omega arith, omega arith, omega arith)) bs;
                   lead = inr (lit< tt);
                   trail = ((lit≤ tt, lit≤ tt), ((lit≤ tt, lit≤ tt), ((lit≤ tt, lit≤ tt), tt)));
                   short = lit≤ tt;
                 },
                 (
                   record {
-                    sequences = λ b bs h. four b _ _ _ (λ c d e k l m. (omega arith, omega arith, (λ e. omega arith), (λ e. omega arith), omega arith, omega arith, omega arith, omega arith, omega arith, omega arith)) bs;
+                    sequences = λ b bs h. four b _ _ _
+                        (λ c d e k l m. (omega arith, omega arith, (λ e. omega arith), (λ e. omega arith), omega arith, omega arith, omega arith, omega arith, omega arith, omega arith)) bs;
                     lead = inr (lit< tt);
                     trail = ((lit≤ tt, lit≤ tt), ((lit≤ tt, lit≤ tt), ((lit≤ tt, lit≤ tt), tt)));
                     short = lit≤ tt;
@@ -169,7 +173,8 @@ pub by_row-whole : (r : Row) (b : ℕ) (bs : List ℕ) → matched r.trail bs �
 by_row-whole r b bs m = rw (eq-eqb (matched r.trail bs) (length r.trail) m) refl
 
 -- a sequence that is cut short, of a first byte that `t` may follow, m of whose places are matched
-pub first-short : (bytes : List ℕ) (t : Trail) (m : ℕ) → 0 < length bytes → Some (places t) ≡ option_map (λ r. r.trail) (row_of (get_or bytes 0 0)) → m ≡ matched (places t) (drop 1 bytes) → 1 + m ≤ t.length → replaced (1 + m) ≡ first_of_utf8 bytes
+pub first-short : (bytes : List ℕ) (t : Trail) (m : ℕ) → 0 < length bytes → Some (places t) ≡ option_map (λ r. r.trail) (row_of (get_or bytes 0 0))
+    → m ≡ matched (places t) (drop 1 bytes) → 1 + m ≤ t.length → replaced (1 + m) ≡ first_of_utf8 bytes
 first-short [] t m h e q l = absurd (omega arith)
 first-short (b ∷ bs) t m h e q l =
     let k = row_trail (row_of b) (places t) e in
@@ -185,7 +190,8 @@ pub record IsWhole (bytes : List ℕ) (m : ℕ) : Type 0 where
   pub sequence : IsSequence (take (1 + m) bytes)
   pub step : read (scalar_value (take (1 + m) bytes)) (1 + m) ≡ first_of_utf8 bytes
 
-pub first-whole : (bytes : List ℕ) (t : Trail) (m : ℕ) → 0 < length bytes → Some (places t) ≡ option_map (λ r. r.trail) (row_of (get_or bytes 0 0)) → m ≡ matched (places t) (drop 1 bytes) → t.length < 1 + m → IsWhole bytes m
+pub first-whole : (bytes : List ℕ) (t : Trail) (m : ℕ) → 0 < length bytes → Some (places t) ≡ option_map (λ r. r.trail) (row_of (get_or bytes 0 0))
+    → m ≡ matched (places t) (drop 1 bytes) → t.length < 1 + m → IsWhole bytes m
 first-whole [] t m h e q l = absurd (omega arith)
 first-whole (b ∷ bs) t m h e q l =
     let k = row_trail (row_of b) (places t) e in

@@ -28,7 +28,10 @@ scalar_value-IsScalar (a ∷ b ∷ c ∷ []) s = ⊎_elim
     (cases_order a 0xED)
 scalar_value-IsScalar (a ∷ b ∷ c ∷ d ∷ []) s = ⊎_elim
     (λ e. let k = s.2 e in IsScalar-high (scalar_value (a ∷ b ∷ c ∷ d ∷ [])) (omega arith) (omega arith))
-    (λ ne. ⊎_elim (λ e. let k = s.3 e in IsScalar-high (scalar_value (a ∷ b ∷ c ∷ d ∷ [])) (omega arith) (omega arith)) (λ f. IsScalar-high (scalar_value (a ∷ b ∷ c ∷ d ∷ [])) (omega arith) (omega arith)) (cases_eq a 0xF4))
+    (λ ne. ⊎_elim
+    (λ e. let k = s.3 e in IsScalar-high (scalar_value (a ∷ b ∷ c ∷ d ∷ [])) (omega arith) (omega arith))
+    (λ f. IsScalar-high (scalar_value (a ∷ b ∷ c ∷ d ∷ [])) (omega arith) (omega arith))
+    (cases_eq a 0xF4))
     (cases_eq a 0xF0)
 scalar_value-IsScalar (a ∷ b ∷ c ∷ d ∷ e ∷ bytes) s = absurd s
 

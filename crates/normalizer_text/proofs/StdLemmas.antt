@@ -1,5 +1,6 @@
 -- What std decodes to, of bytes and of 16-bit units.
-use Rattle.std.proofs.Common.{◌≡◌, ℕ, zero, suc, ◌^◌, ◌<◌, ◌≤◌, ◌⊎◌, inl, inr, Bool, true, false, ◌&&◌, cond, List, [], ◌∷◌, ◌++◌, length, length-drop, length-take, length-take-le, nat_lt, map, take, drop, take-append-drop, replicate, Some, None, arith, refl, ap, sym, subst, ◌∙◌, ⊎_elim}
+use Rattle.std.proofs.Common.{◌≡◌, ℕ, zero, suc, ◌^◌, ◌<◌, ◌≤◌, ◌⊎◌, inl, inr, Bool, true, false, ◌&&◌, cond, List, [], ◌∷◌, ◌++◌}
+use Rattle.std.proofs.Common.{length, length-drop, length-take, length-take-le, nat_lt, map, take, drop, take-append-drop, replicate, Some, None, arith, refl, ap, sym, subst, ◌∙◌, ⊎_elim}
 use Rattle.std.specs.Prelude.{All, unwrap_or, is_some, ◌||◌, ◌==◌}
 use Rattle.std.specs.Char.{encode_utf8}
 use Rattle.std.specs.Char.Utf16.{utf16_lossy_chars, lone_unit_char}
@@ -74,8 +75,16 @@ record HasSecond (r : Row) (b : ℕ) : Type 0 where
 abbrev HasSeconds : Row → Type 0
 HasSeconds r = (b : ℕ) → IsWithin r.lead b → (r.trail ≡ []) ⊎ HasSecond r b
 
-second : (r : Row) (b least greatest more : ℕ) → 0xC2 ≤ b → b ≤ 0xF4 → more ≤ 2 → r.trail ≡ range least greatest ∷ replicate more continuation → second_byte_min b ≡ least → second_byte_max b ≡ greatest → HasSecond r b
-second r b least greatest more l h f t p q = record { low = l; high = h; more = more; few = f; trail = t ∙ ap (λ x. range x greatest ∷ replicate more continuation) (sym p) ∙ ap (λ y. range (second_byte_min b) y ∷ replicate more continuation) (sym q) }
+second : (r : Row) (b least greatest more : ℕ) → 0xC2 ≤ b → b ≤ 0xF4 → more ≤ 2 → r.trail ≡ range least greatest ∷ replicate more continuation
+    → second_byte_min b ≡ least → second_byte_max b ≡ greatest → HasSecond r b
+second r b least greatest more l h f t p q = record {
+  low = l;
+  high = h;
+  more = more;
+  few = f;
+  trail = t ∙ ap (λ x. range x greatest ∷ replicate more continuation) (sym p)
+      ∙ ap (λ y. range (second_byte_min b) y ∷ replicate more continuation) (sym q);
+}
 
 each-HasSeconds : Each HasSeconds well_formed_sequences
 each-HasSeconds = (
@@ -120,7 +129,8 @@ three_of : (b c d : ℕ) (bs : List ℕ) → nat_lt (length (b ∷ c ∷ d ∷ b
 three_of b c d bs = le-ltb (length (b ∷ c ∷ d ∷ bs)) 3 (omega arith)
 
 -- the bytes from the third on, and those from the second on
-after_two : (b c : ℕ) (bs : List ℕ) (more : ℕ) → more ≤ 2 → matched (replicate more continuation) bs < more → unwrap_or (error_len_after_two (b ∷ c ∷ bs)) (length (b ∷ c ∷ bs)) ≡ suc (suc (matched (replicate more continuation) bs))
+after_two : (b c : ℕ) (bs : List ℕ) (more : ℕ) → more ≤ 2 → matched (replicate more continuation) bs < more
+    → unwrap_or (error_len_after_two (b ∷ c ∷ bs)) (length (b ∷ c ∷ bs)) ≡ suc (suc (matched (replicate more continuation) bs))
 after_two b c bs zero h m = absurd (omega arith)
 after_two b c [] (suc more) h m = refl
 after_two b c (d ∷ bs) (suc more) h m = ⊎_elim
@@ -131,19 +141,23 @@ after_two b c (d ∷ bs) (suc more) h m = ⊎_elim
     ∙ sym (ap (λ x. suc (suc x)) (cond-false (allows continuation d) (suc (matched (replicate more continuation) bs)) 0 wrong)))
     (cases_Bool (allows continuation d))
   where
-    by : (more : ℕ) (bs : List ℕ) → suc more ≤ 2 → matched (replicate more continuation) bs < more → allows continuation d ≡ true → unwrap_or (error_len_after_two (b ∷ c ∷ d ∷ bs)) (length (b ∷ c ∷ d ∷ bs)) ≡ suc (suc (matched (replicate (suc more) continuation) (d ∷ bs)))
+    by : (more : ℕ) (bs : List ℕ) → suc more ≤ 2 → matched (replicate more continuation) bs < more → allows continuation d ≡ true
+        → unwrap_or (error_len_after_two (b ∷ c ∷ d ∷ bs)) (length (b ∷ c ∷ d ∷ bs)) ≡ suc (suc (matched (replicate (suc more) continuation) (d ∷ bs)))
     by zero bs h m good = absurd (omega arith)
     by (suc zero) [] h m good = ap (λ o. unwrap_or o 3) (cond-true (allows continuation d) None (Some 2) good) ∙ sym (ap (λ x. suc (suc x)) (cond-true (allows continuation d) 1 0 good))
     by (suc zero) (e ∷ bs) h m good =
         let len = length (b ∷ c ∷ d ∷ e ∷ bs) in
-        ap (λ o. unwrap_or o len) (cond-false (nat_lt len 3) None _ (three_of b c d (e ∷ bs)) ∙ cond-true (allows continuation d) _ (Some 2) good ∙ cond-false (nat_lt len 4) None (Some 3) (le-ltb len 4 (omega arith)))
+        ap (λ o. unwrap_or o len) (cond-false (nat_lt len 3) None _ (three_of b c d (e ∷ bs)) ∙ cond-true (allows continuation d) _ (Some 2) good
+        ∙ cond-false (nat_lt len 4) None (Some 3) (le-ltb len 4 (omega arith)))
         ∙ sym (ap (λ x. suc (suc x)) (cond-true (allows continuation d) _ 0 good ∙ ap suc (cond-false (allows continuation e) 1 0 (unmatched (allows continuation e) 0 m))))
     by (suc (suc more)) bs h m good = absurd (omega arith)
 
 after_one : (r : Row) (b : ℕ) (bs : List ℕ) → HasSecond r b → matched r.trail bs < length r.trail → unwrap_or (error_len_after_one (b ∷ bs)) (length (b ∷ bs)) ≡ suc (matched r.trail bs)
 after_one r b bs h m = subst (λ x. unwrap_or (error_len_after_one (b ∷ bs)) (length (b ∷ bs)) ≡ suc (matched x bs)) (sym h.trail) (by bs (subst (λ x. matched x bs < length x) h.trail m))
   where
-    by : (bs : List ℕ) → matched (range (second_byte_min b) (second_byte_max b) ∷ replicate h.more continuation) bs < suc (length (replicate h.more continuation)) → unwrap_or (error_len_after_one (b ∷ bs)) (length (b ∷ bs)) ≡ suc (matched (range (second_byte_min b) (second_byte_max b) ∷ replicate h.more continuation) bs)
+    by : (bs : List ℕ)
+        → matched (range (second_byte_min b) (second_byte_max b) ∷ replicate h.more continuation) bs < suc (length (replicate h.more continuation))
+        → unwrap_or (error_len_after_one (b ∷ bs)) (length (b ∷ bs)) ≡ suc (matched (range (second_byte_min b) (second_byte_max b) ∷ replicate h.more continuation) bs)
     by [] m = refl
     by (c ∷ bs) m =
         let len = length (b ∷ c ∷ bs) in
@@ -238,7 +252,8 @@ front-IsFront bs e =
     let all = width_of-steps first_of_utf8 IsDecoding-utf8 bs in
     let sum = ap width_of e.apart ∙ width_of-append e.before (e.error ∷ e.after) in
     let some = some_steps (drop n bs) parts.1 in
-    let cons : first_of_utf8 (drop n bs) ∷ steps first_of_utf8 (drop (first_of_utf8 (drop n bs)).width (drop n bs)) ≡ e.error ∷ e.after = sym (steps-some first_of_utf8 IsDecoding-utf8 (drop n bs) some) ∙ parts.1 in
+    let cons : first_of_utf8 (drop n bs) ∷ steps first_of_utf8 (drop (first_of_utf8 (drop n bs)).width (drop n bs)) ≡ e.error ∷ e.after =
+    sym (steps-some first_of_utf8 IsDecoding-utf8 (drop n bs) some) ∙ parts.1 in
     let step : first_of_utf8 (drop n bs) ≡ e.error = cc in
     let tail : steps first_of_utf8 (drop (first_of_utf8 (drop n bs)).width (drop n bs)) ≡ e.after = cc in record {
       front = parts.0;
@@ -264,14 +279,16 @@ IsValidUpTo-front bs e =
       front = IsUtf8-IsWellFormed (take n bs) (All-same IsRight (steps first_of_utf8 (take n bs)) e.before f.front e.right);
       longest = λ m more u.
           let w = IsWellFormed-IsUtf8 (take m bs) u in
-          let both : steps first_of_utf8 bs ≡ steps first_of_utf8 (take m bs) ++ steps first_of_utf8 (drop m bs) = ap (steps first_of_utf8) (sym (take-append-drop m bs)) ∙ steps-append first_of_utf8 IsDecoding-utf8 (take m bs) (drop m bs) w in
+          let both : steps first_of_utf8 bs ≡ steps first_of_utf8 (take m bs) ++ steps first_of_utf8 (drop m bs) =
+          ap (steps first_of_utf8) (sym (take-append-drop m bs)) ∙ steps-append first_of_utf8 IsDecoding-utf8 (take m bs) (drop m bs) w in
           let le = width_of-right (steps first_of_utf8 (take m bs)) e.before (steps first_of_utf8 (drop m bs)) e.after e.error (sym e.apart ∙ both) w e.is in
           let width = width_of-steps first_of_utf8 IsDecoding-utf8 (take m bs) in
           absurd (omega (arith, length-take m bs));
     }
 
 -- bytes up to the first error, the bytes that U+FFFD stands for, and the rest
-lossy-front : (bs : List ℕ) (e : HasError (steps first_of_utf8 bs)) → utf8_lossy bs ≡ take (width_of e.before) bs ++ (replacement_bytes ++ utf8_lossy (drop e.error.width (drop (width_of e.before) bs)))
+lossy-front : (bs : List ℕ) (e : HasError (steps first_of_utf8 bs))
+    → utf8_lossy bs ≡ take (width_of e.before) bs ++ (replacement_bytes ++ utf8_lossy (drop e.error.width (drop (width_of e.before) bs)))
 lossy-front bs e =
     let n = width_of e.before in
     let f = front-IsFront bs e in
@@ -291,7 +308,8 @@ lossy-front bs e =
     invalid_some [] h w = absurd (omega arith)
     invalid_some (u ∷ us) h w = invalid_len u us w
 
-decoded-front : (bs : List ℕ) (e : HasError (steps first_of_utf8 bs)) → decoded_utf8 bs ≡ decoded_utf8 (take (width_of e.before) bs) ++ 0xFFFD ∷ decoded_utf8 (drop e.error.width (drop (width_of e.before) bs))
+decoded-front : (bs : List ℕ) (e : HasError (steps first_of_utf8 bs))
+    → decoded_utf8 bs ≡ decoded_utf8 (take (width_of e.before) bs) ++ 0xFFFD ∷ decoded_utf8 (drop e.error.width (drop (width_of e.before) bs))
 decoded-front bs e =
     let n = width_of e.before in
     let f = front-IsFront bs e in

@@ -103,7 +103,8 @@ module _ (first : List ℕ → Step) (d : IsDecoding first) where
           let cons = steps-some us' (omega arith) in
           let w' : All IsRight (first us' ∷ steps first (drop (first us').width us')) = All-same IsRight (first us' ∷ steps first (drop (first us').width us')) (steps first us') (sym cons) w in
           let same = d.extends us' rest (omega arith) (All-head IsRight (first us') (steps first (drop (first us').width us')) w') in
-          let left : drop (first (us' ++ rest)).width (us' ++ rest) ≡ drop (first us').width us' ++ rest = ap (λ s. drop s.width (us' ++ rest)) same ∙ drop-append-le (first us').width us' rest (d.fits us' (omega arith)) in
+          let left : drop (first (us' ++ rest)).width (us' ++ rest) ≡ drop (first us').width us' ++ rest =
+          ap (λ s. drop s.width (us' ++ rest)) same ∙ drop-append-le (first us').width us' rest (d.fits us' (omega arith)) in
           steps-some (us' ++ rest) (omega arith)
           ∙ ap (λ s. s ∷ steps first (drop (first (us' ++ rest)).width (us' ++ rest))) same
           ∙ ap (λ x. first us' ∷ steps first x) left

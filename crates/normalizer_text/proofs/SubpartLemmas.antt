@@ -1,5 +1,6 @@
 -- The step that decoding finds in front of bytes is the standard's, and no other is.
-use Rattle.std.proofs.Common.{◌≡◌, ℕ, zero, suc, ◌<◌, ◌≤◌, inl, inr, List, [], ◌∷◌, ◌++◌, length, length-take-le, take, drop, take-append-drop, map, Some, None, arith, lit<, lit≤, refl, ap, sym, subst, ◌∙◌, ⊎_elim}
+use Rattle.std.proofs.Common.{◌≡◌, ℕ, zero, suc, ◌<◌, ◌≤◌, inl, inr, List, [], ◌∷◌, ◌++◌, length, length-take-le}
+use Rattle.std.proofs.Common.{take, drop, take-append-drop, map, Some, None, arith, lit<, lit≤, refl, ap, sym, subst, ◌∙◌, ⊎_elim}
 use Rattle.std.specs.Prelude.{slice_index_or}
 use Rattle.std.specs.List.{Contains}
 use Rattle.std.proofs.lemmas.Bool.{cases_Bool}
@@ -21,7 +22,31 @@ record IsTableRow (r : Row) : Type 0 where
   inhabited : Each (λ t. t.least ≤ t.greatest) r.trail
 
 each-IsTableRow : Each IsTableRow well_formed_sequences
-each-IsTableRow = (record { listed = (0, lit< tt, refl); leads = (λ b h. row-ascii b (omega arith)); inhabited = tt }, (record { listed = (1, lit< tt, refl); leads = (λ b h. row-two b (omega arith) (omega arith)); inhabited = (lit≤ tt, tt) }, (record { listed = (2, lit< tt, refl); leads = (λ b h. row-E0 b (omega arith)); inhabited = (lit≤ tt, (lit≤ tt, tt)) }, (record { listed = (3, lit< tt, refl); leads = (λ b h. row-E1 b (omega arith) (omega arith)); inhabited = (lit≤ tt, (lit≤ tt, tt)) }, (record { listed = (4, lit< tt, refl); leads = (λ b h. row-ED b (omega arith)); inhabited = (lit≤ tt, (lit≤ tt, tt)) }, (record { listed = (5, lit< tt, refl); leads = (λ b h. row-EE b (omega arith) (omega arith)); inhabited = (lit≤ tt, (lit≤ tt, tt)) }, (record { listed = (6, lit< tt, refl); leads = (λ b h. row-F0 b (omega arith)); inhabited = (lit≤ tt, (lit≤ tt, (lit≤ tt, tt))) }, (record { listed = (7, lit< tt, refl); leads = (λ b h. row-F1 b (omega arith) (omega arith)); inhabited = (lit≤ tt, (lit≤ tt, (lit≤ tt, tt))) }, (record { listed = (8, lit< tt, refl); leads = (λ b h. row-F4 b (omega arith)); inhabited = (lit≤ tt, (lit≤ tt, (lit≤ tt, tt))) }, tt)))))))))
+each-IsTableRow = (
+  record { listed = (0, lit< tt, refl); leads = (λ b h. row-ascii b (omega arith)); inhabited = tt },
+  (
+    record { listed = (1, lit< tt, refl); leads = (λ b h. row-two b (omega arith) (omega arith)); inhabited = (lit≤ tt, tt) },
+    (
+      record { listed = (2, lit< tt, refl); leads = (λ b h. row-E0 b (omega arith)); inhabited = (lit≤ tt, (lit≤ tt, tt)) },
+      (
+        record { listed = (3, lit< tt, refl); leads = (λ b h. row-E1 b (omega arith) (omega arith)); inhabited = (lit≤ tt, (lit≤ tt, tt)) },
+        (
+          record { listed = (4, lit< tt, refl); leads = (λ b h. row-ED b (omega arith)); inhabited = (lit≤ tt, (lit≤ tt, tt)) },
+          (
+            record { listed = (5, lit< tt, refl); leads = (λ b h. row-EE b (omega arith) (omega arith)); inhabited = (lit≤ tt, (lit≤ tt, tt)) },
+            (
+              record { listed = (6, lit< tt, refl); leads = (λ b h. row-F0 b (omega arith)); inhabited = (lit≤ tt, (lit≤ tt, (lit≤ tt, tt))) },
+              (
+                record { listed = (7, lit< tt, refl); leads = (λ b h. row-F1 b (omega arith) (omega arith)); inhabited = (lit≤ tt, (lit≤ tt, (lit≤ tt, tt))) },
+                (record { listed = (8, lit< tt, refl); leads = (λ b h. row-F4 b (omega arith)); inhabited = (lit≤ tt, (lit≤ tt, (lit≤ tt, tt))) }, tt),
+              ),
+            ),
+          ),
+        ),
+      ),
+    ),
+  ),
+)
 
 row_of-IsTableRow : (b : ℕ) (r : Row) → row_of b ≡ Some r → IsTableRow r
 unfolding row_of

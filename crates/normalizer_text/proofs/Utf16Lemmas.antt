@@ -58,7 +58,8 @@ first-pair u v us e = cond-true (is_high u && is_low v) (read (pair_value u v) 2
 pub first-unpaired : (u v : ℕ) (us : List ℕ) → (is_high u && is_low v) ≡ false → first_of_utf16 (u ∷ v ∷ us) ≡ unpaired u
 first-unpaired u v us e = cond-false (is_high u && is_low v) (read (pair_value u v) 2) (unpaired u) e
 
-cases : (P : Step → Type 0) (u v : ℕ) (us : List ℕ) → ((is_high u && is_low v) ≡ true → P (read (pair_value u v) 2)) → ((is_high u && is_low v) ≡ false → P (unpaired u)) → P (first_of_utf16 (u ∷ v ∷ us))
+cases : (P : Step → Type 0) (u v : ℕ) (us : List ℕ) → ((is_high u && is_low v) ≡ true → P (read (pair_value u v) 2))
+    → ((is_high u && is_low v) ≡ false → P (unpaired u)) → P (first_of_utf16 (u ∷ v ∷ us))
 cases P u v us pair single = ⊎_elim
     (λ e. subst P (sym (first-pair u v us e)) (pair e))
     (λ e. subst P (sym (first-unpaired u v us e)) (single e))

@@ -4,7 +4,7 @@ use Rattle.std.specs.Char.{IsScalar}
 use Rattle.std.proofs.lemmas.List.{take-take, take-append-le}
 use Rattle.std.proofs.lemmas.Bool.{true≢false, cases_eq, and_from, le-leb}
 use Rattle.normalizer_text.specs.declared.step.Step.{Step}
-use Rattle.normalizer_text.specs.Steps.{replaced}
+use Rattle.normalizer_text.specs.Steps.{read, replaced}
 use Rattle.normalizer_text.specs.Utf8.{ByteRange, Row, row_of, continuation, allows, matched, scalar_value, first_by_row, first_of_utf8}
 use Rattle.normalizer_text.proofs.Decoding.{IsDecoding, HasTrails}
 use Rattle.normalizer_text.proofs.MatchLemmas.{allows-true, allows-below_matched, matched-le, matched-take, matched-append}
@@ -16,7 +16,11 @@ rows : (r : Row) (bs : List ℕ) → (matched r.trail bs ≡ length r.trail) ⊎
 rows r bs = ⊎_elim (λ e. inl e) (λ ne. inr (let k = matched-le r.trail bs in omega arith)) (cases_eq (matched r.trail bs) (length r.trail))
 
 -- what is shown of a step by cases
-pub by_cases : (P : Step → Type 0) (b : ℕ) (bs : List ℕ) → (row_of b ≡ None → P (replaced 1)) → ((r : Row) → row_of b ≡ Some r → matched r.trail bs ≡ length r.trail → P (record { character = scalar_value (b ∷ take (length r.trail) bs); width = suc (length r.trail); is_error = false })) → ((r : Row) → row_of b ≡ Some r → matched r.trail bs < length r.trail → P (replaced (suc (matched r.trail bs)))) → P (first_of_utf8 (b ∷ bs))
+pub by_cases : (P : Step → Type 0) (b : ℕ) (bs : List ℕ)
+    → (row_of b ≡ None → P (replaced 1))
+    → ((r : Row) → row_of b ≡ Some r → matched r.trail bs ≡ length r.trail → P (read (scalar_value (b ∷ take (length r.trail) bs)) (suc (length r.trail))))
+    → ((r : Row) → row_of b ≡ Some r → matched r.trail bs < length r.trail → P (replaced (suc (matched r.trail bs))))
+    → P (first_of_utf8 (b ∷ bs))
 by_cases P b bs none whole short = by (row_of b) refl
   where
     by : (o : Option Row) → row_of b ≡ o → P (first_by_row o b bs)

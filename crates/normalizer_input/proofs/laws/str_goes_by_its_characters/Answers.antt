@@ -25,5 +25,6 @@ returns-clause-cut c = λ d form n k.
 pub returns-clause-offence : goal.returns-clause-offence
 returns-clause-offence c = λ d form place found wanted.
     let text = c.args.text.now in
-    subst (λ x. IsInputOffence Encoding.Utf8 d form text place found wanted ↔ ((k : ℕ) × IsFirstOffence d form x k found wanted × (place ≡ length (encode_utf8_all (take k x))))) (decoded-chars text c.utf8.text)
+    subst (λ x. IsInputOffence Encoding.Utf8 d form text place found wanted ↔ ((k : ℕ) × IsFirstOffence d form x k found wanted × (place ≡ length (encode_utf8_all (take k x)))))
+    (decoded-chars text c.utf8.text)
     (input_offence_iff_text Encoding.Utf8 d form text (IsWellFormed-IsUtf8 text c.utf8.text) place found wanted)
