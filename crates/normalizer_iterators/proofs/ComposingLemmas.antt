@@ -1,15 +1,21 @@
 -- Composition, from one step to the next.
-use Rattle.std.proofs.Common.{◌≡◌, ℕ, Bool, List, ◌++◌, Option, Some, None, IfSome, refl, sym, ap, ◌∙◌}
+use Rattle.std.proofs.Common.{◌≡◌, ℕ, All, Bool, List, ◌++◌, Option, Some, None, IfSome, refl, sym, ap, ◌∙◌}
 use Rattle.normal_forms.specs.Decomposition.{expand}
 use Rattle.normal_forms.specs.Order.{order, insert, is_reorderable}
 use Rattle.normal_forms.specs.Composition.{is_blocked, joined, visit, compose_from, compose}
 use Rattle.normal_forms.specs.CompositionByStarters.{compose_by_starters}
 use Rattle.normal_forms.specs.Forms.{nfd, nfc}
 use Rattle.normal_forms.specs.ShortRuns.{continues, leading_length, HasShortChunks, HasShortRuns}
-use Rattle.normal_forms.specs.Hypotheses.{HasStarterResults, HasFaithfulResults}
+use Rattle.normal_forms.specs.Hypotheses.{HasStarterResults}
 use Rattle.normal_forms.proofs.VisitLemmas.{compose_is_by_starters}
 use Rattle.normalizer_tables.specs.declared.characters.IgnoredCharacters.{IgnoredCharacters}
-use Rattle.normalizer_tables.specs.Characters.{Characters, class_of}
+use Rattle.normalizer_tables.specs.declared.condition.Bounds.{Bounds}
+use Rattle.normalizer_tables.specs.declared.condition.Condition.TheVariants.{Hangul}
+use Rattle.normalizer_tables.specs.Characters.{Characters, class_of, list_of, own_reading}
+use Rattle.normalizer_tables.specs.Conditions.{Holds}
+use Rattle.normalizer_tables.specs.Ignored.{ignored_list}
+use Rattle.normalizer_tables.specs.PairConditions.{HasOrderedLists}
+use Rattle.normalizer_tables.proofs.PairLaws.{HasFaithfulResults-reading_of, order-own}
 use Rattle.normalizer_tables.specs.Pairs.{Pair, pair_of}
 use Rattle.normalizer_iterators.specs.LazyReading.{decomposing_reading}
 use Rattle.normalizer_iterators.specs.MarkRuns.{leading_marks, HasShortMarkRuns}
@@ -19,9 +25,6 @@ use Rattle.normalizer_iterators.specs.Composing.{composing_reading, pairing_read
 
 pub class-pairing_reading : (s : Characters) (pairs : List Pair) (c : ℕ) → (pairing_reading s pairs).class c ≡ class_of s c
 class-pairing_reading s pairs c = refl
-
-pair-composing_reading : (s : Characters) (ignored : IgnoredCharacters) (pairs : List Pair) (a c : ℕ) → (composing_reading s ignored pairs).pair a c ≡ pair_of pairs a c
-pair-composing_reading s ignored pairs a c = refl
 
 pub pair-pairing_reading : (s : Characters) (pairs : List Pair) (a c : ℕ) → (pairing_reading s pairs).pair a c ≡ pair_of pairs a c
 pair-pairing_reading s pairs a c = refl
@@ -52,6 +55,7 @@ HasShortRuns-composing_reading f s ignored pairs x h = record { leading = h.lead
 
 -- ---- what a pair composes to
 
-pub lists-composing_reading : (s : Characters) (ignored : IgnoredCharacters) (pairs : List Pair) → HasFaithfulResults (composing_reading s ignored pairs) → (first second : ℕ) (result : Option ℕ) → result ≡ pair_of pairs first second → IfSome result (λ c. (composing_reading s ignored pairs).list c ≡ order (composing_reading s ignored pairs) ((composing_reading s ignored pairs).list first ++ (composing_reading s ignored pairs).list second))
-lists-composing_reading s ignored pairs faithful first second None is = tt
-lists-composing_reading s ignored pairs faithful first second (Some c) is = faithful.results first second c (pair-composing_reading s ignored pairs first second ∙ sym is)
+pub lists-compose : (s : Characters) (b : Bounds) → Holds s b Hangul → (pairs : List Pair) (ignored : IgnoredCharacters) → All (HasOrderedLists s (ignored_list ignored)) pairs → (a c : ℕ) (result : Option ℕ) → result ≡ pair_of pairs a c → IfSome result (λ r. list_of s (ignored_list ignored) r ≡ order (own_reading s) (list_of s (ignored_list ignored) a ++ list_of s (ignored_list ignored) c))
+lists-compose s b hangul pairs ignored keep a c None is = tt
+lists-compose s b hangul pairs ignored keep a c (Some r) is =
+    (HasFaithfulResults-reading_of s b hangul pairs (ignored_list ignored) keep).results a c r (sym is) ∙ sym (order-own s (ignored_list ignored) (pair_of pairs) (list_of s (ignored_list ignored) a ++ list_of s (ignored_list ignored) c))

@@ -1,14 +1,18 @@
 //! Composing text character by character (The Unicode Standard, D117, D120 and D121).
-ghost use Rattle.std.specs.Prelude.{◌≡◌, ◌≤◌, ℕ, List, [], Option, MatchResult, OnErr, IfOk, IsOk, IsOkUnless, IfSome, ◌++◌};
+ghost use Rattle.std.specs.Prelude.{◌≡◌, ◌≤◌, ℕ, All, List, [], Option, MatchResult, OnErr, IfOk, IsOk, IsOkUnless, IfSome, ◌++◌};
 ghost use Rattle.std.specs.Iterator.{at_most, IsFinite, MakesProgress};
 ghost use Rattle.normal_forms.specs.Forms.{nfc};
 ghost use Rattle.normal_forms.specs.Order.{order};
 ghost use Rattle.normal_forms.specs.CompositionByStarters.{join};
 ghost use Rattle.normal_forms.specs.Reading.{IsMark, Reading};
-ghost use Rattle.normal_forms.specs.Hypotheses.{HasFaithfulResults};
 ghost use Rattle.normal_forms.specs.ShortRuns.{places, HasShortRuns};
 ghost use Rattle.normalizer_tables.specs.declared.characters.IgnoredCharacters.{IgnoredCharacters};
-ghost use Rattle.normalizer_tables.specs.Characters.{has_class_form};
+ghost use Rattle.normalizer_tables.specs.Characters.{has_class_form, list_of, own_reading};
+ghost use Rattle.normalizer_tables.specs.Conditions.{Holds};
+ghost use Rattle.normalizer_tables.specs.Ignored.{ignored_list};
+ghost use Rattle.normalizer_tables.specs.PairConditions.{HasOrderedLists};
+ghost use Rattle.normalizer_tables.specs.declared.condition.Bounds.{Bounds};
+ghost use Rattle.normalizer_tables.specs.declared.condition.Condition.TheVariants as condition;
 ghost use Rattle.normalizer_tables.specs.Pairs.{pair_of};
 ghost use Rattle.normalizer_text.specs.Steps.{Spells};
 ghost use Rattle.normalizer_iterators.specs.Decomposition.{CanDecompose};
@@ -114,12 +118,16 @@ impl<'data, I: Iterator<Item = char> + Drop> Composition<'data, I> {
         })
     }
 
-    /// What two characters compose to.
-    pub fn compose(&self, first: char, second: char) -> Option<char>
-        ensures pair { result ≡ pair_of self.now.pairs.now first second }
-        ensures lists { (ignored : IgnoredCharacters) → HasFaithfulResults (composing_reading self.now.characters ignored self.now.pairs.now) → IfSome result (λ c. (composing_reading self.now.characters ignored self.now.pairs.now).list c ≡ order (composing_reading self.now.characters ignored self.now.pairs.now) ((composing_reading self.now.characters ignored self.now.pairs.now).list first ++ (composing_reading self.now.characters ignored self.now.pairs.now).list second)) }
+    /// What a starter and a character behind it compose to (D114). Where the pairs keep lists (condition 14, and condition 6
+    /// for Hangul), the list of what they compose to is that of the two, in canonical order.
+    pub fn compose(&self, starter: char, second: char) -> Option<char>
+        ensures pair { result ≡ pair_of (pairs_of_composition self.now) starter second }
+        ensures lists { let s = data_of_composition self.now in (b : Bounds) (ignored : IgnoredCharacters) →
+            Holds s b condition.Hangul → All (HasOrderedLists s (ignored_list ignored)) (pairs_of_composition self.now) →
+            IfSome result (λ c. list_of s (ignored_list ignored) c ≡
+            order (own_reading s) (list_of s (ignored_list ignored) starter ++ list_of s (ignored_list ignored) second)) }
     {
-        self.pairs.compose(first, second)
+        self.pairs.compose(starter, second)
     }
 
     /// Composes a starter with what follows it.

@@ -38,7 +38,7 @@ pair_of-some pairs first second result joins =
     cond_both (is_vowel_or_trailing_jamo second) _ _ (λ o. o ≡ Some result → (compose_hangul first second ≡ Some result) ⊎ (listed_result pairs first second ≡ Some result)) (λ _ e. inl e) (λ _ e. inr e) joins
 
 -- only classes matter to the order, and classes and pairs to composition
-order-own : (s : Characters) (ignored : List ℕ) (pairing : ℕ → ℕ → Option ℕ) (x : List ℕ) → order (own_reading s) x ≡ order (reading_of s ignored pairing) x
+pub order-own : (s : Characters) (ignored : List ℕ) (pairing : ℕ → ℕ → Option ℕ) (x : List ℕ) → order (own_reading s) x ≡ order (reading_of s ignored pairing) x
 unfolding order insert is_reorderable
 order-own s ignored pairing x = refl
 

@@ -81,12 +81,12 @@ impl<'a> CharacterData<'a> {
     pub fn copied(&self) -> CharacterData<'a>
         ensures { result ≡ self.now }
     {
-        CharacterData::new(
-            self.decompositions,
-            self.tables,
-            self.supplementary,
-            self.is_mapper,
-        )
+        CharacterData {
+            decompositions: self.decompositions,
+            tables: self.tables,
+            supplementary: self.supplementary,
+            is_mapper: self.is_mapper,
+        }
     }
 
     /// The allocator of the tables.
