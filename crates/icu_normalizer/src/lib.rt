@@ -15,4 +15,4 @@ pub use normalizer_tables::{
     NormalizerNfkdTablesV1, NormalizerUts46DataV1, Scalars16, Scalars24, TableError,
     check_nfd_data,
 };
-pub use normalizer_text::{Utf8Chars, Utf16Chars};
+pub use normalizer_text::{Utf8Chars, Utf16Chars, sink};

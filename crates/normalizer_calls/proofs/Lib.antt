@@ -1,2 +1,3 @@
 pub mod AcceptedData
 pub mod SoundPairs
+pub mod WritingLemmas

@@ -2,3 +2,5 @@ pub mod Acceptance
 pub mod ComposingAcceptance
 pub mod ComposingNormalizers
 pub mod Normalizers
+pub mod Sinks
+pub mod Writing

@@ -2,8 +2,11 @@
 #![tactic(auto)]
 
 mod composing_normalizer;
+mod form_items;
 mod normalizer;
+mod to_sinks;
 mod unchecked;
+mod writing;
 
 pub use composing_normalizer::{ComposingNormalizer, ComposingNormalizerBorrowed};
 pub use normalizer::{DecomposingNormalizer, DecomposingNormalizerBorrowed};

@@ -1,6 +1,7 @@
 //! Faults of normalization.
 ghost use Rattle.std.specs.Prelude.{◌≡◌};
 
+use normalizer_text::sink::SinkError;
 use std::alloc::AllocError;
 use thiserror::Error;
 
@@ -22,5 +23,15 @@ impl From<AllocError> for NormalizeError {
 
     fn from(_error: AllocError) -> NormalizeError {
         NormalizeError::Memory
+    }
+}
+
+impl From<SinkError> for NormalizeError {
+    ghost use Rattle.normalizer_iterators.specs.declared.error.NormalizeError.TheVariants.{Sink};
+
+    ghost from_gives = { λ _ fault. fault ≡ Sink };
+
+    fn from(_refusal: SinkError) -> NormalizeError {
+        NormalizeError::Sink
     }
 }

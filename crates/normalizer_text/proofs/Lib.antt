@@ -5,6 +5,7 @@ pub mod EncodingLemmas
 pub mod EncodingRules
 pub mod LowLemmas
 pub mod MatchLemmas
+pub mod OutputLemmas
 pub mod RowLemmas
 pub mod ScalarLemmas
 pub mod SequenceLemmas

@@ -1,0 +1,177 @@
+-- Writing characters as an iterator gives them.
+use Rattle.std.proofs.Common.{◌≡◌, ℕ, List, [], ◌∷◌, ◌++◌, Option, Some, None, Result, Ok, Err, append_assoc, append-nil, refl, ap, sym, subst, ◌∙◌}
+use Rattle.std.proofs.lemmas.List.Elements.{All-head}
+use Rattle.std.proofs.lemmas.Result.{IfOk-weaker}
+use Rattle.std.specs.Prelude.{⊤, Bool, OnErr, IsErrOf}
+use Rattle.normal_forms.specs.declared.Form.{Form}
+use Rattle.normal_forms.specs.Forms.{normal_form}
+use Rattle.normal_forms.specs.Reading.{Reading}
+use Rattle.normal_forms.specs.ShortRuns.{HasShortRuns}
+use Rattle.normalizer_text.specs.declared.sink.SinkError.{SinkError}
+use Rattle.normalizer_text.specs.Encodings.{Encoding, encoded_in}
+use Rattle.normalizer_text.specs.Outputs.{AnswersHint, AnswersUnits}
+use Rattle.normalizer_text.specs.Sinks.{TakesNothing}
+use Rattle.normalizer_text.proofs.OutputLemmas.{encoded_in-append, encoded_in-nil}
+use Rattle.normalizer_iterators.specs.declared.error.NormalizeError.{NormalizeError}
+use Rattle.normalizer_iterators.specs.declared.error.NormalizeError.TheVariants.{Memory, Sink}
+use Rattle.normalizer_iterators.specs.Items.{SpellsOk, SpellsUnless}
+use Rattle.normalizer_calls.specs.Writing.{TellsLengthFirst, TookBeginning, WritesForm, WritesText}
+
+module _ {I : Type 0} (gives : I → Option (Result ℕ NormalizeError) → I → Type 0) where
+  -- a character that came is the first of those that were left
+  SpellsUnless-next : (s t : I) (c : ℕ) (x : List ℕ) → gives s (Some (Ok c)) t → SpellsUnless gives Memory s x → (rest : List ℕ) × (x ≡ c ∷ rest) × SpellsUnless gives Memory t rest
+  SpellsUnless-next s t c [] step h = absurd (h (Some (Ok c)) t step)
+  SpellsUnless-next s t c (d ∷ x) step h = let next = h (Some (Ok c)) t step in (x, ap (λ e. e ∷ x) (sym next.0), next.1)
+
+  -- where none came, none was left
+  SpellsUnless-end : (s t : I) (x : List ℕ) → gives s None t → SpellsUnless gives Memory s x → x ≡ []
+  SpellsUnless-end s t [] step h = refl
+  SpellsUnless-end s t (c ∷ x) step h = absurd (h None t step)
+
+  -- an error that came is the fault
+  SpellsUnless-fault : (s t : I) (fault : NormalizeError) (x : List ℕ) → gives s (Some (Err fault)) t → SpellsUnless gives Memory s x → fault ≡ Memory
+  SpellsUnless-fault s t fault [] step h = (h (Some (Err fault)) t step).0
+  SpellsUnless-fault s t fault (c ∷ x) step h = (h (Some (Err fault)) t step).0
+
+  SpellsOk-next : (s t : I) (c : ℕ) (x : List ℕ) → gives s (Some (Ok c)) t → SpellsOk gives s x → (rest : List ℕ) × SpellsOk gives t rest
+  SpellsOk-next s t c [] step h = let none : Some (Ok c) ≡ None = All-head (λ r. r ≡ None) (Some (Ok c)) [] (h.at (Some (Ok c) ∷ []) t (t, step, refl)) in absurd (cc)
+  SpellsOk-next s t c (d ∷ x) step h = (x, (h (Some (Ok c)) t step).1)
+
+  SpellsOk-no_fault : (s t : I) (fault : NormalizeError) (x : List ℕ) → gives s (Some (Err fault)) t → SpellsOk gives s x → ⊥
+  SpellsOk-no_fault s t fault [] step h = let none : Some (Err fault) ≡ None = All-head (λ r. r ≡ None) (Some (Err fault)) [] (h.at (Some (Err fault) ∷ []) t (t, step, refl)) in cc
+  SpellsOk-no_fault s t fault (d ∷ x) step h = let other : Some (Err fault) ≡ Some (Ok d) = (h (Some (Err fault)) t step).0 in cc
+
+-- a beginning was written of what an iterator gives from `start`, and it has come to `items`
+pub record WroteSoFar {S I : Type 0} (e : Encoding) (taken : S → List ℕ) (refused : S → S → Type 0) (gives : I → Option (Result ℕ NormalizeError) → I → Type 0) (start : I) (old : S) (items : I) (now : S) : Type 0 where
+  pub text : (x : List ℕ) → SpellsUnless gives Memory start x → (b : TookBeginning e taken x old now) × SpellsUnless gives Memory items b.rest
+  pub ahead : (later : S) → refused now later → refused old later
+  pub room : (x : List ℕ) → SpellsOk gives start x → (rest : List ℕ) × SpellsOk gives items rest
+
+module _ {S I : Type 0} (e : Encoding) (taken : S → List ℕ) (refused left : S → S → Type 0) (refuses : S → List ℕ → Type 0) (gives : I → Option (Result ℕ NormalizeError) → I → Type 0) where
+  pub WroteSoFar-none : (start : I) (old : S) → WroteSoFar e taken refused gives start old start old
+  WroteSoFar-none start old = record {
+    text = λ x h. (record { front = []; rest = x; parts = refl; took = sym (append-nil (taken old)) ∙ ap (λ units. taken old ++ units) (sym (encoded_in-nil e)) }, h);
+    ahead = λ later h. h;
+    room = λ x h. (x, h);
+  }
+
+  module _ (start : I) (old : S) (items next : I) (now new : S) (before : WroteSoFar e taken refused gives start old items now) where
+    -- one more character was written
+    pub WroteSoFar-more : (c : ℕ) → gives items (Some (Ok c)) next → AnswersUnits taken refused left refuses now (encoded_in e (c ∷ [])) (Ok tt) new → WroteSoFar e taken refused gives start old next new
+    WroteSoFar-more c step answer = record {
+      text = λ x h.
+          let so_far = before.text x h in
+          let b = so_far.0 in
+          let came = SpellsUnless-next gives items next c b.rest step so_far.1 in (
+            record {
+              front = b.front ++ c ∷ [];
+              rest = came.0;
+              parts = b.parts ∙ ap (λ y. b.front ++ y) came.1 ∙ sym (append_assoc b.front (c ∷ []) came.0);
+              took = answer.written.appends
+                  ∙ ap (λ units. units ++ encoded_in e (c ∷ [])) b.took
+                  ∙ append_assoc (taken old) (encoded_in e b.front) (encoded_in e (c ∷ []))
+                  ∙ ap (λ units. taken old ++ units) (sym (encoded_in-append e b.front (c ∷ [])));
+            },
+            came.2,
+          );
+      ahead = λ later h. before.ahead later (answer.written.ahead later h);
+      room = λ x h. let so_far = before.room x h in SpellsOk-next gives items next c so_far.0 step so_far.1;
+    }
+
+    -- a character was refused
+    pub WritesText-refused : (c : ℕ) (refusal : SinkError) → gives items (Some (Ok c)) next → AnswersUnits taken refused left refuses now (encoded_in e (c ∷ [])) (Err refusal) new
+        → (x : List ℕ) → SpellsUnless gives Memory start x → WritesText e taken refused left refuses x old (Err Sink) new
+    WritesText-refused c refusal step answer x h =
+        let so_far = before.text x h in
+        let came = SpellsUnless-next gives items next c so_far.0.rest step so_far.1 in record {
+          written = tt;
+          fault = λ _. before.ahead new answer.written.fault;
+          refusal = λ _. record {
+            before = now;
+            beginning = so_far.0;
+            piece = c ∷ [];
+            rest = came.0;
+            goes_on = came.1;
+            known = answer.known;
+            leaves = answer.written.leaves;
+          };
+          begun = λ k. absurd (cc);
+        }
+
+  module _ (start : I) (old : S) (items next : I) (now : S) (before : WroteSoFar e taken refused gives start old items now) where
+    -- the iterator gave an error
+    pub WritesText-fault : (fault : NormalizeError) → gives items (Some (Err fault)) next → (x : List ℕ) → SpellsUnless gives Memory start x → WritesText e taken refused left refuses x old (Err fault) now
+    WritesText-fault fault step x h =
+        let so_far = before.text x h in
+        let memory = SpellsUnless-fault gives items next fault so_far.0.rest step so_far.1 in
+        record { written = tt; fault = λ k. absurd (cc); refusal = λ k. absurd (cc); begun = λ _. so_far.0 }
+
+    -- which it never does where each item is `Ok`
+    pub WroteSoFar-room : (fault : NormalizeError) → gives items (Some (Err fault)) next → (x : List ℕ) → SpellsOk gives start x → ⊥
+    WroteSoFar-room fault step x h = let so_far = before.room x h in SpellsOk-no_fault gives items next fault so_far.0 step so_far.1
+
+    -- no character was left
+    pub WritesText-all : gives items None next → (x : List ℕ) → SpellsUnless gives Memory start x → WritesText e taken refused left refuses x old (Ok tt) now
+    WritesText-all step x h =
+        let so_far = before.text x h in
+        let b = so_far.0 in
+        let ended = SpellsUnless-end gives items next b.rest step so_far.1 in record {
+          written = b.took ∙ ap (λ y. taken old ++ encoded_in e y) (sym (b.parts ∙ ap (λ y. b.front ++ y) ended ∙ append-nil b.front));
+          fault = λ k. absurd (cc);
+          refusal = λ k. absurd (cc);
+          begun = λ k. absurd (cc);
+        }
+
+-- what comes behind a hint
+module _ {S : Type 0} (e : Encoding) (taken : S → List ℕ) (refused left : S → S → Type 0) (refuses : S → List ℕ → Type 0) (hinted : S → ℕ → Result ⊤ SinkError → S → Type 0) (old : S) (n : ℕ) where
+  -- where it was refused, nothing was written
+  pub WritesText-untold : (refusal : SinkError) (new : S) → AnswersHint taken refused left refuses hinted old n (Err refusal) new → (text : List ℕ) → WritesText e taken refused left refuses text old (Err Sink) new
+  WritesText-untold refusal new told text =
+      let nothing = encoded_in-nil e in record {
+        written = tt;
+        fault = λ _. told.units.written.fault;
+        refusal = λ _. record {
+          before = old;
+          beginning = record { front = []; rest = text; parts = refl; took = sym (append-nil (taken old)) ∙ ap (λ units. taken old ++ units) (sym nothing) };
+          piece = [];
+          rest = text;
+          goes_on = refl;
+          known = subst (refuses old) (sym nothing) told.units.known;
+          leaves = told.units.written.leaves;
+        };
+        begun = λ k. absurd (cc);
+      }
+
+  pub TellsLengthFirst-untold : (len : ℕ) → n ≡ len → (refusal : SinkError) (new : S) → AnswersHint taken refused left refuses hinted old n (Err refusal) new → TellsLengthFirst taken hinted len old (Err Sink) new
+  TellsLengthFirst-untold len is refusal new told = record { hint = Err refusal; state = new; first = subst (λ k. hinted old k (Err refusal) new) is told.hint; stops = (refl, refl, told.none) }
+
+  -- where it was taken, the rest is as if nothing had come before
+  module _ (mid : S) (told : AnswersHint taken refused left refuses hinted old n (Ok tt) mid) (answer : Result ⊤ NormalizeError) (new : S) where
+    TookBeginning-told : (text : List ℕ) (to : S) → TookBeginning e taken text mid to → TookBeginning e taken text old to
+    TookBeginning-told text to b = record { front = b.front; rest = b.rest; parts = b.parts; took = b.took ∙ ap (λ units. units ++ encoded_in e b.front) told.none }
+
+    pub WritesText-told : (text : List ℕ) → WritesText e taken refused left refuses text mid answer new → WritesText e taken refused left refuses text old answer new
+    unfolding TookBeginning-told
+    WritesText-told text h = record {
+      written = IfOk-weaker answer _ _ (λ _ w. w ∙ ap (λ units. units ++ encoded_in e text) told.none) h.written;
+      fault = λ is. told.units.written.ahead new (h.fault is);
+      refusal = λ is. let r = h.refusal is in
+          record { before = r.before; beginning = TookBeginning-told text r.before r.beginning; piece = r.piece; rest = r.rest; goes_on = r.goes_on; known = r.known; leaves = r.leaves };
+      begun = λ is. TookBeginning-told text new (h.begun is);
+    }
+
+    pub TellsLengthFirst-told : (len : ℕ) → n ≡ len → TellsLengthFirst taken hinted len old answer new
+    TellsLengthFirst-told len is = record { hint = Ok tt; state = mid; first = subst (λ k. hinted old k (Ok tt) mid) is told.hint; stops = tt }
+
+-- the form was written, whose text is the form of x
+pub WritesForm-text : {S : Type 0} (e : Encoding) (taken : S → List ℕ) (refused left : S → S → Type 0) (refuses : S → List ℕ → Type 0) (has_class_form : ℕ → Bool) (d : Reading) (form : Form) (x y : List ℕ) (old : S) (answer : Result ⊤ NormalizeError) (new : S)
+    → x ≡ y → WritesText e taken refused left refuses (normal_form d form x) old answer new → (HasShortRuns has_class_form d x → ¬ IsErrOf answer Memory) → WritesForm e taken refused left has_class_form d form y old answer new
+WritesForm-text {S = S} e taken refused left refuses has_class_form d form x y old answer new same h room =
+    subst (λ z. WritesForm e taken refused left has_class_form d form z old answer new) same (record { written = h.written; fault = h.fault; room = room; begun = begun answer h })
+  where
+    begun : (answer : Result ⊤ NormalizeError) → WritesText e taken refused left refuses (normal_form d form x) old answer new → OnErr answer (((s t : S) → left s t → TakesNothing taken s t) → TookBeginning e taken (normal_form d form x) old new)
+    begun (Ok done) h = tt
+    begun (Err Memory) h = λ _. h.begun refl
+    begun (Err Sink) h = λ keeps.
+        let r = h.refusal refl in
+        record { front = r.beginning.front; rest = r.beginning.rest; parts = r.beginning.parts; took = keeps r.before new r.leaves ∙ r.beginning.took }

@@ -1,0 +1,52 @@
+-- What is known where a text was written to a sink in an encoding, or only a beginning of it.
+use Rattle.std.specs.Prelude.{◌≡◌, ℕ, Bool, List, ◌++◌, Result, ⊤, OnOk, OnErr, IsErrOf}
+use Rattle.normal_forms.specs.declared.Form.{Form}
+use Rattle.normal_forms.specs.Forms.{normal_form}
+use Rattle.normal_forms.specs.Reading.{Reading}
+use Rattle.normal_forms.specs.ShortRuns.{HasShortRuns}
+use Rattle.normalizer_text.specs.Encodings.{Encoding, encoded_in}
+use Rattle.normalizer_text.specs.Sinks.{TakesNothing}
+use Rattle.normalizer_text.specs.declared.sink.SinkError.{SinkError}
+use Rattle.normalizer_iterators.specs.declared.error.NormalizeError.{NormalizeError}
+use Rattle.normalizer_iterators.specs.declared.error.NormalizeError.TheVariants.{Memory, Sink}
+
+module _ {S : Type 0} (e : Encoding) (taken : S → List ℕ) where
+  -- a beginning of the text, which ends between characters, was taken behind what was taken before
+  pub record TookBeginning (text : List ℕ) (old new : S) : Type 0 where
+    pub front : List ℕ
+    pub rest : List ℕ
+    pub parts : text ≡ front ++ rest
+    pub took : taken new ≡ taken old ++ encoded_in e front
+
+  -- a beginning of the text was taken, and then a piece that goes on with it was refused
+  pub record WasRefusedPiece (left : S → S → Type 0) (refuses : S → List ℕ → Type 0) (text : List ℕ) (old new : S) : Type 0 where
+    pub before : S
+    pub beginning : TookBeginning text old before
+    pub piece : List ℕ
+    pub rest : List ℕ
+    pub goes_on : beginning.rest ≡ piece ++ rest
+    pub known : refuses before (encoded_in e piece)
+    pub leaves : left before new
+
+  -- a text was written, or the output refused a piece, or memory was refused
+  pub record WritesText (refused left : S → S → Type 0) (refuses : S → List ℕ → Type 0) (text : List ℕ) (old : S) (answer : Result ⊤ NormalizeError) (new : S) : Type 0 where
+    pub written : OnOk answer (taken new ≡ taken old ++ encoded_in e text)
+    pub fault : IsErrOf answer Sink → refused old new
+    pub refusal : IsErrOf answer Sink → WasRefusedPiece left refuses text old new
+    pub begun : IsErrOf answer Memory → TookBeginning text old new
+
+  -- The normal form of the text x was written: it stands behind what was taken before. `Sink` comes only with a fault of
+  -- the sink, and `Memory` never where the text has short runs. After either a beginning of the form was taken, if calls
+  -- that are refused take nothing.
+  pub record WritesForm (refused left : S → S → Type 0) (has_class_form : ℕ → Bool) (d : Reading) (form : Form) (x : List ℕ) (old : S) (answer : Result ⊤ NormalizeError) (new : S) : Type 0 where
+    pub written : OnOk answer (taken new ≡ taken old ++ encoded_in e (normal_form d form x))
+    pub fault : IsErrOf answer Sink → refused old new
+    pub room : HasShortRuns has_class_form d x → ¬ IsErrOf answer Memory
+    pub begun : OnErr answer (((s t : S) → left s t → TakesNothing taken s t) → TookBeginning (normal_form d form x) old new)
+
+-- the sink was told first how many units the input has; where it refused that, nothing else was done
+pub record TellsLengthFirst {S : Type 0} (taken : S → List ℕ) (hinted : S → ℕ → Result ⊤ SinkError → S → Type 0) (len : ℕ) (old : S) (answer : Result ⊤ NormalizeError) (new : S) : Type 0 where
+  pub hint : Result ⊤ SinkError
+  pub state : S
+  pub first : hinted old len hint state
+  pub stops : OnErr hint (IsErrOf answer Sink × (new ≡ state) × (taken new ≡ taken old))
