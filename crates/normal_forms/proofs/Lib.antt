@@ -18,4 +18,5 @@ pub mod PlainLemmas
 pub mod RunLemmas
 pub mod SortLemmas
 pub mod TextLemmas
+pub mod UnfaithfulExample
 pub mod VisitLemmas

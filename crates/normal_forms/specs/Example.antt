@@ -14,3 +14,16 @@ example_pair a c = if a == 0x61 && c == 0x308 then Some 0xE4 else None
 
 unfoldable pub example : Reading
 example = record { list = example_list; class = example_class; pair = example_pair }
+
+-- A reading whose pairs join to characters with other lists, to show that the laws of the cut need the lists of
+-- results: U+0041 decomposes to U+0061, U+0062 and U+0063, of which the first two join to it; U+0042 decomposes to
+-- U+0064, which U+0063 joins with to it.
+unfoldable pub unfaithful_list : ℕ → List ℕ
+unfaithful_list c = if c == 0x41 then 0x61 ∷ 0x62 ∷ 0x63 ∷ [] else if c == 0x42 then 0x64 ∷ [] else c ∷ []
+
+unfoldable pub unfaithful_pair : ℕ → ℕ → Option ℕ
+unfaithful_pair a c =
+    if a == 0x61 && c == 0x62 then Some 0x41 else if a == 0x63 && c == 0x64 then Some 0x42 else None
+
+unfoldable pub unfaithful : Reading
+unfaithful = record { list = unfaithful_list; class = λ c. 0; pair = unfaithful_pair }

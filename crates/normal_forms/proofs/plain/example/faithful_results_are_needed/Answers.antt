@@ -1,0 +1,13 @@
+use Rattle.normal_forms.proofs.UnfaithfulExample.{HasFullLists-unfaithful, HasStarterResults-unfaithful, HasInhabitedLists-unfaithful, IsFront-unfaithful, apart-unfaithful, whole-unfaithful, first-unfaithful}
+use Rattle.normal_forms.proofs.plain.example.faithful_results_are_needed.Goals as goal
+
+pub returns : goal.returns
+returns c = record {
+  full = HasFullLists-unfaithful;
+  starters = HasStarterResults-unfaithful;
+  inhabited = HasInhabitedLists-unfaithful;
+  front = IsFront-unfaithful;
+  apart = apart-unfaithful;
+  whole = whole-unfaithful;
+  first = first-unfaithful;
+}
