@@ -4,6 +4,8 @@
 #[cfg(test)]
 mod builder;
 #[cfg(test)]
+mod constructors;
+#[cfg(test)]
 mod decoding;
 #[cfg(test)]
 mod forms;

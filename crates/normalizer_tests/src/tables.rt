@@ -2,10 +2,10 @@
 mod characters;
 mod class_check;
 mod data_check;
-mod edits;
+pub(crate) mod edits;
 mod nfd_check;
 mod pair_check;
-mod pairs;
+pub(crate) mod pairs;
 mod provider;
 mod step;
 mod step_check;
