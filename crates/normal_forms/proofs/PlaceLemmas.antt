@@ -76,7 +76,7 @@ normalized_iff_cut d form x = (
 
 -- ---- every text has one cut
 
-same_or_not : (x y : List ℕ) → (x ≡ y) ⊎ (x ≢ y)
+pub same_or_not : (x y : List ℕ) → (x ≡ y) ⊎ (x ≢ y)
 same_or_not [] [] = inl refl
 same_or_not [] (b ∷ y) = inr (λ e. cc)
 same_or_not (a ∷ x) [] = inr (λ e. cc)
@@ -100,18 +100,18 @@ qualifies_or_not d form x n =
           ]
     ]
 
--- the greatest number up to n that qualifies
-greatest_up_to : (d : Reading) (form : Form) (x : List ℕ) (n : ℕ) → (m : ℕ) × QualifiesForCut d form x m × ((k : ℕ) → k ≤ n → QualifiesForCut d form x k → k ≤ m)
-greatest_up_to d form x zero = (0, record { within = omega arith; keeps = refl }, λ k le q. le)
-greatest_up_to d form x (suc n) =
-    elim (qualifies_or_not d form x (suc n)) [
+-- of what holds of 0, and of each number or not, the greatest number up to n that it holds of
+pub greatest_up_to : (P : ℕ → Type 0) → P 0 → ((n : ℕ) → P n ⊎ ¬ P n) → (n : ℕ) → (m : ℕ) × P m × ((k : ℕ) → k ≤ n → P k → k ≤ m)
+greatest_up_to P least either zero = (0, least, λ k le q. le)
+greatest_up_to P least either (suc n) =
+    elim (either (suc n)) [
       | inl q ↦ (suc n, q, λ k le p. le)
       | inr not ↦
-          let lower = greatest_up_to d form x n in (
+          let lower = greatest_up_to P least either n in (
             lower.0,
             lower.1,
             λ k le p. elim (cases_lt n k) [
-              | inl past ↦ (let same : k ≡ suc n = omega arith in absurd (not (subst (QualifiesForCut d form x) same p)))
+              | inl past ↦ (let same : k ≡ suc n = omega arith in absurd (not (subst P same p)))
               | inr within ↦ lower.2 k within p
             ],
           )
@@ -119,7 +119,7 @@ greatest_up_to d form x (suc n) =
 
 pub cut_of : (d : Reading) (form : Form) (x : List ℕ) → (n : ℕ) × IsCut d form x n
 cut_of d form x =
-    let greatest = greatest_up_to d form x (length x) in
+    let greatest = greatest_up_to (QualifiesForCut d form x) (record { within = omega arith; keeps = refl }) (qualifies_or_not d form x) (length x) in
     (greatest.0, record { qualifies = greatest.1; greatest = λ m q. greatest.2 m q.within q })
 
 pub cut_unique : (d : Reading) (form : Form) (x : List ℕ) (m n : ℕ) → IsCut d form x m → IsCut d form x n → m ≡ n
@@ -198,7 +198,7 @@ none_iff_normalized d form x None a = (λ e. a, λ own. refl)
 none_iff_normalized d form x (Some q) a = (λ e. cc, λ own. absurd (a.differs own))
 
 -- what stands behind a front of this length stands at this place
-at_seam : (p rest : List ℕ) (n c : ℕ) → length p ≡ n → slice_get (p ++ c ∷ rest) n ≡ Some c
+pub at_seam : (p rest : List ℕ) (n c : ℕ) → length p ≡ n → slice_get (p ++ c ∷ rest) n ≡ Some c
 at_seam [] rest zero c h = refl
 at_seam [] rest (suc n) c h = cc
 at_seam (a ∷ p) rest zero c h = cc

@@ -19,9 +19,13 @@ use Rattle.normalizer_text.proofs.EncodingRules.{IsDecoding-first, DecodesBack-i
 use Rattle.normalizer_text.proofs.StepLemmas.{decoded-IsText, steps-append, decoded-append}
 use Rattle.normalizer_text.proofs.BoundaryLemmas.{width_of-steps, boundary-le, boundary-end, steps-take-drop, decoded-take-drop}
 use Rattle.normalizer_input.specs.InputCut.{IsInputNormalized, IsInputCut, characters_before, IsErrorFreeBoundary}
-use Rattle.normalizer_input.specs.EncodedForm.{HasTextForms, encoded_form, IsEncodedFront}
+use Rattle.normalizer_input.specs.EncodedForm.{encoded_form, IsEncodedFront}
 use Rattle.normalizer_input.proofs.InputBoundaryLemmas.{length-decoded, decoded-parts, boundary_of_front, front_of_boundary}
 use Rattle.normalizer_input.proofs.InputCutLemmas.{take-characters_before, boundary-fewer, qualifies_iff_front}
+
+-- the form of each text is a text
+abbrev HasTextForms : Reading → Form → Type 0
+HasTextForms d form = (x : List ℕ) → IsText x → IsText (normal_form d form x)
 
 module _ (e : Encoding) (d : Reading) (form : Form) (units : List ℕ) where
   abbrev text : List ℕ
@@ -31,7 +35,7 @@ module _ (e : Encoding) (d : Reading) (form : Form) (units : List ℕ) where
   form_of_text = normal_form d form (decoded_in e units)
 
   IsText-form : HasTextForms d form → IsText (normal_form d form (decoded_in e units))
-  IsText-form texts = texts.texts (decoded_in e units) (decoded-IsText (first_in e) (IsDecoding-first e) units)
+  IsText-form texts = texts (decoded_in e units) (decoded-IsText (first_in e) (IsDecoding-first e) units)
 
   -- units are their own form exactly where they are the encoding of the form of what they decode to
   pub is_normalized_iff_encoded_form : HasTextForms d form → IsInputNormalized e d form units ↔ (encoded_form e d form units ≡ units)
@@ -130,7 +134,7 @@ module _ (e : Encoding) (d : Reading) (form : Form) (suits : SuitsForm d form) (
       let x : List ℕ = decoded_in e (take n units) in
       let y : List ℕ = normal_form d form x in
       let rest : List ℕ = offered.0 in
-      let back = DecodesBack-in e y (texts.texts x (decoded-IsText (first_in e) (IsDecoding-first e) (take n units))) in
+      let back = DecodesBack-in e y (texts x (decoded-IsText (first_in e) (IsDecoding-first e) (take n units))) in
       let parts : decoded_in e units ≡ y ++ decoded_in e rest =
       ap (decoded_in e) offered.1 ∙ decoded-append (first_in e) (IsDecoding-first e) (encoded_in e y) rest back.well_formed
       ∙ ap (λ l. l ++ decoded_in e rest) back.text in

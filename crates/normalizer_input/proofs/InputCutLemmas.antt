@@ -1,7 +1,7 @@
 -- The cut of an input of units: by characters it is a cut of the text that the units decode to, or the first error.
-use Rattle.std.proofs.Common.{◌≡◌, ℕ, zero, suc, ◌<◌, ◌≤◌, ◌⊎◌, ◌↔◌, false, List, [], ◌∷◌, ◌++◌, length}
+use Rattle.std.proofs.Common.{◌≡◌, ℕ, ◌<◌, ◌≤◌, ◌⊎◌, ◌↔◌, false, List, [], ◌++◌, length}
 use Rattle.std.proofs.Common.{take, drop, inl, inr, refl, sym, ap, subst, ◌∙◌, arith, append-nil, length-append, take-append-drop, drop_of_length-le}
-use Rattle.std.proofs.lemmas.Bool.{cases_lt, cases_eq, true≢false}
+use Rattle.std.proofs.lemmas.Bool.{cases_lt, true≢false}
 use Rattle.std.proofs.lemmas.List.Elements.{All-head, All-same}
 use Rattle.std.proofs.Math.Seq.{take-append_seam, drop-append_seam, take-length, drop-length}
 use Rattle.normal_forms.specs.Reading.{Reading}
@@ -15,41 +15,10 @@ use Rattle.normalizer_text.specs.Encodings.{Encoding, first_in, decoded_in}
 use Rattle.normalizer_text.proofs.EncodingRules.{IsDecoding-first}
 use Rattle.normalizer_text.proofs.BoundaryLemmas.{width_of-fewer}
 use Rattle.normalizer_text.proofs.StepLemmas.{decoded-nil, steps-apart}
-use Rattle.normalizer_input.proofs.FormLemmas.{normal_form-nil}
+use Rattle.normal_forms.proofs.PlaceLemmas.{form_of_nothing, same_or_not, greatest_up_to}
 use Rattle.normalizer_input.specs.InputCut.{IsInputNormalized, QualifiesForInputCut, IsInputCut, characters_before, IsErrorFreeBoundary, IsErrorAt}
 use Rattle.normalizer_input.proofs.InputBoundaryLemmas.{AreErrorFree, ErrorFreeFront, AreErrorFree-rest, cases_error_free, longest_error_free, error_free-fewer}
 use Rattle.normalizer_input.proofs.InputBoundaryLemmas.{length-decoded, IsWellFormed-nil, IsWellFormed-append, decoded-parts, boundary_of_front, front_of_boundary, IsErrorAt-steps}
-
--- ---- the greatest number
-
--- where a test can be made, 0 passes it and no number above a bound does, there is a greatest number that passes
-record IsGreatest (P : ℕ → Type 0) (n : ℕ) : Type 0 where
-  passes : P n
-  greatest : (m : ℕ) → P m → m ≤ n
-
-greatest_up_to : (P : ℕ → Type 0) → ((n : ℕ) → P n ⊎ (P n → ⊥)) → P 0 → (bound : ℕ) → ((m : ℕ) → P m → m ≤ bound) → (n : ℕ) × IsGreatest P n
-greatest_up_to P test least zero within = (0, record { passes = least; greatest = within })
-greatest_up_to P test least (suc b) within =
-    elim (test (suc b)) [
-      | inl passes ↦ (suc b, record { passes = passes; greatest = within })
-      | inr fails ↦
-          greatest_up_to P test least b
-          (λ m q.
-          elim (cases_eq m (suc b)) [
-            | inl same ↦ absurd (fails (subst P same q))
-            | inr other ↦ let le = within m q in omega (arith, other)
-          ])
-    ]
-
-cases_same : (x y : List ℕ) → (x ≡ y) ⊎ (x ≡ y → ⊥)
-cases_same [] [] = inl refl
-cases_same [] (b ∷ y) = inr (λ k. cc)
-cases_same (a ∷ x) [] = inr (λ k. cc)
-cases_same (a ∷ x) (b ∷ y) =
-    elim (cases_eq a b) [
-      | inl head ↦ elim (cases_same x y) [ inl tail ↦ inl (ap (λ c. c ∷ x) head ∙ ap (λ l. b ∷ l) tail) | inr other ↦ inr (λ k. other (let tail : x ≡ y = cc in tail)) ]
-      | inr other ↦ inr (λ k. other (let head : a ≡ b = cc in head))
-    ]
 
 module _ (e : Encoding) (d : Reading) (form : Form) where
   pub zero_input_qualifies : (units : List ℕ) → QualifiesForInputCut e d form units 0
@@ -179,7 +148,7 @@ module _ (e : Encoding) where
 
     -- ---- the cut
 
-    cases_qualifies : (units : List ℕ) (n : ℕ) → QualifiesForInputCut e d form units n ⊎ (QualifiesForInputCut e d form units n → ⊥)
+    cases_qualifies : (units : List ℕ) (n : ℕ) → QualifiesForInputCut e d form units n ⊎ ¬ QualifiesForInputCut e d form units n
     cases_qualifies units n =
         elim (cases_lt (length units) n) [
           | inl past ↦ inr (λ q. let le = q.within in omega arith)
@@ -187,7 +156,7 @@ module _ (e : Encoding) where
               elim (cases_error_free (steps (first_in e) (take n units))) [
                 | inr wrong ↦ inr (λ q. wrong q.well_formed)
                 | inl fine ↦
-                    elim (cases_same (decoded_in e (take n units) ++ normal_form d form (decoded_in e (drop n units))) (normal_form d form (decoded_in e units))) [
+                    elim (same_or_not (decoded_in e (take n units) ++ normal_form d form (decoded_in e (drop n units))) (normal_form d form (decoded_in e units))) [
                       | inl same ↦ inl (record { within = within; well_formed = fine; keeps = same })
                       | inr other ↦ inr (λ q. other q.keeps)
                     ]
@@ -196,9 +165,8 @@ module _ (e : Encoding) where
 
     pub input_cut_exists : (units : List ℕ) → (n : ℕ) × IsInputCut e d form units n
     input_cut_exists units =
-        let found =
-        greatest_up_to (QualifiesForInputCut e d form units) (cases_qualifies units) (zero_input_qualifies e d form units) (length units) (λ m q. q.within) in
-        (found.0, record { qualifies = found.1.passes; greatest = found.1.greatest })
+        let found = greatest_up_to (QualifiesForInputCut e d form units) (zero_input_qualifies e d form units) (cases_qualifies units) (length units) in
+        (found.0, record { qualifies = found.1; greatest = λ m q. found.2 m q.within q })
 
     -- where the longest error-free front of as many steps as the cut of the text has characters ends, the input is cut
     cut_at_front : SuitsForm d form → (units : List ℕ) (k : ℕ) → IsCut d form (decoded_in e units) k
@@ -277,7 +245,7 @@ module _ (e : Encoding) where
     IsInputNormalized-nil : IsInputNormalized e d form []
     IsInputNormalized-nil = record {
       well_formed = IsWellFormed-nil e;
-      own = ap (normal_form d form) (decoded-nil (first_in e)) ∙ normal_form-nil d form ∙ sym (decoded-nil (first_in e));
+      own = ap (normal_form d form) (decoded-nil (first_in e)) ∙ form_of_nothing d form ∙ sym (decoded-nil (first_in e));
     }
 
     -- an input is its own form exactly where its cut is its length
@@ -287,7 +255,7 @@ module _ (e : Encoding) where
         qualifies = record {
           within = omega arith;
           well_formed = subst (IsWellFormed (first_in e)) (sym (take-length units)) own.well_formed;
-          keeps = rw (take-length units, drop-length units, decoded-nil (first_in e), normal_form-nil d form) (append-nil (decoded_in e units) ∙ sym own.own);
+          keeps = rw (take-length units, drop-length units, decoded-nil (first_in e), form_of_nothing d form) (append-nil (decoded_in e units) ∙ sym own.own);
         };
         greatest = λ m q. q.within;
       },

@@ -1,7 +1,7 @@
 -- The first offence of an input of units, and of the input with a continuation.
-use Rattle.std.proofs.Common.{◌≡◌, ◌≢◌, ℕ, ◌<◌, ◌≤◌, ◌⊎◌, List, [], ◌∷◌, ◌++◌, length, take, drop}
-use Rattle.std.proofs.Common.{Option, Some, None, inl, inr, refl, sym, ap, subst, ◌∙◌, arith, append_assoc, append-nil, length-drop}
-use Rattle.std.proofs.Math.Seq.{take-length, drop-length, drop-append_seam}
+use Rattle.std.proofs.Common.{◌≡◌, ◌≢◌, ℕ, ◌<◌, ◌≤◌, ◌⊎◌, ◌↔◌, List, [], ◌∷◌, ◌++◌, length, take, drop}
+use Rattle.std.proofs.Common.{Option, Some, None, slice_get, inl, inr, refl, sym, ap, subst, ◌∙◌, arith, append_assoc, append-nil, length-drop}
+use Rattle.std.proofs.Math.Seq.{take-length, drop-length}
 use Rattle.std.proofs.lemmas.Bool.{cases_eq}
 use Rattle.normal_forms.specs.Reading.{Reading}
 use Rattle.normal_forms.specs.declared.Form.{Form}
@@ -15,11 +15,11 @@ use Rattle.normalizer_text.specs.Encodings.{Encoding, first_in, decoded_in}
 use Rattle.normalizer_text.proofs.EncodingRules.{IsDecoding-first}
 use Rattle.normalizer_text.proofs.BoundaryLemmas.{width_of-fewer}
 use Rattle.normalizer_text.proofs.StepLemmas.{decoded-some, steps-append, decoded-append}
-use Rattle.normalizer_input.proofs.FormLemmas.{normal_form-nil, normal_form-some}
+use Rattle.normal_forms.proofs.PlaceLemmas.{form_of_nothing, form_is_nothing, at_seam}
 use Rattle.normalizer_input.specs.InputCut.{IsInputNormalized, IsInputCut, characters_before, IsErrorAt}
-use Rattle.normalizer_input.specs.InputOffence.{IsInputOffence, IsOffenceOf}
+use Rattle.normalizer_input.specs.InputOffence.{IsInputOffence, IsInputOffenceOf}
 use Rattle.normalizer_input.specs.declared.offence.Offence.{Offence}
-use Rattle.normalizer_input.proofs.InputBoundaryLemmas.{IsWellFormed-rest, boundary_of_front}
+use Rattle.normalizer_input.proofs.InputBoundaryLemmas.{IsWellFormed-rest, decoded-parts, boundary_of_front}
 use Rattle.normalizer_input.proofs.InputCutLemmas.{characters_before-steps, drop-characters_before, qualifies_iff_characters, input_cut_exists}
 use Rattle.normalizer_input.proofs.InputCutLemmas.{input_cut_unique, cut_ends, input_cut_below, is_normalized_iff_input_cut, cut_of_well_formed}
 
@@ -60,7 +60,7 @@ module _ (e : Encoding) (d : Reading) (form : Form) where
         | inl none ↦ absurd (nonempty none)
         | inr found ↦
             elim (cases_first (normal_form d form rest)) [
-              | inl none ↦ absurd (nonempty (normal_form-some d form inhabited rest none))
+              | inl none ↦ absurd (nonempty (form_is_nothing d form inhabited rest none))
               | inr wanted ↦
                   (at.0, found.0, wanted.0, record { differs = differs; cut = at.1; is_found = found.1; is_wanted = wanted.1 })
             ]
@@ -71,7 +71,7 @@ module _ (e : Encoding) (d : Reading) (form : Form) where
   -- where a text is its own form, all of its characters qualify for the cut
   whole_qualifies : {x : List ℕ} → normal_form d form x ≡ x → QualifiesForCut d form x (length x)
   whole_qualifies {x = x} own =
-      record { within = omega arith; keeps = rw (take-length x, drop-length x, normal_form-nil d form) (append-nil x ∙ sym own) }
+      record { within = omega arith; keeps = rw (take-length x, drop-length x, form_of_nothing d form) (append-nil x ∙ sym own) }
 
   -- where as many characters stand before an input offence as before the cut of the text, it is the text's
   text_offence : (units : List ℕ) (place found wanted : ℕ) → IsInputOffence e d form units place found wanted
@@ -164,7 +164,7 @@ module _ (e : Encoding) (d : Reading) (form : Form) where
 -- ---- the answer of a search
 
 module _ (e : Encoding) (d : Reading) (form : Form) where
-  pub offence_of_exists : HasInhabitedLists d → (units : List ℕ) → (answer : Option Offence) × IsOffenceOf e d form units answer
+  pub offence_of_exists : HasInhabitedLists d → (units : List ℕ) → (answer : Option Offence) × IsInputOffenceOf e d form units answer
   offence_of_exists inhabited units =
       let at = input_cut_exists e d form units in
       elim (cases_eq at.0 (length units)) [
@@ -176,7 +176,7 @@ module _ (e : Encoding) (d : Reading) (form : Form) where
             (Some (record { place = found.0; found = found.1; wanted = found.2 }), found.3)
       ]
 
-  pub offence_of_unique : (units : List ℕ) (one other : Option Offence) → IsOffenceOf e d form units one → IsOffenceOf e d form units other → one ≡ other
+  pub offence_of_unique : (units : List ℕ) (one other : Option Offence) → IsInputOffenceOf e d form units one → IsInputOffenceOf e d form units other → one ≡ other
   offence_of_unique units None None a b = refl
   offence_of_unique units None (Some o) a b = absurd (b.differs a)
   offence_of_unique units (Some o) None a b = absurd (a.differs b)
@@ -186,14 +186,21 @@ module _ (e : Encoding) (d : Reading) (form : Form) where
       ∙ ap (λ c. Some (record { place = p.place; found = c; wanted = o.wanted })) same.1
       ∙ ap (λ c. Some (record { place = p.place; found = p.found; wanted = c })) same.2
 
+  pub none_iff_normalized : (units : List ℕ) (answer : Option Offence) → IsInputOffenceOf e d form units answer → (answer ≡ None) ↔ IsInputNormalized e d form units
+  none_iff_normalized units None a = (λ _. a, λ _. refl)
+  none_iff_normalized units (Some o) a = (λ k. cc, λ own. absurd (a.differs own))
+
   -- the character found is that of the text, and the character wanted that of its form
-  pub found_in_text : (units : List ℕ) (place found wanted : ℕ) → IsInputOffence e d form units place found wanted → IsFirst (drop (characters_before e units place) (decoded_in e units)) found
+  pub found_in_text : (units : List ℕ) (place found wanted : ℕ) → IsInputOffence e d form units place found wanted
+      → slice_get (decoded_in e units) (characters_before e units place) ≡ Some found
   found_in_text units place found wanted o =
-      subst (λ l. IsFirst l found) (sym (drop-characters_before e units place o.cut.qualifies.well_formed)) o.is_found
+      let front : List ℕ = decoded_in e (take place units) in
+      ap (λ l. slice_get l (length front)) (decoded-parts e units place o.cut.qualifies.well_formed ∙ ap (λ l. front ++ l) o.is_found.1)
+      ∙ at_seam front o.is_found.0 (length front) found refl
 
   pub wanted_in_form : (units : List ℕ) (place found wanted : ℕ) → IsInputOffence e d form units place found wanted
-      → IsFirst (drop (characters_before e units place) (normal_form d form (decoded_in e units))) wanted
+      → slice_get (normal_form d form (decoded_in e units)) (characters_before e units place) ≡ Some wanted
   wanted_in_form units place found wanted o =
       let front : List ℕ = decoded_in e (take place units) in
-      let rest : List ℕ = normal_form d form (decoded_in e (drop place units)) in
-      subst (λ l. IsFirst l wanted) (sym (drop-append_seam front rest) ∙ ap (drop (length front)) o.cut.qualifies.keeps) o.is_wanted
+      ap (λ l. slice_get l (length front)) (sym o.cut.qualifies.keeps ∙ ap (λ l. front ++ l) o.is_wanted.1)
+      ∙ at_seam front o.is_wanted.0 (length front) wanted refl

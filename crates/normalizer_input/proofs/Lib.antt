@@ -1,5 +1,4 @@
 pub mod EncodedFormLemmas
-pub mod FormLemmas
 pub mod InputBoundaryLemmas
 pub mod InputCutLemmas
 pub mod InputEncodingLemmas

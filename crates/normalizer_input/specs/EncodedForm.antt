@@ -1,13 +1,9 @@
 -- The form of what units decode to, encoded as they are.
 use Rattle.std.specs.Prelude.{◌≡◌, ℕ, ◌≤◌, List, length, take}
-use Rattle.normal_forms.specs.Reading.{Reading, IsText}
+use Rattle.normal_forms.specs.Reading.{Reading}
 use Rattle.normal_forms.specs.declared.Form.{Form}
 use Rattle.normal_forms.specs.Forms.{normal_form}
 use Rattle.normalizer_text.specs.Encodings.{Encoding, encoded_in, decoded_in}
-
--- the form of each text is a text
-pub record HasTextForms (d : Reading) (form : Form) : Type 0 where
-  pub texts : (x : List ℕ) → IsText x → IsText (normal_form d form x)
 
 -- the form of what the units decode to, encoded as they are
 abbrev pub encoded_form : Encoding → Reading → Form → List ℕ → List ℕ

@@ -19,6 +19,6 @@ pub record IsInputOffence (e : Encoding) (d : Reading) (form : Form) (units : Li
   pub is_wanted : IsFirst (normal_form d form (decoded_in e (drop place units))) wanted
 
 -- the first offence of the units, or none where they are well-formed and their own form
-abbrev pub IsOffenceOf : Encoding → Reading → Form → List ℕ → Option Offence → Type 0
-IsOffenceOf e d form units answer = MatchOption answer (IsInputNormalized e d form units)
+abbrev pub IsInputOffenceOf : Encoding → Reading → Form → List ℕ → Option Offence → Type 0
+IsInputOffenceOf e d form units answer = MatchOption answer (IsInputNormalized e d form units)
     (λ o. IsInputOffence e d form units o.place o.found o.wanted)

@@ -1,22 +1,22 @@
 //! The laws of the cut and of the first offence of an input of bytes or 16-bit units, well-formed or not. Each function
 //! does nothing: its contract is the law, over both encodings, every reading and both forms.
 
-ghost use Rattle.std.specs.Prelude.{◌≡◌, ◌≢◌, ◌↔◌, ◌⊎◌, ℕ, suc, ◌≤◌, List, [], ◌∷◌, ◌++◌, length, take, drop, Option};
-ghost use Rattle.std.specs.Prelude.{encode_utf8_all};
+ghost use Rattle.std.specs.Prelude.{◌≡◌, ◌≢◌, ◌↔◌, ◌⊎◌, ℕ, suc, ◌≤◌, List, [], ◌∷◌, ◌++◌, length, take, drop};
+ghost use Rattle.std.specs.Prelude.{Option, Some, None, slice_get, encode_utf8_all};
 ghost use Rattle.std.specs.List.{slice_range};
 ghost use Rattle.std.specs.Str.{chars};
 ghost use Rattle.normal_forms.specs.Reading.{Reading};
 ghost use Rattle.normal_forms.specs.declared.Form.{Form};
 ghost use Rattle.normal_forms.specs.Forms.{normal_form, IsNormalized};
 ghost use Rattle.normal_forms.specs.Cut.{QualifiesForCut, IsCut, IsCommonFront, IsFront};
-ghost use Rattle.normal_forms.specs.Offence.{IsFirst, IsFirstOffence};
-ghost use Rattle.normal_forms.specs.Hypotheses.{HasInhabitedLists, SuitsForm};
+ghost use Rattle.normal_forms.specs.Offence.{IsFirstOffence};
+ghost use Rattle.normal_forms.specs.Hypotheses.{HasInhabitedLists, HasScalarResults, HasTextLists, SuitsForm};
 ghost use Rattle.normalizer_text.specs.Steps.{IsWellFormed, IsBoundary};
 ghost use Rattle.normalizer_text.specs.Encodings.{Encoding, first_in, encoded_in, decoded_in};
 ghost use Rattle.normalizer_input.specs.InputCut.{IsInputNormalized, QualifiesForInputCut, IsInputCut};
 ghost use Rattle.normalizer_input.specs.InputCut.{characters_before, IsErrorFreeBoundary, IsErrorAt};
-ghost use Rattle.normalizer_input.specs.InputOffence.{IsInputOffence, IsOffenceOf};
-ghost use Rattle.normalizer_input.specs.EncodedForm.{HasTextForms, encoded_form, IsEncodedFront};
+ghost use Rattle.normalizer_input.specs.InputOffence.{IsInputOffence, IsInputOffenceOf};
+ghost use Rattle.normalizer_input.specs.EncodedForm.{encoded_form, IsEncodedFront};
 ghost use Rattle.normalizer_input.specs.declared.offence.Offence.{Offence};
 
 /// The first n units are well-formed exactly where n is a boundary at or before the first error.
@@ -98,15 +98,17 @@ pub fn first_input_offence()
 /// decoded text, and the character wanted the one of its form, behind as many characters as stand before the place.
 pub fn offence_of_input()
     ensures exists { (e : Encoding) (d : Reading) (form : Form) → HasInhabitedLists d → (units : List ℕ) →
-        (answer : Option Offence) × IsOffenceOf e d form units answer }
+        (answer : Option Offence) × IsInputOffenceOf e d form units answer }
     ensures unique { (e : Encoding) (d : Reading) (form : Form) (units : List ℕ) (one other : Option Offence) →
-        IsOffenceOf e d form units one → IsOffenceOf e d form units other → one ≡ other }
+        IsInputOffenceOf e d form units one → IsInputOffenceOf e d form units other → one ≡ other }
+    ensures none { (e : Encoding) (d : Reading) (form : Form) (units : List ℕ) (answer : Option Offence) →
+        IsInputOffenceOf e d form units answer → (answer ≡ None) ↔ IsInputNormalized e d form units }
     ensures found { (e : Encoding) (d : Reading) (form : Form) (units : List ℕ) (place found wanted : ℕ) →
         IsInputOffence e d form units place found wanted →
-        IsFirst (drop (characters_before e units place) (decoded_in e units)) found }
+        slice_get (decoded_in e units) (characters_before e units place) ≡ Some found }
     ensures wanted { (e : Encoding) (d : Reading) (form : Form) (units : List ℕ) (place found wanted : ℕ) →
         IsInputOffence e d form units place found wanted →
-        IsFirst (drop (characters_before e units place) (normal_form d form (decoded_in e units))) wanted }
+        slice_get (normal_form d form (decoded_in e units)) (characters_before e units place) ≡ Some wanted }
 {}
 
 /// What is put behind a well-formed input mends no offence, well-formed itself or not: the longer input has one too,
@@ -159,7 +161,7 @@ pub fn str_goes_by_its_characters(text: &str)
 
 /// An input is well-formed and its own form exactly where the form of what it decodes to, encoded, is the input.
 pub fn normalized_input_is_its_encoded_form()
-    ensures { (e : Encoding) (d : Reading) (form : Form) → HasTextForms d form → (units : List ℕ) →
+    ensures { (e : Encoding) (d : Reading) (form : Form) → HasTextLists d → HasScalarResults d → (units : List ℕ) →
         IsInputNormalized e d form units ↔ (encoded_form e d form units ≡ units) }
 {}
 
@@ -167,13 +169,14 @@ pub fn normalized_input_is_its_encoded_form()
 /// with as many characters before it ends a common front of the decoded text and its form. The longest such front
 /// ends at the cut.
 pub fn encoded_front_ends_at_boundary()
-    ensures exactly { (e : Encoding) (d : Reading) (form : Form) → HasTextForms d form → (units : List ℕ) (n k : ℕ) →
+    ensures exactly { (e : Encoding) (d : Reading) (form : Form) → HasTextLists d → HasScalarResults d →
+        (units : List ℕ) (n k : ℕ) →
         IsEncodedFront e d form units n k ↔ (IsErrorFreeBoundary e units n × (characters_before e units n ≡ k) ×
         IsCommonFront (decoded_in e units) (normal_form d form (decoded_in e units)) k) }
     ensures fewer { (e : Encoding) (d : Reading) (form : Form) (units : List ℕ) (n k j : ℕ) →
         IsEncodedFront e d form units n k → j ≤ k → (m : ℕ) × IsEncodedFront e d form units m j × (m ≤ n) }
-    ensures longest { (e : Encoding) (d : Reading) (form : Form) → SuitsForm d form → HasTextForms d form →
-        (units : List ℕ) (n k : ℕ) → IsEncodedFront e d form units n k →
+    ensures longest { (e : Encoding) (d : Reading) (form : Form) → SuitsForm d form → HasTextLists d →
+        HasScalarResults d → (units : List ℕ) (n k : ℕ) → IsEncodedFront e d form units n k →
         ((m : ℕ) → IsEncodedFront e d form units m (suc k) → ⊥) → IsInputCut e d form units n }
     ensures at_cut { (e : Encoding) (d : Reading) (form : Form) → SuitsForm d form → (units : List ℕ) (n : ℕ) →
         IsInputCut e d form units n → IsEncodedFront e d form units n (characters_before e units n) }
@@ -183,10 +186,10 @@ pub fn encoded_front_ends_at_boundary()
 /// the front of the input, that front is well-formed and its own form. So the form of the whole does not end early.
 pub fn offered_input()
     ensures front { (e : Encoding) (d : Reading) (form : Form) → SuitsForm d form → HasInhabitedLists d →
-        HasTextForms d form → (units : List ℕ) (n : ℕ) → IsBoundary (first_in e) units n →
+        HasTextLists d → HasScalarResults d → (units : List ℕ) (n : ℕ) → IsBoundary (first_in e) units n →
         IsFront (encoded_form e d form (take n units)) units → IsInputNormalized e d form (take n units) }
     ensures whole { (e : Encoding) (d : Reading) (form : Form) → SuitsForm d form → HasInhabitedLists d →
-        HasTextForms d form → (units : List ℕ) →
+        HasTextLists d → HasScalarResults d → (units : List ℕ) →
         IsFront (encoded_form e d form units) units → encoded_form e d form units ≡ units }
 {}
 
