@@ -1,5 +1,5 @@
-//! The record set `rows`: a few characters of Unicode with their classes and mappings. The tests build data from it and
-//! from small sets of records, and compare what comes of texts with worked examples.
+//! The record set `rows`: a few characters of Unicode with their classes and mappings. The program builds data
+//! from it, and rows of worked examples stand over it.
 #![tactic(auto)]
 
 pub mod row;
@@ -8,6 +8,3 @@ mod table;
 
 pub use set::{mapper_records, records};
 pub use table::{MAPPER_ROWS, ROWS};
-
-#[cfg(test)]
-mod tests;

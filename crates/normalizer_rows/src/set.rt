@@ -16,7 +16,7 @@ pub fn records(alloc: Global) -> Result<Vec<Record>, AllocError>
     records_of(alloc, &ROWS)
 }
 
-pub(crate) fn records_of(alloc: Global, rows: &[Row]) -> Result<Vec<Record>, AllocError>
+fn records_of(alloc: Global, rows: &[Row]) -> Result<Vec<Record>, AllocError>
     ensures { IfOk result (λ v. v.items ≡ map (λ row. entry_of row.0 row.1 row.2.now row.3) rows.now) }
 {
     let mut records = Vec::new(alloc);
@@ -64,10 +64,7 @@ pub fn mapper_records(alloc: Global) -> Result<Vec<Uts46Record>, AllocError>
     mapper_records_of(alloc, &MAPPER_ROWS)
 }
 
-pub(crate) fn mapper_records_of(
-    alloc: Global,
-    rows: &[MapperRow],
-) -> Result<Vec<Uts46Record>, AllocError>
+fn mapper_records_of(alloc: Global, rows: &[MapperRow]) -> Result<Vec<Uts46Record>, AllocError>
     ensures { IfOk result (λ v. v.items ≡ map (λ row. mapper_entry_of row.0 row.1.now row.2) rows.now) }
 {
     let mut records = Vec::new(alloc);

@@ -135,6 +135,3 @@ fn want_of_memory(error: DataError) -> NormalizeError
         }
     }
 }
-
-#[cfg(test)]
-mod tests;

@@ -1,0 +1,112 @@
+//! The rows of a text whose answer is another than the one wanted.
+use crate::fault::Fault;
+use crate::questions::answer;
+use crate::setting::Setting;
+use crate::words::{joined, words};
+use std::alloc::{AllocError, Global};
+use std::fmt;
+
+/// A row whose answer is another than the one wanted.
+#[derive(Debug, Drop)]
+pub struct Difference<'a> {
+    /// The number of its line, from 1 on.
+    pub line: usize,
+    pub row: &'a str,
+    pub answer: String,
+}
+
+impl fmt::Display for Difference<'_> {
+    fn fmt<W: fmt::Write>(&self, f: &mut fmt::Formatter<W>) -> fmt::Result {
+        let line = self.line;
+        let row = self.row;
+        let answer = self.answer.as_str();
+        write!(f, "{line}: {row} answered: {answer}")
+    }
+}
+
+/// The rows of a text whose answer is another than the one wanted, or that can't be read.
+pub fn differences(alloc: Global, text: &str) -> Result<Vec<Difference<'_>>, AllocError> {
+    let mut setting = Setting::new(alloc);
+    let mut found = Vec::new(alloc);
+    for (place, line) in text.lines().enumerate() {
+        let row = without_comment(line);
+        if let Some(answer) = what_differs(alloc, &mut setting, row)? {
+            let line = place.saturating_add(1);
+            found.push(Difference { line, row, answer })?;
+        }
+    }
+    Ok(found)
+}
+
+fn without_comment(line: &str) -> &str {
+    match line.split_once('#') {
+        Some((row, _)) => row.trim(),
+        None => line.trim(),
+    }
+}
+
+/// What is wrong with a row. One that begins with `not` is to differ itself.
+fn what_differs<'a>(
+    alloc: Global,
+    setting: &mut Setting<'a>,
+    row: &'a str,
+) -> Result<Option<String>, AllocError> {
+    let Some(row) = row.strip_prefix("not ") else {
+        return other_answer(alloc, setting, row);
+    };
+    match other_answer(alloc, setting, row)? {
+        Some(_) => Ok(None),
+        None => Ok(Some(String::from_str(alloc, "as wanted")?)),
+    }
+}
+
+/// The answer to a row, where it is another than the one wanted.
+fn other_answer<'a>(
+    alloc: Global,
+    setting: &mut Setting<'a>,
+    row: &'a str,
+) -> Result<Option<String>, AllocError> {
+    match taken(alloc, setting, row) {
+        Ok(answer) => Ok(answer),
+        Err(fault) => Ok(Some(String::from_str(alloc, fault.name())?)),
+    }
+}
+
+fn taken<'a>(
+    alloc: Global,
+    setting: &mut Setting<'a>,
+    row: &'a str,
+) -> Result<Option<String>, Fault> {
+    match row.split_once('=') {
+        Some((question, wanted)) => {
+            let answer = answered(alloc, setting, question)?;
+            let wanted = joined(alloc, &words(alloc, wanted)?)?;
+            Ok(if answer.as_str() == wanted.as_str() {
+                None
+            } else {
+                Some(answer)
+            })
+        }
+        None if row.is_empty() => Ok(None),
+        None => {
+            setting.give(row)?;
+            Ok(None)
+        }
+    }
+}
+
+/// The answer to a question, perhaps with edits of the data: `try nfc with cap nfd 0301 and past nfd 1`.
+fn answered<'a>(
+    alloc: Global,
+    setting: &mut Setting<'a>,
+    question: &'a str,
+) -> Result<String, Fault> {
+    match question.split_once(" with ") {
+        Some((question, edits)) => {
+            let edits: Vec<&'a str> = edits.split(" and ").collect(alloc)?;
+            let mut edited = setting.edited(&edits)?;
+            answer(alloc, &mut edited, &words(alloc, question)?)
+        }
+        None => answer(alloc, setting, &words(alloc, question)?),
+    }
+}

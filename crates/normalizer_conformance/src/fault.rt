@@ -1,0 +1,61 @@
+//! Why a row has no answer.
+use icu_normalizer::{DataError, NormalizeError, TableError};
+use std::alloc::{AllocError, AllocFailed};
+
+/// Why a row has no answer.
+#[derive(Clone, Copy, Debug, PartialEq, Eq)]
+pub enum Fault {
+    /// The row can't be read, or the data that it asks of are not there.
+    Unreadable,
+    /// Ways to ask that have one answer gave two.
+    Divided,
+    /// There was not enough memory.
+    Memory,
+}
+
+impl Fault {
+    /// What is answered in the place of an answer.
+    pub fn name(self) -> &'static str {
+        match self {
+            Fault::Unreadable => "unreadable",
+            Fault::Divided => "different ways to ask have different answers",
+            Fault::Memory => "out of memory",
+        }
+    }
+}
+
+impl From<AllocError> for Fault {
+    fn from(_error: AllocError) -> Fault {
+        Fault::Memory
+    }
+}
+
+impl<T: Drop> From<AllocFailed<T>> for Fault {
+    fn from(_error: AllocFailed<T>) -> Fault {
+        Fault::Memory
+    }
+}
+
+impl From<NormalizeError> for Fault {
+    fn from(_error: NormalizeError) -> Fault {
+        Fault::Memory
+    }
+}
+
+impl From<DataError> for Fault {
+    fn from(error: DataError) -> Fault {
+        match error {
+            DataError::Memory => Fault::Memory,
+            _ => Fault::Unreadable,
+        }
+    }
+}
+
+impl From<TableError> for Fault {
+    fn from(error: TableError) -> Fault {
+        match error {
+            TableError::Memory => Fault::Memory,
+            TableError::Ranges => Fault::Unreadable,
+        }
+    }
+}

@@ -1,0 +1,126 @@
+//! A provider that may lack each of its parts: it holds what rows give by hand, or what records build.
+use crate::by_hand::{compositions, decomposition_data, decomposition_tables, supplement};
+use crate::fault::Fault;
+use icu_normalizer::{
+    Built, CanonicalCompositions, DataError, DataMarkerInfo, DataProvider, DecompositionData,
+    DecompositionTables, NonRecursiveDecompositionSupplement, NormalizerNfcV1, NormalizerNfdDataV1,
+    NormalizerNfdSupplementV1, NormalizerNfdTablesV1, NormalizerNfkdDataV1, NormalizerNfkdTablesV1,
+    NormalizerUts46DataV1,
+};
+use std::alloc::Global;
+
+#[derive(Drop)]
+pub struct Held {
+    pub canonical: Option<DecompositionData>,
+    pub compatibility: Option<DecompositionData>,
+    pub mapper: Option<DecompositionData>,
+    pub tables: Option<DecompositionTables>,
+    pub supplementary: Option<DecompositionTables>,
+    pub pairs: Option<CanonicalCompositions>,
+    pub supplement: Option<NonRecursiveDecompositionSupplement>,
+}
+
+impl Held {
+    /// What rows give by hand.
+    pub fn by_hand(alloc: Global, rows: &[&str]) -> Result<Held, Fault> {
+        Ok(Held {
+            canonical: decomposition_data(alloc, rows, "nfd")?,
+            compatibility: decomposition_data(alloc, rows, "nfkd")?,
+            mapper: decomposition_data(alloc, rows, "uts46")?,
+            tables: decomposition_tables(alloc, rows, "nfd")?,
+            supplementary: decomposition_tables(alloc, rows, "nfkd")?,
+            pairs: compositions(alloc, rows)?,
+            supplement: supplement(alloc, rows)?,
+        })
+    }
+
+    /// All that was built.
+    pub fn of_built(built: &Built) -> Result<Held, Fault> {
+        Ok(Held {
+            canonical: Some(<Built as DataProvider<NormalizerNfdDataV1>>::load(built)?),
+            compatibility: Some(<Built as DataProvider<NormalizerNfkdDataV1>>::load(built)?),
+            mapper: Some(<Built as DataProvider<NormalizerUts46DataV1>>::load(built)?),
+            tables: Some(<Built as DataProvider<NormalizerNfdTablesV1>>::load(built)?),
+            supplementary: Some(<Built as DataProvider<NormalizerNfkdTablesV1>>::load(built)?),
+            pairs: Some(<Built as DataProvider<NormalizerNfcV1>>::load(built)?),
+            supplement: Some(<Built as DataProvider<NormalizerNfdSupplementV1>>::load(built)?),
+        })
+    }
+}
+
+impl DataProvider<NormalizerNfdDataV1> for Held {
+    ghost held = { λ p. p.canonical };
+
+    fn load(&self) -> Result<DecompositionData, DataError> {
+        match &self.canonical {
+            Some(data) => data.clone().map_err(|_| DataError::Memory),
+            None => Err(DataError::Provider(DataMarkerInfo::NormalizerNfdDataV1)),
+        }
+    }
+}
+
+impl DataProvider<NormalizerNfkdDataV1> for Held {
+    ghost held = { λ p. p.compatibility };
+
+    fn load(&self) -> Result<DecompositionData, DataError> {
+        match &self.compatibility {
+            Some(data) => data.clone().map_err(|_| DataError::Memory),
+            None => Err(DataError::Provider(DataMarkerInfo::NormalizerNfkdDataV1)),
+        }
+    }
+}
+
+impl DataProvider<NormalizerUts46DataV1> for Held {
+    ghost held = { λ p. p.mapper };
+
+    fn load(&self) -> Result<DecompositionData, DataError> {
+        match &self.mapper {
+            Some(data) => data.clone().map_err(|_| DataError::Memory),
+            None => Err(DataError::Provider(DataMarkerInfo::NormalizerUts46DataV1)),
+        }
+    }
+}
+
+impl DataProvider<NormalizerNfdTablesV1> for Held {
+    ghost held = { λ p. p.tables };
+
+    fn load(&self) -> Result<DecompositionTables, DataError> {
+        match &self.tables {
+            Some(data) => data.clone().map_err(|_| DataError::Memory),
+            None => Err(DataError::Provider(DataMarkerInfo::NormalizerNfdTablesV1)),
+        }
+    }
+}
+
+impl DataProvider<NormalizerNfkdTablesV1> for Held {
+    ghost held = { λ p. p.supplementary };
+
+    fn load(&self) -> Result<DecompositionTables, DataError> {
+        match &self.supplementary {
+            Some(data) => data.clone().map_err(|_| DataError::Memory),
+            None => Err(DataError::Provider(DataMarkerInfo::NormalizerNfkdTablesV1)),
+        }
+    }
+}
+
+impl DataProvider<NormalizerNfcV1> for Held {
+    ghost held = { λ p. p.pairs };
+
+    fn load(&self) -> Result<CanonicalCompositions, DataError> {
+        match &self.pairs {
+            Some(data) => data.clone().map_err(|_| DataError::Memory),
+            None => Err(DataError::Provider(DataMarkerInfo::NormalizerNfcV1)),
+        }
+    }
+}
+
+impl DataProvider<NormalizerNfdSupplementV1> for Held {
+    ghost held = { λ p. p.supplement };
+
+    fn load(&self) -> Result<NonRecursiveDecompositionSupplement, DataError> {
+        match &self.supplement {
+            Some(data) => data.clone().map_err(|_| DataError::Memory),
+            None => Err(DataError::Provider(DataMarkerInfo::NormalizerNfdSupplementV1)),
+        }
+    }
+}

@@ -1,0 +1,48 @@
+//! Compares what the library answers with rows of data. The arguments name files; each row says what is asked, the input
+//! and the answer wanted, as `nfc 0061 0308 = 00E4`, and the rows whose answer is another are written. A row without `=`
+//! gives what later questions are asked of (`setting`); `questions` has the words of the others.
+#![tactic(auto)]
+
+mod by_hand;
+mod comparison;
+mod fault;
+mod held;
+mod normalizers;
+mod questions;
+mod ranges;
+mod record_rows;
+mod setting;
+mod spelling;
+mod words;
+
+pub use comparison::{Difference, differences};
+use std::alloc::Global;
+use std::process::ExitCode;
+use std::{env, fs, io};
+
+fn main(rt: HostRuntime) -> ExitCode {
+    match compared(&rt) {
+        Ok(0) => ExitCode::SUCCESS,
+        Ok(_) => ExitCode::from(1),
+        Err(_) => ExitCode::from(2),
+    }
+}
+
+/// How many rows differ in the files that the arguments name.
+fn compared(rt: &HostRuntime) -> io::Result<usize> {
+    let mut count = 0usize;
+    for file in env::args(rt)?.skip(1) {
+        count = count.saturating_add(compared_file(rt, rt.alloc(), file.as_str())?);
+    }
+    Ok(count)
+}
+
+/// Writes the rows of a file that differ, and answers how many.
+fn compared_file(rt: &HostRuntime, alloc: Global, file: &str) -> io::Result<usize> {
+    let text = fs::read_to_string(rt, file)?;
+    let found = differences(alloc, text.as_str())?;
+    for difference in &found {
+        println!(rt; "{file}:{difference}")?;
+    }
+    Ok(found.len())
+}

@@ -1,0 +1,74 @@
+//! `word nfd 00E4`, `cap nfd`: what data say. `try nfc`, `check nfd`: what a constructor or the test of data answers.
+use crate::fault::Fault;
+use crate::held::Held;
+use crate::normalizers::Normalizer;
+use crate::questions::forms::form_named;
+use crate::setting::Setting;
+use crate::spelling::acceptance;
+use crate::words::hexadecimal;
+use icu_normalizer::{CodePointTable, DecompositionData, check_nfd_data};
+use std::alloc::Global;
+
+fn data_named<'a>(held: &'a Held, kind: &str) -> Result<&'a DecompositionData, Fault> {
+    let data = match kind {
+        "nfd" => &held.canonical,
+        "nfkd" => &held.compatibility,
+        "uts46" => &held.mapper,
+        _ => return Err(Fault::Unreadable),
+    };
+    data.as_ref().ok_or(Fault::Unreadable)
+}
+
+fn table_named<'a>(held: &'a Held, kind: &str) -> Result<&'a CodePointTable, Fault> {
+    match (kind, &held.supplement) {
+        ("supplement", Some(supplement)) => Ok(&supplement.table),
+        _ => Ok(&data_named(held, kind)?.table),
+    }
+}
+
+/// The word of a number.
+pub fn word(alloc: Global, setting: &mut Setting<'_>, question: &[&str]) -> Result<String, Fault> {
+    let [kind, number] = question else {
+        return Err(Fault::Unreadable);
+    };
+    let word = table_named(setting.held()?, kind)?.get32(hexadecimal(number)?);
+    Ok(format!(in alloc; "{:08X}", word)?)
+}
+
+/// The number below which a loop that composes may pass every character unseen.
+pub fn cap(alloc: Global, setting: &mut Setting<'_>, question: &[&str]) -> Result<String, Fault> {
+    let [kind] = question else {
+        return Err(Fault::Unreadable);
+    };
+    let cap = data_named(setting.held()?, kind)?.passthrough_cap;
+    Ok(format!(in alloc; "{:04X}", cap)?)
+}
+
+/// What a constructor answers.
+pub fn constructed(
+    alloc: Global,
+    setting: &mut Setting<'_>,
+    question: &[&str],
+) -> Result<String, Fault> {
+    let [name] = question else {
+        return Err(Fault::Unreadable);
+    };
+    let form = form_named(name)?;
+    acceptance(alloc, Normalizer::new(setting.held()?, form).err())
+}
+
+/// What the test of canonical data answers.
+pub fn checked(
+    alloc: Global,
+    setting: &mut Setting<'_>,
+    question: &[&str],
+) -> Result<String, Fault> {
+    let ["nfd"] = question else {
+        return Err(Fault::Unreadable);
+    };
+    let held = setting.held()?;
+    let (Some(words), Some(tables)) = (&held.canonical, &held.tables) else {
+        return Err(Fault::Unreadable);
+    };
+    acceptance(alloc, check_nfd_data(words, tables).err())
+}

@@ -1,0 +1,120 @@
+//! Words of a row, and the characters, bytes and numbers that they say.
+ghost use Rattle.std.specs.Prelude.{◌≤◌};
+
+use crate::fault::Fault;
+use std::alloc::Global;
+
+/// The words of a text. `3*0308` stands for `0308 0308 0308`, and `2*0308,0323` for `0308 0323 0308 0323`.
+pub fn words<'a>(alloc: Global, text: &'a str) -> Result<Vec<&'a str>, Fault> {
+    let mut words = Vec::new(alloc);
+    for word in text.split_whitespace() {
+        push_repeated(&mut words, word)?;
+    }
+    Ok(words)
+}
+
+fn push_repeated<'a>(words: &mut Vec<&'a str>, word: &'a str) -> Result<(), Fault> {
+    match word.split_once('*') {
+        Some((count, pieces)) => push_times(words, decimal(count)?, pieces),
+        None => Ok(words.push(word)?),
+    }
+}
+
+fn push_times<'a>(words: &mut Vec<&'a str>, count: u32, pieces: &'a str) -> Result<(), Fault> {
+    for _ in 0..count {
+        push_pieces(words, pieces)?;
+    }
+    Ok(())
+}
+
+fn push_pieces<'a>(words: &mut Vec<&'a str>, pieces: &'a str) -> Result<(), Fault> {
+    let last = match pieces.split_once(',') {
+        Some((first, second)) => {
+            words.push(first)?;
+            second
+        }
+        None => pieces,
+    };
+    Ok(words.push(last)?)
+}
+
+/// The words with a space between each two.
+pub fn joined(alloc: Global, words: &[&str]) -> Result<String, Fault> {
+    let mut text = String::new(alloc);
+    for word in words {
+        push_word(&mut text, word)?;
+    }
+    Ok(text)
+}
+
+fn push_word(text: &mut String, word: &str) -> Result<(), Fault> {
+    if !text.is_empty() {
+        text.push(' ')?;
+    }
+    text.push_str(word)?;
+    Ok(())
+}
+
+/// The number that digits of a radix say.
+fn number(digits: &str, radix: u32) -> Option<u32>
+    requires least { 2 ≤ radix }
+    requires most { radix ≤ 36 }
+{
+    if digits.is_empty() {
+        return None;
+    }
+    let mut number = 0u32;
+    for digit in digits.chars() {
+        number = number
+            .checked_mul(radix)?
+            .checked_add(digit.to_digit(radix)?)?;
+    }
+    Some(number)
+}
+
+/// The number of decimal digits.
+pub fn decimal(digits: &str) -> Result<u32, Fault> {
+    number(digits, 10).ok_or(Fault::Unreadable)
+}
+
+/// The number of hexadecimal digits.
+pub fn hexadecimal(digits: &str) -> Result<u32, Fault> {
+    number(digits, 16).ok_or(Fault::Unreadable)
+}
+
+/// The character of a number in hexadecimal digits.
+pub fn character(digits: &str) -> Result<char, Fault> {
+    char::from_u32(hexadecimal(digits)?).ok_or(Fault::Unreadable)
+}
+
+pub fn characters(alloc: Global, words: &[&str]) -> Result<Vec<char>, Fault> {
+    let mut all = Vec::new(alloc);
+    for word in words {
+        all.push(character(word)?)?;
+    }
+    Ok(all)
+}
+
+fn byte(digits: &str) -> Result<u8, Fault> {
+    u8::try_from(hexadecimal(digits)?).map_err(|_| Fault::Unreadable)
+}
+
+pub fn bytes(alloc: Global, words: &[&str]) -> Result<Vec<u8>, Fault> {
+    let mut all = Vec::new(alloc);
+    for word in words {
+        all.push(byte(word)?)?;
+    }
+    Ok(all)
+}
+
+pub fn unit(digits: &str) -> Result<u16, Fault> {
+    u16::try_from(hexadecimal(digits)?).map_err(|_| Fault::Unreadable)
+}
+
+pub fn units(alloc: Global, words: &[&str]) -> Result<Vec<u16>, Fault> {
+    let mut all = Vec::new(alloc);
+    for word in words {
+        all.push(unit(word)?)?;
+    }
+    Ok(all)
+}
