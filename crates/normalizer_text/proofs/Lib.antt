@@ -9,6 +9,7 @@ pub mod OutputLemmas
 pub mod RowLemmas
 pub mod ScalarLemmas
 pub mod SequenceLemmas
+pub mod Sequences
 pub mod StdLemmas
 pub mod StepLemmas
 pub mod SubpartLemmas

@@ -7,7 +7,7 @@ use Rattle.normalizer_text.specs.declared.step.Step.{Step}
 use Rattle.normalizer_text.specs.Steps.{read, steps, decoded, IsWellFormed}
 use Rattle.normalizer_text.specs.Utf8.{range, row, scalar_value, first_by_row, first_of_utf8, decoded_utf8}
 use Rattle.normalizer_text.specs.Utf16.{first_of_utf16}
-use Rattle.normalizer_text.specs.Sequences.{IsSequence}
+use Rattle.normalizer_text.proofs.Sequences.{IsSequence}
 use Rattle.normalizer_text.proofs.Decoding.{IsDecoding}
 use Rattle.normalizer_text.proofs.StepLemmas.{IsRight, decoded-nil, decoded-some, steps-some, rest-shorter}
 use Rattle.normalizer_text.proofs.RowLemmas.{IsSequence-row, by_row-whole}

@@ -3,7 +3,7 @@ use Rattle.std.proofs.Common.{◌≡◌, ℕ, ◌+◌, ◌/◌, ◌%◌, ◌<◌
 use Rattle.std.specs.Char.{IsScalar, encode_utf8}
 use Rattle.std.proofs.lemmas.Bool.{and_parts, leb-true, ltb-true, and_from, le-leb, lt-ltb, le-ltb, cond-true, cond-false, cases_order, cases_eq, cases_lt}
 use Rattle.normalizer_text.specs.Utf8.{scalar_value}
-use Rattle.normalizer_text.specs.Sequences.{IsSequence}
+use Rattle.normalizer_text.proofs.Sequences.{IsSequence}
 
 pub scalar_cases : (c : ℕ) → IsScalar c → (c < 0xD800) ⊎ ((0xE000 ≤ c) × (c < 0x110000))
 scalar_cases c e = ⊎_elim

@@ -10,7 +10,7 @@ use Rattle.std.proofs.lemmas.List.{take_at}
 use Rattle.std.proofs.lemmas.List.Elements.{All-nil, All-cons, All-head, All-tail}
 use Rattle.normalizer_text.specs.Steps.{read, IsWellFormed, IsBoundary}
 use Rattle.normalizer_text.specs.Utf8.{ByteRange, range, Row, row, row_of, continuation, allows, matched, scalar_value, first_by_row, first_of_utf8, decoded_utf8}
-use Rattle.normalizer_text.specs.Sequences.{IsSequence}
+use Rattle.normalizer_text.proofs.Sequences.{IsSequence}
 use Rattle.normalizer_text.specs.MaximalSubparts.{IsWithin, AreWithin}
 use Rattle.normalizer_text.proofs.RowLemmas.{IsSequence-row, by_row-whole}
 use Rattle.normalizer_text.proofs.BoundaryLemmas.{boundary-le, boundary-well_formed, well_formed-parts}
@@ -60,12 +60,12 @@ row-F4 b h = grind (arith, nat_tests)
 -- ---- a sequence in front
 
 -- the places of the row that the first byte begins
-record HasRow (b : ℕ) (bs : List ℕ) : Type 0 where
-  r : Row
-  is : row_of b ≡ Some r
-  within : AreWithin r.trail bs
+pub record HasRow (b : ℕ) (bs : List ℕ) : Type 0 where
+  pub r : Row
+  pub is : row_of b ≡ Some r
+  pub within : AreWithin r.trail bs
 
-HasRow-sequence : (b : ℕ) (bs : List ℕ) → IsSequence (b ∷ bs) → HasRow b bs
+pub HasRow-sequence : (b : ℕ) (bs : List ℕ) → IsSequence (b ∷ bs) → HasRow b bs
 HasRow-sequence b [] s = record { r = _; is = row-ascii b (omega arith); within = tt }
 HasRow-sequence b (c ∷ []) s = record { r = _; is = row-two b (omega arith) (omega arith); within = ((omega arith, omega arith), tt) }
 HasRow-sequence b (c ∷ d ∷ []) s = ⊎_elim

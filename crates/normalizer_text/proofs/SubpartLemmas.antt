@@ -11,6 +11,8 @@ use Rattle.normalizer_text.specs.MaximalSubparts.{IsWithin, AreWithin, IsWellFor
 use Rattle.normalizer_text.proofs.MatchLemmas.{allows-true, matched-le, AreWithin-matched}
 use Rattle.normalizer_text.proofs.RowLemmas.{Each, find-Each, row_of-IsRow, by_row-whole}
 use Rattle.normalizer_text.proofs.SequenceLemmas.{row-ascii, row-two, row-E0, row-E1, row-ED, row-EE, row-F0, row-F1, row-F4, allows_from, matched-AreWithin}
+use Rattle.normalizer_text.proofs.SequenceLemmas.{HasRow-sequence}
+use Rattle.normalizer_text.proofs.Sequences.{IsSequence}
 use Rattle.normalizer_text.proofs.Utf8Lemmas.{by_cases}
 
 -- ---- rows
@@ -63,6 +65,18 @@ row_of-listed r listed b within = (Each-at IsTableRow well_formed_sequences each
 
 lead-IsWithin : (b : ℕ) (r : Row) → row_of b ≡ Some r → IsWithin r.lead b
 lead-IsWithin b r e = allows-true r.lead b (row_of-IsRow b r e).1
+
+-- ---- the bounds on the bytes of a sequence
+
+pub bounds_of_sequence : (bytes : List ℕ) → IsWellFormedSequence bytes → IsSequence bytes
+bounds_of_sequence [] s = absurd s.within
+bounds_of_sequence (b ∷ bs) s = (row_of-IsRow b s.row (row_of-listed s.row s.listed b s.within.0)).0.sequences b bs s.within.0 s.within.1
+
+pub sequence_of_bounds : (bytes : List ℕ) → IsSequence bytes → IsWellFormedSequence bytes
+sequence_of_bounds [] s = absurd s
+sequence_of_bounds (b ∷ bs) s =
+    let k = HasRow-sequence b bs s in
+    record { row = k.r; listed = (row_of-IsTableRow b k.r k.is).listed; within = (lead-IsWithin b k.r k.is, k.within) }
 
 -- ---- beginnings of a sequence
 

@@ -2,7 +2,6 @@ pub mod Backwards
 pub mod Encodings
 pub mod MaximalSubparts
 pub mod Outputs
-pub mod Sequences
 pub mod Sinks
 pub mod Steps
 pub mod Trails

@@ -1,7 +1,7 @@
 //! Decoding bytes that may not be UTF-8, with U+FFFD for what is ill-formed (The Unicode Standard, section 3.9).
 ghost use Rattle.std.specs.Prelude.{◌≡◌, ◌+◌, ◌<◌, ◌≤◌, length, option_map, slice_index_or};
 ghost use Rattle.normalizer_text.specs.Utf8.{continuation, allows, row_of, matched, scalar_value, first_of_utf8};
-ghost use Rattle.normalizer_text.specs.Sequences.{IsSequence};
+ghost use Rattle.normalizer_text.specs.MaximalSubparts.{IsWellFormedSequence};
 
 use crate::step::Step;
 
@@ -72,8 +72,9 @@ impl Trail {
 }
 
 // The character of a well-formed sequence (table 3-6).
+#[tactic(auto, using(crate::proofs::SubpartLemmas::bounds_of_sequence))]
 fn character_of(sequence: &[u8]) -> char
-    requires { IsSequence sequence.now }
+    requires { IsWellFormedSequence sequence.now }
     ensures { result ≡ scalar_value sequence.now }
 {
     let code = match sequence {

@@ -6,6 +6,7 @@ use Rattle.normalizer_text.specs.Trails.{places}
 use Rattle.normalizer_text.specs.Steps.{read}
 use Rattle.normalizer_text.proofs.MatchLemmas.{matched-le}
 use Rattle.normalizer_text.proofs.RowLemmas.{first-whole}
+use Rattle.normalizer_text.proofs.SubpartLemmas.{sequence_of_bounds}
 use Rattle.normalizer_text.proofs.utf8.first_step.Goals as goal
 
 pub overflow_add-width : goal.overflow_add-width
@@ -23,7 +24,7 @@ slice_bounds-character_of-end c =
 pub character_of-requires : goal.character_of-requires
 character_of-requires c =
     let m = c.matched-width.ensures ∙ ap (matched (places c.in-Some.trail)) (take_rest c.args.bytes.now 1) in
-    (first-whole c.args.bytes.now c.in-Some.trail _ c.requires (sym (ap (option_map places) c.in-Some.is) ∙ c.of.ensures) m c.if-width-trail.false).sequence
+    sequence_of_bounds _ (first-whole c.args.bytes.now c.in-Some.trail _ c.requires (sym (ap (option_map places) c.in-Some.is) ∙ c.of.ensures) m c.if-width-trail.false).sequence
 
 pub returns : goal.returns
 returns c =

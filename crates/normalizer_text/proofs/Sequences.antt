@@ -1,4 +1,4 @@
--- The well-formed UTF-8 sequences again, as bounds on each byte, for the arithmetic of decoding.
+-- The well-formed UTF-8 sequences as bounds on each byte, for the arithmetic of decoding.
 use Rattle.std.specs.Prelude.{◌≡◌, ℕ, ◌<◌, ◌≤◌, List, [], ◌∷◌}
 
 -- the bytes are a sequence of table 3-7, as bounds on each
