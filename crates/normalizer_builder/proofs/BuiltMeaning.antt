@@ -17,7 +17,7 @@ use Rattle.normalizer_records.specs.declared.records.Mappings.TheVariants.{Canon
 use Rattle.normalizer_records.specs.Entry.{Entry, MapperEntry}
 use Rattle.normalizer_records.specs.Faults.{IsFirstRefusal}
 use Rattle.normalizer_records.specs.Meaning.{class_of as recorded_class_of, mapped_list, mapper_list, pairs_of}
-use Rattle.normalizer_records.proofs.ExpansionLemmas.{syllable-range}
+use Rattle.normalizer_records.proofs.SyllableLemmas.{syllable-range}
 use Rattle.normalizer_builder.specs.Building.{Builds, IsFirstUnfitOfRecords, IsMadeOfRecords, KeepsMapping, MeansRecords, MeetsRecords, OfMappings, PacksRecords}
 use Rattle.normalizer_builder.specs.Parts.{IsOfCharacters}
 use Rattle.normalizer_builder.specs.Ranks.{IsFirstUnmet}

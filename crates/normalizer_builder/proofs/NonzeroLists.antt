@@ -14,6 +14,7 @@ use Rattle.normalizer_records.specs.Entry.{Entry, MapperEntry, Status, MapsTo, I
 use Rattle.normalizer_records.specs.Faults.{IsFirstRefusal, has_mapping_fault, has_zero, is_bad_mapping, is_bad_status}
 use Rattle.normalizer_records.specs.Meaning.{entry_of, expand_all, expansion, full_list, levels, list_of_status, mapped_list, mapper_list, mapping_among, recorded_classes, replace_by, replacement}
 use Rattle.normalizer_records.specs.Meaning.{status_of}
+use Rattle.normalizer_records.proofs.SyllableLemmas.{by_jamo}
 use Rattle.normalizer_builder.proofs.NoRefusal.{bad_status, no_mapping_fault}
 use Rattle.normalizer_builder.proofs.UnrecordedCharacters.{find-cases, none_passes}
 
@@ -29,15 +30,8 @@ HasNoZero-flat_map : (f : ℕ → List ℕ) → ((m : ℕ) → 0 < m → HasNoZe
 HasNoZero-flat_map f each [] h = tt
 HasNoZero-flat_map f each (c ∷ x) h = AllByRecursion-append (λ m. 0 < m) (f c) (flat_map f x) (each c h.0) (HasNoZero-flat_map f each x h.1)
 
-jamo_nonzero : (c : ℕ) → HasNoZero (hangul_decomposition c)
-unfolding hangul_decomposition
-jamo_nonzero c =
-    let index = c - s_base in
-    elim (index % t_count == 0) as (λ b. HasNoZero (if b then (l_base + index / n_count) ∷ (v_base + index % n_count / t_count) ∷ [] else (l_base + index / n_count) ∷
-    (v_base + index % n_count / t_count) ∷ (t_base + index % t_count) ∷ [])) [
-      | true ↦ (omega arith, (omega arith, tt))
-      | false ↦ (omega arith, (omega arith, (omega arith, tt)))
-    ]
+jamo_nonzero : (c : ℕ) → is_hangul_syllable c ≡ true → HasNoZero (hangul_decomposition c)
+jamo_nonzero c h = by_jamo HasNoZero c h (λ l v first second. (omega arith, (omega arith, tt))) (λ l v t first second third. (omega arith, (omega arith, (omega arith, tt))))
 
 HasNoZero-replace_by : (f : ℕ → List ℕ) → ((m : ℕ) → 0 < m → HasNoZero (f m)) → (x : List ℕ) (c : ℕ) → 0 < c → HasNoZero x → HasNoZero (replace_by f x c)
 unfolding replace_by
@@ -77,10 +71,11 @@ module _ (records : List Entry) (uts46 : List MapperEntry) (none : IsFirstRefusa
   module _ (mappings : Mappings) where
     HasNoZero-replacement : (n : ℕ) → HasNoZero (replacement records mappings n)
     unfolding replacement
-    HasNoZero-replacement n = elim (is_hangul_syllable n) as (λ b. HasNoZero (if b then hangul_decomposition n else option_map_or (mapping_among mappings) (entry_of records n) [])) [
-      | true ↦ jamo_nonzero n
-      | false ↦ HasNoZero-recorded mappings n
-    ]
+    HasNoZero-replacement n =
+        elim (is_hangul_syllable n) as (λ b. is_hangul_syllable n ≡ b → HasNoZero (if b then hangul_decomposition n else option_map_or (mapping_among mappings) (entry_of records n) [])) [
+          | true ↦ λ syllable. jamo_nonzero n syllable
+          | false ↦ λ other. HasNoZero-recorded mappings n
+        ] refl
 
     HasNoZero-expansion : (depth c : ℕ) → 0 < c → HasNoZero (expansion records mappings depth c)
     unfolding expansion

@@ -14,25 +14,13 @@ use Rattle.normalizer_records.specs.declared.refusal.Refusal.{Refusal}
 use Rattle.normalizer_records.specs.declared.refusal.Refusal.TheVariants.{Order, Fixed, Class, Mapping, Chain, Length, Pair}
 use Rattle.normalizer_records.specs.Entry.{Entry, MapperEntry}
 use Rattle.normalizer_records.specs.Faults.{IsFirstRefusal, rank_of}
+use Rattle.normalizer_records.proofs.RefusalLemmas.{same_rank}
 use Rattle.normalizer_builder.specs.declared.rank.Unfit.{Unfit}
 use Rattle.normalizer_builder.specs.Building.{Builds, HasTooManyItems, IsFirstUnfitOfRecords, IsMadeOfRecords, IsSmallest, MeetsRecords, PacksRecords, answer_of_records, error_of}
 use Rattle.normalizer_builder.specs.Ranks.{IsBefore, IsFirstUnmet, place_of}
 use Rattle.normalizer_builder.proofs.SameParts.{one_packing_of_records, same_entries}
 
--- a refusal by its rank, and a marker by its place
-refusal_of : ℕ → Refusal
-refusal_of n = get_or (Pair ∷ Order ∷ Fixed ∷ Class ∷ Mapping ∷ Chain ∷ Length ∷ []) n Pair
-
-of_rank : (r : Refusal) → refusal_of (rank_of r) ≡ r
-unfolding refusal_of
-of_rank Order = refl
-of_rank Fixed = refl
-of_rank Class = refl
-of_rank Mapping = refl
-of_rank Chain = refl
-of_rank Length = refl
-of_rank Pair = refl
-
+-- a marker by its place
 marker_of : ℕ → DataMarkerInfo
 marker_of n = get_or (NormalizerNfdDataV1 ∷ NormalizerNfkdDataV1 ∷ NormalizerUts46DataV1 ∷ NormalizerNfdTablesV1 ∷ NormalizerNfkdTablesV1 ∷ NormalizerNfcV1 ∷ []) n NormalizerNfdSupplementV1
 
@@ -79,7 +67,7 @@ module _ (records : List Entry) (uts46 : List MapperEntry) where
   one_refusal : (r s : Refusal) → IsFirstRefusal records uts46 (Some r) → IsFirstRefusal records uts46 (Some s) → r ≡ s
   unfolding IsFirstRefusal
   one_refusal r s h k = elim (cases_order (rank_of r) (rank_of s)) as (λ _. r ≡ s) [
-    | inl same ↦ sym (of_rank r) ∙ ap refusal_of same ∙ of_rank s
+    | inl same ↦ same_rank r s same
     | inr (inl below) ↦ absurd (k.1 r below h.0)
     | inr (inr above) ↦ absurd (h.1 s above k.0)
   ]

@@ -15,8 +15,9 @@ use Rattle.normalizer_records.specs.declared.records.Mappings.{Mappings}
 use Rattle.normalizer_records.specs.Entry.{Entry, MapperEntry, Status, MapsTo, IsIgnored, IsDisallowed}
 use Rattle.normalizer_records.specs.Faults.{IsFirstRefusal, has_fixed_fault, is_disallowed, is_fixed, is_fixed_for_mapper}
 use Rattle.normalizer_records.specs.Meaning.{class_of, entry_of, expansion, full_list, recorded_classes, replacement, status_of}
-use Rattle.normalizer_records.proofs.ExpansionLemmas.{expansion-replaced, syllable-range}
-use Rattle.normalizer_records.proofs.UnrecordedLemmas.{jamo_alone}
+use Rattle.normalizer_records.proofs.ExpansionLemmas.{expansion-replaced}
+use Rattle.normalizer_records.proofs.SyllableLemmas.{IsJamo, jamo_members, jamo_some, replacement-syllable, syllable-range}
+use Rattle.normalizer_records.proofs.UnrecordedLemmas.{jamo_alone, jamo_fixed}
 use Rattle.normalizer_builder.specs.Recorded.{recorded_characters}
 use Rattle.normalizer_builder.proofs.EntriesOfRecords.{class_of_record, find-missing}
 use Rattle.normalizer_builder.proofs.NoRefusal.{no_fixed_fault}
@@ -60,10 +61,6 @@ replacement_fixed : is_fixed 0xFFFD ≡ true
 unfolding is_fixed
 replacement_fixed = refl
 
-jamo_fixed : (c : ℕ) → 0x1100 ≤ c → c ≤ 0x11FF → is_fixed c ≡ true
-unfolding is_fixed
-jamo_fixed c low high = grind (arith, nat_tests)
-
 disallowed_replacement : (r : MapperEntry) → r.c ≡ 0xFFFD → is_fixed_for_mapper r ≡ false → r.status ≡ IsDisallowed
 unfolding is_fixed_for_mapper is_fixed
 disallowed_replacement r here h = by r.status refl
@@ -72,31 +69,6 @@ disallowed_replacement r here h = by r.status refl
     by IsDisallowed e = refl
     by IsIgnored e = let not_so : is_disallowed r.status ≡ false = ap is_disallowed e in absurd (grind (arith, nat_tests))
     by (MapsTo x) e = let not_so : is_disallowed r.status ≡ false = ap is_disallowed e in absurd (grind (arith, nat_tests))
-
--- a conjoining jamo, of the block Hangul Jamo
-abbrev pub IsJamo : ℕ → Type 0
-IsJamo c = (0x1100 ≤ c) × (c ≤ 0x11FF)
-
-pub jamo_members : (c : ℕ) → is_hangul_syllable c ≡ true → AllByRecursion IsJamo (hangul_decomposition c)
-unfolding hangul_decomposition
-jamo_members c h =
-    let range = syllable-range c h in
-    let index = c - s_base in
-    elim (index % t_count == 0) as (λ b. AllByRecursion IsJamo (if b then (l_base + index / n_count) ∷ (v_base + index % n_count / t_count) ∷ [] else (l_base + index / n_count) ∷
-    (v_base + index % n_count / t_count) ∷ (t_base + index % t_count) ∷ [])) [
-      | true ↦ ((omega arith, omega arith), ((omega arith, omega arith), tt))
-      | false ↦ ((omega arith, omega arith), ((omega arith, omega arith), ((omega arith, omega arith), tt)))
-    ]
-
-inhabited_syllable : (c : ℕ) → hangul_decomposition c ≢ []
-unfolding hangul_decomposition
-inhabited_syllable c =
-    let index = c - s_base in
-    elim (index % t_count == 0) as (λ b. (if b then (l_base + index / n_count) ∷ (v_base + index % n_count / t_count) ∷ [] else (l_base + index / n_count) ∷ (v_base + index % n_count / t_count) ∷
-    (t_base + index % t_count) ∷ []) ≢ []) [
-      | true ↦ λ e. absurd cc
-      | false ↦ λ e. absurd cc
-    ]
 
 -- starters stay where they are
 order-starters : (d : Reading) (x : List ℕ) → AllByRecursion (IsStarter d) x → order d x ≡ x
@@ -161,16 +133,12 @@ module _ (records : List Entry) (uts46 : List MapperEntry) (none : IsFirstRefusa
     jamo_starters [] jamo = tt
     jamo_starters (c ∷ x) jamo = (jamo_starter c jamo.0, jamo_starters x jamo.1)
 
-    replaced_syllable : (n : ℕ) → is_hangul_syllable n ≡ true → replacement records mappings n ≡ hangul_decomposition n
-    unfolding replacement
-    replaced_syllable n h = rw h refl
-
     -- a Hangul syllable has the list of its jamo
     pub syllable_list : (n : ℕ) → is_hangul_syllable n ≡ true → full_list records mappings n ≡ hangul_decomposition n
     unfolding full_list
     syllable_list n h =
         let jamo = jamo_members n h in
-        let same = replaced_syllable n h in
+        let same = replacement-syllable records mappings n h in
         ap (order (recorded_classes records))
-        (expansion-replaced records mappings 16 n (λ e. inhabited_syllable n (sym same ∙ e)) ∙ ap (flat_map (expansion records mappings 16)) same ∙ jamo_stay 16 (hangul_decomposition n) jamo)
+        (expansion-replaced records mappings 16 n (λ e. jamo_some n h (sym same ∙ e)) ∙ ap (flat_map (expansion records mappings 16)) same ∙ jamo_stay 16 (hangul_decomposition n) jamo)
         ∙ order-starters (recorded_classes records) (hangul_decomposition n) (jamo_starters (hangul_decomposition n) jamo)

@@ -12,31 +12,6 @@ use Rattle.normalizer_records.specs.declared.records.Mappings.{Mappings}
 use Rattle.normalizer_records.specs.Entry.{Entry}
 use Rattle.normalizer_records.specs.Meaning.{expansion, replace_by, replacement}
 
-two_jamo : (l v : ℕ) → l < 55296 → v < 55296 → as_text (l ∷ v ∷ []) ≡ Some (l ∷ v ∷ [])
-unfolding as_text
-two_jamo l v first second = rw (low_scalar l first, low_scalar v second)
-
-three_jamo : (l v t : ℕ) → l < 55296 → v < 55296 → t < 55296 → as_text (l ∷ v ∷ t ∷ []) ≡ Some (l ∷ v ∷ t ∷ [])
-unfolding as_text
-three_jamo l v t first second third = rw (low_scalar l first, low_scalar v second, low_scalar t third)
-
-pub syllable-range : (c : ℕ) → is_hangul_syllable c ≡ true → c ≤ 0xD7A3
-unfolding is_hangul_syllable
-syllable-range c h = grind (arith, nat_tests)
-
--- the jamo of a syllable are characters
-pub as_text-jamo : (c : ℕ) → is_hangul_syllable c ≡ true → as_text (hangul_decomposition c) ≡ Some (hangul_decomposition c)
-unfolding hangul_decomposition
-as_text-jamo c h =
-    let range = syllable-range c h in
-    let index = c - s_base in
-    elim (index % t_count == 0) as (λ b. as_text (if b then (l_base + index / n_count) ∷ (v_base + index % n_count / t_count) ∷ [] else (l_base + index / n_count) ∷
-    (v_base + index % n_count / t_count) ∷ (t_base + index % t_count) ∷ []) ≡ Some (if b then (l_base + index / n_count) ∷ (v_base + index % n_count / t_count) ∷ [] else (l_base + index / n_count)
-    ∷ (v_base + index % n_count / t_count) ∷ (t_base + index % t_count) ∷ [])) [
-      | true ↦ two_jamo (l_base + index / n_count) (v_base + index % n_count / t_count) (omega arith) (omega arith)
-      | false ↦ three_jamo (l_base + index / n_count) (v_base + index % n_count / t_count) (t_base + index % t_count) (omega arith) (omega arith) (omega arith)
-    ]
-
 -- what was cut may be cut again behind what is added
 pub take-again : (n : ℕ) (x y : List ℕ) → take n (take n x ++ y) ≡ take n (x ++ y)
 take-again zero [] y = refl

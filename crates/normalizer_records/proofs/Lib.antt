@@ -9,5 +9,6 @@ pub mod PairFaultLemmas
 pub mod RefusalLemmas
 pub mod ReplacedLemmas
 pub mod StepLemmas
+pub mod SyllableLemmas
 pub mod UnrecordedLemmas
 pub mod WalkLemmas

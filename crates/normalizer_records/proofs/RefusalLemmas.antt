@@ -33,15 +33,9 @@ module _ (records : List Entry) (down : List ℕ) (downs : Measures records Down
   pub any-HasChainFault : HasChainFault records → list_any (λ n. nat_lt 16 n) down ≡ true
   any-HasChainFault h = let at = length_from_HasChainFault records down downs h in let inside = at.1 in let long = downs.as_long in place_any down at.0 (omega arith) at.2
 
+-- a refusal by its rank
 refusal_at : ℕ → Refusal
-refusal_at n = elim (n == 1) [
-  | true ↦ Order
-  | false ↦ elim (n == 2) [
-    | true ↦ Fixed
-    | false ↦ elim (n == 3)
-        [ true ↦ Class | false ↦ elim (n == 4) [ true ↦ Mapping | false ↦ elim (n == 5) [ true ↦ Chain | false ↦ elim (n == 6) [ true ↦ Length | false ↦ Pair ] ] ] ]
-  ]
-]
+refusal_at n = get_or (Pair ∷ Order ∷ Fixed ∷ Class ∷ Mapping ∷ Chain ∷ Length ∷ []) n Pair
 
 refusal_at-rank : (r : Refusal) → refusal_at (rank_of r) ≡ r
 unfolding refusal_at
@@ -53,7 +47,7 @@ refusal_at-rank Chain = refl
 refusal_at-rank Length = refl
 refusal_at-rank Pair = refl
 
-same_rank : (r s : Refusal) → rank_of r ≡ rank_of s → r ≡ s
+pub same_rank : (r s : Refusal) → rank_of r ≡ rank_of s → r ≡ s
 same_rank r s e = sym (refusal_at-rank r) ∙ ap refusal_at e ∙ refusal_at-rank s
 
 positive : (r : Refusal) → 0 < rank_of r

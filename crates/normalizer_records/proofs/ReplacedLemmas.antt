@@ -13,8 +13,9 @@ use Rattle.normalizer_records.specs.Entry.{Entry, MapperEntry}
 use Rattle.normalizer_records.specs.Meaning.{entry_of, mapping_of, mapping_among, replacement, expansion, ExpandsTo, done, stays, replaced, levels}
 use Rattle.normalizer_records.specs.ChainLengths.{GoesOn, IsWalk}
 use Rattle.normalizer_records.specs.Faults.{IsRecorded, HasChainFault, has_fixed_fault}
-use Rattle.normalizer_records.proofs.ExpansionLemmas.{expansion-alone, expansion-replaced, syllable-range}
+use Rattle.normalizer_records.proofs.ExpansionLemmas.{expansion-alone, expansion-replaced}
 use Rattle.normalizer_records.proofs.MeasureLemmas.{IsWalk-one, IsWalk-more, IsWalk-first}
+use Rattle.normalizer_records.proofs.SyllableLemmas.{IsJamo, by_jamo, replacement-syllable}
 use Rattle.normalizer_records.proofs.UnrecordedLemmas.{jamo_alone, jamo_stays}
 use Rattle.normalizer_records.proofs.WalkLemmas.{glue, chain_from_walk}
 
@@ -24,9 +25,6 @@ flat_map-agree f g (x ∷ xs) h = ap₂ (λ a b. a ++ b) (h x (0, omega arith, r
   where
     behind : {y : ℕ} → Contains xs y → Contains (x ∷ xs) y
     behind there = let inside = there.1 in (suc there.0, omega arith, there.2)
-
-abbrev IsJamo : ℕ → Type 0
-IsJamo c = (0x1100 ≤ c) × (c ≤ 0x11FF)
 
 two_members : (P : ℕ → Type 0) (a b x : ℕ) → P a → P b → Contains (a ∷ b ∷ []) x → P x
 two_members P a b x first second (zero, within, e) = subst P e first
@@ -40,16 +38,7 @@ three_members P a b c x first second third (suc (suc zero), within, e) = subst P
 three_members P a b c x first second third (suc (suc (suc k)), within, e) = absurd (omega arith)
 
 jamo_of_syllable : (c x : ℕ) → is_hangul_syllable c ≡ true → Contains (hangul_decomposition c) x → IsJamo x
-unfolding hangul_decomposition
-jamo_of_syllable c x h =
-    let range = syllable-range c h in
-    let index = c - s_base in
-    elim (index % t_count == 0) as (λ b. Contains (if b then (l_base + index / n_count) ∷ (v_base + index % n_count / t_count) ∷ [] else (l_base + index / n_count) ∷
-    (v_base + index % n_count / t_count) ∷ (t_base + index % t_count) ∷ []) x → (0x1100 ≤ x) × (x ≤ 0x11FF)) [
-      | true ↦ two_members (λ y. (0x1100 ≤ y) × (y ≤ 0x11FF)) (l_base + index / n_count) (v_base + index % n_count / t_count) x (omega arith, omega arith) (omega arith, omega arith)
-      | false ↦ three_members (λ y. (0x1100 ≤ y) × (y ≤ 0x11FF)) (l_base + index / n_count) (v_base + index % n_count / t_count) (t_base + index % t_count) x (omega arith, omega arith)
-          (omega arith, omega arith) (omega arith, omega arith)
-    ]
+jamo_of_syllable c x h = by_jamo (λ y. Contains y x → IsJamo x) c h (λ l v. two_members IsJamo l v x) (λ l v t. three_members IsJamo l v t x)
 
 module _ (records : List Entry) (uts46 : List MapperEntry) (fixed : has_fixed_fault records uts46 ≡ false) (short : HasChainFault records → ⊥) (mappings : Mappings) where
   -- no walk up is longer than a chain may be
@@ -112,10 +101,6 @@ module _ (records : List Entry) (uts46 : List MapperEntry) (fixed : has_fixed_fa
             ]
       ]
 
-  replacement-syllable : (c : ℕ) → is_hangul_syllable c ≡ true → replacement records mappings c ≡ hangul_decomposition c
-  unfolding replacement
-  replacement-syllable c h = rw h refl
-
   -- the walk from a member up to its ancestors
   walk_from : (c : ℕ) (ups : List ℕ) → GoesOn records Up c ups → IsWalk records Up ups → IsRecorded records c → IsWalk records Up (c ∷ ups)
   walk_from c [] goes walk h = IsWalk-one records Up c h
@@ -129,7 +114,7 @@ module _ (records : List Entry) (uts46 : List MapperEntry) (fixed : has_fixed_fa
     | inr (inl (some, syllable)) ↦
         expansion-replaced records mappings n c some
         ∙ flat_map-agree (expansion records mappings n) (expansion records mappings (suc n)) (replacement records mappings c) (λ x there.
-        let jamo = jamo_of_syllable c x syllable (subst (λ (y : List ℕ). Contains y x) (replacement-syllable c syllable) there) in
+        let jamo = jamo_of_syllable c x syllable (subst (λ (y : List ℕ). Contains y x) (replacement-syllable records mappings c syllable) there) in
         jamo_alone records uts46 fixed mappings n x jamo.0 jamo.1 ∙ sym (jamo_alone records uts46 fixed mappings (suc n) x jamo.0 jamo.1))
         ∙ sym (expansion-replaced records mappings (suc n) c some)
     | inr (inr (some, other)) ↦
@@ -176,7 +161,7 @@ module _ (records : List Entry) (uts46 : List MapperEntry) (fixed : has_fixed_fa
     | inr (inl (some, syllable)) ↦
         subst (λ (z : List ℕ). ExpandsTo records mappings (c ∷ x) (z ++ y)) (sym (expansion-replaced records mappings n c some))
         (replaced c some (members_replaced (expansion records mappings n) (replacement records mappings c) x y (λ m there x' y' h.
-        let jamo = jamo_of_syllable c m syllable (subst (λ (z : List ℕ). Contains z m) (replacement-syllable c syllable) there) in
+        let jamo = jamo_of_syllable c m syllable (subst (λ (z : List ℕ). Contains z m) (replacement-syllable records mappings c syllable) there) in
         stays_alone n m x' y' (jamo_stays records uts46 fixed mappings m jamo.0 jamo.1) h) rest))
     | inr (inr (some, other)) ↦
         let is = recorded_replacement c other some in

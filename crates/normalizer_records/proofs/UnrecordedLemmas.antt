@@ -15,7 +15,8 @@ use Rattle.normalizer_records.specs.Meaning.{entry_of, class_of, replacement, ex
 use Rattle.normalizer_records.specs.Cut.{IsOfSome}
 use Rattle.normalizer_records.specs.Faults.{is_fixed, has_fixed_fault, begins_with_mark, IsWrong, HasWrongClass, HasLongList, IsTooLong, IsAsked, HasClassFault, HasLengthFault}
 use Rattle.normalizer_records.proofs.CutLemmas.{begins-order}
-use Rattle.normalizer_records.proofs.ExpansionLemmas.{expansion-alone, expansion-replaced, syllable-range}
+use Rattle.normalizer_records.proofs.ExpansionLemmas.{expansion-alone, expansion-replaced}
+use Rattle.normalizer_records.proofs.SyllableLemmas.{by_jamo, jamo_some, replacement-syllable}
 
 -- a character that a look-up finds is among the characters
 contains_key : {X : Type 0} (key : X → ℕ) → (xs : List X) (c : ℕ) → is_some (find (λ r. key r == c) xs) ≡ true → Contains (map key xs) c
@@ -33,7 +34,7 @@ none_fixed c (x ∷ xs) fixed h = elim (x.c == c) as (λ b. (x.c == c) ≡ b →
   | false ↦ λ other. none_fixed c xs fixed (or_parts _ _ h).1
 ] refl
 
-jamo_fixed : (c : ℕ) → 0x1100 ≤ c → c ≤ 0x11FF → is_fixed c ≡ true
+pub jamo_fixed : (c : ℕ) → 0x1100 ≤ c → c ≤ 0x11FF → is_fixed c ≡ true
 unfolding is_fixed
 jamo_fixed c low high = grind (arith, nat_tests)
 
@@ -55,10 +56,6 @@ module _ (records : List Entry) (uts46 : List MapperEntry) (fixed : has_fixed_fa
     unfolding replacement
     replacement-unrecorded c low h = rw (low, h) refl
 
-    replacement-syllable : (c : ℕ) → is_hangul_syllable c ≡ true → replacement records mappings c ≡ hangul_decomposition c
-    unfolding replacement
-    replacement-syllable c h = rw h refl
-
     pub jamo_stays : (c : ℕ) → 0x1100 ≤ c → c ≤ 0x11FF → replacement records mappings c ≡ []
     jamo_stays c low high = replacement-unrecorded c (low_no_syllable c (omega arith)) (unrecorded_jamo c low high)
 
@@ -76,41 +73,19 @@ module _ (records : List Entry) (uts46 : List MapperEntry) (fixed : has_fixed_fa
     unfolding IsBare
     IsBare-one c h = (starter c h, omega arith)
 
-    IsBare-two : (n l v : ℕ) → 0x1100 ≤ l → l ≤ 0x11FF → 0x1100 ≤ v → v ≤ 0x11FF → IsBare (flat_map (expansion records mappings n) (l ∷ v ∷ []))
-    unfolding IsBare
-    IsBare-two n l v ll lh vl vh = rw (jamo_alone n l ll lh, jamo_alone n v vl vh) (starter l (unrecorded_jamo l ll lh), omega arith)
-
-    IsBare-three : (n l v t : ℕ) → 0x1100 ≤ l → l ≤ 0x11FF → 0x1100 ≤ v → v ≤ 0x11FF → 0x1100 ≤ t → t ≤ 0x11FF → IsBare (flat_map (expansion records mappings n) (l ∷ v ∷ t ∷ []))
-    unfolding IsBare
-    IsBare-three n l v t ll lh vl vh tl th = rw (jamo_alone n l ll lh, jamo_alone n v vl vh, jamo_alone n t tl th) (starter l (unrecorded_jamo l ll lh), omega arith)
-
     IsBare-jamo : (n c : ℕ) → is_hangul_syllable c ≡ true → IsBare (flat_map (expansion records mappings n) (hangul_decomposition c))
-    unfolding hangul_decomposition
-    IsBare-jamo n c h =
-        let range = syllable-range c h in
-        let index = c - s_base in
-        elim (index % t_count == 0) as (λ b. IsBare (flat_map (expansion records mappings n)
-        (if b then (l_base + index / n_count) ∷ (v_base + index % n_count / t_count) ∷ [] else (l_base + index / n_count) ∷ (v_base + index % n_count / t_count) ∷ (t_base + index % t_count) ∷ []))) [
-          | true ↦ IsBare-two n (l_base + index / n_count) (v_base + index % n_count / t_count) (omega arith) (omega arith) (omega arith) (omega arith)
-          | false ↦ IsBare-three n (l_base + index / n_count) (v_base + index % n_count / t_count) (t_base + index % t_count) (omega arith) (omega arith) (omega arith) (omega arith) (omega arith)
-              (omega arith)
-        ]
-
-    jamo_some : (c : ℕ) → hangul_decomposition c ≢ []
-    unfolding hangul_decomposition
-    jamo_some c =
-        let index = c - s_base in
-        elim (index % t_count == 0) as (λ b. (if b then (l_base + index / n_count) ∷ (v_base + index % n_count / t_count) ∷ [] else (l_base + index / n_count) ∷ (v_base + index % n_count / t_count) ∷
-        (t_base + index % t_count) ∷ []) ≢ []) [
-          | true ↦ λ e. absurd cc
-          | false ↦ λ e. absurd cc
-        ]
+    unfolding IsBare
+    IsBare-jamo n c h = by_jamo (λ x. IsBare (flat_map (expansion records mappings n) x)) c h
+        (λ l v first second. rw (jamo_alone n l first.0 first.1, jamo_alone n v second.0 second.1) (starter l (unrecorded_jamo l first.0 first.1), omega arith))
+        (λ l v t first second third. rw (jamo_alone n l first.0 first.1, jamo_alone n v second.0 second.1, jamo_alone n t third.0 third.1)
+        (starter l (unrecorded_jamo l first.0 first.1), omega arith))
 
     IsBare-expansion : (c : ℕ) → entry_of records c ≡ None → IsBare (expansion records mappings levels c)
     IsBare-expansion c h = elim (is_hangul_syllable c) as (λ b. is_hangul_syllable c ≡ b → IsBare (expansion records mappings levels c)) [
       | true ↦ λ syllable.
-          let same : replacement records mappings c ≡ hangul_decomposition c = replacement-syllable c syllable in
-          let e : expansion records mappings 17 c ≡ flat_map (expansion records mappings 16) (hangul_decomposition c) = expansion-replaced records mappings 16 c (λ none. jamo_some c (sym same ∙ none))
+          let same : replacement records mappings c ≡ hangul_decomposition c = replacement-syllable records mappings c syllable in
+          let e : expansion records mappings 17 c ≡ flat_map (expansion records mappings 16) (hangul_decomposition c) =
+          expansion-replaced records mappings 16 c (λ none. jamo_some c syllable (sym same ∙ none))
           ∙ ap (flat_map (expansion records mappings 16)) same in
           subst IsBare (sym e) (IsBare-jamo 16 c syllable)
       | false ↦ λ other. subst IsBare (sym (expansion-alone records mappings 17 c (replacement-unrecorded c other h))) (IsBare-one c h)
