@@ -8,6 +8,8 @@ mod constructors;
 #[cfg(test)]
 mod decoding;
 #[cfg(test)]
+mod delegates;
+#[cfg(test)]
 mod forms;
 #[cfg(test)]
 mod letters;
