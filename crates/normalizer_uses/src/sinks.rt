@@ -1,0 +1,71 @@
+//! Normal forms written to sinks.
+ghost use Rattle.std.specs.Prelude.{◌≡◌, IfOk, IsOkUnless, chars, encode_utf8_all, string_bytes};
+ghost use Rattle.normal_forms.specs.declared.Form.TheVariants.{Composing, Decomposing};
+ghost use Rattle.normal_forms.specs.Forms.{normal_form};
+ghost use Rattle.normalizer_tables.specs.Characters.{own_reading};
+ghost use Rattle.normalizer_tables.specs.PairConditions.{composing_reading};
+ghost use Rattle.normalizer_text.specs.Utf8.{decoded_utf8};
+ghost use Rattle.normalizer_text.specs.Utf16.{decoded_utf16, encode_utf16_all};
+ghost use Rattle.normalizer_calls.specs.ComposingNormalizers.{
+  composing_data_of_borrowed,
+  pairs_of_borrowed,
+};
+ghost use Rattle.normalizer_calls.specs.Normalizers.{data_of_borrowed};
+
+use icu_normalizer::sink::Write;
+use icu_normalizer::{ComposingNormalizerBorrowed, DecomposingNormalizerBorrowed, NormalizeError};
+use std::alloc::Global;
+
+/// The NFC of a text, as a string.
+pub fn nfc_string(
+    alloc: Global,
+    normalizer: &ComposingNormalizerBorrowed<'_>,
+    text: &str,
+) -> Result<String, NormalizeError>
+    ensures { let d = composing_reading (composing_data_of_borrowed normalizer.now) (pairs_of_borrowed normalizer.now)
+        in IfOk result (λ form. string_bytes form ≡ encode_utf8_all (normal_form d Composing (chars text.now))) }
+{
+    let mut form = String::new(alloc);
+    normalizer.normalize_to(text, &mut form)?;
+    Ok(form)
+}
+
+/// The NFD of the text that bytes decode to, as a string.
+pub fn nfd_string_of_bytes(
+    alloc: Global,
+    normalizer: &DecomposingNormalizerBorrowed<'_>,
+    bytes: &[u8],
+) -> Result<String, NormalizeError>
+    ensures { let d = own_reading (data_of_borrowed normalizer.now) in
+        IfOk result (λ form. string_bytes form ≡ encode_utf8_all (normal_form d Decomposing (decoded_utf8 bytes.now))) }
+{
+    let mut form = String::new(alloc);
+    normalizer.normalize_utf8_to(bytes, &mut form)?;
+    Ok(form)
+}
+
+/// The NFC of the text that 16-bit units decode to, in UTF-16.
+pub fn nfc_units(
+    alloc: Global,
+    normalizer: &ComposingNormalizerBorrowed<'_>,
+    units: &[u16],
+) -> Result<Vec<u16>, NormalizeError>
+    ensures { let d = composing_reading (composing_data_of_borrowed normalizer.now) (pairs_of_borrowed normalizer.now)
+        in IfOk result (λ form. form.items ≡ encode_utf16_all (normal_form d Composing (decoded_utf16 units.now))) }
+{
+    let mut form = Vec::new(alloc);
+    normalizer.normalize_utf16_to(units, &mut form)?;
+    Ok(form)
+}
+
+/// Writes the NFD of a text to a sink in which no fault can come about: none is answered.
+pub fn nfd_without_faults<W: Write>(
+    normalizer: &DecomposingNormalizerBorrowed<'_>,
+    text: &str,
+    sink: &mut W,
+) -> Result<(), NormalizeError>
+    requires { (later : W) → ¬ W.refused sink.old later }
+    ensures { IsOkUnless result NormalizeError.Memory }
+{
+    normalizer.normalize_to(text, sink)
+}
