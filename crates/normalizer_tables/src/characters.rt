@@ -52,7 +52,12 @@ impl<'a> Model for CharacterData<'a> {
 
     ghost Value = { Characters };
 
-    ghost view = { λ s. record { decompositions = s.decompositions.now; tables = s.tables.now; supplementary = lists_or_none (option_copied s.supplementary); is_mapper = s.is_mapper } };
+    ghost view = { λ s. record {
+      decompositions = s.decompositions.now;
+      tables = s.tables.now;
+      supplementary = lists_or_none (option_copied s.supplementary);
+      is_mapper = s.is_mapper;
+    } };
 }
 
 impl<'a> CharacterData<'a> {
@@ -67,7 +72,12 @@ impl<'a> CharacterData<'a> {
         supplementary: Option<&'a DecompositionTables>,
         is_mapper: bool,
     ) -> Self
-        ensures { result ≡ record { decompositions = decompositions.now; tables = tables.now; supplementary = lists_or_none (option_copied supplementary.entry); is_mapper = is_mapper } }
+        ensures { result ≡ record {
+          decompositions = decompositions.now;
+          tables = tables.now;
+          supplementary = lists_or_none (option_copied supplementary.entry);
+          is_mapper = is_mapper;
+        } }
     {
         CharacterData {
             decompositions,

@@ -34,7 +34,8 @@ pub fn check_nfd_data<'a>(
     tables: &'a DecompositionTables,
 ) -> Result<(), DataError>
     ensures ok { IsOk result ↔ IsSoundNfdData decompositions.now tables.now }
-    ensures err { IfErr result (RefusesFirstFailing marker.NormalizerNfdDataV1 (nfd_characters decompositions.now tables.now) nfd_bounds nfd_conditions) }
+    ensures err { IfErr result (RefusesFirstFailing marker.NormalizerNfdDataV1
+        (nfd_characters decompositions.now tables.now) nfd_bounds nfd_conditions) }
 {
     let characters = CharacterData::new(decompositions, tables, None, false);
     let bounds = Bounds {

@@ -27,7 +27,8 @@ pub fn first_failing_of_pairs(
     bounds: Bounds,
     compositions: &CanonicalCompositions,
 ) -> Option<PairCondition>
-    ensures { IsFirstFailing (HoldsOfPairs data.now bounds compositions.now) (pair_conditions data.now.is_mapper) result }
+    ensures { IsFirstFailing (HoldsOfPairs data.now bounds compositions.now)
+        (pair_conditions data.now.is_mapper) result }
 {
     if !holds_of_pairs(data, compositions) {
         return Some(PairCondition::Pairs);
@@ -52,7 +53,8 @@ pub fn are_sound_pairs(compositions: &CanonicalCompositions) -> bool
 }
 
 fn holds_of_pairs(data: &CharacterData<'_>, compositions: &CanonicalCompositions) -> bool
-    ensures { IsTrue result ↔ (AreSoundPairs compositions.now × All (λ p. IsComposable data.now p.1 × IsComposable data.now p.2) compositions.now) }
+    ensures { IsTrue result ↔ (AreSoundPairs compositions.now ×
+        All (λ p. IsComposable data.now p.1 × IsComposable data.now p.2) compositions.now) }
 {
     are_sound_pairs(compositions) && have_composable_members(data, compositions)
 }

@@ -96,7 +96,8 @@ fn are_starters(data: &CharacterData<'_>, list: &Members<'_>) -> bool
 
 /// Whether a character has a fixed list, and the members of this list the classes of its members.
 fn has_fixed_classes(data: &CharacterData<'_>, character: char, list: &Members<'_>) -> bool
-    ensures { IsTrue result ↔ (option_map (λ f. f.member_classes) (fixed_list_of character) ≡ Some (map (class_of data.now) list.now)) }
+    ensures { IsTrue result ↔
+        (option_map (λ f. f.member_classes) (fixed_list_of character) ≡ Some (map (class_of data.now) list.now)) }
 {
     match fixed_list_of(character) {
         Some(fixed) => have_classes(data, list, fixed.member_classes()),
