@@ -1,16 +1,12 @@
 -- Which data a constructor accepts, and how it answers others.
-use Rattle.std.specs.Prelude.{◌≡◌, ◌↔◌, List, [], ◌∷◌, Option, Some, None, Result, Ok, Err, IsErrOf, All, false, min}
-use Rattle.std.specs.Borrow.{Bor}
-use Rattle.std.specs.Option.{option_copied}
+use Rattle.std.specs.Prelude.{◌≡◌, ◌↔◌, Option, Some, None, Result, Ok, Err, IsErrOf, false, min}
 use Rattle.normalizer_tables.specs.declared.condition.Bounds.{Bounds}
-use Rattle.normalizer_tables.specs.declared.condition.Condition.{Condition}
-use Rattle.normalizer_tables.specs.declared.condition.Condition.TheVariants.{ItemLimit, CapLimit, ReplacementCharacter, Surrogates, PastTheEnd, Hangul, Words, Members, Order, Passthrough}
 use Rattle.normalizer_tables.specs.declared.provider.DataError.{DataError}
 use Rattle.normalizer_tables.specs.declared.provider.DataError.TheVariants.{Provider, Memory}
 use Rattle.normalizer_tables.specs.declared.provider.DataMarkerInfo.{DataMarkerInfo}
 use Rattle.normalizer_tables.specs.declared.provider.DataMarkerInfo.TheVariants as marker
+use Rattle.normalizer_tables.specs.AcceptedData.{IsAccepted, decomposing_conditions}
 use Rattle.normalizer_tables.specs.Characters.{Characters}
-use Rattle.normalizer_tables.specs.Conditions.{Holds}
 use Rattle.normalizer_tables.specs.Data.{Decompositions, Lists, lists_or_none}
 use Rattle.normalizer_tables.specs.Refusals.{RefusesFirstFailing}
 
@@ -18,20 +14,13 @@ use Rattle.normalizer_tables.specs.Refusals.{RefusesFirstFailing}
 abbrev pub data_from : Decompositions → Lists → Option Lists → Characters
 data_from decompositions tables supplementary = record { decompositions = decompositions; tables = tables; supplementary = lists_or_none supplementary; is_mapper = false }
 
-abbrev pub borrowed_data : Bor Decompositions → Bor Lists → Option (Bor Lists) → Characters
-borrowed_data decompositions tables supplementary = data_from decompositions.now tables.now (option_copied supplementary)
-
 -- below which numbers characters pass unseen
 abbrev pub bounds_of : Decompositions → Bounds
 bounds_of decompositions = record { decomposition = min decompositions.cap 0xC0; composition = min decompositions.cap 0x0300 }
 
--- the conditions that are asked where text is decomposed
-abbrev pub decomposing_conditions : List Condition
-decomposing_conditions = ItemLimit ∷ CapLimit ∷ ReplacementCharacter ∷ Surrogates ∷ PastTheEnd ∷ Hangul ∷ Words ∷ Members ∷ Order ∷ Passthrough ∷ []
-
--- data that meet them all
+-- data that meet all conditions that are asked where text is decomposed
 abbrev pub SuitsDecomposing : Characters → Type 0
-SuitsDecomposing s = All (Holds s (bounds_of s.decompositions)) decomposing_conditions
+SuitsDecomposing s = IsAccepted s (bounds_of s.decompositions)
 
 -- the answer for the first of them that fails
 abbrev pub RefusesToDecompose : DataMarkerInfo → Characters → DataError → Type 0

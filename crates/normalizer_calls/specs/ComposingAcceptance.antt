@@ -1,11 +1,12 @@
 -- Which data and pairs a constructor accepts where text is composed, and how it answers others.
-use Rattle.std.specs.Prelude.{◌≡◌, ◌⊎◌, List, Option, Some, None, Result, Ok, Err, All}
+use Rattle.std.specs.Prelude.{◌≡◌, ◌⊎◌, List, Option, Some, None, Result, Ok, Err}
 use Rattle.normalizer_tables.specs.declared.pair_condition.PairCondition.{PairCondition}
 use Rattle.normalizer_tables.specs.declared.pair_condition.PairCondition.TheVariants.{Pairs, RoundTrip, SafeBeginning, Results}
 use Rattle.normalizer_tables.specs.declared.provider.DataError.{DataError}
 use Rattle.normalizer_tables.specs.declared.provider.DataError.TheVariants.{Invalid}
 use Rattle.normalizer_tables.specs.declared.provider.DataMarkerInfo.{DataMarkerInfo}
 use Rattle.normalizer_tables.specs.declared.provider.DataMarkerInfo.TheVariants as marker
+use Rattle.normalizer_tables.specs.AcceptedData.{AreAcceptedPairs}
 use Rattle.normalizer_tables.specs.Characters.{Characters}
 use Rattle.normalizer_tables.specs.Conditions.{IsFirstFailing}
 use Rattle.normalizer_tables.specs.PairConditions.{pair_conditions, HoldsOfPairs}
@@ -23,7 +24,7 @@ refusal_of_pairs kind Results = Invalid marker.NormalizerNfcV1 14
 -- data with pairs that meet all conditions that are asked where text is composed
 pub record SuitsComposing (h : Characters × List Pair) : Type 0 where
   pub conditions : SuitsDecomposing h.0
-  pub pair_conditions : All (HoldsOfPairs h.0 (bounds_of h.0.decompositions) h.1) (pair_conditions h.0.is_mapper)
+  pub pair_conditions : AreAcceptedPairs h.0 (bounds_of h.0.decompositions) h.1
 
 -- the answer for the first of them that fails: those on pairs come after the others
 abbrev pub RefusesToCompose : DataMarkerInfo → Characters × List Pair → DataError → Type 0

@@ -4,7 +4,7 @@ use Rattle.normalizer_tables.specs.Characters.{Characters}
 use Rattle.normalizer_tables.specs.Pairs.{Pair}
 use Rattle.normalizer_calls.specs.declared.composing_normalizer.ComposingNormalizer.{ComposingNormalizer}
 use Rattle.normalizer_calls.specs.declared.composing_normalizer.ComposingNormalizerBorrowed.{ComposingNormalizerBorrowed}
-use Rattle.normalizer_calls.specs.Acceptance.{data_from, borrowed_data}
+use Rattle.normalizer_calls.specs.Acceptance.{data_from}
 
 abbrev pub composing_data_of : ComposingNormalizer → Characters
 composing_data_of n = data_from n.decompositions n.tables n.supplementary
@@ -13,7 +13,7 @@ abbrev pub pairs_of : ComposingNormalizer → List Pair
 pairs_of n = n.pairs
 
 abbrev pub composing_data_of_borrowed : ComposingNormalizerBorrowed → Characters
-composing_data_of_borrowed n = borrowed_data n.decompositions n.tables n.supplementary
+composing_data_of_borrowed n = n.characters
 
 abbrev pub pairs_of_borrowed : ComposingNormalizerBorrowed → List Pair
 pairs_of_borrowed n = n.pairs.now

@@ -2,13 +2,12 @@
 ghost use Rattle.std.specs.Prelude.{◌≡◌, ◌⊎◌, IfOk, IfErr};
 ghost use Rattle.std.specs.Iterator.{IsFinite};
 ghost use Rattle.normal_forms.specs.Forms.{nfc};
-ghost use Rattle.normalizer_tables.specs.Characters.{has_class_form, own_reading};
+ghost use Rattle.normalizer_tables.specs.Characters.{has_class_form};
 ghost use Rattle.normalizer_tables.specs.PairConditions.{composing_reading};
 ghost use Rattle.normalizer_iterators.specs.Items.{GivesForm};
 ghost use Rattle.normalizer_calls.specs.Acceptance.{
   bounds_of,
   data_from,
-  borrowed_data,
   nfd_data,
   nfkd_data,
   AcceptsHeld,
@@ -21,8 +20,7 @@ ghost use Rattle.normalizer_calls.specs.ComposingAcceptance.{
   RefusesToCompose,
   SuitsComposing,
 };
-ghost use Rattle.normalizer_iterators.specs.LazyComposing.{SuitsLazyComposing};
-ghost use Rattle.normalizer_iterators.specs.LazyReading.{SuitsLazyReading};
+ghost use Rattle.normalizer_calls.specs.Serving.{ServesComposing};
 
 use normalizer_iterators::composition::composed;
 use normalizer_iterators::{Composition, NormalizeError};
@@ -78,8 +76,7 @@ pub struct ComposingNormalizer {
     tables: DecompositionTables,
     supplementary: Option<DecompositionTables>,
     pairs: CanonicalCompositions,
-    ghost suits: { SuitsLazyReading (has_class_form (data_from decompositions tables supplementary)) (own_reading (data_from decompositions tables supplementary)) },
-    ghost composing: { SuitsLazyComposing (data_from decompositions tables supplementary) (bounds_of decompositions) pairs },
+    ghost serves: { ServesComposing (data_from decompositions tables supplementary) (bounds_of decompositions) pairs },
 }
 
 impl ComposingNormalizer {
@@ -157,11 +154,17 @@ impl ComposingNormalizer {
         ensures held { composing_data_of_borrowed result ≡ composing_data_of self.now }
         ensures pairs { pairs_of_borrowed result ≡ pairs_of self.now }
     {
+        let characters = CharacterData::new(
+            &self.decompositions,
+            &self.tables,
+            self.supplementary.as_ref(),
+            false,
+        );
+        let bounds = Bounds::of_cap(characters.cap());
         ComposingNormalizerBorrowed {
-            decompositions: &self.decompositions,
-            tables: &self.tables,
-            supplementary: self.supplementary.as_ref(),
+            characters,
             pairs: &self.pairs,
+            bounds,
         }
     }
 }
@@ -169,12 +172,10 @@ impl ComposingNormalizer {
 /// A normalizer to a composed form, over borrowed data.
 #[derive(Drop)]
 pub struct ComposingNormalizerBorrowed<'a> {
-    decompositions: &'a DecompositionData,
-    tables: &'a DecompositionTables,
-    supplementary: Option<&'a DecompositionTables>,
+    characters: CharacterData<'a>,
     pairs: &'a CanonicalCompositions,
-    ghost suits: { SuitsLazyReading (has_class_form (borrowed_data decompositions tables supplementary)) (own_reading (borrowed_data decompositions tables supplementary)) },
-    ghost composing: { SuitsLazyComposing (borrowed_data decompositions tables supplementary) (bounds_of decompositions.now) pairs.now },
+    bounds: Bounds,
+    ghost serves: { ServesComposing characters bounds pairs.now },
 }
 
 impl<'a> ComposingNormalizerBorrowed<'a> {
@@ -193,25 +194,13 @@ impl<'a> ComposingNormalizerBorrowed<'a> {
         ensures ready { IfOk result ⟦<Composition<'a, I> as Iterator>⟧.can_next }
         ensures held { IfOk result (λ it. (data_of_composition it ≡ composing_data_of_borrowed self.now) × (pairs_of_composition it ≡ pairs_of_borrowed self.now)) }
     {
-        let bounds = self.bounds();
+        let characters = self.characters.copied();
         composed(
-            self.characters(),
+            characters,
             IgnoredCharacters::Dropped,
             self.pairs,
-            bounds,
+            self.bounds,
             iter,
         )
-    }
-
-    fn characters(&self) -> CharacterData<'a>
-        ensures { result ≡ composing_data_of_borrowed self.now }
-    {
-        CharacterData::new(self.decompositions, self.tables, self.supplementary, false)
-    }
-
-    fn bounds(&self) -> Bounds
-        ensures { result ≡ bounds_of (composing_data_of_borrowed self.now).decompositions }
-    {
-        Bounds::of_cap(self.characters().cap())
     }
 }

@@ -6,7 +6,6 @@ ghost use Rattle.normalizer_tables.specs.Characters.{has_class_form, own_reading
 ghost use Rattle.normalizer_iterators.specs.Items.{GivesForm};
 ghost use Rattle.normalizer_calls.specs.Acceptance.{
   data_from,
-  borrowed_data,
   nfd_data,
   nfkd_data,
   AcceptsHeld,
@@ -15,7 +14,7 @@ ghost use Rattle.normalizer_calls.specs.Acceptance.{
   RefusesToDecompose,
   SuitsDecomposing,
 };
-ghost use Rattle.normalizer_iterators.specs.LazyReading.{SuitsLazyReading};
+ghost use Rattle.normalizer_calls.specs.Serving.{ServesDecomposing};
 
 use normalizer_iterators::decomposition::decomposed;
 use normalizer_iterators::{Decomposition, NormalizeError};
@@ -34,7 +33,7 @@ pub struct DecomposingNormalizer {
     decompositions: DecompositionData,
     tables: DecompositionTables,
     supplementary: Option<DecompositionTables>,
-    ghost suits: { SuitsLazyReading (has_class_form (data_from decompositions tables supplementary)) (own_reading (data_from decompositions tables supplementary)) },
+    ghost serves: { ServesDecomposing (data_from decompositions tables supplementary) },
 }
 
 impl DecomposingNormalizer {
@@ -106,9 +105,12 @@ impl DecomposingNormalizer {
         ensures { data_of_borrowed result ≡ data_of self.now }
     {
         DecomposingNormalizerBorrowed {
-            decompositions: &self.decompositions,
-            tables: &self.tables,
-            supplementary: self.supplementary.as_ref(),
+            characters: CharacterData::new(
+                &self.decompositions,
+                &self.tables,
+                self.supplementary.as_ref(),
+                false,
+            ),
         }
     }
 }
@@ -116,10 +118,8 @@ impl DecomposingNormalizer {
 /// A normalizer to a decomposed form, over borrowed data.
 #[derive(Drop)]
 pub struct DecomposingNormalizerBorrowed<'a> {
-    pub(crate) decompositions: &'a DecompositionData,
-    pub(crate) tables: &'a DecompositionTables,
-    pub(crate) supplementary: Option<&'a DecompositionTables>,
-    ghost suits: { SuitsLazyReading (has_class_form (borrowed_data decompositions tables supplementary)) (own_reading (borrowed_data decompositions tables supplementary)) },
+    pub(crate) characters: CharacterData<'a>,
+    ghost serves: { ServesDecomposing characters },
 }
 
 impl<'a> DecomposingNormalizerBorrowed<'a> {
@@ -136,12 +136,6 @@ impl<'a> DecomposingNormalizerBorrowed<'a> {
             (own_reading (data_of_borrowed self.now)) nfd iter result }
         ensures ready { IfOk result ⟦<Decomposition<'a, I> as Iterator>⟧.can_next }
     {
-        let characters = CharacterData::new(
-            self.decompositions,
-            self.tables,
-            self.supplementary,
-            false,
-        );
-        decomposed(characters, IgnoredCharacters::Dropped, iter)
+        decomposed(self.characters.copied(), IgnoredCharacters::Dropped, iter)
     }
 }

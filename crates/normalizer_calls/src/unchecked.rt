@@ -4,6 +4,7 @@ ghost use Rattle.std.specs.Prelude.{◌≡◌};
 ghost use Rattle.normalizer_tables.specs.NfdData.{IsSoundNfdData, nfd_characters};
 
 use crate::normalizer::DecomposingNormalizerBorrowed;
+use normalizer_tables::characters::CharacterData;
 use normalizer_tables::{DecompositionData, DecompositionTables};
 
 impl<'a> DecomposingNormalizerBorrowed<'a> {
@@ -18,9 +19,7 @@ impl<'a> DecomposingNormalizerBorrowed<'a> {
         ensures { data_of_borrowed result ≡ nfd_characters decompositions.now tables.now }
     {
         DecomposingNormalizerBorrowed {
-            decompositions,
-            tables,
-            supplementary: None,
+            characters: CharacterData::new(decompositions, tables, None, false),
         }
     }
 }

@@ -1,8 +1,7 @@
 use Rattle.std.proofs.Common.{refl}
 use Rattle.normalizer_calls.specs.Acceptance.{data_from}
 use Rattle.normalizer_calls.specs.ComposingAcceptance.{SuitsComposing}
-use Rattle.normalizer_calls.proofs.AcceptedData.{SuitsLazyReading-met}
-use Rattle.normalizer_calls.proofs.SoundPairs.{SuitsLazyComposing-met}
+use Rattle.normalizer_calls.proofs.AcceptedData.{ServesComposing-met}
 use Rattle.normalizer_calls.proofs.composing_normalizer.ComposingNormalizer.over.Goals as goal
 use Rattle.normalizer_calls.proofs.composing_normalizer.ComposingNormalizer.over.Goals.{In-Ok}
 
@@ -13,10 +12,7 @@ met c =
     rw (c.new-characters.ensures, c.as_ref.ensures.value) at h
 
 pub invariant_of-result : goal.invariant_of-result
-invariant_of-result c = record {
-  suits = SuitsLazyReading-met _ (met c).conditions;
-  composing = SuitsLazyComposing-met _ _ (met c);
-}
+invariant_of-result c = record { serves = ServesComposing-met _ _ refl (met c) }
 
 pub returns-in-Ok-clause-ok : goal.returns-in-Ok-clause-ok
 returns-in-Ok-clause-ok c = (refl, refl, met (goal.at.returns-in-Ok-clause-ok c).In-Ok)

@@ -1,7 +1,7 @@
 use Rattle.std.proofs.Common.{refl}
 use Rattle.normalizer_tables.specs.Conditions.{IsFirstFailing}
 use Rattle.normalizer_calls.specs.Acceptance.{data_from, SuitsDecomposing}
-use Rattle.normalizer_calls.proofs.AcceptedData.{SuitsLazyReading-met}
+use Rattle.normalizer_calls.proofs.AcceptedData.{ServesDecomposing-met}
 use Rattle.normalizer_calls.proofs.normalizer.DecomposingNormalizer.over.Goals as goal
 use Rattle.normalizer_calls.proofs.normalizer.DecomposingNormalizer.over.Goals.{In-None}
 
@@ -13,7 +13,7 @@ met c =
     rw (c.of_cap-bounds.ensures, c.cap.ensures, c.new-characters.ensures, c.as_ref.ensures.value) at h
 
 pub invariant_of-result : goal.invariant_of-result
-invariant_of-result c = record { suits = SuitsLazyReading-met _ (met c) }
+invariant_of-result c = record { serves = ServesDecomposing-met _ refl (met c) }
 
 pub returns-in-None-clause-ok : goal.returns-in-None-clause-ok
 returns-in-None-clause-ok c = (refl, met (goal.at.returns-in-None-clause-ok c).In-None)

@@ -1,0 +1,21 @@
+-- What a normalizer's data are to its calls.
+use Rattle.std.specs.Prelude.{List}
+use Rattle.normal_forms.specs.declared.Form.TheVariants.{Decomposing, Composing}
+use Rattle.normalizer_tables.specs.declared.condition.Bounds.{Bounds}
+use Rattle.normalizer_tables.specs.AcceptedData.{SuitsTexts}
+use Rattle.normalizer_tables.specs.Characters.{Characters, has_class_form, own_reading}
+use Rattle.normalizer_tables.specs.PairConditions.{composing_reading}
+use Rattle.normalizer_tables.specs.Pairs.{Pair}
+use Rattle.normalizer_iterators.specs.LazyComposing.{SuitsLazyComposing}
+use Rattle.normalizer_iterators.specs.LazyReading.{SuitsLazyReading}
+
+-- text may be decomposed by them character by character, and the laws of the decomposing form hold
+pub record ServesDecomposing (s : Characters) : Type 0 where
+  pub reading : SuitsLazyReading (has_class_form s) (own_reading s)
+  pub laws : SuitsTexts (own_reading s) Decomposing
+
+-- text may be decomposed and composed by them character by character, and the laws of both forms hold
+pub record ServesComposing (s : Characters) (b : Bounds) (pairs : List Pair) : Type 0 where
+  pub reading : SuitsLazyReading (has_class_form s) (own_reading s)
+  pub composing : SuitsLazyComposing s b pairs
+  pub laws : SuitsTexts (composing_reading s pairs) Composing
