@@ -228,10 +228,13 @@ pub fn decomposition_tables(
     rows: &[&str],
     kind: &str,
 ) -> Result<Option<DecompositionTables>, Fault> {
-    Ok(lists_of(alloc, rows, kind)?.map(|lists| DecompositionTables {
-        scalars16: Scalars16::from(lists.scalars16),
-        scalars24: Scalars24::from(lists.scalars24),
-    }))
+    Ok(match lists_of(alloc, rows, kind)? {
+        Some(lists) => Some(DecompositionTables {
+            scalars16: Scalars16::from(lists.scalars16),
+            scalars24: Scalars24::from(lists.scalars24),
+        }),
+        None => None,
+    })
 }
 
 /// What rows give of pairs.

@@ -53,7 +53,10 @@ impl DataProvider<NormalizerNfdDataV1> for Held {
 
     fn load(&self) -> Result<DecompositionData, DataError> {
         match &self.canonical {
-            Some(data) => data.clone().map_err(|_| DataError::Memory),
+            Some(data) => match data.clone() {
+                Ok(copy) => Ok(copy),
+                Err(_) => Err(DataError::Memory),
+            },
             None => Err(DataError::Provider(DataMarkerInfo::NormalizerNfdDataV1)),
         }
     }
@@ -64,7 +67,10 @@ impl DataProvider<NormalizerNfkdDataV1> for Held {
 
     fn load(&self) -> Result<DecompositionData, DataError> {
         match &self.compatibility {
-            Some(data) => data.clone().map_err(|_| DataError::Memory),
+            Some(data) => match data.clone() {
+                Ok(copy) => Ok(copy),
+                Err(_) => Err(DataError::Memory),
+            },
             None => Err(DataError::Provider(DataMarkerInfo::NormalizerNfkdDataV1)),
         }
     }
@@ -75,7 +81,10 @@ impl DataProvider<NormalizerUts46DataV1> for Held {
 
     fn load(&self) -> Result<DecompositionData, DataError> {
         match &self.mapper {
-            Some(data) => data.clone().map_err(|_| DataError::Memory),
+            Some(data) => match data.clone() {
+                Ok(copy) => Ok(copy),
+                Err(_) => Err(DataError::Memory),
+            },
             None => Err(DataError::Provider(DataMarkerInfo::NormalizerUts46DataV1)),
         }
     }
@@ -86,7 +95,10 @@ impl DataProvider<NormalizerNfdTablesV1> for Held {
 
     fn load(&self) -> Result<DecompositionTables, DataError> {
         match &self.tables {
-            Some(data) => data.clone().map_err(|_| DataError::Memory),
+            Some(data) => match data.clone() {
+                Ok(copy) => Ok(copy),
+                Err(_) => Err(DataError::Memory),
+            },
             None => Err(DataError::Provider(DataMarkerInfo::NormalizerNfdTablesV1)),
         }
     }
@@ -97,7 +109,10 @@ impl DataProvider<NormalizerNfkdTablesV1> for Held {
 
     fn load(&self) -> Result<DecompositionTables, DataError> {
         match &self.supplementary {
-            Some(data) => data.clone().map_err(|_| DataError::Memory),
+            Some(data) => match data.clone() {
+                Ok(copy) => Ok(copy),
+                Err(_) => Err(DataError::Memory),
+            },
             None => Err(DataError::Provider(DataMarkerInfo::NormalizerNfkdTablesV1)),
         }
     }
@@ -108,7 +123,10 @@ impl DataProvider<NormalizerNfcV1> for Held {
 
     fn load(&self) -> Result<CanonicalCompositions, DataError> {
         match &self.pairs {
-            Some(data) => data.clone().map_err(|_| DataError::Memory),
+            Some(data) => match data.clone() {
+                Ok(copy) => Ok(copy),
+                Err(_) => Err(DataError::Memory),
+            },
             None => Err(DataError::Provider(DataMarkerInfo::NormalizerNfcV1)),
         }
     }
@@ -119,7 +137,10 @@ impl DataProvider<NormalizerNfdSupplementV1> for Held {
 
     fn load(&self) -> Result<NonRecursiveDecompositionSupplement, DataError> {
         match &self.supplement {
-            Some(data) => data.clone().map_err(|_| DataError::Memory),
+            Some(data) => match data.clone() {
+                Ok(copy) => Ok(copy),
+                Err(_) => Err(DataError::Memory),
+            },
             None => Err(DataError::Provider(DataMarkerInfo::NormalizerNfdSupplementV1)),
         }
     }

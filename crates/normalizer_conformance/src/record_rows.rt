@@ -47,7 +47,7 @@ pub fn record_of(alloc: Global, c: char, words: &[&str]) -> Result<Record, Fault
 }
 
 fn class_number(digits: &str) -> Result<u8, Fault> {
-    u8::try_from(decimal(digits)?).map_err(|_| Fault::Unreadable)
+    u8::try_from(decimal(digits)?).ok().ok_or(Fault::Unreadable)
 }
 
 fn record(

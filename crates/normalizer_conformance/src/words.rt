@@ -28,14 +28,15 @@ fn push_times<'a>(words: &mut Vec<&'a str>, count: u32, pieces: &'a str) -> Resu
 }
 
 fn push_pieces<'a>(words: &mut Vec<&'a str>, pieces: &'a str) -> Result<(), Fault> {
-    let last = match pieces.split_once(',') {
-        Some((first, second)) => {
-            words.push(first)?;
-            second
-        }
-        None => pieces,
-    };
-    Ok(words.push(last)?)
+    match pieces.split_once(',') {
+        Some((first, second)) => push_both(words, first, second),
+        None => Ok(words.push(pieces)?),
+    }
+}
+
+fn push_both<'a>(words: &mut Vec<&'a str>, first: &'a str, second: &'a str) -> Result<(), Fault> {
+    words.push(first)?;
+    Ok(words.push(second)?)
 }
 
 /// The words with a space between each two.
@@ -96,7 +97,9 @@ pub fn characters(alloc: Global, words: &[&str]) -> Result<Vec<char>, Fault> {
 }
 
 fn byte(digits: &str) -> Result<u8, Fault> {
-    u8::try_from(hexadecimal(digits)?).map_err(|_| Fault::Unreadable)
+    u8::try_from(hexadecimal(digits)?)
+        .ok()
+        .ok_or(Fault::Unreadable)
 }
 
 pub fn bytes(alloc: Global, words: &[&str]) -> Result<Vec<u8>, Fault> {
@@ -108,7 +111,9 @@ pub fn bytes(alloc: Global, words: &[&str]) -> Result<Vec<u8>, Fault> {
 }
 
 pub fn unit(digits: &str) -> Result<u16, Fault> {
-    u16::try_from(hexadecimal(digits)?).map_err(|_| Fault::Unreadable)
+    u16::try_from(hexadecimal(digits)?)
+        .ok()
+        .ok_or(Fault::Unreadable)
 }
 
 pub fn units(alloc: Global, words: &[&str]) -> Result<Vec<u16>, Fault> {

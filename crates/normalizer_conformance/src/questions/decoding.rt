@@ -95,8 +95,9 @@ fn put_together<T: Copy + Drop>(alloc: Global, parts: &[&[T]]) -> Result<Vec<T>,
 }
 
 fn characters_of(alloc: Global, letters: &[u8]) -> Result<Vec<char>, AllocError> {
-    letters
-        .iter()
-        .map(|letter| char::from(*letter))
-        .collect(alloc)
+    let mut all = Vec::new(alloc);
+    for letter in letters {
+        all.push(char::from(*letter))?;
+    }
+    Ok(all)
 }

@@ -24,10 +24,12 @@ pub fn record(
         return Err(Fault::Unreadable);
     };
     let c = character(c)?;
-    match setting.records().iter().find(|record| record.c == c) {
-        Some(record) => spelled_record(alloc, record),
-        None => Ok(String::from_str(alloc, "none")?),
+    for record in setting.records() {
+        if record.c == c {
+            return spelled_record(alloc, record);
+        }
     }
+    Ok(String::from_str(alloc, "none")?)
 }
 
 /// What is recorded of a character for the mapper.
@@ -40,10 +42,12 @@ pub fn mapper_record(
         return Err(Fault::Unreadable);
     };
     let c = character(c)?;
-    match setting.mapper().iter().find(|record| record.c == c) {
-        Some(record) => spelled_mapper_record(alloc, record),
-        None => Ok(String::from_str(alloc, "none")?),
+    for record in setting.mapper() {
+        if record.c == c {
+            return spelled_mapper_record(alloc, record);
+        }
     }
+    Ok(String::from_str(alloc, "none")?)
 }
 
 /// How many records there are, or how many of the mapper.
