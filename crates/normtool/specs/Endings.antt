@@ -1,5 +1,5 @@
 -- How the program ends.
-use Rattle.std.specs.Prelude.{ℕ, List, [], codes, Result, Ok, Err}
+use Rattle.std.specs.Prelude.{◌≡◌, ℕ, List, [], codes, Result, Ok, Err}
 use Rattle.normtool.specs.declared.ending.Answer.{Answer}
 use Rattle.normtool.specs.declared.ending.Answer.TheVariants.{Done, No}
 use Rattle.normtool.specs.declared.ending.ToolFault.{ToolFault}
@@ -18,3 +18,11 @@ line_of (Err Read) = codes "normtool: read"
 line_of (Err Write) = codes "normtool: write"
 line_of (Err Memory) = codes "normtool: memory"
 line_of (Err Data) = codes "normtool: data"
+
+-- the exit status and the line, without its line feed, after this outcome
+abbrev pub EndsWith : Result Answer ToolFault → ℕ → List ℕ → Type 0
+EndsWith outcome status line = (status ≡ status_of outcome) × (line ≡ line_of outcome)
+
+-- the exit status and the line, without its line feed, where the words ask for nothing
+abbrev pub IsUsage : ℕ → List ℕ → Type 0
+IsUsage status line = (status ≡ 2) × (line ≡ codes "normtool: usage: normtool RECORDS COMMAND")

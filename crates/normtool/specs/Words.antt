@@ -23,3 +23,7 @@ AsksFor [] records command = ⊥
 AsksFor (first ∷ []) records command = ⊥
 AsksFor (first ∷ second ∷ []) records command = NamesRecords records first × NamesCommand command second
 AsksFor (first ∷ second ∷ third ∷ more) records command = ⊥
+
+-- words that name no record set and command
+abbrev pub AskForNothing : List (List ℕ) → Type 0
+AskForNothing words = (records : RecordSet) (command : Command) → AsksFor words records command → ⊥

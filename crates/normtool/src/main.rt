@@ -9,6 +9,7 @@ mod ending;
 #[cfg(test)]
 mod memory;
 mod normalizer;
+mod program;
 mod run;
 mod set_run;
 mod standard;
@@ -20,6 +21,7 @@ mod words;
 pub use building::built;
 pub use device::{DeviceError, Source, Target};
 pub use ending::{Answer, ToolFault, ending};
+pub use program::program;
 pub use run::run;
 pub use set_run::run_over;
 use standard::{Input, Output};
@@ -30,36 +32,31 @@ pub use transfer::{read_all, write_all};
 pub use words::{Command, RecordSet, USAGE, words};
 
 fn main(rt: HostRuntime) -> ExitCode {
-    let (status, line) = outcome(&rt);
+    let (status, line) = ended(&rt);
     if !line.is_empty() {
         let _ = eprintln!(rt; "{line}");
     }
     ExitCode::from(status)
 }
 
-/// The exit status, and the line for standard error, empty where there is none.
-fn outcome(rt: &HostRuntime) -> (u8, &'static str) {
-    match request(rt) {
+/// Runs the program over the arguments and the standard streams.
+fn ended(rt: &HostRuntime) -> (u8, &'static str) {
+    match arguments(rt) {
+        Ok(all) => program(
+            rt.alloc(),
+            &all,
+            &mut Input(rt.stdin()),
+            &mut Output(rt.stdout()),
+        ),
         Err(fault) => ending(&Err(fault)),
-        Ok(None) => (2, USAGE),
-        Ok(Some((records, command))) => ending(&answer(rt, records, command)),
     }
 }
 
-/// What the words after the program's name ask for. Words that are not UTF-8 ask for nothing.
-fn request(rt: &HostRuntime) -> Result<Option<(RecordSet, Command)>, ToolFault> {
-    let arguments = match env::args(rt) {
-        Ok(arguments) => arguments,
-        Err(error) if error.kind() == ErrorKind::OutOfMemory => return Err(ToolFault::Memory),
-        Err(_) => return Ok(None),
-    };
-    let all: Vec<String> = arguments.skip(1).collect(rt.alloc())?;
-    Ok(words(&all))
-}
-
-/// Runs the command over the records from standard input to standard output.
-fn answer(rt: &HostRuntime, records: RecordSet, command: Command) -> Result<Answer, ToolFault> {
-    let mut input = Input(rt.stdin());
-    let mut output = Output(rt.stdout());
-    run_over(rt.alloc(), records, command, &mut input, &mut output)
+/// The words after the program's name: none, which ask for nothing, where one is not UTF-8.
+fn arguments(rt: &HostRuntime) -> Result<Vec<String>, ToolFault> {
+    match env::args(rt) {
+        Ok(arguments) => Ok(arguments.skip(1).collect(rt.alloc())?),
+        Err(error) if error.kind() == ErrorKind::OutOfMemory => Err(ToolFault::Memory),
+        Err(_) => Ok(Vec::new(rt.alloc())),
+    }
 }

@@ -8,230 +8,281 @@ use icu_normalizer::{
     DecompositionTables, NormalizerNfcV1, NormalizerNfdDataV1, NormalizerNfdTablesV1,
     NormalizerNfkdDataV1, NormalizerNfkdTablesV1,
 };
-use std::alloc::{AllocError, Global};
-use std::test::Fail;
+use std::alloc::Global;
 
-fn strings(alloc: Global, texts: &[&str]) -> Result<Vec<String>, AllocError> {
+fn strings(alloc: Global, texts: &[&str]) -> Option<Vec<String>> {
     let mut all = Vec::new(alloc);
     for text in texts {
-        all.push(String::from_str(alloc, text)?)?;
+        all.push(String::from_str(alloc, text).ok()?).ok()?;
     }
-    Ok(all)
+    Some(all)
+}
+
+/// Whether two words ask for the command over the record set.
+fn ask_for(alloc: Global, texts: [&str; 2], records: RecordSet, command: Command) -> bool {
+    match strings(alloc, &texts) {
+        Some(all) => words(&all) == Some((records, command)),
+        None => false,
+    }
 }
 
 #[test]
-fn two_words_ask_for_a_command(rt: HostRuntime) -> Result<(), Fail> {
-    let commands = [
-        ("nfd", Command::Nfd),
-        ("nfc", Command::Nfc),
-        ("nfkd", Command::Nfkd),
-        ("nfkc", Command::Nfkc),
-    ];
-    for (name, command) in commands {
-        let all = strings(rt.alloc(), &["rows", name])?;
-        assert_eq!(rt; words(&all), Some((RecordSet::Rows, command)));
-        let all = strings(rt.alloc(), &["none", name])?;
-        assert_eq!(rt; words(&all), Some((RecordSet::Nothing, command)));
+fn two_words_ask_for_a_command(rt: HostRuntime) {
+    let alloc = rt.alloc();
+    assert!(rt; ask_for(alloc, ["rows", "nfd"], RecordSet::Rows, Command::Nfd));
+    assert!(rt; ask_for(alloc, ["rows", "nfc"], RecordSet::Rows, Command::Nfc));
+    assert!(rt; ask_for(alloc, ["rows", "nfkd"], RecordSet::Rows, Command::Nfkd));
+    assert!(rt; ask_for(alloc, ["rows", "nfkc"], RecordSet::Rows, Command::Nfkc));
+    assert!(rt; ask_for(alloc, ["none", "nfd"], RecordSet::Nothing, Command::Nfd));
+    assert!(rt; ask_for(alloc, ["none", "nfc"], RecordSet::Nothing, Command::Nfc));
+    assert!(rt; ask_for(alloc, ["none", "nfkd"], RecordSet::Nothing, Command::Nfkd));
+    assert!(rt; ask_for(alloc, ["none", "nfkc"], RecordSet::Nothing, Command::Nfkc));
+}
+
+fn ask_for_nothing(alloc: Global, texts: &[&str]) -> bool {
+    match strings(alloc, texts) {
+        Some(all) => words(&all).is_none(),
+        None => false,
     }
-    Ok(())
 }
 
 #[test]
-fn other_words_ask_for_nothing(rt: HostRuntime) -> Result<(), Fail> {
-    let wrong: [&[&str]; 8] = [
-        &[],
-        &["rows"],
-        &["nfd", "rows"],
-        &["rows", "nfd", "nfd"],
-        &["rows", "Nfd"],
-        &["rows", ""],
-        &["none", "none"],
-        &["rows", "nfdd"],
-    ];
-    for texts in wrong {
-        let all = strings(rt.alloc(), texts)?;
-        assert_eq!(rt; words(&all), None, "{texts:?}");
-    }
-    Ok(())
+fn other_words_ask_for_nothing(rt: HostRuntime) {
+    let alloc = rt.alloc();
+    assert!(rt; ask_for_nothing(alloc, &[]));
+    assert!(rt; ask_for_nothing(alloc, &["rows"]));
+    assert!(rt; ask_for_nothing(alloc, &["nfd", "rows"]));
+    assert!(rt; ask_for_nothing(alloc, &["rows", "nfd", "nfd"]));
+    assert!(rt; ask_for_nothing(alloc, &["rows", "Nfd"]));
+    assert!(rt; ask_for_nothing(alloc, &["rows", ""]));
+    assert!(rt; ask_for_nothing(alloc, &["none", "none"]));
+    assert!(rt; ask_for_nothing(alloc, &["rows", "nfdd"]));
+}
+
+fn ends_with(outcome: Result<Answer, ToolFault>, status: u8, line: &str) -> bool {
+    ending(&outcome) == (status, line)
 }
 
 #[test]
 fn endings(rt: HostRuntime) {
-    assert_eq!(rt; USAGE, "normtool: usage: normtool RECORDS COMMAND");
-    assert_eq!(rt; ending(&Ok(Answer::Done)), (0, ""));
-    assert_eq!(rt; ending(&Ok(Answer::No)), (1, ""));
-    assert_eq!(rt; ending(&Err(ToolFault::Read)), (2, "normtool: read"));
-    assert_eq!(rt; ending(&Err(ToolFault::Write)), (2, "normtool: write"));
-    assert_eq!(rt; ending(&Err(ToolFault::Memory)), (2, "normtool: memory"));
-    assert_eq!(rt; ending(&Err(ToolFault::Data)), (2, "normtool: data"));
+    assert!(rt; USAGE == "normtool: usage: normtool RECORDS COMMAND");
+    assert!(rt; ends_with(Ok(Answer::Done), 0, ""));
+    assert!(rt; ends_with(Ok(Answer::No), 1, ""));
+    assert!(rt; ends_with(Err(ToolFault::Read), 2, "normtool: read"));
+    assert!(rt; ends_with(Err(ToolFault::Write), 2, "normtool: write"));
+    assert!(rt; ends_with(Err(ToolFault::Memory), 2, "normtool: memory"));
+    assert!(rt; ends_with(Err(ToolFault::Data), 2, "normtool: data"));
+}
+
+/// Bytes that no piece and no chunk divides.
+fn counted_bytes(alloc: Global, count: u32) -> Option<Vec<u8>> {
+    let mut bytes = Vec::new(alloc);
+    for n in 0..count {
+        bytes.push((n % 251) as u8).ok()?;
+    }
+    Some(bytes)
+}
+
+/// Whether all the bytes are read, and written again.
+fn are_transferred(alloc: Global, input: &[u8]) -> bool {
+    let Ok(read) = read_all(alloc, &mut Pieces::of(input)) else {
+        return false;
+    };
+    let mut page = Page::new(alloc, input.len());
+    let written = write_all(&mut page, &read);
+    written.is_ok() && read.as_slice() == input && page.bytes.as_slice() == input
 }
 
 #[test]
-fn all_is_read_and_written_in_pieces(rt: HostRuntime) -> Result<(), Fail> {
-    let mut input = Vec::new(rt.alloc());
-    for n in 0..20_000u32 {
-        input.push((n % 251) as u8)?;
-    }
-    let read = read_all(rt.alloc(), &mut Pieces::of(&input))?;
-    assert!(rt; read == input);
-    let mut page = Page::new(rt.alloc(), 20_000);
-    write_all(&mut page, &read)?;
-    assert!(rt; page.bytes == input);
-    Ok(())
+fn all_is_read_and_written_in_pieces(rt: HostRuntime) {
+    let input = counted_bytes(rt.alloc(), 20_000);
+    assert!(rt; input.is_some_and(|input| are_transferred(rt.alloc(), &input)));
 }
 
 #[test]
 fn a_refused_call_ends_the_transfer(rt: HostRuntime) {
     let read = read_all(rt.alloc(), &mut Pieces::broken_off(b"front"));
-    assert_eq!(rt; read.err(), Some(ToolFault::Read));
+    assert!(rt; matches!(read, Err(ToolFault::Read)));
     let mut page = Page::new(rt.alloc(), 7);
-    assert_eq!(rt;
-        write_all(&mut page, b"front and rest"),
-        Err(ToolFault::Write)
-    );
-    assert_eq!(rt; page.bytes.as_slice(), b"front a".as_slice());
+    let written = write_all(&mut page, b"front and rest");
+    assert!(rt; matches!(written, Err(ToolFault::Write)));
+    assert!(rt; page.bytes.as_slice() == b"front a".as_slice());
 }
 
-// The outcome over the data, and the bytes that were written.
-fn run_over(
-    alloc: Global,
-    data: &Built,
-    command: Command,
-    input: &[u8],
-    room: usize,
-) -> (Result<Answer, ToolFault>, Vec<u8>) {
-    let mut page = Page::new(alloc, room);
+/// Whether the command writes this output for the input, and ends well.
+fn is_output(alloc: Global, data: &Built, command: Command, input: &[u8], output: &[u8]) -> bool {
+    let mut page = Page::new(alloc, output.len());
     let outcome = run(alloc, data, command, &mut Pieces::of(input), &mut page);
-    (outcome, page.bytes)
+    outcome == Ok(Answer::Done) && page.bytes.as_slice() == output
 }
+
+/// A command, an input and its output.
+type Run = (Command, &'static [u8], &'static [u8]);
+
+/// The place of the first run over the record set with another output, or how many runs there are.
+fn first_other(alloc: Global, records: RecordSet, runs: &[Run]) -> usize {
+    let Ok(data) = built(alloc, records) else {
+        return 0;
+    };
+    for place in 0..runs.len() {
+        let (command, input, output) = runs[place];
+        if !is_output(alloc, &data, command, input, output) {
+            return place;
+        }
+    }
+    runs.len()
+}
+
+const RUNS: [Run; 23] = [
+    (Command::Nfd, b"\xE1\xBB\x87", b"\x65\xCC\xA3\xCC\x82"),
+    (Command::Nfd, b"\xCC\x88\xCC\xA3", b"\xCC\xA3\xCC\x88"),
+    (Command::Nfd, b"\xFF\xC3\xA4", b"\xEF\xBF\xBD\x61\xCC\x88"),
+    (
+        Command::Nfd,
+        b"\xEA\xB0\x81",
+        b"\xE1\x84\x80\xE1\x85\xA1\xE1\x86\xA8",
+    ),
+    (Command::Nfd, b"", b""),
+    (Command::Nfd, b"as it is", b"as it is"),
+    (Command::Nfd, b"\xC3\xAA\xCC\xA3", b"\x65\xCC\xA3\xCC\x82"),
+    (Command::Nfc, b"\x65\xCC\x82\xCC\xA3", b"\xE1\xBB\x87"),
+    (Command::Nfc, b"\x65\xCC\x82\xCC\x82", b"\xC3\xAA\xCC\x82"),
+    (
+        Command::Nfc,
+        b"\x61\xCC\x82\xCC\x88",
+        b"\x61\xCC\x82\xCC\x88",
+    ),
+    (
+        Command::Nfc,
+        b"\xE1\x84\x80\xE1\x85\xA1\xE1\x86\xA8",
+        b"\xEA\xB0\x81",
+    ),
+    (
+        Command::Nfc,
+        b"\xEA\xB0\x80\xE1\x86\xA7",
+        b"\xEA\xB0\x80\xE1\x86\xA7",
+    ),
+    (Command::Nfc, b"\xCC\x88\x61", b"\xCC\x88\x61"),
+    (Command::Nfc, b"", b""),
+    (
+        Command::Nfc,
+        b"\xFF\x61\xCC\x88\xFF",
+        b"\xEF\xBF\xBD\xC3\xA4\xEF\xBF\xBD",
+    ),
+    (Command::Nfkd, b"\xEF\xAC\x81", b"\x66\x69"),
+    (Command::Nfkc, b"\xEF\xAC\x81", b"\x66\x69"),
+    (Command::Nfd, b"\xEF\xAC\x81", b"\xEF\xAC\x81"),
+    (Command::Nfc, b"\xEF\xAC\x81", b"\xEF\xAC\x81"),
+    (
+        Command::Nfkd,
+        b"\xE1\xBB\x87\xEF\xBE\x9E",
+        b"\x65\xE3\x82\x99\xCC\xA3\xCC\x82",
+    ),
+    (
+        Command::Nfkc,
+        b"\xE1\xBB\x87\xEF\xBE\x9E",
+        b"\xE1\xBB\x87\xE3\x82\x99",
+    ),
+    (
+        Command::Nfc,
+        b"\xE1\xBB\x87\xEF\xBE\x9E",
+        b"\xE1\xBB\x87\xEF\xBE\x9E",
+    ),
+    (
+        Command::Nfkc,
+        b"\xE1\x84\x80\xE1\x85\xA1\xE1\x86\xA8",
+        b"\xEA\xB0\x81",
+    ),
+];
 
 #[test]
-fn texts_are_decomposed(rt: HostRuntime) -> Result<(), Fail> {
-    let data = built(rt.alloc(), RecordSet::Rows)?;
-    let all: [(&[u8], &[u8]); 7] = [
-        (b"\xE1\xBB\x87", b"\x65\xCC\xA3\xCC\x82"),
-        (b"\xCC\x88\xCC\xA3", b"\xCC\xA3\xCC\x88"),
-        (b"\xFF\xC3\xA4", b"\xEF\xBF\xBD\x61\xCC\x88"),
-        (b"\xEA\xB0\x81", b"\xE1\x84\x80\xE1\x85\xA1\xE1\x86\xA8"),
-        (b"", b""),
-        (b"as it is", b"as it is"),
-        (b"\xC3\xAA\xCC\xA3", b"\x65\xCC\xA3\xCC\x82"),
-    ];
-    for (input, output) in all {
-        let (outcome, written) = run_over(rt.alloc(), &data, Command::Nfd, input, 100);
-        assert_eq!(rt; outcome, Ok(Answer::Done), "{input:?}");
-        assert_eq!(rt; written.as_slice(), output);
-    }
-    Ok(())
+fn texts_are_put_into_forms(rt: HostRuntime) {
+    assert_eq!(rt; first_other(rt.alloc(), RecordSet::Rows, &RUNS), RUNS.len());
 }
+
+const RUNS_WITHOUT_RECORDS: [Run; 2] = [
+    (Command::Nfd, b"\xE1\xBB\x87", b"\xE1\xBB\x87"),
+    (Command::Nfkc, b"\x61\xCC\x88", b"\x61\xCC\x88"),
+];
 
 // Without records nothing but Hangul syllables is replaced, and no mark is known.
 #[test]
-fn no_records_leave_texts_as_they_are(rt: HostRuntime) -> Result<(), Fail> {
-    let all = strings(rt.alloc(), &["none", "nfd"])?;
-    assert_eq!(rt; words(&all), Some((RecordSet::Nothing, Command::Nfd)));
-    let data = built(rt.alloc(), RecordSet::Nothing)?;
-    let input = b"\xE1\xBB\x87";
-    let (outcome, written) = run_over(rt.alloc(), &data, Command::Nfd, input, 100);
-    assert_eq!(rt; ending(&outcome), (0, ""));
-    assert_eq!(rt; written.as_slice(), input.as_slice());
-    let (outcome, written) = run_over(
-        rt.alloc(),
-        &data,
-        Command::Nfkc,
-        "\u{61}\u{308}".as_bytes(),
-        100,
-    );
-    assert_eq!(rt; ending(&outcome), (0, ""));
-    assert_eq!(rt; written.as_slice(), "\u{61}\u{308}".as_bytes());
-    Ok(())
+fn no_records_leave_texts_as_they_are(rt: HostRuntime) {
+    let other = first_other(rt.alloc(), RecordSet::Nothing, &RUNS_WITHOUT_RECORDS);
+    assert_eq!(rt; other, RUNS_WITHOUT_RECORDS.len());
 }
 
-#[test]
-fn texts_are_composed(rt: HostRuntime) -> Result<(), Fail> {
-    let data = built(rt.alloc(), RecordSet::Rows)?;
-    let all = [
-        ("\u{65}\u{302}\u{323}", "\u{1EC7}"),
-        ("\u{65}\u{302}\u{302}", "\u{EA}\u{302}"),
-        ("\u{61}\u{302}\u{308}", "\u{61}\u{302}\u{308}"),
-        ("\u{1100}\u{1161}\u{11A8}", "\u{AC01}"),
-        ("\u{AC00}\u{11A7}", "\u{AC00}\u{11A7}"),
-        ("\u{308}\u{61}", "\u{308}\u{61}"),
-        ("", ""),
-    ];
-    for (input, output) in all {
-        let (outcome, written) = run_over(rt.alloc(), &data, Command::Nfc, input.as_bytes(), 100);
-        assert_eq!(rt; outcome, Ok(Answer::Done), "{input:?}");
-        assert_eq!(rt; written.as_slice(), output.as_bytes(), "{input:?}");
+/// A piece, so many times.
+fn repeated(alloc: Global, piece: &[u8], count: usize) -> Option<Vec<u8>> {
+    let mut bytes = Vec::new(alloc);
+    for _ in 0..count {
+        bytes.extend_from_slice(piece).ok()?;
     }
-    Ok(())
+    Some(bytes)
 }
 
-#[test]
-fn ill_formed_bytes_are_composed(rt: HostRuntime) -> Result<(), Fail> {
-    let data = built(rt.alloc(), RecordSet::Rows)?;
-    let input = b"\xFF\x61\xCC\x88\xFF";
-    let (outcome, written) = run_over(rt.alloc(), &data, Command::Nfc, input, 100);
-    assert_eq!(rt; ending(&outcome), (0, ""));
-    assert_eq!(rt;
-        written.as_slice(),
-        b"\xEF\xBF\xBD\xC3\xA4\xEF\xBF\xBD".as_slice()
-    );
-    Ok(())
+/// Whether a text of so many letters with diaeresis is decomposed.
+fn letters_are_decomposed(alloc: Global, data: &Built, count: usize) -> bool {
+    let Some(input) = repeated(alloc, b"\xC3\xA4", count) else {
+        return false;
+    };
+    let Some(output) = repeated(alloc, b"\x61\xCC\x88", count) else {
+        return false;
+    };
+    is_output(alloc, data, Command::Nfd, &input, &output)
 }
 
-// Compatibility mappings take part in two of the forms alone.
+// Input and output are larger than a chunk of 8,192 bytes.
 #[test]
-fn compatibility_characters_are_replaced(rt: HostRuntime) -> Result<(), Fail> {
-    let data = built(rt.alloc(), RecordSet::Rows)?;
-    let rows = [
-        (Command::Nfkd, "\u{FB01}", "fi"),
-        (Command::Nfkc, "\u{FB01}", "fi"),
-        (Command::Nfd, "\u{FB01}", "\u{FB01}"),
-        (Command::Nfc, "\u{FB01}", "\u{FB01}"),
-        (Command::Nfkd, "\u{1EC7}\u{FF9E}", "e\u{3099}\u{323}\u{302}"),
-        (Command::Nfkc, "\u{1EC7}\u{FF9E}", "\u{1EC7}\u{3099}"),
-        (Command::Nfc, "\u{1EC7}\u{FF9E}", "\u{1EC7}\u{FF9E}"),
-        (Command::Nfkc, "\u{1100}\u{1161}\u{11A8}", "\u{AC01}"),
-    ];
-    for (command, input, output) in rows {
-        let (outcome, written) = run_over(rt.alloc(), &data, command, input.as_bytes(), 100);
-        assert_eq!(rt; outcome, Ok(Answer::Done), "{input:?}");
-        assert_eq!(rt; written.as_slice(), output.as_bytes(), "{input:?}");
-    }
-    Ok(())
+fn a_long_text_is_decomposed(rt: HostRuntime) {
+    let data = built(rt.alloc(), RecordSet::Rows);
+    assert!(rt; data.is_ok_and(|data| letters_are_decomposed(rt.alloc(), &data, 5000)));
+}
+
+const INPUT: &[u8] = b"\xE1\xBB\x87 and much more than one piece holds";
+
+/// Whether a source that breaks off there ends the run with nothing written.
+fn is_refused_after(alloc: Global, data: &Built, count: usize) -> bool {
+    let mut source = Pieces::broken_off(&INPUT[..count.min(INPUT.len())]);
+    let mut page = Page::new(alloc, 100);
+    let outcome = run(alloc, data, Command::Nfd, &mut source, &mut page);
+    outcome == Err(ToolFault::Read) && page.bytes.is_empty()
 }
 
 // A source that breaks off at each place: nothing is written.
 #[test]
-fn nothing_is_written_where_a_read_is_refused(rt: HostRuntime) -> Result<(), Fail> {
-    let data = built(rt.alloc(), RecordSet::Rows)?;
-    let input = b"\xE1\xBB\x87 and much more than one piece holds";
-    for end in 0..=input.len() {
-        let mut source = Pieces::broken_off(&input[..end]);
-        let mut page = Page::new(rt.alloc(), 100);
-        let outcome = run(rt.alloc(), &data, Command::Nfd, &mut source, &mut page);
-        assert_eq!(rt; outcome, Err(ToolFault::Read), "after {end} bytes");
-        assert!(rt; page.bytes.is_empty());
-    }
-    Ok(())
+fn nothing_is_written_where_a_read_is_refused(rt: HostRuntime) {
+    let alloc = rt.alloc();
+    let data = built(alloc, RecordSet::Rows);
+    assert!(rt;
+        data.is_ok_and(|data| (0..=INPUT.len()).all(|n| is_refused_after(alloc, &data, n)))
+    );
+}
+
+const OUTPUT: &[u8] = b"\x65\xCC\xA3\xCC\x82\x61\xCC\x88";
+
+/// Whether a target with so much room holds the beginning of the output, after a refusal if the room is too small.
+fn has_beginning(alloc: Global, data: &Built, room: usize) -> bool {
+    let room = room.min(OUTPUT.len());
+    let mut page = Page::new(alloc, room);
+    let mut source = Pieces::of(b"\xE1\xBB\x87\xC3\xA4");
+    let outcome = run(alloc, data, Command::Nfd, &mut source, &mut page);
+    let wanted = if room < OUTPUT.len() {
+        Err(ToolFault::Write)
+    } else {
+        Ok(Answer::Done)
+    };
+    outcome == wanted && page.bytes.as_slice() == &OUTPUT[..room]
 }
 
 // A target that is full at each place: it holds the beginning of the output.
 #[test]
-fn a_beginning_is_written_where_a_write_is_refused(rt: HostRuntime) -> Result<(), Fail> {
-    let data = built(rt.alloc(), RecordSet::Rows)?;
-    let input = b"\xE1\xBB\x87\xC3\xA4";
-    let output = b"\x65\xCC\xA3\xCC\x82\x61\xCC\x88";
-    for room in 0..output.len() {
-        let (outcome, written) = run_over(rt.alloc(), &data, Command::Nfd, input, room);
-        assert_eq!(rt; outcome, Err(ToolFault::Write), "room for {room} bytes");
-        assert_eq!(rt; written.as_slice(), &output[..room]);
-    }
-    let (outcome, written) = run_over(rt.alloc(), &data, Command::Nfd, input, output.len());
-    assert_eq!(rt; outcome, Ok(Answer::Done));
-    assert_eq!(rt; written.as_slice(), output.as_slice());
-    Ok(())
+fn a_beginning_is_written_where_a_write_is_refused(rt: HostRuntime) {
+    let alloc = rt.alloc();
+    let data = built(alloc, RecordSet::Rows);
+    assert!(rt;
+        data.is_ok_and(|data| (0..=OUTPUT.len()).all(|room| has_beginning(alloc, &data, room)))
+    );
 }
 
 /// What was built, with other tables in the place of the canonical ones, or none.
@@ -292,26 +343,33 @@ impl DataProvider<NormalizerNfcV1> for WithTables {
     }
 }
 
+/// Whether the command over the provider ends by its data, with nothing read and nothing written.
+fn lacks_data(alloc: Global, provider: &WithTables, command: Command) -> bool {
+    let mut source = Pieces::broken_off(b"");
+    let mut page = Page::new(alloc, 100);
+    let outcome = run(alloc, provider, command, &mut source, &mut page);
+    outcome == Err(ToolFault::Data) && page.bytes.is_empty()
+}
+
+/// Whether no command runs over the data with these canonical tables.
+fn no_command_runs(alloc: Global, tables: Option<DecompositionTables>) -> bool {
+    let Ok(data) = built(alloc, RecordSet::Rows) else {
+        return false;
+    };
+    let provider = WithTables { data, tables };
+    lacks_data(alloc, &provider, Command::Nfd)
+        && lacks_data(alloc, &provider, Command::Nfc)
+        && lacks_data(alloc, &provider, Command::Nfkd)
+        && lacks_data(alloc, &provider, Command::Nfkc)
+}
+
 // Data that are missing, or that break a condition, are told before anything is read.
 #[test]
-fn nothing_is_read_where_data_do_not_serve(rt: HostRuntime) -> Result<(), Fail> {
+fn nothing_is_read_where_data_do_not_serve(rt: HostRuntime) {
     let empty = DecompositionTables {
         scalars16: Vec::new(rt.alloc()).into(),
         scalars24: Vec::new(rt.alloc()).into(),
     };
-    for tables in [None, Some(empty)] {
-        let provider = WithTables {
-            data: built(rt.alloc(), RecordSet::Rows)?,
-            tables,
-        };
-        for command in [Command::Nfd, Command::Nfc, Command::Nfkd, Command::Nfkc] {
-            let mut source = Pieces::broken_off(b"");
-            let mut page = Page::new(rt.alloc(), 100);
-            let outcome = run(rt.alloc(), &provider, command, &mut source, &mut page);
-            assert_eq!(rt; outcome, Err(ToolFault::Data));
-            assert_eq!(rt; ending(&outcome), (2, "normtool: data"));
-            assert!(rt; page.bytes.is_empty());
-        }
-    }
-    Ok(())
+    assert!(rt; no_command_runs(rt.alloc(), None));
+    assert!(rt; no_command_runs(rt.alloc(), Some(empty)));
 }
