@@ -18,4 +18,6 @@ mod packing;
 #[cfg(test)]
 mod records;
 #[cfg(test)]
+mod sinks;
+#[cfg(test)]
 mod tables;
