@@ -76,6 +76,26 @@ module _ (e : Encoding) (d : Reading) (form : Form) (units : List ℕ) where
       → IsEncodedFront e d form units n k ↔ (IsErrorFreeBoundary e units n × (characters_before e units n ≡ k) × IsCommonFront text form_of_text k)
   encoded_iff_boundary texts n k = (boundary_of_encoded texts n k, λ b. encoded_of_boundary n k b.0 b.1 b.2)
 
+  -- it is a front of the units, and ends where its own units do
+  pub encoded_iff_front : (n k : ℕ) → IsEncodedFront e d form units n k ↔ ((k ≤ length form_of_text) × IsFront (encoded_in e (take k form_of_text)) units × (n ≡ length (encoded_in e (take k form_of_text))))
+  encoded_iff_front n k = (
+    λ f. (
+      f.characters,
+      (drop n units, sym (take-append-drop n units) ∙ ap (λ l. l ++ drop n units) (sym f.same)),
+      sym (ap length f.same ∙ length-take-le n units f.within),
+    ),
+    λ f.
+        let front : List ℕ = encoded_in e (take k form_of_text) in
+        let rest : List ℕ = f.1.0 in
+        let whole : units ≡ front ++ rest = f.1.1 in
+        let ends : n ≡ length front = f.2 in
+        record {
+          within = omega (arith, ap length whole, length-append front rest);
+          characters = f.0;
+          same = sym (ap (take n) whole ∙ take_at front rest n (sym ends));
+        },
+  )
+
   -- and so does each shorter one
   pub encoded-fewer : (n k j : ℕ) → IsEncodedFront e d form units n k → j ≤ k → (m : ℕ) × IsEncodedFront e d form units m j × (m ≤ n)
   encoded-fewer n k j f le =

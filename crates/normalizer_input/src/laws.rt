@@ -173,6 +173,10 @@ pub fn encoded_front_ends_at_boundary()
         (units : List ℕ) (n k : ℕ) →
         IsEncodedFront e d form units n k ↔ (IsErrorFreeBoundary e units n × (characters_before e units n ≡ k) ×
         IsCommonFront (decoded_in e units) (normal_form d form (decoded_in e units)) k) }
+    ensures stands { (e : Encoding) (d : Reading) (form : Form) (units : List ℕ) (n k : ℕ) →
+        IsEncodedFront e d form units n k ↔ ((k ≤ length (normal_form d form (decoded_in e units))) ×
+        IsFront (encoded_in e (take k (normal_form d form (decoded_in e units)))) units ×
+        (n ≡ length (encoded_in e (take k (normal_form d form (decoded_in e units)))))) }
     ensures fewer { (e : Encoding) (d : Reading) (form : Form) (units : List ℕ) (n k j : ℕ) →
         IsEncodedFront e d form units n k → j ≤ k → (m : ℕ) × IsEncodedFront e d form units m j × (m ≤ n) }
     ensures longest { (e : Encoding) (d : Reading) (form : Form) → SuitsForm d form → HasTextLists d →
