@@ -77,7 +77,8 @@ module _ (e : Encoding) (d : Reading) (form : Form) (units : List ℕ) where
   encoded_iff_boundary texts n k = (boundary_of_encoded texts n k, λ b. encoded_of_boundary n k b.0 b.1 b.2)
 
   -- it is a front of the units, and ends where its own units do
-  pub encoded_iff_front : (n k : ℕ) → IsEncodedFront e d form units n k ↔ ((k ≤ length form_of_text) × IsFront (encoded_in e (take k form_of_text)) units × (n ≡ length (encoded_in e (take k form_of_text))))
+  pub encoded_iff_front : (n k : ℕ)
+      → IsEncodedFront e d form units n k ↔ ((k ≤ length form_of_text) × IsFront (encoded_in e (take k form_of_text)) units × (n ≡ length (encoded_in e (take k form_of_text))))
   encoded_iff_front n k = (
     λ f. (
       f.characters,
