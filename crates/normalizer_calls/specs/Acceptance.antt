@@ -1,5 +1,5 @@
 -- Which data a constructor accepts, and how it answers others.
-use Rattle.std.specs.Prelude.{◌≡◌, ◌↔◌, Option, Some, None, Result, Ok, Err, IsErrOf, false, min}
+use Rattle.std.specs.Prelude.{◌≡◌, ◌⊎◌, Option, Some, None, Result, Ok, Err, IfOk, IfErr, IsErrOf, false, min}
 use Rattle.normalizer_tables.specs.declared.condition.Bounds.{Bounds}
 use Rattle.normalizer_tables.specs.declared.provider.DataError.{DataError}
 use Rattle.normalizer_tables.specs.declared.provider.DataError.TheVariants.{Provider, Memory}
@@ -50,6 +50,10 @@ module _ {H : Type 0} where
   RefusesHeld Refuses (Ok held) e = Refuses held e
   RefusesHeld Refuses (Err missing) e = e ≡ Provider missing
 
-  -- want of memory aside, a load is named exactly where it is the first for which nothing is held
-  abbrev pub NamesMissing : {A : Type 0} → Result H DataMarkerInfo → Result A DataError → Type 0
-  NamesMissing held result = (missing : DataMarkerInfo) → IsErrOf result (Provider missing) ↔ ((held ≡ Err missing) × ¬ IsErrOf result Memory)
+  -- A constructor's answer by what is held, where `first` is loaded first: data that suit; or else the refusal of what is
+  -- held, or want of memory. Where the first load holds nothing, just that is answered.
+  abbrev pub AnswersHeld : {A : Type 0} → (H → Type 0) → (DataMarkerInfo → H → DataError → Type 0) → DataMarkerInfo → (A → H) → Result H DataMarkerInfo → Result A DataError → Type 0
+  AnswersHeld Suits Refuses first data_of held result =
+      IfOk result (λ n. AcceptsHeld Suits held (data_of n))
+      × IfErr result (λ e. (e ≡ Memory) ⊎ RefusesHeld (Refuses first) held e)
+      × (held ≡ Err first → IsErrOf result (Provider first))

@@ -12,6 +12,9 @@ composing_data_of n = data_from n.decompositions n.tables n.supplementary
 abbrev pub pairs_of : ComposingNormalizer → List Pair
 pairs_of n = n.pairs
 
+abbrev pub data_and_pairs_of : ComposingNormalizer → Characters × List Pair
+data_and_pairs_of n = (composing_data_of n, pairs_of n)
+
 abbrev pub composing_data_of_borrowed : ComposingNormalizerBorrowed → Characters
 composing_data_of_borrowed n = n.characters
 

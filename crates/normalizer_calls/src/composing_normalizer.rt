@@ -1,5 +1,5 @@
 //! Composing normalizers over data that a provider holds.
-ghost use Rattle.std.specs.Prelude.{◌≡◌, ◌⊎◌, IfOk, IfErr};
+ghost use Rattle.std.specs.Prelude.{◌≡◌, IfOk, IfErr};
 ghost use Rattle.std.specs.Iterator.{IsFinite};
 ghost use Rattle.normal_forms.specs.Forms.{nfc};
 ghost use Rattle.normalizer_tables.specs.Characters.{has_class_form};
@@ -10,9 +10,7 @@ ghost use Rattle.normalizer_calls.specs.Acceptance.{
   data_from,
   nfd_data,
   nfkd_data,
-  AcceptsHeld,
-  NamesMissing,
-  RefusesHeld,
+  AnswersHeld,
 };
 ghost use Rattle.normalizer_calls.specs.ComposingAcceptance.{
   refusal_of_pairs,
@@ -80,7 +78,7 @@ pub struct ComposingNormalizer {
 }
 
 impl ComposingNormalizer {
-    ghost use Rattle.normalizer_calls.specs.ComposingNormalizers.{composing_data_of, composing_data_of_borrowed, pairs_of, pairs_of_borrowed};
+    ghost use Rattle.normalizer_calls.specs.ComposingNormalizers.{composing_data_of, composing_data_of_borrowed, data_and_pairs_of, pairs_of, pairs_of_borrowed};
 
     /// A normalizer to NFC over what the provider holds. The data are loaded first, then their tables, then the pairs; the
     /// first load that is refused is the answer, and else the first written condition that they break.
@@ -89,9 +87,10 @@ impl ComposingNormalizer {
         P: DataProvider<NormalizerNfdDataV1>
             + DataProvider<NormalizerNfdTablesV1>
             + DataProvider<NormalizerNfcV1>,
-        ensures ok { IfOk result (λ n. AcceptsHeld SuitsComposing (with_pairs (nfd_data (⟦<P as DataProvider<NormalizerNfdDataV1>>⟧.held provider.now) (⟦<P as DataProvider<NormalizerNfdTablesV1>>⟧.held provider.now)) (⟦<P as DataProvider<NormalizerNfcV1>>⟧.held provider.now)) (composing_data_of n, pairs_of n)) }
-        ensures err { IfErr result (λ e. (e ≡ DataError.Memory) ⊎ RefusesHeld (RefusesToCompose DataMarkerInfo.NormalizerNfdDataV1) (with_pairs (nfd_data (⟦<P as DataProvider<NormalizerNfdDataV1>>⟧.held provider.now) (⟦<P as DataProvider<NormalizerNfdTablesV1>>⟧.held provider.now)) (⟦<P as DataProvider<NormalizerNfcV1>>⟧.held provider.now)) e) }
-        ensures missing { NamesMissing (with_pairs (nfd_data (⟦<P as DataProvider<NormalizerNfdDataV1>>⟧.held provider.now) (⟦<P as DataProvider<NormalizerNfdTablesV1>>⟧.held provider.now)) (⟦<P as DataProvider<NormalizerNfcV1>>⟧.held provider.now)) result }
+        ensures { AnswersHeld SuitsComposing RefusesToCompose DataMarkerInfo.NormalizerNfdDataV1 data_and_pairs_of
+            (with_pairs (nfd_data (⟦<P as DataProvider<NormalizerNfdDataV1>>⟧.held provider.now)
+            (⟦<P as DataProvider<NormalizerNfdTablesV1>>⟧.held provider.now))
+            (⟦<P as DataProvider<NormalizerNfcV1>>⟧.held provider.now)) result }
     {
         let decompositions = <P as DataProvider<NormalizerNfdDataV1>>::load(provider)?;
         let tables = <P as DataProvider<NormalizerNfdTablesV1>>::load(provider)?;
@@ -109,9 +108,10 @@ impl ComposingNormalizer {
             + DataProvider<NormalizerNfdTablesV1>
             + DataProvider<NormalizerNfkdTablesV1>
             + DataProvider<NormalizerNfcV1>,
-        ensures ok { IfOk result (λ n. AcceptsHeld SuitsComposing (with_pairs (nfkd_data (⟦<P as DataProvider<NormalizerNfkdDataV1>>⟧.held provider.now) (⟦<P as DataProvider<NormalizerNfdTablesV1>>⟧.held provider.now) (⟦<P as DataProvider<NormalizerNfkdTablesV1>>⟧.held provider.now)) (⟦<P as DataProvider<NormalizerNfcV1>>⟧.held provider.now)) (composing_data_of n, pairs_of n)) }
-        ensures err { IfErr result (λ e. (e ≡ DataError.Memory) ⊎ RefusesHeld (RefusesToCompose DataMarkerInfo.NormalizerNfkdDataV1) (with_pairs (nfkd_data (⟦<P as DataProvider<NormalizerNfkdDataV1>>⟧.held provider.now) (⟦<P as DataProvider<NormalizerNfdTablesV1>>⟧.held provider.now) (⟦<P as DataProvider<NormalizerNfkdTablesV1>>⟧.held provider.now)) (⟦<P as DataProvider<NormalizerNfcV1>>⟧.held provider.now)) e) }
-        ensures missing { NamesMissing (with_pairs (nfkd_data (⟦<P as DataProvider<NormalizerNfkdDataV1>>⟧.held provider.now) (⟦<P as DataProvider<NormalizerNfdTablesV1>>⟧.held provider.now) (⟦<P as DataProvider<NormalizerNfkdTablesV1>>⟧.held provider.now)) (⟦<P as DataProvider<NormalizerNfcV1>>⟧.held provider.now)) result }
+        ensures { AnswersHeld SuitsComposing RefusesToCompose DataMarkerInfo.NormalizerNfkdDataV1 data_and_pairs_of
+            (with_pairs (nfkd_data (⟦<P as DataProvider<NormalizerNfkdDataV1>>⟧.held provider.now)
+            (⟦<P as DataProvider<NormalizerNfdTablesV1>>⟧.held provider.now) (⟦<P as DataProvider<NormalizerNfkdTablesV1>>⟧.held provider.now))
+            (⟦<P as DataProvider<NormalizerNfcV1>>⟧.held provider.now)) result }
     {
         let decompositions = <P as DataProvider<NormalizerNfkdDataV1>>::load(provider)?;
         let tables = <P as DataProvider<NormalizerNfdTablesV1>>::load(provider)?;

@@ -1,5 +1,5 @@
 //! Normalizers over data that a provider holds.
-ghost use Rattle.std.specs.Prelude.{◌≡◌, ◌⊎◌, IfOk, IfErr};
+ghost use Rattle.std.specs.Prelude.{◌≡◌, IfOk, IfErr};
 ghost use Rattle.std.specs.Iterator.{IsFinite};
 ghost use Rattle.normal_forms.specs.Forms.{nfd};
 ghost use Rattle.normalizer_tables.specs.Characters.{has_class_form, own_reading};
@@ -8,9 +8,7 @@ ghost use Rattle.normalizer_calls.specs.Acceptance.{
   data_from,
   nfd_data,
   nfkd_data,
-  AcceptsHeld,
-  NamesMissing,
-  RefusesHeld,
+  AnswersHeld,
   RefusesToDecompose,
   SuitsDecomposing,
 };
@@ -44,9 +42,9 @@ impl DecomposingNormalizer {
     pub fn try_new_nfd_unstable<P>(provider: &P) -> Result<Self, DataError>
     where
         P: DataProvider<NormalizerNfdDataV1> + DataProvider<NormalizerNfdTablesV1>,
-        ensures ok { IfOk result (λ n. AcceptsHeld SuitsDecomposing (nfd_data (⟦<P as DataProvider<NormalizerNfdDataV1>>⟧.held provider.now) (⟦<P as DataProvider<NormalizerNfdTablesV1>>⟧.held provider.now)) (data_of n)) }
-        ensures err { IfErr result (λ e. (e ≡ DataError.Memory) ⊎ RefusesHeld (RefusesToDecompose DataMarkerInfo.NormalizerNfdDataV1) (nfd_data (⟦<P as DataProvider<NormalizerNfdDataV1>>⟧.held provider.now) (⟦<P as DataProvider<NormalizerNfdTablesV1>>⟧.held provider.now)) e) }
-        ensures missing { NamesMissing (nfd_data (⟦<P as DataProvider<NormalizerNfdDataV1>>⟧.held provider.now) (⟦<P as DataProvider<NormalizerNfdTablesV1>>⟧.held provider.now)) result }
+        ensures { AnswersHeld SuitsDecomposing RefusesToDecompose DataMarkerInfo.NormalizerNfdDataV1 data_of
+            (nfd_data (⟦<P as DataProvider<NormalizerNfdDataV1>>⟧.held provider.now)
+            (⟦<P as DataProvider<NormalizerNfdTablesV1>>⟧.held provider.now)) result }
     {
         let decompositions = <P as DataProvider<NormalizerNfdDataV1>>::load(provider)?;
         let tables = <P as DataProvider<NormalizerNfdTablesV1>>::load(provider)?;
@@ -62,9 +60,9 @@ impl DecomposingNormalizer {
         P: DataProvider<NormalizerNfkdDataV1>
             + DataProvider<NormalizerNfdTablesV1>
             + DataProvider<NormalizerNfkdTablesV1>,
-        ensures ok { IfOk result (λ n. AcceptsHeld SuitsDecomposing (nfkd_data (⟦<P as DataProvider<NormalizerNfkdDataV1>>⟧.held provider.now) (⟦<P as DataProvider<NormalizerNfdTablesV1>>⟧.held provider.now) (⟦<P as DataProvider<NormalizerNfkdTablesV1>>⟧.held provider.now)) (data_of n)) }
-        ensures err { IfErr result (λ e. (e ≡ DataError.Memory) ⊎ RefusesHeld (RefusesToDecompose DataMarkerInfo.NormalizerNfkdDataV1) (nfkd_data (⟦<P as DataProvider<NormalizerNfkdDataV1>>⟧.held provider.now) (⟦<P as DataProvider<NormalizerNfdTablesV1>>⟧.held provider.now) (⟦<P as DataProvider<NormalizerNfkdTablesV1>>⟧.held provider.now)) e) }
-        ensures missing { NamesMissing (nfkd_data (⟦<P as DataProvider<NormalizerNfkdDataV1>>⟧.held provider.now) (⟦<P as DataProvider<NormalizerNfdTablesV1>>⟧.held provider.now) (⟦<P as DataProvider<NormalizerNfkdTablesV1>>⟧.held provider.now)) result }
+        ensures { AnswersHeld SuitsDecomposing RefusesToDecompose DataMarkerInfo.NormalizerNfkdDataV1 data_of
+            (nfkd_data (⟦<P as DataProvider<NormalizerNfkdDataV1>>⟧.held provider.now)
+            (⟦<P as DataProvider<NormalizerNfdTablesV1>>⟧.held provider.now) (⟦<P as DataProvider<NormalizerNfkdTablesV1>>⟧.held provider.now)) result }
     {
         let decompositions = <P as DataProvider<NormalizerNfkdDataV1>>::load(provider)?;
         let tables = <P as DataProvider<NormalizerNfdTablesV1>>::load(provider)?;

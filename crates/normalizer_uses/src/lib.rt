@@ -12,8 +12,8 @@ ghost use Rattle.normalizer_tables.specs.PairConditions.{composing_reading};
 ghost use Rattle.normalizer_tables.specs.Pairs.{Pair};
 ghost use Rattle.normalizer_tables.specs.Refusals.{RefusesFirstFailing};
 ghost use Rattle.normalizer_text.specs.Utf8.{decoded_utf8};
-ghost use Rattle.normalizer_calls.specs.Acceptance.{nfkd_data, AcceptsHeld};
-ghost use Rattle.normalizer_calls.specs.ComposingAcceptance.{with_pairs, SuitsComposing};
+ghost use Rattle.normalizer_calls.specs.Acceptance.{nfkd_data, AcceptsHeld, RefusesHeld};
+ghost use Rattle.normalizer_calls.specs.ComposingAcceptance.{with_pairs, RefusesToCompose, SuitsComposing};
 ghost use Rattle.normalizer_calls.specs.ComposingNormalizers.{
   composing_data_of_borrowed,
   pairs_of_borrowed,
@@ -95,7 +95,13 @@ where
         + DataProvider<NormalizerNfdTablesV1>
         + DataProvider<NormalizerNfkdTablesV1>
         + DataProvider<NormalizerNfcV1>,
-    ensures { IfOk result (λ v. (held : Characters × List Pair) × AcceptsHeld SuitsComposing (with_pairs (nfkd_data (⟦<P as DataProvider<NormalizerNfkdDataV1>>⟧.held provider.now) (⟦<P as DataProvider<NormalizerNfdTablesV1>>⟧.held provider.now) (⟦<P as DataProvider<NormalizerNfkdTablesV1>>⟧.held provider.now)) (⟦<P as DataProvider<NormalizerNfcV1>>⟧.held provider.now)) held × (v.items ≡ nfc (composing_reading held.0 held.1) (decoded_utf8 bytes.now))) }
+    ensures form { IfOk result (λ v. (h : Characters × List Pair) × AcceptsHeld SuitsComposing (with_pairs
+        (nfkd_data (⟦<P as DataProvider<NormalizerNfkdDataV1>>⟧.held provider.now) (⟦<P as DataProvider<NormalizerNfdTablesV1>>⟧.held provider.now)
+        (⟦<P as DataProvider<NormalizerNfkdTablesV1>>⟧.held provider.now)) (⟦<P as DataProvider<NormalizerNfcV1>>⟧.held provider.now)) h
+        × (v.items ≡ nfc (composing_reading h.0 h.1) (decoded_utf8 bytes.now))) }
+    ensures refused { IfErr result (λ e. (e ≡ DataError.Memory) ⊎ RefusesHeld (RefusesToCompose marker.NormalizerNfkdDataV1) (with_pairs
+        (nfkd_data (⟦<P as DataProvider<NormalizerNfkdDataV1>>⟧.held provider.now) (⟦<P as DataProvider<NormalizerNfdTablesV1>>⟧.held provider.now)
+        (⟦<P as DataProvider<NormalizerNfkdTablesV1>>⟧.held provider.now)) (⟦<P as DataProvider<NormalizerNfcV1>>⟧.held provider.now)) e) }
 {
     let normalizer = ComposingNormalizer::try_new_nfkc_unstable(provider)?;
     match nfc_of_bytes(alloc, &normalizer.as_borrowed(), bytes) {

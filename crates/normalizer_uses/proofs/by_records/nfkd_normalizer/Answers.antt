@@ -2,4 +2,4 @@ use Rattle.normalizer_uses.proofs.AcceptedData.{memory_alone_nfkd}
 use Rattle.normalizer_uses.proofs.by_records.nfkd_normalizer.Goals as goal
 
 pub want_of_memory-requires : goal.want_of_memory-requires
-want_of_memory-requires c = memory_alone_nfkd c.args.built.now.packed c.requires _ _ c.in-Err.ensures.err
+want_of_memory-requires c = memory_alone_nfkd c.args.built.now.packed c.requires _ _ c.in-Err.ensures.1
