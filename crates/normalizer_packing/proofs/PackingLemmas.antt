@@ -1,12 +1,12 @@
 -- Data made of stores, and that packing is a function.
-use Rattle.std.proofs.Common.{◌≡◌, ◌↔◌, ℕ, ◌+◌, ◌*◌, ◌/◌, ◌%◌, ◌<◌, ◌^◌, Bool, true, false, ◌==◌, not, List, [], ◌∷◌, bit_and, refl, ap, sym, subst, ◌∙◌, arith, inl, inr}
+use Rattle.std.proofs.Common.{◌≡◌, ◌↔◌, ℕ, ◌*◌, ◌/◌, ◌%◌, ◌<◌, ◌^◌, Bool, true, false, ◌==◌, not, List, [], ◌∷◌, bit_and, refl, sym, subst, ◌∙◌, arith, inl, inr}
 use Rattle.std.proofs.lemmas.Bool.{cases_lt, cases_order}
 use Rattle.std.proofs.lemmas.Bool.Decides.{nat_tests}
 use Rattle.std.proofs.lemmas.Nat.{and_mask}
 use Rattle.std.proofs.lemmas.Nat.Bits.{and_high}
 use Rattle.normal_forms.specs.Composition.{compose}
 use Rattle.normal_forms.specs.Reading.{Reading}
-use Rattle.normalizer_tables.specs.Data.{Decompositions, Lists, Supplement}
+use Rattle.normalizer_tables.specs.Data.{Decompositions, Supplement}
 use Rattle.normalizer_tables.specs.Pairs.{Pair}
 use Rattle.normalizer_tables.specs.Table.{Table, code_points, word_at}
 use Rattle.normalizer_tables.specs.Words.{is_backward_combining, is_class_form, is_non_round_trip}

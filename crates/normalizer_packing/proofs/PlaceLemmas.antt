@@ -1,5 +1,5 @@
 -- Where lists stand in the four tables.
-use Rattle.std.proofs.Common.{◌≡◌, ℕ, ◌+◌, ◌<◌, ◌≤◌, Bool, true, false, List, [], ◌∷◌, ◌++◌, length, Some, None, if◌then◌else◌, All, refl, arith, sym, subst, ap, ◌∙◌, inl, inr}
+use Rattle.std.proofs.Common.{◌≡◌, ℕ, ◌+◌, ◌<◌, ◌≤◌, true, false, List, [], ◌∷◌, ◌++◌, length, Some, None, if◌then◌else◌, All, refl, arith, sym, subst, ap, ◌∙◌, inl, inr}
 use Rattle.std.proofs.lemmas.Bool.{leb-true, or_cases, or_left, or_right}
 use Rattle.std.proofs.lemmas.List.Elements.{All-head, All-tail}
 use Rattle.normalizer_tables.specs.Characters.{items_at}
@@ -11,7 +11,7 @@ use Rattle.normalizer_packing.specs.declared.stores.Stores.{Stores}
 use Rattle.normalizer_packing.specs.Entries.{CharacterEntry}
 use Rattle.normalizer_packing.specs.PackedWords.{CanPoint}
 use Rattle.normalizer_packing.specs.Spelling.{list_eq}
-use Rattle.normalizer_packing.specs.Stored.{HasLengthOfWord, canonical_lists, first_come, is_among, is_narrow, item_at, item_in, item_of, items_of, listed_in, needed_items, place_of}
+use Rattle.normalizer_packing.specs.Stored.{HasLengthOfWord, canonical_lists, is_among, is_narrow, item_at, item_in, item_of, items_of, listed_in, needed_items, place_of}
 use Rattle.normalizer_packing.specs.Stored.{supplementary_lists, tables_of}
 use Rattle.normalizer_packing.specs.Stores.{StandsAt, place_in, tables_in}
 use Rattle.normalizer_packing.proofs.StoreLemmas.{chosen, narrow_length, not_among_if_nowhere, place_if_some, placed}

@@ -19,11 +19,10 @@ use Rattle.normalizer_packing.specs.declared.entry.Kind.TheVariants.{Canonical, 
 use Rattle.normalizer_packing.specs.declared.spelling.Spelling.{Spelling}
 use Rattle.normalizer_packing.specs.declared.spelling.Spelling.TheVariants.{Final, Short, Listed}
 use Rattle.normalizer_packing.specs.Entries.{CharacterEntry, class_in, entry_of, kept_list, list_in}
-use Rattle.normalizer_packing.specs.Flags.{without_flags}
 use Rattle.normalizer_packing.specs.Packing.{ArePackable, IsPackedWord, IsSpelled, Packs, PacksKind}
 use Rattle.normalizer_packing.specs.ReadBack.{AreReadable, ReadsBack, characters_of, decompositions_of, is_mappers}
 use Rattle.normalizer_packing.specs.Spelling.{final_word, has_fixed_list, list_eq, spelling, spelling_by_list, spelling_of_list, spelling_or_ignored, spells_two}
-use Rattle.normalizer_packing.specs.Stored.{HasLengthOfWord, is_among, item_of, listed_in, pointing_word, supplementary_lists, tables_of}
+use Rattle.normalizer_packing.specs.Stored.{HasLengthOfWord, is_among, item_of, listed_in, supplementary_lists, tables_of}
 use Rattle.normalizer_packing.proofs.PlaceLemmas.{among_all, length_of_word}
 use Rattle.normalizer_packing.proofs.ReadBackLines.{IsReadBack, spelling_in, kept_is, line_alone, line_fdfa, line_fixed, line_hangul, line_ignored, line_listed, line_one, line_replacement, line_two}
 use Rattle.normalizer_packing.proofs.ReadBackLines.{text_of}

@@ -1,5 +1,5 @@
 -- What the four tables give from the item on from which a list stands.
-use Rattle.std.proofs.Common.{◌≡◌, ℕ, ◌+◌, ◌-◌, ◌<◌, ◌≤◌, ◌⊎◌, true, false, List, length, Option, Some, None, refl, arith, sym, subst, ◌∙◌, inl, inr}
+use Rattle.std.proofs.Common.{◌≡◌, ℕ, ◌+◌, ◌-◌, ◌<◌, ◌≤◌, ◌⊎◌, true, false, List, length, Option, Some, None, refl, arith, ◌∙◌, inl, inr}
 use Rattle.std.proofs.lemmas.Bool.{lt-ltb, le-ltb}
 use Rattle.normalizer_tables.specs.Characters.{Characters, as_text, items_at, listed_at, listed_in, narrow_at, placed_in, wide_at}
 use Rattle.normalizer_tables.specs.Conditions.{item_count}

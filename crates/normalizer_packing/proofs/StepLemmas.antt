@@ -1,12 +1,11 @@
 -- The words of the supplement.
-use Rattle.std.proofs.Common.{◌≡◌, ◌==◌, ℕ, ◌+◌, ◌*◌, ◌<◌, ◌≤◌, Bool, true, false, List, [], ◌∷◌, ◌++◌, take, get_or, length, Option, Some, None, nat_le, refl, arith, ap, sym, subst, ◌∙◌, inl, inr}
+use Rattle.std.proofs.Common.{◌≡◌, ◌==◌, ℕ, ◌+◌, ◌*◌, ◌<◌, ◌≤◌, true, false, List, [], ◌∷◌, take, get_or, length, Some, None, refl, arith, ap, sym, ◌∙◌, inl, inr}
 use Rattle.std.proofs.Common.{eqb-true}
 use Rattle.std.specs.Char.{OutOfScalarRange}
 use Rattle.std.proofs.lemmas.Bool.{le-leb, lt-leb, leb-true, and_parts}
 use Rattle.std.proofs.lemmas.List.{take_more}
 use Rattle.normalizer_tables.specs.Table.{code_points}
-use Rattle.normalizer_packing.specs.declared.entry.Mapping.{Mapping}
-use Rattle.normalizer_packing.specs.declared.entry.Mapping.TheVariants.{One, Two}
+use Rattle.normalizer_packing.specs.declared.entry.Mapping.TheVariants.{Two}
 use Rattle.normalizer_packing.specs.declared.spelling.Spelling.TheVariants.{Final}
 use Rattle.normalizer_packing.specs.declared.stored.Store.{Store}
 use Rattle.normalizer_packing.specs.Entries.{CharacterEntry, class_in, entry_of}

@@ -1,6 +1,6 @@
 -- Lists in the order in which they first come, and their places in tables.
-use Rattle.std.proofs.Common.{◌≡◌, ℕ, ◌+◌, ◌<◌, ◌≤◌, Bool, true, false, not, ◌&&◌, ◌||◌, List, [], ◌∷◌, ◌++◌, length, take, drop, Some, if◌then◌else◌, nat_le, refl, arith, suc, ap, sym, subst, ◌∙◌}
-use Rattle.std.proofs.Common.{append_assoc, length-append}
+use Rattle.std.proofs.Common.{◌≡◌, ℕ, ◌+◌, Bool, true, false, not, ◌&&◌, ◌||◌, List, [], ◌∷◌, ◌++◌, length, Some, if◌then◌else◌, nat_le, refl, arith, suc, ap, sym, ◌∙◌}
+use Rattle.std.proofs.Common.{length-append}
 use Rattle.std.specs.List.{before_first, concat, filter, prefix_len}
 use Rattle.std.proofs.lemmas.Bool.{le-leb, leb-true}
 use Rattle.std.proofs.lemmas.List.{append-nil, take-append-le}

@@ -1,4 +1,4 @@
-use Rattle.std.proofs.Common.{◌≡◌, ◌++◌, ℕ, List, [], subst, ap, ◌∙◌, refl}
+use Rattle.std.proofs.Common.{ℕ, List, [], subst}
 use Rattle.normalizer_packing.specs.declared.entry.Kind.TheVariants.{Canonical, Compatibility}
 use Rattle.normalizer_packing.specs.Stored.{apart_from, canonical_lists, first_come, listed_in, supplementary_lists}
 use Rattle.normalizer_packing.specs.Stores.{Holds}

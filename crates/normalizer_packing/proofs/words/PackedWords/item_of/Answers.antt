@@ -1,4 +1,4 @@
-use Rattle.std.proofs.Common.{◌≡◌, ℕ, Option, Some, IsSome, refl, arith, sym, ap, ◌∙◌}
+use Rattle.std.proofs.Common.{◌≡◌, ℕ, Option, Some, IsSome, refl, arith, sym, ◌∙◌}
 use Rattle.normalizer_packing.proofs.PlaceLemmas.{item_in_canonical, item_in_supplementary, item_within_limit, placed_in_supplementary, stands_in_canonical, stands_in_supplementary}
 use Rattle.normalizer_packing.proofs.words.PackedWords.item_of.Goals as goal
 
