@@ -2,7 +2,7 @@
 use Rattle.std.proofs.Common.{suc, ◌≡◌, ◌∙◌, ◌⊎◌, inl, inr, ℕ, ◌<◌, false, cond, ◌==◌, List, [], ◌∷◌, length, map, get_or, Option, Some, None, ap, subst, sym, refl, arith}
 use Rattle.std.specs.List.{Contains, find}
 use Rattle.std.specs.List.Sorted.{IsStrictlyIncreasing}
-use Rattle.std.specs.Option.{option_and_then, option_map, option_map_or}
+use Rattle.std.specs.Option.{option_map, option_map_or}
 use Rattle.std.proofs.lemmas.Bool.Decides.{eqb_tells}
 use Rattle.std.proofs.lemmas.List.{get_or-map, length-map}
 use Rattle.std.proofs.lemmas.List.Kept.{AllPairs-from_increasing}
@@ -11,12 +11,11 @@ use Rattle.normal_forms.specs.Order.{order, insert}
 use Rattle.normalizer_tables.specs.Hangul.{is_hangul_syllable}
 use Rattle.normalizer_packing.specs.declared.entry.Kind.{Kind}
 use Rattle.normalizer_packing.specs.declared.entry.Kind.TheVariants as kind
-use Rattle.normalizer_packing.specs.declared.entry.Mapping.{Mapping}
 use Rattle.normalizer_packing.specs.Entries.{CharacterEntry, AreRising, own_list, class_in, list_in, entry_of as packed_entry_of}
 use Rattle.normalizer_records.specs.declared.records.Mappings.{Mappings}
 use Rattle.normalizer_records.specs.declared.records.Mappings.TheVariants.{Canonical, All as AllMappings}
 use Rattle.normalizer_records.specs.Entry.{Entry, MapperEntry, Status}
-use Rattle.normalizer_records.specs.Meaning.{class_of, entry_of, canonical_list, canonical_mapping_of, compatibility_list, mapper_list, replacement, expansion, replace_by, full_list, status_of}
+use Rattle.normalizer_records.specs.Meaning.{class_of, entry_of, canonical_list, compatibility_list, mapper_list, replacement, expansion, replace_by, full_list, status_of}
 use Rattle.normalizer_records.specs.Meaning.{mapped_list, mapping_among, recorded_classes}
 use Rattle.normalizer_builder.specs.Recorded.{AreMadeOf, ListsCharacters, entry_for, recorded_characters}
 

@@ -1,5 +1,5 @@
 -- Entries of records that aren't refused can be packed.
-use Rattle.std.proofs.Common.{◌≡◌, ◌≢◌, ◌⊎◌, inl, inr, ℕ, ◌+◌, ◌<◌, ◌≤◌, Bool, true, false, ◌&&◌, ◌||◌, ◌==◌, nat_lt, nat_le, List, [], ◌∷◌, length, map, Option, Some, None, All, IfSome, refl, subst}
+use Rattle.std.proofs.Common.{◌≡◌, ◌≢◌, inl, inr, ℕ, ◌+◌, ◌<◌, ◌≤◌, Bool, true, false, ◌&&◌, ◌==◌, nat_lt, nat_le, List, [], ◌∷◌, length, map, Option, Some, None, All, IfSome, refl, subst}
 use Rattle.std.proofs.Common.{sym, ◌∙◌, arith, if◌then◌else◌, filter_map}
 use Rattle.std.specs.List.{cons_option, list_all, list_any}
 use Rattle.std.proofs.lemmas.Bool.{and_cases, cases_Bool, or_left, or_parts, or_right, true≢false}

@@ -1,5 +1,5 @@
 -- Fixed characters, of which no record speaks where none is refused.
-use Rattle.std.proofs.Common.{◌≡◌, ◌≢◌, ◌∙◌, ◌⊎◌, inl, inr, ℕ, ◌+◌, ◌-◌, ◌/◌, ◌%◌, ◌≤◌, Bool, true, false, ◌==◌, ◌&&◌, ◌||◌, nat_lt, cond, List, [], ◌∷◌, ◌++◌, map, get_or, flat_map, find, All}
+use Rattle.std.proofs.Common.{◌≡◌, ◌∙◌, ◌⊎◌, inl, inr, ℕ, Bool, true, false, ◌==◌, ◌&&◌, ◌||◌, nat_lt, cond, List, [], ◌∷◌, ◌++◌, map, get_or, flat_map, find, All}
 use Rattle.std.proofs.Common.{Contains, Some, None, ap, sym, refl, arith, if◌then◌else◌}
 use Rattle.std.specs.Int.{is_in_range}
 use Rattle.std.specs.List.{list_any, AllByRecursion}
@@ -10,13 +10,13 @@ use Rattle.std.proofs.lemmas.List.Elements.{All-append, All-contains, All-head, 
 use Rattle.std.proofs.lemmas.List.Folds.{list_any_at}
 use Rattle.normal_forms.specs.Order.{is_reorderable, insert, order}
 use Rattle.normal_forms.specs.Reading.{Reading, IsStarter}
-use Rattle.normalizer_tables.specs.Hangul.{is_hangul_syllable, hangul_decomposition, l_base, v_base, t_base, s_base, n_count, t_count}
+use Rattle.normalizer_tables.specs.Hangul.{is_hangul_syllable, hangul_decomposition}
 use Rattle.normalizer_records.specs.declared.records.Mappings.{Mappings}
 use Rattle.normalizer_records.specs.Entry.{Entry, MapperEntry, Status, MapsTo, IsIgnored, IsDisallowed}
 use Rattle.normalizer_records.specs.Faults.{IsFirstRefusal, has_fixed_fault, is_disallowed, is_fixed, is_fixed_for_mapper}
-use Rattle.normalizer_records.specs.Meaning.{class_of, entry_of, expansion, full_list, recorded_classes, replacement, status_of}
+use Rattle.normalizer_records.specs.Meaning.{class_of, entry_of, expansion, full_list, recorded_classes, status_of}
 use Rattle.normalizer_records.proofs.ExpansionLemmas.{expansion-replaced}
-use Rattle.normalizer_records.proofs.SyllableLemmas.{IsJamo, jamo_members, jamo_some, replacement-syllable, syllable-range}
+use Rattle.normalizer_records.proofs.SyllableLemmas.{IsJamo, jamo_members, jamo_some, replacement-syllable}
 use Rattle.normalizer_records.proofs.UnrecordedLemmas.{jamo_alone, jamo_fixed}
 use Rattle.normalizer_builder.specs.Recorded.{recorded_characters}
 use Rattle.normalizer_builder.proofs.EntriesOfRecords.{class_of_record, find-missing}
