@@ -1,4 +1,5 @@
-//! Normalizers over data that a provider holds, and over canonical data that a caller answers for.
+//! Normalizers over data that a provider holds, and over canonical data that a caller answers for; and the calls that
+//! write normal forms into sinks.
 #![tactic(auto)]
 
 mod composing_normalizer;

@@ -1,4 +1,8 @@
 //! Normalizing text, bytes and 16-bit units into sinks.
+//!
+//! Each call answers `Sink` where the sink refused a call, and `Memory` where the marks that wait needed more room than was
+//! granted, which they never do where the runs of the text are short. After either a beginning of the form may have been
+//! written; the normalizer is as it was.
 ghost use Rattle.std.specs.Prelude.{length, chars};
 ghost use Rattle.normalizer_text.specs.Encodings.{Encoding};
 ghost use Rattle.normalizer_text.specs.Utf8.{decoded_utf8};
@@ -13,7 +17,7 @@ use normalizer_text::sink::{Write, Write16};
 impl<'a> DecomposingNormalizerBorrowed<'a> {
     ghost use Rattle.normalizer_calls.specs.Sinks.{WritesDecomposed};
 
-    /// Writes the decomposed form of a text.
+    /// Writes the decomposed form of a text, in UTF-8 (The Unicode Standard, D118, D119).
     pub fn normalize_to<W: Write>(&self, text: &str, sink: &mut W) -> Result<(), NormalizeError>
         ensures { WritesDecomposed self.now Encoding.Utf8 W.taken W.refused W.left
             (chars text.now) sink.old result sink.new }
@@ -21,7 +25,7 @@ impl<'a> DecomposingNormalizerBorrowed<'a> {
         form_to::<&str, Self, W>(self, text, sink)
     }
 
-    /// Writes the decomposed form of the text that bytes decode to.
+    /// Writes the decomposed form of the text that bytes decode to, in UTF-8: U+FFFD stands for what is ill-formed.
     pub fn normalize_utf8_to<W: Write>(
         &self,
         bytes: &[u8],
@@ -33,8 +37,8 @@ impl<'a> DecomposingNormalizerBorrowed<'a> {
         form_to::<&[u8], Self, W>(self, bytes, sink)
     }
 
-    /// Writes the decomposed form of the text that 16-bit units decode to. The sink is told first how many units there
-    /// are; where it refuses that, nothing is written.
+    /// Writes the decomposed form of the text that 16-bit units decode to, in UTF-16: U+FFFD stands for each unpaired
+    /// surrogate. The sink is told first how many units there are; where it refuses that, nothing is written.
     pub fn normalize_utf16_to<W: Write16>(
         &self,
         units: &[u16],
@@ -51,7 +55,7 @@ impl<'a> DecomposingNormalizerBorrowed<'a> {
 impl<'a> ComposingNormalizerBorrowed<'a> {
     ghost use Rattle.normalizer_calls.specs.Sinks.{WritesComposed};
 
-    /// Writes the composed form of a text.
+    /// Writes the composed form of a text, in UTF-8 (The Unicode Standard, D120, D121).
     pub fn normalize_to<W: Write>(&self, text: &str, sink: &mut W) -> Result<(), NormalizeError>
         ensures { WritesComposed self.now Encoding.Utf8 W.taken W.refused W.left
             (chars text.now) sink.old result sink.new }
@@ -59,7 +63,7 @@ impl<'a> ComposingNormalizerBorrowed<'a> {
         form_to::<&str, Self, W>(self, text, sink)
     }
 
-    /// Writes the composed form of the text that bytes decode to.
+    /// Writes the composed form of the text that bytes decode to, in UTF-8: U+FFFD stands for what is ill-formed.
     pub fn normalize_utf8_to<W: Write>(
         &self,
         bytes: &[u8],
@@ -71,8 +75,8 @@ impl<'a> ComposingNormalizerBorrowed<'a> {
         form_to::<&[u8], Self, W>(self, bytes, sink)
     }
 
-    /// Writes the composed form of the text that 16-bit units decode to. The sink is told first how many units there
-    /// are; where it refuses that, nothing is written.
+    /// Writes the composed form of the text that 16-bit units decode to, in UTF-16: U+FFFD stands for each unpaired
+    /// surrogate. The sink is told first how many units there are; where it refuses that, nothing is written.
     pub fn normalize_utf16_to<W: Write16>(
         &self,
         units: &[u16],
