@@ -14,44 +14,43 @@ use Rattle.normalizer_tables.specs.declared.condition.Condition.TheVariants.{Han
 use Rattle.normalizer_tables.specs.Characters.{Characters, class_of, list_of, own_reading}
 use Rattle.normalizer_tables.specs.Conditions.{Holds}
 use Rattle.normalizer_tables.specs.Ignored.{ignored_list}
-use Rattle.normalizer_tables.specs.PairConditions.{HasOrderedLists}
+use Rattle.normalizer_tables.specs.PairConditions.{HasOrderedLists, composing_reading}
 use Rattle.normalizer_tables.proofs.PairLaws.{HasFaithfulResults-reading_of, order-own}
 use Rattle.normalizer_tables.specs.Pairs.{Pair, pair_of}
-use Rattle.normalizer_iterators.specs.LazyReading.{decomposing_reading}
+use Rattle.normalizer_iterators.specs.LazyReading.{decomposing_reading, reading_by}
 use Rattle.normalizer_iterators.specs.MarkRuns.{leading_marks, HasShortMarkRuns}
-use Rattle.normalizer_iterators.specs.Composing.{composing_reading, pairing_reading}
 
 -- ---- the reading that composes
 
-pub class-pairing_reading : (s : Characters) (pairs : List Pair) (c : ℕ) → (pairing_reading s pairs).class c ≡ class_of s c
-class-pairing_reading s pairs c = refl
+pub class-composing_reading : (s : Characters) (pairs : List Pair) (c : ℕ) → (composing_reading s pairs).class c ≡ class_of s c
+class-composing_reading s pairs c = refl
 
-pub pair-pairing_reading : (s : Characters) (pairs : List Pair) (a c : ℕ) → (pairing_reading s pairs).pair a c ≡ pair_of pairs a c
-pair-pairing_reading s pairs a c = refl
+pub pair-composing_reading : (s : Characters) (pairs : List Pair) (a c : ℕ) → (composing_reading s pairs).pair a c ≡ pair_of pairs a c
+pair-composing_reading s pairs a c = refl
 
-pub nfd-composing_reading : (s : Characters) (ignored : IgnoredCharacters) (pairs : List Pair) (x : List ℕ) → nfd (composing_reading s ignored pairs) x ≡ nfd (decomposing_reading s ignored) x
+pub nfd-reading_by : (s : Characters) (ignored : IgnoredCharacters) (pairs : List Pair) (x : List ℕ) → nfd (reading_by s ignored pairs) x ≡ nfd (decomposing_reading s ignored) x
 unfolding nfd order insert is_reorderable expand
-nfd-composing_reading s ignored pairs x = refl
+nfd-reading_by s ignored pairs x = refl
 
 -- what is composed has been decomposed: it no longer matters what stands for ignored characters
-compose-composing_reading : (s : Characters) (ignored : IgnoredCharacters) (pairs : List Pair) (y : List ℕ) → compose (composing_reading s ignored pairs) y ≡ compose (pairing_reading s pairs) y
+compose-reading_by : (s : Characters) (ignored : IgnoredCharacters) (pairs : List Pair) (y : List ℕ) → compose (reading_by s ignored pairs) y ≡ compose (composing_reading s pairs) y
 unfolding compose compose_from visit joined is_blocked
-compose-composing_reading s ignored pairs y = refl
+compose-reading_by s ignored pairs y = refl
 
-pub nfc-composing_reading : (s : Characters) (ignored : IgnoredCharacters) (pairs : List Pair) → HasStarterResults (pairing_reading s pairs) → (x : List ℕ) → nfc (composing_reading s ignored pairs) x ≡ compose_by_starters (pairing_reading s pairs) (nfd (decomposing_reading s ignored) x)
+pub nfc-reading_by : (s : Characters) (ignored : IgnoredCharacters) (pairs : List Pair) → HasStarterResults (composing_reading s pairs) → (x : List ℕ) → nfc (reading_by s ignored pairs) x ≡ compose_by_starters (composing_reading s pairs) (nfd (decomposing_reading s ignored) x)
 unfolding nfc
-nfc-composing_reading s ignored pairs starters x =
-    ap (compose (composing_reading s ignored pairs)) (nfd-composing_reading s ignored pairs x)
-    ∙ compose-composing_reading s ignored pairs (nfd (decomposing_reading s ignored) x)
-    ∙ compose_is_by_starters (pairing_reading s pairs) starters (nfd (decomposing_reading s ignored) x)
+nfc-reading_by s ignored pairs starters x =
+    ap (compose (reading_by s ignored pairs)) (nfd-reading_by s ignored pairs x)
+    ∙ compose-reading_by s ignored pairs (nfd (decomposing_reading s ignored) x)
+    ∙ compose_is_by_starters (composing_reading s pairs) starters (nfd (decomposing_reading s ignored) x)
 
-pub HasShortMarkRuns-pairing_reading : (s : Characters) (ignored : IgnoredCharacters) (pairs : List Pair) (y : List ℕ) → HasShortMarkRuns (decomposing_reading s ignored) y → HasShortMarkRuns (pairing_reading s pairs) y
+pub HasShortMarkRuns-composing_reading : (s : Characters) (ignored : IgnoredCharacters) (pairs : List Pair) (y : List ℕ) → HasShortMarkRuns (decomposing_reading s ignored) y → HasShortMarkRuns (composing_reading s pairs) y
 unfolding HasShortMarkRuns leading_marks
-HasShortMarkRuns-pairing_reading s ignored pairs y h = h
+HasShortMarkRuns-composing_reading s ignored pairs y h = h
 
-pub HasShortRuns-composing_reading : (f : ℕ → Bool) (s : Characters) (ignored : IgnoredCharacters) (pairs : List Pair) (x : List ℕ) → HasShortRuns f (composing_reading s ignored pairs) x → HasShortRuns f (decomposing_reading s ignored) x
+pub HasShortRuns-reading_by : (f : ℕ → Bool) (s : Characters) (ignored : IgnoredCharacters) (pairs : List Pair) (x : List ℕ) → HasShortRuns f (reading_by s ignored pairs) x → HasShortRuns f (decomposing_reading s ignored) x
 unfolding leading_length HasShortChunks continues
-HasShortRuns-composing_reading f s ignored pairs x h = record { leading = h.leading; chunks = h.chunks }
+HasShortRuns-reading_by f s ignored pairs x h = record { leading = h.leading; chunks = h.chunks }
 
 -- ---- what a pair composes to
 

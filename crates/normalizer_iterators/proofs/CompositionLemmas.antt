@@ -4,6 +4,7 @@ use Rattle.std.specs.Iterator.{Count, IsFinite, at_most, MakesProgress}
 use Rattle.normal_forms.specs.Reading.{Reading, IsStarter, IsMark}
 use Rattle.normal_forms.specs.CompositionByStarters.{compose_after, compose_by_starters}
 use Rattle.normal_forms.proofs.ComposeLemmas.{compose_by_starters-nil, compose_by_starters-starter, compose_by_starters-mark}
+use Rattle.normalizer_tables.specs.PairConditions.{composing_reading}
 use Rattle.normalizer_iterators.specs.declared.composition.Ahead.{Ahead}
 use Rattle.normalizer_iterators.specs.declared.composition.Ahead.TheVariants.{NoStarter, Passed, Starter, Ended}
 use Rattle.normalizer_iterators.specs.declared.composition.Composition.{Composition}
@@ -17,7 +18,7 @@ use Rattle.normalizer_iterators.specs.StayingMarks.{staying}
 use Rattle.normalizer_iterators.specs.LazyComposing.{SuitsLazyComposing}
 use Rattle.normalizer_iterators.specs.MarkRuns.{HasShortMarkRuns}
 use Rattle.normalizer_iterators.specs.Passing.{IsAtPassed, PassesOn, GivesStarter}
-use Rattle.normalizer_iterators.specs.Composing.{pairing_reading, composed_ahead, ahead_left, items_left, UnlessEnded, WherePassed, IsBeforeStarter, WillGiveBehind, GivesShort, ComposesStarter, ComposesOn, CompositionSteps, WillGive, StaysShort, CanCompose, pairing_by}
+use Rattle.normalizer_iterators.specs.Composing.{composed_ahead, ahead_left, items_left, UnlessEnded, WherePassed, IsBeforeStarter, WillGiveBehind, GivesShort, ComposesStarter, ComposesOn, CompositionSteps, WillGive, StaysShort, CanCompose, pairing_by}
 use Rattle.normalizer_iterators.proofs.MarkRunLemmas.{HasShortMarkRuns-rest}
 use Rattle.normalizer_iterators.proofs.StarterLemmas.{GivesShort-next, GivesShort-no_fault}
 
@@ -248,7 +249,7 @@ module _ {I : Type 0} (can : I → Type 0) (gives : I → Option ℕ → I → T
             item = record {
               first = λ out h.
                   let next = on.text h.unread (source_before h) in
-                  let composed = subst (λ k. compose_by_starters (pairing_reading k s.pairs.now) h.unread ≡ c ∷ compose_by_starters (pairing_reading k s.pairs.now) next.1) ready.same next.3 in
+                  let composed = subst (λ k. compose_by_starters (composing_reading k s.pairs.now) h.unread ≡ c ∷ compose_by_starters (composing_reading k s.pairs.now) next.1) ready.same next.3 in
                   (compose_by_starters d next.1, text_before out h ∙ composed, record { unread = next.1; source = next.4; text = ap (λ l. l ++ compose_by_starters d next.1) (sym none) });
               fault = tt;
               room = λ h.

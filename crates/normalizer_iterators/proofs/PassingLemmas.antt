@@ -29,7 +29,7 @@ use Rattle.normalizer_iterators.specs.Passing.{AllPassed, StandsAtPassed, IsAtPa
 use Rattle.normalizer_iterators.specs.ReadingOn.{ReadsChunk}
 use Rattle.normalizer_iterators.specs.ToCome.{reads_left}
 use Rattle.normalizer_iterators.specs.WaitingList.{ordered}
-use Rattle.normalizer_iterators.proofs.ComposingLemmas.{nfd-composing_reading, nfc-composing_reading}
+use Rattle.normalizer_iterators.proofs.ComposingLemmas.{nfd-reading_by, nfc-reading_by}
 use Rattle.normalizer_iterators.proofs.DecompositionLemmas.{Steps-chunk, Goes-chunk}
 use Rattle.normalizer_iterators.proofs.LazyLemmas.{continues-anew, spelled_next}
 
@@ -64,7 +64,7 @@ composed_form-is s ignored pairs x = refl
 own_form : (s : Characters) (b : Bounds) (pairs : List Pair) → SuitsLazyComposing s b pairs → (ignored : IgnoredCharacters) (c : ℕ) → StandsApartIn s pairs ignored c → composed_form (reading_of s (ignored_list ignored) (pair_of pairs)) (c ∷ []) ≡ c ∷ []
 unfolding normal_form
 own_form s b pairs suits ignored c apart =
-    composed_form-is s ignored pairs (c ∷ []) ∙ sym (nfc-composing_reading s ignored pairs suits.starters (c ∷ [])) ∙ apart.form
+    composed_form-is s ignored pairs (c ∷ []) ∙ sym (nfc-reading_by s ignored pairs suits.starters (c ∷ [])) ∙ apart.form
 
 none_of : (o : Option ℕ) → ((r : ℕ) → o ≡ Some r → ⊥) → o ≡ None
 none_of None h = refl
@@ -92,7 +92,7 @@ nfd-begins : (s : Characters) (pairs : List Pair) (ignored : IgnoredCharacters) 
 unfolding nfd
 nfd-begins s pairs ignored x begins =
     let d = reading_of s (ignored_list ignored) (pair_of pairs) in
-    subst (BeginsSafely (composing_reading s pairs)) (nfd-composing_reading s ignored pairs x) (BeginsSafely-pairs s pairs ignored (nfd d x) (BeginsSafely-order d (expand d x) begins))
+    subst (BeginsSafely (composing_reading s pairs)) (nfd-reading_by s ignored pairs x) (BeginsSafely-pairs s pairs ignored (nfd d x) (BeginsSafely-order d (expand d x) begins))
 
 -- a starter and its marks are done where what follows begins safely
 pub compose_after-boundary : (d : Reading) (a : ℕ) (p y : List ℕ) → BeginsSafely d y → compose_after d a p y ≡ (a ∷ p) ++ compose_by_starters d y
@@ -127,9 +127,9 @@ module _ {I : Type 0} (can : I → Type 0) (gives : I → Option ℕ → I → T
           let composed = λ (x : List ℕ). composed_form-is s.characters s.ignored pairs x in (
             nfd d (c ∷ []),
             nfd d rest,
-            all ∙ sym (nfd-composing_reading s.characters s.ignored pairs (c ∷ rest)) ∙ nfd-boundary D (c ∷ []) rest (BeginsWithStarter-from_safely D (expand D rest) begins)
-                ∙ ap (λ l. l ++ nfd D rest) (nfd-composing_reading s.characters s.ignored pairs (c ∷ []))
-                ∙ ap (λ l. nfd d (c ∷ []) ++ l) (nfd-composing_reading s.characters s.ignored pairs rest),
+            all ∙ sym (nfd-reading_by s.characters s.ignored pairs (c ∷ rest)) ∙ nfd-boundary D (c ∷ []) rest (BeginsWithStarter-from_safely D (expand D rest) begins)
+                ∙ ap (λ l. l ++ nfd D rest) (nfd-reading_by s.characters s.ignored pairs (c ∷ []))
+                ∙ ap (λ l. nfd d (c ∷ []) ++ l) (nfd-reading_by s.characters s.ignored pairs rest),
             ap (compose_by_starters (composing_reading s.characters pairs)) all ∙ sym (composed (c ∷ rest)) ∙ composed_form-boundary D (c ∷ []) rest begins
                 ∙ ap (λ l. l ++ composed_form D rest) (own_form s.characters b pairs suits s.ignored c first_apart) ∙ ap (λ l. c ∷ l) (composed rest),
             rw (characters, ignored, reads, empty) (record { unread = next.0; source = next.2; text = refl }),

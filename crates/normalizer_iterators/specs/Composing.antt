@@ -3,11 +3,9 @@ use Rattle.std.specs.Prelude.{◌≡◌, ℕ, ◌+◌, ◌≤◌, List, [], ◌�
 use Rattle.std.specs.Iterator.{Count}
 use Rattle.normal_forms.specs.Reading.{Reading, IsStarter, IsMark}
 use Rattle.normal_forms.specs.CompositionByStarters.{join, compose_after, compose_by_starters}
-use Rattle.normalizer_tables.specs.declared.characters.IgnoredCharacters.{IgnoredCharacters}
-use Rattle.normalizer_tables.specs.declared.characters.IgnoredCharacters.TheVariants.{Dropped}
-use Rattle.normalizer_tables.specs.Characters.{Characters, reading_of}
-use Rattle.normalizer_tables.specs.Ignored.{ignored_list}
-use Rattle.normalizer_tables.specs.Pairs.{Pair, pair_of}
+use Rattle.normalizer_tables.specs.Characters.{Characters}
+use Rattle.normalizer_tables.specs.PairConditions.{composing_reading}
+use Rattle.normalizer_tables.specs.Pairs.{Pair}
 use Rattle.normalizer_iterators.specs.declared.composition.Ahead.{Ahead}
 use Rattle.normalizer_iterators.specs.declared.composition.Ahead.TheVariants.{NoStarter, Passed, Starter, Ended}
 use Rattle.normalizer_iterators.specs.declared.composition.Composition.{Composition}
@@ -23,14 +21,6 @@ use Rattle.normalizer_iterators.specs.MarkRuns.{HasShortMarkRuns}
 use Rattle.normalizer_iterators.specs.NextItem.{GaveFirst, GivesNext}
 use Rattle.normalizer_iterators.specs.Passing.{IsAtPassed}
 use Rattle.normalizer_iterators.specs.StayingMarks.{staying, used, BlocksBelow}
-
--- the reading that data and pairs make
-abbrev pub composing_reading : Characters → IgnoredCharacters → List Pair → Reading
-composing_reading s ignored pairs = reading_of s (ignored_list ignored) (pair_of pairs)
-
--- the same, for those who compose what is decomposed: they read no lists
-abbrev pub pairing_reading : Characters → List Pair → Reading
-pairing_reading s pairs = composing_reading s Dropped pairs
 
 -- a character was visited behind a starter and the marks that stay: it joined, or is the next starter, or stays
 abbrev pub HasVisited : Reading → ℕ → ℕ → StayingMarks → Visited → StayingMarks → Type 0
@@ -98,7 +88,7 @@ module _ {I : Type 0} where
   pairs_of_composition s = s.pairs.now
 
   abbrev pub pairing_by : Composition I → Reading
-  pairing_by s = pairing_reading s.characters s.pairs.now
+  pairing_by s = composing_reading s.characters s.pairs.now
 
   -- these characters, where memory suffices
   abbrev pub WillGive : (I → Option ℕ → I → Type 0) → Composition I → List ℕ → Type 0

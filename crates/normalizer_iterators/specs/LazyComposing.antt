@@ -1,5 +1,5 @@
 -- What the data and the pairs have to say of characters where they are composed lazily.
-use Rattle.std.specs.Prelude.{◌≡◌, ◌≢◌, ℕ, Bool, true, false, List, [], ◌∷◌, Some, None}
+use Rattle.std.specs.Prelude.{◌≡◌, ◌≢◌, ℕ, Bool, true, false, List, [], ◌∷◌, Some}
 use Rattle.std.specs.Char.{IsScalar}
 use Rattle.normal_forms.specs.Reading.{Reading, IsStarter}
 use Rattle.normal_forms.specs.declared.Form.TheVariants.{Composing}
@@ -8,10 +8,10 @@ use Rattle.normal_forms.specs.Hypotheses.{HasStarterResults}
 use Rattle.normal_forms.specs.ShortRuns.{continues}
 use Rattle.normalizer_tables.specs.declared.characters.IgnoredCharacters.{IgnoredCharacters}
 use Rattle.normalizer_tables.specs.declared.condition.Bounds.{Bounds}
-use Rattle.normalizer_tables.specs.Characters.{Characters, reading_of, has_class_form}
-use Rattle.normalizer_tables.specs.Ignored.{ignored_list}
-use Rattle.normalizer_tables.specs.PairConditions.{is_passed}
-use Rattle.normalizer_tables.specs.Pairs.{Pair, pair_of}
+use Rattle.normalizer_tables.specs.Characters.{Characters, has_class_form}
+use Rattle.normalizer_tables.specs.PairConditions.{composing_reading, is_passed}
+use Rattle.normalizer_tables.specs.Pairs.{Pair}
+use Rattle.normalizer_iterators.specs.LazyReading.{decomposing_reading, reading_by}
 
 -- a composing loop passes c
 pub record IsPassed (s : Characters) (b : Bounds) (c : ℕ) : Type 0 where
@@ -26,13 +26,13 @@ pub record StandsApart (has_class_form : ℕ → Bool) (d : Reading) (c : ℕ) :
   pub safely : (first : ℕ) (others : List ℕ) → d.list c ≡ first ∷ others → IsStarter d first × ((a r : ℕ) → d.pair a first ≢ Some r)
 
 abbrev pub StandsApartIn : Characters → List Pair → IgnoredCharacters → ℕ → Type 0
-StandsApartIn s pairs ignored = StandsApart (has_class_form s) (reading_of s (ignored_list ignored) (pair_of pairs))
+StandsApartIn s pairs ignored = StandsApart (has_class_form s) (reading_by s ignored pairs)
 
 -- each character that is passed begins anew
 pub record PassedBeginAnew (s : Characters) (b : Bounds) (ignored : IgnoredCharacters) : Type 0 where
-  pub anew : (c : ℕ) → IsPassed s b c → continues (has_class_form s) (reading_of s (ignored_list ignored) (λ x y. None)) c ≡ false
+  pub anew : (c : ℕ) → IsPassed s b c → continues (has_class_form s) (decomposing_reading s ignored) c ≡ false
 
 -- what pairs compose to are starters, and each character that is passed stands apart
 pub record SuitsLazyComposing (s : Characters) (b : Bounds) (pairs : List Pair) : Type 0 where
-  pub starters : HasStarterResults (reading_of s [] (pair_of pairs))
+  pub starters : HasStarterResults (composing_reading s pairs)
   pub apart : (ignored : IgnoredCharacters) (c : ℕ) → IsPassed s b c → StandsApartIn s pairs ignored c

@@ -10,7 +10,7 @@ ghost use Rattle.normalizer_tables.specs.declared.characters.IgnoredCharacters.{
 ghost use Rattle.normalizer_tables.specs.Characters.{has_class_form, list_of, own_reading};
 ghost use Rattle.normalizer_tables.specs.Conditions.{Holds};
 ghost use Rattle.normalizer_tables.specs.Ignored.{ignored_list};
-ghost use Rattle.normalizer_tables.specs.PairConditions.{HasOrderedLists};
+ghost use Rattle.normalizer_tables.specs.PairConditions.{HasOrderedLists, composing_reading};
 ghost use Rattle.normalizer_tables.specs.declared.condition.Bounds.{Bounds};
 ghost use Rattle.normalizer_tables.specs.declared.condition.Condition.TheVariants as condition;
 ghost use Rattle.normalizer_tables.specs.Pairs.{pair_of};
@@ -19,11 +19,9 @@ ghost use Rattle.normalizer_iterators.specs.Decomposition.{CanDecompose};
 ghost use Rattle.normalizer_iterators.specs.Items.{GivesForm};
 ghost use Rattle.normalizer_iterators.specs.LazyComposing.{SuitsLazyComposing};
 ghost use Rattle.normalizer_iterators.specs.Passing.{IsAtPassed};
-ghost use Rattle.normalizer_iterators.specs.LazyReading.{decomposing_reading, SuitsLazyReading};
+ghost use Rattle.normalizer_iterators.specs.LazyReading.{decomposing_reading, reading_by, SuitsLazyReading};
 ghost use Rattle.normalizer_iterators.specs.StayingMarks.{staying, used, BlocksBelow};
 ghost use Rattle.normalizer_iterators.specs.Composing.{
-  composing_reading,
-  pairing_reading,
   CanCompose,
   ComposesOn,
   ComposesStarter,
@@ -99,7 +97,7 @@ impl<'data, I: Iterator<Item = char> + Drop> Composition<'data, I> {
         requires ends { IsFinite (I.remaining delegate) }
         requires reading { SuitsLazyReading (has_class_form characters) (decomposing_reading characters ignored) }
         requires composing { SuitsLazyComposing characters bounds pairs.now }
-        ensures text { IfOk result (λ it. (x : List ℕ) → Spells I.next_gives delegate x → WillGive I.next_gives it (nfc (composing_reading characters.entry ignored pairs.now) x)) }
+        ensures text { IfOk result (λ it. (x : List ℕ) → Spells I.next_gives delegate x → WillGive I.next_gives it (nfc (reading_by characters.entry ignored pairs.now) x)) }
         ensures short { IfOk result (λ it. (x : List ℕ) → Spells I.next_gives delegate x → HasShortRuns (has_class_form characters.entry) (decomposing_reading characters.entry ignored) x → StaysShort I.next_gives it) }
         ensures succeeds { (x : List ℕ) → Spells I.next_gives delegate x → HasShortRuns (has_class_form characters.entry) (decomposing_reading characters.entry ignored) x → IsOk result }
         ensures ready { IfOk result (CanCompose I.can_next I.remaining) }
@@ -199,7 +197,7 @@ pub fn composed<'data, I: Iterator<Item = char> + Drop>(
     requires reading { SuitsLazyReading (has_class_form characters) (decomposing_reading characters ignored) }
     requires composing { SuitsLazyComposing characters bounds pairs.now }
     ensures form { GivesForm I.next_gives ⟦<Composition<'data, I> as Iterator>⟧.next_gives (has_class_form characters.entry)
-        (composing_reading characters.entry ignored pairs.now) nfc delegate result }
+        (reading_by characters.entry ignored pairs.now) nfc delegate result }
     ensures ready { IfOk result ⟦<Composition<'data, I> as Iterator>⟧.can_next }
     ensures kept { IfOk result (λ it. (data_of_composition it ≡ characters.entry) × (pairs_of_composition it ≡ pairs.now)) }
 {
@@ -222,7 +220,7 @@ fn compose_starter<I: Iterator<Item = char> + Drop>(
     ensures ready { CanDecompose I.can_next I.remaining decomposed.new }
     ensures same { decomposed.new.characters ≡ characters.now }
     ensures passed { IfOk result (λ r. WherePassed r.1 (IsAtPassed pairs.now decomposed.new)) }
-    ensures steps { MatchResult result (λ r. ComposesStarter I.next_gives I.remaining (pairing_reading characters.now pairs.now) starter decomposed.old r.0 (staying marks.new) r.1 decomposed.new) (λ e. (e ≡ NormalizeError.Memory) × (¬ GivesShort I.next_gives (pairing_reading characters.now pairs.now) decomposed.old)) }
+    ensures steps { MatchResult result (λ r. ComposesStarter I.next_gives I.remaining (composing_reading characters.now pairs.now) starter decomposed.old r.0 (staying marks.new) r.1 decomposed.new) (λ e. (e ≡ NormalizeError.Memory) × (¬ GivesShort I.next_gives (composing_reading characters.now pairs.now) decomposed.old)) }
 {
     let mut composite = starter;
     marks.clear();
@@ -252,9 +250,9 @@ fn visit(
     starter: char,
     character: char,
 ) -> Result<Visited, AllocError>
-    requires { BlocksBelow (pairing_reading characters.now pairs.now) marks.old }
-    ensures ok { IfOk result (λ v. HasVisited (pairing_reading characters.now pairs.now) starter character marks.old v marks.new) }
-    ensures err { OnErr result ((places ≤ used marks.old) × IsMark (pairing_reading characters.now pairs.now) character) }
+    requires { BlocksBelow (composing_reading characters.now pairs.now) marks.old }
+    ensures ok { IfOk result (λ v. HasVisited (composing_reading characters.now pairs.now) starter character marks.old v marks.new) }
+    ensures err { OnErr result ((places ≤ used marks.old) × IsMark (composing_reading characters.now pairs.now) character) }
 {
     let class = characters.class_of(character);
     if let Some(joined) = join(pairs, marks, starter, character, class) {

@@ -1,31 +1,31 @@
 use Rattle.std.proofs.Common.{◌+◌, sym, refl, ◌∙◌, arith}
 use Rattle.std.proofs.lemmas.Result.{err_from_is_err_and}
 use Rattle.normal_forms.specs.ShortRuns.{places}
+use Rattle.normalizer_tables.specs.PairConditions.{composing_reading}
 use Rattle.normalizer_iterators.specs.StayingMarks.{used}
-use Rattle.normalizer_iterators.specs.Composing.{pairing_reading}
-use Rattle.normalizer_iterators.proofs.ComposingLemmas.{class-pairing_reading, pair-pairing_reading}
+use Rattle.normalizer_iterators.proofs.ComposingLemmas.{class-composing_reading, pair-composing_reading}
 use Rattle.normalizer_iterators.proofs.LazyLemmas.{too_many}
 use Rattle.normalizer_iterators.proofs.composition.visit.Goals as goal
 
 pub returns-in-Some-clause-ok : goal.returns-in-Some-clause-ok
 returns-in-Some-clause-ok c =
-    let d = pairing_reading c.args.characters.now c.args.pairs.now in
-    let class = c.class_of-class.ensures ∙ sym (class-pairing_reading c.args.characters.now c.args.pairs.now c.args.character) in
-    let pair = sym (pair-pairing_reading c.args.characters.now c.args.pairs.now c.args.starter c.args.character) in
+    let d = composing_reading c.args.characters.now c.args.pairs.now in
+    let class = c.class_of-class.ensures ∙ sym (class-composing_reading c.args.characters.now c.args.pairs.now c.args.character) in
+    let pair = sym (pair-composing_reading c.args.characters.now c.args.pairs.now c.args.starter c.args.character) in
     (sym (c.join.ensures d c.requires class pair) ∙ c.in-Some.is, refl)
 
 pub returns-then-class-eq0-clause-ok : goal.returns-then-class-eq0-clause-ok
 returns-then-class-eq0-clause-ok c =
-    let d = pairing_reading c.args.characters.now c.args.pairs.now in
-    let class = c.class_of-class.ensures ∙ sym (class-pairing_reading c.args.characters.now c.args.pairs.now c.args.character) in
-    let pair = sym (pair-pairing_reading c.args.characters.now c.args.pairs.now c.args.starter c.args.character) in
+    let d = composing_reading c.args.characters.now c.args.pairs.now in
+    let class = c.class_of-class.ensures ∙ sym (class-composing_reading c.args.characters.now c.args.pairs.now c.args.character) in
+    let pair = sym (pair-composing_reading c.args.characters.now c.args.pairs.now c.args.starter c.args.character) in
     (sym (c.join.ensures d c.requires class pair) ∙ c.in_default.is, sym class ∙ c.if-class-eq0.true, refl)
 
 pub returns-clause-ok : goal.returns-clause-ok
 returns-clause-ok c =
-    let d = pairing_reading c.args.characters.now c.args.pairs.now in
-    let class = c.class_of-class.ensures ∙ sym (class-pairing_reading c.args.characters.now c.args.pairs.now c.args.character) in
-    let pair = sym (pair-pairing_reading c.args.characters.now c.args.pairs.now c.args.starter c.args.character) in (
+    let d = composing_reading c.args.characters.now c.args.pairs.now in
+    let class = c.class_of-class.ensures ∙ sym (class-composing_reading c.args.characters.now c.args.pairs.now c.args.character) in
+    let pair = sym (pair-composing_reading c.args.characters.now c.args.pairs.now c.args.starter c.args.character) in (
       sym (c.join.ensures d c.requires class pair) ∙ c.in_default.is,
       omega (arith, class, c.if-class-eq0.false),
       c.in_ok-push.ensures.staying,
@@ -35,7 +35,7 @@ returns-clause-ok c =
 
 pub returns-in_err-push-clause-err : goal.returns-in_err-push-clause-err
 returns-in_err-push-clause-err c =
-    let class = c.class_of-class.ensures ∙ sym (class-pairing_reading c.args.characters.now c.args.pairs.now c.args.character) in
+    let class = c.class_of-class.ensures ∙ sym (class-composing_reading c.args.characters.now c.args.pairs.now c.args.character) in
     let full = too_many (used c.args.marks.now + 1) places (λ room. c.in_err-push.ensures.succeeds (omega arith)) in
     let exit = err_from_is_err_and c.from_residual.result c.from_residual.ensures.1 in
     rw exit.1 (omega arith, omega (arith, class, c.if-class-eq0.false))

@@ -2,9 +2,9 @@ use Rattle.std.proofs.Common.{◌++◌, ap, sym, ◌∙◌}
 use Rattle.normal_forms.specs.Forms.{nfd}
 use Rattle.normal_forms.specs.CompositionByStarters.{compose_by_starters}
 use Rattle.normalizer_tables.specs.Characters.{has_class_form}
+use Rattle.normalizer_tables.specs.PairConditions.{composing_reading}
 use Rattle.normalizer_iterators.specs.LazyReading.{decomposing_reading}
-use Rattle.normalizer_iterators.specs.Composing.{pairing_reading}
-use Rattle.normalizer_iterators.proofs.ComposingLemmas.{nfc-composing_reading, HasShortMarkRuns-pairing_reading}
+use Rattle.normalizer_iterators.proofs.ComposingLemmas.{nfc-reading_by, HasShortMarkRuns-composing_reading}
 use Rattle.normalizer_iterators.proofs.ShortChunkLemmas.{HasShortMarkRuns-nfd}
 use Rattle.normalizer_iterators.proofs.composition.Composition.over.Goals as goal
 
@@ -18,8 +18,8 @@ returns-clause-text g c = λ x spelled.
       unread = y;
       source = c.in_ok-over.ensures.text x spelled;
       text =
-          nfc-composing_reading s ignored pairs c.requires.composing.starters x
-          ∙ ap (λ l. l ++ compose_by_starters (pairing_reading s pairs) y) (sym c.new-marks.ensures.staying);
+          nfc-reading_by s ignored pairs c.requires.composing.starters x
+          ∙ ap (λ l. l ++ compose_by_starters (composing_reading s pairs) y) (sym c.new-marks.ensures.staying);
     })
 
 pub returns-clause-short : goal.returns-clause-short
@@ -30,5 +30,5 @@ returns-clause-short g c = λ x spelled runs.
       unread = nfd (decomposing_reading s ignored) x;
       source = c.in_ok-over.ensures.text x spelled;
       short = c.in_ok-over.ensures.short x spelled runs;
-      runs = HasShortMarkRuns-pairing_reading s ignored c.args.pairs.now _ (HasShortMarkRuns-nfd (has_class_form s) (decomposing_reading s ignored) c.requires.reading x runs);
+      runs = HasShortMarkRuns-composing_reading s ignored c.args.pairs.now _ (HasShortMarkRuns-nfd (has_class_form s) (decomposing_reading s ignored) c.requires.reading x runs);
     })

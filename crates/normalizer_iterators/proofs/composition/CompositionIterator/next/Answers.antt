@@ -1,5 +1,5 @@
 use Rattle.std.proofs.Common.{length, sym, ap, ◌∙◌, arith, Ok}
-use Rattle.normalizer_iterators.proofs.ComposingLemmas.{class-pairing_reading}
+use Rattle.normalizer_iterators.proofs.ComposingLemmas.{class-composing_reading}
 use Rattle.normalizer_iterators.proofs.CompositionLemmas.{CanCompose-marks, CanCompose-next, suits_source, Steps-first_starter, Steps-leading_mark, Steps-end, Steps-fault, Steps-mark, Steps-ended, Steps-starter, Steps-marks, Goes-item, Goes-marks, Goes-leading_mark, Goes-first_fault}
 use Rattle.normalizer_iterators.proofs.PassingLemmas.{IsAtPassed-stands}
 use Rattle.normalizer_iterators.proofs.composition.CompositionIterator.next.Goals as goal
@@ -7,7 +7,7 @@ use Rattle.normalizer_iterators.proofs.composition.CompositionIterator.next.Goal
 pub returns-then-class_of-eq0-clause-steps : goal.returns-then-class_of-eq0-clause-steps
 returns-then-class_of-eq0-clause-steps g c =
     let s = c.args.self.now in
-    let class = c.class_of.ensures ∙ sym (class-pairing_reading s.characters s.pairs.now c.in-Some-Ok.character) in
+    let class = c.class_of.ensures ∙ sym (class-composing_reading s.characters s.pairs.now c.in-Some-Ok.character) in
     let step = rw c.in-Some-Ok.field-0-is at c.in-Some-Ok.ensures.steps in
     Steps-first_starter g.I.Iterator.can_next g.I.Iterator.next_gives g.I.Iterator.remaining s (rw c.in-NoStarter.is tt) c.in_default.ensures.none.0 c.in-Some-Ok.character c.pop_front.new.self _ _ _ _ step (sym class ∙ c.if-class_of-eq0.true)
     c.compose_on-then-class_of-eq0.ensures
@@ -15,7 +15,7 @@ returns-then-class_of-eq0-clause-steps g c =
 pub returns-else-class_of-eq0-clause-steps : goal.returns-else-class_of-eq0-clause-steps
 returns-else-class_of-eq0-clause-steps g c =
     let s = c.args.self.now in
-    let class = c.class_of.ensures ∙ sym (class-pairing_reading s.characters s.pairs.now c.in-Some-Ok.character) in
+    let class = c.class_of.ensures ∙ sym (class-composing_reading s.characters s.pairs.now c.in-Some-Ok.character) in
     let step = rw c.in-Some-Ok.field-0-is at c.in-Some-Ok.ensures.steps in
     Steps-leading_mark g.I.Iterator.can_next g.I.Iterator.next_gives g.I.Iterator.remaining s c.in-Some-Ok.character _ _ c.in-NoStarter.is c.in_default.ensures.none.0 c.in_default.ensures.none.1 step
     (omega (arith, class, c.if-class_of-eq0.false))
