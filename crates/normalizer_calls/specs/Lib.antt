@@ -1,7 +1,7 @@
 pub mod Acceptance
 pub mod ComposingAcceptance
 pub mod ComposingNormalizers
+pub mod FormsWritten
 pub mod Normalizers
 pub mod Serving
-pub mod Sinks
 pub mod Writing

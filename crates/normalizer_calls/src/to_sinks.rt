@@ -15,7 +15,7 @@ use normalizer_iterators::NormalizeError;
 use normalizer_text::sink::{Write, Write16};
 
 impl<'a> DecomposingNormalizerBorrowed<'a> {
-    ghost use Rattle.normalizer_calls.specs.Sinks.{WritesDecomposed};
+    ghost use Rattle.normalizer_calls.specs.FormsWritten.{WritesDecomposed};
 
     /// Writes the decomposed form of a text, in UTF-8 (The Unicode Standard, D118, D119).
     pub fn normalize_to<W: Write>(&self, text: &str, sink: &mut W) -> Result<(), NormalizeError>
@@ -53,7 +53,7 @@ impl<'a> DecomposingNormalizerBorrowed<'a> {
 }
 
 impl<'a> ComposingNormalizerBorrowed<'a> {
-    ghost use Rattle.normalizer_calls.specs.Sinks.{WritesComposed};
+    ghost use Rattle.normalizer_calls.specs.FormsWritten.{WritesComposed};
 
     /// Writes the composed form of a text, in UTF-8 (The Unicode Standard, D120, D121).
     pub fn normalize_to<W: Write>(&self, text: &str, sink: &mut W) -> Result<(), NormalizeError>
