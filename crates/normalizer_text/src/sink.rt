@@ -4,6 +4,7 @@ ghost use Rattle.std.specs.Prelude.{
   ◌++◌,
   ◌+◌,
   ◌<◌,
+  ◌≤◌,
   ◌∷◌,
   ℕ,
   List,
@@ -11,6 +12,7 @@ ghost use Rattle.std.specs.Prelude.{
   Result,
   ⊤,
   OnErr,
+  OnOk,
   length,
   encode_utf8,
   vec_len,
@@ -107,7 +109,7 @@ impl<A: Allocator> Write for String<A> {
     }
 }
 
-/// It refuses only where a growth was refused, and is then as it was.
+/// It refuses only where a growth was refused, and is then as it was. A hint makes room.
 impl<A: Allocator> Write16 for Vec<u16, A> {
     ghost taken = { λ v. v.items };
 
@@ -120,6 +122,7 @@ impl<A: Allocator> Write16 for Vec<u16, A> {
     fn size_hint(&mut self, len: usize) -> Result<(), SinkError>
         ensures answer { AnswersGrowth (λ v. v.items) self.old [] result self.new }
         ensures none { self.new.items ≡ self.old.items }
+        ensures room { OnOk result (vec_len self.old + len ≤ vec_capacity self.new) }
         ensures full { OnErr result (vec_capacity self.old < vec_len self.old + len) }
     {
         self.reserve(len).map_err(|_| SinkError)
