@@ -105,18 +105,22 @@ module _ (records : List Entry) (uts46 : List MapperEntry) where
     full : IsFirstRefusal records uts46 None → HasTooManyItems records uts46 → Cause error.TableFull
     unfit : (u : Unfit) → IsFirstRefusal records uts46 None → Unmet u → Cause (error.Unfit u.marker u.condition)
 
-  cause_of : (e : BuildError) → IsSmallest records uts46 e → e ≢ error.Memory → Cause e
+  memory_or_cause : (e : BuildError) → IsSmallest records uts46 e → (e ≡ error.Memory) ⊎ Cause e
   unfolding IsSmallest
-  cause_of error.Memory h other = absurd (other refl)
-  cause_of error.TableFull h other = full h.0 h.1
-  cause_of (error.Unfit marker condition) h other = unfit (record { marker = marker; condition = condition }) h.0 (record { packed = h.1.0; packs = h.1.1; first = h.1.2 })
-  cause_of error.Order h other = refused Order h
-  cause_of error.Fixed h other = refused Fixed h
-  cause_of error.Class h other = refused Class h
-  cause_of error.Mapping h other = refused Mapping h
-  cause_of error.Chain h other = refused Chain h
-  cause_of error.Length h other = refused Length h
-  cause_of error.Pair h other = refused Pair h
+  memory_or_cause error.Memory h = inl refl
+  memory_or_cause error.TableFull h = inr (full h.0 h.1)
+  memory_or_cause (error.Unfit marker condition) h =
+      inr (unfit (record { marker = marker; condition = condition }) h.0 (record { packed = h.1.0; packs = h.1.1; first = h.1.2 }))
+  memory_or_cause error.Order h = inr (refused Order h)
+  memory_or_cause error.Fixed h = inr (refused Fixed h)
+  memory_or_cause error.Class h = inr (refused Class h)
+  memory_or_cause error.Mapping h = inr (refused Mapping h)
+  memory_or_cause error.Chain h = inr (refused Chain h)
+  memory_or_cause error.Length h = inr (refused Length h)
+  memory_or_cause error.Pair h = inr (refused Pair h)
+
+  cause_of : (e : BuildError) → IsSmallest records uts46 e → e ≢ error.Memory → Cause e
+  cause_of e h other = elim (memory_or_cause e h) as (λ _. Cause e) [ inl memory ↦ absurd (other memory) | inr cause ↦ cause ]
 
   one_cause : (e f : BuildError) → Cause e → Cause f → e ≡ f
   one_cause e f (refused r h) (refused s k) = ap error_of (one_refusal r s h k)
@@ -137,17 +141,8 @@ module _ (records : List Entry) (uts46 : List MapperEntry) where
 pub one_smallest : (records : List Entry) (uts46 : List MapperEntry) (e f : BuildError) → IsSmallest records uts46 e → IsSmallest records uts46 f → e ≢ error.Memory → f ≢ error.Memory → e ≡ f
 one_smallest records uts46 e f h k some also = one_cause records uts46 e f (cause_of records uts46 e h some) (cause_of records uts46 f k also)
 
-built_unrefused : (records : List Entry) (uts46 : List MapperEntry) (p : Packed) (e : BuildError) → Builds records uts46 p → IsSmallest records uts46 e → e ≢ error.Memory → ⊥
-built_unrefused records uts46 p e built h some = no_cause records uts46 e p built (cause_of records uts46 e h some)
-
 pub built_or_memory : (records : List Entry) (uts46 : List MapperEntry) (p : Packed) (e : BuildError) → Builds records uts46 p → IsSmallest records uts46 e → e ≡ error.Memory
-built_or_memory records uts46 p error.Memory built h = refl
-built_or_memory records uts46 p error.TableFull built h = absurd (built_unrefused records uts46 p error.TableFull built h (λ same. cc))
-built_or_memory records uts46 p (error.Unfit marker condition) built h = absurd (built_unrefused records uts46 p (error.Unfit marker condition) built h (λ same. cc))
-built_or_memory records uts46 p error.Order built h = absurd (built_unrefused records uts46 p error.Order built h (λ same. cc))
-built_or_memory records uts46 p error.Fixed built h = absurd (built_unrefused records uts46 p error.Fixed built h (λ same. cc))
-built_or_memory records uts46 p error.Class built h = absurd (built_unrefused records uts46 p error.Class built h (λ same. cc))
-built_or_memory records uts46 p error.Mapping built h = absurd (built_unrefused records uts46 p error.Mapping built h (λ same. cc))
-built_or_memory records uts46 p error.Chain built h = absurd (built_unrefused records uts46 p error.Chain built h (λ same. cc))
-built_or_memory records uts46 p error.Length built h = absurd (built_unrefused records uts46 p error.Length built h (λ same. cc))
-built_or_memory records uts46 p error.Pair built h = absurd (built_unrefused records uts46 p error.Pair built h (λ same. cc))
+built_or_memory records uts46 p e built h = elim (memory_or_cause records uts46 e h) as (λ _. e ≡ error.Memory) [
+  | inl memory ↦ memory
+  | inr cause ↦ absurd (no_cause records uts46 e p built cause)
+]

@@ -1,5 +1,5 @@
 -- The jamo of Hangul syllables.
-use Rattle.std.proofs.Common.{◌≡◌, ◌≢◌, ℕ, ◌+◌, ◌-◌, ◌/◌, ◌%◌, ◌<◌, ◌≤◌, true, false, List, [], ◌∷◌, Some, if◌then◌else◌, ◌==◌, refl, arith}
+use Rattle.std.proofs.Common.{◌≡◌, ◌≢◌, ℕ, ◌+◌, ◌-◌, ◌/◌, ◌%◌, ◌≤◌, true, false, List, [], ◌∷◌, Some, if◌then◌else◌, ◌==◌, refl, arith}
 use Rattle.std.specs.List.{AllByRecursion}
 use Rattle.std.proofs.Math.Utf8.{low_scalar}
 use Rattle.std.proofs.lemmas.Bool.Decides.{nat_tests}
