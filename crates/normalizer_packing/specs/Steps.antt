@@ -39,10 +39,11 @@ stored_step None = None
 stored_step (Some (One a)) = None
 stored_step (Some (Two a b)) = if are_narrow a b then None else Some (a ∷ b ∷ [])
 
+-- those that characters ask for, as they rise
 unfoldable pub stored_steps : List CharacterEntry → List (List ℕ)
 stored_steps entries = filter_map (λ e. stored_step (asked_step entries e)) entries
 
--- an equal one once, in the order in which characters first ask for them
+-- the same, an equal one once: in the order in which characters first ask for them
 unfoldable pub step_lists : List CharacterEntry → List (List ℕ)
 step_lists entries = first_come (stored_steps entries)
 
