@@ -16,8 +16,8 @@ use crate::words::PackedWords;
 use normalizer_tables::{CanonicalCompositions, DecompositionData, TableError};
 use std::alloc::{AllocError, Global};
 
-/// Packs the entries of characters, and pairs of characters that compose (second, first and result), into data: the same
-/// entries and pairs into the same data. Lists stand in the tables in the order in which characters first need them, an
+/// Packs the entries of characters, and pairs of characters that compose (second, first and result), into data: the
+/// same entries and pairs into the same data. Lists stand in the tables in the order in which characters first need them, an
 /// equal one once. Refuses lists that have more items than words can point to.
 pub fn pack(
     alloc: Global,

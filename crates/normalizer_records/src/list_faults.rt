@@ -28,7 +28,7 @@ use normalizer_tables::special::fixed_list_of;
 use std::alloc::{AllocError, Global};
 
 /// Room for a list that is too long in any case.
-const ROOM: usize = 19;
+pub(crate) const ROOM: usize = 19;
 
 /// Whether there is a fault of classes, and one of lengths.
 #[derive(Clone, Copy)]

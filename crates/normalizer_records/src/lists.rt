@@ -10,12 +10,9 @@ ghost use Rattle.normalizer_records.specs.Meaning.{
 };
 
 use crate::expansion::list_within;
-use crate::list_faults::cut_mapper_list;
+use crate::list_faults::{ROOM, cut_mapper_list};
 use crate::records::{Mappings, Record, Uts46Record};
 use std::alloc::{AllocError, Global};
-
-/// More than the longest list has.
-const ROOM: usize = 19;
 
 fn full_list(
     alloc: Global,
