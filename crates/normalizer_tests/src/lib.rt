@@ -16,6 +16,8 @@ mod letters;
 #[cfg(test)]
 mod packing;
 #[cfg(test)]
+mod readme;
+#[cfg(test)]
 mod records;
 #[cfg(test)]
 mod sinks;
