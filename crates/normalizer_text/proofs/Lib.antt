@@ -1,5 +1,6 @@
 pub mod BackLemmas
 pub mod BoundaryLemmas
+pub mod CheckSinkLemmas
 pub mod Decoding
 pub mod EncodingLemmas
 pub mod EncodingRules

@@ -1,4 +1,5 @@
 pub mod Backwards
+pub mod CheckSinks
 pub mod Encodings
 pub mod MaximalSubparts
 pub mod Outputs

@@ -3,6 +3,7 @@
 #![tactic(auto)]
 
 mod chars;
+pub mod check_sink;
 pub mod laws;
 pub mod output;
 pub mod sink;

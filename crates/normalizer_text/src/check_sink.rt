@@ -1,0 +1,158 @@
+//! Sinks that take only the units that are expected: by them a form is compared with the input that it is made from.
+ghost use Rattle.std.specs.Prelude.{◌≡◌, ◌≤◌, ◌∷◌, [], length, Decides};
+ghost use Rattle.normalizer_text.specs.CheckSinks.{
+  ChangesNothing,
+  ExpectsTheSame,
+  IsEndOfPiece,
+  IsUnexpected,
+};
+ghost use Rattle.normalizer_text.specs.Encodings.{encoded_in};
+ghost use Rattle.normalizer_text.specs.Outputs.{AnswersUnits, NoHint};
+
+use crate::output::Output;
+use crate::sink::SinkError;
+use crate::units::Units;
+use std::marker::Model;
+
+/// Units that are compared with others from a position on: contents are compared, never addresses.
+pub trait Expected: Units {
+    // Where a piece ends that begins at the position, if it stands there.
+    fn end_of_piece(self, position: usize, piece: Self) -> Option<usize>
+        requires { position ≤ length (Self.units self) }
+        ensures { IsEndOfPiece (Self.units self) position (Self.units piece) result };
+
+    // Where a character ends that begins at the position, if it stands there.
+    fn end_of_char(self, position: usize, c: char) -> Option<usize>
+        requires { position ≤ length (Self.units self) }
+        ensures { IsEndOfPiece (Self.units self) position (encoded_in Self.encoding (c ∷ [])) result };
+}
+
+// Where a piece ends that begins at the position, if it stands there.
+fn end_of<T: Copy + Eq>(expected: &[T], position: usize, piece: &[T]) -> Option<usize>
+    requires within { position ≤ length expected.now }
+    requires decides { (a b : T) → Decides (T.eq a b) (a ≡ b) }
+    ensures { IsEndOfPiece expected.now position piece.now result }
+{
+    if expected[position..].starts_with(piece) {
+        Some(position + piece.len())
+    } else {
+        None
+    }
+}
+
+/// A sink that takes units where they are the next of those expected, and refuses all others. It changes nothing where
+/// it refuses, and takes no memory.
+#[derive(Drop)]
+pub struct IsNormalizedSink<U: Expected> {
+    expected: U,
+    place: usize,
+}
+
+/// A sink that expects a text.
+pub type IsNormalizedSinkStr<'a> = IsNormalizedSink<&'a str>;
+
+/// A sink that expects bytes.
+pub type IsNormalizedSinkUtf8<'a> = IsNormalizedSink<&'a [u8]>;
+
+/// A sink that expects 16-bit units.
+pub type IsNormalizedSinkUtf16<'a> = IsNormalizedSink<&'a [u16]>;
+
+impl<U: Expected> Model for IsNormalizedSink<U> {
+    ghost use Rattle.std.specs.Prelude.{◌≤◌, length, take, drop};
+    ghost use Rattle.normalizer_text.specs.CheckSinks.{Expectation};
+
+    ghost Value = { Expectation };
+
+    ghost view = { λ sink. record { came = take sink.place (U.units sink.expected); remaining = drop sink.place (U.units sink.expected) } };
+
+    ghost invariant = { λ sink. sink.place ≤ length (U.units sink.expected) };
+}
+
+impl<U: Expected> IsNormalizedSink<U> {
+    /// A sink that expects these units.
+    pub fn new(expected: U) -> Self
+        ensures { result ≡ record { came = []; remaining = U.units expected } }
+    {
+        IsNormalizedSink { expected, place: 0 }
+    }
+
+    /// How many units are still to come.
+    pub fn remaining_len(&self) -> usize
+        ensures { result ≡ length self.now.remaining }
+    {
+        self.expected.len() - self.place
+    }
+}
+
+impl<U: Expected> Output<U> for IsNormalizedSink<U> {
+    ghost taken = { λ sink. sink.came };
+
+    ghost refused = { ExpectsTheSame };
+
+    ghost left = { ChangesNothing };
+
+    ghost refuses = { IsUnexpected };
+
+    ghost hinted = { NoHint };
+
+    fn begin(&mut self, _len: usize) -> Result<(), SinkError> {
+        Ok(())
+    }
+
+    fn write_piece(&mut self, piece: U) -> Result<(), SinkError> {
+        match self.expected.end_of_piece(self.place, piece) {
+            Some(end) => {
+                self.place = end;
+                Ok(())
+            }
+            None => Err(SinkError),
+        }
+    }
+
+    fn write_char(&mut self, c: char) -> Result<(), SinkError> {
+        match self.expected.end_of_char(self.place, c) {
+            Some(end) => {
+                self.place = end;
+                Ok(())
+            }
+            None => Err(SinkError),
+        }
+    }
+}
+
+impl<'a> Expected for &'a str {
+    fn end_of_piece(self, position: usize, piece: &'a str) -> Option<usize> {
+        end_of(self.as_bytes(), position, piece.as_bytes())
+    }
+
+    fn end_of_char(self, position: usize, c: char) -> Option<usize> {
+        let mut buffer = [0; 4];
+        end_of(
+            self.as_bytes(),
+            position,
+            c.encode_utf8(&mut buffer).as_bytes(),
+        )
+    }
+}
+
+impl<'a> Expected for &'a [u8] {
+    fn end_of_piece(self, position: usize, piece: &'a [u8]) -> Option<usize> {
+        end_of(self, position, piece)
+    }
+
+    fn end_of_char(self, position: usize, c: char) -> Option<usize> {
+        let mut buffer = [0; 4];
+        end_of(self, position, c.encode_utf8(&mut buffer).as_bytes())
+    }
+}
+
+impl<'a> Expected for &'a [u16] {
+    fn end_of_piece(self, position: usize, piece: &'a [u16]) -> Option<usize> {
+        end_of(self, position, piece)
+    }
+
+    fn end_of_char(self, position: usize, c: char) -> Option<usize> {
+        let mut buffer = [0; 2];
+        end_of(self, position, c.encode_utf16(&mut buffer))
+    }
+}
