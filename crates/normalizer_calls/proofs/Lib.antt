@@ -1,3 +1,4 @@
 pub mod AcceptedData
+pub mod CheckLemmas
 pub mod SoundPairs
 pub mod WritingLemmas

@@ -1,5 +1,5 @@
 -- Writing characters as an iterator gives them.
-use Rattle.std.proofs.Common.{◌≡◌, ℕ, List, [], ◌∷◌, ◌++◌, Option, Some, None, Result, Ok, Err, append_assoc, append-nil, refl, ap, sym, subst, ◌∙◌}
+use Rattle.std.proofs.Common.{◌≡◌, ℕ, List, [], ◌∷◌, ◌++◌, Option, Some, None, Result, Ok, Err, append_assoc, append-nil, refl, ap, sym, subst, ◌∙◌, arith}
 use Rattle.std.proofs.lemmas.List.Elements.{All-head}
 use Rattle.std.proofs.lemmas.Result.{IfOk-weaker}
 use Rattle.std.specs.Prelude.{⊤, Bool, OnErr, IsErrOf}
@@ -19,17 +19,17 @@ use Rattle.normalizer_calls.specs.Writing.{TellsLengthFirst, TookBeginning, Writ
 
 module _ {I : Type 0} (gives : I → Option (Result ℕ NormalizeError) → I → Type 0) where
   -- a character that came is the first of those that were left
-  SpellsUnless-next : (s t : I) (c : ℕ) (x : List ℕ) → gives s (Some (Ok c)) t → SpellsUnless gives Memory s x → (rest : List ℕ) × (x ≡ c ∷ rest) × SpellsUnless gives Memory t rest
+  pub SpellsUnless-next : (s t : I) (c : ℕ) (x : List ℕ) → gives s (Some (Ok c)) t → SpellsUnless gives Memory s x → (rest : List ℕ) × (x ≡ c ∷ rest) × SpellsUnless gives Memory t rest
   SpellsUnless-next s t c [] step h = absurd (h (Some (Ok c)) t step)
   SpellsUnless-next s t c (d ∷ x) step h = let next = h (Some (Ok c)) t step in (x, ap (λ e. e ∷ x) (sym next.0), next.1)
 
   -- where none came, none was left
-  SpellsUnless-end : (s t : I) (x : List ℕ) → gives s None t → SpellsUnless gives Memory s x → x ≡ []
+  pub SpellsUnless-end : (s t : I) (x : List ℕ) → gives s None t → SpellsUnless gives Memory s x → x ≡ []
   SpellsUnless-end s t [] step h = refl
   SpellsUnless-end s t (c ∷ x) step h = absurd (h None t step)
 
   -- an error that came is the fault
-  SpellsUnless-fault : (s t : I) (fault : NormalizeError) (x : List ℕ) → gives s (Some (Err fault)) t → SpellsUnless gives Memory s x → fault ≡ Memory
+  pub SpellsUnless-fault : (s t : I) (fault : NormalizeError) (x : List ℕ) → gives s (Some (Err fault)) t → SpellsUnless gives Memory s x → fault ≡ Memory
   SpellsUnless-fault s t fault [] step h = (h (Some (Err fault)) t step).0
   SpellsUnless-fault s t fault (c ∷ x) step h = (h (Some (Err fault)) t step).0
 
@@ -37,7 +37,7 @@ module _ {I : Type 0} (gives : I → Option (Result ℕ NormalizeError) → I �
   SpellsOk-next s t c [] step h = let none : Some (Ok c) ≡ None = All-head (λ r. r ≡ None) (Some (Ok c)) [] (h.at (Some (Ok c) ∷ []) t (t, step, refl)) in absurd (cc)
   SpellsOk-next s t c (d ∷ x) step h = (x, (h (Some (Ok c)) t step).1)
 
-  SpellsOk-no_fault : (s t : I) (fault : NormalizeError) (x : List ℕ) → gives s (Some (Err fault)) t → SpellsOk gives s x → ⊥
+  pub SpellsOk-no_fault : (s t : I) (fault : NormalizeError) (x : List ℕ) → gives s (Some (Err fault)) t → SpellsOk gives s x → ⊥
   SpellsOk-no_fault s t fault [] step h = let none : Some (Err fault) ≡ None = All-head (λ r. r ≡ None) (Some (Err fault)) [] (h.at (Some (Err fault) ∷ []) t (t, step, refl)) in cc
   SpellsOk-no_fault s t fault (d ∷ x) step h = let other : Some (Err fault) ≡ Some (Ok d) = (h (Some (Err fault)) t step).0 in cc
 
@@ -85,11 +85,13 @@ module _ {S I : Type 0} (e : Encoding) (taken : S → List ℕ) (refused left : 
         let so_far = before.text x h in
         let came = SpellsUnless-next gives items next c so_far.0.rest step so_far.1 in record {
           written = tt;
+          ahead = tt;
           fault = λ _. before.ahead new answer.written.fault;
           refusal = λ _. record {
             before = now;
             beginning = so_far.0;
             piece = c ∷ [];
+            short = omega arith;
             rest = came.0;
             goes_on = came.1;
             known = answer.known;
@@ -104,7 +106,7 @@ module _ {S I : Type 0} (e : Encoding) (taken : S → List ℕ) (refused left : 
     WritesText-fault fault step x h =
         let so_far = before.text x h in
         let memory = SpellsUnless-fault gives items next fault so_far.0.rest step so_far.1 in
-        record { written = tt; fault = λ k. absurd (cc); refusal = λ k. absurd (cc); begun = λ _. so_far.0 }
+        record { written = tt; ahead = tt; fault = λ k. absurd (cc); refusal = λ k. absurd (cc); begun = λ _. so_far.0 }
 
     -- which it never does where each item is `Ok`
     pub WroteSoFar-room : (fault : NormalizeError) → gives items (Some (Err fault)) next → (x : List ℕ) → SpellsOk gives start x → ⊥
@@ -117,6 +119,7 @@ module _ {S I : Type 0} (e : Encoding) (taken : S → List ℕ) (refused left : 
         let b = so_far.0 in
         let ended = SpellsUnless-end gives items next b.rest step so_far.1 in record {
           written = b.took ∙ ap (λ y. taken old ++ encoded_in e y) (sym (b.parts ∙ ap (λ y. b.front ++ y) ended ∙ append-nil b.front));
+          ahead = before.ahead;
           fault = λ k. absurd (cc);
           refusal = λ k. absurd (cc);
           begun = λ k. absurd (cc);
@@ -129,11 +132,13 @@ module _ {S : Type 0} (e : Encoding) (taken : S → List ℕ) (refused left : S 
   WritesText-untold refusal new told text =
       let nothing = encoded_in-nil e in record {
         written = tt;
+        ahead = tt;
         fault = λ _. told.units.written.fault;
         refusal = λ _. record {
           before = old;
           beginning = record { front = []; rest = text; parts = refl; took = sym (append-nil (taken old)) ∙ ap (λ units. taken old ++ units) (sym nothing) };
           piece = [];
+          short = omega arith;
           rest = text;
           goes_on = refl;
           known = subst (refuses old) (sym nothing) told.units.known;
@@ -154,9 +159,10 @@ module _ {S : Type 0} (e : Encoding) (taken : S → List ℕ) (refused left : S 
     unfolding TookBeginning-told
     WritesText-told text h = record {
       written = IfOk-weaker answer _ _ (λ _ w. w ∙ ap (λ units. units ++ encoded_in e text) told.none) h.written;
+      ahead = IfOk-weaker answer _ _ (λ _ ahead later r. told.units.written.ahead later (ahead later r)) h.ahead;
       fault = λ is. told.units.written.ahead new (h.fault is);
       refusal = λ is. let r = h.refusal is in
-          record { before = r.before; beginning = TookBeginning-told text r.before r.beginning; piece = r.piece; rest = r.rest; goes_on = r.goes_on; known = r.known; leaves = r.leaves };
+          record { before = r.before; beginning = TookBeginning-told text r.before r.beginning; piece = r.piece; short = r.short; rest = r.rest; goes_on = r.goes_on; known = r.known; leaves = r.leaves };
       begun = λ is. TookBeginning-told text new (h.begun is);
     }
 

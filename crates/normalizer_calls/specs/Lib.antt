@@ -1,4 +1,5 @@
 pub mod Acceptance
+pub mod Checks
 pub mod ComposingAcceptance
 pub mod ComposingNormalizers
 pub mod FormsWritten

@@ -1,5 +1,5 @@
 -- What is known where a text was written to a sink in an encoding, or only a beginning of it.
-use Rattle.std.specs.Prelude.{◌≡◌, ℕ, Bool, List, ◌++◌, Result, ⊤, OnOk, OnErr, IsErrOf}
+use Rattle.std.specs.Prelude.{◌≡◌, ℕ, ◌≤◌, Bool, List, ◌++◌, length, Result, ⊤, OnOk, OnErr, IsErrOf}
 use Rattle.normal_forms.specs.declared.Form.{Form}
 use Rattle.normal_forms.specs.Forms.{normal_form}
 use Rattle.normal_forms.specs.Reading.{Reading}
@@ -18,11 +18,12 @@ module _ {S : Type 0} (e : Encoding) (taken : S → List ℕ) where
     pub parts : text ≡ front ++ rest
     pub took : taken new ≡ taken old ++ encoded_in e front
 
-  -- a beginning of the text was taken, and then a piece that goes on with it was refused
+  -- a beginning of the text was taken, and then a piece that goes on with it, of at most one character, was refused
   pub record WasRefusedPiece (left : S → S → Type 0) (refuses : S → List ℕ → Type 0) (text : List ℕ) (old new : S) : Type 0 where
     pub before : S
     pub beginning : TookBeginning text old before
     pub piece : List ℕ
+    pub short : length piece ≤ 1
     pub rest : List ℕ
     pub goes_on : beginning.rest ≡ piece ++ rest
     pub known : refuses before (encoded_in e piece)
@@ -31,6 +32,7 @@ module _ {S : Type 0} (e : Encoding) (taken : S → List ℕ) where
   -- a text was written, or the output refused a piece, or memory was refused
   pub record WritesText (refused left : S → S → Type 0) (refuses : S → List ℕ → Type 0) (text : List ℕ) (old : S) (answer : Result ⊤ NormalizeError) (new : S) : Type 0 where
     pub written : OnOk answer (taken new ≡ taken old ++ encoded_in e text)
+    pub ahead : OnOk answer ((later : S) → refused new later → refused old later)
     pub fault : IsErrOf answer Sink → refused old new
     pub refusal : IsErrOf answer Sink → WasRefusedPiece left refuses text old new
     pub begun : IsErrOf answer Memory → TookBeginning text old new

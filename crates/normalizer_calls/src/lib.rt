@@ -5,6 +5,7 @@
 mod composing_normalizer;
 mod form_items;
 mod normalizer;
+mod offence;
 mod to_sinks;
 mod unchecked;
 mod writing;
