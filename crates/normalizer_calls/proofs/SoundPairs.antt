@@ -4,8 +4,7 @@ use Rattle.std.proofs.Math.Nat.{min-le_right}
 use Rattle.normal_forms.specs.Boundary.{BeginsSafely}
 use Rattle.normal_forms.specs.Hypotheses.{HasStarterResults}
 use Rattle.normal_forms.specs.Reading.{Reading, IsStarter}
-use Rattle.normalizer_tables.specs.declared.condition.Condition.TheVariants.{Hangul, Words, Order}
-use Rattle.normalizer_tables.specs.declared.pair_condition.PairCondition.TheVariants.{Pairs, RoundTrip, SafeBeginning}
+use Rattle.normalizer_tables.specs.declared.condition.Condition.TheVariants.{Hangul, Words, Order, Pairs, RoundTrip, SafeBeginning}
 use Rattle.normalizer_tables.specs.Characters.{Characters, list_of, reading_of}
 use Rattle.normalizer_tables.specs.Ignored.{ignored_list}
 use Rattle.normalizer_tables.specs.PairConditions.{composing_reading}

@@ -1,9 +1,7 @@
 -- Which data and pairs a constructor accepts where text is composed, and how it answers others.
 use Rattle.std.specs.Prelude.{◌≡◌, ◌⊎◌, List, Option, Some, None, Result, Ok, Err}
-use Rattle.normalizer_tables.specs.declared.pair_condition.PairCondition.{PairCondition}
-use Rattle.normalizer_tables.specs.declared.pair_condition.PairCondition.TheVariants.{Pairs, RoundTrip, SafeBeginning, Results}
+use Rattle.normalizer_tables.specs.declared.condition.Condition.{Condition}
 use Rattle.normalizer_tables.specs.declared.provider.DataError.{DataError}
-use Rattle.normalizer_tables.specs.declared.provider.DataError.TheVariants.{Invalid}
 use Rattle.normalizer_tables.specs.declared.provider.DataMarkerInfo.{DataMarkerInfo}
 use Rattle.normalizer_tables.specs.declared.provider.DataMarkerInfo.TheVariants as marker
 use Rattle.normalizer_tables.specs.AcceptedData.{AreAcceptedPairs}
@@ -11,15 +9,8 @@ use Rattle.normalizer_tables.specs.Characters.{Characters}
 use Rattle.normalizer_tables.specs.Conditions.{IsFirstFailing}
 use Rattle.normalizer_tables.specs.PairConditions.{pair_conditions, HoldsOfPairs}
 use Rattle.normalizer_tables.specs.Pairs.{Pair}
+use Rattle.normalizer_tables.specs.Refusals.{refusal_of}
 use Rattle.normalizer_calls.specs.Acceptance.{bounds_of, SuitsDecomposing, RefusesToDecompose}
-
--- how a condition on pairs that fails is answered, where the decomposition data have this marker: what is said of pairs
--- alone names the pairs
-abbrev pub refusal_of_pairs : DataMarkerInfo → PairCondition → DataError
-refusal_of_pairs kind Pairs = Invalid marker.NormalizerNfcV1 11
-refusal_of_pairs kind RoundTrip = Invalid kind 12
-refusal_of_pairs kind SafeBeginning = Invalid kind 13
-refusal_of_pairs kind Results = Invalid marker.NormalizerNfcV1 14
 
 -- data with pairs that meet all conditions that are asked where text is composed
 pub record SuitsComposing (h : Characters × List Pair) : Type 0 where
@@ -30,7 +21,7 @@ pub record SuitsComposing (h : Characters × List Pair) : Type 0 where
 abbrev pub RefusesToCompose : DataMarkerInfo → Characters × List Pair → DataError → Type 0
 RefusesToCompose kind h e =
     RefusesToDecompose kind h.0 e
-    ⊎ (SuitsDecomposing h.0 × ((c : PairCondition) × IsFirstFailing (HoldsOfPairs h.0 (bounds_of h.0.decompositions) h.1) (pair_conditions h.0.is_mapper) (Some c) × (e ≡ refusal_of_pairs kind c)))
+    ⊎ (SuitsDecomposing h.0 × ((c : Condition) × IsFirstFailing (HoldsOfPairs h.0 (bounds_of h.0.decompositions) h.1) (pair_conditions h.0.is_mapper) (Some c) × (e ≡ refusal_of kind c)))
 
 -- the data that are held with the pairs that are loaded after them, or the marker of the first load for which nothing is
 -- held

@@ -13,7 +13,6 @@ ghost use Rattle.normalizer_calls.specs.Acceptance.{
   AnswersHeld,
 };
 ghost use Rattle.normalizer_calls.specs.ComposingAcceptance.{
-  refusal_of_pairs,
   with_pairs,
   RefusesToCompose,
   SuitsComposing,
@@ -25,28 +24,13 @@ use normalizer_iterators::{Composition, NormalizeError};
 use normalizer_tables::characters::{CharacterData, IgnoredCharacters};
 use normalizer_tables::check::first_failing;
 use normalizer_tables::condition::{Bounds, DECOMPOSING};
-use normalizer_tables::nfd_check::refusal_of;
 use normalizer_tables::pair_check::first_failing_of_pairs;
-use normalizer_tables::pair_condition::PairCondition;
+use normalizer_tables::refusal::refusal_of;
 use normalizer_tables::{
     CanonicalCompositions, DataError, DataMarkerInfo, DataProvider, DecompositionData,
     DecompositionTables, NormalizerNfcV1, NormalizerNfdDataV1, NormalizerNfdTablesV1,
     NormalizerNfkdDataV1, NormalizerNfkdTablesV1,
 };
-
-/// How a condition on pairs that fails is answered, where the decomposition data have this marker.
-fn refusal_of_pairs(marker: DataMarkerInfo, condition: PairCondition) -> DataError
-    ensures { result ≡ refusal_of_pairs marker condition }
-{
-    let named = match condition {
-        PairCondition::Pairs | PairCondition::Results => DataMarkerInfo::NormalizerNfcV1,
-        PairCondition::RoundTrip | PairCondition::SafeBeginning => marker,
-    };
-    DataError::Invalid {
-        marker: named,
-        condition: condition.number(),
-    }
-}
 
 /// Refuses data and pairs that break a condition which is asked where text is composed, and names the first.
 fn check_composing(
@@ -62,7 +46,7 @@ fn check_composing(
         return Err(refusal_of(marker, condition));
     }
     match first_failing_of_pairs(characters, bounds, pairs) {
-        Some(condition) => Err(refusal_of_pairs(marker, condition)),
+        Some(condition) => Err(refusal_of(marker, condition)),
         None => Ok(()),
     }
 }

@@ -19,7 +19,7 @@ use normalizer_iterators::{Decomposition, NormalizeError};
 use normalizer_tables::characters::{CharacterData, IgnoredCharacters};
 use normalizer_tables::check::first_failing;
 use normalizer_tables::condition::{Bounds, DECOMPOSING};
-use normalizer_tables::nfd_check::refusal_of;
+use normalizer_tables::refusal::refusal_of;
 use normalizer_tables::{
     DataError, DataMarkerInfo, DataProvider, DecompositionData, DecompositionTables,
     NormalizerNfdDataV1, NormalizerNfdTablesV1, NormalizerNfkdDataV1, NormalizerNfkdTablesV1,

@@ -11,7 +11,6 @@ use Rattle.normal_forms.specs.declared.Form.TheVariants.{Decomposing, Composing}
 use Rattle.normal_forms.specs.Hypotheses.{HasFullLists, HasStarterResults, HasFaithfulResults, HasInhabitedLists, HasTextLists, HasScalarResults, SuitsForm}
 use Rattle.normal_forms.proofs.OrderLemmas.{length-order}
 use Rattle.normalizer_tables.specs.declared.condition.Condition.TheVariants as condition
-use Rattle.normalizer_tables.specs.declared.pair_condition.PairCondition.TheVariants as of_pairs
 use Rattle.normalizer_tables.specs.AcceptedData.{IsAccepted, AreAcceptedPairs, SuitsMapper, SuitsTexts}
 use Rattle.normalizer_tables.specs.Characters.{Characters, list_of, own_reading, reading_of}
 use Rattle.normalizer_tables.specs.Data.{Decompositions, Lists}
@@ -103,7 +102,7 @@ SuitsTexts-handed_in decompositions tables accepted =
 module _ (s : Characters) (b : Bounds) (pairs : List Pair) (accepted : IsAccepted s b) where
   pub HasStarterResults-accepted : AreAcceptedPairs s b pairs → (ignored : List ℕ) → HasStarterResults (reading_of s ignored (pair_of pairs))
   HasStarterResults-accepted accepted_pairs ignored =
-      HasStarterResults-reading_of s b (accepted 5 condition.Hangul (omega arith)) pairs (accepted_pairs 0 of_pairs.Pairs (omega arith)) ignored
+      HasStarterResults-reading_of s b (accepted 5 condition.Hangul (omega arith)) pairs (accepted_pairs 0 condition.Pairs (omega arith)) ignored
 
   pub SuitsMapper-accepted : AreAcceptedPairs s b pairs → (i : IgnoredCharacters) → SuitsMapper (reading_of s (ignored_list i) (pair_of pairs))
   SuitsMapper-accepted accepted_pairs i =
@@ -119,7 +118,7 @@ module _ (s : Characters) (b : Bounds) (pairs : List Pair) (accepted : IsAccepte
     unfolding HoldsOfPairs
     HasFaithfulResults-accepted =
         let all : All (HoldsOfPairs s b pairs) (pair_conditions false) = subst (λ m. All (HoldsOfPairs s b pairs) (pair_conditions m)) plain accepted_pairs in
-        HasFaithfulResults-reading_of s b (accepted 5 condition.Hangul (omega arith)) pairs [] (all 3 of_pairs.Results (omega arith))
+        HasFaithfulResults-reading_of s b (accepted 5 condition.Hangul (omega arith)) pairs [] (all 3 condition.Results (omega arith))
 
     suits : (form : Form) → HasFullLists (composing_reading s pairs) → SuitsForm (composing_reading s pairs) form
     suits Decomposing full = full

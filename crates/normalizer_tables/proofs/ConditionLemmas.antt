@@ -10,6 +10,7 @@ use Rattle.normalizer_tables.specs.declared.word.WordReading.TheVariants.{Ignore
 use Rattle.normalizer_tables.specs.declared.condition.Bounds.{Bounds}
 use Rattle.normalizer_tables.specs.declared.condition.Condition.{Condition}
 use Rattle.normalizer_tables.specs.declared.condition.Condition.TheVariants.{ItemLimit, CapLimit, ReplacementCharacter, Surrogates, PastTheEnd, Hangul, Words, Members, Order, Passthrough}
+use Rattle.normalizer_tables.specs.declared.condition.Condition.TheVariants.{Pairs, RoundTrip, SafeBeginning, Results, FdfaForms, Steps, SurrogateClasses, WordClasses, PairOrder}
 use Rattle.normalizer_tables.specs.Table.{code_points}
 use Rattle.normalizer_tables.specs.Hangul.{is_hangul_syllable}
 use Rattle.normalizer_tables.specs.SpecialLists.{fixed_list_of}
@@ -155,6 +156,15 @@ HoldsAt-plain s b Words n h plain other = λ q. IsSoundWord-plain s n h plain
 HoldsAt-plain s b Members n h plain other = λ q. reads_in_full-plain s n h plain
 HoldsAt-plain s b Order n h plain other = λ q. IsOrderedList-plain s n h plain
 HoldsAt-plain s b Passthrough n h plain other = λ q below. IsPlainStarter-plain s n h plain
+HoldsAt-plain s b Pairs n h plain other = tt
+HoldsAt-plain s b RoundTrip n h plain other = tt
+HoldsAt-plain s b SafeBeginning n h plain other = tt
+HoldsAt-plain s b Results n h plain other = tt
+HoldsAt-plain s b FdfaForms n h plain other = tt
+HoldsAt-plain s b Steps n h plain other = tt
+HoldsAt-plain s b SurrogateClasses n h plain other = tt
+HoldsAt-plain s b WordClasses n h plain other = tt
+HoldsAt-plain s b PairOrder n h plain other = tt
 
 IsSoundHangul-plain : (s : Characters) (n : ℕ) → scalar n ≡ true → is_plain (word_of s n) ≡ true → is_hangul_syllable n ≡ false → IsSoundHangul s n
 IsSoundHangul-plain s n h plain none = record {
@@ -199,6 +209,15 @@ HoldsAt-elsewhere s b Words n h other = λ q. absurd (h q)
 HoldsAt-elsewhere s b Members n h other = λ q. absurd (h q)
 HoldsAt-elsewhere s b Order n h other = λ q. absurd (h q)
 HoldsAt-elsewhere s b Passthrough n h other = λ q below. absurd (h q)
+HoldsAt-elsewhere s b Pairs n h other = tt
+HoldsAt-elsewhere s b RoundTrip n h other = tt
+HoldsAt-elsewhere s b SafeBeginning n h other = tt
+HoldsAt-elsewhere s b Results n h other = tt
+HoldsAt-elsewhere s b FdfaForms n h other = tt
+HoldsAt-elsewhere s b Steps n h other = tt
+HoldsAt-elsewhere s b SurrogateClasses n h other = tt
+HoldsAt-elsewhere s b WordClasses n h other = tt
+HoldsAt-elsewhere s b PairOrder n h other = tt
 
 -- what is left of a scalar value
 pub HoldsAt-others : (s : Characters) (b : Bounds) (c : Condition) (n : ℕ) → IsScalar n → (c ≡ Hangul → ⊥) → (c ≡ Words → ⊥) → (c ≡ Members → ⊥) → (c ≡ Order → ⊥) → (c ≡ Passthrough → ⊥) → HoldsAt s b c n
@@ -213,6 +232,15 @@ HoldsAt-others s b Words n h h1 h2 h3 h4 h5 = absurd (h2 refl)
 HoldsAt-others s b Members n h h1 h2 h3 h4 h5 = absurd (h3 refl)
 HoldsAt-others s b Order n h h1 h2 h3 h4 h5 = absurd (h4 refl)
 HoldsAt-others s b Passthrough n h h1 h2 h3 h4 h5 = absurd (h5 refl)
+HoldsAt-others s b Pairs n h h1 h2 h3 h4 h5 = tt
+HoldsAt-others s b RoundTrip n h h1 h2 h3 h4 h5 = tt
+HoldsAt-others s b SafeBeginning n h h1 h2 h3 h4 h5 = tt
+HoldsAt-others s b Results n h h1 h2 h3 h4 h5 = tt
+HoldsAt-others s b FdfaForms n h h1 h2 h3 h4 h5 = tt
+HoldsAt-others s b Steps n h h1 h2 h3 h4 h5 = tt
+HoldsAt-others s b SurrogateClasses n h h1 h2 h3 h4 h5 = tt
+HoldsAt-others s b WordClasses n h h1 h2 h3 h4 h5 = tt
+HoldsAt-others s b PairOrder n h h1 h2 h3 h4 h5 = tt
 
 -- the first and only member
 pub one_member : (x : List ℕ) (n : ℕ) → length x ≡ 1 → slice_get x 0 ≡ Some n → x ≡ n ∷ []
@@ -263,3 +291,12 @@ HoldsAt-past s b Words n h = λ q. absurd (no_scalar_past n h q)
 HoldsAt-past s b Members n h = λ q. absurd (no_scalar_past n h q)
 HoldsAt-past s b Order n h = λ q. absurd (no_scalar_past n h q)
 HoldsAt-past s b Passthrough n h = λ q. absurd (no_scalar_past n h q)
+HoldsAt-past s b Pairs n h = tt
+HoldsAt-past s b RoundTrip n h = tt
+HoldsAt-past s b SafeBeginning n h = tt
+HoldsAt-past s b Results n h = tt
+HoldsAt-past s b FdfaForms n h = tt
+HoldsAt-past s b Steps n h = tt
+HoldsAt-past s b SurrogateClasses n h = tt
+HoldsAt-past s b WordClasses n h = tt
+HoldsAt-past s b PairOrder n h = tt

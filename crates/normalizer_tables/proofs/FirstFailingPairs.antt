@@ -1,16 +1,16 @@
 -- The first condition on pairs that fails.
 use Rattle.std.proofs.Common.{◌≡◌, Bool, true, false, List, [], ◌∷◌, All, Some, None, refl, if◌then◌else◌}
 use Rattle.std.proofs.lemmas.List.Elements.{All-cons, All-nil}
-use Rattle.normalizer_tables.specs.declared.pair_condition.PairCondition.{PairCondition}
-use Rattle.normalizer_tables.specs.declared.pair_condition.PairCondition.TheVariants.{Pairs, RoundTrip, SafeBeginning, Results}
+use Rattle.normalizer_tables.specs.declared.condition.Condition.{Condition}
+use Rattle.normalizer_tables.specs.declared.condition.Condition.TheVariants.{Pairs, RoundTrip, SafeBeginning, Results}
 use Rattle.normalizer_tables.specs.Conditions.{IsFirstFailing}
 use Rattle.normalizer_tables.specs.PairConditions.{pair_conditions}
 
-module _ (holds : PairCondition → Type 0) (pairs : holds Pairs) where
-  two_hold : (rest : List PairCondition) → holds RoundTrip → All holds rest → All holds (Pairs ∷ RoundTrip ∷ rest)
+module _ (holds : Condition → Type 0) (pairs : holds Pairs) where
+  two_hold : (rest : List Condition) → holds RoundTrip → All holds rest → All holds (Pairs ∷ RoundTrip ∷ rest)
   two_hold rest trips others = All-cons holds Pairs (RoundTrip ∷ rest) pairs (All-cons holds RoundTrip rest trips others)
 
-  three_hold : (rest : List PairCondition) → holds RoundTrip → holds SafeBeginning → All holds rest → All holds (Pairs ∷ RoundTrip ∷ SafeBeginning ∷ rest)
+  three_hold : (rest : List Condition) → holds RoundTrip → holds SafeBeginning → All holds rest → All holds (Pairs ∷ RoundTrip ∷ SafeBeginning ∷ rest)
   three_hold rest trips safe others = two_hold (SafeBeginning ∷ rest) trips (All-cons holds SafeBeginning rest safe others)
 
   pub RoundTrip-fails : (is_mapper : Bool) → ¬ holds RoundTrip → IsFirstFailing holds (pair_conditions is_mapper) (Some RoundTrip)
@@ -31,6 +31,6 @@ module _ (holds : PairCondition → Type 0) (pairs : holds Pairs) where
   none_fails true trips safe results = three_hold [] trips safe (All-nil holds)
   none_fails false trips safe results = three_hold (Results ∷ []) trips safe (All-cons holds Results [] (results refl) (All-nil holds))
 
-pub Pairs-fail : (holds : PairCondition → Type 0) (is_mapper : Bool) → ¬ holds Pairs → IsFirstFailing holds (pair_conditions is_mapper) (Some Pairs)
+pub Pairs-fail : (holds : Condition → Type 0) (is_mapper : Bool) → ¬ holds Pairs → IsFirstFailing holds (pair_conditions is_mapper) (Some Pairs)
 unfolding IsFirstFailing
 Pairs-fail holds is_mapper fails = ([], RoundTrip ∷ SafeBeginning ∷ (if is_mapper then [] else Results ∷ []), refl, All-nil holds, fails)

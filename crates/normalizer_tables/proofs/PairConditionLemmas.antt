@@ -10,7 +10,7 @@ use Rattle.normalizer_tables.specs.Words.{is_plain}
 use Rattle.normalizer_tables.specs.Characters.{Characters, word_of, list_of, class_of, own_reading}
 use Rattle.normalizer_tables.specs.Pairs.{Pair, IsNeverSecond}
 use Rattle.normalizer_tables.specs.PairConditions.{composing_reading, HasSafeBeginning, RoundTrips, KeepsRoundTrip, KeepsBeginning, HoldsOfPairs, HasOrderedLists}
-use Rattle.normalizer_tables.specs.declared.pair_condition.PairCondition.TheVariants.{RoundTrip, SafeBeginning}
+use Rattle.normalizer_tables.specs.declared.condition.Condition.TheVariants.{RoundTrip, SafeBeginning}
 use Rattle.normalizer_tables.proofs.CharacterLemmas.{list_of-reads}
 use Rattle.normalizer_tables.proofs.ConditionLemmas.{list_read-plain, class_of-plain}
 use Rattle.normalizer_tables.proofs.CompositionLemmas.{begins_safely_from_first, first_of_safe_beginning}

@@ -16,7 +16,7 @@ use Rattle.normal_forms.specs.declared.Form.TheVariants.{Composing}
 use Rattle.normal_forms.specs.Boundary.{BeginsSafely}
 use Rattle.normal_forms.specs.Hypotheses.{HasStarterResults, HasFaithfulResults}
 use Rattle.normalizer_tables.specs.declared.condition.Condition.TheVariants.{Hangul, Order}
-use Rattle.normalizer_tables.specs.declared.pair_condition.PairCondition.TheVariants.{Pairs, RoundTrip, SafeBeginning}
+use Rattle.normalizer_tables.specs.declared.condition.Condition.TheVariants.{Pairs, RoundTrip, SafeBeginning}
 use Rattle.normalizer_tables.specs.declared.word.WordReading.TheVariants.{Ignored, HangulSyllable}
 use Rattle.normalizer_tables.specs.Hangul.{is_hangul_syllable, hangul_decomposition}
 use Rattle.normalizer_tables.specs.Words.{is_plain, is_class_form, is_ordinary_class_form, is_special_class_form, has_high_zeros, has_low_zeros, read, read_low}

@@ -3,7 +3,7 @@ use Rattle.std.proofs.Common.{◌≡◌, ◌≢◌, ◌↔◌, ℕ, ◌+◌, ◌
 use Rattle.normal_forms.specs.Order.{order}
 use Rattle.normalizer_tables.specs.declared.step.Step.{Step}
 use Rattle.normalizer_tables.specs.declared.step.Step.TheVariants.{Default}
-use Rattle.normalizer_tables.specs.declared.step_condition.StepCondition.TheVariants.{FdfaForms, Steps}
+use Rattle.normalizer_tables.specs.declared.condition.Condition.TheVariants.{FdfaForms, Steps}
 use Rattle.normalizer_tables.specs.declared.word.WordReading.TheVariants.{Fdfa, Itself}
 use Rattle.normalizer_tables.specs.Data.{Supplement}
 use Rattle.normalizer_tables.specs.Hangul.{is_hangul_syllable}

@@ -12,6 +12,7 @@ use Rattle.normalizer_tables.specs.declared.word.WordReading.TheVariants.{Specia
 use Rattle.normalizer_tables.specs.declared.condition.Bounds.{Bounds}
 use Rattle.normalizer_tables.specs.declared.condition.Condition.{Condition}
 use Rattle.normalizer_tables.specs.declared.condition.Condition.TheVariants.{ItemLimit, CapLimit, ReplacementCharacter, Surrogates, PastTheEnd, Hangul, Words, Members, Order, Passthrough}
+use Rattle.normalizer_tables.specs.declared.condition.Condition.TheVariants.{Pairs, RoundTrip, SafeBeginning, Results, FdfaForms, Steps, SurrogateClasses, WordClasses, PairOrder}
 use Rattle.normalizer_tables.specs.Data.{Lists}
 use Rattle.normalizer_tables.specs.Hangul.{is_hangul_syllable}
 use Rattle.normalizer_tables.specs.SpecialLists.{fixed_list_of}
@@ -25,6 +26,7 @@ item_limit = 0xFFF
 abbrev pub cap_limit : ℕ
 cap_limit = 0x0300
 
+-- the number of a condition. What classes alone ask, or pairs alone, has that of the whole.
 abbrev pub number_of : Condition → ℕ
 number_of ItemLimit = 1
 number_of CapLimit = 2
@@ -36,6 +38,15 @@ number_of Words = 7
 number_of Members = 8
 number_of Order = 9
 number_of Passthrough = 10
+number_of Pairs = 11
+number_of RoundTrip = 12
+number_of SafeBeginning = 13
+number_of Results = 14
+number_of FdfaForms = 15
+number_of Steps = 16
+number_of SurrogateClasses = 4
+number_of WordClasses = 7
+number_of PairOrder = 11
 
 -- how many items two tables hold together
 abbrev pub item_count : Lists → ℕ

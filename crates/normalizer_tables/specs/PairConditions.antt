@@ -6,20 +6,14 @@ use Rattle.normal_forms.specs.Order.{order}
 use Rattle.normal_forms.specs.Composition.{compose}
 use Rattle.normal_forms.specs.Boundary.{BeginsSafely}
 use Rattle.normalizer_tables.specs.declared.condition.Bounds.{Bounds}
-use Rattle.normalizer_tables.specs.declared.pair_condition.PairCondition.{PairCondition}
-use Rattle.normalizer_tables.specs.declared.pair_condition.PairCondition.TheVariants.{Pairs, RoundTrip, SafeBeginning, Results}
+use Rattle.normalizer_tables.specs.declared.condition.Condition.{Condition}
+use Rattle.normalizer_tables.specs.declared.condition.Condition.TheVariants.{Pairs, RoundTrip, SafeBeginning, Results, PairOrder}
 use Rattle.normalizer_tables.specs.Words.{ignored_marker, is_non_round_trip, is_backward_combining}
 use Rattle.normalizer_tables.specs.Characters.{Characters, word_of, list_of, has_class_form, reading_of, own_reading}
 use Rattle.normalizer_tables.specs.Pairs.{Pair, AreRising, is_vowel_or_trailing_jamo, pair_of}
 
-abbrev pub number_of_pair_condition : PairCondition → ℕ
-number_of_pair_condition Pairs = 11
-number_of_pair_condition RoundTrip = 12
-number_of_pair_condition SafeBeginning = 13
-number_of_pair_condition Results = 14
-
 -- the conditions that are asked of composing data: of the mapper's, all but the last
-abbrev pub pair_conditions : Bool → List PairCondition
+abbrev pub pair_conditions : Bool → List Condition
 pair_conditions is_mapper = Pairs ∷ RoundTrip ∷ SafeBeginning ∷ (if is_mapper then [] else Results ∷ [])
 
 -- the reading of data and pairs, in which an ignored character has the empty list
@@ -71,9 +65,11 @@ unfoldable pub HasOrderedLists : Characters → List ℕ → Pair → Type 0
 HasOrderedLists s ignored p =
     list_of s ignored p.2 ≡ order (own_reading s) (list_of s ignored p.1 ++ list_of s ignored p.0)
 
--- the conditions, each in its line
-unfoldable pub HoldsOfPairs : Characters → Bounds → List Pair → PairCondition → Type 0
+-- the conditions on pairs, each in its line
+unfoldable pub HoldsOfPairs : Characters → Bounds → List Pair → Condition → Type 0
 HoldsOfPairs s b pairs Pairs = AreSoundPairs pairs × All (λ p. IsComposable s p.1 × IsComposable s p.2) pairs
 HoldsOfPairs s b pairs RoundTrip = (n : ℕ) → KeepsRoundTrip s b pairs n
 HoldsOfPairs s b pairs SafeBeginning = (n : ℕ) → KeepsBeginning s b pairs n
 HoldsOfPairs s b pairs Results = All (HasOrderedLists s []) pairs
+HoldsOfPairs s b pairs PairOrder = AreSoundPairs pairs
+HoldsOfPairs s b pairs _ = Unit {0}

@@ -2,20 +2,30 @@
 use Rattle.std.specs.Prelude.{◌≡◌, List, Some}
 use Rattle.normalizer_tables.specs.declared.condition.Bounds.{Bounds}
 use Rattle.normalizer_tables.specs.declared.condition.Condition.{Condition}
-use Rattle.normalizer_tables.specs.declared.condition.Condition.TheVariants.{ItemLimit}
+use Rattle.normalizer_tables.specs.declared.condition.Condition.TheVariants.{ItemLimit, Pairs, Results, FdfaForms, Steps, PairOrder}
 use Rattle.normalizer_tables.specs.declared.provider.DataError.{DataError}
 use Rattle.normalizer_tables.specs.declared.provider.DataError.TheVariants.{FutureExtension, Invalid}
 use Rattle.normalizer_tables.specs.declared.provider.DataMarkerInfo.{DataMarkerInfo}
-use Rattle.normalizer_tables.specs.declared.provider.DataMarkerInfo.TheVariants.{NormalizerNfdTablesV1}
+use Rattle.normalizer_tables.specs.declared.provider.DataMarkerInfo.TheVariants.{NormalizerNfdDataV1, NormalizerNfdTablesV1, NormalizerNfcV1, NormalizerNfdSupplementV1}
 use Rattle.normalizer_tables.specs.Characters.{Characters}
 use Rattle.normalizer_tables.specs.Conditions.{Holds, IsFirstFailing, number_of}
 
--- how a condition that fails is answered, where the decomposition data have this marker
+-- the marker that is named where a condition fails, if the decomposition data have the marker `data_marker`
+abbrev pub marker_of : DataMarkerInfo → Condition → DataMarkerInfo
+marker_of data_marker ItemLimit = NormalizerNfdTablesV1
+marker_of data_marker Pairs = NormalizerNfcV1
+marker_of data_marker PairOrder = NormalizerNfcV1
+marker_of data_marker Results = NormalizerNfcV1
+marker_of data_marker FdfaForms = NormalizerNfdDataV1
+marker_of data_marker Steps = NormalizerNfdSupplementV1
+marker_of data_marker _ = data_marker
+
+-- how a condition that fails is answered
 abbrev pub refusal_of : DataMarkerInfo → Condition → DataError
-refusal_of kind ItemLimit = FutureExtension NormalizerNfdTablesV1
-refusal_of kind c = Invalid kind (number_of c)
+refusal_of data_marker ItemLimit = FutureExtension NormalizerNfdTablesV1
+refusal_of data_marker c = Invalid (marker_of data_marker c) (number_of c)
 
 -- e answers the first of these conditions that fails
 abbrev pub RefusesFirstFailing : DataMarkerInfo → Characters → Bounds → List Condition → DataError → Type 0
-RefusesFirstFailing kind s b conditions e =
-    (c : Condition) × IsFirstFailing (Holds s b) conditions (Some c) × (e ≡ refusal_of kind c)
+RefusesFirstFailing data_marker s b conditions e =
+    (c : Condition) × IsFirstFailing (Holds s b) conditions (Some c) × (e ≡ refusal_of data_marker c)

@@ -6,21 +6,15 @@ use Rattle.normalizer_tables.specs.declared.condition.Condition.{Condition}
 use Rattle.normalizer_tables.specs.declared.condition.Condition.TheVariants as condition
 use Rattle.normalizer_tables.specs.declared.step.Step.{Step}
 use Rattle.normalizer_tables.specs.declared.step.Step.TheVariants.{Default, Singleton, Expansion}
-use Rattle.normalizer_tables.specs.declared.step_condition.StepCondition.{StepCondition}
-use Rattle.normalizer_tables.specs.declared.step_condition.StepCondition.TheVariants.{FdfaForms, Steps}
 use Rattle.normalizer_tables.specs.declared.word.WordReading.TheVariants.{Fdfa}
 use Rattle.normalizer_tables.specs.Data.{Supplement}
 use Rattle.normalizer_tables.specs.Hangul.{is_hangul_syllable}
 use Rattle.normalizer_tables.specs.Characters.{Characters, reading_of_word, list_of, own_reading}
 use Rattle.normalizer_tables.specs.Steps.{step_of}
 
-abbrev pub number_of_step_condition : StepCondition → ℕ
-number_of_step_condition FdfaForms = 15
-number_of_step_condition Steps = 16
-
 -- the conditions that are asked of data and supplement together
-abbrev pub step_conditions : List StepCondition
-step_conditions = FdfaForms ∷ Steps ∷ []
+abbrev pub step_conditions : List Condition
+step_conditions = condition.FdfaForms ∷ condition.Steps ∷ []
 
 -- the conditions that are asked of the data before
 abbrev pub conditions_before_steps : List Condition
@@ -46,7 +40,8 @@ AvoidsFdfa s n = reading_of_word s n ≢ Fdfa
 unfoldable pub HasSoundStep : Characters → Supplement → ℕ → Type 0
 HasSoundStep s t n = IsScalar n → is_hangul_syllable n ≡ false → IsSomeAnd (step_of s t n) (IsSoundStep s n)
 
--- the conditions, each in its line
-unfoldable pub HoldsOfSteps : Characters → Supplement → StepCondition → Type 0
-HoldsOfSteps s t FdfaForms = (n : ℕ) → AvoidsFdfa s n
-HoldsOfSteps s t Steps = (n : ℕ) → HasSoundStep s t n
+-- the conditions on steps, each in its line
+unfoldable pub HoldsOfSteps : Characters → Supplement → Condition → Type 0
+HoldsOfSteps s t condition.FdfaForms = (n : ℕ) → AvoidsFdfa s n
+HoldsOfSteps s t condition.Steps = (n : ℕ) → HasSoundStep s t n
+HoldsOfSteps s t _ = Unit {0}

@@ -9,26 +9,26 @@ ghost use Rattle.normalizer_tables.specs.ClassConditions.{
 ghost use Rattle.normalizer_tables.specs.Conditions.{IsFirstFailing, is_surrogate};
 ghost use Rattle.normalizer_tables.specs.Table.{word_at};
 ghost use Rattle.normalizer_tables.specs.Words.{is_class_form};
-ghost use Rattle.normalizer_tables.specs.declared.class_condition.ClassCondition.TheVariants as condition;
+ghost use Rattle.normalizer_tables.specs.declared.condition.Condition.TheVariants as condition;
 
 use crate::characters::CODE_POINTS;
 use crate::check::numbers::has_fixed_class;
-use crate::class_condition::ClassCondition;
+use crate::condition::Condition;
 use crate::provider::DecompositionData;
 use crate::table::CodePointTable;
 use crate::word::{is_class_form, is_ordinary_class_form, is_special_class_form, low_byte};
 
 /// The first of the conditions on classes that data break. It takes no memory.
-pub fn first_failing_of_classes(data: &DecompositionData) -> Option<ClassCondition>
+pub fn first_failing_of_classes(data: &DecompositionData) -> Option<Condition>
     ensures { IsFirstFailing (HoldsOfClasses data.now.table) class_conditions result }
 {
     let table = &data.table;
     if !have_no_surrogate_classes(table) {
-        Some(ClassCondition::Surrogates)
+        Some(Condition::SurrogateClasses)
     } else if !has_no_class_past(table) {
-        Some(ClassCondition::PastTheEnd)
+        Some(Condition::PastTheEnd)
     } else if !have_sound_classes(table) {
-        Some(ClassCondition::Words)
+        Some(Condition::WordClasses)
     } else {
         None
     }
@@ -36,7 +36,7 @@ pub fn first_failing_of_classes(data: &DecompositionData) -> Option<ClassConditi
 
 /// Whether the word of no surrogate has a class form.
 fn have_no_surrogate_classes(table: &CodePointTable) -> bool
-    ensures { IsTrue result ↔ HoldsOfClasses table.now condition.Surrogates }
+    ensures { IsTrue result ↔ HoldsOfClasses table.now condition.SurrogateClasses }
 {
     for surrogate in 0xD800..0xE000 {
         if is_class_form(table.get32(surrogate)) {
@@ -55,7 +55,7 @@ fn has_no_class_past(table: &CodePointTable) -> bool
 
 /// Whether the words of all characters have sound classes.
 fn have_sound_classes(table: &CodePointTable) -> bool
-    ensures { IsTrue result ↔ HoldsOfClasses table.now condition.Words }
+    ensures { IsTrue result ↔ HoldsOfClasses table.now condition.WordClasses }
 {
     for number in 0..CODE_POINTS {
         if !has_sound_class(number, table.get32(number)) {

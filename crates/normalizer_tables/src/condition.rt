@@ -1,8 +1,8 @@
-//! The written conditions on data.
+//! The written conditions on all that is loaded: decomposition data, pairs and the supplement.
 ghost use Rattle.std.specs.Prelude.{◌≡◌, min};
 ghost use Rattle.normalizer_tables.specs.Conditions.{number_of};
 
-/// A written condition.
+/// A written condition. What classes alone ask, or pairs alone, has an entry of its own, under the number of the whole.
 #[derive(Clone, Copy, PartialEq, Eq, Debug)]
 pub enum Condition {
     /// The tables together hold at most 0xFFF items.
@@ -25,6 +25,29 @@ pub enum Condition {
     Order,
     /// A character below the bound of decomposing reads to itself with class 0.
     Passthrough,
+    /// Pairs strictly rise by second, then first; no second lies in U+1161 to U+11FF; no first and no result has a
+    /// class form or is ignored.
+    Pairs,
+    /// The list of a character without NON_ROUND_TRIP, or below the bound of composing, composes to that character alone.
+    RoundTrip,
+    /// The list of a character without BACKWARD_COMBINING, or below the bound of composing, begins with a starter that is
+    /// second in no pair.
+    SafeBeginning,
+    /// The list of each pair's result is the ordered lists of first and second.
+    Results,
+    /// No word outside the Hangul syllables has the form of U+FDFA, that of no surrogate and no number past the code
+    /// points either.
+    FdfaForms,
+    /// But for Hangul syllables, a character has a step. It is `Default` exactly where the list is the character alone,
+    /// and else the list is the ordered lists of its parts.
+    Steps,
+    /// Of `Surrogates`, what classes alone ask: the word of no surrogate has a class form.
+    SurrogateClasses,
+    /// Of `Words`, what classes alone ask: ordinary classes are 1 to 254, and the special form stands on the nine
+    /// characters with a fixed list alone, with their classes.
+    WordClasses,
+    /// Of `Pairs`, what pairs alone ask: they strictly rise, and no second lies in U+1161 to U+11FF.
+    PairOrder,
 }
 
 /// Below which numbers characters pass unseen: by a loop that decomposes, and by one that composes.
@@ -62,7 +85,7 @@ pub const DECOMPOSING: [Condition; 10] = [
 ];
 
 impl Condition {
-    /// The number of the condition.
+    /// The number of the condition, by which conditions are ordered.
     pub fn number(self) -> u8
         ensures { result ≡ number_of self }
     {
@@ -70,13 +93,19 @@ impl Condition {
             Condition::ItemLimit => 1,
             Condition::CapLimit => 2,
             Condition::ReplacementCharacter => 3,
-            Condition::Surrogates => 4,
+            Condition::Surrogates | Condition::SurrogateClasses => 4,
             Condition::PastTheEnd => 5,
             Condition::Hangul => 6,
-            Condition::Words => 7,
+            Condition::Words | Condition::WordClasses => 7,
             Condition::Members => 8,
             Condition::Order => 9,
             Condition::Passthrough => 10,
+            Condition::Pairs | Condition::PairOrder => 11,
+            Condition::RoundTrip => 12,
+            Condition::SafeBeginning => 13,
+            Condition::Results => 14,
+            Condition::FdfaForms => 15,
+            Condition::Steps => 16,
         }
     }
 }

@@ -4,21 +4,19 @@
 pub mod characters;
 pub mod check;
 pub mod class_check;
-pub mod class_condition;
 pub mod condition;
 mod hangul;
 pub mod laws;
 pub mod members;
 pub mod nfd_check;
 pub mod pair_check;
-pub mod pair_condition;
 mod pairs;
 mod provider;
+pub mod refusal;
 mod scalars;
 pub mod special;
 pub mod step;
 pub mod step_check;
-pub mod step_condition;
 mod table;
 pub mod word;
 

@@ -1,18 +1,19 @@
 //! The check of canonical data that are handed in without a provider.
-ghost use Rattle.std.specs.Prelude.{◌≡◌, ◌↔◌, IsOk, IfErr};
+ghost use Rattle.std.specs.Prelude.{◌↔◌, IsOk, IfErr};
 ghost use Rattle.normalizer_tables.specs.NfdData.{
   IsSoundNfdData,
   nfd_bounds,
   nfd_characters,
   nfd_conditions,
 };
-ghost use Rattle.normalizer_tables.specs.Refusals.{RefusesFirstFailing, refusal_of};
+ghost use Rattle.normalizer_tables.specs.Refusals.{RefusesFirstFailing};
 ghost use Rattle.normalizer_tables.specs.declared.provider.DataMarkerInfo.TheVariants as marker;
 
 use crate::characters::CharacterData;
 use crate::check::first_failing;
 use crate::condition::{Bounds, Condition};
 use crate::provider::{DataError, DataMarkerInfo, DecompositionData, DecompositionTables};
+use crate::refusal::refusal_of;
 
 /// What is asked of canonical data that are handed in: nothing of their cap.
 const NFD_DATA: [Condition; 9] = [
@@ -45,18 +46,5 @@ pub fn check_nfd_data<'a>(
     match first_failing(&characters, bounds, &NFD_DATA) {
         Some(condition) => Err(refusal_of(DataMarkerInfo::NormalizerNfdDataV1, condition)),
         None => Ok(()),
-    }
-}
-
-/// How a condition that fails is answered, where the decomposition data have this marker.
-pub fn refusal_of(marker: DataMarkerInfo, condition: Condition) -> DataError
-    ensures { result ≡ refusal_of marker condition }
-{
-    if condition == Condition::ItemLimit {
-        return DataError::FutureExtension(DataMarkerInfo::NormalizerNfdTablesV1);
-    }
-    DataError::Invalid {
-        marker,
-        condition: condition.number(),
     }
 }

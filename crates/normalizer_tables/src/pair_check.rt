@@ -11,10 +11,9 @@ ghost use Rattle.normalizer_tables.specs.PairConditions.{
 ghost use Rattle.normalizer_tables.specs.Characters.{word_of};
 
 use crate::characters::CharacterData;
-use crate::condition::Bounds;
+use crate::condition::{Bounds, Condition};
 use crate::pair_check::beginnings::check_beginnings;
 use crate::pair_check::results::has_ordered_lists;
-use crate::pair_condition::PairCondition;
 use crate::pairs::CanonicalCompositions;
 use crate::word::IGNORED_MARKER;
 
@@ -26,20 +25,20 @@ pub fn first_failing_of_pairs(
     data: &CharacterData<'_>,
     bounds: Bounds,
     compositions: &CanonicalCompositions,
-) -> Option<PairCondition>
+) -> Option<Condition>
     ensures { IsFirstFailing (HoldsOfPairs data.now bounds compositions.now)
         (pair_conditions data.now.is_mapper) result }
 {
     if !holds_of_pairs(data, compositions) {
-        return Some(PairCondition::Pairs);
+        return Some(Condition::Pairs);
     }
     let beginnings = check_beginnings(data, bounds, compositions);
     if !beginnings.round_trip {
-        Some(PairCondition::RoundTrip)
+        Some(Condition::RoundTrip)
     } else if !beginnings.safe {
-        Some(PairCondition::SafeBeginning)
+        Some(Condition::SafeBeginning)
     } else if !data.is_mapper() && !have_ordered_lists(data, compositions) {
-        Some(PairCondition::Results)
+        Some(Condition::Results)
     } else {
         None
     }

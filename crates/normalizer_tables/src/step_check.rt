@@ -21,7 +21,6 @@ use crate::members::Members;
 use crate::pair_check::results::{has_ordered_lists, is_spelled, put_in_order, write};
 use crate::provider::NonRecursiveDecompositionSupplement;
 use crate::step::{Step, step_of};
-use crate::step_condition::StepCondition;
 use crate::word::{is_hangul_syllable, is_plain};
 
 /// Room for a list, of at most 18 characters.
@@ -48,7 +47,7 @@ pub fn first_failing_before_steps(data: &CharacterData<'_>, bounds: Bounds) -> O
 pub fn first_failing_of_steps(
     data: &CharacterData<'_>,
     supplement: &NonRecursiveDecompositionSupplement,
-) -> Option<StepCondition>
+) -> Option<Condition>
     ensures { IsFirstFailing (HoldsOfSteps data.now supplement.now) step_conditions result }
 {
     let mut are_sound = true;
@@ -56,14 +55,14 @@ pub fn first_failing_of_steps(
     for number in 0..=CODE_POINTS {
         let word = data.word_of_number(number);
         if !avoids_fdfa(number, word) {
-            return Some(StepCondition::FdfaForms);
+            return Some(Condition::FdfaForms);
         }
         are_sound = are_sound && has_sound_step(data, supplement, number, word);
     }
     if are_sound {
         None
     } else {
-        Some(StepCondition::Steps)
+        Some(Condition::Steps)
     }
 }
 

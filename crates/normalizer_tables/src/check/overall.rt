@@ -29,12 +29,7 @@ pub fn holds_overall(data: &CharacterData<'_>, condition: Condition) -> bool
         Condition::CapLimit => data.cap() <= CAP_LIMIT,
         Condition::ReplacementCharacter => is_flagged_replacement(data),
         Condition::PastTheEnd => !is_class_form(data.past()),
-        Condition::Surrogates
-        | Condition::Hangul
-        | Condition::Words
-        | Condition::Members
-        | Condition::Order
-        | Condition::Passthrough => true,
+        _ => true,
     }
 }
 

@@ -24,7 +24,6 @@ ghost use Rattle.normalizer_tables.specs.PairConditions.{
 ghost use Rattle.normalizer_tables.specs.Pairs.{Pair, pair_of};
 ghost use Rattle.normalizer_tables.specs.SoundData.{Bounds, IsSoundData};
 ghost use Rattle.normalizer_tables.specs.declared.condition.Condition.TheVariants as condition;
-ghost use Rattle.normalizer_tables.specs.declared.pair_condition.PairCondition.TheVariants as of_pairs;
 
 /// Accepted data that are no mapper's suit the laws of the decomposing form, and with accepted pairs those of both
 /// forms. Canonical data that are handed in unchecked suit them by their own conditions.
@@ -65,6 +64,6 @@ pub fn accepted_data_have_sound_classes()
 
 /// What is asked of pairs alone is part of what is asked of data with pairs: condition 11.
 pub fn accepted_pairs_are_sound()
-    ensures { (s : Characters) (b : Bounds) (pairs : List Pair) → HoldsOfPairs s b pairs of_pairs.Pairs →
+    ensures { (s : Characters) (b : Bounds) (pairs : List Pair) → HoldsOfPairs s b pairs condition.Pairs →
         AreSoundPairs pairs }
 {}

@@ -12,12 +12,11 @@ ghost use Rattle.normalizer_tables.specs.PairConditions.{HasOrderedLists, HoldsO
 ghost use Rattle.normalizer_tables.specs.Pairs.{Pair, pair_of};
 ghost use Rattle.normalizer_tables.specs.SoundData.{Bounds};
 ghost use Rattle.normalizer_tables.specs.declared.condition.Condition.TheVariants as condition;
-ghost use Rattle.normalizer_tables.specs.declared.pair_condition.PairCondition.TheVariants as of_pairs;
 
 /// What a pair composes to is a starter: conditions 6 and 11.
 pub fn results_are_starters()
     ensures { (s : Characters) (b : Bounds) (pairs : List Pair) →
-        Holds s b condition.Hangul → HoldsOfPairs s b pairs of_pairs.Pairs →
+        Holds s b condition.Hangul → HoldsOfPairs s b pairs condition.Pairs →
         (i : IgnoredCharacters) → HasStarterResults (reading_of s (ignored_list i) (pair_of pairs)) }
 {}
 
@@ -28,7 +27,7 @@ pub fn results_are_faithful()
         Holds s b condition.Hangul → All (HasOrderedLists s (ignored_list i)) pairs →
         HasFaithfulResults (reading_of s (ignored_list i) (pair_of pairs)) }
     ensures of_condition { (s : Characters) (b : Bounds) (pairs : List Pair) →
-        Holds s b condition.Hangul → HoldsOfPairs s b pairs of_pairs.Results →
+        Holds s b condition.Hangul → HoldsOfPairs s b pairs condition.Results →
         HasFaithfulResults (composing_reading s pairs) }
 {}
 
@@ -36,15 +35,15 @@ pub fn results_are_faithful()
 /// beginning: conditions 9, 12 and 13.
 pub fn passed_characters_stand_apart()
     ensures form { (s : Characters) (b : Bounds) (pairs : List Pair) →
-        Holds s b condition.Order → HoldsOfPairs s b pairs of_pairs.RoundTrip →
+        Holds s b condition.Order → HoldsOfPairs s b pairs condition.RoundTrip →
         (i : IgnoredCharacters) (c : ℕ) → IsScalar c → is_passed s b c ≡ true →
         IsNormalized (reading_of s (ignored_list i) (pair_of pairs)) form.Composing (c ∷ []) }
     ensures beginning { (s : Characters) (b : Bounds) (pairs : List Pair) →
-        HoldsOfPairs s b pairs of_pairs.SafeBeginning →
+        HoldsOfPairs s b pairs condition.SafeBeginning →
         (i : IgnoredCharacters) (c : ℕ) → IsScalar c → is_passed s b c ≡ true →
         BeginsSafely (reading_of s (ignored_list i) (pair_of pairs)) (list_of s (ignored_list i) c) }
     ensures inhabited { (s : Characters) (b : Bounds) (pairs : List Pair) →
-        HoldsOfPairs s b pairs of_pairs.SafeBeginning →
+        HoldsOfPairs s b pairs condition.SafeBeginning →
         (i : IgnoredCharacters) (c : ℕ) → IsScalar c → is_passed s b c ≡ true →
         list_of s (ignored_list i) c ≢ [] }
 {}

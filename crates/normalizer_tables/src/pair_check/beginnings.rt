@@ -14,7 +14,7 @@ ghost use Rattle.normalizer_tables.specs.PairConditions.{
   is_taken_to_begin_safely,
   is_taken_to_round_trip,
 };
-ghost use Rattle.normalizer_tables.specs.declared.pair_condition.PairCondition.TheVariants as condition;
+ghost use Rattle.normalizer_tables.specs.declared.condition.Condition.TheVariants as condition;
 
 use crate::characters::{CODE_POINTS, CharacterData, IgnoredCharacters};
 use crate::condition::Bounds;

@@ -1,17 +1,9 @@
 //! The check of data from which classes alone are read.
-use crate::tables::edits::{Broken, Check, Edit, edited, wrong_first, wrong_row};
+use crate::tables::edits::{Broken, Check, Edit, edited, number_of, wrong_first, wrong_row};
 use normalizer_tables::class_check::first_failing_of_classes;
-use normalizer_tables::class_condition::ClassCondition;
 use std::alloc::Global;
 
 struct ClassCheck;
-
-fn number_of(condition: Option<ClassCondition>) -> u8 {
-    match condition {
-        Some(condition) => condition.number(),
-        None => 0,
-    }
-}
 
 impl Check for ClassCheck {
     fn finds(&self, alloc: Global, edits: &[Edit], condition: u8) -> bool {

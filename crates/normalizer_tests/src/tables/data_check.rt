@@ -1,20 +1,13 @@
 //! The complete check of data by which text is decomposed.
-use crate::tables::edits::{Check, Edit, REFUSED, edited, wrong_first, wrong_row};
+use crate::tables::edits::{Check, Edit, REFUSED, edited, number_of, wrong_first, wrong_row};
 use normalizer_tables::characters::CharacterData;
 use normalizer_tables::check::first_failing;
-use normalizer_tables::condition::{Bounds, Condition, DECOMPOSING};
+use normalizer_tables::condition::{Bounds, DECOMPOSING};
 use std::alloc::Global;
 
 /// The check of decomposing data, of the mapper or not.
 struct DataCheck {
     is_mapper: bool,
-}
-
-fn number_of(condition: Option<Condition>) -> u8 {
-    match condition {
-        Some(condition) => condition.number(),
-        None => 0,
-    }
 }
 
 impl Check for DataCheck {

@@ -1,4 +1,5 @@
 //! Data that pass, and edits of them that break one condition each.
+use normalizer_tables::condition::Condition;
 use normalizer_tables::{
     CodePointTable, DecompositionData, DecompositionTables, NonRecursiveDecompositionSupplement,
     Scalars16, Scalars24,
@@ -18,6 +19,14 @@ const RANGES: [Range; 7] = [
     (0xD800, 0xDFFF, 0xC000_FFFD),
     (0xFFFD, 0xFFFD, 0x4000_0000),
 ];
+
+/// The number of a condition that fails, or 0 where none does.
+pub(crate) fn number_of(condition: Option<Condition>) -> u8 {
+    match condition {
+        Some(condition) => condition.number(),
+        None => 0,
+    }
+}
 
 /// A change of data that pass.
 #[derive(Clone, Copy)]

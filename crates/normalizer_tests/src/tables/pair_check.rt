@@ -1,18 +1,10 @@
 //! The check of composing pairs, and of decomposition data by the pairs.
-use crate::tables::edits::{Range, data_of, tables_of};
+use crate::tables::edits::{Range, data_of, number_of, tables_of};
 use crate::tables::pairs::{Pair, compositions};
 use normalizer_tables::characters::CharacterData;
 use normalizer_tables::condition::Bounds;
 use normalizer_tables::pair_check::first_failing_of_pairs;
-use normalizer_tables::pair_condition::PairCondition;
 use std::alloc::Global;
-
-fn number_of(condition: Option<PairCondition>) -> u8 {
-    match condition {
-        Some(condition) => condition.number(),
-        None => 0,
-    }
-}
 
 /// Data that are checked against pairs: their words, their cap, and whether they are the mapper's.
 #[derive(Clone, Copy)]

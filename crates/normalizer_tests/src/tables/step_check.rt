@@ -1,21 +1,13 @@
 //! The check of canonical data and the supplement, by which characters are decomposed one step.
 use crate::tables::edits::{
-    Broken, Check, CheckedData, Edit, Range, data_of, edited, supplement_of, tables_of,
+    Broken, Check, CheckedData, Edit, Range, data_of, edited, number_of, supplement_of, tables_of,
     wrong_first, wrong_row,
 };
 use normalizer_tables::NonRecursiveDecompositionSupplement;
 use normalizer_tables::characters::CharacterData;
 use normalizer_tables::condition::Bounds;
 use normalizer_tables::step_check::{first_failing_before_steps, first_failing_of_steps};
-use normalizer_tables::step_condition::StepCondition;
 use std::alloc::Global;
-
-fn number_of(condition: Option<StepCondition>) -> u8 {
-    match condition {
-        Some(condition) => condition.number(),
-        None => 0,
-    }
-}
 
 /// The number of the first condition that data and a supplement break, or 0.
 fn broken_condition(edited: &CheckedData, supplement: &NonRecursiveDecompositionSupplement) -> u8 {

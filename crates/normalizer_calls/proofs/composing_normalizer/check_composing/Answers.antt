@@ -12,7 +12,7 @@ unfolding IsFirstFailing
 returns-in-Some-first_failing_of_pairs-clause-err c =
     let met = rw (c.of_cap-bounds.ensures, c.cap.ensures) at c.in_default.ensures in
     let fails = rw (c.of_cap-bounds.ensures, c.cap.ensures) at c.in-Some-first_failing_of_pairs.ensures in
-    inr (met, (c.in-Some-first_failing_of_pairs.condition, fails, c.refusal_of_pairs.ensures))
+    inr (met, (c.in-Some-first_failing_of_pairs.condition, fails, c.refusal_of-in-Some-first_failing_of_pairs.ensures))
 
 pub returns-in-None-clause-ok : goal.returns-in-None-clause-ok
 unfolding IsFirstFailing

@@ -1,0 +1,47 @@
+//! How data that break a written condition are answered.
+ghost use Rattle.std.specs.Prelude.{◌≡◌};
+ghost use Rattle.normalizer_tables.specs.Refusals.{marker_of, refusal_of};
+
+use crate::condition::Condition;
+use crate::provider::{DataError, DataMarkerInfo};
+
+/// The marker that is named where a condition fails, if the decomposition data have this one.
+pub fn marker_of(data_marker: DataMarkerInfo, condition: Condition) -> DataMarkerInfo
+    ensures { result ≡ marker_of data_marker condition }
+{
+    match condition {
+        Condition::ItemLimit => DataMarkerInfo::NormalizerNfdTablesV1,
+        Condition::Pairs | Condition::PairOrder | Condition::Results => {
+            DataMarkerInfo::NormalizerNfcV1
+        }
+        Condition::FdfaForms => DataMarkerInfo::NormalizerNfdDataV1,
+        Condition::Steps => DataMarkerInfo::NormalizerNfdSupplementV1,
+        Condition::CapLimit
+        | Condition::ReplacementCharacter
+        | Condition::Surrogates
+        | Condition::PastTheEnd
+        | Condition::Hangul
+        | Condition::Words
+        | Condition::Members
+        | Condition::Order
+        | Condition::Passthrough
+        | Condition::RoundTrip
+        | Condition::SafeBeginning
+        | Condition::SurrogateClasses
+        | Condition::WordClasses => data_marker,
+    }
+}
+
+/// How a condition that fails is answered, if the decomposition data have this marker.
+pub fn refusal_of(data_marker: DataMarkerInfo, condition: Condition) -> DataError
+    ensures { result ≡ refusal_of data_marker condition }
+{
+    let marker = marker_of(data_marker, condition);
+    if condition == Condition::ItemLimit {
+        return DataError::FutureExtension(marker);
+    }
+    DataError::Invalid {
+        marker,
+        condition: condition.number(),
+    }
+}
