@@ -1,9 +1,10 @@
 -- Where a form that is written into a check sink is refused, its input is cut.
 use Rattle.std.proofs.Common.{◌≡◌, ℕ, suc, ◌-◌, ◌≤◌, List, [], ◌∷◌, ◌++◌, length, take, drop, Result, Ok, Err, Option, Some, None}
-use Rattle.std.proofs.Common.{refl, sym, ap, subst, ◌∙◌, arith, append_assoc, append-nil, length-append, take-append-drop}
+use Rattle.std.proofs.Common.{refl, sym, ap, subst, ◌∙◌, arith, append_assoc, length-append, length-take-le, take-append-drop}
 use Rattle.std.proofs.lemmas.List.{append_cancel_left, take_at}
 use Rattle.std.proofs.Math.Seq.{take-append_seam}
-use Rattle.std.specs.Prelude.{⊤, Bool}
+use Rattle.std.specs.Prelude.{⊤, ◌↔◌, Bool, true, false, not, IsTrue}
+use Rattle.std.specs.Option.{is_some}
 use Rattle.normal_forms.specs.Reading.{Reading}
 use Rattle.normal_forms.specs.declared.Form.{Form}
 use Rattle.normal_forms.specs.Cut.{IsFront}
@@ -21,15 +22,17 @@ use Rattle.normalizer_text.proofs.EncodingRules.{IsDecoding-first}
 use Rattle.normalizer_text.proofs.StepLemmas.{decoded-nil, decoded-some}
 use Rattle.normalizer_text.proofs.OutputLemmas.{encoded_in-append, encoded_in-nil}
 use Rattle.normalizer_input.specs.InputCut.{IsInputNormalized, IsInputCut}
-use Rattle.normalizer_input.specs.InputOffence.{IsInputOffence}
+use Rattle.normalizer_input.specs.InputOffence.{IsInputOffence, IsInputOffenceOf}
+use Rattle.normalizer_input.specs.declared.offence.Offence.{Offence}
 use Rattle.normalizer_input.specs.EncodedForm.{encoded_form, IsEncodedFront}
 use Rattle.normalizer_input.proofs.EncodedFormLemmas.{is_normalized_iff_encoded_form, form_ends_with_units, longest_encoded_is_cut}
 use Rattle.normalizer_input.proofs.InputBoundaryLemmas.{boundary_of_front, decoded-parts}
-use Rattle.normalizer_input.proofs.InputCutLemmas.{input_cut_unique}
-use Rattle.normalizer_input.proofs.InputOffenceLemmas.{input_offence_exists}
+use Rattle.normalizer_input.proofs.InputCutLemmas.{front_at_input_cut, input_cut_unique, rest_at_input_cut}
+use Rattle.normalizer_input.proofs.InputOffenceLemmas.{continued_input_offence, input_offence_exists}
 use Rattle.normalizer_iterators.specs.declared.error.NormalizeError.{NormalizeError}
 use Rattle.normalizer_iterators.specs.declared.error.NormalizeError.TheVariants.{Sink}
-use Rattle.normalizer_calls.specs.Checks.{IsCutUnlessNormalized}
+use Rattle.normalizer_calls.specs.Checks.{IsCutUnlessNormalized, IsLastingOffence, IsSplitAtCut}
+use Rattle.normalizer_calls.specs.Forms.{MadeForm}
 use Rattle.normalizer_calls.specs.Writing.{WasRefusedPiece, WritesText}
 
 module _ (e : Encoding) (d : Reading) (form : Form) (units : List ℕ) where
@@ -150,3 +153,30 @@ module _ (e : Encoding) (d : Reading) (form : Form) (units : List ℕ) where
     -- the step in front has the first character
     pub found_at : (rest : List ℕ) (s : Step) → IsFirstStep (first_in e) rest s → IsFirst (decoded_in e rest) s.character
     found_at rest s first = (decoded_in e (drop (first_in e rest).width rest), decoded-some (first_in e) (IsDecoding-first e) rest first.some ∙ ap (λ t. t.character ∷ decoded_in e (drop (first_in e rest).width rest)) (sym first.is))
+
+-- nothing is answered exactly where the units are well-formed and their own form
+pub is_none_iff_normalized : (e : Encoding) (d : Reading) (form : Form) (units : List ℕ) (cut : Option ℕ) (r : Bool) → is_some cut ≡ not r → IsCutUnlessNormalized e d form units cut
+    → IsTrue r ↔ IsInputNormalized e d form units
+is_none_iff_normalized e d form units None true is h = (λ _. h, λ _. refl)
+is_none_iff_normalized e d form units None false is h = absurd (cc)
+is_none_iff_normalized e d form units (Some place) true is h = absurd (cc)
+is_none_iff_normalized e d form units (Some place) false is h = (λ k. (let no : false ≡ true = k in cc), λ own. absurd (h.0 own))
+
+-- an offence lasts
+pub IsLastingOffence-found : (m : MadeForm) (e : Encoding) (units : List ℕ) → SuitsTexts m.reading m.form → (answer : Option Offence) → IsInputOffenceOf e m.reading m.form units answer → IsLastingOffence m e units answer
+IsLastingOffence-found m e units suits answer h = record {
+  offence = h;
+  lasts = λ w o is more.
+      continued_input_offence e m.reading m.form suits.laws suits.inhabited units more o.place o.found o.wanted w
+      (subst (IsInputOffenceOf e m.reading m.form units) is h);
+}
+
+-- the parts at the cut
+pub IsSplitAtCut-parts : (m : MadeForm) (e : Encoding) (units : List ℕ) → SuitsTexts m.reading m.form → (place : ℕ) → IsInputCut e m.reading m.form units place
+    → IsSplitAtCut m e units (take place units) (drop place units)
+IsSplitAtCut-parts m e units suits place cut = record {
+  parts = sym (take-append-drop place units);
+  cut = subst (IsInputCut e m.reading m.form units) (sym (length-take-le place units cut.qualifies.within)) cut;
+  own = front_at_input_cut e m.reading m.form suits.laws units place cut.qualifies;
+  differs = rest_at_input_cut e m.reading m.form units place cut;
+}

@@ -1,10 +1,18 @@
 -- What calls tell that compare an input with its form.
-use Rattle.std.specs.Prelude.{◌≡◌, ℕ, List, [], Option, MatchOption}
+use Rattle.std.specs.Prelude.{◌≡◌, ◌↔◌, ℕ, ◌≤◌, Bool, List, [], ◌++◌, length, Option, MatchOption, Result, IfOk, IsOk, IsOkUnless, IsTrue}
+use Rattle.std.specs.Option.{ForSome}
 use Rattle.normal_forms.specs.Reading.{Reading}
 use Rattle.normal_forms.specs.declared.Form.{Form}
 use Rattle.normal_forms.specs.Offence.{IsFirst}
-use Rattle.normalizer_text.specs.Encodings.{Encoding}
+use Rattle.normal_forms.specs.ShortRuns.{HasShortRuns}
+use Rattle.normalizer_text.specs.Steps.{IsWellFormed}
+use Rattle.normalizer_text.specs.Encodings.{Encoding, first_in, decoded_in}
+use Rattle.normalizer_input.specs.declared.offence.Offence.{Offence}
 use Rattle.normalizer_input.specs.InputCut.{IsInputNormalized, IsInputCut}
+use Rattle.normalizer_input.specs.InputOffence.{IsInputOffence, IsInputOffenceOf}
+use Rattle.normalizer_iterators.specs.declared.error.NormalizeError.{NormalizeError}
+use Rattle.normalizer_iterators.specs.declared.error.NormalizeError.TheVariants.{Memory}
+use Rattle.normalizer_calls.specs.Forms.{MadeForm}
 
 -- where the units are cut, or nothing where they are well-formed and their own form
 abbrev pub IsCutUnlessNormalized : Encoding → Reading → Form → List ℕ → Option ℕ → Type 0
@@ -14,3 +22,38 @@ IsCutUnlessNormalized e d form units answer = MatchOption answer (IsInputNormali
 -- what x begins with, or nothing where x is empty
 abbrev pub IsFirstOrNone : List ℕ → Option ℕ → Type 0
 IsFirstOrNone x first = MatchOption first (x ≡ []) (IsFirst x)
+
+-- The answer is as it is to be. `Memory` is the only fault, and never comes where what the units decode to has short
+-- runs.
+pub record AnswersOf {A : Type 0} (m : MadeForm) (e : Encoding) (units : List ℕ) (Is : A → Type 0)
+    (answer : Result A NormalizeError) : Type 0 where
+  pub is : IfOk answer Is
+  pub room : HasShortRuns m.has_class_form m.reading (decoded_in e units) → IsOk answer
+  pub refused : IsOkUnless answer Memory
+
+-- yes exactly where the units are well-formed and their own form
+abbrev pub ChecksForm : MadeForm → Encoding → List ℕ → Result Bool NormalizeError → Type 0
+ChecksForm m e units answer =
+    AnswersOf m e units (λ yes. IsTrue yes ↔ IsInputNormalized e m.reading m.form units) answer
+
+-- the units have a first offence, at the place or before it
+abbrev pub HasOffenceWithin : MadeForm → Encoding → List ℕ → ℕ → Type 0
+HasOffenceWithin m e units place =
+    (n : ℕ) × (found : ℕ) × (wanted : ℕ) × IsInputOffence e m.reading m.form units n found wanted × (n ≤ place)
+
+-- The first offence of the units, or none where they are well-formed and their own form. An offence of well-formed units
+-- is mended by nothing that is put behind them.
+pub record IsLastingOffence (m : MadeForm) (e : Encoding) (units : List ℕ) (answer : Option Offence) : Type 0 where
+  pub offence : IsInputOffenceOf e m.reading m.form units answer
+  pub lasts : IsWellFormed (first_in e) units
+      → ForSome answer (λ o. (more : List ℕ) → HasOffenceWithin m e (units ++ more) o.place)
+
+abbrev pub FindsOffence : MadeForm → Encoding → List ℕ → Result (Option Offence) NormalizeError → Type 0
+FindsOffence m e units answer = AnswersOf m e units (IsLastingOffence m e units) answer
+
+-- The units in two parts, at their cut: the prefix is well-formed and its own form, the rest is empty or is not both.
+pub record IsSplitAtCut (m : MadeForm) (e : Encoding) (units prefix rest : List ℕ) : Type 0 where
+  pub parts : units ≡ prefix ++ rest
+  pub cut : IsInputCut e m.reading m.form units (length prefix)
+  pub own : IsInputNormalized e m.reading m.form prefix
+  pub differs : IsInputNormalized e m.reading m.form rest → rest ≡ []

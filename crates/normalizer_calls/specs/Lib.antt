@@ -2,6 +2,7 @@ pub mod Acceptance
 pub mod Checks
 pub mod ComposingAcceptance
 pub mod ComposingNormalizers
+pub mod Forms
 pub mod FormsWritten
 pub mod Normalizers
 pub mod Serving

@@ -1,4 +1,3 @@
-use Rattle.std.proofs.Common.{◌≡◌}
 use Rattle.normalizer_calls.proofs.CheckLemmas.{normalized_where_expected, differs_where_refused, cut_where_refused}
 use Rattle.normalizer_calls.proofs.offence.cut_of.Goals as goal
 

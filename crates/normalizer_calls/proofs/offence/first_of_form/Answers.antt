@@ -1,4 +1,3 @@
-use Rattle.std.proofs.Common.{◌≡◌}
 use Rattle.normalizer_calls.proofs.WritingLemmas.{SpellsUnless-next, SpellsUnless-end, SpellsUnless-fault, SpellsOk-no_fault}
 use Rattle.normalizer_calls.proofs.offence.first_of_form.Goals as goal
 

@@ -1,4 +1,3 @@
-use Rattle.std.proofs.Common.{◌≡◌}
 use Rattle.normalizer_calls.proofs.CheckLemmas.{boundary_at_cut, short_behind_cut, some_behind_cut, wanted_behind_cut, offence_at_cut, found_at}
 use Rattle.normalizer_calls.proofs.offence.offence_of.Goals as goal
 

@@ -1,0 +1,121 @@
+//! Whether text, bytes and 16-bit units are their own normal form, and where they first are not.
+ghost use Rattle.normalizer_text.specs.Encodings.{Encoding};
+ghost use Rattle.normalizer_calls.specs.Checks.{ChecksForm, FindsOffence};
+ghost use Rattle.normalizer_calls.specs.Forms.{composed_by, decomposed_by, made_form};
+
+use crate::offence::{LawfulItems, cut_of, offence_of};
+use crate::{ComposingNormalizerBorrowed, DecomposingNormalizerBorrowed};
+use normalizer_input::Offence;
+use normalizer_iterators::NormalizeError;
+use normalizer_text::Chars;
+use normalizer_text::check_sink::Expected;
+
+/// Whether the units are well-formed and their own form.
+fn is_own_form<U: Expected, N: LawfulItems<Chars<U>>>(
+    normalizer: &N,
+    units: U,
+) -> Result<bool, NormalizeError>
+    ensures { ChecksForm (made_form (N.has_class_form normalizer.now) (N.reading normalizer.now) N.form)
+        U.encoding (U.units units) result }
+{
+    Ok(cut_of(normalizer, units)?.is_none())
+}
+
+/// The first offence of the units, which lasts whatever is put behind them.
+fn lasting_offence_of<U: Expected, N: LawfulItems<Chars<U>>>(
+    normalizer: &N,
+    units: U,
+) -> Result<Option<Offence>, NormalizeError>
+    ensures { FindsOffence (made_form (N.has_class_form normalizer.now) (N.reading normalizer.now) N.form)
+        U.encoding (U.units units) result }
+{
+    offence_of(normalizer, units)
+}
+
+impl<'a> DecomposingNormalizerBorrowed<'a> {
+    /// Whether a text is its own decomposed form.
+    pub fn is_normalized(&self, text: &str) -> Result<bool, NormalizeError>
+        ensures { ChecksForm (decomposed_by self.now) Encoding.Utf8 text.now result }
+    {
+        is_own_form::<&str, Self>(self, text)
+    }
+
+    /// Whether bytes are well-formed and their own decomposed form.
+    pub fn is_normalized_utf8(&self, bytes: &[u8]) -> Result<bool, NormalizeError>
+        ensures { ChecksForm (decomposed_by self.now) Encoding.Utf8 bytes.now result }
+    {
+        is_own_form::<&[u8], Self>(self, bytes)
+    }
+
+    /// Whether 16-bit units are well-formed and their own decomposed form.
+    pub fn is_normalized_utf16(&self, units: &[u16]) -> Result<bool, NormalizeError>
+        ensures { ChecksForm (decomposed_by self.now) Encoding.Utf16 units.now result }
+    {
+        is_own_form::<&[u16], Self>(self, units)
+    }
+
+    /// The first place at which a text is not its own decomposed form, in bytes.
+    pub fn first_offence(&self, text: &str) -> Result<Option<Offence>, NormalizeError>
+        ensures { FindsOffence (decomposed_by self.now) Encoding.Utf8 text.now result }
+    {
+        lasting_offence_of::<&str, Self>(self, text)
+    }
+
+    /// The first place at which bytes are ill-formed or not their own decomposed form.
+    pub fn first_offence_utf8(&self, bytes: &[u8]) -> Result<Option<Offence>, NormalizeError>
+        ensures { FindsOffence (decomposed_by self.now) Encoding.Utf8 bytes.now result }
+    {
+        lasting_offence_of::<&[u8], Self>(self, bytes)
+    }
+
+    /// The first place at which 16-bit units are ill-formed or not their own decomposed form, in such units.
+    pub fn first_offence_utf16(&self, units: &[u16]) -> Result<Option<Offence>, NormalizeError>
+        ensures { FindsOffence (decomposed_by self.now) Encoding.Utf16 units.now result }
+    {
+        lasting_offence_of::<&[u16], Self>(self, units)
+    }
+}
+
+impl<'a> ComposingNormalizerBorrowed<'a> {
+    /// Whether a text is its own composed form.
+    pub fn is_normalized(&self, text: &str) -> Result<bool, NormalizeError>
+        ensures { ChecksForm (composed_by self.now) Encoding.Utf8 text.now result }
+    {
+        is_own_form::<&str, Self>(self, text)
+    }
+
+    /// Whether bytes are well-formed and their own composed form.
+    pub fn is_normalized_utf8(&self, bytes: &[u8]) -> Result<bool, NormalizeError>
+        ensures { ChecksForm (composed_by self.now) Encoding.Utf8 bytes.now result }
+    {
+        is_own_form::<&[u8], Self>(self, bytes)
+    }
+
+    /// Whether 16-bit units are well-formed and their own composed form.
+    pub fn is_normalized_utf16(&self, units: &[u16]) -> Result<bool, NormalizeError>
+        ensures { ChecksForm (composed_by self.now) Encoding.Utf16 units.now result }
+    {
+        is_own_form::<&[u16], Self>(self, units)
+    }
+
+    /// The first place at which a text is not its own composed form, in bytes.
+    pub fn first_offence(&self, text: &str) -> Result<Option<Offence>, NormalizeError>
+        ensures { FindsOffence (composed_by self.now) Encoding.Utf8 text.now result }
+    {
+        lasting_offence_of::<&str, Self>(self, text)
+    }
+
+    /// The first place at which bytes are ill-formed or not their own composed form.
+    pub fn first_offence_utf8(&self, bytes: &[u8]) -> Result<Option<Offence>, NormalizeError>
+        ensures { FindsOffence (composed_by self.now) Encoding.Utf8 bytes.now result }
+    {
+        lasting_offence_of::<&[u8], Self>(self, bytes)
+    }
+
+    /// The first place at which 16-bit units are ill-formed or not their own composed form, in such units.
+    pub fn first_offence_utf16(&self, units: &[u16]) -> Result<Option<Offence>, NormalizeError>
+        ensures { FindsOffence (composed_by self.now) Encoding.Utf16 units.now result }
+    {
+        lasting_offence_of::<&[u16], Self>(self, units)
+    }
+}

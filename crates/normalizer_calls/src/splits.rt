@@ -1,0 +1,121 @@
+//! Text, bytes and 16-bit units in two parts: the front that stays as it is, and the rest.
+ghost use Rattle.std.specs.Prelude.{◌≡◌};
+ghost use Rattle.normalizer_text.specs.Encodings.{Encoding};
+ghost use Rattle.normalizer_text.specs.Steps.{IsWellFormed};
+ghost use Rattle.normalizer_text.specs.Utf8.{first_of_utf8};
+ghost use Rattle.normalizer_input.specs.InputCut.{IsInputCut};
+ghost use Rattle.normalizer_calls.specs.Checks.{AnswersOf, IsSplitAtCut};
+ghost use Rattle.normalizer_calls.specs.Forms.{composed_by, decomposed_by, made_form};
+
+use crate::offence::{LawfulItems, cut_of};
+use crate::{ComposingNormalizerBorrowed, DecomposingNormalizerBorrowed};
+use normalizer_iterators::NormalizeError;
+use normalizer_text::Chars;
+use normalizer_text::check_sink::Expected;
+
+/// Where the units are cut: at their end where they are well-formed and their own form.
+pub(crate) fn place_of_cut<U: Expected, N: LawfulItems<Chars<U>>>(
+    normalizer: &N,
+    units: U,
+) -> Result<usize, NormalizeError>
+    ensures { AnswersOf (made_form (N.has_class_form normalizer.now) (N.reading normalizer.now) N.form)
+        U.encoding (U.units units) (IsInputCut U.encoding (N.reading normalizer.now) N.form (U.units units)) result }
+{
+    match cut_of(normalizer, units)? {
+        Some(place) => Ok(place),
+        None => Ok(units.len()),
+    }
+}
+
+/// The units in two parts, at their cut.
+pub(crate) fn split_at_cut<U: Expected, N: LawfulItems<Chars<U>>>(
+    normalizer: &N,
+    units: U,
+) -> Result<(U, U), NormalizeError>
+    ensures { AnswersOf (made_form (N.has_class_form normalizer.now) (N.reading normalizer.now) N.form)
+        U.encoding (U.units units) (λ parts. IsSplitAtCut
+        (made_form (N.has_class_form normalizer.now) (N.reading normalizer.now) N.form)
+        U.encoding (U.units units) (U.units parts.0) (U.units parts.1)) result }
+{
+    let place = place_of_cut(normalizer, units)?;
+    Ok((units.before(place), units.after(place)))
+}
+
+impl<'a> DecomposingNormalizerBorrowed<'a> {
+    /// A text in two parts: the longest front that the decomposed form leaves as it is, whatever it does to the rest, and
+    /// the rest.
+    pub fn split_normalized<'t>(&self, text: &'t str) -> Result<(&'t str, &'t str), NormalizeError>
+        ensures { AnswersOf (decomposed_by self.now) Encoding.Utf8 text.now
+            (λ parts. IsSplitAtCut (decomposed_by self.now) Encoding.Utf8 text.now parts.0.now parts.1.now) result }
+    {
+        split_at_cut::<&'t str, Self>(self, text)
+    }
+
+    /// Bytes in two parts: the longest well-formed front that the decomposed form leaves as it is, and the rest.
+    pub fn split_normalized_utf8<'t>(
+        &self,
+        bytes: &'t [u8],
+    ) -> Result<(&'t str, &'t [u8]), NormalizeError>
+        ensures { AnswersOf (decomposed_by self.now) Encoding.Utf8 bytes.now
+            (λ parts. IsSplitAtCut (decomposed_by self.now) Encoding.Utf8 bytes.now parts.0.now parts.1.now) result }
+    {
+        let (prefix, rest) = split_at_cut::<&'t [u8], Self>(self, bytes)?;
+        Ok((text_of(prefix), rest))
+    }
+
+    /// 16-bit units in two parts: the longest well-formed front that the decomposed form leaves as it is, and the rest.
+    pub fn split_normalized_utf16<'t>(
+        &self,
+        units: &'t [u16],
+    ) -> Result<(&'t [u16], &'t [u16]), NormalizeError>
+        ensures { AnswersOf (decomposed_by self.now) Encoding.Utf16 units.now
+            (λ parts. IsSplitAtCut (decomposed_by self.now) Encoding.Utf16 units.now parts.0.now parts.1.now) result }
+    {
+        split_at_cut::<&'t [u16], Self>(self, units)
+    }
+}
+
+impl<'a> ComposingNormalizerBorrowed<'a> {
+    /// A text in two parts: the longest front that the composed form leaves as it is, whatever it does to the rest, and
+    /// the rest.
+    pub fn split_normalized<'t>(&self, text: &'t str) -> Result<(&'t str, &'t str), NormalizeError>
+        ensures { AnswersOf (composed_by self.now) Encoding.Utf8 text.now
+            (λ parts. IsSplitAtCut (composed_by self.now) Encoding.Utf8 text.now parts.0.now parts.1.now) result }
+    {
+        split_at_cut::<&'t str, Self>(self, text)
+    }
+
+    /// Bytes in two parts: the longest well-formed front that the composed form leaves as it is, and the rest.
+    pub fn split_normalized_utf8<'t>(
+        &self,
+        bytes: &'t [u8],
+    ) -> Result<(&'t str, &'t [u8]), NormalizeError>
+        ensures { AnswersOf (composed_by self.now) Encoding.Utf8 bytes.now
+            (λ parts. IsSplitAtCut (composed_by self.now) Encoding.Utf8 bytes.now parts.0.now parts.1.now) result }
+    {
+        let (prefix, rest) = split_at_cut::<&'t [u8], Self>(self, bytes)?;
+        Ok((text_of(prefix), rest))
+    }
+
+    /// 16-bit units in two parts: the longest well-formed front that the composed form leaves as it is, and the rest.
+    pub fn split_normalized_utf16<'t>(
+        &self,
+        units: &'t [u16],
+    ) -> Result<(&'t [u16], &'t [u16]), NormalizeError>
+        ensures { AnswersOf (composed_by self.now) Encoding.Utf16 units.now
+            (λ parts. IsSplitAtCut (composed_by self.now) Encoding.Utf16 units.now parts.0.now parts.1.now) result }
+    {
+        split_at_cut::<&'t [u16], Self>(self, units)
+    }
+}
+
+/// Well-formed bytes as a text.
+pub(crate) fn text_of<'t>(bytes: &'t [u8]) -> &'t str
+    requires { IsWellFormed first_of_utf8 bytes.now }
+    ensures { result.now ≡ bytes.now }
+{
+    match str::from_utf8(bytes) {
+        Ok(text) => text,
+        Err(_) => unreachable!(),
+    }
+}
