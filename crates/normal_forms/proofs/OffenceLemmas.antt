@@ -8,7 +8,7 @@ use Rattle.normal_forms.specs.Hypotheses.{HasInhabitedLists, SuitsForm}
 use Rattle.normal_forms.specs.Cut.{QualifiesForCut, IsCut, IsCommonFront, IsFront}
 use Rattle.normal_forms.specs.Offence.{IsFirstOffence}
 use Rattle.normal_forms.proofs.VisitLemmas.{pairs_for, normal_form-composed, pairs_for-full, pairs_for-faithful, pairs_for-inhabited}
-use Rattle.normal_forms.proofs.PlaceLemmas.{form_of_nothing, form_is_nothing, normalized_iff_cut, cut_of, cut_below, offence_of}
+use Rattle.normal_forms.proofs.PlaceLemmas.{cut_below, offence_of}
 pub use Rattle.normal_forms.proofs.PlaceLemmas.{cut_unique}
 use Rattle.normal_forms.proofs.CutLemmas.{suffix_of_form, rest_of_common_front, front_of_form, form_of_offered_front}
 use Rattle.normal_forms.proofs.AppendLemmas.{front_without_continuation, front_of_form_is_form}
@@ -230,17 +230,3 @@ pub continued_offence : (d : Reading) (form : Form) → SuitsForm d form → Has
 continued_offence d form suits inhabited x y place found wanted offence =
     let longer = offence_of d form inhabited (x ++ y) (continued_differs d form suits x y offence.differs) in
     (longer.0, longer.1, longer.2, longer.3, continued_cut d form suits x y place longer.0 offence.differs offence.cut longer.3.cut)
-
--- ---- the same by a reading that suits the form, for those who have one
-
-pub normal_form-nil : (d : Reading) (form : Form) → SuitsForm d form → normal_form d form [] ≡ []
-normal_form-nil d form suits = form_of_nothing d form
-
-pub normal_form-empty : (d : Reading) (form : Form) → SuitsForm d form → HasInhabitedLists d → (x : List ℕ) → normal_form d form x ≡ [] → x ≡ []
-normal_form-empty d form suits inhabited = form_is_nothing d form inhabited
-
-pub is_normalized_iff_cut : (d : Reading) (form : Form) → SuitsForm d form → (x : List ℕ) → IsNormalized d form x ↔ IsCut d form x (length x)
-is_normalized_iff_cut d form suits = normalized_iff_cut d form
-
-pub cut_exists : (d : Reading) (form : Form) → SuitsForm d form → (x : List ℕ) → (n : ℕ) × IsCut d form x n
-cut_exists d form suits = cut_of d form

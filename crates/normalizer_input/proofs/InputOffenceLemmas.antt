@@ -9,13 +9,13 @@ use Rattle.normal_forms.specs.Forms.{normal_form}
 use Rattle.normal_forms.specs.Hypotheses.{HasInhabitedLists, SuitsForm}
 use Rattle.normal_forms.specs.Cut.{QualifiesForCut, IsCut}
 use Rattle.normal_forms.specs.Offence.{IsFirst, IsFirstOffence}
-use Rattle.normal_forms.proofs.OffenceLemmas.{cut_exists, found_differs, parts_of_form, continued_cut}
+use Rattle.normal_forms.proofs.OffenceLemmas.{found_differs, parts_of_form, continued_cut}
 use Rattle.normalizer_text.specs.Steps.{steps, IsWellFormed}
 use Rattle.normalizer_text.specs.Encodings.{Encoding, first_in, decoded_in}
 use Rattle.normalizer_text.proofs.EncodingRules.{IsDecoding-first}
 use Rattle.normalizer_text.proofs.BoundaryLemmas.{width_of-fewer}
 use Rattle.normalizer_text.proofs.StepLemmas.{decoded-some, steps-append, decoded-append}
-use Rattle.normal_forms.proofs.PlaceLemmas.{form_of_nothing, form_is_nothing, at_seam}
+use Rattle.normal_forms.proofs.PlaceLemmas.{cut_of, form_of_nothing, form_is_nothing, at_seam}
 use Rattle.normalizer_input.specs.InputCut.{IsInputNormalized, IsInputCut, characters_before, IsErrorAt}
 use Rattle.normalizer_input.specs.InputOffence.{IsInputOffence, IsInputOffenceOf}
 use Rattle.normalizer_input.specs.declared.offence.Offence.{Offence}
@@ -94,7 +94,7 @@ module _ (e : Encoding) (d : Reading) (form : Form) where
   -- what is found is not what is wanted, or an error stands at the place
   pub input_found_differs : SuitsForm d form → (units : List ℕ) (place found wanted : ℕ) → IsInputOffence e d form units place found wanted → (found ≢ wanted) ⊎ IsErrorAt e units place
   input_found_differs suits units place found wanted offence =
-      let text = cut_exists d form suits (decoded_in e units) in
+      let text = cut_of d form (decoded_in e units) in
       elim (cut_ends e d form suits units place text.0 offence.cut text.1).1 [
         | inl same ↦
             let cut : IsCut d form (decoded_in e units) (characters_before e units place) = subst (IsCut d form (decoded_in e units)) (sym same) text.1 in
@@ -136,7 +136,7 @@ module _ (e : Encoding) (d : Reading) (form : Form) where
       let y : List ℕ = decoded_in e more in
       let apart : decoded_in e (units ++ more) ≡ x ++ y = decoded-append (first_in e) (IsDecoding-first e) units more w in
       let text = cut_of_well_formed e d form units n w cut in
-      let text_longer = cut_exists d form suits (x ++ y) in
+      let text_longer = cut_of d form (x ++ y) in
       let here = boundary_of_front e units n cut.qualifies.within cut.qualifies.well_formed in
       let there = (qualifies_iff_characters e d form (units ++ more) m).0 longer.qualifies in
       let within = text_longer.1.greatest (characters_before e (units ++ more) m) (subst (λ l. QualifiesForCut d form l (characters_before e (units ++ more) m)) apart there.1) in
