@@ -1,6 +1,6 @@
 -- What an iterator of normalized text gives, from what is to come of it.
 use Rattle.std.proofs.Common.{◌≡◌, ℕ, Bool, IfOk, IsOk, IsOkUnless, List, [], ◌∷◌, Option, Some, None, Result, Ok, Err, All, MatchOption, MatchResult, refl, sym, ap, subst}
-use Rattle.std.proofs.lemmas.List.Elements.{All-nil, All-cons, All-head}
+use Rattle.std.proofs.lemmas.List.Elements.{All-nil, All-cons, All-head, All-tail}
 use Rattle.std.specs.Iterator.{Count}
 use Rattle.normal_forms.specs.Reading.{Reading}
 use Rattle.normal_forms.specs.ShortRuns.{HasShortRuns}
@@ -23,26 +23,48 @@ module _ {S E : Type 0} (gives : S → Option (Result ℕ E) → S → Type 0) w
   SpellsUnless-next fault s t c [] step h = absurd (h (Some (Ok c)) t step)
   SpellsUnless-next fault s t c (d ∷ x) step h = let next = h (Some (Ok c)) t step in (x, ap (λ e. e ∷ x) (sym next.0), next.1)
 
-  -- where none came, none was left
-  pub SpellsUnless-end : (fault : E) (s t : S) (x : List ℕ) → gives s None t → SpellsUnless gives fault s x → x ≡ []
-  SpellsUnless-end fault s t [] step h = refl
+  -- where none came, none was left, and the end is reached
+  pub SpellsUnless-end : (fault : E) (s t : S) (x : List ℕ) → gives s None t → SpellsUnless gives fault s x → (x ≡ []) × HasEnded gives t
+  SpellsUnless-end fault s t [] step h = (refl, h None t step)
   SpellsUnless-end fault s t (c ∷ x) step h = absurd (h None t step)
 
-  pub SpellsUnless-fault : (fault : E) (s t : S) (e : E) (x : List ℕ) → gives s (Some (Err e)) t → SpellsUnless gives fault s x → e ≡ fault
-  SpellsUnless-fault fault s t e [] step h = (h (Some (Err e)) t step).0
-  SpellsUnless-fault fault s t e (c ∷ x) step h = (h (Some (Err e)) t step).0
+  pub SpellsUnless-fault : (fault : E) (s t : S) (e : E) (x : List ℕ) → gives s (Some (Err e)) t → SpellsUnless gives fault s x → (e ≡ fault) × HasEnded gives t
+  SpellsUnless-fault fault s t e [] step h = h (Some (Err e)) t step
+  SpellsUnless-fault fault s t e (c ∷ x) step h = h (Some (Err e)) t step
 
-  -- where the end was reached, `None` comes
-  HasEnded-next : (s t : S) (r : Option (Result ℕ E)) → gives s r t → HasEnded gives s → r ≡ None
-  HasEnded-next s t r step h = All-head (λ q. q ≡ None) r [] (h.at (r ∷ []) t (t, step, refl))
+  -- where the end was reached, `None` comes, and the end stays reached
+  pub HasEnded-next : (s t : S) (r : Option (Result ℕ E)) → gives s r t → HasEnded gives s → (r ≡ None) × HasEnded gives t
+  HasEnded-next s t r step h = (
+    All-head (λ q. q ≡ None) r [] (h.at (r ∷ []) t (t, step, refl)),
+    record { at = λ rs u answers. All-tail (λ q. q ≡ None) r rs (h.at (r ∷ rs) u (t, step, answers)) },
+  )
 
   pub SpellsOk-next : (s t : S) (c : ℕ) (x : List ℕ) → gives s (Some (Ok c)) t → SpellsOk gives s x → (rest : List ℕ) × (x ≡ c ∷ rest) × SpellsOk gives t rest
-  SpellsOk-next s t c [] step h = let none = HasEnded-next s t (Some (Ok c)) step h in absurd (cc none)
+  SpellsOk-next s t c [] step h = let none = (HasEnded-next s t (Some (Ok c)) step h).0 in absurd (cc none)
   SpellsOk-next s t c (d ∷ x) step h = let next = h (Some (Ok c)) t step in let same : c ≡ d = cc in (x, ap (λ e. e ∷ x) (sym same), next.1)
 
+  pub SpellsOk-end : (s t : S) (x : List ℕ) → gives s None t → SpellsOk gives s x → (x ≡ []) × HasEnded gives t
+  SpellsOk-end s t [] step h = (refl, (HasEnded-next s t None step h).1)
+  SpellsOk-end s t (c ∷ x) step h = let next = h None t step in absurd (cc (next.0))
+
   pub SpellsOk-no_fault : (s t : S) (e : E) (x : List ℕ) → gives s (Some (Err e)) t → SpellsOk gives s x → ⊥
-  SpellsOk-no_fault s t e [] step h = let none = HasEnded-next s t (Some (Err e)) step h in cc none
+  SpellsOk-no_fault s t e [] step h = let none = (HasEnded-next s t (Some (Err e)) step h).0 in cc none
   SpellsOk-no_fault s t e (c ∷ x) step h = let next = h (Some (Err e)) t step in cc (next.0)
+
+  -- what spells a text without faults spells it whatever fault is awaited
+  pub SpellsUnless-ok : (fault : E) (s : S) (x : List ℕ) → SpellsOk gives s x → SpellsUnless gives fault s x
+  SpellsUnless-ok fault s [] h = λ r t step. at_end r t (HasEnded-next s t r step h)
+    where
+      at_end : (r : Option (Result ℕ E)) (t : S) → (r ≡ None) × HasEnded gives t → MatchOption r (HasEnded gives t) (λ i. MatchResult i (λ c. ⊥) (λ e. (e ≡ fault) × HasEnded gives t))
+      at_end None t ended = ended.1
+      at_end (Some i) t ended = absurd (cc (ended.0))
+  SpellsUnless-ok fault s (c ∷ x) h = λ r t step. at_item (λ u. SpellsUnless-ok fault u x) r t (h r t step)
+    where
+      at_item : ((u : S) → SpellsOk gives u x → SpellsUnless gives fault u x) → (r : Option (Result ℕ E)) (t : S) → (r ≡ Some (Ok c)) × SpellsOk gives t x
+          → MatchOption r ⊥ (λ i. MatchResult i (λ d. (d ≡ c) × SpellsUnless gives fault t x) (λ e. (e ≡ fault) × HasEnded gives t))
+      at_item on None t next = absurd (cc (next.0))
+      at_item on (Some (Ok d)) t next = (cc (next.0), on t next.1)
+      at_item on (Some (Err e)) t next = absurd (cc (next.0))
 
 -- an iterator of normalized text spells what is to come of it
 module _ {S : Type 0} (WillGive : S → List ℕ → Type 0) (StaysShort IsEnded : S → Type 0) (steps : S → Option (Result ℕ NormalizeError) → S → Type 0)
@@ -63,13 +85,15 @@ module _ {S : Type 0} (WillGive : S → List ℕ → Type 0) (StaysShort IsEnded
   pub SpellsUnless-to_come : (s : S) (x : List ℕ) → WillGive s x → SpellsUnless steps Memory s x
   SpellsUnless-to_come s [] h = λ r t step. at_end r t (item s r t step)
     where
-      at_end : (r : Option (Result ℕ NormalizeError)) (t : S) → GivesNext WillGive StaysShort IsEnded s r t → MatchOption r (HasEnded steps t) (λ i. MatchResult i (λ c. ⊥) (λ e. (e ≡ Memory) × HasEnded steps t))
+      at_end : (r : Option (Result ℕ NormalizeError)) (t : S) → GivesNext WillGive StaysShort IsEnded s r t
+          → MatchOption r (HasEnded steps t) (λ i. MatchResult i (λ c. ⊥) (λ e. (e ≡ Memory) × HasEnded steps t))
       at_end None t gave = HasEnded-ended t gave.ends
       at_end (Some (Ok c)) t gave = let first = gave.first [] h in let none : [] ≡ c ∷ first.0 = first.1 in absurd (cc)
       at_end (Some (Err e)) t gave = (gave.fault, HasEnded-ended t gave.ends)
   SpellsUnless-to_come s (c ∷ x) h = λ r t step. at_item (λ u. SpellsUnless-to_come u x) r t (item s r t step)
     where
-      at_item : ((u : S) → WillGive u x → SpellsUnless steps Memory u x) → (r : Option (Result ℕ NormalizeError)) (t : S) → GivesNext WillGive StaysShort IsEnded s r t → MatchOption r ⊥ (λ i. MatchResult i (λ d. (d ≡ c) × SpellsUnless steps Memory t x) (λ e. (e ≡ Memory) × HasEnded steps t))
+      at_item : ((u : S) → WillGive u x → SpellsUnless steps Memory u x) → (r : Option (Result ℕ NormalizeError)) (t : S) → GivesNext WillGive StaysShort IsEnded s r t
+          → MatchOption r ⊥ (λ i. MatchResult i (λ d. (d ≡ c) × SpellsUnless steps Memory t x) (λ e. (e ≡ Memory) × HasEnded steps t))
       at_item on None t gave = let none : c ∷ x ≡ [] = (gave.first (c ∷ x) h).0 in absurd (cc)
       at_item on (Some (Ok d)) t gave =
           let first = gave.first (c ∷ x) h in
@@ -92,7 +116,8 @@ module _ {S : Type 0} (WillGive : S → List ℕ → Type 0) (StaysShort IsEnded
           All-cons (λ q. q ≡ None) r rs next.0 ((HasEnded-ended answers.0 next.1).at rs t answers.2)
   SpellsOk-to_come s (c ∷ x) h short = λ r t step. at_item (λ u. SpellsOk-to_come u x) r t (item s r t step)
     where
-      at_item : ((u : S) → WillGive u x → StaysShort u → SpellsOk steps u x) → (r : Option (Result ℕ NormalizeError)) (t : S) → GivesNext WillGive StaysShort IsEnded s r t → (r ≡ Some (Ok c)) × SpellsOk steps t x
+      at_item : ((u : S) → WillGive u x → StaysShort u → SpellsOk steps u x) → (r : Option (Result ℕ NormalizeError)) (t : S) → GivesNext WillGive StaysShort IsEnded s r t → (r ≡ Some (Ok c))
+          × SpellsOk steps t x
       at_item on None t gave = let none : c ∷ x ≡ [] = (gave.first (c ∷ x) h).0 in absurd (cc)
       at_item on (Some (Ok d)) t gave =
           let first = gave.first (c ∷ x) h in
@@ -118,9 +143,12 @@ module _ {I : Type 0} (can : I → Type 0) (gives : I → Option ℕ → I → T
 -- ---- what a maker answers
 
 module _ {I S : Type 0} (source_gives : I → Option ℕ → I → Type 0) (WillGive : S → List ℕ → Type 0) (StaysShort : S → Type 0) (steps : S → Option (Result ℕ NormalizeError) → S → Type 0)
-    (unless : (s : S) (x : List ℕ) → WillGive s x → SpellsUnless steps Memory s x) (always : (s : S) (x : List ℕ) → WillGive s x → StaysShort s → SpellsOk steps s x) (f : ℕ → Bool) (d : Reading) (form : Reading → List ℕ → List ℕ) (source : I) where
+    (unless : (s : S) (x : List ℕ) → WillGive s x → SpellsUnless steps Memory s x) (always : (s : S) (x : List ℕ) → WillGive s x → StaysShort s → SpellsOk steps s x) (f : ℕ
+    → Bool) (d : Reading) (form : Reading → List ℕ → List ℕ) (source : I) where
   -- the runs of a text may be short by any reading that has the same lists
-  pub GivesForm-made : (IsShort : List ℕ → Type 0) → ((x : List ℕ) → HasShortRuns f d x → IsShort x) → (made : Result S NormalizeError) → IfOk made (λ it. (x : List ℕ) → Spells source_gives source x → WillGive it (form d x)) → IfOk made (λ it. (x : List ℕ) → Spells source_gives source x → IsShort x → StaysShort it) → ((x : List ℕ) → Spells source_gives source x → IsShort x → IsOk made) → IsOkUnless made Memory → GivesForm source_gives steps f d form source made
+  pub GivesForm-made : (IsShort : List ℕ → Type 0) → ((x : List ℕ) → HasShortRuns f d x → IsShort x) → (made : Result S NormalizeError)
+      → IfOk made (λ it. (x : List ℕ) → Spells source_gives source x → WillGive it (form d x)) → IfOk made (λ it. (x : List ℕ) → Spells source_gives source x → IsShort x → StaysShort it)
+      → ((x : List ℕ) → Spells source_gives source x → IsShort x → IsOk made) → IsOkUnless made Memory → GivesForm source_gives steps f d form source made
   GivesForm-made IsShort is_short (Ok it) text short succeeds refused = record {
     text = λ x h. unless it (form d x) (text x h);
     short = λ x h runs. always it (form d x) (text x h) (short x h (is_short x runs));

@@ -4,6 +4,7 @@
 pub mod composition;
 pub mod decomposition;
 mod error;
+pub mod laws;
 mod marks;
 mod reading;
 mod waiting;

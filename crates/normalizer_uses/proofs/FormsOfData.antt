@@ -14,7 +14,8 @@ use Rattle.normalizer_uses.specs.declared.by_records.NormalForm.{NormalForm}
 use Rattle.normalizer_uses.specs.declared.by_records.NormalForm.TheVariants.{Nfd, Nfc, Nfkd, Nfkc}
 use Rattle.normalizer_uses.specs.RecordedForms.{form_of_data, recorded_form, recorded_reading}
 
-pub form_of_data-recorded : (records : List Entry) (uts46 : List MapperEntry) (p : Packed) → MeansRecords records uts46 p → (form : NormalForm) (x : List ℕ) → form_of_data p form x ≡ recorded_form records form x
+pub form_of_data-recorded : (records : List Entry) (uts46 : List MapperEntry) (p : Packed) → MeansRecords records uts46 p → (form : NormalForm) (x : List ℕ)
+    → form_of_data p form x ≡ recorded_form records form x
 unfolding normal_form
 form_of_data-recorded records uts46 p means Nfd x =
     nfd-alike (own_reading (characters_of p kind.Canonical)) (recorded_reading records Canonical) means.canonical means.canonical_classes x

@@ -19,7 +19,8 @@ use Rattle.normalizer_uses.specs.declared.by_records.NormalForm.TheVariants.{Nfd
 -- what the records mean: full decompositions by canonical mappings or by all (D65, D68), classes (D104), and primary
 -- composites, Hangul ones included (D114)
 abbrev pub recorded_reading : List Entry → Mappings → Reading
-recorded_reading records mappings = record { list = full_list records mappings; class = class_of records; pair = pair_of (pairs_of records) }
+recorded_reading records mappings =
+    record { list = full_list records mappings; class = class_of records; pair = pair_of (pairs_of records) }
 
 -- D118 to D121
 abbrev pub recorded_form : List Entry → NormalForm → List ℕ → List ℕ

@@ -39,7 +39,8 @@ pub fn form_by_records(
     form: NormalForm,
     bytes: &[u8],
 ) -> Result<Vec<char>, BuildError>
-    ensures { MatchResult result (λ v. v.items ≡ recorded_form records.now form (decoded_utf8 bytes.now)) (IsSmallest records.now uts46.now) }
+    ensures { MatchResult result (λ v. v.items ≡ recorded_form records.now form (decoded_utf8 bytes.now))
+        (IsSmallest records.now uts46.now) }
 {
     let built = Records::build(alloc, records, uts46)?;
     match form_by_built(alloc, &built, form, bytes) {

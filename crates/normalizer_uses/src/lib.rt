@@ -32,6 +32,7 @@ use icu_normalizer::{
     NormalizeError, NormalizerNfcV1, NormalizerNfdTablesV1, NormalizerNfkdDataV1,
     NormalizerNfkdTablesV1, Utf8Chars, check_nfd_data,
 };
+use normalizer_iterators::laws::{text_comes_unless_a_fault_does, text_comes_without_faults};
 use std::alloc::Global;
 
 /// The NFD of the text that bytes decode to.
@@ -40,7 +41,8 @@ pub fn nfd_of_bytes(
     normalizer: &DecomposingNormalizerBorrowed<'_>,
     bytes: &[u8],
 ) -> Result<Vec<char>, NormalizeError>
-    ensures form { IfOk result (λ v. v.items ≡ nfd (own_reading (data_of_borrowed normalizer.now)) (decoded_utf8 bytes.now)) }
+    ensures form { IfOk result (λ v. v.items ≡ nfd (own_reading (data_of_borrowed normalizer.now))
+        (decoded_utf8 bytes.now)) }
     ensures refused { IsOkUnless result NormalizeError.Memory }
 {
     collected(alloc, normalizer.normalize_iter(Utf8Chars::new(bytes))?)
@@ -65,8 +67,11 @@ pub fn nfd_by_data(
     tables: &DecompositionTables,
     bytes: &[u8],
 ) -> Result<Vec<char>, DataError>
-    ensures form { IfOk result (λ v. v.items ≡ nfd (own_reading (nfd_characters decompositions.now tables.now)) (decoded_utf8 bytes.now)) }
-    ensures refused { IfErr result (λ e. (e ≡ DataError.Memory) ⊎ RefusesFirstFailing marker.NormalizerNfdDataV1 (nfd_characters decompositions.now tables.now) nfd_bounds nfd_conditions e) }
+    ensures form { IfOk result (λ v. v.items ≡ nfd (own_reading (nfd_characters decompositions.now tables.now))
+        (decoded_utf8 bytes.now)) }
+    ensures refused { IfErr result (λ e. (e ≡ DataError.Memory) ⊎
+        RefusesFirstFailing marker.NormalizerNfdDataV1 (nfd_characters decompositions.now tables.now)
+        nfd_bounds nfd_conditions e) }
 {
     check_nfd_data(decompositions, tables)?;
     let normalizer = DecomposingNormalizerBorrowed::new_with_data(decompositions, tables);
@@ -82,7 +87,8 @@ pub fn nfc_of_bytes(
     normalizer: &ComposingNormalizerBorrowed<'_>,
     bytes: &[u8],
 ) -> Result<Vec<char>, NormalizeError>
-    ensures form { IfOk result (λ v. v.items ≡ nfc (composing_reading (composing_data_of_borrowed normalizer.now) (pairs_of_borrowed normalizer.now)) (decoded_utf8 bytes.now)) }
+    ensures form { let d = composing_reading (composing_data_of_borrowed normalizer.now) (pairs_of_borrowed normalizer.now)
+        in IfOk result (λ v. v.items ≡ nfc d (decoded_utf8 bytes.now)) }
     ensures refused { IsOkUnless result NormalizeError.Memory }
 {
     collected(alloc, normalizer.normalize_iter(Utf8Chars::new(bytes))?)
@@ -96,12 +102,17 @@ where
         + DataProvider<NormalizerNfkdTablesV1>
         + DataProvider<NormalizerNfcV1>,
     ensures form { IfOk result (λ v. (h : Characters × List Pair) × AcceptsHeld SuitsComposing (with_pairs
-        (nfkd_data (⟦<P as DataProvider<NormalizerNfkdDataV1>>⟧.held provider.now) (⟦<P as DataProvider<NormalizerNfdTablesV1>>⟧.held provider.now)
-        (⟦<P as DataProvider<NormalizerNfkdTablesV1>>⟧.held provider.now)) (⟦<P as DataProvider<NormalizerNfcV1>>⟧.held provider.now)) h
+        (nfkd_data (⟦<P as DataProvider<NormalizerNfkdDataV1>>⟧.held provider.now)
+        (⟦<P as DataProvider<NormalizerNfdTablesV1>>⟧.held provider.now)
+        (⟦<P as DataProvider<NormalizerNfkdTablesV1>>⟧.held provider.now))
+        (⟦<P as DataProvider<NormalizerNfcV1>>⟧.held provider.now)) h
         × (v.items ≡ nfc (composing_reading h.0 h.1) (decoded_utf8 bytes.now))) }
-    ensures refused { IfErr result (λ e. (e ≡ DataError.Memory) ⊎ RefusesHeld (RefusesToCompose marker.NormalizerNfkdDataV1) (with_pairs
-        (nfkd_data (⟦<P as DataProvider<NormalizerNfkdDataV1>>⟧.held provider.now) (⟦<P as DataProvider<NormalizerNfdTablesV1>>⟧.held provider.now)
-        (⟦<P as DataProvider<NormalizerNfkdTablesV1>>⟧.held provider.now)) (⟦<P as DataProvider<NormalizerNfcV1>>⟧.held provider.now)) e) }
+    ensures refused { IfErr result (λ e. (e ≡ DataError.Memory) ⊎
+        RefusesHeld (RefusesToCompose marker.NormalizerNfkdDataV1) (with_pairs
+        (nfkd_data (⟦<P as DataProvider<NormalizerNfkdDataV1>>⟧.held provider.now)
+        (⟦<P as DataProvider<NormalizerNfdTablesV1>>⟧.held provider.now)
+        (⟦<P as DataProvider<NormalizerNfkdTablesV1>>⟧.held provider.now))
+        (⟦<P as DataProvider<NormalizerNfcV1>>⟧.held provider.now)) e) }
 {
     let normalizer = ComposingNormalizer::try_new_nfkc_unstable(provider)?;
     match nfc_of_bytes(alloc, &normalizer.as_borrowed(), bytes) {
@@ -117,8 +128,10 @@ pub fn collected<I: Iterator<Item = Result<char, NormalizeError>> + Drop>(
 ) -> Result<Vec<char>, NormalizeError>
     requires can { I.can_next items }
     requires ends { IsFinite (I.remaining items) }
-    ensures all { (x : List ℕ) → SpellsUnless I.next_gives NormalizeError.Memory items x → IfOk result (λ v. v.items ≡ x) × IsOkUnless result NormalizeError.Memory }
+    ensures all { (x : List ℕ) → SpellsUnless I.next_gives NormalizeError.Memory items x →
+        IfOk result (λ v. v.items ≡ x) × IsOkUnless result NormalizeError.Memory }
 {
+    text_comes_unless_a_fault_does::<NormalizeError, I>();
     let mut characters = Vec::new(alloc);
     for item in items {
         let character = match item {
@@ -139,8 +152,10 @@ pub fn last_of_nfd(
     normalizer: &DecomposingNormalizerBorrowed<'_>,
     bytes: &[u8],
 ) -> Result<Option<char>, NormalizeError>
-    ensures last { IfOk result (λ c. c ≡ last_of (nfd (own_reading (data_of_borrowed normalizer.now)) (decoded_utf8 bytes.now))) }
-    ensures succeeds { HasShortRuns (has_class_form (data_of_borrowed normalizer.now)) (own_reading (data_of_borrowed normalizer.now)) (decoded_utf8 bytes.now) → IsOk result }
+    ensures last { IfOk result (λ c. c ≡ last_of
+        (nfd (own_reading (data_of_borrowed normalizer.now)) (decoded_utf8 bytes.now))) }
+    ensures succeeds { HasShortRuns (has_class_form (data_of_borrowed normalizer.now))
+        (own_reading (data_of_borrowed normalizer.now)) (decoded_utf8 bytes.now) → IsOk result }
     ensures refused { IsOkUnless result NormalizeError.Memory }
 {
     last_item(normalizer.normalize_iter(Utf8Chars::new(bytes))?)
@@ -152,9 +167,12 @@ pub fn last_item<I: Iterator<Item = Result<char, NormalizeError>> + Drop>(
 ) -> Result<Option<char>, NormalizeError>
     requires can { I.can_next items }
     requires ends { IsFinite (I.remaining items) }
-    ensures last { (x : List ℕ) → SpellsUnless I.next_gives NormalizeError.Memory items x → IfOk result (λ c. c ≡ last_of x) × IsOkUnless result NormalizeError.Memory }
+    ensures last { (x : List ℕ) → SpellsUnless I.next_gives NormalizeError.Memory items x →
+        IfOk result (λ c. c ≡ last_of x) × IsOkUnless result NormalizeError.Memory }
     ensures succeeds { (x : List ℕ) → SpellsOk I.next_gives items x → IsOk result }
 {
+    text_comes_unless_a_fault_does::<NormalizeError, I>();
+    text_comes_without_faults::<NormalizeError, I>();
     let mut last = None;
     for item in items {
         match item {

@@ -1,18 +1,16 @@
 use Rattle.std.proofs.Common.{rules, ◌++◌, append_assoc, append-nil, sym, ap, ◌∙◌}
 use Rattle.normalizer_iterators.specs.declared.error.NormalizeError.TheVariants.{Memory}
-use Rattle.normalizer_iterators.proofs.ItemLemmas.{SpellsUnless-next, SpellsUnless-end, SpellsUnless-fault}
 use Rattle.normalizer_uses.proofs.collected.Goals as goal
 
 pub loop-item-preserved : goal.loop-item-preserved
 loop-item-preserved g c =
-    let gives = g.I.Iterator.next_gives in
     let came = rw c.in-Ok.is at c.in-Some.ensures.steps in
     record {
       can = search (rules, c.in-Some.ensures.goes);
       ends = search (rules, c.in-Some.ensures.goes);
       text = λ x h.
           let before = c.loop-item.invariant.text x h in
-          let next = SpellsUnless-next gives Memory _ _ _ before.0 came before.1 in (
+          let next = c.text_comes_unless_a_fault_does.ensures.next Memory _ _ _ before.0 came before.1 in (
             next.0,
             next.2,
             before.2 ∙ ap (λ cs. c.loop-item.characters.items ++ cs) {x = before.0} next.1
@@ -25,13 +23,13 @@ pub returns-in-Err : goal.returns-in-Err
 returns-in-Err g c = record {
   all = λ x h.
       let before = c.loop-item.invariant.text x h in
-      (tt, SpellsUnless-fault g.I.Iterator.next_gives Memory _ _ _ before.0 (rw c.in-Err.is at c.in-Some.ensures.steps) before.1);
+      (tt, (c.text_comes_unless_a_fault_does.ensures.refused Memory _ _ _ before.0 (rw c.in-Err.is at c.in-Some.ensures.steps) before.1).0);
 }
 
 pub returns : goal.returns
 returns g c = record {
   all = λ x h.
       let before = c.loop-item.invariant.text x h in
-      let ended = SpellsUnless-end g.I.Iterator.next_gives Memory _ _ before.0 c.in-None.ensures.steps before.1 in
+      let ended = (c.text_comes_unless_a_fault_does.ensures.end Memory _ _ before.0 c.in-None.ensures.steps before.1).0 in
       (sym (before.2 ∙ ap (λ cs. c.loop-item.characters.items ++ cs) ended ∙ append-nil _), tt);
 }

@@ -8,6 +8,7 @@ abbrev pub invariant-loop-item : goal.invariant-loop-item
 invariant-loop-item g l = record {
   can : (goal.iterator-loop-item g).can_next l.item-iterator;
   ends : (goal.iterator-loop-item g).is_finite l.item-iterator;
-  text : (x : List ℕ) → SpellsUnless g.I.Iterator.next_gives Memory l.fn.items x → (before rest : List ℕ) × SpellsUnless g.I.Iterator.next_gives Memory l.item-iterator rest × (x ≡ before ++ rest) × (l.last ≡ last_of before);
+  text : (x : List ℕ) → SpellsUnless g.I.Iterator.next_gives Memory l.fn.items x → (before rest : List ℕ) × SpellsUnless g.I.Iterator.next_gives Memory l.item-iterator rest × (x ≡ before ++ rest)
+      × (l.last ≡ last_of before);
   short : (x : List ℕ) → SpellsOk g.I.Iterator.next_gives l.fn.items x → (rest : List ℕ) × SpellsOk g.I.Iterator.next_gives l.item-iterator rest;
 }
