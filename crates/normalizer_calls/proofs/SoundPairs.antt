@@ -35,6 +35,8 @@ SuitsLazyComposing-met s pairs met =
             no_class_form-passed s c h.scalar b (min-le_right s.decompositions.cap 0x0300) pairs (met.conditions 6 Words (omega arith)) (inhabited-passed s b pairs begins [] c h.scalar h.passed)
             (BeginsSafely-passed s b pairs begins [] c h.scalar h.passed) h.passed;
         inhabited = inhabited-passed s b pairs begins (ignored_list ignored) c h.scalar h.passed;
-        safely = λ first others e. first_apart (reading_of s (ignored_list ignored) (pair_of pairs)) (list_of s (ignored_list ignored) c) first others e (BeginsSafely-passed s b pairs begins (ignored_list ignored) c h.scalar h.passed);
+        safely =
+            λ first others e. first_apart (reading_of s (ignored_list ignored) (pair_of pairs)) (list_of s (ignored_list ignored) c) first others e
+            (BeginsSafely-passed s b pairs begins (ignored_list ignored) c h.scalar h.passed);
       };
     }

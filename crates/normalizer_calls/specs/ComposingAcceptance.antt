@@ -21,11 +21,14 @@ pub record SuitsComposing (h : Characters × List Pair) : Type 0 where
 abbrev pub RefusesToCompose : DataMarkerInfo → Characters × List Pair → DataError → Type 0
 RefusesToCompose kind h e =
     RefusesToDecompose kind h.0 e
-    ⊎ (SuitsDecomposing h.0 × ((c : Condition) × IsFirstFailing (HoldsOfPairs h.0 (bounds_of h.0.decompositions) h.1) (pair_conditions h.0.is_mapper) (Some c) × (e ≡ refusal_of kind c)))
+    ⊎ (SuitsDecomposing h.0 × ((c : Condition)
+    × IsFirstFailing (HoldsOfPairs h.0 (bounds_of h.0.decompositions) h.1) (pair_conditions h.0.is_mapper) (Some c)
+    × (e ≡ refusal_of kind c)))
 
--- the data that are held with the pairs that are loaded after them, or the marker of the first load for which nothing is
--- held
-abbrev pub with_pairs : Result Characters DataMarkerInfo → Option (List Pair) → Result (Characters × List Pair) DataMarkerInfo
+-- the data that are held with the pairs that are loaded after them, or the marker of the first load for which nothing
+-- is held
+abbrev pub with_pairs : Result Characters DataMarkerInfo → Option (List Pair)
+    → Result (Characters × List Pair) DataMarkerInfo
 with_pairs (Err missing) pairs = Err missing
 with_pairs (Ok s) None = Err marker.NormalizerNfcV1
 with_pairs (Ok s) (Some pairs) = Ok (s, pairs)

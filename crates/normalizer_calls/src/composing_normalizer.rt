@@ -62,10 +62,11 @@ pub struct ComposingNormalizer {
 }
 
 impl ComposingNormalizer {
-    ghost use Rattle.normalizer_calls.specs.ComposingNormalizers.{composing_data_of, composing_data_of_borrowed, data_and_pairs_of, pairs_of, pairs_of_borrowed};
+    ghost use Rattle.normalizer_calls.specs.ComposingNormalizers.{composing_data_of, composing_data_of_borrowed};
+    ghost use Rattle.normalizer_calls.specs.ComposingNormalizers.{data_and_pairs_of, pairs_of, pairs_of_borrowed};
 
-    /// A normalizer to NFC over what the provider holds. The data are loaded first, then their tables, then the pairs; the
-    /// first load that is refused is the answer, and else the first written condition that they break.
+    /// A normalizer to NFC over what the provider holds. The data are loaded first, then their tables, then the pairs;
+    /// the first load that is refused is the answer, and else the first written condition that they break.
     pub fn try_new_nfc_unstable<P>(provider: &P) -> Result<Self, DataError>
     where
         P: DataProvider<NormalizerNfdDataV1>
@@ -83,9 +84,9 @@ impl ComposingNormalizer {
         Self::over(marker, decompositions, tables, None, pairs)
     }
 
-    /// A normalizer to NFKC over what the provider holds. The data are loaded first, then the tables of canonical data, the
-    /// supplementary ones and the pairs; the first load that is refused is the answer, and else the first written condition
-    /// that they break.
+    /// A normalizer to NFKC over what the provider holds. The data are loaded first, then the tables of canonical data,
+    /// the supplementary ones and the pairs; the first load that is refused is the answer, and else the first written
+    /// condition that they break.
     pub fn try_new_nfkc_unstable<P>(provider: &P) -> Result<Self, DataError>
     where
         P: DataProvider<NormalizerNfkdDataV1>
@@ -94,7 +95,8 @@ impl ComposingNormalizer {
             + DataProvider<NormalizerNfcV1>,
         ensures { AnswersHeld SuitsComposing RefusesToCompose DataMarkerInfo.NormalizerNfkdDataV1 data_and_pairs_of
             (with_pairs (nfkd_data (⟦<P as DataProvider<NormalizerNfkdDataV1>>⟧.held provider.now)
-            (⟦<P as DataProvider<NormalizerNfdTablesV1>>⟧.held provider.now) (⟦<P as DataProvider<NormalizerNfkdTablesV1>>⟧.held provider.now))
+            (⟦<P as DataProvider<NormalizerNfdTablesV1>>⟧.held provider.now)
+            (⟦<P as DataProvider<NormalizerNfkdTablesV1>>⟧.held provider.now))
             (⟦<P as DataProvider<NormalizerNfcV1>>⟧.held provider.now)) result }
     {
         let decompositions = <P as DataProvider<NormalizerNfkdDataV1>>::load(provider)?;
@@ -113,7 +115,8 @@ impl ComposingNormalizer {
         supplementary: Option<DecompositionTables>,
         pairs: CanonicalCompositions,
     ) -> Result<Self, DataError>
-        ensures ok { IfOk result (λ n. (composing_data_of n ≡ data_from decompositions tables supplementary) × (pairs_of n ≡ pairs) × SuitsComposing (data_from decompositions tables supplementary, pairs)) }
+        ensures ok { IfOk result (λ n. (composing_data_of n ≡ data_from decompositions tables supplementary) ×
+            (pairs_of n ≡ pairs) × SuitsComposing (data_from decompositions tables supplementary, pairs)) }
         ensures err { IfErr result (RefusesToCompose marker (data_from decompositions tables supplementary, pairs)) }
     {
         let characters = CharacterData::new(
@@ -173,10 +176,12 @@ impl<'a> ComposingNormalizerBorrowed<'a> {
     ) -> Result<Composition<'a, I>, NormalizeError>
         requires can { I.can_next iter }
         requires ends { IsFinite (I.remaining iter) }
-        ensures form { GivesForm I.next_gives ⟦<Composition<'a, I> as Iterator>⟧.next_gives (has_class_form (composing_data_of_borrowed self.now))
+        ensures form { GivesForm I.next_gives ⟦<Composition<'a, I> as Iterator>⟧.next_gives
+            (has_class_form (composing_data_of_borrowed self.now))
             (composing_reading (composing_data_of_borrowed self.now) (pairs_of_borrowed self.now)) nfc iter result }
         ensures ready { IfOk result ⟦<Composition<'a, I> as Iterator>⟧.can_next }
-        ensures held { IfOk result (λ it. (data_of_composition it ≡ composing_data_of_borrowed self.now) × (pairs_of_composition it ≡ pairs_of_borrowed self.now)) }
+        ensures held { IfOk result (λ it. (data_of_composition it ≡ composing_data_of_borrowed self.now) ×
+            (pairs_of_composition it ≡ pairs_of_borrowed self.now)) }
     {
         let characters = self.characters.copied();
         composed(

@@ -37,8 +37,8 @@ pub struct DecomposingNormalizer {
 impl DecomposingNormalizer {
     ghost use Rattle.normalizer_calls.specs.Normalizers.{data_of, data_of_borrowed};
 
-    /// A normalizer to NFD over what the provider holds. The data are loaded first and then their tables; the first load
-    /// that is refused is the answer, and else the first written condition that the data break.
+    /// A normalizer to NFD over what the provider holds. The data are loaded first and then their tables; the first
+    /// load that is refused is the answer, and else the first written condition that the data break.
     pub fn try_new_nfd_unstable<P>(provider: &P) -> Result<Self, DataError>
     where
         P: DataProvider<NormalizerNfdDataV1> + DataProvider<NormalizerNfdTablesV1>,
@@ -52,9 +52,9 @@ impl DecomposingNormalizer {
         Self::over(marker, decompositions, tables, None)
     }
 
-    /// A normalizer to NFKD over what the provider holds. The data are loaded first, then the tables of canonical data and
-    /// then the supplementary ones; the first load that is refused is the answer, and else the first written condition that
-    /// the data break.
+    /// A normalizer to NFKD over what the provider holds. The data are loaded first, then the tables of canonical data
+    /// and then the supplementary ones; the first load that is refused is the answer, and else the first written
+    /// condition that the data break.
     pub fn try_new_nfkd_unstable<P>(provider: &P) -> Result<Self, DataError>
     where
         P: DataProvider<NormalizerNfkdDataV1>
@@ -62,7 +62,8 @@ impl DecomposingNormalizer {
             + DataProvider<NormalizerNfkdTablesV1>,
         ensures { AnswersHeld SuitsDecomposing RefusesToDecompose DataMarkerInfo.NormalizerNfkdDataV1 data_of
             (nfkd_data (⟦<P as DataProvider<NormalizerNfkdDataV1>>⟧.held provider.now)
-            (⟦<P as DataProvider<NormalizerNfdTablesV1>>⟧.held provider.now) (⟦<P as DataProvider<NormalizerNfkdTablesV1>>⟧.held provider.now)) result }
+            (⟦<P as DataProvider<NormalizerNfdTablesV1>>⟧.held provider.now)
+            (⟦<P as DataProvider<NormalizerNfkdTablesV1>>⟧.held provider.now)) result }
     {
         let decompositions = <P as DataProvider<NormalizerNfkdDataV1>>::load(provider)?;
         let tables = <P as DataProvider<NormalizerNfdTablesV1>>::load(provider)?;
@@ -78,7 +79,8 @@ impl DecomposingNormalizer {
         tables: DecompositionTables,
         supplementary: Option<DecompositionTables>,
     ) -> Result<Self, DataError>
-        ensures ok { IfOk result (λ n. (data_of n ≡ data_from decompositions tables supplementary) × SuitsDecomposing (data_from decompositions tables supplementary)) }
+        ensures ok { IfOk result (λ n. (data_of n ≡ data_from decompositions tables supplementary) ×
+            SuitsDecomposing (data_from decompositions tables supplementary)) }
         ensures err { IfErr result (RefusesToDecompose marker (data_from decompositions tables supplementary)) }
     {
         let characters = CharacterData::new(
@@ -130,7 +132,8 @@ impl<'a> DecomposingNormalizerBorrowed<'a> {
     ) -> Result<Decomposition<'a, I>, NormalizeError>
         requires can { I.can_next iter }
         requires ends { IsFinite (I.remaining iter) }
-        ensures form { GivesForm I.next_gives ⟦<Decomposition<'a, I> as Iterator>⟧.next_gives (has_class_form (data_of_borrowed self.now))
+        ensures form { GivesForm I.next_gives ⟦<Decomposition<'a, I> as Iterator>⟧.next_gives
+            (has_class_form (data_of_borrowed self.now))
             (own_reading (data_of_borrowed self.now)) nfd iter result }
         ensures ready { IfOk result ⟦<Decomposition<'a, I> as Iterator>⟧.can_next }
     {

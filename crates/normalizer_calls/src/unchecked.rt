@@ -1,5 +1,5 @@
-//! Canonical data that are taken as they are: the caller answers for what `check_nfd_data` tests. No memory is taken for
-//! the data.
+//! Canonical data that are taken as they are: the caller answers for what `check_nfd_data` tests. No memory is taken
+//! for the data.
 ghost use Rattle.std.specs.Prelude.{◌≡◌};
 ghost use Rattle.normalizer_tables.specs.NfdData.{IsSoundNfdData, nfd_characters};
 

@@ -37,24 +37,30 @@ compose-reading_by : (s : Characters) (ignored : IgnoredCharacters) (pairs : Lis
 unfolding compose compose_from visit joined is_blocked
 compose-reading_by s ignored pairs y = refl
 
-pub nfc-reading_by : (s : Characters) (ignored : IgnoredCharacters) (pairs : List Pair) → HasStarterResults (composing_reading s pairs) → (x : List ℕ) → nfc (reading_by s ignored pairs) x ≡ compose_by_starters (composing_reading s pairs) (nfd (decomposing_reading s ignored) x)
+pub nfc-reading_by : (s : Characters) (ignored : IgnoredCharacters) (pairs : List Pair) → HasStarterResults (composing_reading s pairs) → (x : List ℕ)
+    → nfc (reading_by s ignored pairs) x ≡ compose_by_starters (composing_reading s pairs) (nfd (decomposing_reading s ignored) x)
 unfolding nfc
 nfc-reading_by s ignored pairs starters x =
     ap (compose (reading_by s ignored pairs)) (nfd-reading_by s ignored pairs x)
     ∙ compose-reading_by s ignored pairs (nfd (decomposing_reading s ignored) x)
     ∙ compose_is_by_starters (composing_reading s pairs) starters (nfd (decomposing_reading s ignored) x)
 
-pub HasShortMarkRuns-composing_reading : (s : Characters) (ignored : IgnoredCharacters) (pairs : List Pair) (y : List ℕ) → HasShortMarkRuns (decomposing_reading s ignored) y → HasShortMarkRuns (composing_reading s pairs) y
+pub HasShortMarkRuns-composing_reading : (s : Characters) (ignored : IgnoredCharacters) (pairs : List Pair) (y : List ℕ) → HasShortMarkRuns (decomposing_reading s ignored) y
+    → HasShortMarkRuns (composing_reading s pairs) y
 unfolding HasShortMarkRuns leading_marks
 HasShortMarkRuns-composing_reading s ignored pairs y h = h
 
-pub HasShortRuns-reading_by : (f : ℕ → Bool) (s : Characters) (ignored : IgnoredCharacters) (pairs : List Pair) (x : List ℕ) → HasShortRuns f (reading_by s ignored pairs) x → HasShortRuns f (decomposing_reading s ignored) x
+pub HasShortRuns-reading_by : (f : ℕ → Bool) (s : Characters) (ignored : IgnoredCharacters) (pairs : List Pair) (x : List ℕ) → HasShortRuns f (reading_by s ignored pairs) x
+    → HasShortRuns f (decomposing_reading s ignored) x
 unfolding leading_length HasShortChunks continues
 HasShortRuns-reading_by f s ignored pairs x h = record { leading = h.leading; chunks = h.chunks }
 
 -- ---- what a pair composes to
 
-pub lists-compose : (s : Characters) (b : Bounds) → Holds s b Hangul → (pairs : List Pair) (ignored : IgnoredCharacters) → All (HasOrderedLists s (ignored_list ignored)) pairs → (a c : ℕ) (result : Option ℕ) → result ≡ pair_of pairs a c → IfSome result (λ r. list_of s (ignored_list ignored) r ≡ order (own_reading s) (list_of s (ignored_list ignored) a ++ list_of s (ignored_list ignored) c))
+pub lists-compose : (s : Characters) (b : Bounds) → Holds s b Hangul → (pairs : List Pair) (ignored : IgnoredCharacters) → All (HasOrderedLists s (ignored_list ignored)) pairs
+    → (a c : ℕ) (result : Option ℕ) → result ≡ pair_of pairs a c
+    → IfSome result (λ r. list_of s (ignored_list ignored) r ≡ order (own_reading s) (list_of s (ignored_list ignored) a ++ list_of s (ignored_list ignored) c))
 lists-compose s b hangul pairs ignored keep a c None is = tt
 lists-compose s b hangul pairs ignored keep a c (Some r) is =
-    (HasFaithfulResults-reading_of s b hangul pairs (ignored_list ignored) keep).results a c r (sym is) ∙ sym (order-own s (ignored_list ignored) (pair_of pairs) (list_of s (ignored_list ignored) a ++ list_of s (ignored_list ignored) c))
+    (HasFaithfulResults-reading_of s b hangul pairs (ignored_list ignored) keep).results a c r (sym is)
+    ∙ sym (order-own s (ignored_list ignored) (pair_of pairs) (list_of s (ignored_list ignored) a ++ list_of s (ignored_list ignored) c))

@@ -18,14 +18,17 @@ use Rattle.normalizer_iterators.specs.StayingMarks.{staying}
 use Rattle.normalizer_iterators.specs.LazyComposing.{SuitsLazyComposing}
 use Rattle.normalizer_iterators.specs.MarkRuns.{HasShortMarkRuns}
 use Rattle.normalizer_iterators.specs.Passing.{IsAtPassed, PassesOn, GivesStarter}
-use Rattle.normalizer_iterators.specs.Composing.{composed_ahead, ahead_left, items_left, UnlessEnded, WherePassed, IsBeforeStarter, WillGiveBehind, GivesShort, ComposesStarter, ComposesOn, CompositionSteps, WillGive, StaysShort, CanCompose, pairing_by}
+use Rattle.normalizer_iterators.specs.Composing.{composed_ahead, ahead_left, items_left, UnlessEnded, WherePassed, IsBeforeStarter, WillGiveBehind, GivesShort, ComposesStarter, ComposesOn}
+use Rattle.normalizer_iterators.specs.Composing.{CompositionSteps, WillGive, StaysShort, CanCompose, pairing_by}
 use Rattle.normalizer_iterators.proofs.MarkRunLemmas.{HasShortMarkRuns-rest}
 use Rattle.normalizer_iterators.proofs.StarterLemmas.{GivesShort-next, GivesShort-no_fault}
 
 module _ {I : Type 0} (can : I → Type 0) (gives : I → Option ℕ → I → Type 0) (left : I → Count) where
   -- ---- a starter is composed, or a fault comes
 
-  pub ComposesOn-given : (starter : ℕ) (s : Composition I) (composite : ℕ) (m : StayingMarks) (ahead : Ahead) (n : Decomposition I) → CanCompose can left s → ComposesStarter gives left (pairing_by s) starter s.decomposed composite (staying m) ahead n → decomposition.CanDecompose can left n → n.characters ≡ s.characters → WherePassed ahead (IsAtPassed s.pairs.now n) → ComposesOn can gives left starter s (Ok composite) (record s { decomposed = n; marks = m; ahead = ahead })
+  pub ComposesOn-given : (starter : ℕ) (s : Composition I) (composite : ℕ) (m : StayingMarks) (ahead : Ahead) (n : Decomposition I) → CanCompose can left s
+      → ComposesStarter gives left (pairing_by s) starter s.decomposed composite (staying m) ahead n → decomposition.CanDecompose can left n → n.characters ≡ s.characters
+      → WherePassed ahead (IsAtPassed s.pairs.now n) → ComposesOn can gives left starter s (Ok composite) (record s { decomposed = n; marks = m; ahead = ahead })
   ComposesOn-given starter s composite m ahead n before composes ready same passed = record {
     first = composes.text;
     fault = tt;
@@ -40,7 +43,9 @@ module _ {I : Type 0} (can : I → Type 0) (gives : I → Option ℕ → I → T
   pub nothing_ahead : (d : Reading) (marks : List ℕ) (n : Decomposition I) → marks ≡ [] → WillGiveBehind gives d marks Ended n []
   nothing_ahead d marks n none = record { unread = []; source = tt; text = ap (λ l. l ++ []) (sym none) }
 
-  pub ComposesOn-fault : (starter : ℕ) (s : Composition I) (e : NormalizeError) (m : StayingMarks) (n : Decomposition I) → CanCompose can left s → e ≡ Memory → (GivesShort gives (pairing_by s) s.decomposed → ⊥) → staying m ≡ [] → decomposition.CanDecompose can left n → n.characters ≡ s.characters → ComposesOn can gives left starter s (Err e) (record s { decomposed = n; marks = m; ahead = Ended })
+  pub ComposesOn-fault : (starter : ℕ) (s : Composition I) (e : NormalizeError) (m : StayingMarks) (n : Decomposition I) → CanCompose can left s → e ≡ Memory
+      → (GivesShort gives (pairing_by s) s.decomposed → ⊥) → staying m ≡ [] → decomposition.CanDecompose can left n → n.characters ≡ s.characters
+      → ComposesOn can gives left starter s (Err e) (record s { decomposed = n; marks = m; ahead = Ended })
   ComposesOn-fault starter s e m n before memory long none ready same = record {
     first = λ y h. nothing_ahead (pairing_by s) (staying m) n none;
     fault = memory;
@@ -93,7 +98,8 @@ module _ {I : Type 0} (can : I → Type 0) (gives : I → Option ℕ → I → T
 
   -- ---- a starter is in hand
 
-  pub Steps-starter : (s : Composition I) (a : ℕ) (m : StayingMarks) (r : Result ℕ NormalizeError) (t : Composition I) → s.ahead ≡ Starter a → staying s.marks ≡ [] → ComposesOn can gives left a (record s { marks = m }) r t → CompositionSteps can gives left s (Some r) t
+  pub Steps-starter : (s : Composition I) (a : ℕ) (m : StayingMarks) (r : Result ℕ NormalizeError) (t : Composition I) → s.ahead ≡ Starter a → staying s.marks ≡ []
+      → ComposesOn can gives left a (record s { marks = m }) r t → CompositionSteps can gives left s (Some r) t
   Steps-starter s a m r t is none on =
       let d = pairing_by s in
       record {
@@ -113,7 +119,8 @@ module _ {I : Type 0} (can : I → Type 0) (gives : I → Option ℕ → I → T
 
   -- ---- fewer are left
 
-  pub Goes-item : (s : Composition I) (r : Result ℕ NormalizeError) (t : Composition I) → CanCompose can left t → items_left left t < items_left left s → MakesProgress {A = Result ℕ NormalizeError} (CanCompose can left) (λ v. at_most (items_left left v)) s (Some r) t
+  pub Goes-item : (s : Composition I) (r : Result ℕ NormalizeError) (t : Composition I) → CanCompose can left t → items_left left t < items_left left s
+      → MakesProgress {A = Result ℕ NormalizeError} (CanCompose can left) (λ v. at_most (items_left left v)) s (Some r) t
   Goes-item s r t ready fewer = record { on = λ finite. (ready, tt, fewer); keeps = ready; rests = λ finite. tt }
 
   -- ---- it may be called
@@ -121,7 +128,8 @@ module _ {I : Type 0} (can : I → Type 0) (gives : I → Option ℕ → I → T
   pub CanCompose-marks : (s : Composition I) (m : StayingMarks) → CanCompose can left s → CanCompose can left (record s { marks = m })
   CanCompose-marks s m h = record { source = h.source; same = h.same; suits = h.suits; passed = h.passed }
 
-  pub CanCompose-next : (s : Composition I) (m : StayingMarks) (n : Decomposition I) → CanCompose can left s → s.ahead ≡ NoStarter → decomposition.CanDecompose can left n → n.characters ≡ s.decomposed.characters → CanCompose can left (record s { marks = m; decomposed = n })
+  pub CanCompose-next : (s : Composition I) (m : StayingMarks) (n : Decomposition I) → CanCompose can left s → s.ahead ≡ NoStarter → decomposition.CanDecompose can left n
+      → n.characters ≡ s.decomposed.characters → CanCompose can left (record s { marks = m; decomposed = n })
   CanCompose-next s m n h is ready kept = record { source = ready; same = kept ∙ h.same; suits = h.suits; passed = subst (λ b. WherePassed b (IsAtPassed s.pairs.now n)) (sym is) tt }
 
   pub suits_source : (s : Composition I) → CanCompose can left s → SuitsLazyComposing s.decomposed.characters s.bounds s.pairs.now
@@ -143,7 +151,9 @@ module _ {I : Type 0} (can : I → Type 0) (gives : I → Option ℕ → I → T
       kept = step.kept;
     }
 
-    pub Goes-marks : (r : Option (Result ℕ NormalizeError)) (t : Composition I) → MakesProgress {A = Result ℕ NormalizeError} (CanCompose can left) (λ v. at_most (items_left left v)) (record s { marks = m }) r t → MakesProgress {A = Result ℕ NormalizeError} (CanCompose can left) (λ v. at_most (items_left left v)) s r t
+    pub Goes-marks : (r : Option (Result ℕ NormalizeError)) (t : Composition I)
+        → MakesProgress {A = Result ℕ NormalizeError} (CanCompose can left) (λ v. at_most (items_left left v)) (record s { marks = m }) r t
+        → MakesProgress {A = Result ℕ NormalizeError} (CanCompose can left) (λ v. at_most (items_left left v)) s r t
     Goes-marks r t goes =
         let same : items_left left (record s { marks = m }) ≡ items_left left s = omega (arith, ap length none, ap length none_left) in
         record {
@@ -182,7 +192,8 @@ module _ {I : Type 0} (can : I → Type 0) (gives : I → Option ℕ → I → T
     short_before : StaysShort gives s → GivesShort gives (pairing_by s) s.decomposed
     short_before h = asked_before s.ahead before (GivesShort gives (pairing_by s) s.decomposed) h
 
-    pub Steps-fault : (e : NormalizeError) (m : StayingMarks) (n : Decomposition I) → staying m ≡ [] → decomposition.DecompositionSteps can gives left s.decomposed (Some (Err e)) n → CompositionSteps can gives left s (Some (Err e)) (record s { marks = m; decomposed = n; ahead = Ended })
+    pub Steps-fault : (e : NormalizeError) (m : StayingMarks) (n : Decomposition I) → staying m ≡ [] → decomposition.DecompositionSteps can gives left s.decomposed (Some (Err e)) n
+        → CompositionSteps can gives left s (Some (Err e)) (record s { marks = m; decomposed = n; ahead = Ended })
     Steps-fault e m n none_left step =
         let d = pairing_by s in
         record {
@@ -206,7 +217,9 @@ module _ {I : Type 0} (can : I → Type 0) (gives : I → Option ℕ → I → T
       pub left_in_source : items_left left s ≡ decomposition.items_left left s.decomposed
       left_in_source = omega (arith, ap length none, left_before s.ahead before (decomposition.items_left left s.decomposed))
 
-      pub Steps-first_starter : (c : ℕ) (m : StayingMarks) (n : Decomposition I) (a : Ahead) (r : Result ℕ NormalizeError) (t : Composition I) → decomposition.DecompositionSteps can gives left s.decomposed (Some (Ok c)) n → IsStarter (pairing_by s) c → ComposesOn can gives left c (record s { marks = m; decomposed = n; ahead = a }) r t → CompositionSteps can gives left s (Some r) t
+      pub Steps-first_starter : (c : ℕ) (m : StayingMarks) (n : Decomposition I) (a : Ahead) (r : Result ℕ NormalizeError) (t : Composition I)
+          → decomposition.DecompositionSteps can gives left s.decomposed (Some (Ok c)) n → IsStarter (pairing_by s) c
+          → ComposesOn can gives left c (record s { marks = m; decomposed = n; ahead = a }) r t → CompositionSteps can gives left s (Some r) t
       Steps-first_starter c m n a r t step starter on =
           let d = pairing_by s in
           record {
@@ -224,7 +237,8 @@ module _ {I : Type 0} (can : I → Type 0) (gives : I → Option ℕ → I → T
             kept = on.kept;
           }
 
-      pub Steps-end : (m : StayingMarks) (n : Decomposition I) → staying m ≡ [] → decomposition.DecompositionSteps can gives left s.decomposed None n → CompositionSteps can gives left s None (record s { marks = m; decomposed = n; ahead = Ended })
+      pub Steps-end : (m : StayingMarks) (n : Decomposition I) → staying m ≡ [] → decomposition.DecompositionSteps can gives left s.decomposed None n
+          → CompositionSteps can gives left s None (record s { marks = m; decomposed = n; ahead = Ended })
       Steps-end m n none_left step =
           let d = pairing_by s in
           record {
@@ -242,7 +256,8 @@ module _ {I : Type 0} (can : I → Type 0) (gives : I → Option ℕ → I → T
           }
 
       -- a character is given as it is
-      pub Steps-passed : (c : ℕ) (n : Decomposition I) → CanCompose can left s → PassesOn can gives left s.pairs.now s.decomposed c n → CompositionSteps can gives left s (Some (Ok c)) (record s { decomposed = n; ahead = Passed })
+      pub Steps-passed : (c : ℕ) (n : Decomposition I) → CanCompose can left s → PassesOn can gives left s.pairs.now s.decomposed c n
+          → CompositionSteps can gives left s (Some (Ok c)) (record s { decomposed = n; ahead = Passed })
       Steps-passed c n ready on =
           let d = pairing_by s in
           record {
@@ -263,20 +278,27 @@ module _ {I : Type 0} (can : I → Type 0) (gives : I → Option ℕ → I → T
             kept = (refl, refl);
           }
 
-      pub Goes-passed : (c : ℕ) (n : Decomposition I) → CanCompose can left s → PassesOn can gives left s.pairs.now s.decomposed c n → MakesProgress {A = Result ℕ NormalizeError} (CanCompose can left) (λ v. at_most (items_left left v)) s (Some (Ok c)) (record s { decomposed = n; ahead = Passed })
+      pub Goes-passed : (c : ℕ) (n : Decomposition I) → CanCompose can left s → PassesOn can gives left s.pairs.now s.decomposed c n
+          → MakesProgress {A = Result ℕ NormalizeError} (CanCompose can left) (λ v. at_most (items_left left v)) s (Some (Ok c)) (record s { decomposed = n; ahead = Passed })
       Goes-passed c n ready on =
           Goes-item s (Ok c) (record s { decomposed = n; ahead = Passed }) (record { source = on.ready; same = on.kept ∙ ready.same; suits = ready.suits; passed = on.at_passed })
           (omega (arith, on.fewer, left_in_source, ap length none))
 
-      pub Goes-first_starter : (c : ℕ) (m : StayingMarks) (n : Decomposition I) (a : Ahead) (r : Result ℕ NormalizeError) (t : Composition I) → GivesStarter can gives left s.decomposed c n → ComposesOn can gives left c (record s { marks = m; decomposed = n; ahead = a }) r t → MakesProgress {A = Result ℕ NormalizeError} (CanCompose can left) (λ v. at_most (items_left left v)) s (Some r) t
+      pub Goes-first_starter : (c : ℕ) (m : StayingMarks) (n : Decomposition I) (a : Ahead) (r : Result ℕ NormalizeError) (t : Composition I) → GivesStarter can gives left s.decomposed c n
+          → ComposesOn can gives left c (record s { marks = m; decomposed = n; ahead = a }) r t
+          → MakesProgress {A = Result ℕ NormalizeError} (CanCompose can left) (λ v. at_most (items_left left v)) s (Some r) t
       Goes-first_starter c m n a r t given on = Goes-item s r t on.ready (omega (arith, on.fewer, given.fewer, left_in_source))
 
-      pub Goes-fault : (e : NormalizeError) (n : Decomposition I) → CanCompose can left s → decomposition.DecompositionSteps can gives left s.decomposed (Some (Err e)) n → decomposition.items_left left n < decomposition.items_left left s.decomposed → MakesProgress {A = Result ℕ NormalizeError} (CanCompose can left) (λ v. at_most (items_left left v)) s (Some (Err e)) (record s { decomposed = n; ahead = Ended })
+      pub Goes-fault : (e : NormalizeError) (n : Decomposition I) → CanCompose can left s → decomposition.DecompositionSteps can gives left s.decomposed (Some (Err e)) n
+          → decomposition.items_left left n < decomposition.items_left left s.decomposed
+          → MakesProgress {A = Result ℕ NormalizeError} (CanCompose can left) (λ v. at_most (items_left left v)) s (Some (Err e)) (record s { decomposed = n; ahead = Ended })
       Goes-fault e n ready step fewer =
           Goes-item s (Err e) (record s { decomposed = n; ahead = Ended }) (record { source = step.ready ready.source; same = step.kept.0 ∙ ready.same; suits = ready.suits; passed = tt })
           (omega (arith, left_in_source, ap length none))
 
-  pub Steps-leading_mark : (s : Composition I) (c : ℕ) (m : StayingMarks) (n : Decomposition I) → s.ahead ≡ NoStarter → staying s.marks ≡ [] → staying m ≡ [] → decomposition.DecompositionSteps can gives left s.decomposed (Some (Ok c)) n → IsMark (pairing_by s) c → CompositionSteps can gives left s (Some (Ok c)) (record s { marks = m; decomposed = n })
+  pub Steps-leading_mark : (s : Composition I) (c : ℕ) (m : StayingMarks) (n : Decomposition I) → s.ahead ≡ NoStarter → staying s.marks ≡ [] → staying m ≡ []
+      → decomposition.DecompositionSteps can gives left s.decomposed (Some (Ok c)) n → IsMark (pairing_by s) c
+      → CompositionSteps can gives left s (Some (Ok c)) (record s { marks = m; decomposed = n })
   Steps-leading_mark s c m n is none none_left step mark =
       let d = pairing_by s in
       record {
@@ -302,12 +324,16 @@ module _ {I : Type 0} (can : I → Type 0) (gives : I → Option ℕ → I → T
         kept = (refl, refl);
       }
 
-  pub Goes-leading_mark : (s : Composition I) (c : ℕ) (m : StayingMarks) (n : Decomposition I) → s.ahead ≡ NoStarter → staying s.marks ≡ [] → staying m ≡ [] → CanCompose can left s → decomposition.DecompositionSteps can gives left s.decomposed (Some (Ok c)) n → decomposition.items_left left n < decomposition.items_left left s.decomposed → MakesProgress {A = Result ℕ NormalizeError} (CanCompose can left) (λ v. at_most (items_left left v)) s (Some (Ok c)) (record s { marks = m; decomposed = n })
+  pub Goes-leading_mark : (s : Composition I) (c : ℕ) (m : StayingMarks) (n : Decomposition I) → s.ahead ≡ NoStarter → staying s.marks ≡ [] → staying m ≡ [] → CanCompose can left s
+      → decomposition.DecompositionSteps can gives left s.decomposed (Some (Ok c)) n → decomposition.items_left left n < decomposition.items_left left s.decomposed
+      → MakesProgress {A = Result ℕ NormalizeError} (CanCompose can left) (λ v. at_most (items_left left v)) s (Some (Ok c)) (record s { marks = m; decomposed = n })
   Goes-leading_mark s c m n is none none_left ready step fewer =
       Goes-item s (Ok c) (record s { marks = m; decomposed = n }) (CanCompose-next s m n ready is (step.ready ready.source) step.kept.0)
       (omega (arith, ap length none, ap length none_left, ap (λ b. ahead_left b (decomposition.items_left left n)) is, ap (λ b. ahead_left b (decomposition.items_left left s.decomposed)) is))
 
-  pub Goes-first_fault : (s : Composition I) (e : NormalizeError) (m : StayingMarks) (n : Decomposition I) → s.ahead ≡ NoStarter → staying m ≡ [] → CanCompose can left s → decomposition.DecompositionSteps can gives left s.decomposed (Some (Err e)) n → decomposition.items_left left n < decomposition.items_left left s.decomposed → MakesProgress {A = Result ℕ NormalizeError} (CanCompose can left) (λ v. at_most (items_left left v)) s (Some (Err e)) (record s { marks = m; decomposed = n; ahead = Ended })
+  pub Goes-first_fault : (s : Composition I) (e : NormalizeError) (m : StayingMarks) (n : Decomposition I) → s.ahead ≡ NoStarter → staying m ≡ [] → CanCompose can left s
+      → decomposition.DecompositionSteps can gives left s.decomposed (Some (Err e)) n → decomposition.items_left left n < decomposition.items_left left s.decomposed
+      → MakesProgress {A = Result ℕ NormalizeError} (CanCompose can left) (λ v. at_most (items_left left v)) s (Some (Err e)) (record s { marks = m; decomposed = n; ahead = Ended })
   Goes-first_fault s e m n is none_left ready step fewer =
       Goes-item s (Err e) (record s { marks = m; decomposed = n; ahead = Ended }) (record { source = step.ready ready.source; same = step.kept.0 ∙ ready.same; suits = ready.suits; passed = tt })
       (omega (arith, ap length none_left, ap (λ b. ahead_left b (decomposition.items_left left s.decomposed)) is))

@@ -27,7 +27,8 @@ module _ {I : Type 0} (can : I → Type 0) (gives : I → Option ℕ → I → T
   ended : (s : Decomposition I) → s.pending ≡ None → ordered s.waiting ≡ [] → WillGive gives s []
   ended s none empty = IsToCome-ended gives (nfd (reading_by s)) s.pending s.delegate (ordered s.waiting) (nfd-nil (reading_by s)) none empty
 
-  pub Steps-ended : (s t : Decomposition I) → t.characters ≡ s.characters → t.ignored ≡ s.ignored → s.pending ≡ None → t.pending ≡ None → ordered s.waiting ≡ [] → ordered t.waiting ≡ [] → DecompositionSteps can gives left s None t
+  pub Steps-ended : (s t : Decomposition I) → t.characters ≡ s.characters → t.ignored ≡ s.ignored → s.pending ≡ None → t.pending ≡ None → ordered s.waiting ≡ [] → ordered t.waiting ≡ []
+      → DecompositionSteps can gives left s None t
   Steps-ended s t characters ignored before after empty empty_after = record {
     item = record {
       first = λ out h. (IsToCome-none gives (nfd (reading_by s)) s.pending s.delegate (ordered s.waiting) out (nfd-nil (reading_by s)) before empty h, ended t after empty_after);
@@ -52,11 +53,14 @@ module _ {I : Type 0} (can : I → Type 0) (gives : I → Option ℕ → I → T
     short_to_come : StaysShort gives s → AreShortToCome gives (has_class_form s.characters) (reading_by s) (Some c) s.delegate
     short_to_come h = subst (λ p. AreShortToCome gives (has_class_form s.characters) (reading_by s) p s.delegate) pending h
 
-    pub Steps-chunk : (t : Decomposition I) (first : ℕ) → t.characters ≡ s.characters → t.ignored ≡ s.ignored → ReadsChunk can gives left (has_class_form s.characters) (reading_by s) c s.delegate first t.pending t.delegate t.waiting → DecompositionSteps can gives left s (Some (Ok first)) t
+    pub Steps-chunk : (t : Decomposition I) (first : ℕ) → t.characters ≡ s.characters → t.ignored ≡ s.ignored
+        → ReadsChunk can gives left (has_class_form s.characters) (reading_by s) c s.delegate first t.pending t.delegate t.waiting → DecompositionSteps can gives left s (Some (Ok first)) t
     Steps-chunk t first characters ignored r = record {
       item = record {
         first = λ out h.
-            let next = IsToCome-chunk gives can left (has_class_form s.characters) (reading_by s) s.suits c s.delegate t.delegate first t.pending t.waiting (ordered s.waiting) out empty (s.anew c pending) r (to_come out h) in
+            let next =
+            IsToCome-chunk gives can left (has_class_form s.characters) (reading_by s) s.suits c s.delegate t.delegate first t.pending t.waiting (ordered s.waiting) out empty
+            (s.anew c pending) r (to_come out h) in
             (next.0, next.1, rw (characters, ignored) next.2);
         fault = tt;
         room = λ h.
@@ -68,7 +72,8 @@ module _ {I : Type 0} (can : I → Type 0) (gives : I → Option ℕ → I → T
       kept = (characters, ignored);
     }
 
-    pub Steps-refused : (t : Decomposition I) → t.characters ≡ s.characters → t.ignored ≡ s.ignored → t.pending ≡ None → ordered t.waiting ≡ [] → ChunkDidNotFit gives (has_class_form s.characters) (reading_by s) c s.delegate → DecompositionSteps can gives left s (Some (Err Memory)) t
+    pub Steps-refused : (t : Decomposition I) → t.characters ≡ s.characters → t.ignored ≡ s.ignored → t.pending ≡ None → ordered t.waiting ≡ []
+        → ChunkDidNotFit gives (has_class_form s.characters) (reading_by s) c s.delegate → DecompositionSteps can gives left s (Some (Err Memory)) t
     Steps-refused t characters ignored after empty_after long = record {
       item = record {
         first = λ out h. ended t after empty_after;
@@ -82,25 +87,35 @@ module _ {I : Type 0} (can : I → Type 0) (gives : I → Option ℕ → I → T
     }
 
     items_left-pending : items_left left s ≡ longest_list * (size (left s.delegate) + 1)
-    items_left-pending = ap (λ l. length l + longest_list * reads_left s.pending (size (left s.delegate))) empty ∙ ap (λ p. 0 + longest_list * reads_left p (size (left s.delegate))) pending ∙ omega arith
+    items_left-pending =
+        ap (λ l. length l + longest_list * reads_left s.pending (size (left s.delegate))) empty ∙ ap (λ p. 0 + longest_list * reads_left p (size (left s.delegate))) pending ∙ omega arith
 
     -- the chunk was read, behind a character that had been read, or didn't fit
     module _ (following : Option ℕ) (u : I) (read : HasRead gives left s.delegate following u) (t : Decomposition I) (characters : t.characters ≡ s.characters) (ignored : t.ignored ≡ s.ignored) where
-      pub Steps-read : (r : Result ℕ NormalizeError) → IfOk r (λ first. (before : I) → HasRead gives left before following u → ReadsChunk can gives left (has_class_form s.characters) (reading_by s) c before first t.pending t.delegate t.waiting) → IfErr r (λ e. (e ≡ Memory) × IsEnded t × ((before : I) → HasRead gives left before following u → ChunkDidNotFit gives (has_class_form s.characters) (reading_by s) c before)) → DecompositionSteps can gives left s (Some r) t
+      pub Steps-read : (r : Result ℕ NormalizeError) → IfOk r
+          (λ first. (before : I) → HasRead gives left before following u → ReadsChunk can gives left (has_class_form s.characters) (reading_by s) c before first t.pending t.delegate t.waiting)
+          → IfErr r (λ e. (e ≡ Memory) × IsEnded t × ((before : I) → HasRead gives left before following u → ChunkDidNotFit gives (has_class_form s.characters) (reading_by s) c before))
+          → DecompositionSteps can gives left s (Some r) t
       Steps-read (Ok first) ok err = Steps-chunk t first characters ignored (ok s.delegate read)
       Steps-read (Err e) ok err =
           subst (λ k. DecompositionSteps can gives left s (Some (Err k)) t) (sym err.0) (Steps-refused t characters ignored err.1.0 err.1.1 (err.2 s.delegate read))
 
     items_left-ended : (t : Decomposition I) → IsEnded t → items_left left t ≡ 0
-    items_left-ended t end = ap (λ l. length l + longest_list * reads_left t.pending (size (left t.delegate))) end.1 ∙ ap (λ p. 0 + longest_list * reads_left p (size (left t.delegate))) end.0 ∙ omega arith
+    items_left-ended t end =
+        ap (λ l. length l + longest_list * reads_left t.pending (size (left t.delegate))) end.1 ∙ ap (λ p. 0 + longest_list * reads_left p (size (left t.delegate))) end.0 ∙ omega arith
 
-    pub Goes-chunk : (t : Decomposition I) (first : ℕ) → ReadsChunk can gives left (has_class_form s.characters) (reading_by s) c s.delegate first t.pending t.delegate t.waiting → MakesProgress {A = Result ℕ NormalizeError} (CanDecompose can left) (λ u. at_most (items_left left u)) s (Some (Ok first)) t
+    pub Goes-chunk : (t : Decomposition I) (first : ℕ) → ReadsChunk can gives left (has_class_form s.characters) (reading_by s) c s.delegate first t.pending t.delegate t.waiting
+        → MakesProgress {A = Result ℕ NormalizeError} (CanDecompose can left) (λ u. at_most (items_left left u)) s (Some (Ok first)) t
     Goes-chunk t first r =
         let smaller = chunk_size gives can left (has_class_form s.characters) (reading_by s) s.suits c s.delegate t.delegate first t.pending t.waiting r in
         record { on = λ finite. (r.ready, tt, omega (arith, smaller, items_left-pending)); keeps = r.ready; rests = λ finite. tt }
 
     -- what was read is nearer to the end
-    pub Goes-read : (following : Option ℕ) (u : I) → HasRead gives left s.delegate following u → (t : Decomposition I) (r : Result ℕ NormalizeError) → IfOk r (λ first. (before : I) → HasRead gives left before following u → ReadsChunk can gives left (has_class_form s.characters) (reading_by s) c before first t.pending t.delegate t.waiting) → IfErr r (λ e. (e ≡ Memory) × IsEnded t × ((before : I) → HasRead gives left before following u → ChunkDidNotFit gives (has_class_form s.characters) (reading_by s) c before)) → MakesProgress {A = Result ℕ NormalizeError} (CanDecompose can left) (λ v. at_most (items_left left v)) s (Some r) t
+    pub Goes-read : (following : Option ℕ) (u : I) → HasRead gives left s.delegate following u → (t : Decomposition I) (r : Result ℕ NormalizeError)
+        → IfOk r (λ first. (before : I) → HasRead gives left before following u
+        → ReadsChunk can gives left (has_class_form s.characters) (reading_by s) c before first t.pending t.delegate t.waiting)
+        → IfErr r (λ e. (e ≡ Memory) × IsEnded t × ((before : I) → HasRead gives left before following u → ChunkDidNotFit gives (has_class_form s.characters) (reading_by s) c before))
+        → MakesProgress {A = Result ℕ NormalizeError} (CanDecompose can left) (λ v. at_most (items_left left v)) s (Some r) t
     Goes-read following u read t (Ok first) ok err = Goes-chunk t first (ok s.delegate read)
     Goes-read following u read t (Err e) ok err =
         let ready : CanDecompose can left t = rw err.1.0 tt in

@@ -79,13 +79,15 @@ module _ {I : Type 0} (gives : I → Option ℕ → I → Type 0) where
       let later = spelled_behind run.0 ys t x run.2 first.1 in
       (later.0, ap (λ z. z ∷ x) (sym first.0) ∙ ap (λ l. y ∷ l) later.1, later.2)
 
-  pub spelled_next : (t : I) (pending : Option ℕ) (u : I) (x : List ℕ) → gives t pending u → Spells gives t x → (rest : List ℕ) × (x ≡ option_to_list pending ++ rest) × SpellsBehind gives pending u rest
+  pub spelled_next : (t : I) (pending : Option ℕ) (u : I) (x : List ℕ) → gives t pending u → Spells gives t x → (rest : List ℕ) × (x ≡ option_to_list pending ++ rest)
+      × SpellsBehind gives pending u rest
   spelled_next t None u [] step spells = ([], refl, refl)
   spelled_next t None u (c ∷ x) step spells = absurd (spells.0 u step)
   spelled_next t (Some c) u [] step spells = absurd (spells c u step)
   spelled_next t (Some c) u (b ∷ x) step spells = let first = spells.1 c u step in (x, ap (λ z. z ∷ x) (sym first.0), first.1)
 
-  pub spelled_then : (s : I) (xs : List ℕ) (pending : Option ℕ) (u : I) (x : List ℕ) → YieldsThen gives s xs pending u → Spells gives s x → (rest : List ℕ) × (x ≡ xs ++ (option_to_list pending ++ rest)) × SpellsBehind gives pending u rest
+  pub spelled_then : (s : I) (xs : List ℕ) (pending : Option ℕ) (u : I) (x : List ℕ) → YieldsThen gives s xs pending u → Spells gives s x → (rest : List ℕ)
+      × (x ≡ xs ++ (option_to_list pending ++ rest)) × SpellsBehind gives pending u rest
   spelled_then s xs pending u x run spells =
       let before = spelled_behind s xs run.0 x run.1 spells in
       let next = spelled_next run.0 pending u before.0 run.2 before.2 in

@@ -13,14 +13,26 @@ use Rattle.normalizer_tables.specs.Conditions.{Holds, HoldsAt, IsSoundWord}
 use Rattle.normalizer_tables.specs.PairConditions.{composing_reading, is_passed}
 use Rattle.normalizer_tables.specs.Pairs.{Pair}
 use Rattle.normalizer_tables.specs.SpecialLists.{FixedList, fixed_list_of}
-use Rattle.normalizer_tables.specs.Words.{ignored_marker, class_of_word, is_plain, is_class_form, is_ordinary_class_form, is_special_class_form, is_backward_combining, is_non_round_trip, has_high_zeros, has_low_zeros, low_byte, two_characters, read_low, listed, read}
+use Rattle.normalizer_tables.specs.Words.{ignored_marker, class_of_word, is_plain, is_class_form, is_ordinary_class_form, is_special_class_form, is_backward_combining, is_non_round_trip}
+use Rattle.normalizer_tables.specs.Words.{has_high_zeros, has_low_zeros, low_byte, two_characters, read_low, listed, read}
 use Rattle.normalizer_tables.proofs.CharacterLemmas.{list_read-scalar, list_of-reads, class_of-scalar}
 
 -- all nine lie above the bound
 fixed_list_of-low : (n : ℕ) → n < 0x0340 → fixed_list_of n ≡ None
 unfolding fixed_list_of
 fixed_list_of-low n low =
-    rw (ne_eqb n 0x0340 (λ e. omega arith), ne_eqb n 0x0341 (λ e. omega arith), ne_eqb n 0x0343 (λ e. omega arith), ne_eqb n 0x0344 (λ e. omega arith), ne_eqb n 0x0F73 (λ e. omega arith), ne_eqb n 0x0F75 (λ e. omega arith), ne_eqb n 0x0F81 (λ e. omega arith), ne_eqb n 0xFF9E (λ e. omega arith), ne_eqb n 0xFF9F (λ e. omega arith))
+    rw (
+      ne_eqb n 0x0340 (λ e. omega arith),
+      ne_eqb n 0x0341 (λ e. omega arith),
+      ne_eqb n 0x0343 (λ e. omega arith),
+      ne_eqb n 0x0344 (λ e. omega arith),
+      ne_eqb n 0x0F73
+          (λ e. omega arith),
+      ne_eqb n 0x0F75 (λ e. omega arith),
+      ne_eqb n 0x0F81 (λ e. omega arith),
+      ne_eqb n 0xFF9E (λ e. omega arith),
+      ne_eqb n 0xFF9F (λ e. omega arith),
+    )
 
 -- a flagged word is passed below the bound alone
 below_bound : (below n k : Bool) → k ≡ true → (below || (not n && not k)) ≡ true → below ≡ true
@@ -29,7 +41,8 @@ below_bound false true k flagged passed = cc
 below_bound false false true flagged passed = cc
 below_bound false false false flagged passed = cc
 
-ordinary_either : (P : WordReading → Type 0) (marked plain ordinary : Bool) (k : ℕ) (other : WordReading) → ordinary ≡ true → P Ignored → P Itself → P (ClassForm k) → P (if marked then Ignored else if plain then Itself else if ordinary then ClassForm k else other)
+ordinary_either : (P : WordReading → Type 0) (marked plain ordinary : Bool) (k : ℕ) (other : WordReading) → ordinary ≡ true → P Ignored → P Itself → P (ClassForm k)
+    → P (if marked then Ignored else if plain then Itself else if ordinary then ClassForm k else other)
 ordinary_either P true plain ordinary k other h ignored itself form = ignored
 ordinary_either P false true ordinary k other h ignored itself form = itself
 ordinary_either P false false true k other h ignored itself form = form
@@ -58,7 +71,8 @@ module _ (s : Characters) (n : ℕ) (h : IsScalar n) where
   unfolding class_of_word
   class_of-form form = class_of-scalar s n h ∙ rw form refl
 
-  module _ (b : Bounds) (bounded : b.composition ≤ 0x0300) (pairs : List Pair) (words : Holds s b Words) (inhabited : list_of s [] n ≡ [] → ⊥) (safely : BeginsSafely (composing_reading s pairs) (list_of s [] n)) (passed : is_passed s b n ≡ true) where
+  module _ (b : Bounds) (bounded : b.composition ≤ 0x0300) (pairs : List Pair) (words : Holds s b Words) (inhabited : list_of s [] n ≡ [] → ⊥)
+      (safely : BeginsSafely (composing_reading s pairs) (list_of s [] n)) (passed : is_passed s b n ≡ true) where
     sound : IsSoundWord s n
     unfolding Holds HoldsAt
     sound = words.1 n h

@@ -1,5 +1,6 @@
 -- Characters that a composing loop passes, in a text that is decomposed.
-use Rattle.std.proofs.Common.{◌≡◌, ℕ, ◌+◌, ◌*◌, ◌<◌, Bool, false, List, [], ◌∷◌, ◌++◌, length, refl, sym, ap, ◌∙◌, subst, arith, Option, Some, None, IfSome, OnSome, MatchOption, option_to_list, append-nil}
+use Rattle.std.proofs.Common.{◌≡◌, ℕ, ◌+◌, ◌*◌, ◌<◌, Bool, false, List, [], ◌∷◌, ◌++◌, length, refl, sym, ap, ◌∙◌, subst, arith, Option, Some, None, IfSome, OnSome, MatchOption, option_to_list}
+use Rattle.std.proofs.Common.{append-nil}
 use Rattle.std.specs.Option.{ForSome}
 use Rattle.std.specs.Iterator.{Count, size, IsFinite}
 use Rattle.normal_forms.specs.Reading.{Reading}
@@ -40,11 +41,13 @@ begins_anew s b pairs suits ignored = record {
   anew = λ c passed. let apart = suits.apart ignored c passed in continues-anew (has_class_form s) (decomposing_reading s ignored) c apart.anew apart.inhabited;
 }
 
-pub all_anew : (s : Characters) (b : Bounds) (ignored : IgnoredCharacters) → PassedBeginAnew s b ignored → (following : Option ℕ) → AllPassed s b following → ForSome following (λ c. continues (has_class_form s) (decomposing_reading s ignored) c ≡ false)
+pub all_anew : (s : Characters) (b : Bounds) (ignored : IgnoredCharacters) → PassedBeginAnew s b ignored → (following : Option ℕ) → AllPassed s b following
+    → ForSome following (λ c. continues (has_class_form s) (decomposing_reading s ignored) c ≡ false)
 all_anew s b ignored anew None passed = λ c e. cc
 all_anew s b ignored anew (Some e) passed = λ c is. let same : e ≡ c = cc in subst (λ k. continues (has_class_form s) (decomposing_reading s ignored) k ≡ false) same (anew.anew e passed)
 
-pub all_apart : (s : Characters) (b : Bounds) (pairs : List Pair) → SuitsLazyComposing s b pairs → (ignored : IgnoredCharacters) (following : Option ℕ) → AllPassed s b following → IfSome following (StandsApartIn s pairs ignored)
+pub all_apart : (s : Characters) (b : Bounds) (pairs : List Pair) → SuitsLazyComposing s b pairs → (ignored : IgnoredCharacters) (following : Option ℕ) → AllPassed s b following
+    → IfSome following (StandsApartIn s pairs ignored)
 all_apart s b pairs suits ignored None passed = tt
 all_apart s b pairs suits ignored (Some c) passed = suits.apart ignored c passed
 
@@ -57,11 +60,13 @@ IsAtPassed-stands b pairs s suits stands = record { waiting = stands.0; apart = 
 
 -- ---- the composing form
 
-composed_form-is : (s : Characters) (ignored : IgnoredCharacters) (pairs : List Pair) (x : List ℕ) → composed_form (reading_of s (ignored_list ignored) (pair_of pairs)) x ≡ compose_by_starters (composing_reading s pairs) (nfd (decomposing_reading s ignored) x)
+composed_form-is : (s : Characters) (ignored : IgnoredCharacters) (pairs : List Pair) (x : List ℕ)
+    → composed_form (reading_of s (ignored_list ignored) (pair_of pairs)) x ≡ compose_by_starters (composing_reading s pairs) (nfd (decomposing_reading s ignored) x)
 unfolding composed_form nfd order insert is_reorderable expand compose_by_starters compose_after join is_above
 composed_form-is s ignored pairs x = refl
 
-own_form : (s : Characters) (b : Bounds) (pairs : List Pair) → SuitsLazyComposing s b pairs → (ignored : IgnoredCharacters) (c : ℕ) → StandsApartIn s pairs ignored c → composed_form (reading_of s (ignored_list ignored) (pair_of pairs)) (c ∷ []) ≡ c ∷ []
+own_form : (s : Characters) (b : Bounds) (pairs : List Pair) → SuitsLazyComposing s b pairs → (ignored : IgnoredCharacters) (c : ℕ) → StandsApartIn s pairs ignored c
+    → composed_form (reading_of s (ignored_list ignored) (pair_of pairs)) (c ∷ []) ≡ c ∷ []
 unfolding normal_form
 own_form s b pairs suits ignored c apart =
     composed_form-is s ignored pairs (c ∷ []) ∙ sym (nfc-reading_by s ignored pairs suits.starters (c ∷ [])) ∙ apart.form
@@ -78,17 +83,25 @@ BeginsSafely-apart f d c apart = by (d.list c) refl
     by (first ∷ others) e = let h = apart.safely first others e in (h.0, λ a. none_of (d.pair a first) (h.1 a))
 
 -- what stands apart and what is behind it begin safely
-begins_apart : {I : Type 0} (gives : I → Option ℕ → I → Type 0) (s : Characters) (pairs : List Pair) (ignored : IgnoredCharacters) (following : Option ℕ) (u : I) (rest : List ℕ) → IfSome following (StandsApartIn s pairs ignored) → SpellsBehind gives following u rest → BeginsSafely (reading_of s (ignored_list ignored) (pair_of pairs)) (expand (reading_of s (ignored_list ignored) (pair_of pairs)) (option_to_list following ++ rest))
+begins_apart : {I : Type 0} (gives : I → Option ℕ → I → Type 0) (s : Characters) (pairs : List Pair) (ignored : IgnoredCharacters) (following : Option ℕ) (u : I) (rest : List ℕ)
+    → IfSome following (StandsApartIn s pairs ignored) → SpellsBehind gives following u rest
+    → BeginsSafely (reading_of s (ignored_list ignored) (pair_of pairs)) (expand (reading_of s (ignored_list ignored) (pair_of pairs)) (option_to_list following ++ rest))
 unfolding expand
-begins_apart gives s pairs ignored None u rest apart source = subst (λ l. BeginsSafely (reading_of s (ignored_list ignored) (pair_of pairs)) (expand (reading_of s (ignored_list ignored) (pair_of pairs)) l)) (sym source) tt
-begins_apart gives s pairs ignored (Some e) u rest apart source = BeginsSafely-expand (reading_of s (ignored_list ignored) (pair_of pairs)) e rest apart.inhabited (BeginsSafely-apart (has_class_form s) (reading_of s (ignored_list ignored) (pair_of pairs)) e apart)
+begins_apart gives s pairs ignored None u rest apart source =
+    subst (λ l. BeginsSafely (reading_of s (ignored_list ignored) (pair_of pairs)) (expand (reading_of s (ignored_list ignored) (pair_of pairs)) l)) (sym source) tt
+begins_apart gives s pairs ignored (Some e) u rest apart source =
+    BeginsSafely-expand (reading_of s (ignored_list ignored) (pair_of pairs)) e rest apart.inhabited
+    (BeginsSafely-apart (has_class_form s) (reading_of s (ignored_list ignored) (pair_of pairs)) e apart)
 
 -- only classes and pairs matter to where a text may begin
-BeginsSafely-pairs : (s : Characters) (pairs : List Pair) (ignored : IgnoredCharacters) (x : List ℕ) → BeginsSafely (reading_of s (ignored_list ignored) (pair_of pairs)) x → BeginsSafely (composing_reading s pairs) x
+BeginsSafely-pairs : (s : Characters) (pairs : List Pair) (ignored : IgnoredCharacters) (x : List ℕ) → BeginsSafely (reading_of s (ignored_list ignored) (pair_of pairs)) x
+    → BeginsSafely (composing_reading s pairs) x
 BeginsSafely-pairs s pairs ignored [] h = tt
 BeginsSafely-pairs s pairs ignored (c ∷ x) h = h
 
-nfd-begins : (s : Characters) (pairs : List Pair) (ignored : IgnoredCharacters) (x : List ℕ) → BeginsSafely (reading_of s (ignored_list ignored) (pair_of pairs)) (expand (reading_of s (ignored_list ignored) (pair_of pairs)) x) → BeginsSafely (composing_reading s pairs) (nfd (decomposing_reading s ignored) x)
+nfd-begins : (s : Characters) (pairs : List Pair) (ignored : IgnoredCharacters) (x : List ℕ)
+    → BeginsSafely (reading_of s (ignored_list ignored) (pair_of pairs)) (expand (reading_of s (ignored_list ignored) (pair_of pairs)) x)
+    → BeginsSafely (composing_reading s pairs) (nfd (decomposing_reading s ignored) x)
 unfolding nfd
 nfd-begins s pairs ignored x begins =
     let d = reading_of s (ignored_list ignored) (pair_of pairs) in
@@ -112,8 +125,12 @@ module _ {I : Type 0} (can : I → Type 0) (gives : I → Option ℕ → I → T
     first_apart : StandsApartIn s.characters pairs s.ignored c
     first_apart = subst (λ o. IfSome o (StandsApartIn s.characters pairs s.ignored)) pending here.apart
 
-    module _ (following : Option ℕ) (t : Decomposition I) (step : gives s.delegate following t.delegate) (near : OnSome following (can t.delegate × IsFinite (left t.delegate) × (size (left t.delegate) < size (left s.delegate)))) (apart : IfSome following (StandsApartIn s.characters pairs s.ignored)) (reads : t.pending ≡ following) (empty : ordered t.waiting ≡ []) (characters : t.characters ≡ s.characters) (ignored : t.ignored ≡ s.ignored) where
-      to_come : (y : List ℕ) → WillGive gives s y → (own : List ℕ) × (rest : List ℕ) × (y ≡ own ++ rest) × (compose_by_starters (composing_reading s.characters pairs) y ≡ c ∷ compose_by_starters (composing_reading s.characters pairs) rest) × WillGive gives t rest
+    module _ (following : Option ℕ) (t : Decomposition I) (step : gives s.delegate following t.delegate)
+        (near : OnSome following (can t.delegate × IsFinite (left t.delegate) × (size (left t.delegate) < size (left s.delegate))))
+        (apart : IfSome following (StandsApartIn s.characters pairs s.ignored)) (reads : t.pending ≡ following) (empty : ordered t.waiting ≡ []) (characters : t.characters ≡ s.characters)
+        (ignored : t.ignored ≡ s.ignored) where
+      to_come : (y : List ℕ) → WillGive gives s y → (own : List ℕ) × (rest : List ℕ) × (y ≡ own ++ rest)
+          × (compose_by_starters (composing_reading s.characters pairs) y ≡ c ∷ compose_by_starters (composing_reading s.characters pairs) rest) × WillGive gives t rest
       to_come y h =
           let d = reading_by s in
           let D = reading_of s.characters (ignored_list s.ignored) (pair_of pairs) in
@@ -153,7 +170,8 @@ module _ {I : Type 0} (can : I → Type 0) (gives : I → Option ℕ → I → T
       fewer_by None after before h = omega arith
       fewer_by (Some e) after before h = omega arith
 
-      ready_by : (o : Option ℕ) → OnSome o (can t.delegate × IsFinite (left t.delegate) × (size (left t.delegate) < size (left s.delegate))) → IsReadyBehind can left o t.delegate × OnSome o (size (left t.delegate) < size (left s.delegate))
+      ready_by : (o : Option ℕ) → OnSome o (can t.delegate × IsFinite (left t.delegate) × (size (left t.delegate) < size (left s.delegate))) → IsReadyBehind can left o t.delegate
+          × OnSome o (size (left t.delegate) < size (left s.delegate))
       ready_by None h = (tt, tt)
       ready_by (Some e) h = ((h.0, h.1), h.2)
 
@@ -167,12 +185,14 @@ module _ {I : Type 0} (can : I → Type 0) (gives : I → Option ℕ → I → T
             at_passed = record { waiting = empty; apart = rw (reads, characters, ignored) apart };
             kept = characters;
             fewer =
-                let before = ap (λ l. length l + longest_list * reads_left s.pending (size (left s.delegate))) here.waiting ∙ ap (λ p. 0 + longest_list * reads_left p (size (left s.delegate))) pending in
+                let before =
+                ap (λ l. length l + longest_list * reads_left s.pending (size (left s.delegate))) here.waiting ∙ ap (λ p. 0 + longest_list * reads_left p (size (left s.delegate))) pending in
                 let after = ap (λ l. length l + longest_list * reads_left t.pending (size (left t.delegate))) empty ∙ ap (λ p. 0 + longest_list * reads_left p (size (left t.delegate))) reads in
                 omega (arith, before, after, fewer_by following (size (left t.delegate)) (size (left s.delegate)) both.1);
           }
 
-    pub GivesStarter-next : (t : Decomposition I) (first : ℕ) → t.characters ≡ s.characters → t.ignored ≡ s.ignored → ReadsChunk can gives left (has_class_form s.characters) (reading_by s) c s.delegate first t.pending t.delegate t.waiting → GivesStarter can gives left s first t
+    pub GivesStarter-next : (t : Decomposition I) (first : ℕ) → t.characters ≡ s.characters → t.ignored ≡ s.ignored
+        → ReadsChunk can gives left (has_class_form s.characters) (reading_by s) c s.delegate first t.pending t.delegate t.waiting → GivesStarter can gives left s first t
     GivesStarter-next t first characters ignored r =
         record {
           steps = Steps-chunk can gives left s c pending here.waiting t first characters ignored r;

@@ -1,5 +1,6 @@
 -- Reading characters on: what waits after each step.
-use Rattle.std.proofs.Common.{◌≡◌, ℕ, ◌+◌, ◌<◌, ◌≤◌, Bool, true, false, List, [], ◌∷◌, ◌++◌, length, drop, get_or, refl, sym, ap, ◌∙◌, arith, Option, Some, None, IfSome, OnSome, MatchOption, slice_get, inl, inr, append_assoc, append-nil}
+use Rattle.std.proofs.Common.{◌≡◌, ℕ, ◌+◌, ◌<◌, ◌≤◌, Bool, true, false, List, [], ◌∷◌, ◌++◌, length, drop, get_or, refl, sym, ap, ◌∙◌, arith, Option, Some, None, IfSome, OnSome, MatchOption}
+use Rattle.std.proofs.Common.{slice_get, inl, inr, append_assoc, append-nil}
 use Rattle.std.proofs.lemmas.List.{drop_more, drop_all, length-append}
 use Rattle.std.proofs.lemmas.List.Elements.{All-nil, All-push}
 use Rattle.std.specs.Iterator.{Count, size, IsFinite, Yields}
@@ -47,7 +48,9 @@ no_member members place inside e =
       | inr past ↦ let past_end = past.0 in omega arith
     ]
 
-pub pushed_member : (s : Characters) (members : List ℕ) (first place m : ℕ) (old w new : WaitingList) → Some m ≡ slice_get members place → PushedSoFar s members first place old w → ((d : Reading) → HasClassesFrom s d → AgreesWith d w → (rest : List ℕ) → reordered d w (m ∷ rest) ≡ reordered d new rest) → ((d : Reading) → HasClassesFrom s d → AgreesWith d w → AgreesWith d new) → held new ≡ held w + 1 → PushedSoFar s members first (place + 1) old new
+pub pushed_member : (s : Characters) (members : List ℕ) (first place m : ℕ) (old w new : WaitingList) → Some m ≡ slice_get members place → PushedSoFar s members first place old w
+    → ((d : Reading) → HasClassesFrom s d → AgreesWith d w → (rest : List ℕ) → reordered d w (m ∷ rest) ≡ reordered d new rest)
+    → ((d : Reading) → HasClassesFrom s d → AgreesWith d w → AgreesWith d new) → held new ≡ held w + 1 → PushedSoFar s members first (place + 1) old new
 pushed_member s members first place m old w new there before text classes more = record {
   text = λ d same agrees rest.
       before.text d same agrees rest ∙ ap (λ l. reordered d w (l ++ rest)) (drop_member members place m there)
@@ -59,13 +62,15 @@ pushed_member s members first place m old w new there before text classes more =
 pub pushed_none : (s : Characters) (members : List ℕ) (first : ℕ) (old : WaitingList) → PushedSoFar s members first first old old
 pushed_none s members first old = record { text = λ d same agrees rest. refl; classes = λ d same agrees. agrees; held = refl }
 
-pub pushed_all : (s : Characters) (members : List ℕ) (first place : ℕ) (old new : WaitingList) → length members ≤ place → PushedSoFar s members first place old new → (d : Reading) → HasClassesFrom s d → AgreesWith d old → (rest : List ℕ) → reordered d old (drop first members ++ rest) ≡ reordered d new rest
+pub pushed_all : (s : Characters) (members : List ℕ) (first place : ℕ) (old new : WaitingList) → length members ≤ place → PushedSoFar s members first place old new → (d : Reading)
+    → HasClassesFrom s d → AgreesWith d old → (rest : List ℕ) → reordered d old (drop first members ++ rest) ≡ reordered d new rest
 pushed_all s members first place old new end pushed d same agrees rest = pushed.text d same agrees rest ∙ ap (λ l. reordered d new (l ++ rest)) (drop_all place members end)
 
 -- ---- characters that continue, one after another
 
 -- `read` came and waits
-pub record ReadSoFar {I : Type 0} (gives : I → Option ℕ → I → Type 0) (left : I → Count) (has_class_form : ℕ → Bool) (d : Reading) (delegate : I) (waiting : WaitingList) (delegate_now : I) (waiting_now : WaitingList) : Type 0 where
+pub record ReadSoFar {I : Type 0} (gives : I → Option ℕ → I → Type 0) (left : I → Count) (has_class_form : ℕ → Bool) (d : Reading) (delegate : I) (waiting : WaitingList) (delegate_now : I)
+    (waiting_now : WaitingList) : Type 0 where
   pub read : List ℕ
   pub run : Yields gives delegate read delegate_now
   pub continuing : AllPass (continues has_class_form d) read
@@ -95,7 +100,9 @@ module _ {I : Type 0} (can : I → Type 0) (gives : I → Option ℕ → I → T
   unfolding expand
   expand-one_more xs c = expand-append d xs (c ∷ []) ∙ ap (λ l. expand d xs ++ l) (append-nil (d.list c))
 
-  pub ReadSoFar-more : (delegate now next : I) (waiting w new : WaitingList) (c : ℕ) → ReadSoFar gives left f d delegate waiting now w → gives now (Some c) next → continues f d c ≡ true → ((rest : List ℕ) → reordered d w (d.list c ++ rest) ≡ reordered d new rest) → AgreesWith d new → held new ≡ held w + length (d.list c) → size (left next) < size (left now) → ReadSoFar gives left f d delegate waiting next new
+  pub ReadSoFar-more : (delegate now next : I) (waiting w new : WaitingList) (c : ℕ) → ReadSoFar gives left f d delegate waiting now w → gives now (Some c) next → continues f d c ≡ true
+      → ((rest : List ℕ) → reordered d w (d.list c ++ rest) ≡ reordered d new rest) → AgreesWith d new → held new ≡ held w + length (d.list c) → size (left next) < size (left now)
+      → ReadSoFar gives left f d delegate waiting next new
   ReadSoFar-more delegate now next waiting w new c before step continuing text agrees more nearer =
       let longer = expand-one_more before.read c in
       record {
@@ -110,7 +117,9 @@ module _ {I : Type 0} (can : I → Type 0) (gives : I → Option ℕ → I → T
         fewer = omega (arith, before.fewer, length-append before.read (c ∷ []));
       }
 
-  pub ReadSoFar-done : (delegate now next : I) (waiting w new : WaitingList) (pending : Option ℕ) → ReadSoFar gives left f d delegate waiting now w → gives now pending next → IfSome pending (λ c. continues f d c ≡ false) → ordered new ≡ reordered d w [] → unordered new ≡ [] → IsReadyBehind can left pending next → OnSome pending (size (left next) < size (left now)) → ReadsOn can gives left f d delegate waiting pending next new
+  pub ReadSoFar-done : (delegate now next : I) (waiting w new : WaitingList) (pending : Option ℕ) → ReadSoFar gives left f d delegate waiting now w → gives now pending next
+      → IfSome pending (λ c. continues f d c ≡ false) → ordered new ≡ reordered d w [] → unordered new ≡ [] → IsReadyBehind can left pending next
+      → OnSome pending (size (left next) < size (left now)) → ReadsOn can gives left f d delegate waiting pending next new
   ReadSoFar-done delegate now next waiting w new pending before step anew text settled ready nearer = record {
     read = before.read;
     run = (now, before.run, step);
@@ -122,7 +131,8 @@ module _ {I : Type 0} (can : I → Type 0) (gives : I → Option ℕ → I → T
     fewer = nearer_end pending (size (left next)) (length before.read) (size (left delegate)) (size (left now)) before.fewer nearer;
   }
 
-  pub ReadSoFar-refused : (delegate now next : I) (waiting w : WaitingList) (c : ℕ) → ReadSoFar gives left f d delegate waiting now w → gives now (Some c) next → continues f d c ≡ true → places < held w + length (d.list c) → DidNotFit gives f d delegate waiting
+  pub ReadSoFar-refused : (delegate now next : I) (waiting w : WaitingList) (c : ℕ) → ReadSoFar gives left f d delegate waiting now w → gives now (Some c) next → continues f d c ≡ true
+      → places < held w + length (d.list c) → DidNotFit gives f d delegate waiting
   ReadSoFar-refused delegate now next waiting w c before step continuing long =
       let longer = expand-one_more before.read c in
       record {
@@ -140,7 +150,8 @@ reads_left-nearer None after before h = omega arith
 reads_left-nearer (Some c) after before h = omega arith
 
 -- `next` was read from the delegate, behind those that wait
-pub record ReadsAhead {I : Type 0} (can : I → Type 0) (gives : I → Option ℕ → I → Type 0) (left : I → Count) (has_class_form : ℕ → Bool) (d : Reading) (first : Option ℕ) (delegate : I) (waiting : WaitingList) (next : Option ℕ) (delegate_now : I) (waiting_now : WaitingList) : Type 0 where
+pub record ReadsAhead {I : Type 0} (can : I → Type 0) (gives : I → Option ℕ → I → Type 0) (left : I → Count) (has_class_form : ℕ → Bool) (d : Reading) (first : Option ℕ) (delegate : I)
+    (waiting : WaitingList) (next : Option ℕ) (delegate_now : I) (waiting_now : WaitingList) : Type 0 where
   pub ready : IsReadyBehind can left next delegate_now
   pub agrees : AgreesWith d waiting_now
   pub behind : (before : I) → HasRead gives left before first delegate → (now : I) × ReadSoFar gives left has_class_form d before waiting now waiting_now × HasRead gives left now next delegate_now
@@ -150,7 +161,8 @@ module _ {I : Type 0} (can : I → Type 0) (gives : I → Option ℕ → I → T
   IsReadyBehind-next before after None h = tt
   IsReadyBehind-next before after (Some c) h = (h.0, h.1)
 
-  pub HasRead-next : (before after : I) (given : Option ℕ) → gives before given after → OnSome given (can after × IsFinite (left after) × (size (left after) < size (left before))) → HasRead gives left before given after
+  pub HasRead-next : (before after : I) (given : Option ℕ) → gives before given after → OnSome given (can after × IsFinite (left after) × (size (left after) < size (left before)))
+      → HasRead gives left before given after
   HasRead-next before after None step h = record { step = step; nearer = tt }
   HasRead-next before after (Some c) step h = record { step = step; nearer = h.2 }
 
@@ -158,7 +170,9 @@ module _ {I : Type 0} (can : I → Type 0) (gives : I → Option ℕ → I → T
     pub ReadsAhead-none : IsReadyBehind can left first delegate → AgreesWith d waiting → ReadsAhead can gives left f d first delegate waiting first delegate waiting
     ReadsAhead-none ready agrees = record { ready = ready; agrees = agrees; behind = λ before read. (before, ReadSoFar-none can gives left f d before waiting agrees, read) }
 
-    pub ReadsAhead-more : (c : ℕ) (now after : I) (w new : WaitingList) (next : Option ℕ) → ReadsAhead can gives left f d first delegate waiting (Some c) now w → continues f d c ≡ true → ((rest : List ℕ) → reordered d w (d.list c ++ rest) ≡ reordered d new rest) → AgreesWith d new → held new ≡ held w + length (d.list c) → gives now next after → OnSome next (can after × IsFinite (left after) × (size (left after) < size (left now))) → ReadsAhead can gives left f d first delegate waiting next after new
+    pub ReadsAhead-more : (c : ℕ) (now after : I) (w new : WaitingList) (next : Option ℕ) → ReadsAhead can gives left f d first delegate waiting (Some c) now w → continues f d c ≡ true
+        → ((rest : List ℕ) → reordered d w (d.list c ++ rest) ≡ reordered d new rest) → AgreesWith d new → held new ≡ held w + length (d.list c) → gives now next after
+        → OnSome next (can after × IsFinite (left after) × (size (left after) < size (left now))) → ReadsAhead can gives left f d first delegate waiting next after new
     ReadsAhead-more c now after w new next before continuing text agrees more step near = record {
       ready = IsReadyBehind-next now after next near;
       agrees = agrees;
@@ -170,19 +184,24 @@ module _ {I : Type 0} (can : I → Type 0) (gives : I → Option ℕ → I → T
           );
     }
 
-    pub ReadsAhead-done : (pending : Option ℕ) (now : I) (w new : WaitingList) → ReadsAhead can gives left f d first delegate waiting pending now w → IfSome pending (λ c. continues f d c ≡ false) → ordered new ≡ reordered d w [] → unordered new ≡ [] → (before : I) → HasRead gives left before first delegate → ReadsOn can gives left f d before waiting pending now new
+    pub ReadsAhead-done : (pending : Option ℕ) (now : I) (w new : WaitingList) → ReadsAhead can gives left f d first delegate waiting pending now w → IfSome pending (λ c. continues f d c ≡ false)
+        → ordered new ≡ reordered d w [] → unordered new ≡ [] → (before : I) → HasRead gives left before first delegate → ReadsOn can gives left f d before waiting pending now new
     ReadsAhead-done pending now w new ahead anew text settled before read =
         let last = ahead.behind before read in
         ReadSoFar-done can gives left f d before last.0 now waiting w new pending last.1 last.2.step anew text settled ahead.ready last.2.nearer
 
-    pub ReadsAhead-refused : (c : ℕ) (now : I) (w : WaitingList) → ReadsAhead can gives left f d first delegate waiting (Some c) now w → continues f d c ≡ true → places < held w + length (d.list c) → (before : I) → HasRead gives left before first delegate → DidNotFit gives f d before waiting
+    pub ReadsAhead-refused : (c : ℕ) (now : I) (w : WaitingList) → ReadsAhead can gives left f d first delegate waiting (Some c) now w → continues f d c ≡ true → places < held w + length (d.list c)
+        → (before : I) → HasRead gives left before first delegate → DidNotFit gives f d before waiting
     ReadsAhead-refused c now w ahead continuing long before read =
         let last = ahead.behind before read in
         ReadSoFar-refused can gives left f d before last.0 now waiting w c last.1 last.2.step continuing long
 
 -- ---- a chunk, where nothing waited before
 
-pub ReadsChunk-from : {I : Type 0} (can : I → Type 0) (gives : I → Option ℕ → I → Type 0) (left : I → Count) (f : ℕ → Bool) (d : Reading) (c first : ℕ) (members : List ℕ) (delegate next : I) (w b new : WaitingList) (pending : Option ℕ) → members ≡ d.list c → Some first ≡ slice_get members 0 → ordered w ≡ [] → unordered w ≡ [] → ((rest : List ℕ) → reordered d w (drop 1 members ++ rest) ≡ reordered d b rest) → ReadsOn can gives left f d delegate b pending next new → ReadsChunk can gives left f d c delegate first pending next new
+pub ReadsChunk-from : {I : Type 0} (can : I → Type 0) (gives : I → Option ℕ → I → Type 0) (left : I → Count) (f : ℕ → Bool) (d : Reading) (c first : ℕ) (members : List ℕ) (delegate next : I)
+    (w b new : WaitingList) (pending : Option ℕ) → members ≡ d.list c → Some first ≡ slice_get members 0 → ordered w ≡ [] → unordered w ≡ []
+    → ((rest : List ℕ) → reordered d w (drop 1 members ++ rest) ≡ reordered d b rest) → ReadsOn can gives left f d delegate b pending next new
+    → ReadsChunk can gives left f d c delegate first pending next new
 ReadsChunk-from can gives left f d c first members delegate next w b new pending is there front open_marks pushed r = record {
   others = drop 1 members;
   members = sym is ∙ drop_member members 0 first there;
@@ -196,11 +215,13 @@ ReadsChunk-from can gives left f d c first members delegate next w b new pending
   fewer = r.fewer;
 }
 
-pub ChunkDidNotFit-members : {I : Type 0} (gives : I → Option ℕ → I → Type 0) (f : ℕ → Bool) (d : Reading) (c : ℕ) (members : List ℕ) (delegate : I) → members ≡ d.list c → places + 1 < length members → ChunkDidNotFit gives f d c delegate
+pub ChunkDidNotFit-members : {I : Type 0} (gives : I → Option ℕ → I → Type 0) (f : ℕ → Bool) (d : Reading) (c : ℕ) (members : List ℕ) (delegate : I) → members ≡ d.list c
+    → places + 1 < length members → ChunkDidNotFit gives f d c delegate
 unfolding expand
 ChunkDidNotFit-members gives f d c members delegate is long =
     record { read = []; delegate_after = delegate; run = refl; continuing = All-nil (λ b. continues f d b ≡ true); too_long = omega (arith, ap length is) }
 
-pub ChunkDidNotFit-behind : {I : Type 0} (gives : I → Option ℕ → I → Type 0) (f : ℕ → Bool) (d : Reading) (c : ℕ) (members : List ℕ) (delegate : I) (b : WaitingList) → members ≡ d.list c → held b + 1 ≡ length members → DidNotFit gives f d delegate b → ChunkDidNotFit gives f d c delegate
+pub ChunkDidNotFit-behind : {I : Type 0} (gives : I → Option ℕ → I → Type 0) (f : ℕ → Bool) (d : Reading) (c : ℕ) (members : List ℕ) (delegate : I) (b : WaitingList) → members ≡ d.list c
+    → held b + 1 ≡ length members → DidNotFit gives f d delegate b → ChunkDidNotFit gives f d c delegate
 ChunkDidNotFit-behind gives f d c members delegate b is all long =
     record { read = long.read; delegate_after = long.delegate_after; run = long.run; continuing = long.continuing; too_long = omega (arith, long.too_long, all, ap length is) }

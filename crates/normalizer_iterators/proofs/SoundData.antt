@@ -40,5 +40,6 @@ SuitsLazyReading-sound s b sound = record {
 }
 
 -- canonical data that a caller answers for
-pub SuitsLazyReading-nfd : (decompositions : Decompositions) (tables : Lists) → IsSoundNfdData decompositions tables → SuitsLazyReading (has_class_form (nfd_characters decompositions tables)) (own_reading (nfd_characters decompositions tables))
+pub SuitsLazyReading-nfd : (decompositions : Decompositions) (tables : Lists) → IsSoundNfdData decompositions tables
+    → SuitsLazyReading (has_class_form (nfd_characters decompositions tables)) (own_reading (nfd_characters decompositions tables))
 SuitsLazyReading-nfd decompositions tables sound = SuitsLazyReading-sound (nfd_characters decompositions tables) nfd_bounds (sound 7 Order (omega arith))

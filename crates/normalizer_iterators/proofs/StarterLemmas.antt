@@ -19,7 +19,8 @@ use Rattle.normalizer_iterators.proofs.PassingLemmas.{compose_after-boundary}
 use Rattle.normalizer_iterators.proofs.MarkRunLemmas.{leading_marks-mark, HasShortMarkRuns-leading, HasShortMarkRuns-tail}
 
 -- the starter has become `composite`, and these marks stay behind it
-pub record ComposedSoFar {I : Type 0} (can : I → Type 0) (gives : I → Option ℕ → I → Type 0) (left : I → Count) (d : Reading) (starter : ℕ) (old : Decomposition I) (composite : ℕ) (now : Decomposition I) (marks : StayingMarks) : Type 0 where
+pub record ComposedSoFar {I : Type 0} (can : I → Type 0) (gives : I → Option ℕ → I → Type 0) (left : I → Count) (d : Reading) (starter : ℕ) (old : Decomposition I) (composite : ℕ)
+    (now : Decomposition I) (marks : StayingMarks) : Type 0 where
   pub text : (all : List ℕ) → decomposition.WillGive gives old all → (y : List ℕ) × (compose_after d starter [] all ≡ compose_after d composite (staying marks) y) × decomposition.WillGive gives now y
   pub short : GivesShort gives d old → (h : GivesShort gives d now) × (length (staying marks) + leading_marks d h.unread ≤ places)
   pub blocking : BlocksBelow d marks
@@ -28,7 +29,8 @@ pub record ComposedSoFar {I : Type 0} (can : I → Type 0) (gives : I → Option
   pub kept : now.characters ≡ old.characters
   pub fewer : length (staying marks) + decomposition.items_left left now ≤ decomposition.items_left left old
 
-room_after_join : (d : Reading) (a : ℕ) (p : List ℕ) (c r : ℕ) (y : List ℕ) → join d a p c ≡ Some r → HasShortMarkRuns d y → length p + leading_marks d (c ∷ y) ≤ places → length p + leading_marks d y ≤ places
+room_after_join : (d : Reading) (a : ℕ) (p : List ℕ) (c r : ℕ) (y : List ℕ) → join d a p c ≡ Some r → HasShortMarkRuns d y → length p + leading_marks d (c ∷ y) ≤ places
+    → length p + leading_marks d y ≤ places
 room_after_join d a p c r y joins short room =
     elim (starter_or_mark d c) [
       | inl starter ↦ omega (arith, HasShortMarkRuns-leading d y short, ap length (join-starter d a p c r starter joins))
@@ -37,7 +39,8 @@ room_after_join d a p c r y joins short room =
 
 module _ {I : Type 0} (can : I → Type 0) (gives : I → Option ℕ → I → Type 0) (left : I → Count) (d : Reading) where
   -- the next character of a text with short runs
-  pub GivesShort-next : (now : Decomposition I) (c : ℕ) (next : Decomposition I) → decomposition.DecompositionSteps can gives left now (Some (Ok c)) next → (h : GivesShort gives d now) → (after : GivesShort gives d next) × (h.unread ≡ c ∷ after.unread)
+  pub GivesShort-next : (now : Decomposition I) (c : ℕ) (next : Decomposition I) → decomposition.DecompositionSteps can gives left now (Some (Ok c)) next → (h : GivesShort gives d now)
+      → (after : GivesShort gives d next) × (h.unread ≡ c ∷ after.unread)
   GivesShort-next now c next step h =
       let first = step.item.first h.unread h.source in (
         record {
@@ -53,7 +56,8 @@ module _ {I : Type 0} (can : I → Type 0) (gives : I → Option ℕ → I → T
   pub GivesShort-no_fault : (now : Decomposition I) (e : NormalizeError) (next : Decomposition I) → decomposition.DecompositionSteps can gives left now (Some (Err e)) next → GivesShort gives d now → ⊥
   GivesShort-no_fault now e next step h = cc (step.item.room h.short).0
 
-  pub ComposedSoFar-none : (starter : ℕ) (old : Decomposition I) (marks : StayingMarks) → staying marks ≡ [] → used marks ≡ 0 → BlocksBelow d marks → decomposition.CanDecompose can left old → ComposedSoFar can gives left d starter old starter old marks
+  pub ComposedSoFar-none : (starter : ℕ) (old : Decomposition I) (marks : StayingMarks) → staying marks ≡ [] → used marks ≡ 0 → BlocksBelow d marks → decomposition.CanDecompose can left old
+      → ComposedSoFar can gives left d starter old starter old marks
   ComposedSoFar-none starter old marks none unused blocking ready = record {
     text = λ all h. (all, ap (λ p. compose_after d starter p all) (sym none), h);
     short = λ h. (h, omega (arith, ap length none, HasShortMarkRuns-leading d h.unread h.runs));
@@ -64,7 +68,9 @@ module _ {I : Type 0} (can : I → Type 0) (gives : I → Option ℕ → I → T
     fewer = omega (arith, ap length none);
   }
 
-  pub ComposedSoFar-joined : (starter : ℕ) (old : Decomposition I) (composite : ℕ) (now : Decomposition I) (marks : StayingMarks) (c r : ℕ) (next : Decomposition I) (after : StayingMarks) → ComposedSoFar can gives left d starter old composite now marks → decomposition.DecompositionSteps can gives left now (Some (Ok c)) next → decomposition.items_left left next < decomposition.items_left left now → join d composite (staying marks) c ≡ Some r → after ≡ marks → ComposedSoFar can gives left d starter old r next after
+  pub ComposedSoFar-joined : (starter : ℕ) (old : Decomposition I) (composite : ℕ) (now : Decomposition I) (marks : StayingMarks) (c r : ℕ) (next : Decomposition I) (after : StayingMarks)
+      → ComposedSoFar can gives left d starter old composite now marks → decomposition.DecompositionSteps can gives left now (Some (Ok c)) next
+      → decomposition.items_left left next < decomposition.items_left left now → join d composite (staying marks) c ≡ Some r → after ≡ marks → ComposedSoFar can gives left d starter old r next after
   ComposedSoFar-joined starter old composite now marks c r next after before step nearer joins kept =
       subst (ComposedSoFar can gives left d starter old r next) (sym kept) (record {
         text = λ all h.
@@ -82,7 +88,10 @@ module _ {I : Type 0} (can : I → Type 0) (gives : I → Option ℕ → I → T
         fewer = omega (arith, before.fewer);
       })
 
-  pub ComposedSoFar-stays : (starter : ℕ) (old : Decomposition I) (composite : ℕ) (now : Decomposition I) (marks : StayingMarks) (c : ℕ) (next : Decomposition I) (after : StayingMarks) → ComposedSoFar can gives left d starter old composite now marks → decomposition.DecompositionSteps can gives left now (Some (Ok c)) next → decomposition.items_left left next < decomposition.items_left left now → join d composite (staying marks) c ≡ None → IsMark d c → staying after ≡ staying marks ++ c ∷ [] → used after ≡ used marks + 1 → BlocksBelow d after → ComposedSoFar can gives left d starter old composite next after
+  pub ComposedSoFar-stays : (starter : ℕ) (old : Decomposition I) (composite : ℕ) (now : Decomposition I) (marks : StayingMarks) (c : ℕ) (next : Decomposition I) (after : StayingMarks)
+      → ComposedSoFar can gives left d starter old composite now marks → decomposition.DecompositionSteps can gives left now (Some (Ok c)) next
+      → decomposition.items_left left next < decomposition.items_left left now → join d composite (staying marks) c ≡ None → IsMark d c → staying after ≡ staying marks ++ c ∷ []
+      → used after ≡ used marks + 1 → BlocksBelow d after → ComposedSoFar can gives left d starter old composite next after
   ComposedSoFar-stays starter old composite now marks c next after before step nearer apart mark longer in_use blocking =
       let one_more : length (staying after) ≡ length (staying marks) + 1 = ap length longer ∙ length-append (staying marks) (c ∷ []) in
       record {
@@ -106,13 +115,18 @@ module _ {I : Type 0} (can : I → Type 0) (gives : I → Option ℕ → I → T
       }
 
   -- a mark that finds no room stands behind too many
-  pub ComposedSoFar-no_room : (starter : ℕ) (old : Decomposition I) (composite : ℕ) (now : Decomposition I) (marks : StayingMarks) (c : ℕ) (next : Decomposition I) → ComposedSoFar can gives left d starter old composite now marks → decomposition.DecompositionSteps can gives left now (Some (Ok c)) next → IsMark d c → places ≤ used marks → GivesShort gives d old → ⊥
+  pub ComposedSoFar-no_room : (starter : ℕ) (old : Decomposition I) (composite : ℕ) (now : Decomposition I) (marks : StayingMarks) (c : ℕ) (next : Decomposition I)
+      → ComposedSoFar can gives left d starter old composite now marks → decomposition.DecompositionSteps can gives left now (Some (Ok c)) next → IsMark d c → places ≤ used marks
+      → GivesShort gives d old → ⊥
   ComposedSoFar-no_room starter old composite now marks c next before step mark full h =
       let b = before.short h in
       let n = GivesShort-next now c next step b.0 in
       omega (arith, before.in_use, b.1, ap (leading_marks d) n.1, leading_marks-mark d c n.0.unread mark)
 
-  pub ComposesStarter-starts : (starter : ℕ) (old : Decomposition I) (composite : ℕ) (now : Decomposition I) (marks : StayingMarks) (c : ℕ) (next : Decomposition I) (after : StayingMarks) → ComposedSoFar can gives left d starter old composite now marks → decomposition.DecompositionSteps can gives left now (Some (Ok c)) next → decomposition.items_left left next < decomposition.items_left left now → join d composite (staying marks) c ≡ None → IsStarter d c → after ≡ marks → ComposesStarter gives left d starter old composite (staying after) (Starter c) next
+  pub ComposesStarter-starts : (starter : ℕ) (old : Decomposition I) (composite : ℕ) (now : Decomposition I) (marks : StayingMarks) (c : ℕ) (next : Decomposition I) (after : StayingMarks)
+      → ComposedSoFar can gives left d starter old composite now marks → decomposition.DecompositionSteps can gives left now (Some (Ok c)) next
+      → decomposition.items_left left next < decomposition.items_left left now → join d composite (staying marks) c ≡ None → IsStarter d c → after ≡ marks
+      → ComposesStarter gives left d starter old composite (staying after) (Starter c) next
   ComposesStarter-starts starter old composite now marks c next after before step nearer apart starts kept =
       subst (λ m. ComposesStarter gives left d starter old composite (staying m) (Starter c) next) (sym kept) (record {
         text = λ all h.
@@ -126,7 +140,9 @@ module _ {I : Type 0} (can : I → Type 0) (gives : I → Option ℕ → I → T
         fewer = omega (arith, before.fewer);
       })
 
-  pub ComposesStarter-ends : (starter : ℕ) (old : Decomposition I) (composite : ℕ) (now : Decomposition I) (marks : StayingMarks) (next : Decomposition I) → ComposedSoFar can gives left d starter old composite now marks → decomposition.DecompositionSteps can gives left now None next → ComposesStarter gives left d starter old composite (staying marks) Ended next
+  pub ComposesStarter-ends : (starter : ℕ) (old : Decomposition I) (composite : ℕ) (now : Decomposition I) (marks : StayingMarks) (next : Decomposition I)
+      → ComposedSoFar can gives left d starter old composite now marks → decomposition.DecompositionSteps can gives left now None next
+      → ComposesStarter gives left d starter old composite (staying marks) Ended next
   ComposesStarter-ends starter old composite now marks next before step = record {
     text = λ all h.
         let b = before.text all h in
@@ -140,7 +156,8 @@ module _ {I : Type 0} (can : I → Type 0) (gives : I → Option ℕ → I → T
   }
 
   -- what begins safely is not composed with what stands before it
-  pub ComposesStarter-passes : (starter : ℕ) (old : Decomposition I) (composite : ℕ) (now : Decomposition I) (marks : StayingMarks) → ComposedSoFar can gives left d starter old composite now marks → ((y : List ℕ) → decomposition.WillGive gives now y → BeginsSafely d y) → ComposesStarter gives left d starter old composite (staying marks) Passed now
+  pub ComposesStarter-passes : (starter : ℕ) (old : Decomposition I) (composite : ℕ) (now : Decomposition I) (marks : StayingMarks) → ComposedSoFar can gives left d starter old composite now marks
+      → ((y : List ℕ) → decomposition.WillGive gives now y → BeginsSafely d y) → ComposesStarter gives left d starter old composite (staying marks) Passed now
   ComposesStarter-passes starter old composite now marks before begins = record {
     text = λ all h.
         let b = before.text all h in (

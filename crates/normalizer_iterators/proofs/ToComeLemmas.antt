@@ -24,7 +24,8 @@ unfolding nfd expand
 nfd-nil d = order-nil d
 
 -- what is read last and what stands behind it begin with a starter
-begins_chunk : (f : ℕ → Bool) (d : Reading) → SuitsLazyReading f d → {I : Type 0} (gives : I → Option ℕ → I → Type 0) (pending : Option ℕ) (u : I) (rest : List ℕ) → IfSome pending (λ c. continues f d c ≡ false) → SpellsBehind gives pending u rest → BeginsChunk d (option_to_list pending ++ rest)
+begins_chunk : (f : ℕ → Bool) (d : Reading) → SuitsLazyReading f d → {I : Type 0} (gives : I → Option ℕ → I → Type 0) (pending : Option ℕ) (u : I) (rest : List ℕ)
+    → IfSome pending (λ c. continues f d c ≡ false) → SpellsBehind gives pending u rest → BeginsChunk d (option_to_list pending ++ rest)
 begins_chunk f d suits gives None u [] anew source = tt
 begins_chunk f d suits gives None u (c ∷ rest) anew source = cc
 begins_chunk f d suits gives (Some c) u rest anew source =
@@ -39,7 +40,8 @@ length-expand d (c ∷ x) short = omega (arith, short c, length-expand d x short
 module _ {I : Type 0} (gives : I → Option ℕ → I → Type 0) where
   -- ---- a character that waits is given
 
-  pub IsToCome-front : (form : List ℕ → List ℕ) (pending : Option ℕ) (u : I) (front behind out : List ℕ) (c : ℕ) → front ≡ c ∷ behind → IsToCome gives form pending u front out → (rest : List ℕ) × (out ≡ c ∷ rest) × IsToCome gives form pending u behind rest
+  pub IsToCome-front : (form : List ℕ → List ℕ) (pending : Option ℕ) (u : I) (front behind out : List ℕ) (c : ℕ) → front ≡ c ∷ behind → IsToCome gives form pending u front out → (rest : List ℕ)
+      × (out ≡ c ∷ rest) × IsToCome gives form pending u behind rest
   IsToCome-front form pending u front behind out c e h = (
     behind ++ form (option_to_list pending ++ h.unread),
     h.text ∙ ap (λ l. l ++ form (option_to_list pending ++ h.unread)) e,
@@ -63,7 +65,8 @@ module _ {I : Type 0} (gives : I → Option ℕ → I → Type 0) where
   module _ (can : I → Type 0) (left : I → Count) (f : ℕ → Bool) (d : Reading) where
     -- ---- the first characters are read
 
-    pub IsToCome-start : SuitsLazyReading f d → (delegate u : I) (w b : WaitingList) (pending : Option ℕ) (x : List ℕ) → ordered w ≡ [] → unordered w ≡ [] → ReadsOn can gives left f d delegate w pending u b → Spells gives delegate x → IsToCome gives (nfd d) pending u (ordered b) (nfd d x)
+    pub IsToCome-start : SuitsLazyReading f d → (delegate u : I) (w b : WaitingList) (pending : Option ℕ) (x : List ℕ) → ordered w ≡ [] → unordered w ≡ []
+        → ReadsOn can gives left f d delegate w pending u b → Spells gives delegate x → IsToCome gives (nfd d) pending u (ordered b) (nfd d x)
     IsToCome-start suits delegate u w b pending x front open_marks r spells =
         let parts = spelled_then gives delegate r.read pending u x r.run spells in
         record {
@@ -74,7 +77,8 @@ module _ {I : Type 0} (gives : I → Option ℕ → I → Type 0) where
               ∙ ap (λ l. l ++ nfd d (option_to_list pending ++ parts.0)) (sym (r.text ∙ reordered-nothing d w (expand d r.read) front open_marks));
         }
 
-    pub AreShortToCome-start : (delegate u : I) (w b : WaitingList) (pending : Option ℕ) (x : List ℕ) → ReadsOn can gives left f d delegate w pending u b → Spells gives delegate x → HasShortRuns f d x → AreShortToCome gives f d pending u
+    pub AreShortToCome-start : (delegate u : I) (w b : WaitingList) (pending : Option ℕ) (x : List ℕ) → ReadsOn can gives left f d delegate w pending u b → Spells gives delegate x
+        → HasShortRuns f d x → AreShortToCome gives f d pending u
     AreShortToCome-start delegate u w b pending x r spells short =
         let parts = spelled_then gives delegate r.read pending u x r.run spells in
         record { unread = parts.0; source = parts.2; short = HasShortRuns-rest f d r.read (option_to_list pending ++ parts.0) (subst (HasShortRuns f d) parts.1 short) }
@@ -86,7 +90,9 @@ module _ {I : Type 0} (gives : I → Option ℕ → I → Type 0) where
 
     -- ---- the pending character and those that continue it are read
 
-    pub IsToCome-chunk : SuitsLazyReading f d → (c : ℕ) (delegate u : I) (first : ℕ) (pending : Option ℕ) (b : WaitingList) (front out : List ℕ) → front ≡ [] → continues f d c ≡ false → ReadsChunk can gives left f d c delegate first pending u b → IsToCome gives (nfd d) (Some c) delegate front out → (rest : List ℕ) × (out ≡ first ∷ rest) × IsToCome gives (nfd d) pending u (ordered b) rest
+    pub IsToCome-chunk : SuitsLazyReading f d → (c : ℕ) (delegate u : I) (first : ℕ) (pending : Option ℕ) (b : WaitingList) (front out : List ℕ) → front ≡ [] → continues f d c ≡ false
+        → ReadsChunk can gives left f d c delegate first pending u b → IsToCome gives (nfd d) (Some c) delegate front out → (rest : List ℕ) × (out ≡ first ∷ rest)
+        × IsToCome gives (nfd d) pending u (ordered b) rest
     IsToCome-chunk suits c delegate u first pending b front out none anew r h =
         let parts = spelled_then gives delegate r.read pending u h.unread r.run h.source in
         let behind = nfd d (option_to_list pending ++ parts.0) in
@@ -98,7 +104,8 @@ module _ {I : Type 0} (gives : I → Option ℕ → I → Type 0) where
           record { unread = parts.0; source = parts.2; text = refl },
         )
 
-    pub AreShortToCome-chunk : (c : ℕ) (delegate u : I) (first : ℕ) (pending : Option ℕ) (b : WaitingList) → ReadsChunk can gives left f d c delegate first pending u b → AreShortToCome gives f d (Some c) delegate → AreShortToCome gives f d pending u
+    pub AreShortToCome-chunk : (c : ℕ) (delegate u : I) (first : ℕ) (pending : Option ℕ) (b : WaitingList) → ReadsChunk can gives left f d c delegate first pending u b
+        → AreShortToCome gives f d (Some c) delegate → AreShortToCome gives f d pending u
     AreShortToCome-chunk c delegate u first pending b r h =
         let parts = spelled_then gives delegate r.read pending u h.unread r.run h.source in
         record {
@@ -116,13 +123,15 @@ module _ {I : Type 0} (gives : I → Option ℕ → I → Type 0) where
         omega (arith, long.too_long, fits, ap length first.3, length-append first.2 (expand d long.read))
 
     -- a chunk gives no more than its share
-    pub chunk_size : SuitsLazyReading f d → (c : ℕ) (delegate u : I) (first : ℕ) (pending : Option ℕ) (b : WaitingList) → ReadsChunk can gives left f d c delegate first pending u b → length (ordered b) + longest_list * reads_left pending (size (left u)) < longest_list * (size (left delegate) + 1)
+    pub chunk_size : SuitsLazyReading f d → (c : ℕ) (delegate u : I) (first : ℕ) (pending : Option ℕ) (b : WaitingList) → ReadsChunk can gives left f d c delegate first pending u b
+        → length (ordered b) + longest_list * reads_left pending (size (left u)) < longest_list * (size (left delegate) + 1)
     chunk_size suits c delegate u first pending b r =
         let own = suits.short c in
         let all = ap length r.text ∙ length-order d (r.others ++ expand d r.read) ∙ length-append r.others (expand d r.read) in
         let read = length-expand d r.read suits.short in
         by pending (size (left u)) (size (left delegate)) (length r.read) (length (ordered b)) (omega (arith, own, all, read, ap length r.members)) r.fewer
       where
-        by : (pending : Option ℕ) (after before n given : ℕ) → given < longest_list + longest_list * n → MatchOption pending (n ≤ before) (λ _. after + n < before) → given + longest_list * reads_left pending after < longest_list * (before + 1)
+        by : (pending : Option ℕ) (after before n given : ℕ) → given < longest_list + longest_list * n → MatchOption pending (n ≤ before) (λ _. after + n < before)
+            → given + longest_list * reads_left pending after < longest_list * (before + 1)
         by None after before n given few fewer = omega arith
         by (Some c) after before n given few fewer = omega arith

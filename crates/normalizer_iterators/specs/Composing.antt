@@ -1,5 +1,6 @@
 -- What is still to come of a composition.
-use Rattle.std.specs.Prelude.{◌≡◌, ℕ, ◌+◌, ◌≤◌, List, [], ◌∷◌, ◌++◌, length, Option, Some, None, Result, MatchResult, IfErr, IsOk, OnErr}
+use Rattle.std.specs.Prelude.{◌≡◌, ℕ, ◌+◌, ◌≤◌, List, [], ◌∷◌, ◌++◌, length, Option, Some, None, Result, MatchResult}
+use Rattle.std.specs.Prelude.{IfErr, IsOk, OnErr}
 use Rattle.std.specs.Iterator.{Count}
 use Rattle.normal_forms.specs.Reading.{Reading, IsStarter, IsMark}
 use Rattle.normal_forms.specs.CompositionByStarters.{join, compose_after, compose_by_starters}
@@ -26,7 +27,9 @@ use Rattle.normalizer_iterators.specs.StayingMarks.{staying, used, BlocksBelow}
 abbrev pub HasVisited : Reading → ℕ → ℕ → StayingMarks → Visited → StayingMarks → Type 0
 HasVisited d a c old (Joined r) new = (join d a (staying old) c ≡ Some r) × (new ≡ old)
 HasVisited d a c old StartsAnew new = (join d a (staying old) c ≡ None) × IsStarter d c × (new ≡ old)
-HasVisited d a c old Stays new = (join d a (staying old) c ≡ None) × IsMark d c × (staying new ≡ staying old ++ c ∷ []) × (used new ≡ used old + 1) × BlocksBelow d new
+HasVisited d a c old Stays new =
+    (join d a (staying old) c ≡ None) × IsMark d c × (staying new ≡ staying old ++ c ∷ []) × (used new ≡ used old + 1)
+    × BlocksBelow d new
 
 -- what the characters that are still to come compose to, behind the marks that are given first
 abbrev pub composed_ahead : Reading → Ahead → List ℕ → List ℕ
@@ -62,7 +65,8 @@ IsBeforeStarter _ = ⊥
 
 module _ {I : Type 0} where
   -- these characters, where memory suffices: some marks, and then what stands ahead
-  pub record WillGiveBehind (gives : I → Option ℕ → I → Type 0) (d : Reading) (marks : List ℕ) (ahead : Ahead) (s : Decomposition I) (out : List ℕ) : Type 0 where
+  pub record WillGiveBehind (gives : I → Option ℕ → I → Type 0) (d : Reading) (marks : List ℕ) (ahead : Ahead)
+      (s : Decomposition I) (out : List ℕ) : Type 0 where
     pub unread : List ℕ
     pub source : UnlessEnded ahead (decomposition.WillGive gives s unread)
     pub text : out ≡ marks ++ composed_ahead d ahead unread
@@ -75,8 +79,10 @@ module _ {I : Type 0} where
     pub runs : HasShortMarkRuns d unread
 
   -- a starter became a composite by what followed it; the marks that stay come next, and then what is ahead
-  pub record ComposesStarter (gives : I → Option ℕ → I → Type 0) (left : I → Count) (d : Reading) (starter : ℕ) (old : Decomposition I) (composite : ℕ) (marks : List ℕ) (ahead : Ahead) (new : Decomposition I) : Type 0 where
-    pub text : (y : List ℕ) → decomposition.WillGive gives old y → (rest : List ℕ) × (compose_after d starter [] y ≡ composite ∷ rest) × WillGiveBehind gives d marks ahead new rest
+  pub record ComposesStarter (gives : I → Option ℕ → I → Type 0) (left : I → Count) (d : Reading) (starter : ℕ)
+      (old : Decomposition I) (composite : ℕ) (marks : List ℕ) (ahead : Ahead) (new : Decomposition I) : Type 0 where
+    pub text : (y : List ℕ) → decomposition.WillGive gives old y → (rest : List ℕ)
+        × (compose_after d starter [] y ≡ composite ∷ rest) × WillGiveBehind gives d marks ahead new rest
     pub short : GivesShort gives d old → UnlessEnded ahead (GivesShort gives d new)
     pub fewer : length marks + ahead_left ahead (decomposition.items_left left new) ≤ decomposition.items_left left old
 
@@ -113,8 +119,11 @@ module _ {I : Type 0} where
   items_left left s = length (staying s.marks) + ahead_left s.ahead (decomposition.items_left left s.decomposed)
 
   -- a starter was composed with what follows it, and given, or a fault came
-  pub record ComposesOn (can : I → Type 0) (gives : I → Option ℕ → I → Type 0) (left : I → Count) (starter : ℕ) (s : Composition I) (r : Result ℕ NormalizeError) (t : Composition I) : Type 0 where
-    pub first : (y : List ℕ) → decomposition.WillGive gives s.decomposed y → MatchResult r (GaveFirst (WillGive gives) (compose_after (pairing_by s) starter [] y) t) (λ _. WillGive gives t [])
+  pub record ComposesOn (can : I → Type 0) (gives : I → Option ℕ → I → Type 0) (left : I → Count) (starter : ℕ)
+      (s : Composition I) (r : Result ℕ NormalizeError) (t : Composition I) : Type 0 where
+    pub first : (y : List ℕ) → decomposition.WillGive gives s.decomposed y
+        → MatchResult r (GaveFirst (WillGive gives) (compose_after (pairing_by s) starter [] y) t)
+        (λ _. WillGive gives t [])
     pub fault : IfErr r (λ e. e ≡ Memory)
     pub room : GivesShort gives (pairing_by s) s.decomposed → IsOk r × StaysShort gives t
     pub ends : OnErr r (IsEnded t)
@@ -122,7 +131,8 @@ module _ {I : Type 0} where
     pub fewer : items_left left t ≤ decomposition.items_left left s.decomposed
     pub kept : (t.characters ≡ s.characters) × (t.pairs.now ≡ s.pairs.now)
 
-  pub record CompositionSteps (can : I → Type 0) (gives : I → Option ℕ → I → Type 0) (left : I → Count) (s : Composition I) (r : Option (Result ℕ NormalizeError)) (t : Composition I) : Type 0 where
+  pub record CompositionSteps (can : I → Type 0) (gives : I → Option ℕ → I → Type 0) (left : I → Count)
+      (s : Composition I) (r : Option (Result ℕ NormalizeError)) (t : Composition I) : Type 0 where
     pub item : GivesNext (WillGive gives) (StaysShort gives) IsEnded s r t
     pub ready : CanCompose can left s → CanCompose can left t
     pub kept : (t.characters ≡ s.characters) × (t.pairs.now ≡ s.pairs.now)

@@ -34,7 +34,8 @@ module _ {I : Type 0} where
   abbrev pub items_left : (I → Count) → Decomposition I → ℕ
   items_left left s = length (ordered s.waiting) + longest_list * reads_left s.pending (size (left s.delegate))
 
-  pub record DecompositionSteps (can : I → Type 0) (gives : I → Option ℕ → I → Type 0) (left : I → Count) (s : Decomposition I) (r : Option (Result ℕ NormalizeError)) (t : Decomposition I) : Type 0 where
+  pub record DecompositionSteps (can : I → Type 0) (gives : I → Option ℕ → I → Type 0) (left : I → Count)
+      (s : Decomposition I) (r : Option (Result ℕ NormalizeError)) (t : Decomposition I) : Type 0 where
     pub item : GivesNext (WillGive gives) (StaysShort gives) IsEnded s r t
     pub ready : CanDecompose can left s → CanDecompose can left t
     pub kept : (t.characters ≡ s.characters) × (t.ignored ≡ s.ignored)

@@ -12,6 +12,7 @@ abbrev pub IsReadyBehind : {I : Type 0} → (I → Type 0) → (I → Count) →
 IsReadyBehind can left last it = MatchOption last ⊤ (λ _. can it × IsFinite (left it))
 
 -- a call from `before` gave this and left `after`, nearer to the end behind a character
-pub record HasRead {I : Type 0} (gives : I → Option ℕ → I → Type 0) (left : I → Count) (before : I) (given : Option ℕ) (after : I) : Type 0 where
+pub record HasRead {I : Type 0} (gives : I → Option ℕ → I → Type 0) (left : I → Count) (before : I) (given : Option ℕ)
+    (after : I) : Type 0 where
   pub step : gives before given after
   pub nearer : OnSome given (size (left after) < size (left before))

@@ -1,5 +1,6 @@
 -- What an iterator gives whose calls may fail: the characters of a text, a fault, the end.
-use Rattle.std.specs.Prelude.{◌≡◌, ℕ, Bool, List, [], ◌∷◌, Option, Some, None, Result, Ok, All, MatchOption, MatchResult, IfOk, IsOkAnd, IsOkUnless}
+use Rattle.std.specs.Prelude.{◌≡◌, ℕ, Bool, List, [], ◌∷◌, Option, Some, None, Result, Ok, All, MatchOption}
+use Rattle.std.specs.Prelude.{MatchResult, IfOk, IsOkAnd, IsOkUnless}
 use Rattle.normal_forms.specs.Reading.{Reading}
 use Rattle.normal_forms.specs.ShortRuns.{HasShortRuns}
 use Rattle.normalizer_text.specs.Steps.{Spells}
@@ -21,19 +22,24 @@ module _ {S E : Type 0} (gives : S → Option (Result ℕ E) → S → Type 0) w
   SpellsOk s [] = HasEnded s
   SpellsOk s (c ∷ x) = (r : Option (Result ℕ E)) (t : S) → gives s r t → (r ≡ Some (Ok c)) × SpellsOk t x
 
-  -- the same, unless a call gives the fault where another would give the next character or `None`; then comes `None` for good
+  -- the same, unless a call gives the fault where another would give the next character or `None`; then comes `None`
+  -- for good
   abbrev pub SpellsUnless : E → S → List ℕ → Type 0
   SpellsUnless fault s [] =
       (r : Option (Result ℕ E)) (t : S) → gives s r t
       → MatchOption r (HasEnded t) (λ item. MatchResult item (λ c. ⊥) (λ e. (e ≡ fault) × HasEnded t))
   SpellsUnless fault s (c ∷ x) =
       (r : Option (Result ℕ E)) (t : S) → gives s r t
-      → MatchOption r ⊥ (λ item. MatchResult item (λ d. (d ≡ c) × SpellsUnless fault t x) (λ e. (e ≡ fault) × HasEnded t))
+      → MatchOption r ⊥ (λ item. MatchResult item (λ d. (d ≡ c) × SpellsUnless fault t x)
+      (λ e. (e ≡ fault) × HasEnded t))
 
--- An iterator was made over a source: of each text that this spells it gives the form, unless memory is refused. Where the
--- text has short runs nothing is refused, when the iterator is made or later.
-module _ {I S : Type 0} (source_gives : I → Option ℕ → I → Type 0) (gives : S → Option (Result ℕ NormalizeError) → S → Type 0) where
-  pub record GivesForm (has_class_form : ℕ → Bool) (d : Reading) (form : Reading → List ℕ → List ℕ) (source : I) (made : Result S NormalizeError) : Type 0 where
+-- An iterator was made over a source: of each text that this spells it gives the form, unless memory is refused. Where
+-- the text has short runs nothing is refused, when the iterator is made or later.
+module _ {I S : Type 0} (source_gives : I → Option ℕ → I → Type 0)
+    (gives : S → Option (Result ℕ NormalizeError) → S → Type 0) where
+  pub record GivesForm (has_class_form : ℕ → Bool) (d : Reading) (form : Reading → List ℕ → List ℕ) (source : I)
+      (made : Result S NormalizeError) : Type 0 where
     pub text : IfOk made (λ it. (x : List ℕ) → Spells source_gives source x → SpellsUnless gives Memory it (form d x))
-    pub short : (x : List ℕ) → Spells source_gives source x → HasShortRuns has_class_form d x → IsOkAnd made (λ it. SpellsOk gives it (form d x))
+    pub short : (x : List ℕ) → Spells source_gives source x → HasShortRuns has_class_form d x
+        → IsOkAnd made (λ it. SpellsOk gives it (form d x))
     pub refused : IsOkUnless made Memory

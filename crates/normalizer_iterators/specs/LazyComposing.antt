@@ -23,7 +23,8 @@ pub record StandsApart (has_class_form : ℕ → Bool) (d : Reading) (c : ℕ) :
   pub form : IsNormalized d Composing (c ∷ [])
   pub anew : has_class_form c ≡ false
   pub inhabited : d.list c ≢ []
-  pub safely : (first : ℕ) (others : List ℕ) → d.list c ≡ first ∷ others → IsStarter d first × ((a r : ℕ) → d.pair a first ≢ Some r)
+  pub safely : (first : ℕ) (others : List ℕ) → d.list c ≡ first ∷ others → IsStarter d first
+      × ((a r : ℕ) → d.pair a first ≢ Some r)
 
 abbrev pub StandsApartIn : Characters → List Pair → IgnoredCharacters → ℕ → Type 0
 StandsApartIn s pairs ignored = StandsApart (has_class_form s) (reading_by s ignored pairs)

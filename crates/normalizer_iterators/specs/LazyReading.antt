@@ -25,5 +25,6 @@ longest_list = 18
 -- the list of a character without class form begins with a starter, where there is one, and no list is longer than any
 -- that words name
 pub record SuitsLazyReading (has_class_form : ℕ → Bool) (d : Reading) : Type 0 where
-  pub starters : (c first : ℕ) (others : List ℕ) → has_class_form c ≡ false → d.list c ≡ first ∷ others → IsStarter d first
+  pub starters : (c first : ℕ) (others : List ℕ) → has_class_form c ≡ false → d.list c ≡ first ∷ others
+      → IsStarter d first
   pub short : (c : ℕ) → length (d.list c) ≤ longest_list

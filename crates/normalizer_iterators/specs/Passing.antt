@@ -1,5 +1,6 @@
 -- Passing characters of a text that is decomposed.
-use Rattle.std.specs.Prelude.{◌≡◌, ℕ, ◌<◌, List, [], ◌∷◌, ◌++◌, Option, Some, None, Result, Ok, Err, IfSome, MatchOption}
+use Rattle.std.specs.Prelude.{◌≡◌, ℕ, ◌<◌, List, [], ◌∷◌, ◌++◌, Option, Some, None, Result, Ok, Err, IfSome}
+use Rattle.std.specs.Prelude.{MatchOption}
 use Rattle.std.specs.Iterator.{Count}
 use Rattle.normal_forms.specs.Reading.{IsStarter}
 use Rattle.normal_forms.specs.CompositionByStarters.{compose_by_starters}
@@ -30,8 +31,11 @@ module _ {I : Type 0} where
     pub apart : IfSome s.pending (StandsApartIn s.characters pairs s.ignored)
 
   -- c was given as it is: what was to come for it composes to c alone, apart from the rest
-  pub record PassesOn (can : I → Type 0) (gives : I → Option ℕ → I → Type 0) (left : I → Count) (pairs : List Pair) (s : Decomposition I) (c : ℕ) (t : Decomposition I) : Type 0 where
-    pub text : (y : List ℕ) → WillGive gives s y → (own : List ℕ) × (rest : List ℕ) × (y ≡ own ++ rest) × (compose_by_starters (composing_reading s.characters pairs) y ≡ c ∷ compose_by_starters (composing_reading s.characters pairs) rest) × WillGive gives t rest
+  pub record PassesOn (can : I → Type 0) (gives : I → Option ℕ → I → Type 0) (left : I → Count) (pairs : List Pair)
+      (s : Decomposition I) (c : ℕ) (t : Decomposition I) : Type 0 where
+    pub text : (y : List ℕ) → WillGive gives s y → (own : List ℕ) × (rest : List ℕ) × (y ≡ own ++ rest)
+        × (compose_by_starters (composing_reading s.characters pairs) y
+        ≡ c ∷ compose_by_starters (composing_reading s.characters pairs) rest) × WillGive gives t rest
     pub short : StaysShort gives s → StaysShort gives t
     pub ready : CanDecompose can left t
     pub at_passed : IsAtPassed pairs t
@@ -39,13 +43,16 @@ module _ {I : Type 0} where
     pub fewer : items_left left t < items_left left s
 
   -- the first member of a list was given, a starter
-  pub record GivesStarter (can : I → Type 0) (gives : I → Option ℕ → I → Type 0) (left : I → Count) (s : Decomposition I) (c : ℕ) (t : Decomposition I) : Type 0 where
+  pub record GivesStarter (can : I → Type 0) (gives : I → Option ℕ → I → Type 0) (left : I → Count)
+      (s : Decomposition I) (c : ℕ) (t : Decomposition I) : Type 0 where
     pub steps : DecompositionSteps can gives left s (Some (Ok c)) t
     pub starter : (pairs : List Pair) → IsStarter (composing_reading s.characters pairs) c
     pub fewer : items_left left t < items_left left s
 
-  abbrev pub Passes : (I → Type 0) → (I → Option ℕ → I → Type 0) → (I → Count) → List Pair → Decomposition I → Option (Result Given NormalizeError) → Decomposition I → Type 0
+  abbrev pub Passes : (I → Type 0) → (I → Option ℕ → I → Type 0) → (I → Count) → List Pair → Decomposition I
+      → Option (Result Given NormalizeError) → Decomposition I → Type 0
   Passes can gives left pairs s None t = DecompositionSteps can gives left s None t
-  Passes can gives left pairs s (Some (Err e)) t = DecompositionSteps can gives left s (Some (Err e)) t × (items_left left t < items_left left s)
+  Passes can gives left pairs s (Some (Err e)) t =
+      DecompositionSteps can gives left s (Some (Err e)) t × (items_left left t < items_left left s)
   Passes can gives left pairs s (Some (Ok (Itself c))) t = PassesOn can gives left pairs s c t
   Passes can gives left pairs s (Some (Ok (FirstMember c))) t = GivesStarter can gives left s c t

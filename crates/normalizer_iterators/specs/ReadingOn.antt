@@ -1,5 +1,6 @@
 -- Reading on, until a character begins anew.
-use Rattle.std.specs.Prelude.{◌≡◌, ℕ, ◌+◌, ◌-◌, ◌<◌, ◌≤◌, Bool, false, List, [], ◌∷◌, ◌++◌, length, Option, MatchOption, IfSome}
+use Rattle.std.specs.Prelude.{◌≡◌, ℕ, ◌+◌, ◌-◌, ◌<◌, ◌≤◌, Bool, false, List, [], ◌∷◌, ◌++◌, length, Option, MatchOption}
+use Rattle.std.specs.Prelude.{IfSome}
 use Rattle.std.specs.Iterator.{Count, size, Yields, YieldsThen}
 use Rattle.std.specs.List.{AllPass}
 use Rattle.normal_forms.specs.Reading.{Reading}
@@ -11,7 +12,9 @@ use Rattle.normalizer_iterators.specs.WaitingList.{ordered, unordered, held, reo
 use Rattle.normalizer_iterators.specs.Delegate.{IsReadyBehind}
 
 -- characters that continue were read from a delegate, and wait in order; then one that begins anew, or None
-pub record ReadsOn {I : Type 0} (can : I → Type 0) (gives : I → Option ℕ → I → Type 0) (left : I → Count) (has_class_form : ℕ → Bool) (d : Reading) (delegate : I) (waiting : WaitingList) (pending : Option ℕ) (delegate_after : I) (waiting_after : WaitingList) : Type 0 where
+pub record ReadsOn {I : Type 0} (can : I → Type 0) (gives : I → Option ℕ → I → Type 0) (left : I → Count)
+    (has_class_form : ℕ → Bool) (d : Reading) (delegate : I) (waiting : WaitingList) (pending : Option ℕ)
+    (delegate_after : I) (waiting_after : WaitingList) : Type 0 where
   pub read : List ℕ
   pub run : YieldsThen gives delegate read pending delegate_after
   pub continuing : AllPass (continues has_class_form d) read
@@ -19,10 +22,12 @@ pub record ReadsOn {I : Type 0} (can : I → Type 0) (gives : I → Option ℕ �
   pub text : ordered waiting_after ≡ reordered d waiting (expand d read)
   pub settled : unordered waiting_after ≡ []
   pub ready : IsReadyBehind can left pending delegate_after
-  pub fewer : MatchOption pending (length read ≤ size (left delegate)) (λ _. size (left delegate_after) + length read < size (left delegate))
+  pub fewer : MatchOption pending (length read ≤ size (left delegate))
+      (λ _. size (left delegate_after) + length read < size (left delegate))
 
 -- the lists of characters that continue did not fit behind what waited
-pub record DidNotFit {I : Type 0} (gives : I → Option ℕ → I → Type 0) (has_class_form : ℕ → Bool) (d : Reading) (delegate : I) (waiting : WaitingList) : Type 0 where
+pub record DidNotFit {I : Type 0} (gives : I → Option ℕ → I → Type 0) (has_class_form : ℕ → Bool) (d : Reading)
+    (delegate : I) (waiting : WaitingList) : Type 0 where
   pub read : List ℕ
   pub delegate_after : I
   pub run : Yields gives delegate read delegate_after
@@ -31,7 +36,9 @@ pub record DidNotFit {I : Type 0} (gives : I → Option ℕ → I → Type 0) (h
 
 -- the first member of the list of a character came; the others and the lists of the characters that continue it wait in
 -- order; then one that begins anew was read, or None
-pub record ReadsChunk {I : Type 0} (can : I → Type 0) (gives : I → Option ℕ → I → Type 0) (left : I → Count) (has_class_form : ℕ → Bool) (d : Reading) (character : ℕ) (delegate : I) (first : ℕ) (pending : Option ℕ) (delegate_after : I) (waiting_after : WaitingList) : Type 0 where
+pub record ReadsChunk {I : Type 0} (can : I → Type 0) (gives : I → Option ℕ → I → Type 0) (left : I → Count)
+    (has_class_form : ℕ → Bool) (d : Reading) (character : ℕ) (delegate : I) (first : ℕ) (pending : Option ℕ)
+    (delegate_after : I) (waiting_after : WaitingList) : Type 0 where
   pub others : List ℕ
   pub members : d.list character ≡ first ∷ others
   pub read : List ℕ
@@ -41,10 +48,12 @@ pub record ReadsChunk {I : Type 0} (can : I → Type 0) (gives : I → Option �
   pub text : ordered waiting_after ≡ order d (others ++ expand d read)
   pub settled : unordered waiting_after ≡ []
   pub ready : IsReadyBehind can left pending delegate_after
-  pub fewer : MatchOption pending (length read ≤ size (left delegate)) (λ _. size (left delegate_after) + length read < size (left delegate))
+  pub fewer : MatchOption pending (length read ≤ size (left delegate))
+      (λ _. size (left delegate_after) + length read < size (left delegate))
 
 -- the others and the lists of the characters that continue did not fit
-pub record ChunkDidNotFit {I : Type 0} (gives : I → Option ℕ → I → Type 0) (has_class_form : ℕ → Bool) (d : Reading) (character : ℕ) (delegate : I) : Type 0 where
+pub record ChunkDidNotFit {I : Type 0} (gives : I → Option ℕ → I → Type 0) (has_class_form : ℕ → Bool) (d : Reading)
+    (character : ℕ) (delegate : I) : Type 0 where
   pub read : List ℕ
   pub delegate_after : I
   pub run : Yields gives delegate read delegate_after

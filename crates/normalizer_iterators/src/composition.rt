@@ -1,5 +1,6 @@
 //! Composing text character by character (The Unicode Standard, D117, D120 and D121).
-ghost use Rattle.std.specs.Prelude.{◌≡◌, ◌≤◌, ℕ, All, List, [], Option, MatchResult, OnErr, IfOk, IsOk, IsOkUnless, IfSome, ◌++◌};
+ghost use Rattle.std.specs.Prelude.{◌≡◌, ◌≤◌, ℕ, All, List, [], Option, MatchResult, OnErr, IfOk, IsOk, IsOkUnless};
+ghost use Rattle.std.specs.Prelude.{IfSome, ◌++◌};
 ghost use Rattle.std.specs.Iterator.{at_most, IsFinite, MakesProgress};
 ghost use Rattle.normal_forms.specs.Forms.{nfc};
 ghost use Rattle.normal_forms.specs.Order.{order};
@@ -97,11 +98,17 @@ impl<'data, I: Iterator<Item = char> + Drop> Composition<'data, I> {
         requires ends { IsFinite (I.remaining delegate) }
         requires reading { SuitsLazyReading (has_class_form characters) (decomposing_reading characters ignored) }
         requires composing { SuitsLazyComposing characters bounds pairs.now }
-        ensures text { IfOk result (λ it. (x : List ℕ) → Spells I.next_gives delegate x → WillGive I.next_gives it (nfc (reading_by characters.entry ignored pairs.now) x)) }
-        ensures short { IfOk result (λ it. (x : List ℕ) → Spells I.next_gives delegate x → HasShortRuns (has_class_form characters.entry) (decomposing_reading characters.entry ignored) x → StaysShort I.next_gives it) }
-        ensures succeeds { (x : List ℕ) → Spells I.next_gives delegate x → HasShortRuns (has_class_form characters.entry) (decomposing_reading characters.entry ignored) x → IsOk result }
+        ensures text { IfOk result (λ it. (x : List ℕ) → Spells I.next_gives delegate x →
+            WillGive I.next_gives it (nfc (reading_by characters.entry ignored pairs.now) x)) }
+        ensures short { IfOk result (λ it. (x : List ℕ) → Spells I.next_gives delegate x →
+            HasShortRuns (has_class_form characters.entry) (decomposing_reading characters.entry ignored) x →
+            StaysShort I.next_gives it) }
+        ensures succeeds { (x : List ℕ) → Spells I.next_gives delegate x →
+            HasShortRuns (has_class_form characters.entry) (decomposing_reading characters.entry ignored) x →
+            IsOk result }
         ensures ready { IfOk result (CanCompose I.can_next I.remaining) }
-        ensures kept { IfOk result (λ it. (data_of_composition it ≡ characters.entry) × (pairs_of_composition it ≡ pairs.now)) }
+        ensures kept { IfOk result (λ it.
+            (data_of_composition it ≡ characters.entry) × (pairs_of_composition it ≡ pairs.now)) }
         ensures refused { IsOkUnless result NormalizeError.Memory }
     {
         let marks = StayingMarks::new(characters.allocator());
@@ -116,12 +123,13 @@ impl<'data, I: Iterator<Item = char> + Drop> Composition<'data, I> {
         })
     }
 
-    /// What a starter and a character behind it compose to (D114). Where the pairs keep lists (condition 14, and condition 6
-    /// for Hangul), the list of what they compose to is that of the two, in canonical order.
+    /// What a starter and a character behind it compose to (D114). Where the pairs keep lists (condition 14, and
+    /// condition 6 for Hangul), the list of what they compose to is that of the two, in canonical order.
     pub fn compose(&self, starter: char, second: char) -> Option<char>
         ensures pair { result ≡ pair_of (pairs_of_composition self.now) starter second }
         ensures lists { let s = data_of_composition self.now in (b : Bounds) (ignored : IgnoredCharacters) →
-            Holds s b condition.Hangul → All (HasOrderedLists s (ignored_list ignored)) (pairs_of_composition self.now) →
+            Holds s b condition.Hangul →
+            All (HasOrderedLists s (ignored_list ignored)) (pairs_of_composition self.now) →
             IfSome result (λ c. list_of s (ignored_list ignored) c ≡
             order (own_reading s) (list_of s (ignored_list ignored) starter ++ list_of s (ignored_list ignored) second)) }
     {
@@ -160,7 +168,8 @@ impl<'data, I: Iterator<Item = char> + Drop> Composition<'data, I> {
         requires ahead { IsBeforeStarter self.old.ahead }
         requires at_passed { IsAtPassed self.old.pairs.now self.old.decomposed }
         ensures steps { CompositionSteps I.can_next I.next_gives I.remaining self.old result self.new }
-        ensures goes { MakesProgress (CanCompose I.can_next I.remaining) (λ s. at_most (items_left I.remaining s)) self.old result self.new }
+        ensures goes { MakesProgress (CanCompose I.can_next I.remaining) (λ s. at_most (items_left I.remaining s))
+            self.old result self.new }
     {
         match self.decomposed.pass(self.bounds) {
             Some(Ok(Given::Itself(character))) => {
@@ -196,10 +205,12 @@ pub fn composed<'data, I: Iterator<Item = char> + Drop>(
     requires ends { IsFinite (I.remaining delegate) }
     requires reading { SuitsLazyReading (has_class_form characters) (decomposing_reading characters ignored) }
     requires composing { SuitsLazyComposing characters bounds pairs.now }
-    ensures form { GivesForm I.next_gives ⟦<Composition<'data, I> as Iterator>⟧.next_gives (has_class_form characters.entry)
+    ensures form { GivesForm I.next_gives ⟦<Composition<'data, I> as Iterator>⟧.next_gives
+        (has_class_form characters.entry)
         (reading_by characters.entry ignored pairs.now) nfc delegate result }
     ensures ready { IfOk result ⟦<Composition<'data, I> as Iterator>⟧.can_next }
-    ensures kept { IfOk result (λ it. (data_of_composition it ≡ characters.entry) × (pairs_of_composition it ≡ pairs.now)) }
+    ensures kept { IfOk result (λ it.
+        (data_of_composition it ≡ characters.entry) × (pairs_of_composition it ≡ pairs.now)) }
 {
     Composition::over(characters, ignored, pairs, bounds, delegate)
 }
@@ -220,7 +231,9 @@ fn compose_starter<I: Iterator<Item = char> + Drop>(
     ensures ready { CanDecompose I.can_next I.remaining decomposed.new }
     ensures same { decomposed.new.characters ≡ characters.now }
     ensures passed { IfOk result (λ r. WherePassed r.1 (IsAtPassed pairs.now decomposed.new)) }
-    ensures steps { MatchResult result (λ r. ComposesStarter I.next_gives I.remaining (composing_reading characters.now pairs.now) starter decomposed.old r.0 (staying marks.new) r.1 decomposed.new) (λ e. (e ≡ NormalizeError.Memory) × (¬ GivesShort I.next_gives (composing_reading characters.now pairs.now) decomposed.old)) }
+    ensures steps { let d = composing_reading characters.now pairs.now in MatchResult result
+        (λ r. ComposesStarter I.next_gives I.remaining d starter decomposed.old r.0 (staying marks.new) r.1 decomposed.new)
+        (λ e. (e ≡ NormalizeError.Memory) × (¬ GivesShort I.next_gives d decomposed.old)) }
 {
     let mut composite = starter;
     marks.clear();
@@ -251,8 +264,10 @@ fn visit(
     character: char,
 ) -> Result<Visited, AllocError>
     requires { BlocksBelow (composing_reading characters.now pairs.now) marks.old }
-    ensures ok { IfOk result (λ v. HasVisited (composing_reading characters.now pairs.now) starter character marks.old v marks.new) }
-    ensures err { OnErr result ((places ≤ used marks.old) × IsMark (composing_reading characters.now pairs.now) character) }
+    ensures ok { let d = composing_reading characters.now pairs.now in
+        IfOk result (λ v. HasVisited d starter character marks.old v marks.new) }
+    ensures err { OnErr result ((places ≤ used marks.old) ×
+        IsMark (composing_reading characters.now pairs.now) character) }
 {
     let class = characters.class_of(character);
     if let Some(joined) = join(pairs, marks, starter, character, class) {
@@ -273,7 +288,9 @@ fn join(
     character: char,
     class: u8,
 ) -> Option<char>
-    ensures { (d : Reading) → BlocksBelow d marks.now → class ≡ d.class character → pair_of pairs.now starter character ≡ d.pair starter character → result ≡ join d starter (staying marks.now) character }
+    ensures { (d : Reading) → BlocksBelow d marks.now → class ≡ d.class character →
+        pair_of pairs.now starter character ≡ d.pair starter character →
+        result ≡ join d starter (staying marks.now) character }
 {
     if marks.lets_pass(class) {
         pairs.compose(starter, character)

@@ -34,7 +34,8 @@ pub struct Decomposition<'data, I> {
     pending: Option<char>,
     waiting: WaitingList,
     ghost suits: { SuitsLazyReading (has_class_form characters) (decomposing_reading characters ignored) },
-    ghost anew: { ForSome pending (λ c. continues (has_class_form characters) (decomposing_reading characters ignored) c ≡ false) },
+    ghost anew: { ForSome pending (λ c. continues (has_class_form characters)
+        (decomposing_reading characters ignored) c ≡ false) },
     ghost settled: { unordered waiting ≡ [] },
 }
 
@@ -50,7 +51,8 @@ impl<'data, I: Iterator<Item = char> + Drop> Decomposition<'data, I> {
         requires can { I.can_next delegate }
         requires ends { IsFinite (I.remaining delegate) }
         requires sound { IsSoundNfdData decompositions.now tables.now }
-        ensures form { GivesForm I.next_gives ⟦<Decomposition<'data, I> as Iterator>⟧.next_gives (has_class_form (nfd_characters decompositions.now tables.now))
+        ensures form { GivesForm I.next_gives ⟦<Decomposition<'data, I> as Iterator>⟧.next_gives
+            (has_class_form (nfd_characters decompositions.now tables.now))
             (own_reading (nfd_characters decompositions.now tables.now)) nfd delegate result }
         ensures ready { IfOk result ⟦<Decomposition<'data, I> as Iterator>⟧.can_next }
     {
@@ -67,9 +69,14 @@ impl<'data, I: Iterator<Item = char> + Drop> Decomposition<'data, I> {
         requires can { I.can_next delegate }
         requires ends { IsFinite (I.remaining delegate) }
         requires suits { SuitsLazyReading (has_class_form characters) (decomposing_reading characters ignored) }
-        ensures text { IfOk result (λ it. (x : List ℕ) → Spells I.next_gives delegate x → WillGive I.next_gives it (nfd (decomposing_reading characters.entry ignored) x)) }
-        ensures short { IfOk result (λ it. (x : List ℕ) → Spells I.next_gives delegate x → HasShortRuns (has_class_form characters.entry) (decomposing_reading characters.entry ignored) x → StaysShort I.next_gives it) }
-        ensures succeeds { (x : List ℕ) → Spells I.next_gives delegate x → HasShortRuns (has_class_form characters.entry) (decomposing_reading characters.entry ignored) x → IsOk result }
+        ensures text { IfOk result (λ it. (x : List ℕ) → Spells I.next_gives delegate x →
+            WillGive I.next_gives it (nfd (decomposing_reading characters.entry ignored) x)) }
+        ensures short { IfOk result (λ it. (x : List ℕ) → Spells I.next_gives delegate x →
+            HasShortRuns (has_class_form characters.entry) (decomposing_reading characters.entry ignored) x →
+            StaysShort I.next_gives it) }
+        ensures succeeds { (x : List ℕ) → Spells I.next_gives delegate x →
+            HasShortRuns (has_class_form characters.entry) (decomposing_reading characters.entry ignored) x →
+            IsOk result }
         ensures ready { IfOk result (CanDecompose I.can_next I.remaining) }
         ensures kept { IfOk result (λ it. (it.characters ≡ characters.entry) × (it.ignored ≡ ignored)) }
         ensures refused { IsOkUnless result NormalizeError.Memory }
@@ -95,11 +102,19 @@ impl<'data, I: Iterator<Item = char> + Drop> Decomposition<'data, I> {
         following: Option<char>,
     ) -> Result<char, NormalizeError>
         requires taken { self.old.pending ≡ None }
-        requires anew { continues (has_class_form self.old.characters) (decomposing_reading self.old.characters self.old.ignored) character ≡ false }
+        requires anew { continues (has_class_form self.old.characters)
+            (decomposing_reading self.old.characters self.old.ignored) character ≡ false }
         requires ready { IsReadyBehind I.can_next I.remaining following self.old.delegate }
         requires read { (before : I) × HasRead I.next_gives I.remaining before following self.old.delegate }
-        ensures ok { IfOk result (λ first. (before : I) → HasRead I.next_gives I.remaining before following self.old.delegate → ReadsChunk I.can_next I.next_gives I.remaining (has_class_form self.old.characters) (decomposing_reading self.old.characters self.old.ignored) character before first self.new.pending self.new.delegate self.new.waiting) }
-        ensures err { IfErr result (λ e. (e ≡ NormalizeError.Memory) × IsEnded self.new × ((before : I) → HasRead I.next_gives I.remaining before following self.old.delegate → ChunkDidNotFit I.next_gives (has_class_form self.old.characters) (decomposing_reading self.old.characters self.old.ignored) character before)) }
+        ensures ok { IfOk result (λ first. (before : I) →
+            HasRead I.next_gives I.remaining before following self.old.delegate →
+            ReadsChunk I.can_next I.next_gives I.remaining (has_class_form self.old.characters)
+            (decomposing_reading self.old.characters self.old.ignored) character before
+            first self.new.pending self.new.delegate self.new.waiting) }
+        ensures err { IfErr result (λ e. (e ≡ NormalizeError.Memory) × IsEnded self.new ×
+            ((before : I) → HasRead I.next_gives I.remaining before following self.old.delegate →
+            ChunkDidNotFit I.next_gives (has_class_form self.old.characters)
+            (decomposing_reading self.old.characters self.old.ignored) character before)) }
         ensures kept { (self.new.characters ≡ self.old.characters) × (self.new.ignored ≡ self.old.ignored) }
     {
         match read_chunk(
@@ -131,7 +146,8 @@ pub fn decomposed<'data, I: Iterator<Item = char> + Drop>(
     requires can { I.can_next delegate }
     requires ends { IsFinite (I.remaining delegate) }
     requires suits { SuitsLazyReading (has_class_form characters) (decomposing_reading characters ignored) }
-    ensures form { GivesForm I.next_gives ⟦<Decomposition<'data, I> as Iterator>⟧.next_gives (has_class_form characters.entry)
+    ensures form { GivesForm I.next_gives ⟦<Decomposition<'data, I> as Iterator>⟧.next_gives
+        (has_class_form characters.entry)
         (decomposing_reading characters.entry ignored) nfd delegate result }
     ensures ready { IfOk result ⟦<Decomposition<'data, I> as Iterator>⟧.can_next }
 {
@@ -149,9 +165,14 @@ fn read_chunk<I: Iterator<Item = char> + Drop>(
     waiting: &mut WaitingList,
 ) -> Result<(char, Option<char>), AllocError>
     requires ready { IsReadyBehind I.can_next I.remaining following delegate.old }
-    requires anew { continues (has_class_form characters.now) (decomposing_reading characters.now ignored) character ≡ false }
-    ensures ok { IfOk result (λ r. (before : I) → HasRead I.next_gives I.remaining before following delegate.old → ReadsChunk I.can_next I.next_gives I.remaining (has_class_form characters.now) (decomposing_reading characters.now ignored) character before r.0 r.1 delegate.new waiting.new) }
-    ensures err { OnErr result ((before : I) → HasRead I.next_gives I.remaining before following delegate.old → ChunkDidNotFit I.next_gives (has_class_form characters.now) (decomposing_reading characters.now ignored) character before) }
+    requires anew { continues (has_class_form characters.now)
+        (decomposing_reading characters.now ignored) character ≡ false }
+    ensures ok { IfOk result (λ r. (before : I) → HasRead I.next_gives I.remaining before following delegate.old →
+        ReadsChunk I.can_next I.next_gives I.remaining (has_class_form characters.now)
+        (decomposing_reading characters.now ignored) character before r.0 r.1 delegate.new waiting.new) }
+    ensures err { OnErr result ((before : I) → HasRead I.next_gives I.remaining before following delegate.old →
+        ChunkDidNotFit I.next_gives (has_class_form characters.now) (decomposing_reading characters.now ignored)
+        character before) }
 {
     let members = characters.members(character, ignored);
     let Some(first) = members.get(0) else {

@@ -62,7 +62,8 @@ impl StayingMarks {
     /// Whether none of them blocks a character of this class.
     #[tactic(auto, unfolding(crate::specs::StayingMarks::BlocksBelow))]
     pub(crate) fn lets_pass(&self, class: u8) -> bool
-        ensures { (d : Reading) (c : ℕ) → BlocksBelow d self.now → class ≡ d.class c → result ≡ is_above d (staying self.now) c }
+        ensures { (d : Reading) (c : ℕ) → BlocksBelow d self.now → class ≡ d.class c →
+            result ≡ is_above d (staying self.now) c }
     {
         self.unblocked <= class as u16
     }
@@ -71,7 +72,8 @@ impl StayingMarks {
     pub(crate) fn push(&mut self, mark: char, class: u8) -> Result<(), AllocError>
         ensures staying { OnOk result (staying self.new ≡ staying self.old ++ mark ∷ []) }
         ensures used { OnOk result (used self.new ≡ used self.old + 1) }
-        ensures blocking { OnOk result ((d : Reading) → BlocksBelow d self.old → class ≡ d.class mark → BlocksBelow d self.new) }
+        ensures blocking { OnOk result
+            ((d : Reading) → BlocksBelow d self.old → class ≡ d.class mark → BlocksBelow d self.new) }
         ensures succeeds { used self.old < places → IsOk result }
     {
         self.marks.push(mark)?;

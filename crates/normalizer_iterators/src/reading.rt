@@ -24,8 +24,12 @@ pub(crate) fn read_on<I: Iterator<Item = char> + Drop>(
 ) -> Result<Option<char>, AllocError>
     requires ready { IsReadyBehind I.can_next I.remaining first delegate.old }
     requires classes { AgreesWith (decomposing_reading characters.now ignored) waiting.old }
-    ensures ok { IfOk result (λ pending. (before : I) → HasRead I.next_gives I.remaining before first delegate.old → ReadsOn I.can_next I.next_gives I.remaining (has_class_form characters.now) (decomposing_reading characters.now ignored) before waiting.old pending delegate.new waiting.new) }
-    ensures err { OnErr result ((before : I) → HasRead I.next_gives I.remaining before first delegate.old → DidNotFit I.next_gives (has_class_form characters.now) (decomposing_reading characters.now ignored) before waiting.old) }
+    ensures ok { IfOk result (λ pending. (before : I) → HasRead I.next_gives I.remaining before first delegate.old →
+        ReadsOn I.can_next I.next_gives I.remaining (has_class_form characters.now)
+        (decomposing_reading characters.now ignored) before waiting.old pending delegate.new waiting.new) }
+    ensures err { OnErr result ((before : I) → HasRead I.next_gives I.remaining before first delegate.old →
+        DidNotFit I.next_gives (has_class_form characters.now) (decomposing_reading characters.now ignored)
+        before waiting.old) }
 {
     let mut next = first;
     while let Some(character) = next {
@@ -49,8 +53,10 @@ pub(crate) fn push_from(
     waiting: &mut WaitingList,
 ) -> Result<(), AllocError>
     requires { first ≤ length members.now }
-    ensures text { OnOk result ((d : Reading) → HasClassesFrom characters.now d → AgreesWith d waiting.old → (rest : List ℕ) → reordered d waiting.old (drop first members.now ++ rest) ≡ reordered d waiting.new rest) }
-    ensures classes { OnOk result ((d : Reading) → HasClassesFrom characters.now d → AgreesWith d waiting.old → AgreesWith d waiting.new) }
+    ensures text { OnOk result ((d : Reading) → HasClassesFrom characters.now d → AgreesWith d waiting.old →
+        (rest : List ℕ) → reordered d waiting.old (drop first members.now ++ rest) ≡ reordered d waiting.new rest) }
+    ensures classes { OnOk result ((d : Reading) → HasClassesFrom characters.now d → AgreesWith d waiting.old →
+        AgreesWith d waiting.new) }
     ensures held { OnOk result (held waiting.new + first ≡ held waiting.old + length members.now) }
     ensures succeeds { held waiting.old + length members.now ≤ places + first → IsOk result }
 {

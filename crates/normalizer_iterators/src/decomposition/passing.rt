@@ -37,7 +37,8 @@ impl<'data, I: Iterator<Item = char> + Drop> Decomposition<'data, I> {
     pub(crate) fn pass(&mut self, bounds: Bounds) -> Option<Result<Given, NormalizeError>>
         requires can { CanDecompose I.can_next I.remaining self.old }
         requires anew { PassedBeginAnew self.old.characters bounds self.old.ignored }
-        ensures { (pairs : List Pair) → SuitsLazyComposing self.old.characters bounds pairs → IsAtPassed pairs self.old → Passes I.can_next I.next_gives I.remaining pairs self.old result self.new }
+        ensures { (pairs : List Pair) → SuitsLazyComposing self.old.characters bounds pairs →
+            IsAtPassed pairs self.old → Passes I.can_next I.next_gives I.remaining pairs self.old result self.new }
     {
         let character = self.pending.take()?;
         let following = self.delegate.next();

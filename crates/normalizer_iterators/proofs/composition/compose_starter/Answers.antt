@@ -3,7 +3,8 @@ use Rattle.normal_forms.specs.Boundary.{BeginsSafely}
 use Rattle.normalizer_tables.specs.PairConditions.{composing_reading}
 use Rattle.normalizer_iterators.specs.LazyComposing.{SuitsLazyComposing}
 use Rattle.normalizer_iterators.proofs.PassingLemmas.{IsAtPassed-stands, BeginsSafely-to_come}
-use Rattle.normalizer_iterators.proofs.StarterLemmas.{GivesShort-no_fault, ComposedSoFar-none, ComposedSoFar-joined, ComposedSoFar-stays, ComposedSoFar-no_room, ComposesStarter-starts, ComposesStarter-ends, ComposesStarter-passes}
+use Rattle.normalizer_iterators.proofs.StarterLemmas.{GivesShort-no_fault, ComposedSoFar-none, ComposedSoFar-joined, ComposedSoFar-stays, ComposedSoFar-no_room, ComposesStarter-starts}
+use Rattle.normalizer_iterators.proofs.StarterLemmas.{ComposesStarter-ends, ComposesStarter-passes}
 use Rattle.normalizer_iterators.proofs.composition.compose_starter.Goals as goal
 
 pub loop-bounds-init : goal.loop-bounds-init
@@ -37,7 +38,8 @@ loop-bounds-preserved g c =
     let step = rw c.in-Ok.is at c.in-Some.ensures.steps in
     let nearer = (c.in-Some.ensures.goes.on tt).2 in
     let visited = rw c.in-Ok-Stays.field-0-is at c.in-Ok-Stays.ensures.ok in
-    ComposedSoFar-stays g.I.Iterator.can_next g.I.Iterator.next_gives g.I.Iterator.remaining _ _ _ _ _ _ c.in-Ok.character _ _ c.loop-bounds.invariant step nearer visited.0 visited.1 visited.2 visited.3 visited.4
+    ComposedSoFar-stays g.I.Iterator.can_next g.I.Iterator.next_gives g.I.Iterator.remaining _ _ _ _ _ _ c.in-Ok.character _ _ c.loop-bounds.invariant step nearer visited.0 visited.1 visited.2
+    visited.3 visited.4
 
 pub returns-in-Err-visit-clause-steps : goal.returns-in-Err-visit-clause-steps
 returns-in-Err-visit-clause-steps g c =
@@ -56,7 +58,8 @@ returns-clause-steps g c =
     let suits = subst (λ k. SuitsLazyComposing k c.args.bounds c.args.pairs.now) (sym same) c.requires.suits in
     let here = IsAtPassed-stands c.args.bounds c.args.pairs.now c.loop-bounds.decomposed suits (c.is_at_passed.ensures.0 c.loop-bounds-test.false) in
     ComposesStarter-passes g.I.Iterator.can_next g.I.Iterator.next_gives g.I.Iterator.remaining _ _ _ _ c.loop-bounds.decomposed _ before
-    (λ y h. subst (λ k. BeginsSafely (composing_reading k c.args.pairs.now) y) same (BeginsSafely-to_come g.I.Iterator.can_next g.I.Iterator.next_gives g.I.Iterator.remaining c.args.pairs.now c.loop-bounds.decomposed here y h))
+    (λ y h. subst (λ k. BeginsSafely (composing_reading k c.args.pairs.now) y) same
+    (BeginsSafely-to_come g.I.Iterator.can_next g.I.Iterator.next_gives g.I.Iterator.remaining c.args.pairs.now c.loop-bounds.decomposed here y h))
 
 pub returns-clause-passed : goal.returns-clause-passed
 returns-clause-passed g c =

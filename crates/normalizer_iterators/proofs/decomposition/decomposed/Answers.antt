@@ -13,5 +13,6 @@ returns-clause-form g c =
     let left = g.I.Iterator.remaining in
     let made = c.over.ensures in
     GivesForm-made gives (WillGive gives) (StaysShort gives) (DecompositionSteps can gives left) (SpellsUnless-decomposition can gives left) (SpellsOk-decomposition can gives left)
-    (has_class_form c.args.characters) (decomposing_reading c.args.characters c.args.ignored) nfd c.args.delegate (HasShortRuns (has_class_form c.args.characters) (decomposing_reading c.args.characters c.args.ignored)) (λ x runs. runs)
+    (has_class_form c.args.characters) (decomposing_reading c.args.characters c.args.ignored) nfd c.args.delegate
+    (HasShortRuns (has_class_form c.args.characters) (decomposing_reading c.args.characters c.args.ignored)) (λ x runs. runs)
     c.over.result made.text made.short made.succeeds made.refused

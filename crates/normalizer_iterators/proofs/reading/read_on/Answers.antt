@@ -50,7 +50,8 @@ loop-next-preserved g c =
 pub loop-next-smaller : goal.loop-next-smaller
 loop-next-smaller g c =
     let ahead = rw c.in-Some.is at c.loop-next.invariant in
-    rw c.in-Some.is (reads_left-nearer _ _ _ (HasRead-next g.I.Iterator.can_next g.I.Iterator.next_gives g.I.Iterator.remaining _ _ _ c.next-next.ensures.steps (c.next-next.ensures.goes.on ahead.ready.1)).nearer)
+    rw c.in-Some.is (reads_left-nearer _ _ _ (HasRead-next g.I.Iterator.can_next g.I.Iterator.next_gives g.I.Iterator.remaining _ _ _ c.next-next.ensures.steps
+    (c.next-next.ensures.goes.on ahead.ready.1)).nearer)
 
 pub returns-in_err-push_from-clause-err : goal.returns-in_err-push_from-clause-err
 returns-in_err-push_from-clause-err g c =

@@ -7,7 +7,8 @@ use Rattle.normalizer_iterators.proofs.reading.read_on.Given as goal
 
 abbrev pub invariant-loop-next : goal.invariant-loop-next
 invariant-loop-next g l =
-    ReadsAhead g.I.Iterator.can_next g.I.Iterator.next_gives g.I.Iterator.remaining (has_class_form l.characters) (decomposing_reading l.characters l.ignored) l.fn.first l.initial.delegate l.initial.waiting l.next l.delegate l.waiting
+    ReadsAhead g.I.Iterator.can_next g.I.Iterator.next_gives g.I.Iterator.remaining (has_class_form l.characters)
+    (decomposing_reading l.characters l.ignored) l.fn.first l.initial.delegate l.initial.waiting l.next l.delegate l.waiting
 
 abbrev pub decreases-loop-next : goal.decreases-loop-next
 decreases-loop-next g l = reads_left l.next (size (g.I.Iterator.remaining l.delegate))

@@ -41,7 +41,8 @@ returns-in-Some-Ok-FirstMember-clause-steps g c =
     let reached = rw c.in-Some-Ok-FirstMember.field-0-is at c.in-Some-Ok-FirstMember.ensures s.pairs.now suits c.requires.at_passed in
     let given = rw c.in-Some-Ok-FirstMember.field-0-0-is at reached in
     let starter = subst (λ k. IsStarter (composing_reading k s.pairs.now) c.in-Some-Ok-FirstMember.starter) c.requires.can.same (given.starter s.pairs.now) in
-    Steps-first_starter g.I.Iterator.can_next g.I.Iterator.next_gives g.I.Iterator.remaining s c.requires.ahead c.requires.marks c.in-Some-Ok-FirstMember.starter s.marks c.pass.new.self _ _ _ given.steps starter c.compose_on.ensures
+    Steps-first_starter g.I.Iterator.can_next g.I.Iterator.next_gives g.I.Iterator.remaining s c.requires.ahead c.requires.marks c.in-Some-Ok-FirstMember.starter s.marks c.pass.new.self _ _ _
+    given.steps starter c.compose_on.ensures
 
 pub returns-in-Some-Ok-FirstMember-clause-goes : goal.returns-in-Some-Ok-FirstMember-clause-goes
 returns-in-Some-Ok-FirstMember-clause-goes g c =
@@ -49,7 +50,8 @@ returns-in-Some-Ok-FirstMember-clause-goes g c =
     let suits = suits_source g.I.Iterator.can_next g.I.Iterator.next_gives g.I.Iterator.remaining s c.requires.can in
     let reached = rw c.in-Some-Ok-FirstMember.field-0-is at c.in-Some-Ok-FirstMember.ensures s.pairs.now suits c.requires.at_passed in
     let given = rw c.in-Some-Ok-FirstMember.field-0-0-is at reached in
-    Goes-first_starter g.I.Iterator.can_next g.I.Iterator.next_gives g.I.Iterator.remaining s c.requires.ahead c.requires.marks c.in-Some-Ok-FirstMember.starter s.marks c.pass.new.self _ _ _ given c.compose_on.ensures
+    Goes-first_starter g.I.Iterator.can_next g.I.Iterator.next_gives g.I.Iterator.remaining s c.requires.ahead c.requires.marks c.in-Some-Ok-FirstMember.starter s.marks c.pass.new.self _ _ _ given
+    c.compose_on.ensures
 
 pub returns-in-Some-Err-clause-steps : goal.returns-in-Some-Err-clause-steps
 returns-in-Some-Err-clause-steps g c =
@@ -68,4 +70,5 @@ returns-in-Some-Err-clause-goes g c =
 pub returns-in-None-clause-steps : goal.returns-in-None-clause-steps
 returns-in-None-clause-steps g c =
     let s = c.args.self.now in
-    Steps-end g.I.Iterator.can_next g.I.Iterator.next_gives g.I.Iterator.remaining s c.requires.ahead c.requires.marks s.marks c.pass.new.self c.requires.marks (c.in-None.ensures s.pairs.now (suits_source g.I.Iterator.can_next g.I.Iterator.next_gives g.I.Iterator.remaining s c.requires.can) c.requires.at_passed)
+    Steps-end g.I.Iterator.can_next g.I.Iterator.next_gives g.I.Iterator.remaining s c.requires.ahead c.requires.marks s.marks c.pass.new.self c.requires.marks
+    (c.in-None.ensures s.pairs.now (suits_source g.I.Iterator.can_next g.I.Iterator.next_gives g.I.Iterator.remaining s c.requires.can) c.requires.at_passed)

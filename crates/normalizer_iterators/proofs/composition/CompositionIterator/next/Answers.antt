@@ -1,6 +1,7 @@
 use Rattle.std.proofs.Common.{length, sym, ap, ◌∙◌, arith, Ok}
 use Rattle.normalizer_iterators.proofs.ComposingLemmas.{class-composing_reading}
-use Rattle.normalizer_iterators.proofs.CompositionLemmas.{CanCompose-marks, CanCompose-next, suits_source, Steps-first_starter, Steps-leading_mark, Steps-end, Steps-fault, Steps-mark, Steps-ended, Steps-starter, Steps-marks, Goes-item, Goes-marks, Goes-leading_mark, Goes-first_fault}
+use Rattle.normalizer_iterators.proofs.CompositionLemmas.{CanCompose-marks, CanCompose-next, suits_source, Steps-first_starter, Steps-leading_mark, Steps-end, Steps-fault, Steps-mark, Steps-ended}
+use Rattle.normalizer_iterators.proofs.CompositionLemmas.{Steps-starter, Steps-marks, Goes-item, Goes-marks, Goes-leading_mark, Goes-first_fault}
 use Rattle.normalizer_iterators.proofs.PassingLemmas.{IsAtPassed-stands}
 use Rattle.normalizer_iterators.proofs.composition.CompositionIterator.next.Goals as goal
 
@@ -9,7 +10,8 @@ returns-then-class_of-eq0-clause-steps g c =
     let s = c.args.self.now in
     let class = c.class_of.ensures ∙ sym (class-composing_reading s.characters s.pairs.now c.in-Some-Ok.character) in
     let step = rw c.in-Some-Ok.field-0-is at c.in-Some-Ok.ensures.steps in
-    Steps-first_starter g.I.Iterator.can_next g.I.Iterator.next_gives g.I.Iterator.remaining s (rw c.in-NoStarter.is tt) c.in_default.ensures.none.0 c.in-Some-Ok.character c.pop_front.new.self _ _ _ _ step (sym class ∙ c.if-class_of-eq0.true)
+    Steps-first_starter g.I.Iterator.can_next g.I.Iterator.next_gives g.I.Iterator.remaining s
+    (rw c.in-NoStarter.is tt) c.in_default.ensures.none.0 c.in-Some-Ok.character c.pop_front.new.self _ _ _ _ step (sym class ∙ c.if-class_of-eq0.true)
     c.compose_on-then-class_of-eq0.ensures
 
 pub returns-else-class_of-eq0-clause-steps : goal.returns-else-class_of-eq0-clause-steps
@@ -22,12 +24,14 @@ returns-else-class_of-eq0-clause-steps g c =
 
 pub returns-in-None-clause-steps : goal.returns-in-None-clause-steps
 returns-in-None-clause-steps g c =
-    Steps-end g.I.Iterator.can_next g.I.Iterator.next_gives g.I.Iterator.remaining c.args.self.now (rw c.in-NoStarter.is tt) c.in_default.ensures.none.0 _ _ c.in_default.ensures.none.1 c.in-None.ensures.steps
+    Steps-end g.I.Iterator.can_next g.I.Iterator.next_gives g.I.Iterator.remaining c.args.self.now
+    (rw c.in-NoStarter.is tt) c.in_default.ensures.none.0 _ _ c.in_default.ensures.none.1 c.in-None.ensures.steps
 
 pub returns-else-class_of-eq0-clause-goes : goal.returns-else-class_of-eq0-clause-goes
 returns-else-class_of-eq0-clause-goes g c =
     let step = rw c.in-Some-Ok.field-0-is at c.in-Some-Ok.ensures.steps in
-    Goes-leading_mark g.I.Iterator.can_next g.I.Iterator.next_gives g.I.Iterator.remaining c.args.self.now c.in-Some-Ok.character _ _ c.in-NoStarter.is c.in_default.ensures.none.0 c.in_default.ensures.none.1 c.requires step (c.in-Some-Ok.ensures.goes.on tt).2
+    Goes-leading_mark g.I.Iterator.can_next g.I.Iterator.next_gives g.I.Iterator.remaining c.args.self.now c.in-Some-Ok.character _ _ c.in-NoStarter.is c.in_default.ensures.none.0
+    c.in_default.ensures.none.1 c.requires step (c.in-Some-Ok.ensures.goes.on tt).2
 
 pub returns-in-Some-Err-clause-steps : goal.returns-in-Some-Err-clause-steps
 returns-in-Some-Err-clause-steps g c =
@@ -37,7 +41,8 @@ returns-in-Some-Err-clause-steps g c =
 pub returns-in-Some-Err-clause-goes : goal.returns-in-Some-Err-clause-goes
 returns-in-Some-Err-clause-goes g c =
     let step = rw c.in-Some-Err.field-0-is at c.in-Some-Err.ensures.steps in
-    Goes-first_fault g.I.Iterator.can_next g.I.Iterator.next_gives g.I.Iterator.remaining c.args.self.now c.in-Some-Err.error _ _ c.in-NoStarter.is c.in_default.ensures.none.1 c.requires step (c.in-Some-Err.ensures.goes.on tt).2
+    Goes-first_fault g.I.Iterator.can_next g.I.Iterator.next_gives g.I.Iterator.remaining c.args.self.now c.in-Some-Err.error _ _ c.in-NoStarter.is c.in_default.ensures.none.1 c.requires step
+    (c.in-Some-Err.ensures.goes.on tt).2
 
 pub compose_on-requires : goal.compose_on-requires
 compose_on-requires g c = CanCompose-marks g.I.Iterator.can_next g.I.Iterator.next_gives g.I.Iterator.remaining c.args.self.now _ c.requires
@@ -56,10 +61,13 @@ pass-requires g c = record {
 }
 
 pub returns-in-Passed-clause-steps : goal.returns-in-Passed-clause-steps
-returns-in-Passed-clause-steps g c = Steps-marks g.I.Iterator.can_next g.I.Iterator.next_gives g.I.Iterator.remaining c.args.self.now c.pop_front.new.self c.in_default.ensures.none.0 c.in_default.ensures.none.1 _ _ c.pass.ensures.steps
+returns-in-Passed-clause-steps g c =
+    Steps-marks g.I.Iterator.can_next g.I.Iterator.next_gives g.I.Iterator.remaining c.args.self.now c.pop_front.new.self c.in_default.ensures.none.0 c.in_default.ensures.none.1 _ _
+    c.pass.ensures.steps
 
 pub returns-in-Passed-clause-goes : goal.returns-in-Passed-clause-goes
-returns-in-Passed-clause-goes g c = Goes-marks g.I.Iterator.can_next g.I.Iterator.next_gives g.I.Iterator.remaining c.args.self.now c.pop_front.new.self c.in_default.ensures.none.0 c.in_default.ensures.none.1 _ _ c.pass.ensures.goes
+returns-in-Passed-clause-goes g c =
+    Goes-marks g.I.Iterator.can_next g.I.Iterator.next_gives g.I.Iterator.remaining c.args.self.now c.pop_front.new.self c.in_default.ensures.none.0 c.in_default.ensures.none.1 _ _ c.pass.ensures.goes
 
 pub pass-requires-then-is_at_passed : goal.pass-requires-then-is_at_passed
 pass-requires-then-is_at_passed g c =
@@ -68,25 +76,35 @@ pass-requires-then-is_at_passed g c =
       can = CanCompose-marks g.I.Iterator.can_next g.I.Iterator.next_gives g.I.Iterator.remaining s _ c.requires;
       marks = c.in_default.ensures.none.1;
       ahead = rw c.in-NoStarter.is tt;
-      at_passed = IsAtPassed-stands s.bounds s.pairs.now s.decomposed (suits_source g.I.Iterator.can_next g.I.Iterator.next_gives g.I.Iterator.remaining s c.requires) (c.is_at_passed.ensures.0 c.if-is_at_passed.true);
+      at_passed =
+          IsAtPassed-stands s.bounds s.pairs.now s.decomposed (suits_source g.I.Iterator.can_next g.I.Iterator.next_gives g.I.Iterator.remaining s c.requires)
+          (c.is_at_passed.ensures.0 c.if-is_at_passed.true);
     }
 
 pub returns-then-is_at_passed-clause-steps : goal.returns-then-is_at_passed-clause-steps
-returns-then-is_at_passed-clause-steps g c = Steps-marks g.I.Iterator.can_next g.I.Iterator.next_gives g.I.Iterator.remaining c.args.self.now c.pop_front.new.self c.in_default.ensures.none.0 c.in_default.ensures.none.1 _ _ c.pass-then-is_at_passed.ensures.steps
+returns-then-is_at_passed-clause-steps g c =
+    Steps-marks g.I.Iterator.can_next g.I.Iterator.next_gives g.I.Iterator.remaining c.args.self.now c.pop_front.new.self c.in_default.ensures.none.0 c.in_default.ensures.none.1 _ _
+    c.pass-then-is_at_passed.ensures.steps
 
 pub returns-then-is_at_passed-clause-goes : goal.returns-then-is_at_passed-clause-goes
-returns-then-is_at_passed-clause-goes g c = Goes-marks g.I.Iterator.can_next g.I.Iterator.next_gives g.I.Iterator.remaining c.args.self.now c.pop_front.new.self c.in_default.ensures.none.0 c.in_default.ensures.none.1 _ _ c.pass-then-is_at_passed.ensures.goes
+returns-then-is_at_passed-clause-goes g c =
+    Goes-marks g.I.Iterator.can_next g.I.Iterator.next_gives g.I.Iterator.remaining c.args.self.now c.pop_front.new.self c.in_default.ensures.none.0 c.in_default.ensures.none.1 _ _
+    c.pass-then-is_at_passed.ensures.goes
 
 pub returns-in-Some-clause-steps : goal.returns-in-Some-clause-steps
 returns-in-Some-clause-steps g c = Steps-mark g.I.Iterator.can_next g.I.Iterator.next_gives g.I.Iterator.remaining c.args.self.now c.in-Some.mark c.pop_front.new.self c.in-Some.ensures.some
 
 pub returns-in-Some-clause-goes : goal.returns-in-Some-clause-goes
 returns-in-Some-clause-goes g c =
-    Goes-item g.I.Iterator.can_next g.I.Iterator.next_gives g.I.Iterator.remaining c.args.self.now (Ok c.in-Some.mark) _ (CanCompose-marks g.I.Iterator.can_next g.I.Iterator.next_gives g.I.Iterator.remaining c.args.self.now c.pop_front.new.self c.requires)
+    Goes-item g.I.Iterator.can_next g.I.Iterator.next_gives g.I.Iterator.remaining c.args.self.now (Ok c.in-Some.mark) _
+    (CanCompose-marks g.I.Iterator.can_next g.I.Iterator.next_gives g.I.Iterator.remaining c.args.self.now c.pop_front.new.self c.requires)
     (omega (arith, ap length c.in-Some.ensures.some))
 
 pub returns-in-Ended-clause-steps : goal.returns-in-Ended-clause-steps
-returns-in-Ended-clause-steps g c = Steps-ended g.I.Iterator.can_next g.I.Iterator.next_gives g.I.Iterator.remaining c.args.self.now c.pop_front.new.self c.in-Ended.is c.in_default.ensures.none.0 c.in_default.ensures.none.1
+returns-in-Ended-clause-steps g c =
+    Steps-ended g.I.Iterator.can_next g.I.Iterator.next_gives g.I.Iterator.remaining c.args.self.now c.pop_front.new.self c.in-Ended.is c.in_default.ensures.none.0 c.in_default.ensures.none.1
 
 pub returns-in-Starter-clause-steps : goal.returns-in-Starter-clause-steps
-returns-in-Starter-clause-steps g c = Steps-starter g.I.Iterator.can_next g.I.Iterator.next_gives g.I.Iterator.remaining c.args.self.now c.in-Starter.starter c.pop_front.new.self _ _ c.in-Starter.is c.in_default.ensures.none.0 c.compose_on.ensures
+returns-in-Starter-clause-steps g c =
+    Steps-starter g.I.Iterator.can_next g.I.Iterator.next_gives g.I.Iterator.remaining c.args.self.now c.in-Starter.starter c.pop_front.new.self _ _ c.in-Starter.is c.in_default.ensures.none.0
+    c.compose_on.ensures

@@ -48,7 +48,8 @@ returns-in-Ok g c = λ pairs suits here.
     let ready = ready_behind g.I.Iterator.can_next g.I.Iterator.remaining s c.in_ok-character.character pending c.requires.can in
     let near = c.next-following.ensures.goes.on ready.1 in
     let read = HasRead-next g.I.Iterator.can_next g.I.Iterator.next_gives g.I.Iterator.remaining _ _ _ c.next-following.ensures.steps near in
-    GivesStarter-next g.I.Iterator.can_next g.I.Iterator.next_gives g.I.Iterator.remaining pairs s here c.args.bounds suits c.in_ok-character.character pending _ c.in-Ok.first c.in-Ok.ensures.kept.0 c.in-Ok.ensures.kept.1 (c.in-Ok.ensures.ok s.delegate read)
+    GivesStarter-next g.I.Iterator.can_next g.I.Iterator.next_gives g.I.Iterator.remaining pairs s here c.args.bounds suits c.in_ok-character.character pending _ c.in-Ok.first c.in-Ok.ensures.kept.0
+    c.in-Ok.ensures.kept.1 (c.in-Ok.ensures.ok s.delegate read)
 
 pub returns-in-Err : goal.returns-in-Err
 returns-in-Err g c = λ pairs suits here.
@@ -58,6 +59,8 @@ returns-in-Err g c = λ pairs suits here.
     let near = c.next-following.ensures.goes.on ready.1 in
     let read = HasRead-next g.I.Iterator.can_next g.I.Iterator.next_gives g.I.Iterator.remaining _ _ _ c.next-following.ensures.steps near in
     let kept = c.in-Err.ensures.kept in (
-      Steps-read g.I.Iterator.can_next g.I.Iterator.next_gives g.I.Iterator.remaining s c.in_ok-character.character pending here.waiting _ _ read _ kept.0 kept.1 (Err c.in-Err.error) tt c.in-Err.ensures.err,
-      ((Goes-read g.I.Iterator.can_next g.I.Iterator.next_gives g.I.Iterator.remaining s c.in_ok-character.character pending here.waiting _ _ read c.next_chunk.new.self (Err c.in-Err.error) tt c.in-Err.ensures.err).on tt).2,
+      Steps-read g.I.Iterator.can_next g.I.Iterator.next_gives g.I.Iterator.remaining s c.in_ok-character.character pending here.waiting _ _ read _ kept.0 kept.1
+          (Err c.in-Err.error) tt c.in-Err.ensures.err,
+      ((Goes-read g.I.Iterator.can_next g.I.Iterator.next_gives g.I.Iterator.remaining s c.in_ok-character.character pending here.waiting _ _ read c.next_chunk.new.self
+          (Err c.in-Err.error) tt c.in-Err.ensures.err).on tt).2,
     )

@@ -31,7 +31,8 @@ returns-clause-steps g c =
     let pending = sym c.in_ok-character.ensures.value in
     let ready = ready_behind g.I.Iterator.can_next g.I.Iterator.remaining s c.in_ok-character.character pending c.requires in
     let read = HasRead-next g.I.Iterator.can_next g.I.Iterator.next_gives g.I.Iterator.remaining _ _ _ c.next-following.ensures.steps (c.next-following.ensures.goes.on ready.1) in
-    Steps-read g.I.Iterator.can_next g.I.Iterator.next_gives g.I.Iterator.remaining s c.in_ok-character.character pending c.in_default.ensures.none.0 _ _ read _ c.next_chunk.ensures.kept.0 c.next_chunk.ensures.kept.1 _ c.next_chunk.ensures.ok c.next_chunk.ensures.err
+    Steps-read g.I.Iterator.can_next g.I.Iterator.next_gives g.I.Iterator.remaining s c.in_ok-character.character pending c.in_default.ensures.none.0 _ _ read _ c.next_chunk.ensures.kept.0
+    c.next_chunk.ensures.kept.1 _ c.next_chunk.ensures.ok c.next_chunk.ensures.err
 
 pub returns-clause-goes : goal.returns-clause-goes
 returns-clause-goes g c =
@@ -39,4 +40,5 @@ returns-clause-goes g c =
     let pending = sym c.in_ok-character.ensures.value in
     let ready = ready_behind g.I.Iterator.can_next g.I.Iterator.remaining s c.in_ok-character.character pending c.requires in
     let read = HasRead-next g.I.Iterator.can_next g.I.Iterator.next_gives g.I.Iterator.remaining _ _ _ c.next-following.ensures.steps (c.next-following.ensures.goes.on ready.1) in
-    Goes-read g.I.Iterator.can_next g.I.Iterator.next_gives g.I.Iterator.remaining s c.in_ok-character.character pending c.in_default.ensures.none.0 _ _ read _ _ c.next_chunk.ensures.ok c.next_chunk.ensures.err
+    Goes-read g.I.Iterator.can_next g.I.Iterator.next_gives g.I.Iterator.remaining s c.in_ok-character.character pending c.in_default.ensures.none.0 _ _ read _ _ c.next_chunk.ensures.ok
+    c.next_chunk.ensures.err
