@@ -99,7 +99,7 @@ module _ (s : Characters) (b : Bounds) (hangul : Holds s b Hangul) where
   syllable_class n h = class_of-no_class_form s n (ap is_class_form ((sound n).syllable h))
 
   -- a syllable has the list of its jamo, however ignored characters are treated
-  list_of-syllable : (ignored : List ℕ) (n : ℕ) (x : List ℕ) → 0xAC00 ≤ n → n ≤ 0xD7A3 → hangul_decomposition n ≡ x → as_text x ≡ Some x → list_of s ignored n ≡ x
+  pub list_of-syllable : (ignored : List ℕ) (n : ℕ) (x : List ℕ) → 0xAC00 ≤ n → n ≤ 0xD7A3 → hangul_decomposition n ≡ x → as_text x ≡ Some x → list_of s ignored n ≡ x
   unfolding reading_of_word named_list
   list_of-syllable ignored n x low high is text =
       let syllable = syllable_in_range n low high in

@@ -6,6 +6,7 @@ pub mod Data
 pub mod Found
 pub mod Hangul
 pub mod HangulComposition
+pub mod Held
 pub mod Ignored
 pub mod Members
 pub mod NfdData

@@ -1,0 +1,3 @@
+pub mod ClassWords
+pub mod HangulSteps
+pub mod SoundSteps

@@ -1,0 +1,6 @@
+pub mod ClassData
+pub mod PairData
+pub mod Properties
+pub mod Shapers
+pub mod StepData
+pub mod StepMeaning

@@ -1,0 +1,116 @@
+//! The canonical combining classes of characters (The Unicode Standard, section 3.11).
+ghost use Rattle.std.specs.Prelude.{◌≡◌, IfErr, IfOk};
+ghost use Rattle.normalizer_tables.specs.Held.{held_or, AnswersHeld};
+ghost use Rattle.normalizer_properties.specs.ClassData.{
+  combining_class,
+  RefusesClasses,
+  SuitsClasses,
+};
+
+use normalizer_tables::class_check::first_failing_of_classes;
+use normalizer_tables::refusal::refusal_of;
+use normalizer_tables::word::class_of_word;
+use normalizer_tables::{
+    DataError, DataMarkerInfo, DataProvider, DecompositionData, NormalizerNfdDataV1,
+};
+
+/// A canonical combining class: 0 for starters, else 1 to 254.
+#[derive(Clone, Copy, PartialEq, Eq, PartialOrd, Ord, Debug)]
+pub struct CanonicalCombiningClass(pub u8);
+
+#[allow(non_upper_case_globals)]
+impl CanonicalCombiningClass {
+    /// Starters, which no reordering moves.
+    pub const NotReordered: CanonicalCombiningClass = CanonicalCombiningClass(0);
+    /// The voicing marks of Hiragana and Katakana.
+    pub const KanaVoicing: CanonicalCombiningClass = CanonicalCombiningClass(8);
+    /// Viramas.
+    pub const Virama: CanonicalCombiningClass = CanonicalCombiningClass(9);
+    /// Marks above their base.
+    pub const Above: CanonicalCombiningClass = CanonicalCombiningClass(230);
+}
+
+/// The canonical combining classes of all characters.
+#[derive(Drop)]
+pub struct CanonicalCombiningClassMap {
+    decompositions: DecompositionData,
+    ghost suits: { SuitsClasses decompositions },
+}
+
+impl CanonicalCombiningClassMap {
+    ghost use Rattle.normalizer_properties.specs.Properties.{classes_of, classes_of_borrowed};
+
+    /// The classes that the provider's canonical data give. A load that is refused is the answer, and else the first
+    /// written condition on classes that the data break.
+    pub fn try_new_unstable<P>(provider: &P) -> Result<Self, DataError>
+    where
+        P: DataProvider<NormalizerNfdDataV1>,
+        ensures { let first = DataMarkerInfo.NormalizerNfdDataV1 in
+            AnswersHeld SuitsClasses RefusesClasses first classes_of
+            (held_or first (⟦<P as DataProvider<NormalizerNfdDataV1>>⟧.held provider.now)) result }
+    {
+        let decompositions = <P as DataProvider<NormalizerNfdDataV1>>::load(provider)?;
+        Self::over(DataMarkerInfo::NormalizerNfdDataV1, decompositions)
+    }
+
+    /// The classes that data of this marker give, where they meet the written conditions.
+    fn over(marker: DataMarkerInfo, decompositions: DecompositionData) -> Result<Self, DataError>
+        ensures ok { IfOk result (λ m. (classes_of m ≡ decompositions) × SuitsClasses decompositions) }
+        ensures err { IfErr result (RefusesClasses marker decompositions) }
+    {
+        match first_failing_of_classes(&decompositions) {
+            Some(condition) => Err(refusal_of(marker, condition)),
+            None => Ok(CanonicalCombiningClassMap { decompositions }),
+        }
+    }
+
+    /// The map that borrows this one's data.
+    pub fn as_borrowed(&self) -> CanonicalCombiningClassMapBorrowed<'_>
+        ensures { classes_of_borrowed result ≡ classes_of self.now }
+    {
+        CanonicalCombiningClassMapBorrowed {
+            decompositions: &self.decompositions,
+        }
+    }
+}
+
+/// The canonical combining classes of all characters, over borrowed data.
+#[derive(Clone, Copy)]
+pub struct CanonicalCombiningClassMapBorrowed<'a> {
+    decompositions: &'a DecompositionData,
+    ghost suits: { SuitsClasses decompositions.now },
+}
+
+impl<'a> CanonicalCombiningClassMapBorrowed<'a> {
+    ghost use Rattle.normalizer_properties.specs.Properties.{classes_of_borrowed};
+
+    /// The class of a character.
+    pub fn get(&self, character: char) -> CanonicalCombiningClass
+        ensures { result.0 ≡ combining_class (classes_of_borrowed self.now) character }
+    {
+        CanonicalCombiningClass(self.get_u8(character))
+    }
+
+    /// The class of any number: 0 for one that is no scalar value.
+    pub fn get32(&self, number: u32) -> CanonicalCombiningClass
+        ensures { result.0 ≡ combining_class (classes_of_borrowed self.now) number }
+    {
+        CanonicalCombiningClass(self.get32_u8(number))
+    }
+
+    /// The class of a character, as a number.
+    pub fn get_u8(&self, character: char) -> u8
+        ensures { result ≡ combining_class (classes_of_borrowed self.now) character }
+    {
+        self.get32_u8(character as u32)
+    }
+
+    /// The class of any number, as a number: 0 for one that is no scalar value.
+    pub fn get32_u8(&self, number: u32) -> u8
+        ensures { result ≡ combining_class (classes_of_borrowed self.now) number }
+    {
+        // Neither surrogates nor the numbers past the code points have a class form.
+        let decompositions = self.decompositions;
+        class_of_word(decompositions.table.get32(number))
+    }
+}

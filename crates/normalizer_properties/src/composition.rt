@@ -1,0 +1,73 @@
+//! The pairs of characters that compose (The Unicode Standard, D114).
+ghost use Rattle.std.specs.Prelude.{◌≡◌, IfErr, IfOk};
+ghost use Rattle.normalizer_tables.specs.Held.{held_or, AnswersHeld};
+ghost use Rattle.normalizer_tables.specs.PairConditions.{AreSoundPairs};
+ghost use Rattle.normalizer_tables.specs.Pairs.{pair_of};
+ghost use Rattle.normalizer_properties.specs.PairData.{RefusesPairs};
+
+use normalizer_tables::condition::Condition;
+use normalizer_tables::pair_check::are_sound_pairs;
+use normalizer_tables::refusal::refusal_of;
+use normalizer_tables::{
+    CanonicalCompositions, DataError, DataMarkerInfo, DataProvider, NormalizerNfcV1,
+};
+
+/// The pairs of characters that compose.
+#[derive(Drop)]
+pub struct CanonicalComposition {
+    pairs: CanonicalCompositions,
+    ghost sound: { AreSoundPairs pairs },
+}
+
+impl CanonicalComposition {
+    ghost use Rattle.normalizer_properties.specs.Properties.{pairs_of, pairs_of_borrowed};
+
+    /// The pairs that the provider holds. A load that is refused is the answer, and else condition 11, where the pairs
+    /// don't rise or the arithmetic of Hangul answers one of their seconds.
+    pub fn try_new_unstable<P>(provider: &P) -> Result<Self, DataError>
+    where
+        P: DataProvider<NormalizerNfcV1>,
+        ensures { let first = DataMarkerInfo.NormalizerNfcV1 in AnswersHeld AreSoundPairs RefusesPairs first pairs_of
+            (held_or first (⟦<P as DataProvider<NormalizerNfcV1>>⟧.held provider.now)) result }
+    {
+        let pairs = <P as DataProvider<NormalizerNfcV1>>::load(provider)?;
+        Self::over(DataMarkerInfo::NormalizerNfcV1, pairs)
+    }
+
+    /// The pairs of this marker, where they are sound.
+    fn over(marker: DataMarkerInfo, pairs: CanonicalCompositions) -> Result<Self, DataError>
+        ensures ok { IfOk result (λ c. (pairs_of c ≡ pairs) × AreSoundPairs pairs) }
+        ensures err { IfErr result (RefusesPairs marker pairs) }
+    {
+        if are_sound_pairs(&pairs) {
+            Ok(CanonicalComposition { pairs })
+        } else {
+            Err(refusal_of(marker, Condition::PairOrder))
+        }
+    }
+
+    /// The same over borrowed pairs.
+    pub fn as_borrowed(&self) -> CanonicalCompositionBorrowed<'_>
+        ensures { pairs_of_borrowed result ≡ pairs_of self.now }
+    {
+        CanonicalCompositionBorrowed { pairs: &self.pairs }
+    }
+}
+
+/// The pairs of characters that compose, borrowed.
+#[derive(Clone, Copy)]
+pub struct CanonicalCompositionBorrowed<'a> {
+    pairs: &'a CanonicalCompositions,
+    ghost sound: { AreSoundPairs pairs.now },
+}
+
+impl<'a> CanonicalCompositionBorrowed<'a> {
+    ghost use Rattle.normalizer_properties.specs.Properties.{pairs_of_borrowed};
+
+    /// What two characters compose to, Hangul included.
+    pub fn compose(self, starter: char, second: char) -> Option<char>
+        ensures { result ≡ pair_of (pairs_of_borrowed self.entry) starter second }
+    {
+        self.pairs.compose(starter, second)
+    }
+}

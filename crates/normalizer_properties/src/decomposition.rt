@@ -1,0 +1,131 @@
+//! One step of canonical decomposition: the canonical mapping of a character.
+ghost use Rattle.std.specs.Prelude.{◌≡◌, IfErr, IfOk};
+ghost use Rattle.normalizer_tables.specs.Held.{AnswersHeld};
+ghost use Rattle.normalizer_tables.specs.NfdData.{nfd_characters};
+ghost use Rattle.normalizer_tables.specs.Steps.{step_of};
+ghost use Rattle.normalizer_properties.specs.StepData.{
+  step_data,
+  steps_from,
+  RefusesSteps,
+  SuitsSteps,
+};
+ghost use Rattle.normalizer_properties.specs.StepMeaning.{HasSteps, MeansInLists};
+
+use normalizer_tables::characters::CharacterData;
+use normalizer_tables::condition::Bounds;
+use normalizer_tables::refusal::refusal_of;
+use normalizer_tables::step::{Step as Decomposed, step_of};
+use normalizer_tables::step_check::{first_failing_before_steps, first_failing_of_steps};
+use normalizer_tables::{
+    DataError, DataMarkerInfo, DataProvider, DecompositionData, DecompositionTables,
+    NonRecursiveDecompositionSupplement, NormalizerNfdDataV1, NormalizerNfdSupplementV1,
+    NormalizerNfdTablesV1,
+};
+
+/// The bounds of canonical data. No condition that is asked here looks at them.
+const BOUNDS: Bounds = Bounds {
+    decomposition: 0xC0,
+    composition: 0x0300,
+};
+
+/// Refuses data and a supplement that break a condition which is asked where characters are decomposed one step, and
+/// names the first.
+fn check_steps(
+    marker: DataMarkerInfo,
+    characters: &CharacterData<'_>,
+    supplement: &NonRecursiveDecompositionSupplement,
+) -> Result<(), DataError>
+    ensures ok { IfOk result (λ _. SuitsSteps (characters.now, supplement.now)) }
+    ensures err { IfErr result (RefusesSteps marker (characters.now, supplement.now)) }
+{
+    if let Some(condition) = first_failing_before_steps(characters, BOUNDS) {
+        return Err(refusal_of(marker, condition));
+    }
+    match first_failing_of_steps(characters, supplement) {
+        Some(condition) => Err(refusal_of(marker, condition)),
+        None => Ok(()),
+    }
+}
+
+/// One step of canonical decomposition.
+#[derive(Drop)]
+pub struct CanonicalDecomposition {
+    decompositions: DecompositionData,
+    tables: DecompositionTables,
+    supplement: NonRecursiveDecompositionSupplement,
+    ghost steps: { HasSteps (nfd_characters decompositions tables) supplement },
+}
+
+impl CanonicalDecomposition {
+    ghost use Rattle.normalizer_properties.specs.Properties.{steps_of, steps_of_borrowed};
+
+    /// The steps by what the provider holds. The data are loaded first, then their tables, then the supplement; the
+    /// first load that is refused is the answer, and else the first written condition that they break.
+    pub fn try_new_unstable<P>(provider: &P) -> Result<Self, DataError>
+    where
+        P: DataProvider<NormalizerNfdDataV1>
+            + DataProvider<NormalizerNfdTablesV1>
+            + DataProvider<NormalizerNfdSupplementV1>,
+        ensures { AnswersHeld SuitsSteps RefusesSteps DataMarkerInfo.NormalizerNfdDataV1 steps_of
+            (step_data (⟦<P as DataProvider<NormalizerNfdDataV1>>⟧.held provider.now)
+            (⟦<P as DataProvider<NormalizerNfdTablesV1>>⟧.held provider.now)
+            (⟦<P as DataProvider<NormalizerNfdSupplementV1>>⟧.held provider.now)) result }
+    {
+        let decompositions = <P as DataProvider<NormalizerNfdDataV1>>::load(provider)?;
+        let tables = <P as DataProvider<NormalizerNfdTablesV1>>::load(provider)?;
+        let supplement = <P as DataProvider<NormalizerNfdSupplementV1>>::load(provider)?;
+        let marker = DataMarkerInfo::NormalizerNfdDataV1;
+        Self::over(marker, decompositions, tables, supplement)
+    }
+
+    /// The steps by data that were loaded, where they meet the written conditions.
+    fn over(
+        marker: DataMarkerInfo,
+        decompositions: DecompositionData,
+        tables: DecompositionTables,
+        supplement: NonRecursiveDecompositionSupplement,
+    ) -> Result<Self, DataError>
+        ensures ok { IfOk result (λ d. (steps_of d ≡ steps_from decompositions tables supplement) ×
+            SuitsSteps (steps_from decompositions tables supplement)) }
+        ensures err { IfErr result (RefusesSteps marker (steps_from decompositions tables supplement)) }
+    {
+        let characters = CharacterData::new(&decompositions, &tables, None, false);
+        check_steps(marker, &characters, &supplement)?;
+        Ok(CanonicalDecomposition {
+            decompositions,
+            tables,
+            supplement,
+        })
+    }
+
+    /// The steps by borrowed data.
+    pub fn as_borrowed(&self) -> CanonicalDecompositionBorrowed<'_>
+        ensures { steps_of_borrowed result ≡ steps_of self.now }
+    {
+        CanonicalDecompositionBorrowed {
+            characters: CharacterData::new(&self.decompositions, &self.tables, None, false),
+            supplement: &self.supplement,
+        }
+    }
+}
+
+/// One step of canonical decomposition, by borrowed data.
+#[derive(Drop)]
+pub struct CanonicalDecompositionBorrowed<'a> {
+    characters: CharacterData<'a>,
+    supplement: &'a NonRecursiveDecompositionSupplement,
+    ghost steps: { HasSteps characters supplement.now },
+}
+
+impl<'a> CanonicalDecompositionBorrowed<'a> {
+    ghost use Rattle.normalizer_properties.specs.Properties.{steps_of_borrowed};
+
+    /// The canonical mapping of a character, not repeated: a Hangul syllable of three jamo maps to one of two and the
+    /// third (The Unicode Standard, section 3.12).
+    pub fn decompose(&self, character: char) -> Decomposed
+        ensures step { let h = steps_of_borrowed self.now in step_of h.0 h.1 character ≡ Some result }
+        ensures lists { MeansInLists (steps_of_borrowed self.now).0 character result }
+    {
+        step_of(&self.characters, self.supplement, character).unwrap()
+    }
+}
