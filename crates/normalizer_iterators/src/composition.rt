@@ -131,7 +131,8 @@ impl<'data, I: Iterator<Item = char> + Drop> Composition<'data, I> {
             Holds s b condition.Hangul →
             All (HasOrderedLists s (ignored_list ignored)) (pairs_of_composition self.now) →
             IfSome result (λ c. list_of s (ignored_list ignored) c ≡
-            order (own_reading s) (list_of s (ignored_list ignored) starter ++ list_of s (ignored_list ignored) second)) }
+            order (own_reading s)
+            (list_of s (ignored_list ignored) starter ++ list_of s (ignored_list ignored) second)) }
     {
         self.pairs.compose(starter, second)
     }
@@ -232,7 +233,8 @@ fn compose_starter<I: Iterator<Item = char> + Drop>(
     ensures same { decomposed.new.characters ≡ characters.now }
     ensures passed { IfOk result (λ r. WherePassed r.1 (IsAtPassed pairs.now decomposed.new)) }
     ensures steps { let d = composing_reading characters.now pairs.now in MatchResult result
-        (λ r. ComposesStarter I.next_gives I.remaining d starter decomposed.old r.0 (staying marks.new) r.1 decomposed.new)
+        (λ r. ComposesStarter I.next_gives I.remaining d starter decomposed.old r.0 (staying marks.new) r.1
+        decomposed.new)
         (λ e. (e ≡ NormalizeError.Memory) × (¬ GivesShort I.next_gives d decomposed.old)) }
 {
     let mut composite = starter;

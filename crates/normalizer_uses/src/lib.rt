@@ -87,8 +87,9 @@ pub fn nfc_of_bytes(
     normalizer: &ComposingNormalizerBorrowed<'_>,
     bytes: &[u8],
 ) -> Result<Vec<char>, NormalizeError>
-    ensures form { let d = composing_reading (composing_data_of_borrowed normalizer.now) (pairs_of_borrowed normalizer.now)
-        in IfOk result (λ v. v.items ≡ nfc d (decoded_utf8 bytes.now)) }
+    ensures form { IfOk result (λ v. v.items ≡ nfc
+        (composing_reading (composing_data_of_borrowed normalizer.now) (pairs_of_borrowed normalizer.now))
+        (decoded_utf8 bytes.now)) }
     ensures refused { IsOkUnless result NormalizeError.Memory }
 {
     collected(alloc, normalizer.normalize_iter(Utf8Chars::new(bytes))?)

@@ -5,6 +5,7 @@ ghost use Rattle.normalizer_iterators.specs.Items.{SpellsUnless};
 
 use crate::ending::ToolFault;
 use icu_normalizer::NormalizeError;
+use normalizer_iterators::laws::text_comes_unless_a_fault_does;
 use std::alloc::Global;
 
 /// The UTF-8 of the characters, up to the first error, which is want of memory.
@@ -14,9 +15,11 @@ pub(crate) fn encoded<I: Iterator<Item = Result<char, NormalizeError>> + Drop>(
 ) -> Result<String, ToolFault>
     requires can { I.can_next characters }
     requires ends { IsFinite (I.remaining characters) }
-    ensures text { (x : List ℕ) → SpellsUnless I.next_gives NormalizeError.Memory characters x → IfOk result (λ text. string_bytes text ≡ encode_utf8_all x) }
+    ensures text { (x : List ℕ) → SpellsUnless I.next_gives NormalizeError.Memory characters x →
+        IfOk result (λ text. string_bytes text ≡ encode_utf8_all x) }
     ensures errors { IfErr result (λ fault. fault ≡ ToolFault.Memory) }
 {
+    text_comes_unless_a_fault_does::<NormalizeError, I>();
     let mut text = String::new(alloc);
     for character in characters {
         match character {

@@ -1,6 +1,5 @@
 use Rattle.std.proofs.Common.{rules, ◌++◌, Some, Ok, string_bytes, encode_utf8_all, append_assoc, append-nil, sym, ap, subst, ◌∙◌}
 use Rattle.normalizer_iterators.specs.declared.error.NormalizeError.TheVariants.{Memory}
-use Rattle.normalizer_iterators.proofs.ItemLemmas.{SpellsUnless-next, SpellsUnless-end}
 use Rattle.normtool.proofs.encoded.encoded.Goals as goal
 
 pub loop-character-preserved : goal.loop-character-preserved
@@ -13,7 +12,7 @@ loop-character-preserved g c =
       ends = search (rules, c.in-Some.ensures.goes);
       text = λ x h.
           let before = c.loop-character.invariant.text x h in
-          let next = SpellsUnless-next gives Memory _ _ _ before.0 came before.1 in (
+          let next = c.text_comes_unless_a_fault_does.ensures.next Memory _ _ _ before.0 came before.1 in (
             next.0,
             next.2,
             before.2 ∙ ap (λ cs. string_bytes c.loop-character.text ++ encode_utf8_all cs) {x = before.0} next.1
@@ -25,5 +24,5 @@ loop-character-preserved g c =
 pub returns-clause-text : goal.returns-clause-text
 returns-clause-text g c x h =
     let before = c.loop-character.invariant.text x h in
-    let ended = SpellsUnless-end g.I.Iterator.next_gives Memory _ _ before.0 c.in-None.ensures.steps before.1 in
+    let ended = (c.text_comes_unless_a_fault_does.ensures.end Memory _ _ before.0 c.in-None.ensures.steps before.1).0 in
     sym (before.2 ∙ ap (λ cs. string_bytes c.loop-character.text ++ encode_utf8_all cs) ended ∙ append-nil _)

@@ -8,7 +8,11 @@ use Rattle.normalizer_iterators.proofs.composition.Composition.pass.Goals as goa
 pub pass-requires : goal.pass-requires
 pass-requires g c =
     let s = c.args.self.now in
-    record { can = c.requires.can.source; anew = begins_anew s.decomposed.characters s.bounds s.pairs.now (suits_source g.I.Iterator.can_next g.I.Iterator.next_gives g.I.Iterator.remaining s c.requires.can) s.decomposed.ignored }
+    record {
+      can = c.requires.can.source;
+      anew = begins_anew s.decomposed.characters s.bounds s.pairs.now
+          (suits_source g.I.Iterator.can_next g.I.Iterator.next_gives g.I.Iterator.remaining s c.requires.can) s.decomposed.ignored;
+    }
 
 pub compose_on-requires : goal.compose_on-requires
 compose_on-requires g c =
