@@ -1,4 +1,5 @@
 pub mod AcceptedData
 pub mod CheckLemmas
+pub mod MapperLemmas
 pub mod SoundPairs
 pub mod WritingLemmas

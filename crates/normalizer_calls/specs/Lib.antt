@@ -4,6 +4,8 @@ pub mod ComposingAcceptance
 pub mod ComposingNormalizers
 pub mod Forms
 pub mod FormsWritten
+pub mod Mappers
 pub mod Normalizers
 pub mod Serving
+pub mod Uts46
 pub mod Writing

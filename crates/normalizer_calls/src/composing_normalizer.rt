@@ -33,7 +33,7 @@ use normalizer_tables::{
 };
 
 /// Refuses data and pairs that break a condition which is asked where text is composed, and names the first.
-fn check_composing(
+pub(crate) fn check_composing(
     marker: DataMarkerInfo,
     characters: &CharacterData<'_>,
     pairs: &CanonicalCompositions,

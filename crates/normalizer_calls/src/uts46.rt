@@ -1,0 +1,161 @@
+//! The mapper (UTS #46, section 4): characters mapped, decomposed, put in order and composed.
+ghost use Rattle.std.specs.Prelude.{◌≡◌, ◌↔◌, IfErr, IfOk, IsTrue};
+ghost use Rattle.std.specs.Iterator.{IsFinite};
+ghost use Rattle.normal_forms.specs.Forms.{nfc};
+ghost use Rattle.normalizer_tables.specs.Characters.{class_of, has_class_form};
+ghost use Rattle.normalizer_tables.specs.Held.{AnswersHeld};
+ghost use Rattle.normalizer_iterators.specs.Items.{GivesForm};
+ghost use Rattle.normalizer_calls.specs.Acceptance.{bounds_of};
+ghost use Rattle.normalizer_calls.specs.ComposingAcceptance.{RefusesToCompose, SuitsComposing};
+ghost use Rattle.normalizer_calls.specs.Uts46.{
+  mapper_data,
+  mapper_reading,
+  uts46_data,
+  ServesMapper,
+};
+
+use crate::composing_normalizer::check_composing;
+use normalizer_iterators::composition::composed;
+use normalizer_iterators::{Composition, NormalizeError};
+use normalizer_tables::characters::{CharacterData, IgnoredCharacters};
+use normalizer_tables::condition::Bounds;
+use normalizer_tables::{
+    CanonicalCompositions, DataError, DataMarkerInfo, DataProvider, DecompositionData,
+    DecompositionTables, NormalizerNfcV1, NormalizerNfdTablesV1, NormalizerNfkdTablesV1,
+    NormalizerUts46DataV1,
+};
+
+/// The class of viramas.
+const VIRAMA: u8 = 9;
+
+/// A mapper of text, for domain names.
+#[derive(Drop)]
+pub struct Uts46Mapper {
+    decompositions: DecompositionData,
+    tables: DecompositionTables,
+    supplementary: DecompositionTables,
+    pairs: CanonicalCompositions,
+    ghost serves: { ServesMapper (mapper_data decompositions tables supplementary pairs) (bounds_of decompositions) },
+}
+
+impl Uts46Mapper {
+    ghost use Rattle.normalizer_calls.specs.Mappers.{mapper_data_of, mapper_data_of_borrowed};
+
+    /// A mapper over what the provider holds. The mapper's data are loaded first, then the tables of canonical data,
+    /// the supplementary ones and the pairs; the first load that is refused is the answer, and else the first written
+    /// condition that they break.
+    pub fn try_new<P>(provider: &P) -> Result<Self, DataError>
+    where
+        P: DataProvider<NormalizerUts46DataV1>
+            + DataProvider<NormalizerNfdTablesV1>
+            + DataProvider<NormalizerNfkdTablesV1>
+            + DataProvider<NormalizerNfcV1>,
+        ensures { AnswersHeld SuitsComposing RefusesToCompose DataMarkerInfo.NormalizerUts46DataV1 mapper_data_of
+            (uts46_data (⟦<P as DataProvider<NormalizerUts46DataV1>>⟧.held provider.now)
+            (⟦<P as DataProvider<NormalizerNfdTablesV1>>⟧.held provider.now)
+            (⟦<P as DataProvider<NormalizerNfkdTablesV1>>⟧.held provider.now)
+            (⟦<P as DataProvider<NormalizerNfcV1>>⟧.held provider.now)) result }
+    {
+        let decompositions = <P as DataProvider<NormalizerUts46DataV1>>::load(provider)?;
+        let tables = <P as DataProvider<NormalizerNfdTablesV1>>::load(provider)?;
+        let supplementary = <P as DataProvider<NormalizerNfkdTablesV1>>::load(provider)?;
+        let pairs = <P as DataProvider<NormalizerNfcV1>>::load(provider)?;
+        Self::over(decompositions, tables, supplementary, pairs)
+    }
+
+    /// A mapper over data that were loaded, where they meet the written conditions.
+    fn over(
+        decompositions: DecompositionData,
+        tables: DecompositionTables,
+        supplementary: DecompositionTables,
+        pairs: CanonicalCompositions,
+    ) -> Result<Self, DataError>
+        ensures ok { IfOk result (λ m. (mapper_data_of m ≡ mapper_data decompositions tables supplementary pairs) ×
+            SuitsComposing (mapper_data decompositions tables supplementary pairs)) }
+        ensures err { IfErr result (RefusesToCompose DataMarkerInfo.NormalizerUts46DataV1
+            (mapper_data decompositions tables supplementary pairs)) }
+    {
+        let characters = CharacterData::new(&decompositions, &tables, Some(&supplementary), true);
+        match check_composing(DataMarkerInfo::NormalizerUts46DataV1, &characters, &pairs) {
+            Ok(()) => Ok(Uts46Mapper {
+                decompositions,
+                tables,
+                supplementary,
+                pairs,
+            }),
+            Err(error) => Err(error),
+        }
+    }
+
+    /// The mapper that borrows this one's data.
+    pub fn as_borrowed(&self) -> Uts46MapperBorrowed<'_>
+        ensures { mapper_data_of_borrowed result ≡ mapper_data_of self.now }
+    {
+        let characters = CharacterData::new(
+            &self.decompositions,
+            &self.tables,
+            Some(&self.supplementary),
+            true,
+        );
+        let bounds = Bounds::of_cap(characters.cap());
+        Uts46MapperBorrowed {
+            characters,
+            pairs: &self.pairs,
+            bounds,
+        }
+    }
+}
+
+/// A mapper of text, over borrowed data.
+#[derive(Drop)]
+pub struct Uts46MapperBorrowed<'a> {
+    characters: CharacterData<'a>,
+    pairs: &'a CanonicalCompositions,
+    bounds: Bounds,
+    ghost serves: { ServesMapper (characters, pairs.now) bounds },
+}
+
+impl<'a> Uts46MapperBorrowed<'a> {
+    ghost use Rattle.normalizer_tables.specs.declared.characters.IgnoredCharacters.TheVariants.{Dropped, Replaced};
+    ghost use Rattle.normalizer_calls.specs.Mappers.{mapper_data_of_borrowed};
+
+    /// Whether a character has the class of viramas in the mapper's data.
+    pub fn is_virama(&self, character: char) -> bool
+        ensures { IsTrue result ↔ (class_of (mapper_data_of_borrowed self.now).0 character ≡ 9) }
+    {
+        self.characters.class_of(character) == VIRAMA
+    }
+
+    /// What `iter` gives, mapped and in Normalization Form C, character by character. Ignored characters are dropped, so
+    /// that marks after them reach the base before them.
+    pub fn map_normalize<I: Iterator<Item = char> + Drop>(
+        &self,
+        iter: I,
+    ) -> Result<Composition<'a, I>, NormalizeError>
+        requires can { I.can_next iter }
+        requires ends { IsFinite (I.remaining iter) }
+        ensures form { let h = mapper_data_of_borrowed self.now in GivesForm I.next_gives
+            ⟦<Composition<'a, I> as Iterator>⟧.next_gives (has_class_form h.0) (mapper_reading h Dropped) nfc iter result }
+        ensures ready { IfOk result ⟦<Composition<'a, I> as Iterator>⟧.can_next }
+    {
+        let characters = self.characters.copied();
+        let dropped = IgnoredCharacters::Dropped;
+        composed(characters, dropped, self.pairs, self.bounds, iter)
+    }
+
+    /// The same with U+FFFD for each ignored character, so that text which has any is not its own form.
+    pub fn normalize_validate<I: Iterator<Item = char> + Drop>(
+        &self,
+        iter: I,
+    ) -> Result<Composition<'a, I>, NormalizeError>
+        requires can { I.can_next iter }
+        requires ends { IsFinite (I.remaining iter) }
+        ensures form { let h = mapper_data_of_borrowed self.now in GivesForm I.next_gives
+            ⟦<Composition<'a, I> as Iterator>⟧.next_gives (has_class_form h.0) (mapper_reading h Replaced) nfc iter result }
+        ensures ready { IfOk result ⟦<Composition<'a, I> as Iterator>⟧.can_next }
+    {
+        let characters = self.characters.copied();
+        let replaced = IgnoredCharacters::Replaced;
+        composed(characters, replaced, self.pairs, self.bounds, iter)
+    }
+}
