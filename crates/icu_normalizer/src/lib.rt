@@ -1,12 +1,16 @@
 //! Unicode normalization over data handed in (Unicode Standard Annex #15).
 #![tactic(auto)]
 
+pub mod properties;
+pub mod uts46;
+
 pub use normalizer_builder::{Built, Records};
 pub use normalizer_calls::{
     ComposingNormalizer, ComposingNormalizerBorrowed, DecomposingNormalizer,
     DecomposingNormalizerBorrowed,
 };
 pub use normalizer_iterators::{Composition, Decomposition, NormalizeError};
+pub use normalizer_properties::harfbuzz;
 pub use normalizer_records::{BuildError, Record, Uts46Record, Uts46Status};
 pub use normalizer_tables::{
     CanonicalCompositions, CodePointTable, DataError, DataMarker, DataMarkerInfo, DataProvider,

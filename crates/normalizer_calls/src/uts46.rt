@@ -117,6 +117,7 @@ pub struct Uts46MapperBorrowed<'a> {
 
 impl<'a> Uts46MapperBorrowed<'a> {
     ghost use Rattle.normalizer_tables.specs.declared.characters.IgnoredCharacters.TheVariants.{Dropped, Replaced};
+    ghost use Rattle.normalizer_iterators.specs.Composing.{data_of_composition, pairs_of_composition};
     ghost use Rattle.normalizer_calls.specs.Mappers.{mapper_data_of_borrowed};
 
     /// Whether a character has the class of viramas in the mapper's data.
@@ -137,6 +138,8 @@ impl<'a> Uts46MapperBorrowed<'a> {
         ensures form { let h = mapper_data_of_borrowed self.now in GivesForm I.next_gives
             ⟦<Composition<'a, I> as Iterator>⟧.next_gives (has_class_form h.0) (mapper_reading h Dropped) nfc iter result }
         ensures ready { IfOk result ⟦<Composition<'a, I> as Iterator>⟧.can_next }
+        ensures held { IfOk result (λ it. (data_of_composition it ≡ (mapper_data_of_borrowed self.now).0) ×
+            (pairs_of_composition it ≡ (mapper_data_of_borrowed self.now).1)) }
     {
         let characters = self.characters.copied();
         let dropped = IgnoredCharacters::Dropped;
@@ -153,6 +156,8 @@ impl<'a> Uts46MapperBorrowed<'a> {
         ensures form { let h = mapper_data_of_borrowed self.now in GivesForm I.next_gives
             ⟦<Composition<'a, I> as Iterator>⟧.next_gives (has_class_form h.0) (mapper_reading h Replaced) nfc iter result }
         ensures ready { IfOk result ⟦<Composition<'a, I> as Iterator>⟧.can_next }
+        ensures held { IfOk result (λ it. (data_of_composition it ≡ (mapper_data_of_borrowed self.now).0) ×
+            (pairs_of_composition it ≡ (mapper_data_of_borrowed self.now).1)) }
     {
         let characters = self.characters.copied();
         let replaced = IgnoredCharacters::Replaced;
