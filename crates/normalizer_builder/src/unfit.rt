@@ -1,11 +1,15 @@
 //! Whether packed data can be used: the first written condition that they break, of all that constructors ask.
 ghost use Rattle.std.specs.Prelude.{◌≡◌, option_map};
-ghost use Rattle.normalizer_builder.specs.Demands.{answer_of, characters_of, marker_of_kind};
-ghost use Rattle.normalizer_builder.specs.Fitness.{
-  IsFirstUnfit,
-  IsFirstUnfitOfKind,
-  IsFirstUnfitOfSteps,
+ghost use Rattle.normalizer_tables.specs.Conditions.{IsFirstFailing};
+ghost use Rattle.normalizer_tables.specs.Loaded.{IsMet};
+ghost use Rattle.normalizer_builder.specs.Demands.{
+  answer_of,
+  characters_of,
+  conditions_of,
+  loaded_of,
+  marker_of_kind,
 };
+ghost use Rattle.normalizer_builder.specs.Fitness.{IsFirstUnfit, IsFirstUnfitOfKind};
 
 use crate::rank::{Unfit, least};
 use normalizer_packing::Packed;
@@ -13,45 +17,51 @@ use normalizer_packing::entry::Kind;
 use normalizer_tables::DataMarkerInfo;
 use normalizer_tables::characters::CharacterData;
 use normalizer_tables::check::first_failing;
-use normalizer_tables::condition::{Bounds, Condition, DECOMPOSING};
-use normalizer_tables::pair_check::first_failing_of_pairs;
+use normalizer_tables::condition::{Bounds, COMPOSING, Condition, EVERY, MAPPING};
+use normalizer_tables::loaded::LoadedData;
 use normalizer_tables::refusal::marker_of;
-use normalizer_tables::step_check::first_failing_of_steps;
 
 /// The first condition that the data break, of all that constructors ask: the least by its number, and of one number
 /// the one of the earliest marker. It takes no memory.
 pub fn first_unfit(packed: &Packed) -> Option<Unfit>
     ensures { IsFirstUnfit packed.now result }
 {
-    let canonical = least(
+    let texts = least(
         first_unfit_of_kind(packed, Kind::Canonical),
-        first_unfit_of_steps(packed),
-    );
-    let others = least(
         first_unfit_of_kind(packed, Kind::Compatibility),
-        first_unfit_of_kind(packed, Kind::Mapper),
     );
-    least(canonical, others)
+    least(texts, first_unfit_of_kind(packed, Kind::Mapper))
 }
 
-/// The first condition that the data of one kind break, by themselves or with the pairs.
+/// The first condition that the data of one kind break.
 fn first_unfit_of_kind(packed: &Packed, kind: Kind) -> Option<Unfit>
     ensures { IsFirstUnfitOfKind packed.now kind result }
 {
-    let characters = characters_of(packed, kind);
-    let bounds = Bounds::of_cap(characters.cap());
-    let by_itself = first_failing(&characters, bounds, &DECOMPOSING);
-    let by_pairs = first_failing_of_pairs(&characters, bounds, &packed.compositions);
-    least(answer_of(kind, by_itself), answer_of(kind, by_pairs))
+    answer_of(kind, first_failing_of_kind(packed, kind))
 }
 
-/// The first condition on one step of canonical decomposition that the data break.
-fn first_unfit_of_steps(packed: &Packed) -> Option<Unfit>
-    ensures { IsFirstUnfitOfSteps packed.now result }
+fn first_failing_of_kind(packed: &Packed, kind: Kind) -> Option<Condition>
+    ensures { IsFirstFailing (IsMet (loaded_of packed.now kind)) (conditions_of kind) result }
 {
-    let characters = characters_of(packed, Kind::Canonical);
-    let failing = first_failing_of_steps(&characters, &packed.supplement);
-    answer_of(Kind::Canonical, failing)
+    let loaded = loaded_of(packed, kind);
+    match kind {
+        Kind::Canonical => first_failing(&loaded, &EVERY),
+        Kind::Compatibility => first_failing(&loaded, &COMPOSING),
+        Kind::Mapper => first_failing(&loaded, &MAPPING),
+    }
+}
+
+/// All that constructors load with the data of one kind.
+fn loaded_of(packed: &Packed, kind: Kind) -> LoadedData<'_>
+    ensures { result ≡ loaded_of packed.now kind }
+{
+    let characters = characters_of(packed, kind);
+    let bounds = Bounds::of_cap(characters.cap());
+    let supplement = match kind {
+        Kind::Canonical => Some(&packed.supplement),
+        Kind::Compatibility | Kind::Mapper => None,
+    };
+    LoadedData::new(characters, bounds, Some(&packed.compositions), supplement)
 }
 
 /// What the data of one kind say of characters.

@@ -5,34 +5,31 @@ use Rattle.normal_forms.specs.Boundary.{BeginsSafely}
 use Rattle.normal_forms.specs.Hypotheses.{HasStarterResults}
 use Rattle.normal_forms.specs.Reading.{Reading, IsStarter}
 use Rattle.normalizer_tables.specs.declared.condition.Condition.TheVariants.{Hangul, Words, Order, Pairs, RoundTrip, SafeBeginning}
+use Rattle.normalizer_tables.specs.AcceptedData.{AreAcceptedPairs, IsAccepted}
 use Rattle.normalizer_tables.specs.Characters.{Characters, list_of, reading_of}
 use Rattle.normalizer_tables.specs.Ignored.{ignored_list}
 use Rattle.normalizer_tables.specs.PairConditions.{composing_reading}
 use Rattle.normalizer_tables.specs.Pairs.{Pair, pair_of}
 use Rattle.normalizer_tables.proofs.PairLaws.{HasStarterResults-reading_of, IsNormalized-passed, BeginsSafely-passed, inhabited-passed}
 use Rattle.normalizer_calls.specs.Acceptance.{bounds_of}
-use Rattle.normalizer_calls.specs.ComposingAcceptance.{SuitsComposing}
 use Rattle.normalizer_iterators.specs.LazyComposing.{SuitsLazyComposing}
 use Rattle.normalizer_iterators.proofs.PassedClasses.{no_class_form-passed}
-
-HasStarterResults-met : (s : Characters) (pairs : List Pair) → SuitsComposing (s, pairs) → HasStarterResults (composing_reading s pairs)
-HasStarterResults-met s pairs met =
-    HasStarterResults-reading_of s _ (met.conditions 5 Hangul (omega arith)) pairs (met.pair_conditions 0 Pairs (omega arith)) []
 
 first_apart : (d : Reading) (x : List ℕ) (first : ℕ) (others : List ℕ) → x ≡ first ∷ others → BeginsSafely d x → IsStarter d first × ((a r : ℕ) → d.pair a first ≡ Some r → ⊥)
 first_apart d x first others e h = let begins = subst (BeginsSafely d) e h in (begins.0, λ a r joins. cc (begins.1 a, joins))
 
-pub SuitsLazyComposing-met : (s : Characters) (pairs : List Pair) → SuitsComposing (s, pairs) → SuitsLazyComposing s (bounds_of s.decompositions) pairs
-SuitsLazyComposing-met s pairs met =
+pub SuitsLazyComposing-met : (s : Characters) (pairs : List Pair) → IsAccepted s (bounds_of s.decompositions) → AreAcceptedPairs s (bounds_of s.decompositions) pairs →
+    SuitsLazyComposing s (bounds_of s.decompositions) pairs
+SuitsLazyComposing-met s pairs accepted accepted_pairs =
     let b = bounds_of s.decompositions in
-    let trips = met.pair_conditions 1 RoundTrip (omega arith) in
-    let begins = met.pair_conditions 2 SafeBeginning (omega arith) in
+    let trips = accepted_pairs 1 RoundTrip (omega arith) in
+    let begins = accepted_pairs 2 SafeBeginning (omega arith) in
     record {
-      starters = HasStarterResults-met s pairs met;
+      starters = HasStarterResults-reading_of s b (accepted 5 Hangul (omega arith)) pairs (accepted_pairs 0 Pairs (omega arith)) [];
       apart = λ ignored c h. record {
-        form = IsNormalized-passed s b pairs (met.conditions 8 Order (omega arith)) trips (ignored_list ignored) c h.scalar h.passed;
+        form = IsNormalized-passed s b pairs (accepted 8 Order (omega arith)) trips (ignored_list ignored) c h.scalar h.passed;
         anew =
-            no_class_form-passed s c h.scalar b (min-le_right s.decompositions.cap 0x0300) pairs (met.conditions 6 Words (omega arith)) (inhabited-passed s b pairs begins [] c h.scalar h.passed)
+            no_class_form-passed s c h.scalar b (min-le_right s.decompositions.cap 0x0300) pairs (accepted 6 Words (omega arith)) (inhabited-passed s b pairs begins [] c h.scalar h.passed)
             (BeginsSafely-passed s b pairs begins [] c h.scalar h.passed) h.passed;
         inhabited = inhabited-passed s b pairs begins (ignored_list ignored) c h.scalar h.passed;
         safely =

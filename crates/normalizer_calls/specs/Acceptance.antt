@@ -1,13 +1,14 @@
 -- Which data a constructor accepts, and how it answers others.
-use Rattle.std.specs.Prelude.{◌≡◌, ◌⊎◌, Option, Some, None, Result, Ok, Err, IfOk, IfErr, IsErrOf, false, min}
+use Rattle.std.specs.Prelude.{◌≡◌, ◌⊎◌, Option, Some, None, Result, Ok, Err, IfOk, IfErr, IsErrOf, All, false}
 use Rattle.normalizer_tables.specs.declared.condition.Bounds.{Bounds}
 use Rattle.normalizer_tables.specs.declared.provider.DataError.{DataError}
 use Rattle.normalizer_tables.specs.declared.provider.DataError.TheVariants.{Provider, Memory}
 use Rattle.normalizer_tables.specs.declared.provider.DataMarkerInfo.{DataMarkerInfo}
 use Rattle.normalizer_tables.specs.declared.provider.DataMarkerInfo.TheVariants as marker
-use Rattle.normalizer_tables.specs.AcceptedData.{IsAccepted, decomposing_conditions}
+use Rattle.normalizer_tables.specs.AcceptedData.{decomposing_conditions}
 use Rattle.normalizer_tables.specs.Characters.{Characters}
 use Rattle.normalizer_tables.specs.Data.{Decompositions, Lists, lists_or_none}
+use Rattle.normalizer_tables.specs.Loaded.{IsMet, bounds_of_cap, characters_alone}
 use Rattle.normalizer_tables.specs.Refusals.{RefusesFirstFailing}
 
 -- data that are no mapper's
@@ -16,15 +17,15 @@ data_from decompositions tables supplementary = record { decompositions = decomp
 
 -- below which numbers characters pass unseen
 abbrev pub bounds_of : Decompositions → Bounds
-bounds_of decompositions = record { decomposition = min decompositions.cap 0xC0; composition = min decompositions.cap 0x0300 }
+bounds_of decompositions = bounds_of_cap decompositions.cap
 
 -- data that meet all conditions that are asked where text is decomposed
 abbrev pub SuitsDecomposing : Characters → Type 0
-SuitsDecomposing s = IsAccepted s (bounds_of s.decompositions)
+SuitsDecomposing s = All (IsMet (characters_alone s)) decomposing_conditions
 
 -- the answer for the first of them that fails
 abbrev pub RefusesToDecompose : DataMarkerInfo → Characters → DataError → Type 0
-RefusesToDecompose kind s e = RefusesFirstFailing kind s (bounds_of s.decompositions) decomposing_conditions e
+RefusesToDecompose kind s e = RefusesFirstFailing kind (characters_alone s) decomposing_conditions e
 
 -- the data that are held for canonical forms, or the marker of the first load for which nothing is held
 abbrev pub nfd_data : Option Decompositions → Option Lists → Result Characters DataMarkerInfo

@@ -1,29 +1,22 @@
 -- Which data and pairs a constructor accepts where text is composed, and how it answers others.
-use Rattle.std.specs.Prelude.{◌≡◌, ◌⊎◌, List, Option, Some, None, Result, Ok, Err}
-use Rattle.normalizer_tables.specs.declared.condition.Condition.{Condition}
+use Rattle.std.specs.Prelude.{List, Option, Some, None, Result, Ok, Err, All}
 use Rattle.normalizer_tables.specs.declared.provider.DataError.{DataError}
 use Rattle.normalizer_tables.specs.declared.provider.DataMarkerInfo.{DataMarkerInfo}
 use Rattle.normalizer_tables.specs.declared.provider.DataMarkerInfo.TheVariants as marker
-use Rattle.normalizer_tables.specs.AcceptedData.{AreAcceptedPairs}
+use Rattle.normalizer_tables.specs.AcceptedData.{composing_conditions}
 use Rattle.normalizer_tables.specs.Characters.{Characters}
-use Rattle.normalizer_tables.specs.Conditions.{IsFirstFailing}
-use Rattle.normalizer_tables.specs.PairConditions.{pair_conditions, HoldsOfPairs}
+use Rattle.normalizer_tables.specs.Loaded.{IsMet, characters_and_pairs}
 use Rattle.normalizer_tables.specs.Pairs.{Pair}
-use Rattle.normalizer_tables.specs.Refusals.{refusal_of}
-use Rattle.normalizer_calls.specs.Acceptance.{bounds_of, SuitsDecomposing, RefusesToDecompose}
+use Rattle.normalizer_tables.specs.Refusals.{RefusesFirstFailing}
 
 -- data with pairs that meet all conditions that are asked where text is composed
-pub record SuitsComposing (h : Characters × List Pair) : Type 0 where
-  pub conditions : SuitsDecomposing h.0
-  pub pair_conditions : AreAcceptedPairs h.0 (bounds_of h.0.decompositions) h.1
+abbrev pub SuitsComposing : Characters × List Pair → Type 0
+SuitsComposing h = All (IsMet (characters_and_pairs h.0 h.1)) (composing_conditions h.0.is_mapper)
 
--- the answer for the first of them that fails: those on pairs come after the others
+-- the answer for the first of them that fails
 abbrev pub RefusesToCompose : DataMarkerInfo → Characters × List Pair → DataError → Type 0
 RefusesToCompose kind h e =
-    RefusesToDecompose kind h.0 e
-    ⊎ (SuitsDecomposing h.0 × ((c : Condition)
-    × IsFirstFailing (HoldsOfPairs h.0 (bounds_of h.0.decompositions) h.1) (pair_conditions h.0.is_mapper) (Some c)
-    × (e ≡ refusal_of kind c)))
+    RefusesFirstFailing kind (characters_and_pairs h.0 h.1) (composing_conditions h.0.is_mapper) e
 
 -- the data that are held with the pairs that are loaded after them, or the marker of the first load for which nothing
 -- is held

@@ -23,33 +23,14 @@ use normalizer_iterators::composition::composed;
 use normalizer_iterators::{Composition, NormalizeError};
 use normalizer_tables::characters::{CharacterData, IgnoredCharacters};
 use normalizer_tables::check::first_failing;
-use normalizer_tables::condition::{Bounds, DECOMPOSING};
-use normalizer_tables::pair_check::first_failing_of_pairs;
+use normalizer_tables::condition::{Bounds, COMPOSING};
+use normalizer_tables::loaded::LoadedData;
 use normalizer_tables::refusal::refusal_of;
 use normalizer_tables::{
     CanonicalCompositions, DataError, DataMarkerInfo, DataProvider, DecompositionData,
     DecompositionTables, NormalizerNfcV1, NormalizerNfdDataV1, NormalizerNfdTablesV1,
     NormalizerNfkdDataV1, NormalizerNfkdTablesV1,
 };
-
-/// Refuses data and pairs that break a condition which is asked where text is composed, and names the first.
-pub(crate) fn check_composing(
-    marker: DataMarkerInfo,
-    characters: &CharacterData<'_>,
-    pairs: &CanonicalCompositions,
-) -> Result<(), DataError>
-    ensures ok { IfOk result (λ _. SuitsComposing (characters.now, pairs.now)) }
-    ensures err { IfErr result (RefusesToCompose marker (characters.now, pairs.now)) }
-{
-    let bounds = Bounds::of_cap(characters.cap());
-    if let Some(condition) = first_failing(characters, bounds, &DECOMPOSING) {
-        return Err(refusal_of(marker, condition));
-    }
-    match first_failing_of_pairs(characters, bounds, pairs) {
-        Some(condition) => Err(refusal_of(marker, condition)),
-        None => Ok(()),
-    }
-}
 
 /// A normalizer to a composed form.
 #[derive(Drop)]
@@ -125,14 +106,16 @@ impl ComposingNormalizer {
             supplementary.as_ref(),
             false,
         );
-        match check_composing(marker, &characters, &pairs) {
-            Ok(()) => Ok(ComposingNormalizer {
+        let bounds = Bounds::of_cap(characters.cap());
+        let loaded = LoadedData::new(characters, bounds, Some(&pairs), None);
+        match first_failing(&loaded, &COMPOSING) {
+            Some(condition) => Err(refusal_of(marker, condition)),
+            None => Ok(ComposingNormalizer {
                 decompositions,
                 tables,
                 supplementary,
                 pairs,
             }),
-            Err(error) => Err(error),
         }
     }
 

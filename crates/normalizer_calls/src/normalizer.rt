@@ -19,6 +19,7 @@ use normalizer_iterators::{Decomposition, NormalizeError};
 use normalizer_tables::characters::{CharacterData, IgnoredCharacters};
 use normalizer_tables::check::first_failing;
 use normalizer_tables::condition::{Bounds, DECOMPOSING};
+use normalizer_tables::loaded::LoadedData;
 use normalizer_tables::refusal::refusal_of;
 use normalizer_tables::{
     DataError, DataMarkerInfo, DataProvider, DecompositionData, DecompositionTables,
@@ -90,7 +91,8 @@ impl DecomposingNormalizer {
             false,
         );
         let bounds = Bounds::of_cap(characters.cap());
-        match first_failing(&characters, bounds, &DECOMPOSING) {
+        let loaded = LoadedData::new(characters, bounds, None, None);
+        match first_failing(&loaded, &DECOMPOSING) {
             Some(condition) => Err(refusal_of(marker, condition)),
             None => Ok(DecomposingNormalizer {
                 decompositions,

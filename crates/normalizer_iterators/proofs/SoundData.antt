@@ -12,6 +12,7 @@ use Rattle.normalizer_tables.specs.Conditions.{Holds, HoldsAt}
 use Rattle.normalizer_tables.specs.Data.{Decompositions, Lists}
 use Rattle.normalizer_tables.proofs.CharacterLemmas.{list_of-default}
 use Rattle.normalizer_tables.proofs.ListLengths.{length-list_of}
+use Rattle.normalizer_tables.specs.Loaded.{IsMet}
 use Rattle.normalizer_tables.specs.NfdData.{IsSoundNfdData, nfd_bounds, nfd_characters}
 use Rattle.normalizer_iterators.specs.LazyReading.{decomposing_reading, SuitsLazyReading}
 
@@ -42,4 +43,5 @@ SuitsLazyReading-sound s b sound = record {
 -- canonical data that a caller answers for
 pub SuitsLazyReading-nfd : (decompositions : Decompositions) (tables : Lists) → IsSoundNfdData decompositions tables
     → SuitsLazyReading (has_class_form (nfd_characters decompositions tables)) (own_reading (nfd_characters decompositions tables))
-SuitsLazyReading-nfd decompositions tables sound = SuitsLazyReading-sound (nfd_characters decompositions tables) nfd_bounds (sound 7 Order (omega arith))
+unfolding IsMet
+SuitsLazyReading-nfd decompositions tables sound = SuitsLazyReading-sound (nfd_characters decompositions tables) nfd_bounds (sound 7 Order (omega arith)).0

@@ -11,12 +11,13 @@ use Rattle.normal_forms.specs.declared.Form.TheVariants.{Decomposing, Composing}
 use Rattle.normal_forms.specs.Hypotheses.{HasFullLists, HasStarterResults, HasFaithfulResults, HasInhabitedLists, HasTextLists, HasScalarResults, SuitsForm}
 use Rattle.normal_forms.proofs.OrderLemmas.{length-order}
 use Rattle.normalizer_tables.specs.declared.condition.Condition.TheVariants as condition
-use Rattle.normalizer_tables.specs.AcceptedData.{IsAccepted, AreAcceptedPairs, SuitsMapper, SuitsTexts}
+use Rattle.normalizer_tables.specs.AcceptedData.{IsAccepted, AreAcceptedPairs, SuitsMapper, SuitsTexts, pair_conditions}
 use Rattle.normalizer_tables.specs.Characters.{Characters, list_of, own_reading, reading_of}
 use Rattle.normalizer_tables.specs.Data.{Decompositions, Lists}
 use Rattle.normalizer_tables.specs.Ignored.{IgnoredCharacters, Dropped, ignored_list}
+use Rattle.normalizer_tables.specs.Loaded.{IsMet}
 use Rattle.normalizer_tables.specs.NfdData.{IsSoundNfdData, nfd_bounds, nfd_characters}
-use Rattle.normalizer_tables.specs.PairConditions.{HoldsOfPairs, composing_reading, pair_conditions}
+use Rattle.normalizer_tables.specs.PairConditions.{HoldsOfPairs, PairsHoldOverall, composing_reading}
 use Rattle.normalizer_tables.specs.Pairs.{Pair, pair_of}
 use Rattle.normalizer_tables.specs.SoundData.{Bounds, IsSoundData}
 use Rattle.normalizer_tables.proofs.CharacterLemmas.{list_of-default}
@@ -37,11 +38,12 @@ IsSoundData-accepted s b accepted = record {
 }
 
 pub IsSoundData-handed_in : (decompositions : Decompositions) (tables : Lists) → IsSoundNfdData decompositions tables → IsSoundData (nfd_characters decompositions tables) nfd_bounds
+unfolding IsMet
 IsSoundData-handed_in decompositions tables accepted = record {
-  replacement = accepted 1 condition.ReplacementCharacter (omega arith);
-  words = accepted 5 condition.Words (omega arith);
-  members = accepted 6 condition.Members (omega arith);
-  order = accepted 7 condition.Order (omega arith);
+  replacement = (accepted 1 condition.ReplacementCharacter (omega arith)).0;
+  words = (accepted 5 condition.Words (omega arith)).0;
+  members = (accepted 6 condition.Members (omega arith)).0;
+  order = (accepted 7 condition.Order (omega arith)).0;
 }
 
 HasTextLists-sound : (s : Characters) (b : Bounds) → IsSoundData s b → (i : IgnoredCharacters) (pairing : ℕ → ℕ → Option ℕ) → HasTextLists (reading_of s (ignored_list i) pairing)
@@ -115,10 +117,10 @@ module _ (s : Characters) (b : Bounds) (pairs : List Pair) (accepted : IsAccepte
 
   module _ (plain : s.is_mapper ≡ false) (accepted_pairs : AreAcceptedPairs s b pairs) where
     HasFaithfulResults-accepted : HasFaithfulResults (composing_reading s pairs)
-    unfolding HoldsOfPairs
+    unfolding HoldsOfPairs PairsHoldOverall
     HasFaithfulResults-accepted =
         let all : All (HoldsOfPairs s b pairs) (pair_conditions false) = subst (λ m. All (HoldsOfPairs s b pairs) (pair_conditions m)) plain accepted_pairs in
-        HasFaithfulResults-reading_of s b (accepted 5 condition.Hangul (omega arith)) pairs [] (all 3 condition.Results (omega arith))
+        HasFaithfulResults-reading_of s b (accepted 5 condition.Hangul (omega arith)) pairs [] (all 3 condition.Results (omega arith)).0
 
     suits : (form : Form) → HasFullLists (composing_reading s pairs) → SuitsForm (composing_reading s pairs) form
     suits Decomposing full = full

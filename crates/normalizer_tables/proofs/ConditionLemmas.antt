@@ -270,7 +270,7 @@ HoldsAt-hangul_plain s b c n true h plain e f =
 HoldsAt-hangul_plain s b c n false h plain e f =
     (λ q. subst (λ d. HoldsAt s b d n) (sym e) (IsSoundHangul-plain s n h plain (sym f)), λ q. refl)
 
-no_scalar_past : (n : ℕ) → code_points ≤ n → IsScalar n → ⊥
+pub no_scalar_past : (n : ℕ) → code_points ≤ n → IsScalar n → ⊥
 unfolding code_points
 no_scalar_past n h k = grind (arith, nat_tests)
 

@@ -5,27 +5,25 @@ use Rattle.std.specs.Option.{option_copied}
 use Rattle.std.proofs.lemmas.Bool.Decides.{nat_tests}
 use Rattle.std.proofs.lemmas.List.{get_or-take, take-append-drop}
 use Rattle.std.proofs.lemmas.Option.{slice_get_within, slice_get-get_or, slice_get_past, slice_get_read, get_or_from_slice_get}
-use Rattle.normalizer_tables.specs.declared.condition.Bounds.{Bounds}
 use Rattle.normalizer_tables.specs.declared.condition.Condition.{Condition}
-use Rattle.normalizer_tables.specs.Table.{code_points}
-use Rattle.normalizer_tables.specs.Characters.{Characters}
-use Rattle.normalizer_tables.specs.Conditions.{Holds, HoldsOverall, HoldsAt, IsFirstFailing, IsPlaceOfFirstFailing}
-use Rattle.normalizer_tables.proofs.ConditionLemmas.{HoldsAt-past}
+use Rattle.normalizer_tables.specs.Loaded.{Loaded, IsMet, IsMetAt, IsMetOverall}
+use Rattle.normalizer_tables.specs.Ranges.{IsComplete}
+use Rattle.normalizer_tables.specs.Conditions.{IsFirstFailing, IsPlaceOfFirstFailing}
+use Rattle.normalizer_tables.proofs.LoadedLemmas.{IsMet-at, IsMet-overall, IsMet-within}
 
 -- of the numbers below `number` and the data as a whole, the condition at this place is the first that fails
-pub record FailsFirst (s : Characters) (b : Bounds) (conditions : List Condition) (number place : ℕ) : Type 0 where
+pub record FailsFirst (loaded : Loaded) (conditions : List Condition) (number place : ℕ) : Type 0 where
   pub within : place ≤ length conditions
-  pub overall : AllWithin (HoldsOverall s) conditions 0 place
-  pub below : (n : ℕ) → n < number → AllWithin (λ c. HoldsAt s b c n) conditions 0 place
-  pub fails : (c : Condition) → slice_get conditions place ≡ Some c → ¬ Holds s b c
+  pub overall : AllWithin (IsMetOverall loaded) conditions 0 place
+  pub below : (n : ℕ) → n < number → AllWithin (λ c. IsMetAt loaded c n) conditions 0 place
+  pub fails : (c : Condition) → slice_get conditions place ≡ Some c → ¬ IsMet loaded c
 
-pub FailsFirst-start : (s : Characters) (b : Bounds) (conditions : List Condition) (place : ℕ) → IsPlaceOfFirstFailing (HoldsOverall s) conditions place → FailsFirst s b conditions 0 place
-unfolding Holds
-FailsFirst-start s b conditions place h = record {
+pub FailsFirst-start : (loaded : Loaded) (conditions : List Condition) (place : ℕ) → IsPlaceOfFirstFailing (IsMetOverall loaded) conditions place → FailsFirst loaded conditions 0 place
+FailsFirst-start loaded conditions place h = record {
   within = h.within;
   overall = h.before;
   below = λ n none. absurd (omega arith);
-  fails = λ c e q. h.fails c e q.0;
+  fails = λ c e q. h.fails c e (IsMet-overall loaded c q);
 }
 
 nat_lt_or_le : (m n : ℕ) → (m < n) ⊎ (n ≤ m)
@@ -53,42 +51,33 @@ next_within place next conditions h =
     let short : next ≤ min place (length conditions) = subst (λ n. next ≤ n) (length-take place conditions) h in
     (omega arith, omega arith)
 
-module _ (s : Characters) (b : Bounds) (conditions : List Condition) (number place next : ℕ) (old : FailsFirst s b conditions number place) (new : IsPlaceOfFirstFailing (λ c. HoldsAt s b c number) (take place conditions) next) where
+module _ (loaded : Loaded) (conditions : List Condition) (number place next : ℕ) (old : FailsFirst loaded conditions number place)
+    (new : IsPlaceOfFirstFailing (λ c. IsMetAt loaded c number) (take place conditions) next) where
   short : (next ≤ place) × (next ≤ length conditions)
   short = next_within place next conditions new.within
 
-  below_next : (n : ℕ) → n < number + 1 → AllWithin (λ c. HoldsAt s b c n) conditions 0 next
+  below_next : (n : ℕ) → n < number + 1 → AllWithin (λ c. IsMetAt loaded c n) conditions 0 next
   below_next n h k d low kh =
       elim (nat_lt_or_eq n number (omega arith)) [
         | inl less ↦ old.below n less k d low (le_trans_lt k next place kh short.0)
-        | inr same ↦ subst (λ m. HoldsAt s b (slice_index_or conditions k d) m) (sym same)
-            (subst (λ c. HoldsAt s b c number) (get_or-take place conditions k d (le_trans_lt k next place kh short.0)) (new.before k d low kh))
+        | inr same ↦ subst (λ m. IsMetAt loaded (slice_index_or conditions k d) m) (sym same)
+            (subst (λ c. IsMetAt loaded c number) (get_or-take place conditions k d (le_trans_lt k next place kh short.0)) (new.before k d low kh))
       ]
 
-  fails_next : (c : Condition) → slice_get conditions next ≡ Some c → ¬ Holds s b c
-  unfolding Holds
+  fails_next : (c : Condition) → slice_get conditions next ≡ Some c → ¬ IsMet loaded c
   fails_next c e q =
       elim (nat_lt_or_eq next place short.0) [
-        | inl less ↦ new.fails c (slice_get-take conditions place next c less e) (q.1 number)
+        | inl less ↦ new.fails c (slice_get-take conditions place next c less e) (IsMet-at loaded c number q)
         | inr same ↦ old.fails c (subst (λ n. slice_get conditions n ≡ Some c) same e) q
       ]
 
-  pub FailsFirst-step : FailsFirst s b conditions (number + 1) next
+  pub FailsFirst-step : FailsFirst loaded conditions (number + 1) next
   FailsFirst-step = record {
     within = short.1;
     overall = λ k d low h. old.overall k d low (le_trans_lt k next place h short.0);
     below = below_next;
     fails = fails_next;
   }
-
--- what was found for more numbers
-FailsFirst-fewer : (s : Characters) (b : Bounds) (conditions : List Condition) (number place : ℕ) → code_points ≤ number → FailsFirst s b conditions number place → FailsFirst s b conditions code_points place
-FailsFirst-fewer s b conditions number place past h = record {
-  within = h.within;
-  overall = h.overall;
-  below = λ n nh. h.below n (le_trans_lt n code_points number nh past);
-  fails = h.fails;
-}
 
 some_and_none : (conditions : List Condition) (place : ℕ) → slice_get conditions place ≡ None → place < length conditions → ⊥
 some_and_none [] place e h = absurd (omega arith)
@@ -102,14 +91,11 @@ slice_get_end conditions place e =
       | inr past ↦ past
     ]
 
--- a condition that holds overall and of every code point holds
-Holds-code_points : (s : Characters) (b : Bounds) (c : Condition) → HoldsOverall s c → ((n : ℕ) → n < code_points → HoldsAt s b c n) → Holds s b c
-unfolding Holds
-Holds-code_points s b c overall each = (overall, λ n. elim (nat_lt_or_le n code_points) [ inl less ↦ each n less | inr past ↦ HoldsAt-past s b c n past ])
-
--- all conditions before the place hold
-before_holds : (s : Characters) (b : Bounds) (conditions : List Condition) (place : ℕ) → FailsFirst s b conditions code_points place → AllWithin (Holds s b) conditions 0 place
-before_holds s b conditions place h k d low kh = Holds-code_points s b (slice_index_or conditions k d) (h.overall k d low kh) (λ n nh. h.below n nh k d low kh)
+-- all conditions before the place hold, where all numbers up to the first past the code points were asked
+before_holds : (loaded : Loaded) (conditions : List Condition) (number place : ℕ) → IsComplete loaded.characters.decompositions.table → 0x110000 < number → FailsFirst loaded conditions number place →
+    AllWithin (IsMet loaded) conditions 0 place
+before_holds loaded conditions number place complete past h k d low kh =
+    IsMet-within loaded (slice_index_or conditions k d) complete (h.overall k d low kh) (λ n nh. h.below n (omega (arith, nh, past)) k d low kh)
 
 -- a list is cut at a member
 cut_at : (conditions : List Condition) (place : ℕ) (c : Condition) → slice_get conditions place ≡ Some c → conditions ≡ take place conditions ++ c ∷ drop (place + 1) conditions
@@ -129,16 +115,17 @@ All-front P conditions place h k d kh =
     let less : k < place = in_front place conditions k kh in
     subst P (sym (get_or-take place conditions k d less)) (h k d (omega arith) less)
 
-pub IsFirstFailing-at : (s : Characters) (b : Bounds) (conditions : List Condition) (number place : ℕ) (r : Option Condition) → code_points ≤ number → FailsFirst s b conditions number place → r ≡ slice_get conditions place → IsFirstFailing (Holds s b) conditions r
+pub IsFirstFailing-at : (loaded : Loaded) (conditions : List Condition) (number place : ℕ) (r : Option Condition) → IsComplete loaded.characters.decompositions.table → 0x110000 < number →
+    FailsFirst loaded conditions number place → r ≡ slice_get conditions place → IsFirstFailing (IsMet loaded) conditions r
 unfolding IsFirstFailing
-IsFirstFailing-at s b conditions number place None past h e =
+IsFirstFailing-at loaded conditions number place None complete past h e =
     let all : length conditions ≤ place = slice_get_end conditions place (sym e) in
-    λ k d kh. before_holds s b conditions place (FailsFirst-fewer s b conditions number place past h) k d (omega arith) (omega arith)
-IsFirstFailing-at s b conditions number place (Some c) past h e = (
+    λ k d kh. before_holds loaded conditions number place complete past h k d (omega arith) (omega arith)
+IsFirstFailing-at loaded conditions number place (Some c) complete past h e = (
   take place conditions,
   drop (place + 1) conditions,
   cut_at conditions place c (sym e),
-  All-front (Holds s b) conditions place (before_holds s b conditions place (FailsFirst-fewer s b conditions number place past h)),
+  All-front (IsMet loaded) conditions place (before_holds loaded conditions number place complete past h),
   h.fails c (sym e),
 )
 

@@ -6,12 +6,12 @@ pub mod ConditionLemmas
 pub mod FailingLemmas
 pub mod FdfaWords
 pub mod FirstFailing
-pub mod FirstFailingPairs
 pub mod HangulLemmas
 pub mod InhabitedLists
 pub mod InsertionLemmas
 pub mod ListLengths
 pub mod ListedLemmas
+pub mod LoadedLemmas
 pub mod OrderedLists
 pub mod PairConditionLemmas
 pub mod PairLaws

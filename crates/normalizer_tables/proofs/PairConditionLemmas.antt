@@ -2,15 +2,13 @@
 use Rattle.std.proofs.Common.{◌≡◌, ◌↔◌, ℕ, ◌<◌, ◌≤◌, ◌+◌, ◌⊎◌, Bool, true, false, ◌&&◌, List, [], ◌∷◌, Some, slice_get, IsTrue, refl, sym, ap, ap₂, subst, ◌∙◌, ◌++◌, inl, inr, arith}
 use Rattle.std.specs.Char.{IsScalar}
 use Rattle.std.proofs.Math.Utf8.{scalar, scalar_cases}
-use Rattle.std.proofs.Math.Nat.{eq-or-lt_of_le}
 use Rattle.normal_forms.specs.Order.{order}
 use Rattle.normal_forms.specs.Composition.{compose, compose_from, visit}
 use Rattle.normalizer_tables.specs.declared.condition.Bounds.{Bounds}
 use Rattle.normalizer_tables.specs.Words.{is_plain}
 use Rattle.normalizer_tables.specs.Characters.{Characters, word_of, list_of, class_of, own_reading}
 use Rattle.normalizer_tables.specs.Pairs.{Pair, IsNeverSecond}
-use Rattle.normalizer_tables.specs.PairConditions.{composing_reading, HasSafeBeginning, RoundTrips, KeepsRoundTrip, KeepsBeginning, HoldsOfPairs, HasOrderedLists}
-use Rattle.normalizer_tables.specs.declared.condition.Condition.TheVariants.{RoundTrip, SafeBeginning}
+use Rattle.normalizer_tables.specs.PairConditions.{composing_reading, HasSafeBeginning, RoundTrips, KeepsRoundTrip, HasOrderedLists}
 use Rattle.normalizer_tables.proofs.CharacterLemmas.{list_of-reads}
 use Rattle.normalizer_tables.proofs.ConditionLemmas.{list_read-plain, class_of-plain}
 use Rattle.normalizer_tables.proofs.CompositionLemmas.{begins_safely_from_first, first_of_safe_beginning}
@@ -34,17 +32,6 @@ RoundTrips-plain : (s : Characters) (pairs : List Pair) (n : ℕ) → scalar n �
 unfolding RoundTrips compose compose_from visit
 RoundTrips-plain s pairs n h plain = ap (compose (composing_reading s pairs)) (list_of-plain s n h plain)
 
--- one number further
-pub below_step : (P : ℕ → Type 0) (number : ℕ) (r k : Bool) → IsTrue r ↔ ((n : ℕ) → n < number → P n) → (r ≡ true → IsTrue k ↔ P number) → IsTrue (r && k) ↔ ((n : ℕ) → n < number + 1 → P n)
-below_step P number true k h here = (
-  λ yes n below. elim (last_or_below n number below) as (λ _. P n) [ inl same ↦ subst P (sym same) ((here refl).0 yes) | inr lower ↦ h.0 refl n lower ],
-  λ all. (here refl).1 (all number (omega arith)),
-)
-  where
-    last_or_below : (n number : ℕ) → n < number + 1 → (n ≡ number) ⊎ (n < number)
-    last_or_below n number below = elim (eq-or-lt_of_le (let at_most : n ≤ number = omega arith in at_most)) as (λ _. (n ≡ number) ⊎ (n < number)) [ inl same ↦ inl same | inr lower ↦ inr lower ]
-below_step P number false k h here = (λ f. cc, λ all. h.1 (λ n below. all n (omega arith)))
-
 -- scalar values lie below 0x110000
 pub scalar_below : (n : ℕ) → IsScalar n → n < 0x110000
 scalar_below n h = elim (scalar_cases n h) as (λ _. n < 0x110000) [ inl low ↦ omega arith | inr high ↦ high.1 ]
@@ -53,17 +40,6 @@ scalar_below n h = elim (scalar_cases n h) as (λ _. n < 0x110000) [ inl low ↦
 pub KeepsRoundTrip-plain : (s : Characters) (b : Bounds) (pairs : List Pair) (n : ℕ) → is_plain (word_of s n) ≡ true → KeepsRoundTrip s b pairs n
 unfolding KeepsRoundTrip
 KeepsRoundTrip-plain s b pairs n plain h taken = RoundTrips-plain s pairs n h plain
-
--- what was asked of all numbers below 0x110000 was asked of all characters
-pub RoundTrip-all : (s : Characters) (b : Bounds) (pairs : List Pair) (r : Bool) (number : ℕ) → 0x110000 ≤ number → IsTrue r ↔ ((n : ℕ) → n < number → KeepsRoundTrip s b pairs n) → IsTrue r ↔ HoldsOfPairs s b pairs RoundTrip
-unfolding HoldsOfPairs KeepsRoundTrip
-RoundTrip-all s b pairs r number past below =
-    (λ yes n h taken. let within : n < number = omega (arith, scalar_below n h) in below.0 yes n within h taken, λ all. below.1 (λ n within. all n))
-
-pub SafeBeginning-all : (s : Characters) (b : Bounds) (pairs : List Pair) (r : Bool) (number : ℕ) → 0x110000 ≤ number → IsTrue r ↔ ((n : ℕ) → n < number → KeepsBeginning s b pairs n) → IsTrue r ↔ HoldsOfPairs s b pairs SafeBeginning
-unfolding HoldsOfPairs KeepsBeginning
-SafeBeginning-all s b pairs r number past below =
-    (λ yes n h taken. let within : n < number = omega (arith, scalar_below n h) in below.0 yes n within h taken, λ all. below.1 (λ n within. all n))
 
 -- the condition on results, of the lists of a pair
 pub HasOrderedLists-members : (s : Characters) (p : Pair) (first second result : List ℕ) (r : Bool) → first ≡ list_of s [] p.1 → second ≡ list_of s [] p.0 → result ≡ list_of s [] p.2 → IsTrue r ↔ (result ≡ order (own_reading s) (first ++ second)) → IsTrue r ↔ HasOrderedLists s [] p

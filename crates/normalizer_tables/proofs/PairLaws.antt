@@ -25,7 +25,7 @@ use Rattle.normalizer_tables.specs.Conditions.{Holds, HoldsAt, IsSoundHangul, Is
 use Rattle.normalizer_tables.specs.SoundData.{Bounds}
 use Rattle.normalizer_tables.specs.Pairs.{Pair, pair_of, listed_result, is_vowel_or_trailing_jamo}
 use Rattle.normalizer_tables.specs.HangulComposition.{compose_hangul}
-use Rattle.normalizer_tables.specs.PairConditions.{composing_reading, HoldsOfPairs, IsComposable, RoundTrips, KeepsRoundTrip, KeepsBeginning, HasSafeBeginning, HasOrderedLists, is_passed, is_taken_to_round_trip, is_taken_to_begin_safely}
+use Rattle.normalizer_tables.specs.PairConditions.{composing_reading, HoldsOfPairs, PairsHoldAt, PairsHoldOverall, IsComposable, RoundTrips, KeepsRoundTrip, KeepsBeginning, HasSafeBeginning, HasOrderedLists, is_passed, is_taken_to_round_trip, is_taken_to_begin_safely}
 use Rattle.normalizer_tables.proofs.CharacterLemmas.{list_read-scalar, list_of-reads}
 use Rattle.normalizer_tables.proofs.SoundLists.{elsewhere, dropped, same, kind_of, reads_as_itself, class_of-no_class_form}
 use Rattle.normalizer_tables.proofs.PairLemmas.{All-listed_result}
@@ -147,14 +147,14 @@ module _ (s : Characters) (b : Bounds) (hangul : Holds s b Hangul) where
         ∙ sym (three_starters l v t first second third) ∙ sym parts
 
   pub HasStarterResults-reading_of : (pairs : List Pair) → HoldsOfPairs s b pairs Pairs → (ignored : List ℕ) → HasStarterResults (reading_of s ignored (pair_of pairs))
-  unfolding HoldsOfPairs
+  unfolding HoldsOfPairs PairsHoldOverall
   HasStarterResults-reading_of pairs holds ignored = record {
     starters = λ a c r joins. elim (pair_of-some pairs a c r joins) [
       | inl by_hangul ↦ elim (compose_hangul-some a c r by_hangul) [
         | inl h ↦ syllable_class r (syllable_in_range r (omega arith) (omega arith))
         | inr h ↦ syllable_class r (syllable_in_range r (omega arith) (omega arith))
       ]
-      | inr as_listed ↦ class_of-no_class_form s r (All-listed_result (λ p. IsComposable s p.1 × IsComposable s p.2) pairs a c r holds.1 as_listed).1.starter
+      | inr as_listed ↦ class_of-no_class_form s r (All-listed_result (λ p. IsComposable s p.1 × IsComposable s p.2) pairs a c r holds.0.1 as_listed).1.starter
     ];
   }
 
@@ -203,12 +203,12 @@ module _ (s : Characters) (b : Bounds) (pairs : List Pair) where
   ]
 
   round_trip : HoldsOfPairs s b pairs RoundTrip → (n : ℕ) → IsScalar n → is_passed s b n ≡ true → compose (composing_reading s pairs) (list_of s [] n) ≡ n ∷ []
-  unfolding HoldsOfPairs KeepsRoundTrip RoundTrips
-  round_trip holds n h passed = holds n h (taken_to_round_trip n passed)
+  unfolding HoldsOfPairs PairsHoldAt KeepsRoundTrip RoundTrips
+  round_trip holds n h passed = holds.1 n h (taken_to_round_trip n passed)
 
   beginning : HoldsOfPairs s b pairs SafeBeginning → (n : ℕ) → IsScalar n → is_passed s b n ≡ true → HasSafeBeginning s pairs n
-  unfolding HoldsOfPairs KeepsBeginning
-  beginning holds n h passed = holds n h (taken_to_begin_safely n passed)
+  unfolding HoldsOfPairs PairsHoldAt KeepsBeginning
+  beginning holds n h passed = holds.1 n h (taken_to_begin_safely n passed)
 
   ordered : Holds s b Order → (n : ℕ) → IsScalar n → order (own_reading s) (list_of s [] n) ≡ list_of s [] n
   unfolding Holds HoldsAt

@@ -1,5 +1,5 @@
 -- Data that a constructor accepts, and what they are to the laws of the normal forms.
-use Rattle.std.specs.Prelude.{List, [], ◌∷◌, All}
+use Rattle.std.specs.Prelude.{Bool, List, [], ◌∷◌, ◌++◌, All, if◌then◌else◌}
 use Rattle.normal_forms.specs.Reading.{Reading}
 use Rattle.normal_forms.specs.declared.Form.{Form}
 use Rattle.normal_forms.specs.Hypotheses.{HasFullLists, HasInhabitedLists, HasScalarResults, HasStarterResults, HasTextLists, SuitsForm}
@@ -8,7 +8,7 @@ use Rattle.normalizer_tables.specs.declared.condition.Condition.{Condition}
 use Rattle.normalizer_tables.specs.declared.condition.Condition.TheVariants as condition
 use Rattle.normalizer_tables.specs.Characters.{Characters}
 use Rattle.normalizer_tables.specs.Conditions.{Holds}
-use Rattle.normalizer_tables.specs.PairConditions.{HoldsOfPairs, pair_conditions}
+use Rattle.normalizer_tables.specs.PairConditions.{HoldsOfPairs}
 use Rattle.normalizer_tables.specs.Pairs.{Pair}
 
 -- the conditions that are asked of data by which text is decomposed: 1 to 10
@@ -18,12 +18,27 @@ decomposing_conditions =
     ∷ condition.PastTheEnd ∷ condition.Hangul ∷ condition.Words ∷ condition.Members ∷ condition.Order
     ∷ condition.Passthrough ∷ []
 
--- data that meet them all
+-- the conditions that are asked of pairs with these data: 11 to 14, of the mapper's data 11 to 13
+abbrev pub pair_conditions : Bool → List Condition
+pair_conditions is_mapper =
+    condition.Pairs ∷ condition.RoundTrip ∷ condition.SafeBeginning
+    ∷ (if is_mapper then [] else condition.Results ∷ [])
+
+-- the conditions that are asked of data by which text is composed: 1 to 14, of the mapper's data 1 to 13
+abbrev pub composing_conditions : Bool → List Condition
+composing_conditions is_mapper = decomposing_conditions ++ pair_conditions is_mapper
+
+-- the conditions that are asked of data by which characters are decomposed one step: 1, 5 to 9, 15 and 16
+abbrev pub step_conditions : List Condition
+step_conditions =
+    condition.ItemLimit ∷ condition.PastTheEnd ∷ condition.Hangul ∷ condition.Words ∷ condition.Members
+    ∷ condition.Order ∷ condition.FdfaForms ∷ condition.Steps ∷ []
+
+-- data that meet all that is asked where text is decomposed
 abbrev pub IsAccepted : Characters → Bounds → Type 0
 IsAccepted s b = All (Holds s b) decomposing_conditions
 
--- pairs that meet, with the data, the conditions that are asked where text is composed: 11 to 14, of the mapper's data
--- 11 to 13
+-- pairs that meet, with the data, the conditions that are asked of both
 abbrev pub AreAcceptedPairs : Characters → Bounds → List Pair → Type 0
 AreAcceptedPairs s b pairs = All (HoldsOfPairs s b pairs) (pair_conditions s.is_mapper)
 

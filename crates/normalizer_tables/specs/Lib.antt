@@ -9,6 +9,7 @@ pub mod HangulComposition
 pub mod Held
 pub mod Ignored
 pub mod Members
+pub mod Loaded
 pub mod NfdData
 pub mod PairConditions
 pub mod Pairs

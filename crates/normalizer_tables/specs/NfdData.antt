@@ -4,8 +4,8 @@ use Rattle.normalizer_tables.specs.declared.condition.Bounds.{Bounds}
 use Rattle.normalizer_tables.specs.declared.condition.Condition.{Condition}
 use Rattle.normalizer_tables.specs.declared.condition.Condition.TheVariants.{ItemLimit, ReplacementCharacter, Surrogates, PastTheEnd, Hangul, Words, Members, Order, Passthrough}
 use Rattle.normalizer_tables.specs.Characters.{Characters}
-use Rattle.normalizer_tables.specs.Conditions.{Holds}
 use Rattle.normalizer_tables.specs.Data.{Decompositions, Lists, lists_or_none}
+use Rattle.normalizer_tables.specs.Loaded.{IsMet, Loaded}
 
 -- what canonical data say of characters, with the tables of canonical data alone
 abbrev pub nfd_characters : Decompositions → Lists → Characters
@@ -20,6 +20,11 @@ nfd_characters decompositions tables = record {
 abbrev pub nfd_bounds : Bounds
 nfd_bounds = record { decomposition = 0xC0; composition = 0x0300 }
 
+-- they alone, with these bounds
+abbrev pub nfd_loaded : Decompositions → Lists → Loaded
+nfd_loaded decompositions tables =
+    record { characters = nfd_characters decompositions tables; bounds = nfd_bounds; pairs = None; supplement = None }
+
 -- what is asked of them: all conditions but the one on the cap
 abbrev pub nfd_conditions : List Condition
 nfd_conditions =
@@ -27,4 +32,4 @@ nfd_conditions =
 
 -- conditions 1, 3 to 9, and 10 at the bound 0xC0
 abbrev pub IsSoundNfdData : Decompositions → Lists → Type 0
-IsSoundNfdData decompositions tables = All (Holds (nfd_characters decompositions tables) nfd_bounds) nfd_conditions
+IsSoundNfdData decompositions tables = All (IsMet (nfd_loaded decompositions tables)) nfd_conditions

@@ -1,5 +1,5 @@
 -- The written conditions on composing pairs, and on decomposition data by the pairs.
-use Rattle.std.specs.Prelude.{◌≡◌, ◌≢◌, ℕ, ◌||◌, ◌&&◌, if◌then◌else◌, Bool, true, false, not, nat_lt, List, [], ◌∷◌, ◌++◌, All}
+use Rattle.std.specs.Prelude.{◌≡◌, ◌≢◌, ℕ, ◌||◌, ◌&&◌, Bool, true, false, not, nat_lt, List, [], ◌∷◌, ◌++◌, All}
 use Rattle.std.specs.Char.{IsScalar}
 use Rattle.normal_forms.specs.Reading.{Reading}
 use Rattle.normal_forms.specs.Order.{order}
@@ -11,10 +11,6 @@ use Rattle.normalizer_tables.specs.declared.condition.Condition.TheVariants.{Pai
 use Rattle.normalizer_tables.specs.Words.{ignored_marker, is_non_round_trip, is_backward_combining}
 use Rattle.normalizer_tables.specs.Characters.{Characters, word_of, list_of, has_class_form, reading_of, own_reading}
 use Rattle.normalizer_tables.specs.Pairs.{Pair, AreRising, is_vowel_or_trailing_jamo, pair_of}
-
--- the conditions that are asked of composing data: of the mapper's, all but the last
-abbrev pub pair_conditions : Bool → List Condition
-pair_conditions is_mapper = Pairs ∷ RoundTrip ∷ SafeBeginning ∷ (if is_mapper then [] else Results ∷ [])
 
 -- the reading of data and pairs, in which an ignored character has the empty list
 abbrev pub composing_reading : Characters → List Pair → Reading
@@ -65,11 +61,19 @@ unfoldable pub HasOrderedLists : Characters → List ℕ → Pair → Type 0
 HasOrderedLists s ignored p =
     list_of s ignored p.2 ≡ order (own_reading s) (list_of s ignored p.1 ++ list_of s ignored p.0)
 
--- the conditions on pairs, each in its line
+-- what a condition says of the pairs as a whole
+unfoldable pub PairsHoldOverall : Characters → List Pair → Condition → Type 0
+PairsHoldOverall s pairs Pairs = AreSoundPairs pairs × All (λ p. IsComposable s p.1 × IsComposable s p.2) pairs
+PairsHoldOverall s pairs Results = All (HasOrderedLists s []) pairs
+PairsHoldOverall s pairs PairOrder = AreSoundPairs pairs
+PairsHoldOverall s pairs _ = Unit {0}
+
+-- what it says of a number n by the pairs
+unfoldable pub PairsHoldAt : Characters → Bounds → List Pair → Condition → ℕ → Type 0
+PairsHoldAt s b pairs RoundTrip n = KeepsRoundTrip s b pairs n
+PairsHoldAt s b pairs SafeBeginning n = KeepsBeginning s b pairs n
+PairsHoldAt s b pairs _ n = Unit {0}
+
+-- each of the two is one line a condition
 unfoldable pub HoldsOfPairs : Characters → Bounds → List Pair → Condition → Type 0
-HoldsOfPairs s b pairs Pairs = AreSoundPairs pairs × All (λ p. IsComposable s p.1 × IsComposable s p.2) pairs
-HoldsOfPairs s b pairs RoundTrip = (n : ℕ) → KeepsRoundTrip s b pairs n
-HoldsOfPairs s b pairs SafeBeginning = (n : ℕ) → KeepsBeginning s b pairs n
-HoldsOfPairs s b pairs Results = All (HasOrderedLists s []) pairs
-HoldsOfPairs s b pairs PairOrder = AreSoundPairs pairs
-HoldsOfPairs s b pairs _ = Unit {0}
+HoldsOfPairs s b pairs c = PairsHoldOverall s pairs c × ((n : ℕ) → PairsHoldAt s b pairs c n)

@@ -1,14 +1,13 @@
 -- How data that break a written condition are answered.
 use Rattle.std.specs.Prelude.{◌≡◌, List, Some}
-use Rattle.normalizer_tables.specs.declared.condition.Bounds.{Bounds}
 use Rattle.normalizer_tables.specs.declared.condition.Condition.{Condition}
 use Rattle.normalizer_tables.specs.declared.condition.Condition.TheVariants.{ItemLimit, Pairs, Results, FdfaForms, Steps, PairOrder}
 use Rattle.normalizer_tables.specs.declared.provider.DataError.{DataError}
 use Rattle.normalizer_tables.specs.declared.provider.DataError.TheVariants.{FutureExtension, Invalid}
 use Rattle.normalizer_tables.specs.declared.provider.DataMarkerInfo.{DataMarkerInfo}
 use Rattle.normalizer_tables.specs.declared.provider.DataMarkerInfo.TheVariants.{NormalizerNfdDataV1, NormalizerNfdTablesV1, NormalizerNfcV1, NormalizerNfdSupplementV1}
-use Rattle.normalizer_tables.specs.Characters.{Characters}
-use Rattle.normalizer_tables.specs.Conditions.{Holds, IsFirstFailing, number_of}
+use Rattle.normalizer_tables.specs.Conditions.{IsFirstFailing, number_of}
+use Rattle.normalizer_tables.specs.Loaded.{IsMet, Loaded}
 
 -- the marker that is named where a condition fails, if the decomposition data have the marker `data_marker`
 abbrev pub marker_of : DataMarkerInfo → Condition → DataMarkerInfo
@@ -25,7 +24,7 @@ abbrev pub refusal_of : DataMarkerInfo → Condition → DataError
 refusal_of data_marker ItemLimit = FutureExtension NormalizerNfdTablesV1
 refusal_of data_marker c = Invalid (marker_of data_marker c) (number_of c)
 
--- e answers the first of these conditions that fails
-abbrev pub RefusesFirstFailing : DataMarkerInfo → Characters → Bounds → List Condition → DataError → Type 0
-RefusesFirstFailing data_marker s b conditions e =
-    (c : Condition) × IsFirstFailing (Holds s b) conditions (Some c) × (e ≡ refusal_of data_marker c)
+-- e answers the first of these conditions that isn't met
+abbrev pub RefusesFirstFailing : DataMarkerInfo → Loaded → List Condition → DataError → Type 0
+RefusesFirstFailing data_marker d conditions e =
+    (c : Condition) × IsFirstFailing (IsMet d) conditions (Some c) × (e ≡ refusal_of data_marker c)

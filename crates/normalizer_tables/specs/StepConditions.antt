@@ -3,7 +3,7 @@ use Rattle.std.specs.Prelude.{◌≡◌, ◌≢◌, ℕ, false, List, [], ◌∷
 use Rattle.std.specs.Char.{IsScalar}
 use Rattle.normal_forms.specs.Order.{order}
 use Rattle.normalizer_tables.specs.declared.condition.Condition.{Condition}
-use Rattle.normalizer_tables.specs.declared.condition.Condition.TheVariants as condition
+use Rattle.normalizer_tables.specs.declared.condition.Condition.TheVariants.{FdfaForms, Steps}
 use Rattle.normalizer_tables.specs.declared.step.Step.{Step}
 use Rattle.normalizer_tables.specs.declared.step.Step.TheVariants.{Default, Singleton, Expansion}
 use Rattle.normalizer_tables.specs.declared.word.WordReading.TheVariants.{Fdfa}
@@ -11,16 +11,6 @@ use Rattle.normalizer_tables.specs.Data.{Supplement}
 use Rattle.normalizer_tables.specs.Hangul.{is_hangul_syllable}
 use Rattle.normalizer_tables.specs.Characters.{Characters, reading_of_word, list_of, own_reading}
 use Rattle.normalizer_tables.specs.Steps.{step_of}
-
--- the conditions that are asked of data and supplement together
-abbrev pub step_conditions : List Condition
-step_conditions = condition.FdfaForms ∷ condition.Steps ∷ []
-
--- the conditions that are asked of the data before
-abbrev pub conditions_before_steps : List Condition
-conditions_before_steps =
-    condition.ItemLimit ∷ condition.PastTheEnd ∷ condition.Hangul ∷ condition.Words ∷ condition.Members
-    ∷ condition.Order ∷ []
 
 -- the list of n is not n alone, but these characters in canonical order
 unfoldable pub IsInOrder : Characters → ℕ → List ℕ → Type 0
@@ -40,8 +30,12 @@ AvoidsFdfa s n = reading_of_word s n ≢ Fdfa
 unfoldable pub HasSoundStep : Characters → Supplement → ℕ → Type 0
 HasSoundStep s t n = IsScalar n → is_hangul_syllable n ≡ false → IsSomeAnd (step_of s t n) (IsSoundStep s n)
 
--- the conditions on steps, each in its line
+-- what a condition says of a number n by its step
+unfoldable pub StepsHoldAt : Characters → Supplement → Condition → ℕ → Type 0
+StepsHoldAt s t FdfaForms n = AvoidsFdfa s n
+StepsHoldAt s t Steps n = HasSoundStep s t n
+StepsHoldAt s t _ n = Unit {0}
+
+-- one line a condition
 unfoldable pub HoldsOfSteps : Characters → Supplement → Condition → Type 0
-HoldsOfSteps s t condition.FdfaForms = (n : ℕ) → AvoidsFdfa s n
-HoldsOfSteps s t condition.Steps = (n : ℕ) → HasSoundStep s t n
-HoldsOfSteps s t _ = Unit {0}
+HoldsOfSteps s t c = (n : ℕ) → StepsHoldAt s t c n

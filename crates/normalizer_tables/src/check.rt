@@ -1,42 +1,36 @@
-//! The complete check of data: the first of the written conditions that they break.
-ghost use Rattle.normalizer_tables.specs.Conditions.{
-  Holds,
-  HoldsAt,
-  HoldsOverall,
-  IsFirstFailing,
-  IsPlaceOfFirstFailing,
-};
+//! The complete check of what was loaded: the first of the written conditions that it breaks.
+ghost use Rattle.normalizer_tables.specs.Conditions.{IsFirstFailing, IsPlaceOfFirstFailing};
+ghost use Rattle.normalizer_tables.specs.Loaded.{IsMet, IsMetAt, IsMetOverall};
+ghost use Rattle.normalizer_tables.specs.Ranges.{IsComplete};
 
-use crate::characters::{CODE_POINTS, CharacterData};
-use crate::check::numbers::holds_at;
-use crate::check::overall::holds_overall;
-use crate::condition::{Bounds, Condition};
+use crate::characters::CODE_POINTS;
+use crate::check::parts::{is_met_at, is_met_overall};
+use crate::condition::Condition;
+use crate::loaded::LoadedData;
 
 mod lists;
 pub(crate) mod numbers;
 mod overall;
+mod parts;
 
-/// The first of these conditions that the data break.
-pub fn first_failing(
-    data: &CharacterData<'_>,
-    bounds: Bounds,
-    conditions: &[Condition],
-) -> Option<Condition>
-    ensures { IsFirstFailing (Holds data.now bounds) conditions.now result }
+/// The first of these conditions that isn't met by what was loaded. It takes no memory.
+pub fn first_failing(data: &LoadedData<'_>, conditions: &[Condition]) -> Option<Condition>
+    ensures { IsFirstFailing (IsMet data.now) conditions.now result }
 {
     let mut failing = first_failing_overall(data, conditions);
-    for number in 0..CODE_POINTS {
-        failing = first_failing_at(data, bounds, &conditions[..failing], number);
+    // The word of the last number is that of all numbers past the code points.
+    for number in 0..=CODE_POINTS {
+        failing = first_failing_at(data, &conditions[..failing], number);
     }
     conditions.get(failing).copied()
 }
 
 /// The place of the first condition that fails of the data as a whole.
-fn first_failing_overall(data: &CharacterData<'_>, conditions: &[Condition]) -> usize
-    ensures { IsPlaceOfFirstFailing (HoldsOverall data.now) conditions.now result }
+fn first_failing_overall(data: &LoadedData<'_>, conditions: &[Condition]) -> usize
+    ensures { IsPlaceOfFirstFailing (IsMetOverall data.now) conditions.now result }
 {
     for (place, &condition) in conditions.iter().enumerate() {
-        if !holds_overall(data, condition) {
+        if !is_met_overall(data, condition) {
             return place;
         }
     }
@@ -44,17 +38,13 @@ fn first_failing_overall(data: &CharacterData<'_>, conditions: &[Condition]) -> 
 }
 
 /// The place of the first condition that fails of a number.
-fn first_failing_at(
-    data: &CharacterData<'_>,
-    bounds: Bounds,
-    conditions: &[Condition],
-    number: u32,
-) -> usize
-    ensures { IsPlaceOfFirstFailing (λ c. HoldsAt data.now bounds c number) conditions.now result }
+fn first_failing_at(data: &LoadedData<'_>, conditions: &[Condition], number: u32) -> usize
+    ensures place { IsPlaceOfFirstFailing (λ c. IsMetAt data.now c number) conditions.now result }
+    ensures complete { IsComplete data.now.characters.decompositions.table }
 {
-    let word = data.word_of_number(number);
+    let word = data.characters().word_of_number(number);
     for (place, &condition) in conditions.iter().enumerate() {
-        if !holds_at(data, bounds, condition, number, word) {
+        if !is_met_at(data, condition, number, word) {
             return place;
         }
     }

@@ -1,6 +1,7 @@
 //! The written conditions on all that is loaded: decomposition data, pairs and the supplement.
-ghost use Rattle.std.specs.Prelude.{◌≡◌, min};
+ghost use Rattle.std.specs.Prelude.{◌≡◌};
 ghost use Rattle.normalizer_tables.specs.Conditions.{number_of};
+ghost use Rattle.normalizer_tables.specs.Loaded.{bounds_of_cap};
 
 /// A written condition. What classes alone ask, or pairs alone, has an entry of its own, under the number of the whole.
 #[derive(Clone, Copy, PartialEq, Eq, Debug)]
@@ -28,10 +29,11 @@ pub enum Condition {
     /// Pairs strictly rise by second, then first; no second lies in U+1161 to U+11FF; no first and no result has a
     /// class form or is ignored.
     Pairs,
-    /// The list of a character without NON_ROUND_TRIP, or below the bound of composing, composes to that character alone.
+    /// The list of a character without NON_ROUND_TRIP, or below the bound of composing, composes to that character
+    /// alone.
     RoundTrip,
-    /// The list of a character without BACKWARD_COMBINING, or below the bound of composing, begins with a starter that is
-    /// second in no pair.
+    /// The list of a character without BACKWARD_COMBINING, or below the bound of composing, begins with a starter that
+    /// is second in no pair.
     SafeBeginning,
     /// The list of each pair's result is the ordered lists of first and second.
     Results,
@@ -60,7 +62,7 @@ pub struct Bounds {
 impl Bounds {
     /// The bounds of data with this cap.
     pub fn of_cap(cap: u16) -> Self
-        ensures { result ≡ record { decomposition = min cap 0xC0; composition = min cap 0x0300 } }
+        ensures { result ≡ bounds_of_cap cap }
     {
         let cap = u32::from(cap);
         Bounds {
@@ -82,6 +84,73 @@ pub const DECOMPOSING: [Condition; 10] = [
     Condition::Members,
     Condition::Order,
     Condition::Passthrough,
+];
+
+/// What is asked of data and pairs by which text is composed.
+pub const COMPOSING: [Condition; 14] = [
+    Condition::ItemLimit,
+    Condition::CapLimit,
+    Condition::ReplacementCharacter,
+    Condition::Surrogates,
+    Condition::PastTheEnd,
+    Condition::Hangul,
+    Condition::Words,
+    Condition::Members,
+    Condition::Order,
+    Condition::Passthrough,
+    Condition::Pairs,
+    Condition::RoundTrip,
+    Condition::SafeBeginning,
+    Condition::Results,
+];
+
+/// The same of the mapper's data.
+pub const MAPPING: [Condition; 13] = [
+    Condition::ItemLimit,
+    Condition::CapLimit,
+    Condition::ReplacementCharacter,
+    Condition::Surrogates,
+    Condition::PastTheEnd,
+    Condition::Hangul,
+    Condition::Words,
+    Condition::Members,
+    Condition::Order,
+    Condition::Passthrough,
+    Condition::Pairs,
+    Condition::RoundTrip,
+    Condition::SafeBeginning,
+];
+
+/// What is asked of data and supplement by which characters are decomposed one step.
+pub const STEPPING: [Condition; 8] = [
+    Condition::ItemLimit,
+    Condition::PastTheEnd,
+    Condition::Hangul,
+    Condition::Words,
+    Condition::Members,
+    Condition::Order,
+    Condition::FdfaForms,
+    Condition::Steps,
+];
+
+/// All that is asked of canonical data, pairs and supplement.
+pub const EVERY: [Condition; 16] = [
+    Condition::ItemLimit,
+    Condition::CapLimit,
+    Condition::ReplacementCharacter,
+    Condition::Surrogates,
+    Condition::PastTheEnd,
+    Condition::Hangul,
+    Condition::Words,
+    Condition::Members,
+    Condition::Order,
+    Condition::Passthrough,
+    Condition::Pairs,
+    Condition::RoundTrip,
+    Condition::SafeBeginning,
+    Condition::Results,
+    Condition::FdfaForms,
+    Condition::Steps,
 ];
 
 impl Condition {

@@ -7,6 +7,7 @@ pub mod class_check;
 pub mod condition;
 mod hangul;
 pub mod laws;
+pub mod loaded;
 pub mod members;
 pub mod nfd_check;
 pub mod pair_check;

@@ -2,9 +2,8 @@
 ghost use Rattle.std.specs.Prelude.{◌↔◌, IsOk, IfErr};
 ghost use Rattle.normalizer_tables.specs.NfdData.{
   IsSoundNfdData,
-  nfd_bounds,
-  nfd_characters,
   nfd_conditions,
+  nfd_loaded,
 };
 ghost use Rattle.normalizer_tables.specs.Refusals.{RefusesFirstFailing};
 ghost use Rattle.normalizer_tables.specs.declared.provider.DataMarkerInfo.TheVariants as marker;
@@ -12,6 +11,7 @@ ghost use Rattle.normalizer_tables.specs.declared.provider.DataMarkerInfo.TheVar
 use crate::characters::CharacterData;
 use crate::check::first_failing;
 use crate::condition::{Bounds, Condition};
+use crate::loaded::LoadedData;
 use crate::provider::{DataError, DataMarkerInfo, DecompositionData, DecompositionTables};
 use crate::refusal::refusal_of;
 
@@ -36,14 +36,15 @@ pub fn check_nfd_data<'a>(
 ) -> Result<(), DataError>
     ensures ok { IsOk result ↔ IsSoundNfdData decompositions.now tables.now }
     ensures err { IfErr result (RefusesFirstFailing marker.NormalizerNfdDataV1
-        (nfd_characters decompositions.now tables.now) nfd_bounds nfd_conditions) }
+        (nfd_loaded decompositions.now tables.now) nfd_conditions) }
 {
     let characters = CharacterData::new(decompositions, tables, None, false);
     let bounds = Bounds {
         decomposition: 0xC0,
         composition: 0x0300,
     };
-    match first_failing(&characters, bounds, &NFD_DATA) {
+    let loaded = LoadedData::new(characters, bounds, None, None);
+    match first_failing(&loaded, &NFD_DATA) {
         Some(condition) => Err(refusal_of(DataMarkerInfo::NormalizerNfdDataV1, condition)),
         None => Ok(()),
     }

@@ -1,18 +1,17 @@
 //! The complete check of composing pairs, and of decomposition data by the pairs.
 ghost use Rattle.std.specs.Prelude.{◌≡◌, ◌↔◌, [], IsTrue, All};
-ghost use Rattle.normalizer_tables.specs.Conditions.{IsFirstFailing};
 ghost use Rattle.normalizer_tables.specs.PairConditions.{
-  pair_conditions,
   AreSoundPairs,
   HasOrderedLists,
-  HoldsOfPairs,
   IsComposable,
+  PairsHoldAt,
+  PairsHoldOverall,
 };
 ghost use Rattle.normalizer_tables.specs.Characters.{word_of};
 
 use crate::characters::CharacterData;
 use crate::condition::{Bounds, Condition};
-use crate::pair_check::beginnings::check_beginnings;
+use crate::pair_check::beginnings::{keeps_beginning, keeps_round_trip};
 use crate::pair_check::results::has_ordered_lists;
 use crate::pairs::CanonicalCompositions;
 use crate::word::IGNORED_MARKER;
@@ -20,27 +19,40 @@ use crate::word::IGNORED_MARKER;
 mod beginnings;
 pub(crate) mod results;
 
-/// The first of the conditions on pairs that data and pairs break. Of the mapper's data the last is not asked.
-pub fn first_failing_of_pairs(
+/// Whether a condition holds of the pairs as a whole.
+#[tactic(auto, unfolding(crate::specs::PairConditions::PairsHoldOverall))]
+pub(crate) fn pairs_hold_overall(
+    data: &CharacterData<'_>,
+    compositions: &CanonicalCompositions,
+    condition: Condition,
+) -> bool
+    ensures { IsTrue result ↔ PairsHoldOverall data.now compositions.now condition }
+{
+    match condition {
+        Condition::Pairs => are_composing_pairs(data, compositions),
+        Condition::Results => have_ordered_lists(data, compositions),
+        Condition::PairOrder => are_sound_pairs(compositions),
+        _ => true,
+    }
+}
+
+/// Whether a condition holds of a number by the pairs, where its word was looked up.
+#[tactic(auto, unfolding(crate::specs::PairConditions::PairsHoldAt))]
+pub(crate) fn pairs_hold_at(
     data: &CharacterData<'_>,
     bounds: Bounds,
     compositions: &CanonicalCompositions,
-) -> Option<Condition>
-    ensures { IsFirstFailing (HoldsOfPairs data.now bounds compositions.now)
-        (pair_conditions data.now.is_mapper) result }
+    condition: Condition,
+    number: u32,
+    word: u32,
+) -> bool
+    requires { word ≡ word_of data.now number }
+    ensures { IsTrue result ↔ PairsHoldAt data.now bounds compositions.now condition number }
 {
-    if !holds_of_pairs(data, compositions) {
-        return Some(Condition::Pairs);
-    }
-    let beginnings = check_beginnings(data, bounds, compositions);
-    if !beginnings.round_trip {
-        Some(Condition::RoundTrip)
-    } else if !beginnings.safe {
-        Some(Condition::SafeBeginning)
-    } else if !data.is_mapper() && !have_ordered_lists(data, compositions) {
-        Some(Condition::Results)
-    } else {
-        None
+    match condition {
+        Condition::RoundTrip => keeps_round_trip(data, bounds, compositions, number, word),
+        Condition::SafeBeginning => keeps_beginning(data, bounds, compositions, number, word),
+        _ => true,
     }
 }
 
@@ -51,7 +63,8 @@ pub fn are_sound_pairs(compositions: &CanonicalCompositions) -> bool
     compositions.is_rising() && compositions.has_no_jamo_second()
 }
 
-fn holds_of_pairs(data: &CharacterData<'_>, compositions: &CanonicalCompositions) -> bool
+/// Whether these hold, and no first and no result has a class form or is ignored.
+fn are_composing_pairs(data: &CharacterData<'_>, compositions: &CanonicalCompositions) -> bool
     ensures { IsTrue result ↔ (AreSoundPairs compositions.now ×
         All (λ p. IsComposable data.now p.1 × IsComposable data.now p.2) compositions.now) }
 {

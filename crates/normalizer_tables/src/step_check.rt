@@ -2,21 +2,17 @@
 ghost use Rattle.std.specs.Prelude.{◌≡◌, ◌≢◌, ◌↔◌, [], Bool, IsTrue};
 ghost use Rattle.normal_forms.specs.Order.{order};
 ghost use Rattle.normalizer_tables.specs.Characters.{list_of, own_reading, word_of};
-ghost use Rattle.normalizer_tables.specs.Conditions.{Holds, IsFirstFailing};
 ghost use Rattle.normalizer_tables.specs.StepConditions.{
   HasSoundStep,
-  HoldsOfSteps,
   IsSoundStep,
-  conditions_before_steps,
-  step_conditions,
+  StepsHoldAt,
 };
 ghost use Rattle.normalizer_tables.specs.Steps.{step_of};
 ghost use Rattle.normalizer_tables.specs.Words.{read};
 ghost use Rattle.normalizer_tables.specs.declared.word.WordReading.TheVariants.{Fdfa};
 
-use crate::characters::{CODE_POINTS, CharacterData, IgnoredCharacters};
-use crate::check::first_failing;
-use crate::condition::{Bounds, Condition};
+use crate::characters::{CharacterData, IgnoredCharacters};
+use crate::condition::Condition;
 use crate::members::Members;
 use crate::pair_check::results::{has_ordered_lists, is_spelled, put_in_order, write};
 use crate::provider::NonRecursiveDecompositionSupplement;
@@ -26,43 +22,22 @@ use crate::word::{is_hangul_syllable, is_plain};
 /// Room for a list, of at most 18 characters.
 const ROOM: usize = 18;
 
-/// What is asked of the data alone.
-const BEFORE_STEPS: [Condition; 6] = [
-    Condition::ItemLimit,
-    Condition::PastTheEnd,
-    Condition::Hangul,
-    Condition::Words,
-    Condition::Members,
-    Condition::Order,
-];
-
-/// The first of the conditions that data alone break, of those that come before the ones on steps. It takes no memory.
-pub fn first_failing_before_steps(data: &CharacterData<'_>, bounds: Bounds) -> Option<Condition>
-    ensures { IsFirstFailing (Holds data.now bounds) conditions_before_steps result }
-{
-    first_failing(data, bounds, &BEFORE_STEPS)
-}
-
-/// The first of the conditions on steps that data and supplement break. It takes no memory.
-pub fn first_failing_of_steps(
+/// Whether a condition holds of a number by its step, where its word was looked up.
+#[tactic(auto, unfolding(crate::specs::StepConditions::StepsHoldAt))]
+pub(crate) fn steps_hold_at(
     data: &CharacterData<'_>,
     supplement: &NonRecursiveDecompositionSupplement,
-) -> Option<Condition>
-    ensures { IsFirstFailing (HoldsOfSteps data.now supplement.now) step_conditions result }
+    condition: Condition,
+    number: u32,
+    word: u32,
+) -> bool
+    requires { word ≡ word_of data.now number }
+    ensures { IsTrue result ↔ StepsHoldAt data.now supplement.now condition number }
 {
-    let mut are_sound = true;
-    // The word of the last number is that of all numbers past the code points.
-    for number in 0..=CODE_POINTS {
-        let word = data.word_of_number(number);
-        if !avoids_fdfa(number, word) {
-            return Some(Condition::FdfaForms);
-        }
-        are_sound = are_sound && has_sound_step(data, supplement, number, word);
-    }
-    if are_sound {
-        None
-    } else {
-        Some(Condition::Steps)
+    match condition {
+        Condition::FdfaForms => avoids_fdfa(number, word),
+        Condition::Steps => has_sound_step(data, supplement, number, word),
+        _ => true,
     }
 }
 

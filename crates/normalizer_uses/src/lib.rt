@@ -7,7 +7,7 @@ ghost use Rattle.normal_forms.specs.Forms.{nfc, nfd};
 ghost use Rattle.normal_forms.specs.ShortRuns.{HasShortRuns};
 ghost use Rattle.normalizer_tables.specs.declared.provider.DataMarkerInfo.TheVariants as marker;
 ghost use Rattle.normalizer_tables.specs.Characters.{has_class_form, own_reading, Characters};
-ghost use Rattle.normalizer_tables.specs.NfdData.{nfd_bounds, nfd_characters, nfd_conditions};
+ghost use Rattle.normalizer_tables.specs.NfdData.{nfd_characters, nfd_conditions, nfd_loaded};
 ghost use Rattle.normalizer_tables.specs.PairConditions.{composing_reading};
 ghost use Rattle.normalizer_tables.specs.Pairs.{Pair};
 ghost use Rattle.normalizer_tables.specs.Refusals.{RefusesFirstFailing};
@@ -69,9 +69,8 @@ pub fn nfd_by_data(
 ) -> Result<Vec<char>, DataError>
     ensures form { IfOk result (λ v. v.items ≡ nfd (own_reading (nfd_characters decompositions.now tables.now))
         (decoded_utf8 bytes.now)) }
-    ensures refused { IfErr result (λ e. (e ≡ DataError.Memory) ⊎
-        RefusesFirstFailing marker.NormalizerNfdDataV1 (nfd_characters decompositions.now tables.now)
-        nfd_bounds nfd_conditions e) }
+    ensures refused { IfErr result (λ e. (e ≡ DataError.Memory)
+        ⊎ RefusesFirstFailing marker.NormalizerNfdDataV1 (nfd_loaded decompositions.now tables.now) nfd_conditions e) }
 {
     check_nfd_data(decompositions, tables)?;
     let normalizer = DecomposingNormalizerBorrowed::new_with_data(decompositions, tables);

@@ -6,7 +6,6 @@ ghost use Rattle.normal_forms.specs.Composition.{compose, joined};
 ghost use Rattle.normalizer_tables.specs.Characters.{Characters, word_of};
 ghost use Rattle.normalizer_tables.specs.PairConditions.{
   HasSafeBeginning,
-  HoldsOfPairs,
   KeepsBeginning,
   KeepsRoundTrip,
   RoundTrips,
@@ -14,43 +13,16 @@ ghost use Rattle.normalizer_tables.specs.PairConditions.{
   is_taken_to_begin_safely,
   is_taken_to_round_trip,
 };
-ghost use Rattle.normalizer_tables.specs.declared.condition.Condition.TheVariants as condition;
 
-use crate::characters::{CODE_POINTS, CharacterData, IgnoredCharacters};
+use crate::characters::{CharacterData, IgnoredCharacters};
 use crate::condition::Bounds;
 use crate::members::Members;
 use crate::pairs::CanonicalCompositions;
 use crate::word::{is_backward_combining, is_non_round_trip, is_plain};
 
-/// Whether the two conditions hold of all characters.
-#[derive(Clone, Copy)]
-pub struct Beginnings {
-    pub round_trip: bool,
-    pub safe: bool,
-}
-
-/// One pass over all characters for both conditions.
-pub fn check_beginnings(
-    data: &CharacterData<'_>,
-    bounds: Bounds,
-    compositions: &CanonicalCompositions,
-) -> Beginnings
-    ensures round_trip { IsTrue result.round_trip ↔ HoldsOfPairs data.now bounds compositions.now condition.RoundTrip }
-    ensures safe { IsTrue result.safe ↔ HoldsOfPairs data.now bounds compositions.now condition.SafeBeginning }
-{
-    let mut round_trip = true;
-    let mut safe = true;
-    for number in 0..CODE_POINTS {
-        let word = data.word_of_number(number);
-        round_trip = round_trip && keeps_round_trip(data, bounds, compositions, number, word);
-        safe = safe && keeps_beginning(data, bounds, compositions, number, word);
-    }
-    Beginnings { round_trip, safe }
-}
-
 /// Whether a character, whose word was looked up, composes to itself if a composing loop relies on it.
 #[tactic(auto, unfolding(crate::specs::PairConditions::KeepsRoundTrip, crate::specs::PairConditions::is_taken_to_round_trip))]
-fn keeps_round_trip(
+pub fn keeps_round_trip(
     data: &CharacterData<'_>,
     bounds: Bounds,
     compositions: &CanonicalCompositions,
@@ -73,7 +45,7 @@ fn keeps_round_trip(
 
 /// Whether the list of a character, whose word was looked up, begins safely if a composing loop relies on it.
 #[tactic(auto, unfolding(crate::specs::PairConditions::KeepsBeginning, crate::specs::PairConditions::is_taken_to_begin_safely))]
-fn keeps_beginning(
+pub fn keeps_beginning(
     data: &CharacterData<'_>,
     bounds: Bounds,
     compositions: &CanonicalCompositions,

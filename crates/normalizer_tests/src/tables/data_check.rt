@@ -3,6 +3,7 @@ use crate::tables::edits::{Check, Edit, REFUSED, edited, number_of, wrong_first,
 use normalizer_tables::characters::CharacterData;
 use normalizer_tables::check::first_failing;
 use normalizer_tables::condition::{Bounds, DECOMPOSING};
+use normalizer_tables::loaded::LoadedData;
 use std::alloc::Global;
 
 /// The check of decomposing data, of the mapper or not.
@@ -17,7 +18,8 @@ impl Check for DataCheck {
         };
         let characters = CharacterData::new(&edited.data, &edited.tables, None, self.is_mapper);
         let bounds = Bounds::of_cap(edited.data.passthrough_cap);
-        number_of(first_failing(&characters, bounds, &DECOMPOSING)) == condition
+        let loaded = LoadedData::new(characters, bounds, None, None);
+        number_of(first_failing(&loaded, &DECOMPOSING)) == condition
     }
 }
 

@@ -2,8 +2,9 @@
 use crate::tables::edits::{Range, data_of, number_of, tables_of};
 use crate::tables::pairs::{Pair, compositions};
 use normalizer_tables::characters::CharacterData;
-use normalizer_tables::condition::Bounds;
-use normalizer_tables::pair_check::first_failing_of_pairs;
+use normalizer_tables::check::first_failing;
+use normalizer_tables::condition::{Bounds, COMPOSING, MAPPING};
+use normalizer_tables::loaded::LoadedData;
 use std::alloc::Global;
 
 /// Data that are checked against pairs: their words, their cap, and whether they are the mapper's.
@@ -21,7 +22,14 @@ fn broken_condition(alloc: Global, checked: PairsData, pairs: &[Pair]) -> Option
     let compositions = compositions(alloc, pairs)?;
     let characters = CharacterData::new(&data, &tables, None, checked.is_mapper);
     let bounds = Bounds::of_cap(checked.cap);
-    Some(number_of(first_failing_of_pairs(&characters, bounds, &compositions)))
+    let loaded = LoadedData::new(characters, bounds, Some(&compositions), None);
+    // The conditions on pairs stand behind the ten on the data alone.
+    let conditions = if checked.is_mapper {
+        &MAPPING[10..]
+    } else {
+        &COMPOSING[10..]
+    };
+    Some(number_of(first_failing(&loaded, conditions)))
 }
 
 fn breaks(alloc: Global, checked: PairsData, pairs: &[Pair], condition: u8) -> bool {

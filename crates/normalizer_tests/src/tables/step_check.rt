@@ -5,18 +5,17 @@ use crate::tables::edits::{
 };
 use normalizer_tables::NonRecursiveDecompositionSupplement;
 use normalizer_tables::characters::CharacterData;
-use normalizer_tables::condition::Bounds;
-use normalizer_tables::step_check::{first_failing_before_steps, first_failing_of_steps};
+use normalizer_tables::check::first_failing;
+use normalizer_tables::condition::{Bounds, STEPPING};
+use normalizer_tables::loaded::LoadedData;
 use std::alloc::Global;
 
 /// The number of the first condition that data and a supplement break, or 0.
 fn broken_condition(edited: &CheckedData, supplement: &NonRecursiveDecompositionSupplement) -> u8 {
     let characters = CharacterData::new(&edited.data, &edited.tables, None, false);
     let bounds = Bounds::of_cap(edited.data.passthrough_cap);
-    match first_failing_before_steps(&characters, bounds) {
-        Some(condition) => condition.number(),
-        None => number_of(first_failing_of_steps(&characters, supplement)),
-    }
+    let loaded = LoadedData::new(characters, bounds, None, Some(supplement));
+    number_of(first_failing(&loaded, &STEPPING))
 }
 
 /// Whether data with these words in their supplement break this condition first, or with 0 none.

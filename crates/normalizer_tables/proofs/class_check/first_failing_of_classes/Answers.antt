@@ -6,7 +6,8 @@ use Rattle.normalizer_tables.proofs.class_check.first_failing_of_classes.Goals a
 
 pub returns-then-not-have_no_surrogate_classes : goal.returns-then-not-have_no_surrogate_classes
 returns-then-not-have_no_surrogate_classes c =
-    rw (← c.data.view_is) (IsFirstFailing-here (HoldsOfClasses c.data.inside.table) SurrogateClasses (PastTheEnd ∷ WordClasses ∷ []) (λ holds. let f = c.if-not-have_no_surrogate_classes.ensures.1 holds in cc))
+    rw (← c.data.view_is)
+    (IsFirstFailing-here (HoldsOfClasses c.data.inside.table) SurrogateClasses (PastTheEnd ∷ WordClasses ∷ []) (λ holds. let f = c.if-not-have_no_surrogate_classes.ensures.1 holds in cc))
 
 pub returns-then-not-has_no_class_past : goal.returns-then-not-has_no_class_past
 returns-then-not-has_no_class_past c =

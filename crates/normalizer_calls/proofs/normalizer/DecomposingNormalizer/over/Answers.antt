@@ -10,7 +10,7 @@ met : (c : In-None) → SuitsDecomposing (data_from c.args.decompositions c.args
 unfolding IsFirstFailing
 met c =
     let h = c.in-None.ensures in
-    rw (c.of_cap-bounds.ensures, c.cap.ensures, c.new-characters.ensures, c.as_ref.ensures.value) at h
+    rw (c.new-loaded.ensures, c.of_cap-bounds.ensures, c.cap.ensures, c.new-characters.ensures, c.as_ref.ensures.value) at h
 
 pub invariant_of-result : goal.invariant_of-result
 invariant_of-result c = record { serves = ServesDecomposing-met _ refl (met c) }

@@ -1,0 +1,127 @@
+-- What the conditions say of all that was loaded, part by part.
+use Rattle.std.proofs.Common.{◌≡◌, ◌↔◌, ℕ, ◌<◌, ◌≤◌, ◌⊎◌, inl, inr, Bool, true, ◌+◌, List, ◌++◌, length, All, Option, Some, None, IfSome, IsTrue, refl, subst, arith}
+use Rattle.std.proofs.lemmas.Bool.{cases_lt}
+use Rattle.std.proofs.lemmas.List.{get_or_append_left, get_or-append-add, length-append}
+use Rattle.normalizer_tables.specs.declared.condition.Bounds.{Bounds}
+use Rattle.normalizer_tables.specs.declared.condition.Condition.{Condition}
+use Rattle.normalizer_tables.specs.declared.condition.Condition.TheVariants.{ItemLimit, CapLimit, ReplacementCharacter, Surrogates, PastTheEnd, Hangul, Words, Members, Order, Passthrough}
+use Rattle.normalizer_tables.specs.declared.condition.Condition.TheVariants.{Pairs, RoundTrip, SafeBeginning, Results, FdfaForms, Steps, SurrogateClasses, WordClasses, PairOrder}
+use Rattle.normalizer_tables.specs.AcceptedData.{AreAcceptedPairs, IsAccepted, composing_conditions, decomposing_conditions, pair_conditions}
+use Rattle.normalizer_tables.specs.Characters.{Characters}
+use Rattle.normalizer_tables.specs.Conditions.{Holds, HoldsAt, HoldsOverall}
+use Rattle.normalizer_tables.specs.Data.{Supplement}
+use Rattle.normalizer_tables.specs.Loaded.{Loaded, IsMet, IsMetAt, IsMetOverall, bounds_of_cap, characters_alone, characters_and_pairs}
+use Rattle.normalizer_tables.specs.PairConditions.{HoldsOfPairs, KeepsBeginning, KeepsRoundTrip, PairsHoldAt, PairsHoldOverall}
+use Rattle.normalizer_tables.specs.Pairs.{Pair}
+use Rattle.normalizer_tables.specs.Ranges.{IsComplete}
+use Rattle.normalizer_tables.specs.StepConditions.{AvoidsFdfa, HasSoundStep, HoldsOfSteps, StepsHoldAt}
+use Rattle.normalizer_tables.specs.Table.{code_points}
+use Rattle.normalizer_tables.proofs.ConditionLemmas.{HoldsAt-past, no_scalar_past}
+use Rattle.normalizer_tables.proofs.FdfaWords.{AvoidsFdfa-all}
+use Rattle.normalizer_tables.proofs.PairConditionLemmas.{scalar_below}
+
+-- what is said of something, where it was loaded
+pub IfSome-loaded : {A : Type 0} (o : Option A) (a : A) (P : A → Type 0) (r : Bool) → Some a ≡ o → IsTrue r ↔ P a → IsTrue r ↔ IfSome o P
+IfSome-loaded o a P r e h = subst (λ x. IsTrue r ↔ IfSome x P) e h
+
+pub IfSome-not_loaded : {A : Type 0} (o : Option A) (P : A → Type 0) → None ≡ o → IsTrue true ↔ IfSome o P
+IfSome-not_loaded o P e = subst (λ x. IsTrue true ↔ IfSome x P) e (λ yes. tt, λ h. refl)
+
+IfSome-map : {A : Type 0} (P Q : A → Type 0) → ((a : A) → P a → Q a) → (o : Option A) → IfSome o P → IfSome o Q
+IfSome-map P Q f None h = tt
+IfSome-map P Q f (Some a) h = f a h
+
+pub IsMet-overall : (d : Loaded) (c : Condition) → IsMet d c → IsMetOverall d c
+unfolding IsMet IsMetOverall Holds HoldsOfPairs
+IsMet-overall d c h = (h.0.0, IfSome-map _ _ (λ pairs k. k.0) d.pairs h.1)
+
+pub IsMet-at : (d : Loaded) (c : Condition) (n : ℕ) → IsMet d c → IsMetAt d c n
+unfolding IsMet IsMetAt Holds HoldsOfPairs HoldsOfSteps
+IsMet-at d c n h = (h.0.1 n, IfSome-map _ _ (λ pairs k. k.1 n) d.pairs h.1, IfSome-map _ _ (λ t k. k n) d.supplement h.2)
+
+-- what is met by all that was loaded is met part by part
+pub IsAccepted-met : (s : Characters) → All (IsMet (characters_alone s)) decomposing_conditions → IsAccepted s (bounds_of_cap s.decompositions.cap)
+unfolding IsMet
+IsAccepted-met s met = λ k c h. (met k c h).0
+
+pub All-front : {A : Type 0} (P : A → Type 0) (xs ys : List A) → All P (xs ++ ys) → All P xs
+All-front P xs ys all = λ k c h. subst P (get_or_append_left xs ys c k h) (all k c (omega (arith, h, length-append xs ys)))
+
+All-behind : {A : Type 0} (P : A → Type 0) (xs ys : List A) → All P (xs ++ ys) → All P ys
+All-behind P xs ys all = λ k c h. subst P (get_or-append-add xs ys k c) (all (length xs + k) c (omega (arith, h, length-append xs ys)))
+
+pub parts_met : (s : Characters) (pairs : List Pair) → All (IsMet (characters_and_pairs s pairs)) (composing_conditions s.is_mapper) →
+    IsAccepted s (bounds_of_cap s.decompositions.cap) × AreAcceptedPairs s (bounds_of_cap s.decompositions.cap) pairs
+unfolding IsMet
+parts_met s pairs met = (
+  λ k c h. (All-front (IsMet (characters_and_pairs s pairs)) decomposing_conditions (pair_conditions s.is_mapper) met k c h).0,
+  λ k c h. (All-behind (IsMet (characters_and_pairs s pairs)) decomposing_conditions (pair_conditions s.is_mapper) met k c h).1,
+)
+
+-- of numbers past the code points little is said
+PairsHoldAt-past : (s : Characters) (b : Bounds) (pairs : List Pair) (c : Condition) (n : ℕ) → code_points ≤ n → PairsHoldAt s b pairs c n
+unfolding PairsHoldAt KeepsRoundTrip KeepsBeginning
+PairsHoldAt-past s b pairs ItemLimit n h = tt
+PairsHoldAt-past s b pairs CapLimit n h = tt
+PairsHoldAt-past s b pairs ReplacementCharacter n h = tt
+PairsHoldAt-past s b pairs Surrogates n h = tt
+PairsHoldAt-past s b pairs PastTheEnd n h = tt
+PairsHoldAt-past s b pairs Hangul n h = tt
+PairsHoldAt-past s b pairs Words n h = tt
+PairsHoldAt-past s b pairs Members n h = tt
+PairsHoldAt-past s b pairs Order n h = tt
+PairsHoldAt-past s b pairs Passthrough n h = tt
+PairsHoldAt-past s b pairs Pairs n h = tt
+PairsHoldAt-past s b pairs RoundTrip n h = λ q. absurd (no_scalar_past n h q)
+PairsHoldAt-past s b pairs SafeBeginning n h = λ q. absurd (no_scalar_past n h q)
+PairsHoldAt-past s b pairs Results n h = tt
+PairsHoldAt-past s b pairs FdfaForms n h = tt
+PairsHoldAt-past s b pairs Steps n h = tt
+PairsHoldAt-past s b pairs SurrogateClasses n h = tt
+PairsHoldAt-past s b pairs WordClasses n h = tt
+PairsHoldAt-past s b pairs PairOrder n h = tt
+
+-- a condition that holds overall and of all numbers up to the first past the code points holds
+characters_within : (s : Characters) (b : Bounds) (c : Condition) → HoldsOverall s c → ((n : ℕ) → n ≤ 0x110000 → HoldsAt s b c n) → Holds s b c
+unfolding Holds code_points
+characters_within s b c overall each = (overall, λ n. elim (cases_lt 0x110000 n) [ inl past ↦ HoldsAt-past s b c n (omega arith) | inr within ↦ each n within ])
+
+pairs_within : (s : Characters) (b : Bounds) (o : Option (List Pair)) (c : Condition) → IfSome o (λ pairs. PairsHoldOverall s pairs c) →
+    ((n : ℕ) → n ≤ 0x110000 → IfSome o (λ pairs. PairsHoldAt s b pairs c n)) → IfSome o (λ pairs. HoldsOfPairs s b pairs c)
+unfolding HoldsOfPairs code_points
+pairs_within s b None c overall each = tt
+pairs_within s b (Some pairs) c overall each = (overall, λ n. elim (cases_lt 0x110000 n) [ inl past ↦ PairsHoldAt-past s b pairs c n (omega arith) | inr within ↦ each n within ])
+
+steps_within : (s : Characters) (t : Supplement) (c : Condition) → IsComplete s.decompositions.table → ((n : ℕ) → n ≤ 0x110000 → StepsHoldAt s t c n) → HoldsOfSteps s t c
+unfolding HoldsOfSteps StepsHoldAt HasSoundStep
+steps_within s t ItemLimit complete each = λ n. tt
+steps_within s t CapLimit complete each = λ n. tt
+steps_within s t ReplacementCharacter complete each = λ n. tt
+steps_within s t Surrogates complete each = λ n. tt
+steps_within s t PastTheEnd complete each = λ n. tt
+steps_within s t Hangul complete each = λ n. tt
+steps_within s t Words complete each = λ n. tt
+steps_within s t Members complete each = λ n. tt
+steps_within s t Order complete each = λ n. tt
+steps_within s t Passthrough complete each = λ n. tt
+steps_within s t Pairs complete each = λ n. tt
+steps_within s t RoundTrip complete each = λ n. tt
+steps_within s t SafeBeginning complete each = λ n. tt
+steps_within s t Results complete each = λ n. tt
+steps_within s t FdfaForms complete each = AvoidsFdfa-all s complete each
+steps_within s t Steps complete each = λ n h. each n (omega (arith, scalar_below n h)) h
+steps_within s t SurrogateClasses complete each = λ n. tt
+steps_within s t WordClasses complete each = λ n. tt
+steps_within s t PairOrder complete each = λ n. tt
+
+supplement_within : (s : Characters) (o : Option Supplement) (c : Condition) → IsComplete s.decompositions.table → ((n : ℕ) → n ≤ 0x110000 → IfSome o (λ t. StepsHoldAt s t c n)) → IfSome o (λ t. HoldsOfSteps s t c)
+supplement_within s None c complete each = tt
+supplement_within s (Some t) c complete each = steps_within s t c complete each
+
+pub IsMet-within : (d : Loaded) (c : Condition) → IsComplete d.characters.decompositions.table → IsMetOverall d c → ((n : ℕ) → n ≤ 0x110000 → IsMetAt d c n) → IsMet d c
+unfolding IsMet IsMetOverall IsMetAt
+IsMet-within d c complete overall each = (
+  characters_within d.characters d.bounds c overall.0 (λ n h. (each n h).0),
+  pairs_within d.characters d.bounds d.pairs c overall.1 (λ n h. (each n h).1),
+  supplement_within d.characters d.supplement c complete (λ n h. (each n h).2),
+)

@@ -1,0 +1,69 @@
+//! Each condition is one on the characters by themselves, by the pairs or by the supplement.
+ghost use Rattle.std.specs.Prelude.{◌≡◌, ◌↔◌, IsTrue, IfSome};
+ghost use Rattle.normalizer_tables.specs.Characters.{word_of};
+ghost use Rattle.normalizer_tables.specs.Loaded.{IsMetAt, IsMetOverall};
+ghost use Rattle.normalizer_tables.specs.PairConditions.{PairsHoldAt, PairsHoldOverall};
+ghost use Rattle.normalizer_tables.specs.StepConditions.{StepsHoldAt};
+
+use crate::check::numbers::holds_at;
+use crate::check::overall::holds_overall;
+use crate::condition::Condition;
+use crate::loaded::LoadedData;
+use crate::pair_check::{pairs_hold_at, pairs_hold_overall};
+use crate::step_check::steps_hold_at;
+
+/// Whether a condition is met, as far as it is about the data as a whole.
+#[tactic(auto, unfolding(crate::specs::Loaded::IsMetOverall))]
+pub fn is_met_overall(data: &LoadedData<'_>, condition: Condition) -> bool
+    ensures { IsTrue result ↔ IsMetOverall data.now condition }
+{
+    holds_overall(data.characters(), condition) && is_met_by_pairs(data, condition)
+}
+
+fn is_met_by_pairs(data: &LoadedData<'_>, condition: Condition) -> bool
+    ensures { IsTrue result ↔ IfSome data.now.pairs (λ pairs. PairsHoldOverall data.now.characters pairs condition) }
+{
+    match data.pairs() {
+        Some(pairs) => pairs_hold_overall(data.characters(), pairs, condition),
+        None => true,
+    }
+}
+
+/// Whether a condition is met, as far as it is about a number, whose word was looked up.
+#[tactic(auto, unfolding(crate::specs::Loaded::IsMetAt))]
+pub fn is_met_at(data: &LoadedData<'_>, condition: Condition, number: u32, word: u32) -> bool
+    requires { word ≡ word_of data.now.characters number }
+    ensures { IsTrue result ↔ IsMetAt data.now condition number }
+{
+    holds_at(data.characters(), data.bounds(), condition, number, word)
+        && is_met_by_pairs_at(data, condition, number, word)
+        && is_met_by_steps_at(data, condition, number, word)
+}
+
+fn is_met_by_pairs_at(data: &LoadedData<'_>, condition: Condition, number: u32, word: u32) -> bool
+    requires { word ≡ word_of data.now.characters number }
+    ensures { IsTrue result ↔ IfSome data.now.pairs
+        (λ pairs. PairsHoldAt data.now.characters data.now.bounds pairs condition number) }
+{
+    match data.pairs() {
+        Some(pairs) => {
+            let characters = data.characters();
+            pairs_hold_at(characters, data.bounds(), pairs, condition, number, word)
+        }
+        None => true,
+    }
+}
+
+fn is_met_by_steps_at(data: &LoadedData<'_>, condition: Condition, number: u32, word: u32) -> bool
+    requires { word ≡ word_of data.now.characters number }
+    ensures { IsTrue result ↔ IfSome data.now.supplement
+        (λ t. StepsHoldAt data.now.characters t condition number) }
+{
+    match data.supplement() {
+        Some(supplement) => {
+            let characters = data.characters();
+            steps_hold_at(characters, supplement, condition, number, word)
+        }
+        None => true,
+    }
+}

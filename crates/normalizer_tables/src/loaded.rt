@@ -1,0 +1,70 @@
+//! All that a constructor may load.
+ghost use Rattle.std.specs.Prelude.{◌≡◌};
+ghost use Rattle.std.specs.Option.{option_copied};
+
+use crate::characters::CharacterData;
+use crate::condition::Bounds;
+use crate::pairs::CanonicalCompositions;
+use crate::provider::NonRecursiveDecompositionSupplement;
+use std::marker::Model;
+
+/// The words with their tables, the pairs and the supplement as far as they were loaded, and below which numbers
+/// characters pass unseen.
+#[derive(Drop)]
+pub struct LoadedData<'a> {
+    characters: CharacterData<'a>,
+    bounds: Bounds,
+    pairs: Option<&'a CanonicalCompositions>,
+    supplement: Option<&'a NonRecursiveDecompositionSupplement>,
+}
+
+impl<'a> Model for LoadedData<'a> {
+    ghost use Rattle.std.specs.Option.{option_copied};
+    ghost use Rattle.normalizer_tables.specs.Loaded.{Loaded};
+
+    ghost Value = { Loaded };
+
+    ghost view = { λ d. record { characters = d.characters; bounds = d.bounds; pairs = option_copied d.pairs; supplement = option_copied d.supplement } };
+}
+
+impl<'a> LoadedData<'a> {
+    pub fn new(
+        characters: CharacterData<'a>,
+        bounds: Bounds,
+        pairs: Option<&'a CanonicalCompositions>,
+        supplement: Option<&'a NonRecursiveDecompositionSupplement>,
+    ) -> Self
+        ensures { result ≡ record { characters = characters.entry; bounds = bounds; pairs = option_copied pairs.entry; supplement = option_copied supplement.entry } }
+    {
+        LoadedData {
+            characters,
+            bounds,
+            pairs,
+            supplement,
+        }
+    }
+
+    pub fn characters(&self) -> &CharacterData<'a>
+        ensures { result.now ≡ self.now.characters }
+    {
+        &self.characters
+    }
+
+    pub fn bounds(&self) -> Bounds
+        ensures { result ≡ self.now.bounds }
+    {
+        self.bounds
+    }
+
+    pub fn pairs(&self) -> Option<&'a CanonicalCompositions>
+        ensures { option_copied result ≡ self.now.pairs }
+    {
+        self.pairs
+    }
+
+    pub fn supplement(&self) -> Option<&'a NonRecursiveDecompositionSupplement>
+        ensures { option_copied result ≡ self.now.supplement }
+    {
+        self.supplement
+    }
+}
