@@ -11,6 +11,7 @@ use Rattle.normalizer_tables.specs.Pairs.{Pair}
 use Rattle.normalizer_tables.specs.SoundData.{IsSoundData}
 use Rattle.normalizer_tables.proofs.AcceptedLaws.{IsSoundData-accepted, SuitsMapper-accepted}
 use Rattle.normalizer_tables.proofs.ListLengths.{length-list_of}
+use Rattle.normalizer_tables.proofs.LoadedLemmas.{parts_met}
 use Rattle.normalizer_tables.proofs.SoundLists.{BeginsWithStarter-list_of}
 use Rattle.normalizer_iterators.specs.LazyReading.{decomposing_reading, SuitsLazyReading}
 use Rattle.normalizer_calls.specs.Acceptance.{bounds_of}
@@ -36,8 +37,9 @@ SuitsLazyReading-either s b sound i = record {
 pub ServesMapper-met : (s : Characters) (pairs : List Pair) → SuitsComposing (s, pairs) → ServesMapper (s, pairs) (bounds_of s.decompositions)
 ServesMapper-met s pairs met =
     let b = bounds_of s.decompositions in
+    let parts = parts_met s pairs met in
     record {
-      reading = SuitsLazyReading-either s b (IsSoundData-accepted s b met.conditions);
-      composing = SuitsLazyComposing-met s pairs met;
-      laws = SuitsMapper-accepted s b pairs met.conditions met.pair_conditions;
+      reading = SuitsLazyReading-either s b (IsSoundData-accepted s b parts.0);
+      composing = SuitsLazyComposing-met s pairs parts.0 parts.1;
+      laws = SuitsMapper-accepted s b pairs parts.0 parts.1;
     }

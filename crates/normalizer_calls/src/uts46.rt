@@ -14,11 +14,13 @@ ghost use Rattle.normalizer_calls.specs.Uts46.{
   ServesMapper,
 };
 
-use crate::composing_normalizer::check_composing;
 use normalizer_iterators::composition::composed;
 use normalizer_iterators::{Composition, NormalizeError};
 use normalizer_tables::characters::{CharacterData, IgnoredCharacters};
-use normalizer_tables::condition::Bounds;
+use normalizer_tables::check::first_failing;
+use normalizer_tables::condition::{Bounds, MAPPING};
+use normalizer_tables::loaded::LoadedData;
+use normalizer_tables::refusal::refusal_of;
 use normalizer_tables::{
     CanonicalCompositions, DataError, DataMarkerInfo, DataProvider, DecompositionData,
     DecompositionTables, NormalizerNfcV1, NormalizerNfdTablesV1, NormalizerNfkdTablesV1,
@@ -76,14 +78,16 @@ impl Uts46Mapper {
             (mapper_data decompositions tables supplementary pairs)) }
     {
         let characters = CharacterData::new(&decompositions, &tables, Some(&supplementary), true);
-        match check_composing(DataMarkerInfo::NormalizerUts46DataV1, &characters, &pairs) {
-            Ok(()) => Ok(Uts46Mapper {
+        let bounds = Bounds::of_cap(characters.cap());
+        let loaded = LoadedData::new(characters, bounds, Some(&pairs), None);
+        match first_failing(&loaded, &MAPPING) {
+            Some(condition) => Err(refusal_of(DataMarkerInfo::NormalizerUts46DataV1, condition)),
+            None => Ok(Uts46Mapper {
                 decompositions,
                 tables,
                 supplementary,
                 pairs,
             }),
-            Err(error) => Err(error),
         }
     }
 

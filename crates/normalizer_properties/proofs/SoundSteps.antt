@@ -12,7 +12,8 @@ use Rattle.normalizer_tables.specs.Conditions.{Holds, HoldsAt}
 use Rattle.normalizer_tables.specs.Data.{Supplement}
 use Rattle.normalizer_tables.specs.Hangul.{is_hangul_syllable}
 use Rattle.normalizer_tables.specs.declared.condition.Bounds.{Bounds}
-use Rattle.normalizer_tables.specs.StepConditions.{HasSoundStep, HoldsOfSteps, IsInOrder, IsSoundStep}
+use Rattle.normalizer_tables.specs.StepConditions.{HasSoundStep, HoldsOfSteps, IsInOrder, IsSoundStep, StepsHoldAt}
+use Rattle.normalizer_tables.specs.Loaded.{IsMet}
 use Rattle.normalizer_tables.specs.Steps.{step_of}
 use Rattle.normalizer_tables.proofs.CharacterLemmas.{list_of-default}
 use Rattle.normalizer_tables.proofs.HangulLemmas.{is_hangul_syllable-true}
@@ -65,7 +66,7 @@ module _ (s : Characters) (t : Supplement) (b : Bounds) where
 
   module _ (hangul : Holds s b Hangul) (in_order : Holds s b Order) (sound : HoldsOfSteps s t Steps) (n : ℕ) (of_character : IsScalar n) where
     given : (syllable : Bool) → is_hangul_syllable n ≡ syllable → step_of s t n ≢ None
-    unfolding HoldsOfSteps HasSoundStep
+    unfolding HoldsOfSteps StepsHoldAt HasSoundStep
     given true h none =
         let range = is_hangul_syllable-true n h in
         let m = has_mapping n range.0 range.1 in
@@ -73,7 +74,7 @@ module _ (s : Characters) (t : Supplement) (b : Bounds) where
     given false h none = subst (λ o. IsSomeAnd o (IsSoundStep s n)) none (sound n of_character h)
 
     means : (syllable : Bool) → is_hangul_syllable n ≡ syllable → (step : Step) → step_of s t n ≡ Some step → MeansInLists s n step
-    unfolding HoldsOfSteps HasSoundStep
+    unfolding HoldsOfSteps StepsHoldAt HasSoundStep
     means true h step e =
         let range = is_hangul_syllable-true n h in
         let m = has_mapping n range.0 range.1 in
@@ -81,10 +82,11 @@ module _ (s : Characters) (t : Supplement) (b : Bounds) where
     means false h step e = MeansInLists-sound in_order n step (subst (λ o. IsSomeAnd o (IsSoundStep s n)) e (sound n of_character h))
 
 pub HasSteps-met : (h : StepData) → SuitsSteps h → HasSteps h.0 h.1
+unfolding IsMet
 HasSteps-met h suits =
-    let hangul = suits.conditions 2 Hangul (omega arith) in
-    let in_order = suits.conditions 5 Order (omega arith) in
-    let sound = suits.step_conditions 1 Steps (omega arith) in
+    let hangul = (suits 2 Hangul (omega arith)).0 in
+    let in_order = (suits 5 Order (omega arith)).0 in
+    let sound = (suits 7 Steps (omega arith)).2 in
     record {
       given = λ n of_character. given h.0 h.1 _ hangul in_order sound n of_character (is_hangul_syllable n) refl;
       means = λ n of_character step e. means h.0 h.1 _ hangul in_order sound n of_character (is_hangul_syllable n) refl step e;

@@ -1,15 +1,14 @@
 -- Data by which characters are decomposed one step.
-use Rattle.std.specs.Prelude.{◌≡◌, ◌⊎◌, Option, Some, None, Result, Ok, Err, All}
+use Rattle.std.specs.Prelude.{Option, Some, None, Result, Ok, Err, All}
 use Rattle.normalizer_tables.specs.declared.provider.DataError.{DataError}
 use Rattle.normalizer_tables.specs.declared.provider.DataMarkerInfo.{DataMarkerInfo}
 use Rattle.normalizer_tables.specs.declared.provider.DataMarkerInfo.TheVariants as marker
-use Rattle.normalizer_tables.specs.declared.condition.Condition.{Condition}
+use Rattle.normalizer_tables.specs.AcceptedData.{step_conditions}
 use Rattle.normalizer_tables.specs.Characters.{Characters}
-use Rattle.normalizer_tables.specs.Conditions.{Holds, IsFirstFailing}
 use Rattle.normalizer_tables.specs.Data.{Decompositions, Lists, Supplement}
+use Rattle.normalizer_tables.specs.Loaded.{IsMet, Loaded}
 use Rattle.normalizer_tables.specs.NfdData.{nfd_bounds, nfd_characters}
-use Rattle.normalizer_tables.specs.Refusals.{RefusesFirstFailing, refusal_of}
-use Rattle.normalizer_tables.specs.StepConditions.{HoldsOfSteps, conditions_before_steps, step_conditions}
+use Rattle.normalizer_tables.specs.Refusals.{RefusesFirstFailing}
 
 -- canonical data and the supplement
 abbrev pub StepData : Type 0
@@ -25,15 +24,14 @@ step_data (Some decompositions) None supplement = Err marker.NormalizerNfdTables
 step_data (Some decompositions) (Some tables) None = Err marker.NormalizerNfdSupplementV1
 step_data (Some decompositions) (Some tables) (Some supplement) = Ok (steps_from decompositions tables supplement)
 
--- data that meet conditions 1, 5 to 9, 15 and 16
-pub record SuitsSteps (h : StepData) : Type 0 where
-  pub conditions : All (Holds h.0 nfd_bounds) conditions_before_steps
-  pub step_conditions : All (HoldsOfSteps h.0 h.1) step_conditions
+-- the data and the supplement as they were loaded
+abbrev pub steps_loaded : StepData → Loaded
+steps_loaded h = record { characters = h.0; bounds = nfd_bounds; pairs = None; supplement = Some h.1 }
 
--- the answer for the first of them that fails: those on steps come after the others
+-- data that meet conditions 1, 5 to 9, 15 and 16
+abbrev pub SuitsSteps : StepData → Type 0
+SuitsSteps h = All (IsMet (steps_loaded h)) step_conditions
+
+-- the answer for the first of them that fails
 abbrev pub RefusesSteps : DataMarkerInfo → StepData → DataError → Type 0
-RefusesSteps kind h e =
-    RefusesFirstFailing kind h.0 nfd_bounds conditions_before_steps e
-    ⊎ (All (Holds h.0 nfd_bounds) conditions_before_steps
-    × ((c : Condition) × IsFirstFailing (HoldsOfSteps h.0 h.1) step_conditions (Some c)
-    × (e ≡ refusal_of kind c)))
+RefusesSteps kind h e = RefusesFirstFailing kind (steps_loaded h) step_conditions e

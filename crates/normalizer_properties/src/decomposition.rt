@@ -12,10 +12,11 @@ ghost use Rattle.normalizer_properties.specs.StepData.{
 ghost use Rattle.normalizer_properties.specs.StepMeaning.{HasSteps, MeansInLists};
 
 use normalizer_tables::characters::CharacterData;
-use normalizer_tables::condition::Bounds;
+use normalizer_tables::check::first_failing;
+use normalizer_tables::condition::{Bounds, STEPPING};
+use normalizer_tables::loaded::LoadedData;
 use normalizer_tables::refusal::refusal_of;
 use normalizer_tables::step::{Step as Decomposed, step_of};
-use normalizer_tables::step_check::{first_failing_before_steps, first_failing_of_steps};
 use normalizer_tables::{
     DataError, DataMarkerInfo, DataProvider, DecompositionData, DecompositionTables,
     NonRecursiveDecompositionSupplement, NormalizerNfdDataV1, NormalizerNfdSupplementV1,
@@ -27,25 +28,6 @@ const BOUNDS: Bounds = Bounds {
     decomposition: 0xC0,
     composition: 0x0300,
 };
-
-/// Refuses data and a supplement that break a condition which is asked where characters are decomposed one step, and
-/// names the first.
-fn check_steps(
-    marker: DataMarkerInfo,
-    characters: &CharacterData<'_>,
-    supplement: &NonRecursiveDecompositionSupplement,
-) -> Result<(), DataError>
-    ensures ok { IfOk result (λ _. SuitsSteps (characters.now, supplement.now)) }
-    ensures err { IfErr result (RefusesSteps marker (characters.now, supplement.now)) }
-{
-    if let Some(condition) = first_failing_before_steps(characters, BOUNDS) {
-        return Err(refusal_of(marker, condition));
-    }
-    match first_failing_of_steps(characters, supplement) {
-        Some(condition) => Err(refusal_of(marker, condition)),
-        None => Ok(()),
-    }
-}
 
 /// One step of canonical decomposition.
 #[derive(Drop)]
@@ -90,12 +72,15 @@ impl CanonicalDecomposition {
         ensures err { IfErr result (RefusesSteps marker (steps_from decompositions tables supplement)) }
     {
         let characters = CharacterData::new(&decompositions, &tables, None, false);
-        check_steps(marker, &characters, &supplement)?;
-        Ok(CanonicalDecomposition {
-            decompositions,
-            tables,
-            supplement,
-        })
+        let loaded = LoadedData::new(characters, BOUNDS, None, Some(&supplement));
+        match first_failing(&loaded, &STEPPING) {
+            Some(condition) => Err(refusal_of(marker, condition)),
+            None => Ok(CanonicalDecomposition {
+                decompositions,
+                tables,
+                supplement,
+            }),
+        }
     }
 
     /// The steps by borrowed data.
