@@ -1,5 +1,6 @@
 pub mod AcceptedData
 pub mod CheckLemmas
 pub mod MapperLemmas
+pub mod OwnedLemmas
 pub mod SoundPairs
 pub mod WritingLemmas

@@ -6,6 +6,7 @@ pub mod Forms
 pub mod FormsWritten
 pub mod Mappers
 pub mod Normalizers
+pub mod Owned
 pub mod Serving
 pub mod Uts46
 pub mod Writing

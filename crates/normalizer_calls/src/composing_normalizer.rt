@@ -142,7 +142,7 @@ impl ComposingNormalizer {
 /// A normalizer to a composed form, over borrowed data.
 #[derive(Drop)]
 pub struct ComposingNormalizerBorrowed<'a> {
-    characters: CharacterData<'a>,
+    pub(crate) characters: CharacterData<'a>,
     pairs: &'a CanonicalCompositions,
     bounds: Bounds,
     ghost serves: { ServesComposing characters bounds pairs.now },

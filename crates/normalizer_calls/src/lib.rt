@@ -1,0 +1,19 @@
+//! Normalizers over data that a provider holds, and over canonical data that a caller answers for; and the mapper.
+#![tactic(auto)]
+
+mod checks;
+mod composing_normalizer;
+mod form_items;
+mod normalizer;
+mod offence;
+mod owned;
+mod splits;
+mod to_sinks;
+mod unchecked;
+mod uts46;
+mod writing;
+
+pub use composing_normalizer::{ComposingNormalizer, ComposingNormalizerBorrowed};
+pub use normalizer::{DecomposingNormalizer, DecomposingNormalizerBorrowed};
+pub use normalizer_input::Offence;
+pub use uts46::{Uts46Mapper, Uts46MapperBorrowed};

@@ -1,0 +1,14 @@
+use Rattle.normalizer_calls.proofs.CheckLemmas.{boundary_at_cut}
+use Rattle.normalizer_calls.proofs.OwnedLemmas.{written_from_cut}
+use Rattle.normalizer_calls.proofs.owned.write_from_cut.Goals as goal
+
+pub before-requires : goal.before-requires
+before-requires g c = boundary_at_cut _ _ _ _ _ c.requires
+
+pub after-requires : goal.after-requires
+after-requires g c = boundary_at_cut _ _ _ _ _ c.requires
+
+pub returns : goal.returns
+returns g c =
+    let took = rw c.in_ok-write_piece.was at c.write_piece.ensures in
+    written_from_cut g.O.Output.taken _ _ _ _ _ c.requires _ _ _ _ _ _ c.before-2.ensures c.after.ensures took.written.appends c.form_to.ensures.text.written

@@ -1,0 +1,164 @@
+//! The forms of text, bytes and 16-bit units, borrowed from the input where it is its own form.
+ghost use Rattle.std.specs.Prelude.{◌≡◌, ◌++◌, [], IfOk, IsOk, IsOkUnless, OnOk};
+ghost use Rattle.std.specs.Cow.{cow_slice_items, cow_str_bytes, IsBorrowedSlice, IsBorrowedStr};
+ghost use Rattle.normal_forms.specs.ShortRuns.{HasShortRuns};
+ghost use Rattle.normalizer_text.specs.Encodings.{Encoding, decoded_in};
+ghost use Rattle.normalizer_input.specs.EncodedForm.{encoded_form};
+ghost use Rattle.normalizer_input.specs.InputCut.{IsInputCut, IsInputNormalized};
+ghost use Rattle.normalizer_calls.specs.Forms.{composed_by, decomposed_by, made_form};
+ghost use Rattle.normalizer_calls.specs.Owned.{HandsOutForm, WroteUnlessOwn};
+
+use crate::form_items::FormItems;
+use crate::offence::{LawfulItems, cut_of};
+use crate::splits::text_of;
+use crate::writing::form_to;
+use crate::{ComposingNormalizerBorrowed, DecomposingNormalizerBorrowed};
+use normalizer_iterators::NormalizeError;
+use normalizer_text::check_sink::Expected;
+use normalizer_text::output::Output;
+use normalizer_text::{Chars, Units};
+use std::alloc::Global;
+use std::borrow::{CowSlice, CowStr};
+
+/// Writes the form of units that are cut at a place: the prefix as it is, and the form of the rest.
+fn write_from_cut<U: Units, N: FormItems<Chars<U>>, O: Output<U>>(
+    normalizer: &N,
+    units: U,
+    place: usize,
+    output: &mut O,
+) -> Result<(), NormalizeError>
+    requires { IsInputCut U.encoding (N.reading normalizer.now) N.form (U.units units) place }
+    ensures { OnOk result (O.taken output.new ≡
+        O.taken output.old ++ encoded_form U.encoding (N.reading normalizer.now) N.form (U.units units)) }
+{
+    output.write_piece(units.before(place))?;
+    form_to(normalizer, units.after(place), output)
+}
+
+/// Writes the form of the units, unless they are well-formed and their own form. A refused write is want of memory.
+fn write_unless_own<U: Expected, N: LawfulItems<Chars<U>>, O: Output<U>>(
+    normalizer: &N,
+    units: U,
+    output: &mut O,
+) -> Result<bool, NormalizeError>
+    ensures wrote { IfOk result (λ own. WroteUnlessOwn O.taken
+        (made_form (N.has_class_form normalizer.now) (N.reading normalizer.now) N.form)
+        U.encoding (U.units units) output.old own output.new) }
+    ensures room { HasShortRuns (N.has_class_form normalizer.now) (N.reading normalizer.now)
+        (decoded_in U.encoding (U.units units)) →
+        IsInputNormalized U.encoding (N.reading normalizer.now) N.form (U.units units) → IsOk result }
+    ensures refused { IsOkUnless result NormalizeError.Memory }
+{
+    let Some(place) = cut_of(normalizer, units)? else {
+        return Ok(true);
+    };
+    match write_from_cut(normalizer, units, place, output) {
+        Ok(()) => Ok(false),
+        Err(_) => Err(NormalizeError::Memory),
+    }
+}
+
+/// The form of a text.
+fn form_of_str<'t, N: LawfulItems<Chars<&'t str>>>(
+    normalizer: &N,
+    alloc: Global,
+    text: &'t str,
+) -> Result<CowStr<'t, Global>, NormalizeError>
+    ensures { HandsOutForm cow_str_bytes IsBorrowedStr
+        (made_form (N.has_class_form normalizer.now) (N.reading normalizer.now) N.form) Encoding.Utf8 text.now result }
+{
+    let mut owned = String::new(alloc);
+    if write_unless_own::<&'t str, N, String>(normalizer, text, &mut owned)? {
+        Ok(CowStr::Borrowed(text))
+    } else {
+        Ok(CowStr::Owned(owned))
+    }
+}
+
+/// The form of what bytes decode to.
+fn form_of_bytes<'t, N: LawfulItems<Chars<&'t [u8]>>>(
+    normalizer: &N,
+    alloc: Global,
+    bytes: &'t [u8],
+) -> Result<CowStr<'t, Global>, NormalizeError>
+    ensures { HandsOutForm cow_str_bytes IsBorrowedStr
+        (made_form (N.has_class_form normalizer.now) (N.reading normalizer.now) N.form) Encoding.Utf8 bytes.now result }
+{
+    let mut owned = String::new(alloc);
+    if write_unless_own::<&'t [u8], N, String>(normalizer, bytes, &mut owned)? {
+        Ok(CowStr::Borrowed(text_of(bytes)))
+    } else {
+        Ok(CowStr::Owned(owned))
+    }
+}
+
+/// The form of what 16-bit units decode to.
+fn form_of_utf16<'t, N: LawfulItems<Chars<&'t [u16]>>>(
+    normalizer: &N,
+    alloc: Global,
+    units: &'t [u16],
+) -> Result<CowSlice<'t, u16, Global>, NormalizeError>
+    ensures { HandsOutForm cow_slice_items IsBorrowedSlice
+        (made_form (N.has_class_form normalizer.now) (N.reading normalizer.now) N.form) Encoding.Utf16 units.now result }
+{
+    let mut owned = Vec::new(alloc);
+    if write_unless_own::<&'t [u16], N, Vec<u16>>(normalizer, units, &mut owned)? {
+        Ok(CowSlice::Borrowed(units))
+    } else {
+        Ok(CowSlice::Owned(owned))
+    }
+}
+
+impl<'a> DecomposingNormalizerBorrowed<'a> {
+    /// The decomposed form of a text, borrowed exactly where the text is its own.
+    pub fn normalize<'t>(&self, text: &'t str) -> Result<CowStr<'t, Global>, NormalizeError>
+        ensures { HandsOutForm cow_str_bytes IsBorrowedStr (decomposed_by self.now) Encoding.Utf8 text.now result }
+    {
+        form_of_str(self, self.characters.allocator(), text)
+    }
+
+    /// The decomposed form of what bytes decode to, borrowed exactly where they are well-formed and their own.
+    pub fn normalize_utf8<'t>(&self, bytes: &'t [u8]) -> Result<CowStr<'t, Global>, NormalizeError>
+        ensures { HandsOutForm cow_str_bytes IsBorrowedStr (decomposed_by self.now) Encoding.Utf8 bytes.now result }
+    {
+        form_of_bytes(self, self.characters.allocator(), bytes)
+    }
+
+    /// The decomposed form of what 16-bit units decode to, borrowed exactly where they are well-formed and their own.
+    pub fn normalize_utf16<'t>(
+        &self,
+        units: &'t [u16],
+    ) -> Result<CowSlice<'t, u16, Global>, NormalizeError>
+        ensures { HandsOutForm cow_slice_items IsBorrowedSlice
+            (decomposed_by self.now) Encoding.Utf16 units.now result }
+    {
+        form_of_utf16(self, self.characters.allocator(), units)
+    }
+}
+
+impl<'a> ComposingNormalizerBorrowed<'a> {
+    /// The composed form of a text, borrowed exactly where the text is its own.
+    pub fn normalize<'t>(&self, text: &'t str) -> Result<CowStr<'t, Global>, NormalizeError>
+        ensures { HandsOutForm cow_str_bytes IsBorrowedStr (composed_by self.now) Encoding.Utf8 text.now result }
+    {
+        form_of_str(self, self.characters.allocator(), text)
+    }
+
+    /// The composed form of what bytes decode to, borrowed exactly where they are well-formed and their own.
+    pub fn normalize_utf8<'t>(&self, bytes: &'t [u8]) -> Result<CowStr<'t, Global>, NormalizeError>
+        ensures { HandsOutForm cow_str_bytes IsBorrowedStr (composed_by self.now) Encoding.Utf8 bytes.now result }
+    {
+        form_of_bytes(self, self.characters.allocator(), bytes)
+    }
+
+    /// The composed form of what 16-bit units decode to, borrowed exactly where they are well-formed and their own.
+    pub fn normalize_utf16<'t>(
+        &self,
+        units: &'t [u16],
+    ) -> Result<CowSlice<'t, u16, Global>, NormalizeError>
+        ensures { HandsOutForm cow_slice_items IsBorrowedSlice
+            (composed_by self.now) Encoding.Utf16 units.now result }
+    {
+        form_of_utf16(self, self.characters.allocator(), units)
+    }
+}
