@@ -7,7 +7,7 @@ pub mod uts46;
 pub use normalizer_builder::{Built, Records};
 pub use normalizer_calls::{
     ComposingNormalizer, ComposingNormalizerBorrowed, DecomposingNormalizer,
-    DecomposingNormalizerBorrowed,
+    DecomposingNormalizerBorrowed, Offence,
 };
 pub use normalizer_iterators::{Composition, Decomposition, NormalizeError};
 pub use normalizer_properties::harfbuzz;
