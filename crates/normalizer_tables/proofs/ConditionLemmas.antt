@@ -9,8 +9,7 @@ use Rattle.normal_forms.specs.Order.{order, insert}
 use Rattle.normalizer_tables.specs.declared.word.WordReading.TheVariants.{Ignored, Itself}
 use Rattle.normalizer_tables.specs.declared.condition.Bounds.{Bounds}
 use Rattle.normalizer_tables.specs.declared.condition.Condition.{Condition}
-use Rattle.normalizer_tables.specs.declared.condition.Condition.TheVariants.{ItemLimit, CapLimit, ReplacementCharacter, Surrogates, PastTheEnd, Hangul, Words, Members, Order, Passthrough}
-use Rattle.normalizer_tables.specs.declared.condition.Condition.TheVariants.{Pairs, RoundTrip, SafeBeginning, Results, FdfaForms, Steps, SurrogateClasses, WordClasses, PairOrder}
+use Rattle.normalizer_tables.specs.declared.condition.Condition.TheVariants.{Surrogates, Hangul, Words, Members, Order, Passthrough}
 use Rattle.normalizer_tables.specs.Table.{code_points}
 use Rattle.normalizer_tables.specs.Hangul.{is_hangul_syllable}
 use Rattle.normalizer_tables.specs.SpecialLists.{fixed_list_of}
@@ -146,25 +145,13 @@ no_surrogate n h k = grind (arith, nat_tests)
 -- a plain word breaks no condition but the one on Hangul syllables
 pub HoldsAt-plain : (s : Characters) (b : Bounds) (c : Condition) (n : ℕ) → scalar n ≡ true → is_plain (word_of s n) ≡ true → (c ≡ Hangul → ⊥) → HoldsAt s b c n
 unfolding HoldsAt
-HoldsAt-plain s b ItemLimit n h plain other = tt
-HoldsAt-plain s b CapLimit n h plain other = tt
-HoldsAt-plain s b ReplacementCharacter n h plain other = tt
 HoldsAt-plain s b Surrogates n h plain other = λ q. absurd (no_surrogate n h q)
-HoldsAt-plain s b PastTheEnd n h plain other = tt
 HoldsAt-plain s b Hangul n h plain other = absurd (other refl)
 HoldsAt-plain s b Words n h plain other = λ q. IsSoundWord-plain s n h plain
 HoldsAt-plain s b Members n h plain other = λ q. reads_in_full-plain s n h plain
 HoldsAt-plain s b Order n h plain other = λ q. IsOrderedList-plain s n h plain
 HoldsAt-plain s b Passthrough n h plain other = λ q below. IsPlainStarter-plain s n h plain
-HoldsAt-plain s b Pairs n h plain other = tt
-HoldsAt-plain s b RoundTrip n h plain other = tt
-HoldsAt-plain s b SafeBeginning n h plain other = tt
-HoldsAt-plain s b Results n h plain other = tt
-HoldsAt-plain s b FdfaForms n h plain other = tt
-HoldsAt-plain s b Steps n h plain other = tt
-HoldsAt-plain s b SurrogateClasses n h plain other = tt
-HoldsAt-plain s b WordClasses n h plain other = tt
-HoldsAt-plain s b PairOrder n h plain other = tt
+HoldsAt-plain s b _ n h plain other = tt
 
 IsSoundHangul-plain : (s : Characters) (n : ℕ) → scalar n ≡ true → is_plain (word_of s n) ≡ true → is_hangul_syllable n ≡ false → IsSoundHangul s n
 IsSoundHangul-plain s n h plain none = record {
@@ -199,48 +186,24 @@ jamo-scalar n h = grind (arith, nat_tests)
 -- a number that is no scalar value breaks no condition but the one on surrogates
 pub HoldsAt-elsewhere : (s : Characters) (b : Bounds) (c : Condition) (n : ℕ) → (IsScalar n → ⊥) → (c ≡ Surrogates → ⊥) → HoldsAt s b c n
 unfolding HoldsAt
-HoldsAt-elsewhere s b ItemLimit n h other = tt
-HoldsAt-elsewhere s b CapLimit n h other = tt
-HoldsAt-elsewhere s b ReplacementCharacter n h other = tt
 HoldsAt-elsewhere s b Surrogates n h other = absurd (other refl)
-HoldsAt-elsewhere s b PastTheEnd n h other = tt
 HoldsAt-elsewhere s b Hangul n h other = record { syllable = λ q. absurd (h (syllable-scalar n q)); jamo = λ q. absurd (h (jamo-scalar n q)) }
 HoldsAt-elsewhere s b Words n h other = λ q. absurd (h q)
 HoldsAt-elsewhere s b Members n h other = λ q. absurd (h q)
 HoldsAt-elsewhere s b Order n h other = λ q. absurd (h q)
 HoldsAt-elsewhere s b Passthrough n h other = λ q below. absurd (h q)
-HoldsAt-elsewhere s b Pairs n h other = tt
-HoldsAt-elsewhere s b RoundTrip n h other = tt
-HoldsAt-elsewhere s b SafeBeginning n h other = tt
-HoldsAt-elsewhere s b Results n h other = tt
-HoldsAt-elsewhere s b FdfaForms n h other = tt
-HoldsAt-elsewhere s b Steps n h other = tt
-HoldsAt-elsewhere s b SurrogateClasses n h other = tt
-HoldsAt-elsewhere s b WordClasses n h other = tt
-HoldsAt-elsewhere s b PairOrder n h other = tt
+HoldsAt-elsewhere s b _ n h other = tt
 
 -- what is left of a scalar value
 pub HoldsAt-others : (s : Characters) (b : Bounds) (c : Condition) (n : ℕ) → IsScalar n → (c ≡ Hangul → ⊥) → (c ≡ Words → ⊥) → (c ≡ Members → ⊥) → (c ≡ Order → ⊥) → (c ≡ Passthrough → ⊥) → HoldsAt s b c n
 unfolding HoldsAt
-HoldsAt-others s b ItemLimit n h h1 h2 h3 h4 h5 = tt
-HoldsAt-others s b CapLimit n h h1 h2 h3 h4 h5 = tt
-HoldsAt-others s b ReplacementCharacter n h h1 h2 h3 h4 h5 = tt
 HoldsAt-others s b Surrogates n h h1 h2 h3 h4 h5 = λ q. absurd (no_surrogate n h q)
-HoldsAt-others s b PastTheEnd n h h1 h2 h3 h4 h5 = tt
 HoldsAt-others s b Hangul n h h1 h2 h3 h4 h5 = absurd (h1 refl)
 HoldsAt-others s b Words n h h1 h2 h3 h4 h5 = absurd (h2 refl)
 HoldsAt-others s b Members n h h1 h2 h3 h4 h5 = absurd (h3 refl)
 HoldsAt-others s b Order n h h1 h2 h3 h4 h5 = absurd (h4 refl)
 HoldsAt-others s b Passthrough n h h1 h2 h3 h4 h5 = absurd (h5 refl)
-HoldsAt-others s b Pairs n h h1 h2 h3 h4 h5 = tt
-HoldsAt-others s b RoundTrip n h h1 h2 h3 h4 h5 = tt
-HoldsAt-others s b SafeBeginning n h h1 h2 h3 h4 h5 = tt
-HoldsAt-others s b Results n h h1 h2 h3 h4 h5 = tt
-HoldsAt-others s b FdfaForms n h h1 h2 h3 h4 h5 = tt
-HoldsAt-others s b Steps n h h1 h2 h3 h4 h5 = tt
-HoldsAt-others s b SurrogateClasses n h h1 h2 h3 h4 h5 = tt
-HoldsAt-others s b WordClasses n h h1 h2 h3 h4 h5 = tt
-HoldsAt-others s b PairOrder n h h1 h2 h3 h4 h5 = tt
+HoldsAt-others s b _ n h h1 h2 h3 h4 h5 = tt
 
 -- the first and only member
 pub one_member : (x : List ℕ) (n : ℕ) → length x ≡ 1 → slice_get x 0 ≡ Some n → x ≡ n ∷ []
@@ -282,21 +245,9 @@ no_surrogate_past n h k = grind (arith, nat_tests)
 pub HoldsAt-past : (s : Characters) (b : Bounds) (c : Condition) (n : ℕ) → code_points ≤ n → HoldsAt s b c n
 unfolding HoldsAt
 HoldsAt-past s b Surrogates n h = λ q. absurd (no_surrogate_past n h q)
-HoldsAt-past s b ItemLimit n h = tt
-HoldsAt-past s b CapLimit n h = tt
-HoldsAt-past s b ReplacementCharacter n h = tt
-HoldsAt-past s b PastTheEnd n h = tt
 HoldsAt-past s b Hangul n h = HoldsAt-elsewhere s b Hangul n (no_scalar_past n h) (λ e. cc)
 HoldsAt-past s b Words n h = λ q. absurd (no_scalar_past n h q)
 HoldsAt-past s b Members n h = λ q. absurd (no_scalar_past n h q)
 HoldsAt-past s b Order n h = λ q. absurd (no_scalar_past n h q)
 HoldsAt-past s b Passthrough n h = λ q. absurd (no_scalar_past n h q)
-HoldsAt-past s b Pairs n h = tt
-HoldsAt-past s b RoundTrip n h = tt
-HoldsAt-past s b SafeBeginning n h = tt
-HoldsAt-past s b Results n h = tt
-HoldsAt-past s b FdfaForms n h = tt
-HoldsAt-past s b Steps n h = tt
-HoldsAt-past s b SurrogateClasses n h = tt
-HoldsAt-past s b WordClasses n h = tt
-HoldsAt-past s b PairOrder n h = tt
+HoldsAt-past s b _ n h = tt

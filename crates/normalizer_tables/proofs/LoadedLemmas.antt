@@ -1,11 +1,10 @@
 -- What the conditions say of all that was loaded, part by part.
-use Rattle.std.proofs.Common.{◌≡◌, ◌↔◌, ℕ, ◌<◌, ◌≤◌, ◌⊎◌, inl, inr, Bool, true, ◌+◌, List, ◌++◌, length, All, Option, Some, None, IfSome, IsTrue, refl, subst, arith}
+use Rattle.std.proofs.Common.{◌≡◌, ◌↔◌, ℕ, ◌<◌, ◌≤◌, ◌⊎◌, inl, inr, Bool, true, ◌+◌, List, ◌++◌, length, All, Option, Some, None, IfSome, IsTrue, refl, sym, subst, arith}
 use Rattle.std.proofs.lemmas.Bool.{cases_lt}
 use Rattle.std.proofs.lemmas.List.{get_or_append_left, get_or-append-add, length-append}
 use Rattle.normalizer_tables.specs.declared.condition.Bounds.{Bounds}
 use Rattle.normalizer_tables.specs.declared.condition.Condition.{Condition}
-use Rattle.normalizer_tables.specs.declared.condition.Condition.TheVariants.{ItemLimit, CapLimit, ReplacementCharacter, Surrogates, PastTheEnd, Hangul, Words, Members, Order, Passthrough}
-use Rattle.normalizer_tables.specs.declared.condition.Condition.TheVariants.{Pairs, RoundTrip, SafeBeginning, Results, FdfaForms, Steps, SurrogateClasses, WordClasses, PairOrder}
+use Rattle.normalizer_tables.specs.declared.condition.Condition.TheVariants.{RoundTrip, SafeBeginning, FdfaForms, Steps}
 use Rattle.normalizer_tables.specs.AcceptedData.{AreAcceptedPairs, IsAccepted, composing_conditions, decomposing_conditions, pair_conditions}
 use Rattle.normalizer_tables.specs.Characters.{Characters}
 use Rattle.normalizer_tables.specs.Conditions.{Holds, HoldsAt, HoldsOverall}
@@ -61,25 +60,9 @@ parts_met s pairs met = (
 -- of numbers past the code points little is said
 PairsHoldAt-past : (s : Characters) (b : Bounds) (pairs : List Pair) (c : Condition) (n : ℕ) → code_points ≤ n → PairsHoldAt s b pairs c n
 unfolding PairsHoldAt KeepsRoundTrip KeepsBeginning
-PairsHoldAt-past s b pairs ItemLimit n h = tt
-PairsHoldAt-past s b pairs CapLimit n h = tt
-PairsHoldAt-past s b pairs ReplacementCharacter n h = tt
-PairsHoldAt-past s b pairs Surrogates n h = tt
-PairsHoldAt-past s b pairs PastTheEnd n h = tt
-PairsHoldAt-past s b pairs Hangul n h = tt
-PairsHoldAt-past s b pairs Words n h = tt
-PairsHoldAt-past s b pairs Members n h = tt
-PairsHoldAt-past s b pairs Order n h = tt
-PairsHoldAt-past s b pairs Passthrough n h = tt
-PairsHoldAt-past s b pairs Pairs n h = tt
 PairsHoldAt-past s b pairs RoundTrip n h = λ q. absurd (no_scalar_past n h q)
 PairsHoldAt-past s b pairs SafeBeginning n h = λ q. absurd (no_scalar_past n h q)
-PairsHoldAt-past s b pairs Results n h = tt
-PairsHoldAt-past s b pairs FdfaForms n h = tt
-PairsHoldAt-past s b pairs Steps n h = tt
-PairsHoldAt-past s b pairs SurrogateClasses n h = tt
-PairsHoldAt-past s b pairs WordClasses n h = tt
-PairsHoldAt-past s b pairs PairOrder n h = tt
+PairsHoldAt-past s b pairs _ n h = tt
 
 -- a condition that holds overall and of all numbers up to the first past the code points holds
 characters_within : (s : Characters) (b : Bounds) (c : Condition) → HoldsOverall s c → ((n : ℕ) → n ≤ 0x110000 → HoldsAt s b c n) → Holds s b c
@@ -94,25 +77,9 @@ pairs_within s b (Some pairs) c overall each = (overall, λ n. elim (cases_lt 0x
 
 steps_within : (s : Characters) (t : Supplement) (c : Condition) → IsComplete s.decompositions.table → ((n : ℕ) → n ≤ 0x110000 → StepsHoldAt s t c n) → HoldsOfSteps s t c
 unfolding HoldsOfSteps StepsHoldAt HasSoundStep
-steps_within s t ItemLimit complete each = λ n. tt
-steps_within s t CapLimit complete each = λ n. tt
-steps_within s t ReplacementCharacter complete each = λ n. tt
-steps_within s t Surrogates complete each = λ n. tt
-steps_within s t PastTheEnd complete each = λ n. tt
-steps_within s t Hangul complete each = λ n. tt
-steps_within s t Words complete each = λ n. tt
-steps_within s t Members complete each = λ n. tt
-steps_within s t Order complete each = λ n. tt
-steps_within s t Passthrough complete each = λ n. tt
-steps_within s t Pairs complete each = λ n. tt
-steps_within s t RoundTrip complete each = λ n. tt
-steps_within s t SafeBeginning complete each = λ n. tt
-steps_within s t Results complete each = λ n. tt
 steps_within s t FdfaForms complete each = AvoidsFdfa-all s complete each
 steps_within s t Steps complete each = λ n h. each n (omega (arith, scalar_below n h)) h
-steps_within s t SurrogateClasses complete each = λ n. tt
-steps_within s t WordClasses complete each = λ n. tt
-steps_within s t PairOrder complete each = λ n. tt
+steps_within s t _ complete each = λ n. tt
 
 supplement_within : (s : Characters) (o : Option Supplement) (c : Condition) → IsComplete s.decompositions.table → ((n : ℕ) → n ≤ 0x110000 → IfSome o (λ t. StepsHoldAt s t c n)) → IfSome o (λ t. HoldsOfSteps s t c)
 supplement_within s None c complete each = tt
@@ -125,3 +92,56 @@ IsMet-within d c complete overall each = (
   pairs_within d.characters d.bounds d.pairs c overall.1 (λ n h. (each n h).1),
   supplement_within d.characters d.supplement c complete (λ n h. (each n h).2),
 )
+
+-- each condition is one on the characters by themselves, by the pairs or by the supplement
+PairsHoldAt-others : (s : Characters) (b : Bounds) (pairs : List Pair) (c : Condition) (n : ℕ) → (c ≡ RoundTrip → ⊥) → (c ≡ SafeBeginning → ⊥) → PairsHoldAt s b pairs c n
+unfolding PairsHoldAt
+PairsHoldAt-others s b pairs RoundTrip n h k = absurd (h refl)
+PairsHoldAt-others s b pairs SafeBeginning n h k = absurd (k refl)
+PairsHoldAt-others s b pairs _ n h k = tt
+
+StepsHoldAt-others : (s : Characters) (t : Supplement) (c : Condition) (n : ℕ) → (c ≡ FdfaForms → ⊥) → (c ≡ Steps → ⊥) → StepsHoldAt s t c n
+unfolding StepsHoldAt
+StepsHoldAt-others s t FdfaForms n h k = absurd (h refl)
+StepsHoldAt-others s t Steps n h k = absurd (k refl)
+StepsHoldAt-others s t _ n h k = tt
+
+IfSome-all : {A : Type 0} (P : A → Type 0) → ((a : A) → P a) → (o : Option A) → IfSome o P
+IfSome-all P f None = tt
+IfSome-all P f (Some a) = f a
+
+module _ (d : Loaded) (c : Condition) (n : ℕ) (r : Bool) where
+  pub IsMetAt-alone : (c ≡ RoundTrip → ⊥) → (c ≡ SafeBeginning → ⊥) → (c ≡ FdfaForms → ⊥) → (c ≡ Steps → ⊥) → IsTrue r ↔ HoldsAt d.characters d.bounds c n → IsTrue r ↔ IsMetAt d c n
+  unfolding IsMetAt
+  IsMetAt-alone no_trip no_beginning no_form no_step h = (
+    λ yes. (
+      h.0 yes,
+      IfSome-all _ (λ pairs. PairsHoldAt-others d.characters d.bounds pairs c n no_trip no_beginning) d.pairs,
+      IfSome-all _ (λ t. StepsHoldAt-others d.characters t c n no_form no_step) d.supplement,
+    ),
+    λ met. h.1 met.0,
+  )
+
+  pub IsMetAt-by_pairs : (c ≡ RoundTrip) ⊎ (c ≡ SafeBeginning) → IsTrue r ↔ IfSome d.pairs (λ pairs. PairsHoldAt d.characters d.bounds pairs c n) → IsTrue r ↔ IsMetAt d c n
+  unfolding IsMetAt HoldsAt StepsHoldAt
+  IsMetAt-by_pairs is h = (λ yes. (of_characters is, h.0 yes, IfSome-all _ (λ t. of_step is t) d.supplement), λ met. h.1 met.1)
+    where
+      of_characters : (c ≡ RoundTrip) ⊎ (c ≡ SafeBeginning) → HoldsAt d.characters d.bounds c n
+      of_characters (inl e) = subst (λ k. HoldsAt d.characters d.bounds k n) (sym e) tt
+      of_characters (inr e) = subst (λ k. HoldsAt d.characters d.bounds k n) (sym e) tt
+
+      of_step : (c ≡ RoundTrip) ⊎ (c ≡ SafeBeginning) → (t : Supplement) → StepsHoldAt d.characters t c n
+      of_step (inl e) t = subst (λ k. StepsHoldAt d.characters t k n) (sym e) tt
+      of_step (inr e) t = subst (λ k. StepsHoldAt d.characters t k n) (sym e) tt
+
+  pub IsMetAt-by_step : (c ≡ FdfaForms) ⊎ (c ≡ Steps) → IsTrue r ↔ IfSome d.supplement (λ t. StepsHoldAt d.characters t c n) → IsTrue r ↔ IsMetAt d c n
+  unfolding IsMetAt HoldsAt PairsHoldAt
+  IsMetAt-by_step is h = (λ yes. (of_characters is, IfSome-all _ (λ pairs. of_pairs is pairs) d.pairs, h.0 yes), λ met. h.1 met.2)
+    where
+      of_characters : (c ≡ FdfaForms) ⊎ (c ≡ Steps) → HoldsAt d.characters d.bounds c n
+      of_characters (inl e) = subst (λ k. HoldsAt d.characters d.bounds k n) (sym e) tt
+      of_characters (inr e) = subst (λ k. HoldsAt d.characters d.bounds k n) (sym e) tt
+
+      of_pairs : (c ≡ FdfaForms) ⊎ (c ≡ Steps) → (pairs : List Pair) → PairsHoldAt d.characters d.bounds pairs c n
+      of_pairs (inl e) pairs = subst (λ k. PairsHoldAt d.characters d.bounds pairs k n) (sym e) tt
+      of_pairs (inr e) pairs = subst (λ k. PairsHoldAt d.characters d.bounds pairs k n) (sym e) tt

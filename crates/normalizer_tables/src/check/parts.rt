@@ -35,9 +35,15 @@ pub fn is_met_at(data: &LoadedData<'_>, condition: Condition, number: u32, word:
     requires { word ≡ word_of data.now.characters number }
     ensures { IsTrue result ↔ IsMetAt data.now condition number }
 {
-    holds_at(data.characters(), data.bounds(), condition, number, word)
-        && is_met_by_pairs_at(data, condition, number, word)
-        && is_met_by_steps_at(data, condition, number, word)
+    match condition {
+        Condition::RoundTrip | Condition::SafeBeginning => {
+            is_met_by_pairs_at(data, condition, number, word)
+        }
+        Condition::FdfaForms | Condition::Steps => {
+            is_met_by_steps_at(data, condition, number, word)
+        }
+        _ => holds_at(data.characters(), data.bounds(), condition, number, word),
+    }
 }
 
 fn is_met_by_pairs_at(data: &LoadedData<'_>, condition: Condition, number: u32, word: u32) -> bool
