@@ -81,7 +81,8 @@ steps_within s t FdfaForms complete each = AvoidsFdfa-all s complete each
 steps_within s t Steps complete each = λ n h. each n (omega (arith, scalar_below n h)) h
 steps_within s t _ complete each = λ n. tt
 
-supplement_within : (s : Characters) (o : Option Supplement) (c : Condition) → IsComplete s.decompositions.table → ((n : ℕ) → n ≤ 0x110000 → IfSome o (λ t. StepsHoldAt s t c n)) → IfSome o (λ t. HoldsOfSteps s t c)
+supplement_within : (s : Characters) (o : Option Supplement) (c : Condition) → IsComplete s.decompositions.table →
+    ((n : ℕ) → n ≤ 0x110000 → IfSome o (λ t. StepsHoldAt s t c n)) → IfSome o (λ t. HoldsOfSteps s t c)
 supplement_within s None c complete each = tt
 supplement_within s (Some t) c complete each = steps_within s t c complete each
 

@@ -30,8 +30,8 @@ abbrev pub characters_and_pairs : Characters → List Pair → Loaded
 characters_and_pairs s pairs =
     record { characters = s; bounds = bounds_of_cap s.decompositions.cap; pairs = Some pairs; supplement = None }
 
--- What a condition says of all that was loaded: each says something of the characters by themselves, by the pairs, or by
--- the supplement. Of what wasn't loaded nothing is said.
+-- What a condition says of all that was loaded: each says something of the characters by themselves, by the pairs, or
+-- by the supplement. Of what wasn't loaded nothing is said.
 unfoldable pub IsMet : Loaded → Condition → Type 0
 IsMet d c =
     Holds d.characters d.bounds c × IfSome d.pairs (λ pairs. HoldsOfPairs d.characters d.bounds pairs c)

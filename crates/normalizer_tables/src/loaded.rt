@@ -24,7 +24,12 @@ impl<'a> Model for LoadedData<'a> {
 
     ghost Value = { Loaded };
 
-    ghost view = { λ d. record { characters = d.characters; bounds = d.bounds; pairs = option_copied d.pairs; supplement = option_copied d.supplement } };
+    ghost view = { λ d. record {
+      characters = d.characters;
+      bounds = d.bounds;
+      pairs = option_copied d.pairs;
+      supplement = option_copied d.supplement;
+    } };
 }
 
 impl<'a> LoadedData<'a> {
@@ -34,7 +39,12 @@ impl<'a> LoadedData<'a> {
         pairs: Option<&'a CanonicalCompositions>,
         supplement: Option<&'a NonRecursiveDecompositionSupplement>,
     ) -> Self
-        ensures { result ≡ record { characters = characters.entry; bounds = bounds; pairs = option_copied pairs.entry; supplement = option_copied supplement.entry } }
+        ensures { result ≡ record {
+          characters = characters.entry;
+          bounds = bounds;
+          pairs = option_copied pairs.entry;
+          supplement = option_copied supplement.entry;
+        } }
     {
         LoadedData {
             characters,
