@@ -1,19 +1,20 @@
 -- Which data a constructor accepts, and how it answers others.
-use Rattle.std.specs.Prelude.{◌≡◌, ◌⊎◌, Option, Some, None, Result, Ok, Err, IfOk, IfErr, IsErrOf, All, false}
+use Rattle.std.specs.Prelude.{Option, Some, None, Result, Ok, Err, All, false}
 use Rattle.normalizer_tables.specs.declared.condition.Bounds.{Bounds}
 use Rattle.normalizer_tables.specs.declared.provider.DataError.{DataError}
-use Rattle.normalizer_tables.specs.declared.provider.DataError.TheVariants.{Provider, Memory}
 use Rattle.normalizer_tables.specs.declared.provider.DataMarkerInfo.{DataMarkerInfo}
 use Rattle.normalizer_tables.specs.declared.provider.DataMarkerInfo.TheVariants as marker
 use Rattle.normalizer_tables.specs.AcceptedData.{decomposing_conditions}
 use Rattle.normalizer_tables.specs.Characters.{Characters}
 use Rattle.normalizer_tables.specs.Data.{Decompositions, Lists, lists_or_none}
+pub use Rattle.normalizer_tables.specs.Held.{AcceptsHeld, RefusesHeld, AnswersHeld}
 use Rattle.normalizer_tables.specs.Loaded.{IsMet, bounds_of_cap, characters_alone}
 use Rattle.normalizer_tables.specs.Refusals.{RefusesFirstFailing}
 
 -- data that are no mapper's
 abbrev pub data_from : Decompositions → Lists → Option Lists → Characters
-data_from decompositions tables supplementary = record { decompositions = decompositions; tables = tables; supplementary = lists_or_none supplementary; is_mapper = false }
+data_from decompositions tables supplementary =
+    record { decompositions = decompositions; tables = tables; supplementary = lists_or_none supplementary; is_mapper = false }
 
 -- below which numbers characters pass unseen
 abbrev pub bounds_of : Decompositions → Bounds
@@ -39,22 +40,3 @@ nfkd_data None tables supplementary = Err marker.NormalizerNfkdDataV1
 nfkd_data (Some decompositions) None supplementary = Err marker.NormalizerNfdTablesV1
 nfkd_data (Some decompositions) (Some tables) None = Err marker.NormalizerNfkdTablesV1
 nfkd_data (Some decompositions) (Some tables) (Some supplementary) = Ok (data_from decompositions tables (Some supplementary))
-
-module _ {H : Type 0} where
-  -- all is held that was to be loaded, it suits, and h is that
-  abbrev pub AcceptsHeld : (H → Type 0) → Result H DataMarkerInfo → H → Type 0
-  AcceptsHeld Suits (Ok held) h = (h ≡ held) × Suits held
-  AcceptsHeld Suits (Err missing) h = ⊥
-
-  -- the first load for which nothing is held is named, or what is held is refused
-  abbrev pub RefusesHeld : (H → DataError → Type 0) → Result H DataMarkerInfo → DataError → Type 0
-  RefusesHeld Refuses (Ok held) e = Refuses held e
-  RefusesHeld Refuses (Err missing) e = e ≡ Provider missing
-
-  -- A constructor's answer by what is held, where `first` is loaded first: data that suit; or else the refusal of what is
-  -- held, or want of memory. Where the first load holds nothing, just that is answered.
-  abbrev pub AnswersHeld : {A : Type 0} → (H → Type 0) → (DataMarkerInfo → H → DataError → Type 0) → DataMarkerInfo → (A → H) → Result H DataMarkerInfo → Result A DataError → Type 0
-  AnswersHeld Suits Refuses first data_of held result =
-      IfOk result (λ n. AcceptsHeld Suits held (data_of n))
-      × IfErr result (λ e. (e ≡ Memory) ⊎ RefusesHeld (Refuses first) held e)
-      × (held ≡ Err first → IsErrOf result (Provider first))
