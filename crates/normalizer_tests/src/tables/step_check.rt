@@ -11,7 +11,10 @@ use normalizer_tables::loaded::LoadedData;
 use std::alloc::Global;
 
 /// The number of the first condition that data and a supplement break, or 0.
-fn broken_condition(edited: &CheckedData, supplement: &NonRecursiveDecompositionSupplement) -> u8 {
+fn broken_condition<'a>(
+    edited: &'a CheckedData,
+    supplement: &'a NonRecursiveDecompositionSupplement,
+) -> u8 {
     let characters = CharacterData::new(&edited.data, &edited.tables, None, false);
     let bounds = Bounds::of_cap(edited.data.passthrough_cap);
     let loaded = LoadedData::new(characters, bounds, None, Some(supplement));
