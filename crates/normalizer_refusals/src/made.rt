@@ -1,0 +1,174 @@
+//! The calls, each with what comes before it.
+use crate::answer::{Answer, Fault};
+use crate::built::{Normalizers, Rows};
+use crate::call::{Call, Constructor};
+use icu_normalizer::properties::{
+    CanonicalCombiningClassMap, CanonicalComposition, CanonicalDecomposition,
+};
+use icu_normalizer::uts46::Uts46Mapper;
+use icu_normalizer::{
+    Built, CanonicalCompositions, CodePointTable, ComposingNormalizer, DataError,
+    DecomposingNormalizer, Records, TableError,
+};
+use std::alloc::Global;
+
+/// Whether the call itself is made.
+#[derive(Clone, Copy, Debug, PartialEq, Eq)]
+pub enum Stage {
+    Before,
+    Call,
+}
+
+/// Makes a call, and says its answer. One that was refused is made once more, and is to be right then.
+pub fn answer(alloc: Global, call: Call, stage: Stage) -> Answer {
+    let made = match call {
+        Call::Table | Call::Pairs | Call::CopyOfTable | Call::CopyOfPairs => of_tables(
+            alloc, call, stage,
+        ),
+        Call::Build => of_records(alloc, stage),
+        Call::Constructor(constructor) => of_data(alloc, constructor, stage),
+        _ => of_normalizers(alloc, call, stage),
+    };
+    made.unwrap_or(Answer::NotMade)
+}
+
+/// The answer of a call; one that was refused is made again.
+fn asked_again(first: Answer, second: Answer) -> Answer {
+    if first.is_refusal() && second != Answer::Right {
+        Answer::Wrong
+    } else {
+        first
+    }
+}
+
+const RANGES: [(u32, u32, u32); 3] = [(0x61, 0x62, 1), (0x308, 0x308, 2), (0xAC00, 0xD7A3, 1)];
+
+const PAIRS: [(char, char, char); 3] = [
+    ('\u{302}', 'e', '\u{EA}'),
+    ('\u{302}', '\u{1EB9}', '\u{1EC7}'),
+    ('\u{308}', 'a', '\u{E4}'),
+];
+
+fn table(alloc: Global) -> Result<CodePointTable, TableError> {
+    let ranges = RANGES.to_vec(alloc).map_err(|_| TableError::Memory)?;
+    CodePointTable::from_ranges(ranges, 3)
+}
+
+fn pairs(alloc: Global) -> Result<CanonicalCompositions, TableError> {
+    let pairs = PAIRS.to_vec(alloc).map_err(|_| TableError::Memory)?;
+    CanonicalCompositions::from_pairs(pairs)
+}
+
+fn is_table(table: &CodePointTable) -> bool {
+    table.get32(0x60) == 0
+        && table.get32(0x62) == 1
+        && table.get('\u{308}') == 2
+        && table.get16(0xD7A3) == 1
+        && table.get32(0x110000) == 3
+}
+
+fn are_pairs(pairs: &CanonicalCompositions) -> bool {
+    pairs.len() == 3
+        && pairs.compose('e', '\u{302}') == Some('\u{EA}')
+        && pairs.compose('\u{1EB9}', '\u{302}') == Some('\u{1EC7}')
+        && pairs.compose('a', '\u{308}') == Some('\u{E4}')
+}
+
+/// Whether what was made is right, or its fault, as an answer.
+fn told<E: Fault>(given: Result<bool, E>) -> Answer {
+    match given {
+        Ok(is_right) => Answer::of(is_right),
+        Err(fault) => fault.answer(),
+    }
+}
+
+fn of_tables(alloc: Global, call: Call, stage: Stage) -> Option<Answer> {
+    let table_held = table(alloc).ok()?;
+    let pairs_held = pairs(alloc).ok()?;
+    if stage == Stage::Before {
+        return Some(Answer::Right);
+    }
+    let made = || match call {
+        Call::Table => told(table(alloc).map(|table| is_table(&table))),
+        Call::Pairs => told(pairs(alloc).map(|pairs| are_pairs(&pairs))),
+        Call::CopyOfTable => told(table_held.clone().map(|table| is_table(&table))),
+        _ => told(pairs_held.clone().map(|pairs| are_pairs(&pairs))),
+    };
+    Some(asked_again(made(), made()))
+}
+
+fn of_records(alloc: Global, stage: Stage) -> Option<Answer> {
+    let rows = Rows::new(alloc)?;
+    if stage == Stage::Before {
+        return Some(Answer::Right);
+    }
+    let made = || told(Records::build(alloc, &rows.records, &rows.mapper).map(|_| true));
+    Some(asked_again(made(), made()))
+}
+
+fn of_data(alloc: Global, constructor: Constructor, stage: Stage) -> Option<Answer> {
+    let data = Rows::new(alloc)?.built(alloc)?;
+    if stage == Stage::Before {
+        return Some(Answer::Right);
+    }
+    Some(asked_again(
+        constructed(&data, constructor),
+        constructed(&data, constructor),
+    ))
+}
+
+fn constructed(data: &Built, constructor: Constructor) -> Answer {
+    match constructor {
+        Constructor::Nfd => made(DecomposingNormalizer::try_new_nfd_unstable(data)),
+        Constructor::Nfkd => made(DecomposingNormalizer::try_new_nfkd_unstable(data)),
+        Constructor::Nfc => made(ComposingNormalizer::try_new_nfc_unstable(data)),
+        Constructor::Nfkc => made(ComposingNormalizer::try_new_nfkc_unstable(data)),
+        Constructor::Composition => made(CanonicalComposition::try_new_unstable(data)),
+        Constructor::Decomposition => made(CanonicalDecomposition::try_new_unstable(data)),
+        Constructor::CombiningClass => made(CanonicalCombiningClassMap::try_new_unstable(data)),
+        Constructor::Mapper => made(Uts46Mapper::try_new(data)),
+    }
+}
+
+fn made<T: Drop>(given: Result<T, DataError>) -> Answer {
+    match given {
+        Ok(_) => Answer::Right,
+        Err(fault) => fault.answer(),
+    }
+}
+
+fn of_normalizers(alloc: Global, call: Call, stage: Stage) -> Option<Answer> {
+    let normalizers = Normalizers::new(alloc)?;
+    if stage == Stage::Before {
+        return Some(Answer::Right);
+    }
+    Some(asked_again(
+        normalizers.answer(alloc, call),
+        normalizers.answer(alloc, call),
+    ))
+}
+
+impl Normalizers {
+    fn answer(&self, alloc: Global, call: Call) -> Answer {
+        match call {
+            Call::DecomposedItems => self.decomposed_items(),
+            Call::DecomposedItemsOfMarks => self.decomposed_items_of_marks(),
+            Call::DecomposedItemsOfShortRuns => self.decomposed_items_of_short_runs(),
+            Call::ComposedItems => self.composed_items(),
+            Call::ComposedItemsOfMarks => self.composed_items_of_marks(),
+            Call::ComposedItemsOfShortRuns => self.composed_items_of_short_runs(),
+            Call::MappedItems => self.mapped_items(),
+            Call::OwnedText => self.owned_text(),
+            Call::OwnedBytes => self.owned_bytes(),
+            Call::OwnedUnits => self.owned_units(),
+            Call::BorrowedText => self.borrowed_text(),
+            Call::WrittenText => self.written_text(alloc),
+            Call::WrittenBytes => self.written_bytes(alloc),
+            Call::WrittenUnits => self.written_units(alloc),
+            Call::Check => self.check(),
+            Call::Split => self.split(),
+            Call::Offence => self.offence(),
+            _ => Answer::NotMade,
+        }
+    }
+}
