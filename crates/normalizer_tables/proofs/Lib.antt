@@ -12,6 +12,7 @@ pub mod InsertionLemmas
 pub mod ListLengths
 pub mod ListedLemmas
 pub mod LoadedLemmas
+pub mod NextInRanges
 pub mod OrderedLists
 pub mod PairConditionLemmas
 pub mod PairLaws

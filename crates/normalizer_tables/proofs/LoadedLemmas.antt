@@ -1,5 +1,5 @@
 -- What the conditions say of all that was loaded, part by part.
-use Rattle.std.proofs.Common.{◌≡◌, ◌↔◌, ℕ, ◌<◌, ◌≤◌, ◌⊎◌, inl, inr, Bool, true, ◌+◌, List, ◌++◌, length, All, Option, Some, None, IfSome, IsTrue, refl, sym, subst, arith}
+use Rattle.std.proofs.Common.{◌≡◌, ◌↔◌, ℕ, ◌≤◌, ◌⊎◌, inl, inr, Bool, true, ◌+◌, List, ◌++◌, length, All, Option, Some, None, IfSome, IsTrue, refl, sym, subst, arith}
 use Rattle.std.proofs.lemmas.Bool.{cases_lt}
 use Rattle.std.proofs.lemmas.List.{get_or_append_left, get_or-append-add, length-append}
 use Rattle.normalizer_tables.specs.declared.condition.Bounds.{Bounds}
@@ -13,7 +13,7 @@ use Rattle.normalizer_tables.specs.Loaded.{Loaded, IsMet, IsMetAt, IsMetOverall,
 use Rattle.normalizer_tables.specs.PairConditions.{HoldsOfPairs, KeepsBeginning, KeepsRoundTrip, PairsHoldAt, PairsHoldOverall}
 use Rattle.normalizer_tables.specs.Pairs.{Pair}
 use Rattle.normalizer_tables.specs.Ranges.{IsComplete}
-use Rattle.normalizer_tables.specs.StepConditions.{AvoidsFdfa, HasSoundStep, HoldsOfSteps, StepsHoldAt}
+use Rattle.normalizer_tables.specs.StepConditions.{HasSoundStep, HoldsOfSteps, StepsHoldAt}
 use Rattle.normalizer_tables.specs.Table.{code_points}
 use Rattle.normalizer_tables.proofs.ConditionLemmas.{HoldsAt-past, no_scalar_past}
 use Rattle.normalizer_tables.proofs.FdfaWords.{AvoidsFdfa-all}

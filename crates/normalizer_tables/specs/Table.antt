@@ -1,5 +1,6 @@
 -- A code point table: a word for every number.
-use Rattle.std.specs.Prelude.{ℕ, List, slice_index_or}
+use Rattle.std.specs.Prelude.{◌≡◌, ◌≢◌, ℕ, ◌<◌, ◌≤◌, List, Option, Some, None, slice_index_or, bit_and}
+use Rattle.std.specs.Int.{w32, bit_not}
 
 -- `words` are those of the numbers 0 to 0x10FFFF, `past` that of every number above
 pub record Table : Type 0 where
@@ -12,3 +13,17 @@ word_at t n = slice_index_or t.words n t.past
 -- how many code points there are
 unfoldable pub code_points : ℕ
 code_points = 0x110000
+
+-- a word once the bits of `flags` are taken away
+unfoldable pub without_flags : ℕ → ℕ → ℕ
+without_flags flags word = bit_and word (bit_not w32 flags)
+
+-- the code points from `from` on and below `to` have no word but flags
+unfoldable pub HaveNoWord : Table → ℕ → ℕ → ℕ → Type 0
+HaveNoWord t flags from to = (n : ℕ) → from ≤ n → n < to → without_flags flags (word_at t n) ≡ 0
+
+-- the least code point from `from` on that has a word besides flags, or that none has
+unfoldable pub IsNextWithWord : Table → ℕ → ℕ → Option ℕ → Type 0
+IsNextWithWord t flags from (Some n) =
+    (from ≤ n) × (n < code_points) × (without_flags flags (word_at t n) ≢ 0) × HaveNoWord t flags from n
+IsNextWithWord t flags from None = HaveNoWord t flags from code_points

@@ -1,7 +1,7 @@
 //! The code point table: a 32-bit word for every number.
 ghost use Rattle.std.specs.Prelude.{◌≡◌, ◌↔◌, ◌≤◌, IfOk, IsErrOf, IsTrue};
 ghost use Rattle.normalizer_tables.specs.Ranges.{word_in, IsComplete, IsRangeList, IsTableOf};
-ghost use Rattle.normalizer_tables.specs.Table.{word_at, code_points};
+ghost use Rattle.normalizer_tables.specs.Table.{word_at, code_points, IsNextWithWord};
 
 use std::alloc::AllocError;
 use std::marker::Model;
@@ -76,6 +76,18 @@ impl CodePointTable {
             return self.past;
         }
         word_in_ranges(&self.ranges, number)
+    }
+
+    /// The least code point from a number on whose word isn't 0 once the bits of `flags` are taken away.
+    pub fn next_with_word(&self, from: u32, flags: u32) -> Option<u32>
+        ensures { IsNextWithWord self.now flags from result }
+    {
+        for &(first, last, word) in &self.ranges {
+            if from <= last && word & !flags != 0 {
+                return Some(first.max(from));
+            }
+        }
+        None
     }
 }
 

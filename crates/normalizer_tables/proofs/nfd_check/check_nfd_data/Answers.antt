@@ -2,7 +2,7 @@ use Rattle.std.proofs.Common.{◌≡◌, ◌∙◌, All, None, Some, ap, subst, 
 use Rattle.normalizer_tables.specs.Characters.{Characters}
 use Rattle.normalizer_tables.specs.Conditions.{IsFirstFailing}
 use Rattle.normalizer_tables.specs.Loaded.{IsMet, Loaded}
-use Rattle.normalizer_tables.specs.NfdData.{nfd_bounds, nfd_characters, nfd_conditions, nfd_loaded}
+use Rattle.normalizer_tables.specs.NfdData.{nfd_bounds, nfd_conditions, nfd_loaded}
 use Rattle.normalizer_tables.proofs.FailingLemmas.{IsFirstFailing-not_all}
 use Rattle.normalizer_tables.proofs.nfd_check.check_nfd_data.Goals as goal
 

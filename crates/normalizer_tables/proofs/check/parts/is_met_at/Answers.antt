@@ -1,4 +1,3 @@
-use Rattle.std.proofs.Common.{inl, inr}
 use Rattle.normalizer_tables.proofs.LoadedLemmas.{IsMetAt-alone, IsMetAt-by_pairs, IsMetAt-by_step}
 use Rattle.normalizer_tables.proofs.check.parts.is_met_at.Goals as goal
 
