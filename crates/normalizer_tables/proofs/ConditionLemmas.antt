@@ -183,11 +183,29 @@ jamo-scalar : (n : ℕ) → is_composing_jamo n ≡ true → scalar n ≡ true
 unfolding is_composing_jamo
 jamo-scalar n h = grind (arith, nat_tests)
 
+pub IsSoundHangul-elsewhere : (s : Characters) (n : ℕ) → (IsScalar n → ⊥) → IsSoundHangul s n
+IsSoundHangul-elsewhere s n h = record { syllable = λ q. absurd (h (syllable-scalar n q)); jamo = λ q. absurd (h (jamo-scalar n q)) }
+
+jamo_range : (n : ℕ) → is_composing_jamo n ≡ true → (0x1100 ≤ n) × (n < 0x11C3)
+unfolding is_composing_jamo
+jamo_range n h = (grind (arith, nat_tests), grind (arith, nat_tests))
+
+syllable_range : (n : ℕ) → is_hangul_syllable n ≡ true → (0xAC00 ≤ n) × (n < 0xD7A4)
+unfolding is_hangul_syllable
+syllable_range n h = (grind (arith, nat_tests), grind (arith, nat_tests))
+
+-- the jamo and the syllables are all of Hangul
+pub IsSoundHangul-all : (s : Characters) → ((n : ℕ) → 0x1100 ≤ n → n < 0x11C3 → IsSoundHangul s n) → ((n : ℕ) → 0xAC00 ≤ n → n < 0xD7A4 → IsSoundHangul s n) → (n : ℕ) → IsSoundHangul s n
+IsSoundHangul-all s jamo syllables n = record {
+  syllable = λ q. (let range = syllable_range n q in (syllables n range.0 range.1).syllable q);
+  jamo = λ q. (let range = jamo_range n q in (jamo n range.0 range.1).jamo q);
+}
+
 -- a number that is no scalar value breaks no condition but the one on surrogates
 pub HoldsAt-elsewhere : (s : Characters) (b : Bounds) (c : Condition) (n : ℕ) → (IsScalar n → ⊥) → (c ≡ Surrogates → ⊥) → HoldsAt s b c n
 unfolding HoldsAt
 HoldsAt-elsewhere s b Surrogates n h other = absurd (other refl)
-HoldsAt-elsewhere s b Hangul n h other = record { syllable = λ q. absurd (h (syllable-scalar n q)); jamo = λ q. absurd (h (jamo-scalar n q)) }
+HoldsAt-elsewhere s b Hangul n h other = IsSoundHangul-elsewhere s n h
 HoldsAt-elsewhere s b Words n h other = λ q. absurd (h q)
 HoldsAt-elsewhere s b Members n h other = λ q. absurd (h q)
 HoldsAt-elsewhere s b Order n h other = λ q. absurd (h q)

@@ -9,22 +9,28 @@ use Rattle.normalizer_tables.specs.declared.condition.Condition.{Condition}
 use Rattle.normalizer_tables.specs.Loaded.{Loaded, IsMet, IsMetAt, IsMetOverall}
 use Rattle.normalizer_tables.specs.Ranges.{IsComplete}
 use Rattle.normalizer_tables.specs.Conditions.{IsFirstFailing, IsPlaceOfFirstFailing}
-use Rattle.normalizer_tables.proofs.LoadedLemmas.{IsMet-at, IsMet-overall, IsMet-within}
+use Rattle.normalizer_tables.specs.Walk.{IsMetApart}
+use Rattle.normalizer_tables.proofs.LoadedLemmas.{IsMet-at, IsMet-within}
+use Rattle.normalizer_tables.proofs.WalkLemmas.{IsMet-apart}
 
--- of the numbers below `number` and the data as a whole, the condition at this place is the first that fails
+-- of the numbers below `number` and of what is asked apart, the condition at this place is the first that fails
 pub record FailsFirst (loaded : Loaded) (conditions : List Condition) (number place : ℕ) : Type 0 where
   pub within : place ≤ length conditions
-  pub overall : AllWithin (IsMetOverall loaded) conditions 0 place
+  pub apart : AllWithin (IsMetApart loaded) conditions 0 place
   pub below : (n : ℕ) → n < number → AllWithin (λ c. IsMetAt loaded c n) conditions 0 place
   pub fails : (c : Condition) → slice_get conditions place ≡ Some c → ¬ IsMet loaded c
 
-pub FailsFirst-start : (loaded : Loaded) (conditions : List Condition) (place : ℕ) → IsPlaceOfFirstFailing (IsMetOverall loaded) conditions place → FailsFirst loaded conditions 0 place
+pub FailsFirst-start : (loaded : Loaded) (conditions : List Condition) (place : ℕ) → IsPlaceOfFirstFailing (IsMetApart loaded) conditions place → FailsFirst loaded conditions 0 place
 FailsFirst-start loaded conditions place h = record {
   within = h.within;
-  overall = h.before;
+  apart = h.before;
   below = λ n none. absurd (omega arith);
-  fails = λ c e q. h.fails c e (IsMet-overall loaded c q);
+  fails = λ c e q. h.fails c e (IsMet-apart loaded c q);
 }
+
+-- a condition that is met apart, and at this number, is met by all numbers from `from` on and below `next`
+abbrev pub Settles : Loaded → (from number next : ℕ) → Type 0
+Settles loaded from number next = (c : Condition) → IsMetApart loaded c → IsMetAt loaded c number → (n : ℕ) → from ≤ n → n < next → IsMetAt loaded c n
 
 nat_lt_or_le : (m n : ℕ) → (m < n) ⊎ (n ≤ m)
 nat_lt_or_le m n = elim (nat_lt m n) as (λ t. nat_lt m n ≡ t → (m < n) ⊎ (n ≤ m)) [
@@ -51,30 +57,31 @@ next_within place next conditions h =
     let short : next ≤ min place (length conditions) = subst (λ n. next ≤ n) (length-take place conditions) h in
     (omega arith, omega arith)
 
-module _ (loaded : Loaded) (conditions : List Condition) (number place next : ℕ) (old : FailsFirst loaded conditions number place)
-    (new : IsPlaceOfFirstFailing (λ c. IsMetAt loaded c number) (take place conditions) next) where
-  short : (next ≤ place) × (next ≤ length conditions)
-  short = next_within place next conditions new.within
+module _ (loaded : Loaded) (conditions : List Condition) (from number next place nearer : ℕ) (old : FailsFirst loaded conditions from place)
+    (settles : Settles loaded from number next) (new : IsPlaceOfFirstFailing (λ c. IsMetAt loaded c number) (take place conditions) nearer) where
+  short : (nearer ≤ place) × (nearer ≤ length conditions)
+  short = next_within place nearer conditions new.within
 
-  below_next : (n : ℕ) → n < number + 1 → AllWithin (λ c. IsMetAt loaded c n) conditions 0 next
+  below_next : (n : ℕ) → n < next → AllWithin (λ c. IsMetAt loaded c n) conditions 0 nearer
   below_next n h k d low kh =
-      elim (nat_lt_or_eq n number (omega arith)) [
-        | inl less ↦ old.below n less k d low (le_trans_lt k next place kh short.0)
-        | inr same ↦ subst (λ m. IsMetAt loaded (slice_index_or conditions k d) m) (sym same)
-            (subst (λ c. IsMetAt loaded c number) (get_or-take place conditions k d (le_trans_lt k next place kh short.0)) (new.before k d low kh))
+      let before : k < place = le_trans_lt k nearer place kh short.0 in
+      elim (nat_lt_or_le n from) [
+        | inl less ↦ old.below n less k d low before
+        | inr behind ↦ settles (slice_index_or conditions k d) (old.apart k d low before)
+            (subst (λ c. IsMetAt loaded c number) (get_or-take place conditions k d before) (new.before k d low kh)) n behind h
       ]
 
-  fails_next : (c : Condition) → slice_get conditions next ≡ Some c → ¬ IsMet loaded c
+  fails_next : (c : Condition) → slice_get conditions nearer ≡ Some c → ¬ IsMet loaded c
   fails_next c e q =
-      elim (nat_lt_or_eq next place short.0) [
-        | inl less ↦ new.fails c (slice_get-take conditions place next c less e) (IsMet-at loaded c number q)
+      elim (nat_lt_or_eq nearer place short.0) [
+        | inl less ↦ new.fails c (slice_get-take conditions place nearer c less e) (IsMet-at loaded c number q)
         | inr same ↦ old.fails c (subst (λ n. slice_get conditions n ≡ Some c) same e) q
       ]
 
-  pub FailsFirst-step : FailsFirst loaded conditions (number + 1) next
+  pub FailsFirst-step : FailsFirst loaded conditions next nearer
   FailsFirst-step = record {
     within = short.1;
-    overall = λ k d low h. old.overall k d low (le_trans_lt k next place h short.0);
+    apart = λ k d low h. old.apart k d low (le_trans_lt k nearer place h short.0);
     below = below_next;
     fails = fails_next;
   }
@@ -91,11 +98,15 @@ slice_get_end conditions place e =
       | inr past ↦ past
     ]
 
+overall_part : (loaded : Loaded) (c : Condition) → IsMetApart loaded c → IsMetOverall loaded c
+unfolding IsMetApart
+overall_part loaded c met = met.0
+
 -- all conditions before the place hold, where all numbers up to the first past the code points were asked
 before_holds : (loaded : Loaded) (conditions : List Condition) (number place : ℕ) → IsComplete loaded.characters.decompositions.table → 0x110000 < number → FailsFirst loaded conditions number place →
     AllWithin (IsMet loaded) conditions 0 place
 before_holds loaded conditions number place complete past h k d low kh =
-    IsMet-within loaded (slice_index_or conditions k d) complete (h.overall k d low kh) (λ n nh. h.below n (omega (arith, nh, past)) k d low kh)
+    IsMet-within loaded (slice_index_or conditions k d) complete (overall_part loaded (slice_index_or conditions k d) (h.apart k d low kh)) (λ n nh. h.below n (omega (arith, nh, past)) k d low kh)
 
 -- a list is cut at a member
 cut_at : (conditions : List Condition) (place : ℕ) (c : Condition) → slice_get conditions place ≡ Some c → conditions ≡ take place conditions ++ c ∷ drop (place + 1) conditions

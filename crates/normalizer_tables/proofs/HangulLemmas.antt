@@ -1,8 +1,9 @@
 -- Which characters make Hangul syllables.
 use Rattle.std.proofs.Common.{◌⊎◌, inl, inr, ◌/◌, ◌%◌, ◌≢◌, ◌==◌, [], ◌∷◌, ap, ap₂, ◌&&◌, ne_eqb, eqb-true, eq-eqb, ◌≡◌, ℕ, ◌+◌, ◌-◌, ◌*◌, ◌≤◌, arith, refl, Bool, true, false, not, sym, IsTrue, ◌↔◌, Some, None, ◌∙◌, leb-true}
-use Rattle.std.proofs.lemmas.Bool.{cond_both, and_parts, and_left, and_right, and_from, lt-leb, cond-true, cond-false}
+use Rattle.std.proofs.lemmas.Bool.{cond_both, and_parts, and_left, and_right, and_from, le-leb, lt-leb, cond-true, cond-false}
 use Rattle.std.specs.Int.{is_in_range}
 use Rattle.normalizer_tables.specs.Hangul.{is_hangul_syllable, hangul_decomposition}
+use Rattle.normalizer_tables.specs.Pairs.{is_vowel_or_trailing_jamo}
 use Rattle.normalizer_tables.specs.HangulComposition.{is_leading_consonant, is_vowel, is_trailing_consonant, is_lv_syllable, lv_syllable, compose_hangul}
 
 is_in_range-true : (low high c : ℕ) → is_in_range low high c ≡ true → (low ≤ c) × (c ≤ high)
@@ -27,6 +28,14 @@ is_hangul_syllable-true c h = is_in_range-true _ _ c h
 pub is_lv_syllable-true : (c : ℕ) → is_lv_syllable c ≡ true → (0xAC00 ≤ c) × (c ≤ 0xD7A3)
 unfolding is_lv_syllable
 is_lv_syllable-true c h = is_hangul_syllable-true c (and_parts _ _ h).0
+
+pub is_vowel_or_trailing_jamo-true : (c : ℕ) → is_vowel_or_trailing_jamo c ≡ true → (0x1161 ≤ c) × (c ≤ 0x11FF)
+unfolding is_vowel_or_trailing_jamo
+is_vowel_or_trailing_jamo-true c h = is_in_range-true _ _ c h
+
+pub is_vowel_or_trailing_jamo_in_range : (c : ℕ) → 0x1161 ≤ c → c ≤ 0x11FF → is_vowel_or_trailing_jamo c ≡ true
+unfolding is_vowel_or_trailing_jamo
+is_vowel_or_trailing_jamo_in_range c low high = and_from _ _ (le-leb 0x1161 c low) (le-leb c 0x11FF high)
 
 no_leading_consonant : (c : ℕ) → 0xAC00 ≤ c → is_leading_consonant c ≡ false
 unfolding is_leading_consonant

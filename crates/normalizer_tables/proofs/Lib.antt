@@ -13,6 +13,7 @@ pub mod ListLengths
 pub mod ListedLemmas
 pub mod LoadedLemmas
 pub mod NextInRanges
+pub mod NextWords
 pub mod OrderedLists
 pub mod PairConditionLemmas
 pub mod PairLaws
@@ -24,7 +25,9 @@ pub mod RangeTables
 pub mod SoundLists
 pub mod StepConditionLemmas
 pub mod StepLemmas
+pub mod SurrogateLemmas
 pub mod Tables
 pub mod TextLemmas
+pub mod WalkLemmas
 pub mod WordLemmas
 pub mod WordsInRanges

@@ -26,7 +26,7 @@ IfSome-loaded o a P r e h = subst (λ x. IsTrue r ↔ IfSome x P) e h
 pub IfSome-not_loaded : {A : Type 0} (o : Option A) (P : A → Type 0) → None ≡ o → IsTrue true ↔ IfSome o P
 IfSome-not_loaded o P e = subst (λ x. IsTrue true ↔ IfSome x P) e (λ yes. tt, λ h. refl)
 
-IfSome-map : {A : Type 0} (P Q : A → Type 0) → ((a : A) → P a → Q a) → (o : Option A) → IfSome o P → IfSome o Q
+pub IfSome-map : {A : Type 0} (P Q : A → Type 0) → ((a : A) → P a → Q a) → (o : Option A) → IfSome o P → IfSome o Q
 IfSome-map P Q f None h = tt
 IfSome-map P Q f (Some a) h = f a h
 
@@ -107,7 +107,7 @@ StepsHoldAt-others s t FdfaForms n h k = absurd (h refl)
 StepsHoldAt-others s t Steps n h k = absurd (k refl)
 StepsHoldAt-others s t _ n h k = tt
 
-IfSome-all : {A : Type 0} (P : A → Type 0) → ((a : A) → P a) → (o : Option A) → IfSome o P
+pub IfSome-all : {A : Type 0} (P : A → Type 0) → ((a : A) → P a) → (o : Option A) → IfSome o P
 IfSome-all P f None = tt
 IfSome-all P f (Some a) = f a
 

@@ -28,6 +28,12 @@ pub HasSafeBeginning-plain : (s : Characters) (pairs : List Pair) (n : ℕ) (r :
 HasSafeBeginning-plain s pairs n r h plain never =
     HasSafeBeginning-first s pairs n n r (ap (λ x. slice_get x 0) (list_of-plain s n h plain)) (class_of-plain s n h plain) never
 
+-- where it begins safely, it is never second
+pub IsNeverSecond-plain : (s : Characters) (pairs : List Pair) (n : ℕ) → scalar n ≡ true → is_plain (word_of s n) ≡ true → HasSafeBeginning s pairs n → IsNeverSecond pairs n
+unfolding IsNeverSecond
+IsNeverSecond-plain s pairs n h plain safe =
+    (first_of_safe_beginning (composing_reading s pairs) (list_of s [] n) n (ap (λ x. slice_get x 0) (list_of-plain s n h plain)) safe.safely).1
+
 RoundTrips-plain : (s : Characters) (pairs : List Pair) (n : ℕ) → scalar n ≡ true → is_plain (word_of s n) ≡ true → RoundTrips s pairs n
 unfolding RoundTrips compose compose_from visit
 RoundTrips-plain s pairs n h plain = ap (compose (composing_reading s pairs)) (list_of-plain s n h plain)

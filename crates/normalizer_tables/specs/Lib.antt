@@ -20,4 +20,5 @@ pub mod SpecialLists
 pub mod StepConditions
 pub mod Steps
 pub mod Table
+pub mod Walk
 pub mod Words

@@ -1,5 +1,5 @@
 //! What decomposition data say of each character.
-ghost use Rattle.std.specs.Prelude.{◌≡◌};
+ghost use Rattle.std.specs.Prelude.{◌≡◌, ◌≤◌};
 ghost use Rattle.std.specs.Option.{option_copied};
 ghost use Rattle.normalizer_tables.specs.Ignored.{ignored_list};
 ghost use Rattle.normalizer_tables.specs.Characters.{
@@ -16,11 +16,13 @@ ghost use Rattle.normalizer_tables.specs.Characters.{
 };
 ghost use Rattle.normalizer_tables.specs.Found.{IsFound};
 ghost use Rattle.normalizer_tables.specs.Ranges.{IsComplete};
+ghost use Rattle.normalizer_tables.specs.Table.{code_points};
+ghost use Rattle.normalizer_tables.specs.Walk.{IsNextWord};
 
 use crate::members::Members;
 use crate::provider::{DecompositionData, DecompositionTables};
 use crate::special::fixed_list_of;
-use crate::word::{WordReading, class_of_word, is_class_form, read};
+use crate::word::{FLAGS, WordReading, class_of_word, is_class_form, read};
 use std::alloc::Global;
 use std::marker::Model;
 
@@ -123,6 +125,18 @@ impl<'a> CharacterData<'a> {
     {
         let decompositions = self.decompositions;
         decompositions.table.get32(number)
+    }
+
+    /// The first number from this one on whose word isn't 0, flags aside, or the first past the code points.
+    pub(crate) fn next_with_word(&self, from: u32) -> u32
+        requires { from ≤ code_points }
+        ensures { IsNextWord self.now from result }
+    {
+        let decompositions = self.decompositions;
+        match decompositions.table.next_with_word(from, FLAGS) {
+            Some(number) => number,
+            None => CODE_POINTS,
+        }
     }
 
     /// The word of all numbers past the code points.

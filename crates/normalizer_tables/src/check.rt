@@ -1,10 +1,11 @@
 //! The complete check of what was loaded: the first of the written conditions that it breaks.
 ghost use Rattle.normalizer_tables.specs.Conditions.{IsFirstFailing, IsPlaceOfFirstFailing};
-ghost use Rattle.normalizer_tables.specs.Loaded.{IsMet, IsMetAt, IsMetOverall};
+ghost use Rattle.normalizer_tables.specs.Loaded.{IsMet, IsMetAt};
 ghost use Rattle.normalizer_tables.specs.Ranges.{IsComplete};
+ghost use Rattle.normalizer_tables.specs.Walk.{IsMetApart};
 
 use crate::characters::CODE_POINTS;
-use crate::check::parts::{is_met_at, is_met_overall};
+use crate::check::parts::{is_met_apart, is_met_at};
 use crate::condition::Condition;
 use crate::loaded::LoadedData;
 
@@ -17,20 +18,23 @@ mod parts;
 pub fn first_failing(data: &LoadedData<'_>, conditions: &[Condition]) -> Option<Condition>
     ensures { IsFirstFailing (IsMet data.now) conditions.now result }
 {
-    let mut failing = first_failing_overall(data, conditions);
-    // The word of the last number is that of all numbers past the code points.
-    for number in 0..=CODE_POINTS {
+    let mut failing = first_failing_apart(data, conditions);
+    let mut from = 0;
+    while from <= CODE_POINTS {
+        // The word of the first number past the code points is that of all.
+        let number = data.characters().next_with_word(from);
         failing = first_failing_at(data, &conditions[..failing], number);
+        from = number + 1;
     }
     conditions.get(failing).copied()
 }
 
-/// The place of the first condition that fails of the data as a whole.
-fn first_failing_overall(data: &LoadedData<'_>, conditions: &[Condition]) -> usize
-    ensures { IsPlaceOfFirstFailing (IsMetOverall data.now) conditions.now result }
+/// The place of the first condition that fails apart from the walk over words.
+fn first_failing_apart(data: &LoadedData<'_>, conditions: &[Condition]) -> usize
+    ensures { IsPlaceOfFirstFailing (IsMetApart data.now) conditions.now result }
 {
     for (place, &condition) in conditions.iter().enumerate() {
-        if !is_met_overall(data, condition) {
+        if !is_met_apart(data, condition) {
             return place;
         }
     }

@@ -16,7 +16,7 @@ use crate::pair_check::results::has_ordered_lists;
 use crate::pairs::CanonicalCompositions;
 use crate::word::IGNORED_MARKER;
 
-mod beginnings;
+pub(crate) mod beginnings;
 pub(crate) mod results;
 
 /// Whether a condition holds of the pairs as a whole.

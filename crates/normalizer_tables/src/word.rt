@@ -21,6 +21,9 @@ ghost use Rattle.normalizer_tables.specs.Words.{
 /// The word of a character that the mapper ignores (UTS #46, section 4).
 pub const IGNORED_MARKER: u32 = 0xFFFF_FFFF;
 
+/// NON_ROUND_TRIP and BACKWARD_COMBINING.
+pub(crate) const FLAGS: u32 = 0xC000_0000;
+
 /// How the word of a character reads.
 #[derive(Clone, Copy, PartialEq, Eq, Debug)]
 pub enum WordReading {

@@ -1,5 +1,5 @@
 //! What the conditions say of each number.
-ghost use Rattle.std.specs.Prelude.{◌≡◌, ◌↔◌, [], Some, IsTrue, All};
+ghost use Rattle.std.specs.Prelude.{◌≡◌, ◌↔◌, ◌<◌, ◌≤◌, ℕ, [], Some, true, IsTrue, All};
 ghost use Rattle.std.specs.Option.{option_map};
 ghost use Rattle.normalizer_tables.specs.Characters.{list_of, word_of};
 ghost use Rattle.normalizer_tables.specs.Conditions.{
@@ -60,6 +60,47 @@ pub fn holds_at(
             number >= bounds.decomposition || is_plain_starter(data, character)
         }
         _ => true,
+    }
+}
+
+/// Whether all surrogates have their word.
+pub fn have_surrogate_words(data: &CharacterData<'_>) -> bool
+    ensures { IsTrue result ↔ ((n : ℕ) → is_surrogate n ≡ true → word_of data.now n ≡ 0xC000FFFD) }
+{
+    for surrogate in 0xD800..0xE000 {
+        if data.word_of_number(surrogate) != SURROGATE_WORD {
+            return false;
+        }
+    }
+    true
+}
+
+/// Whether all Hangul syllables have the word 1, and all jamo of one read to themselves with class 0.
+pub fn have_sound_hangul(data: &CharacterData<'_>) -> bool
+    ensures { IsTrue result ↔ ((n : ℕ) → IsSoundHangul data.now n) }
+{
+    are_sound_hangul(data, 0x1100, 0x11C3) && are_sound_hangul(data, 0xAC00, 0xD7A4)
+}
+
+/// Whether this is so from one number up to another.
+fn are_sound_hangul(data: &CharacterData<'_>, from: u32, end: u32) -> bool
+    ensures { IsTrue result ↔ ((n : ℕ) → from ≤ n → n < end → IsSoundHangul data.now n) }
+{
+    for number in from..end {
+        if !is_sound_hangul_number(data, number) {
+            return false;
+        }
+    }
+    true
+}
+
+/// Whether a number is no character, or one that is sound as a part of Hangul.
+fn is_sound_hangul_number(data: &CharacterData<'_>, number: u32) -> bool
+    ensures { IsTrue result ↔ IsSoundHangul data.now number }
+{
+    match char::from_u32(number) {
+        Some(character) => is_sound_hangul(data, character),
+        None => true,
     }
 }
 

@@ -1,20 +1,53 @@
 //! Each condition is one on the characters by themselves, by the pairs or by the supplement.
-ghost use Rattle.std.specs.Prelude.{◌≡◌, ◌↔◌, IsTrue, IfSome};
+ghost use Rattle.std.specs.Prelude.{◌≡◌, ◌↔◌, ℕ, IsTrue, IfSome};
 ghost use Rattle.normalizer_tables.specs.Characters.{word_of};
 ghost use Rattle.normalizer_tables.specs.Loaded.{IsMetAt, IsMetOverall};
 ghost use Rattle.normalizer_tables.specs.PairConditions.{PairsHoldAt, PairsHoldOverall};
 ghost use Rattle.normalizer_tables.specs.StepConditions.{StepsHoldAt};
+ghost use Rattle.normalizer_tables.specs.Walk.{IsMetApart, IsMetApartAt, KeepsPlainBeginning};
 
-use crate::check::numbers::holds_at;
+use crate::check::numbers::{have_sound_hangul, have_surrogate_words, holds_at};
 use crate::check::overall::holds_overall;
 use crate::condition::Condition;
 use crate::loaded::LoadedData;
+use crate::pair_check::beginnings::keep_plain_beginnings;
 use crate::pair_check::{pairs_hold_at, pairs_hold_overall};
 use crate::step_check::steps_hold_at;
 
+/// Whether a condition is met, as far as it is about the data as a whole, and about numbers apart from the walk.
+#[tactic(auto, unfolding(crate::specs::Walk::IsMetApart))]
+pub fn is_met_apart(data: &LoadedData<'_>, condition: Condition) -> bool
+    ensures { IsTrue result ↔ IsMetApart data.now condition }
+{
+    is_met_overall(data, condition) && is_met_apart_at(data, condition)
+}
+
+/// Whether a condition is met by all numbers whose word is 0, flags aside, or by all surrogates, or by all of Hangul.
+fn is_met_apart_at(data: &LoadedData<'_>, condition: Condition) -> bool
+    ensures { IsTrue result ↔ IsMetApartAt data.now condition }
+{
+    match condition {
+        Condition::Surrogates => have_surrogate_words(data.characters()),
+        Condition::Hangul => have_sound_hangul(data.characters()),
+        Condition::SafeBeginning => have_safe_beginnings(data),
+        _ => true,
+    }
+}
+
+/// Whether all characters whose word is 0, flags aside, keep their beginnings.
+fn have_safe_beginnings(data: &LoadedData<'_>) -> bool
+    ensures { IsTrue result ↔ IfSome data.now.pairs
+        (λ pairs. (n : ℕ) → KeepsPlainBeginning data.now.characters data.now.bounds pairs n) }
+{
+    match data.pairs() {
+        Some(pairs) => keep_plain_beginnings(data.characters(), data.bounds(), pairs),
+        None => true,
+    }
+}
+
 /// Whether a condition is met, as far as it is about the data as a whole.
 #[tactic(auto, unfolding(crate::specs::Loaded::IsMetOverall))]
-pub fn is_met_overall(data: &LoadedData<'_>, condition: Condition) -> bool
+fn is_met_overall(data: &LoadedData<'_>, condition: Condition) -> bool
     ensures { IsTrue result ↔ IsMetOverall data.now condition }
 {
     holds_overall(data.characters(), condition) && is_met_by_pairs(data, condition)

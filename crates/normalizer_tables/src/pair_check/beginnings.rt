@@ -1,5 +1,5 @@
 //! What is asked of the characters that a composing loop passes.
-ghost use Rattle.std.specs.Prelude.{◌≡◌, ◌↔◌, ℕ, [], ◌∷◌, true, IsTrue};
+ghost use Rattle.std.specs.Prelude.{◌≡◌, ◌↔◌, ℕ, [], ◌∷◌, true, IsTrue, All};
 ghost use Rattle.std.specs.Char.{IsScalar};
 ghost use Rattle.normal_forms.specs.Boundary.{BeginsSafely};
 ghost use Rattle.normal_forms.specs.Composition.{compose, joined};
@@ -13,6 +13,8 @@ ghost use Rattle.normalizer_tables.specs.PairConditions.{
   is_taken_to_begin_safely,
   is_taken_to_round_trip,
 };
+ghost use Rattle.normalizer_tables.specs.Pairs.{is_vowel_or_trailing_jamo};
+ghost use Rattle.normalizer_tables.specs.Walk.{KeepsPlainBeginning};
 
 use crate::characters::{CharacterData, IgnoredCharacters};
 use crate::condition::Bounds;
@@ -60,6 +62,64 @@ pub fn keeps_beginning(
     };
     let is_taken = !is_backward_combining(word) || number < bounds.composition;
     !is_taken || begins_safely(data, compositions, character, word)
+}
+
+/// Whether all characters whose word is 0, flags aside, keep their beginnings. Only the seconds of pairs may not, Hangul
+/// ones included.
+pub fn keep_plain_beginnings(
+    data: &CharacterData<'_>,
+    bounds: Bounds,
+    compositions: &CanonicalCompositions,
+) -> bool
+    ensures { IsTrue result ↔ ((n : ℕ) → KeepsPlainBeginning data.now bounds compositions.now n) }
+{
+    seconds_keep_beginnings(data, bounds, compositions)
+        && jamo_keep_beginnings(data, bounds, compositions)
+}
+
+fn seconds_keep_beginnings(
+    data: &CharacterData<'_>,
+    bounds: Bounds,
+    compositions: &CanonicalCompositions,
+) -> bool
+    ensures { IsTrue result ↔ All (λ p. KeepsPlainBeginning data.now bounds compositions.now p.0) compositions.now }
+{
+    for place in 0..compositions.len() {
+        let (second, _, _) = compositions.at(place);
+        if !keeps_plain_beginning(data, bounds, compositions, second as u32) {
+            return false;
+        }
+    }
+    true
+}
+
+fn jamo_keep_beginnings(
+    data: &CharacterData<'_>,
+    bounds: Bounds,
+    compositions: &CanonicalCompositions,
+) -> bool
+    ensures { IsTrue result ↔ ((n : ℕ) → is_vowel_or_trailing_jamo n ≡ true → KeepsPlainBeginning data.now bounds compositions.now n) }
+{
+    for jamo in 0x1161..0x1200 {
+        if !keeps_plain_beginning(data, bounds, compositions, jamo) {
+            return false;
+        }
+    }
+    true
+}
+
+/// Whether a number has another word than 0, flags aside, or keeps its beginning.
+#[tactic(auto, unfolding(crate::specs::Walk::KeepsPlainBeginning))]
+fn keeps_plain_beginning(
+    data: &CharacterData<'_>,
+    bounds: Bounds,
+    compositions: &CanonicalCompositions,
+    number: u32,
+) -> bool
+    ensures { IsTrue result ↔ KeepsPlainBeginning data.now bounds compositions.now number }
+{
+    let word = data.word_of_number(number);
+    !is_plain(word) || keeps_beginning(data, bounds, compositions, number, word)
 }
 
 /// Whether the list of a character, whose word was looked up, begins safely.

@@ -1,24 +1,45 @@
-use Rattle.std.proofs.Common.{◌≡◌, ◌<◌, slice_get, ◌∙◌, arith}
+use Rattle.std.proofs.Common.{◌≡◌, ◌<◌, ◌≤◌, ◌+◌, slice_get, ◌∙◌, arith}
+use Rattle.normalizer_tables.specs.Table.{code_points}
 use Rattle.normalizer_tables.proofs.FirstFailing.{FailsFirst-start, FailsFirst-step, IsFirstFailing-at, copied-slice_get}
+use Rattle.normalizer_tables.proofs.WalkLemmas.{Settles-next_word}
 use Rattle.normalizer_tables.proofs.check.first_failing.Goals as goal
 
-pub loop-number-init : goal.loop-number-init
-loop-number-init c = record {
+within_code_points : (n : _) → n ≤ code_points → n ≤ 0x110000
+unfolding code_points
+within_code_points n h = h
+
+pub loop-from-init : goal.loop-from-init
+loop-from-init c = record {
+  within = omega arith;
   complete = λ positive. absurd (omega arith);
-  first = FailsFirst-start c.args.data.now c.args.conditions.now c.first_failing_overall-failing.result c.first_failing_overall-failing.ensures;
+  first = FailsFirst-start c.args.data.now c.args.conditions.now c.first_failing_apart-failing.result c.first_failing_apart-failing.ensures;
 }
 
-pub loop-number-preserved : goal.loop-number-preserved
-loop-number-preserved c = record {
-  complete = λ positive. c.first_failing_at-failing.ensures.complete;
-  first =
-      FailsFirst-step c.args.data.now c.args.conditions.now c.loop-number.number c.loop-number.failing c.first_failing_at-failing.result
-      c.loop-number.invariant.first c.first_failing_at-failing.ensures.place;
-}
+pub loop-from-preserved : goal.loop-from-preserved
+loop-from-preserved c =
+    let next = rw c.characters.ensures at c.next_with_word-number.ensures in
+    let number = c.next_with_word-number.result in
+    let number_within = within_code_points number next.within in
+    record {
+      within = omega (arith, number_within);
+      complete = λ positive. c.first_failing_at-failing.ensures.complete;
+      first =
+          FailsFirst-step c.args.data.now c.args.conditions.now c.loop-from.from number (number + 1) c.loop-from.failing c.first_failing_at-failing.result
+          c.loop-from.invariant.first (Settles-next_word c.args.data.now c.loop-from.from number next) c.first_failing_at-failing.ensures.place;
+    }
+
+pub next_with_word-number-requires : goal.next_with_word-number-requires
+unfolding code_points
+next_with_word-number-requires c = c.loop-from-test.true
+
+pub overflow_add-from : goal.overflow_add-from
+overflow_add-from c =
+    let number_within = within_code_points c.next_with_word-number.result c.next_with_word-number.ensures.within in
+    omega (arith, number_within)
 
 pub returns : goal.returns
 returns c =
-    let past : 0x110000 < c.loop-number.number = omega arith in
-    let got : c.copied.result ≡ slice_get c.args.conditions.now c.loop-number.failing = c.copied.ensures ∙ copied-slice_get c.args.conditions.now c.loop-number.failing c.get.result c.get.ensures.lookup.1 c.get.ensures.lookup.3 in
-    IsFirstFailing-at c.args.data.now c.args.conditions.now c.loop-number.number c.loop-number.failing c.copied.result
-    (c.loop-number.invariant.complete (omega arith)) past c.loop-number.invariant.first got
+    let past : 0x110000 < c.loop-from.from = omega arith in
+    let got : c.copied.result ≡ slice_get c.args.conditions.now c.loop-from.failing = c.copied.ensures ∙ copied-slice_get c.args.conditions.now c.loop-from.failing c.get.result c.get.ensures.lookup.1 c.get.ensures.lookup.3 in
+    IsFirstFailing-at c.args.data.now c.args.conditions.now c.loop-from.from c.loop-from.failing c.copied.result
+    (c.loop-from.invariant.complete (omega arith)) past c.loop-from.invariant.first got

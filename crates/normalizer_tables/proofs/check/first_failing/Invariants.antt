@@ -1,10 +1,14 @@
-use Rattle.std.proofs.Common.{◌<◌}
+use Rattle.std.proofs.Common.{◌-◌, ◌<◌, ◌≤◌}
 use Rattle.normalizer_tables.specs.Ranges.{IsComplete}
 use Rattle.normalizer_tables.proofs.FirstFailing.{FailsFirst}
 use Rattle.normalizer_tables.proofs.check.first_failing.Given as goal
 
-abbrev pub invariant-loop-number : goal.invariant-loop-number
-invariant-loop-number l = record {
-  complete : 0 < l.number → IsComplete l.data.characters.decompositions.table;
-  first : FailsFirst l.data l.conditions l.number l.failing;
+abbrev pub invariant-loop-from : goal.invariant-loop-from
+invariant-loop-from l = record {
+  within : l.from ≤ 0x110001;
+  complete : 0 < l.from → IsComplete l.data.characters.decompositions.table;
+  first : FailsFirst l.data l.conditions l.from l.failing;
 }
+
+abbrev pub decreases-loop-from : goal.decreases-loop-from
+decreases-loop-from l = 0x110001 - l.from

@@ -1,0 +1,36 @@
+-- How the check goes over the numbers: from one word that isn't 0 to the next. What it has asked of all others before.
+use Rattle.std.specs.Prelude.{◌≡◌, ℕ, ◌<◌, ◌≤◌, Bool, true, false, List}
+use Rattle.normalizer_tables.specs.declared.condition.Bounds.{Bounds}
+use Rattle.normalizer_tables.specs.declared.condition.Condition.{Condition}
+use Rattle.normalizer_tables.specs.declared.condition.Condition.TheVariants.{Surrogates, Hangul}
+use Rattle.normalizer_tables.specs.Characters.{Characters, word_of}
+use Rattle.normalizer_tables.specs.Loaded.{Loaded, IsMetAt, IsMetOverall}
+use Rattle.normalizer_tables.specs.PairConditions.{KeepsBeginning}
+use Rattle.normalizer_tables.specs.Pairs.{Pair}
+use Rattle.normalizer_tables.specs.Table.{code_points}
+use Rattle.normalizer_tables.specs.Words.{is_plain}
+
+-- n is the first number from `from` on whose word isn't 0, flags aside, or the first past the code points
+pub record IsNextWord (s : Characters) (from n : ℕ) : Type 0 where
+  pub least : from ≤ n
+  pub within : n ≤ code_points
+  pub between : (m : ℕ) → from ≤ m → m < n → is_plain (word_of s m) ≡ true
+  pub found : n < code_points → is_plain (word_of s n) ≡ false
+
+-- a condition is asked of a number apart from that walk: of surrogates and of Hangul whatever their words, else where
+-- the word is 0, flags aside
+unfoldable pub is_asked_apart : Characters → Condition → ℕ → Bool
+is_asked_apart s Surrogates n = true
+is_asked_apart s Hangul n = true
+is_asked_apart s c n = is_plain (word_of s n)
+
+unfoldable pub IsMetApartAt : Loaded → Condition → Type 0
+IsMetApartAt d c = (n : ℕ) → is_asked_apart d.characters c n ≡ true → IsMetAt d c n
+
+-- what a condition says apart from the walk
+unfoldable pub IsMetApart : Loaded → Condition → Type 0
+IsMetApart d c = IsMetOverall d c × IsMetApartAt d c
+
+-- n has another word, or nothing composes across its beginning where a composing loop relies on it
+unfoldable pub KeepsPlainBeginning : Characters → Bounds → List Pair → ℕ → Type 0
+KeepsPlainBeginning s b pairs n = is_plain (word_of s n) ≡ true → KeepsBeginning s b pairs n
