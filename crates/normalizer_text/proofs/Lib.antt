@@ -9,6 +9,7 @@ pub mod MatchLemmas
 pub mod OutputLemmas
 pub mod RowLemmas
 pub mod ScalarLemmas
+pub mod ScanLemmas
 pub mod SequenceLemmas
 pub mod Sequences
 pub mod StdLemmas

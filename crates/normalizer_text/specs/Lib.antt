@@ -3,6 +3,7 @@ pub mod CheckSinks
 pub mod Encodings
 pub mod MaximalSubparts
 pub mod Outputs
+pub mod Scans
 pub mod Sinks
 pub mod Steps
 pub mod Trails

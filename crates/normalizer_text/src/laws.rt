@@ -1,7 +1,7 @@
 //! What is known of decoding, as contracts of functions that do nothing. Each holds of every list of numbers, and of
 //! each encoding unless it names one.
 ghost use Rattle.std.specs.Prelude.{◌≡◌, ◌↔◌, ℕ, ◌<◌, ◌≤◌, ◌^◌, List, [], ◌++◌, length, take, drop, All};
-ghost use Rattle.std.specs.Prelude.{true, false, ◌∷◌, slice_index, encode_utf8_all};
+ghost use Rattle.std.specs.Prelude.{true, false, ◌∷◌, map, slice_index, encode_utf8_all};
 ghost use Rattle.std.specs.List.{slice_range};
 ghost use Rattle.std.specs.Char.Utf16.{utf16_lossy_chars};
 ghost use Rattle.std.specs.Str.{IsUtf8, IsCharBoundary, chars};
@@ -9,6 +9,7 @@ ghost use Rattle.std.specs.Str.Lossy.{utf8_lossy};
 ghost use Rattle.normal_forms.specs.Reading.{IsText};
 ghost use Rattle.normalizer_text.specs.declared.step.Step.{Step};
 ghost use Rattle.normalizer_text.specs.Encodings.{Encoding, first_in, encoded_in, decoded_in, trails_in};
+ghost use Rattle.normalizer_text.specs.Scans.{leading_below};
 ghost use Rattle.normalizer_text.specs.Steps.{read, steps, width_of, Decodes, IsWellFormed, IsBoundary, TakenFrom};
 ghost use Rattle.normalizer_text.specs.Utf8.{first_of_utf8, decoded_utf8};
 ghost use Rattle.normalizer_text.specs.MaximalSubparts.{IsStepOfUtf8};
@@ -74,6 +75,31 @@ pub fn low_units_begin_low_characters()
         All (λ c. c < 0xC0) (decoded_utf8 bytes) }
     ensures all_below_300 { (bytes : List ℕ) → IsWellFormed first_of_utf8 bytes → All (λ b. b < 0xCC) bytes →
         All (λ c. c < 0x300) (decoded_utf8 bytes) }
+{}
+
+/// Units below 80 are characters by themselves, whatever stands behind them, and so are 16-bit units below D800.
+pub fn low_units_are_single_characters()
+    ensures ascii { (e : Encoding) (low rest : List ℕ) → All (λ u. u < 0x80) low →
+        steps (first_in e) (low ++ rest) ≡ map (λ u. read u 1) low ++ steps (first_in e) rest }
+    ensures units { (low rest : List ℕ) → All (λ u. u < 0xD800) low →
+        steps first_of_utf16 (low ++ rest) ≡ map (λ u. read u 1) low ++ steps first_of_utf16 rest }
+{}
+
+/// A step ends with the units below a bound, whatever stands behind them, for bounds up to 80 and, in bytes, from C0 on;
+/// for 16-bit units up to D800. In what is well-formed, bytes below C3 are characters below U+00C0, and bytes below CC
+/// are characters below U+0300.
+pub fn step_ends_with_low_units()
+    ensures below { (bound : ℕ) (units : List ℕ) → All (λ u. u < bound) (take (leading_below bound units) units) }
+    ensures ascii { (e : Encoding) (bound : ℕ) (units : List ℕ) → bound ≤ 0x80 →
+        IsBoundary (first_in e) units (leading_below bound units) }
+    ensures units { (bound : ℕ) (units : List ℕ) → bound ≤ 0xD800 →
+        IsBoundary first_of_utf16 units (leading_below bound units) }
+    ensures bytes { (bound : ℕ) (bytes : List ℕ) → 0xC0 ≤ bound →
+        IsBoundary first_of_utf8 bytes (leading_below bound bytes) }
+    ensures text_below_C0 { (bytes : List ℕ) → IsWellFormed first_of_utf8 bytes →
+        All (λ c. c < 0xC0) (decoded_utf8 (take (leading_below 0xC3 bytes) bytes)) }
+    ensures text_below_300 { (bytes : List ℕ) → IsWellFormed first_of_utf8 bytes →
+        All (λ c. c < 0x300) (decoded_utf8 (take (leading_below 0xCC bytes) bytes)) }
 {}
 
 /// Calls of `next` and `next_back` in any mixture take the text apart from both ends: where they took the characters

@@ -6,6 +6,7 @@ mod chars;
 pub mod check_sink;
 pub mod laws;
 pub mod output;
+mod scan;
 pub mod sink;
 mod step;
 mod units;

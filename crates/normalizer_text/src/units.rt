@@ -1,11 +1,12 @@
 //! The three encodings as one trait, over which every loop is written once.
-ghost use Rattle.std.specs.Prelude.{◌≡◌, ◌==◌, ℕ, ◌<◌, List, [], length, take, drop, slice_index, MatchOption};
+ghost use Rattle.std.specs.Prelude.{◌≡◌, ◌==◌, ℕ, ◌+◌, ◌<◌, ◌≤◌, List, [], length, take, drop, slice_index, MatchOption};
 ghost use Rattle.normalizer_text.specs.Steps.{IsBoundary, IsFirstStep, IsLastStep};
 ghost use Rattle.normalizer_text.specs.Backwards.{IsLastStart};
 ghost use Rattle.normalizer_text.specs.Encodings.{Encoding, first_in, trails_in};
+ghost use Rattle.normalizer_text.specs.Scans.{leading_below};
 
 use crate::step::Step;
-use crate::{utf8, utf16};
+use crate::{scan, utf8, utf16};
 
 // No step takes more units.
 const LONGEST_STEP: usize = 4;
@@ -31,6 +32,11 @@ pub trait Units: Copy {
     fn trails_at(self, position: usize) -> bool
         requires { position < length (units self) }
         ensures { result ≡ trails_in encoding (slice_index (units self) position) };
+
+    // Where the units end that stand from a position on and are all below the bound.
+    fn end_of_below(self, position: usize, bound: u32) -> usize
+        requires { position ≤ length (units self) }
+        ensures { result ≡ position + leading_below bound (drop position (units self)) };
 
     // The units before a position at which a step ends.
     fn before(self, position: usize) -> Self
@@ -106,6 +112,10 @@ impl<'a> Units for &'a str {
         utf8::is_continuation(self.as_bytes()[position])
     }
 
+    fn end_of_below(self, position: usize, bound: u32) -> usize {
+        scan::end_of_bytes_below(self.as_bytes(), position, bound)
+    }
+
     fn before(self, position: usize) -> Self {
         &self[..position]
     }
@@ -132,6 +142,10 @@ impl<'a> Units for &'a [u8] {
         utf8::is_continuation(self[position])
     }
 
+    fn end_of_below(self, position: usize, bound: u32) -> usize {
+        scan::end_of_bytes_below(self, position, bound)
+    }
+
     fn before(self, position: usize) -> Self {
         &self[..position]
     }
@@ -156,6 +170,10 @@ impl<'a> Units for &'a [u16] {
 
     fn trails_at(self, position: usize) -> bool {
         utf16::is_low_surrogate(self[position])
+    }
+
+    fn end_of_below(self, position: usize, bound: u32) -> usize {
+        scan::end_of_units_below(self, position, bound)
     }
 
     fn before(self, position: usize) -> Self {

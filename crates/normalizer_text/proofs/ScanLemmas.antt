@@ -1,0 +1,112 @@
+-- Stretches of units below a bound.
+use Rattle.std.proofs.Common.{◌≡◌, ℕ, suc, ◌+◌, ◌-◌, ◌*◌, ◌<◌, ◌≤◌, false, ltb, List, [], ◌∷◌, ◌++◌, length, take, drop, get_or, map, arith, refl, ap, sym, subst, ◌∙◌, ⊎_elim}
+use Rattle.std.specs.Prelude.{All}
+use Rattle.std.proofs.lemmas.Bool.{cases_lt, cond-true, cond-false, lt-ltb, le-ltb, true≢false, false_from_ne_true}
+use Rattle.std.proofs.lemmas.List.{append-nil}
+use Rattle.std.proofs.lemmas.List.Sums.{prefix_len-drop_yes, prefix_len-drop_no, prefix_len-drop_all, prefix_len-le-length, prefix_len_stops}
+use Rattle.std.proofs.lemmas.List.Elements.{All-nil, All-cons, All-head, All-tail, All-same}
+use Rattle.normalizer_text.specs.declared.step.Step.{Step}
+use Rattle.normalizer_text.specs.Encodings.{Encoding, first_in}
+use Rattle.normalizer_text.specs.Scans.{leading_below}
+use Rattle.normalizer_text.specs.Steps.{read, steps, IsWellFormed, IsBoundary}
+use Rattle.normalizer_text.specs.Utf8.{allows, continuation, first_of_utf8, decoded_utf8}
+use Rattle.normalizer_text.specs.Utf16.{first_of_utf16}
+use Rattle.normalizer_text.proofs.Decoding.{IsDecoding}
+use Rattle.normalizer_text.proofs.EncodingRules.{IsDecoding-first}
+use Rattle.normalizer_text.proofs.StepLemmas.{IsRight, steps-nil, steps-some}
+use Rattle.normalizer_text.proofs.BackLemmas.{boundary-at}
+use Rattle.normalizer_text.proofs.BoundaryLemmas.{boundary-end, boundary-well_formed, well_formed-parts}
+use Rattle.normalizer_text.proofs.LowLemmas.{first-ascii, first-low_unit, decoded-low}
+use Rattle.normalizer_text.proofs.MatchLemmas.{allows-true}
+use Rattle.normalizer_text.proofs.Utf8Lemmas.{IsDecoding-utf8, HasTrails-utf8}
+use Rattle.normalizer_text.proofs.Utf16Lemmas.{IsDecoding-utf16}
+
+-- ---- one unit after another
+
+pub leading_below-drop_yes : (bound : ℕ) (units : List ℕ) (n : ℕ) → n < length units → get_or units n 0 < bound → leading_below bound (drop n units) ≡ 1 + leading_below bound (drop (n + 1) units)
+leading_below-drop_yes bound units n h l = prefix_len-drop_yes (λ u. ltb u bound) units n 0 h (lt-ltb _ bound l)
+
+pub leading_below-drop_no : (bound : ℕ) (units : List ℕ) (n : ℕ) → n < length units → bound ≤ get_or units n 0 → leading_below bound (drop n units) ≡ 0
+leading_below-drop_no bound units n h g = prefix_len-drop_no (λ u. ltb u bound) units n 0 h (le-ltb _ bound g)
+
+pub leading_below-drop_all : (bound : ℕ) (units : List ℕ) (n : ℕ) → length units ≤ n → leading_below bound (drop n units) ≡ 0
+leading_below-drop_all bound units n h = prefix_len-drop_all (λ u. ltb u bound) units n h
+
+pub leading_below-le : (bound : ℕ) (units : List ℕ) → leading_below bound units ≤ length units
+leading_below-le bound units = prefix_len-le-length (λ u. ltb u bound) units
+
+pub All-leading_below : (bound : ℕ) (units : List ℕ) → All (λ u. u < bound) (take (leading_below bound units) units)
+All-leading_below bound [] = All-nil (λ u. u < bound)
+All-leading_below bound (u ∷ us) =
+    let P = λ (u : ℕ). u < bound in
+    let n = leading_below bound us in ⊎_elim
+    (λ l.
+    let one : leading_below bound (u ∷ us) ≡ suc n = cond-true _ _ _ (lt-ltb u bound l) ∙ (omega arith) in
+    All-same P _ (take (suc n) (u ∷ us)) (ap (λ k. take k (u ∷ us)) one) (All-cons P u (take n us) l (All-leading_below bound us)))
+    (λ g. All-same P _ [] (ap (λ k. take k (u ∷ us)) (cond-false _ _ _ (le-ltb u bound g))) (All-nil P))
+    (cases_lt u bound)
+
+-- ---- units that are characters by themselves
+
+module _ (first : List ℕ → Step) (d : IsDecoding first) (P : ℕ → Type 0) (single : (u : ℕ) (us : List ℕ) → P u → first (u ∷ us) ≡ read u 1) where
+  pub steps-single : (low rest : List ℕ) → All P low → steps first (low ++ rest) ≡ map (λ u. read u 1) low ++ steps first rest
+  steps-single [] rest all = refl
+  steps-single (u ∷ low) rest all =
+      steps-some first d (u ∷ (low ++ rest)) (omega arith)
+      ∙ ap (λ s. s ∷ steps first (drop s.width (u ∷ (low ++ rest)))) (single u (low ++ rest) (All-head P u low all))
+      ∙ ap (λ x. read u 1 ∷ x) (steps-single low rest (All-tail P u low all))
+
+  well_formed-single : (low : List ℕ) → All P low → IsWellFormed first low
+  well_formed-single low all = All-same IsRight _ (map (λ u. read u 1) low) (
+      ap (steps first) (sym (append-nil low)) ∙ steps-single low [] all ∙ ap (λ x. map (λ u. read u 1) low ++ x) (steps-nil first) ∙ append-nil (map (λ u. read u 1) low)
+      ) (by low)
+    where
+      by : (us : List ℕ) → All IsRight (map (λ u. read u 1) us)
+      by [] = All-nil IsRight
+      by (u ∷ us) = All-cons IsRight (read u 1) (map (λ u. read u 1) us) refl (by us)
+
+  pub boundary-single : (units : List ℕ) (n : ℕ) → n ≤ length units → All P (take n units) → IsBoundary first units n
+  boundary-single units n h all = boundary-well_formed first d units n h (well_formed-single (take n units) all)
+
+pub first-low : (e : Encoding) (u : ℕ) (us : List ℕ) → u < 0x80 → first_in e (u ∷ us) ≡ read u 1
+first-low Encoding.Utf8 u us h = first-ascii u us h
+first-low Encoding.Utf16 u us h = first-low_unit u us (omega arith)
+
+pub steps-ascii : (e : Encoding) (low rest : List ℕ) → All (λ u. u < 0x80) low → steps (first_in e) (low ++ rest) ≡ map (λ u. read u 1) low ++ steps (first_in e) rest
+steps-ascii e = steps-single (first_in e) (IsDecoding-first e) (λ u. u < 0x80) (first-low e)
+
+pub steps-low_units : (low rest : List ℕ) → All (λ u. u < 0xD800) low → steps first_of_utf16 (low ++ rest) ≡ map (λ u. read u 1) low ++ steps first_of_utf16 rest
+steps-low_units = steps-single first_of_utf16 IsDecoding-utf16 (λ u. u < 0xD800) first-low_unit
+
+-- ---- a step ends with them
+
+pub boundary-ascii : (e : Encoding) (bound : ℕ) (units : List ℕ) → bound ≤ 0x80 → IsBoundary (first_in e) units (leading_below bound units)
+boundary-ascii e bound units h =
+    boundary-single (first_in e) (IsDecoding-first e) (λ u. u < bound) (λ u us l. first-low e u us (omega arith)) units (leading_below bound units) (leading_below-le bound units) (All-leading_below bound units)
+
+pub boundary-low_units : (bound : ℕ) (units : List ℕ) → bound ≤ 0xD800 → IsBoundary first_of_utf16 units (leading_below bound units)
+boundary-low_units bound units h =
+    boundary-single first_of_utf16 IsDecoding-utf16 (λ u. u < bound) (λ u us l. first-low_unit u us (omega arith)) units (leading_below bound units) (leading_below-le bound units) (All-leading_below bound units)
+
+-- no byte from C0 on stands after the first one of a sequence
+lead : (b : ℕ) → 0xC0 ≤ b → allows continuation b ≡ false
+lead b h = false_from_ne_true (allows continuation b) (λ e. let k = allows-true continuation b e in absurd (omega arith))
+
+pub boundary-low_bytes : (bound : ℕ) (bytes : List ℕ) → 0xC0 ≤ bound → IsBoundary first_of_utf8 bytes (leading_below bound bytes)
+boundary-low_bytes bound bytes h = ⊎_elim
+    (λ within.
+    let stop = prefix_len_stops (λ u. ltb u bound) bytes 0 within in
+    let high : bound ≤ get_or bytes (leading_below bound bytes) 0 = ⊎_elim
+    (λ l. absurd (true≢false (sym (lt-ltb _ bound l) ∙ stop))) (λ g. g) (cases_lt (get_or bytes (leading_below bound bytes) 0) bound) in
+    boundary-at first_of_utf8 IsDecoding-utf8 (allows continuation) HasTrails-utf8 bytes (leading_below bound bytes) within (lead (get_or bytes (leading_below bound bytes) 0) (omega arith)))
+    (λ past.
+    let le = leading_below-le bound bytes in
+    let all : length bytes ≡ leading_below bound bytes = omega arith in
+    subst (IsBoundary first_of_utf8 bytes) all (boundary-end first_of_utf8 IsDecoding-utf8 bytes))
+    (cases_lt (leading_below bound bytes) (length bytes))
+
+pub text-low_bytes : (limit : ℕ) → 0xC2 ≤ limit → limit ≤ 0xE0 → (bytes : List ℕ) → IsWellFormed first_of_utf8 bytes
+    → All (λ c. c < (limit - 0xC0) * 64) (decoded_utf8 (take (leading_below limit bytes) bytes))
+text-low_bytes limit least most bytes w =
+    let front = well_formed-parts first_of_utf8 IsDecoding-utf8 bytes (leading_below limit bytes) (boundary-low_bytes limit bytes (omega arith)) w in
+    decoded-low limit least most (take (leading_below limit bytes) bytes) front.0 (All-leading_below limit bytes)
