@@ -1,10 +1,10 @@
 -- A well-formed sequence in front of bytes, and the encoding of a text.
-use Rattle.std.proofs.Common.{◌≡◌, ℕ, suc, ◌<◌, ◌≤◌, true, false, List, [], ◌∷◌, ◌++◌, length, take, Some, arith, refl, ap, sym, subst, ◌∙◌, ⊎_elim}
+use Rattle.std.proofs.Common.{◌≡◌, ℕ, suc, ◌+◌, ◌<◌, ◌≤◌, true, false, List, [], ◌∷◌, ◌++◌, length, length-take-le, take, drop, get_or, get_or-drop, Some, arith, refl, ap, sym, subst, ◌∙◌, ⊎_elim}
 use Rattle.std.specs.Prelude.{All}
 use Rattle.std.specs.Char.{IsScalar, encode_utf8}
-use Rattle.std.specs.Str.{IsCharBoundary, encode_utf8_all, IsUtf8, chars, all_scalars}
+use Rattle.std.specs.Str.{IsCharBoundary, continuation_len, encode_utf8_all, IsUtf8, chars, all_scalars}
 use Rattle.std.proofs.lemmas.Str.{chars_from_encodes, IsCharBoundary-from_take, IsUtf8-take}
-use Rattle.std.proofs.lemmas.Bool.{true≢false, cases_eq, cases_lt, and_from, and_parts, le-leb}
+use Rattle.std.proofs.lemmas.Bool.{true≢false, cases_eq, cases_lt, cond-true, cond-false, and_from, and_parts, le-leb, lt-ltb, le-ltb}
 use Rattle.std.proofs.lemmas.Bool.Decides.{nat_tests}
 use Rattle.std.proofs.lemmas.List.{take_at}
 use Rattle.std.proofs.lemmas.List.Elements.{All-nil, All-cons, All-head, All-tail}
@@ -12,12 +12,14 @@ use Rattle.normalizer_text.specs.Steps.{read, IsWellFormed, IsBoundary}
 use Rattle.normalizer_text.specs.Utf8.{ByteRange, range, Row, row, row_of, continuation, allows, matched, scalar_value, first_by_row, first_of_utf8, decoded_utf8}
 use Rattle.normalizer_text.proofs.Sequences.{IsSequence}
 use Rattle.normalizer_text.specs.MaximalSubparts.{IsWithin, AreWithin}
-use Rattle.normalizer_text.proofs.RowLemmas.{IsSequence-row, by_row-whole}
+use Rattle.normalizer_text.proofs.RowLemmas.{IsSequence-row, IsWhole, by_row-whole}
+use Rattle.normalizer_text.proofs.MatchLemmas.{matched-le}
 use Rattle.normalizer_text.proofs.BoundaryLemmas.{boundary-le, boundary-well_formed, well_formed-parts}
 use Rattle.normalizer_text.proofs.EncodingLemmas.{IsEncoding, DecodesBack, DecodesBack-text, all-decoded}
 use Rattle.normalizer_text.proofs.ScalarLemmas.{encode-scalar_value, Encodes-encode}
-use Rattle.normalizer_text.proofs.StepLemmas.{decoded-IsText}
-use Rattle.normalizer_text.proofs.Utf8Lemmas.{by_cases, IsDecoding-utf8}
+use Rattle.normalizer_text.proofs.StepLemmas.{decoded-IsText, first-right}
+use Rattle.normalizer_text.proofs.Utf8Lemmas.{by_cases, IsDecoding-utf8, HasTrails-utf8}
+use Rattle.normalizer_text.proofs.BackLemmas.{boundary-at}
 
 -- ---- the row of a first byte
 
@@ -106,6 +108,34 @@ first-sequence (b ∷ bs) more s =
     ∙ ap (λ x. read (scalar_value (b ∷ x)) (suc (length k.r.trail))) (take_at bs more (length k.r.trail) m.1)
     ∙ ap (λ n. read (scalar_value (b ∷ bs)) (suc n)) (sym m.1)
 
+-- ---- the sequence in front of well-formed bytes
+
+-- its first byte says how many follow
+length-sequence : (b : ℕ) (bs : List ℕ) → IsSequence (b ∷ bs) → length bs ≡ continuation_len b
+length-sequence b [] s = sym (cond-true _ _ _ (lt-ltb b 128 s))
+length-sequence b (c ∷ []) s = sym (cond-false _ _ _ (le-ltb b 128 (omega arith)) ∙ cond-true _ _ _ (lt-ltb b 224 (omega arith)))
+length-sequence b (c ∷ d ∷ []) s = sym (cond-false _ _ _ (le-ltb b 128 (omega arith)) ∙ cond-false _ _ _ (le-ltb b 224 (omega arith)) ∙ cond-true _ _ _ (lt-ltb b 240 (omega arith)))
+length-sequence b (c ∷ d ∷ e ∷ []) s =
+    sym (cond-false _ _ _ (le-ltb b 128 (omega arith)) ∙ cond-false _ _ _ (le-ltb b 224 (omega arith)) ∙ cond-false _ _ _ (le-ltb b 240 (omega arith)))
+length-sequence b (c ∷ d ∷ e ∷ f ∷ bs) s = absurd s
+
+pub whole-well_formed : (bytes : List ℕ) → 0 < length bytes → IsWellFormed first_of_utf8 bytes → IsWhole bytes (continuation_len (get_or bytes 0 0))
+whole-well_formed [] h w = absurd (omega arith)
+whole-well_formed (b ∷ bs) h w =
+    by_cases (λ s. s.is_error ≡ false → s ≡ first_of_utf8 (b ∷ bs) → IsWhole (b ∷ bs) (continuation_len b)) b bs
+    (λ _ e _. absurd (true≢false e))
+    (λ r f m _ same.
+    let sequence = IsSequence-row b bs r f m in
+    let few = matched-le r.trail bs in
+    let n : suc (length r.trail) ≡ 1 + continuation_len b =
+    omega (arith, length-sequence b (take (length r.trail) bs) sequence, length-take-le (length r.trail) bs (omega arith)) in record {
+      fits = omega arith;
+      sequence = subst (λ k. IsSequence (take k (b ∷ bs))) n sequence;
+      step = sym (ap (λ k. read (scalar_value (take k (b ∷ bs))) k) n) ∙ same;
+    })
+    (λ r f m e _. absurd (true≢false e))
+    (first-right first_of_utf8 IsDecoding-utf8 (b ∷ bs) h w) refl
+
 -- ---- the encoding of a text
 
 first-encode : (c : ℕ) (more : List ℕ) → IsScalar c → first_of_utf8 (encode_utf8 c ++ more) ≡ read c (length (encode_utf8 c))
@@ -166,3 +196,12 @@ IsCharBoundary-boundary bytes n u b =
 
 pub boundary-IsCharBoundary : (bytes : List ℕ) (n : ℕ) → IsUtf8 bytes → IsCharBoundary bytes n → IsBoundary first_of_utf8 bytes n
 boundary-IsCharBoundary bytes n u c = boundary-well_formed first_of_utf8 IsDecoding-utf8 bytes n c.0 (IsWellFormed-IsUtf8 (take n bytes) (IsUtf8-take bytes n u c))
+
+-- ---- a place in a text
+
+-- what stands from a byte on that can't trail is well-formed
+pub well_formed-at : (text : List ℕ) (n : ℕ) → IsUtf8 text → n < length text → allows continuation (get_or (drop n text) 0 0) ≡ false → IsWellFormed first_of_utf8 (drop n text)
+well_formed-at text n u h lead =
+    let here : get_or text n 0 ≡ get_or (drop n text) 0 0 = ap (λ i. get_or text i 0) (omega arith) ∙ sym (get_or-drop n text 0 0) in
+    let apart = boundary-at first_of_utf8 IsDecoding-utf8 (allows continuation) HasTrails-utf8 text n h (ap (allows continuation) here ∙ lead) in
+    (well_formed-parts first_of_utf8 IsDecoding-utf8 text n apart (IsWellFormed-IsUtf8 text u)).1

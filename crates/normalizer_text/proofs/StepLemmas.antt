@@ -89,6 +89,14 @@ module _ (first : List ℕ → Step) (d : IsDecoding first) where
       by (suc n) (u ∷ us) h = All-same IsScalar _ _ (decoded-some (u ∷ us) (omega arith))
           (All-cons IsScalar _ _ (d.scalar (u ∷ us) (omega arith)) (by n (drop (first (u ∷ us)).width (u ∷ us)) (rest-shorter (u ∷ us) n (omega arith) h)))
 
+  -- ---- what is well-formed
+
+  -- the step in front is no error
+  pub first-right : (us : List ℕ) → 0 < length us → IsWellFormed first us → (first us).is_error ≡ false
+  first-right us h w =
+      let rest = steps first (drop (first us).width us) in
+      All-head IsRight (first us) rest (All-same IsRight (first us ∷ rest) (steps first us) (sym (steps-some us h)) w)
+
   -- ---- a front and a rest
 
   -- a well-formed front is decoded apart

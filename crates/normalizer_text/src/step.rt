@@ -12,9 +12,22 @@ pub struct Step {
 }
 
 impl Step {
-    ghost use Rattle.normalizer_text.specs.Steps.{replaced};
+    ghost use Rattle.normalizer_text.specs.Steps.{read, replaced};
+
+    // The character of so many units.
+    #[inline(always)]
+    pub(crate) fn read(character: char, width: usize) -> Step
+        ensures { result ≡ read character width }
+    {
+        Step {
+            character,
+            width,
+            is_error: false,
+        }
+    }
 
     // U+FFFD for so many units.
+    #[inline(always)]
     pub(crate) fn replaced(width: usize) -> Step
         ensures { result ≡ replaced width }
     {

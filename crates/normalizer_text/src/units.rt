@@ -105,7 +105,12 @@ impl<'a> Units for &'a str {
     }
 
     fn step_at(self, position: usize) -> Step {
-        utf8::first_step(&self.as_bytes()[position..])
+        let bytes = &self.as_bytes()[position..];
+        if utf8::is_continuation(bytes[0]) {
+            Step::replaced(1)
+        } else {
+            utf8::first_step_of_well_formed(bytes)
+        }
     }
 
     fn trails_at(self, position: usize) -> bool {

@@ -1,7 +1,7 @@
 //! Decoding 16-bit units that may not be UTF-16, with U+FFFD for what is ill-formed (The Unicode Standard, section
 //! 3.9).
 ghost use Rattle.std.specs.Prelude.{◌≡◌, ◌<◌, ◌≤◌, IsTrue, length};
-ghost use Rattle.normalizer_text.specs.Utf16.{is_high, is_low, pair_value, unpaired, first_of_utf16};
+ghost use Rattle.normalizer_text.specs.Utf16.{is_high, is_low, pair_value, first_of_utf16};
 
 use crate::step::Step;
 
@@ -29,33 +29,18 @@ fn character_of_pair(high: u16, low: u16) -> char
     char::from_u32(code).unwrap()
 }
 
-// The step of a unit that is not the first of a pair.
-fn unpaired_step(unit: u16) -> Step
-    ensures { result ≡ unpaired unit }
-{
-    match char::from_u32(unit as u32) {
-        Some(character) => Step {
-            character,
-            width: 1,
-            is_error: false,
-        },
-        None => Step::replaced(1),
-    }
-}
-
 // The step in front of units of which there are some.
+#[inline(always)]
 pub(crate) fn first_step(units: &[u16]) -> Step
     requires { 0 < length units.now }
     ensures { result ≡ first_of_utf16 units.now }
 {
     let unit = units[0];
-    if is_high_surrogate(unit) && units.len() > 1 && is_low_surrogate(units[1]) {
-        Step {
-            character: character_of_pair(unit, units[1]),
-            width: 2,
-            is_error: false,
+    match char::from_u32(u32::from(unit)) {
+        Some(character) => Step::read(character, 1),
+        None if is_high_surrogate(unit) && units.len() > 1 && is_low_surrogate(units[1]) => {
+            Step::read(character_of_pair(unit, units[1]), 2)
         }
-    } else {
-        unpaired_step(unit)
+        None => Step::replaced(1),
     }
 }

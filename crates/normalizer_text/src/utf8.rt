@@ -1,11 +1,14 @@
 //! Decoding bytes that may not be UTF-8, with U+FFFD for what is ill-formed (The Unicode Standard, section 3.9).
 ghost use Rattle.std.specs.Prelude.{◌≡◌, ◌+◌, ◌<◌, ◌≤◌, length, option_map, slice_index_or};
+ghost use Rattle.std.specs.Str.{continuation_len};
+ghost use Rattle.normalizer_text.specs.Steps.{IsWellFormed};
 ghost use Rattle.normalizer_text.specs.Utf8.{continuation, allows, row_of, matched, scalar_value, first_of_utf8};
 ghost use Rattle.normalizer_text.specs.MaximalSubparts.{IsWellFormedSequence};
 
 use crate::step::Step;
 
 // A byte that may stand after the first one of a character.
+#[inline(always)]
 pub(crate) fn is_continuation(byte: u8) -> bool
     ensures { result ≡ allows continuation byte }
 {
@@ -72,6 +75,7 @@ impl Trail {
 }
 
 // The character of a well-formed sequence (table 3-6).
+#[inline(always)]
 #[tactic(auto, using(crate::proofs::SubpartLemmas::bounds_of_sequence))]
 fn character_of(sequence: &[u8]) -> char
     requires { IsWellFormedSequence sequence.now }
@@ -90,22 +94,55 @@ fn character_of(sequence: &[u8]) -> char
     char::from_u32(code).unwrap()
 }
 
+// How many bytes a well-formed sequence has that begins with this one.
+#[inline(always)]
+fn length_of_sequence(lead: u8) -> usize
+    ensures { result ≡ 1 + continuation_len lead }
+{
+    match lead {
+        0x00..=0x7F => 1,
+        0x80..=0xDF => 2,
+        0xE0..=0xEF => 3,
+        _ => 4,
+    }
+}
+
+// The step in front of well-formed bytes of which there are some: the first one says how many are taken.
+#[inline(always)]
+pub(crate) fn first_step_of_well_formed(bytes: &[u8]) -> Step
+    requires some { 0 < length bytes.now }
+    requires well_formed { IsWellFormed first_of_utf8 bytes.now }
+    ensures { result ≡ first_of_utf8 bytes.now }
+{
+    let width = length_of_sequence(bytes[0]);
+    Step::read(character_of(&bytes[..width]), width)
+}
+
 // The step in front of bytes of which there are some.
+#[inline(always)]
 pub(crate) fn first_step(bytes: &[u8]) -> Step
     requires { 0 < length bytes.now }
     ensures { result ≡ first_of_utf8 bytes.now }
 {
     let lead = bytes[0];
-    let Some(trail) = Trail::of(lead) else {
+    if lead < 0x80 {
+        Step::read(char::from(lead), 1)
+    } else {
+        first_step_of_more(bytes)
+    }
+}
+
+// The same where the first byte is no character by itself.
+fn first_step_of_more(bytes: &[u8]) -> Step
+    requires { 0 < length bytes.now }
+    ensures { result ≡ first_of_utf8 bytes.now }
+{
+    let Some(trail) = Trail::of(bytes[0]) else {
         return Step::replaced(1);
     };
     let width = 1 + trail.matched(&bytes[1..]);
     if width <= trail.length {
         return Step::replaced(width);
     }
-    Step {
-        character: character_of(&bytes[..width]),
-        width,
-        is_error: false,
-    }
+    Step::read(character_of(&bytes[..width]), width)
 }

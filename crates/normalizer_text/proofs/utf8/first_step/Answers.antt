@@ -1,33 +1,8 @@
-use Rattle.std.proofs.Common.{◌+◌, drop, arith, length-drop, length-take-le, sym, ap, ◌∙◌}
-use Rattle.std.specs.Prelude.{option_map}
-use Rattle.std.proofs.lemmas.List.{take_rest}
-use Rattle.normalizer_text.specs.Utf8.{matched}
-use Rattle.normalizer_text.specs.Trails.{places}
+use Rattle.std.proofs.Common.{◌∙◌, sym, ap}
 use Rattle.normalizer_text.specs.Steps.{read}
-use Rattle.normalizer_text.proofs.MatchLemmas.{matched-le}
-use Rattle.normalizer_text.proofs.RowLemmas.{first-whole}
-use Rattle.normalizer_text.proofs.SubpartLemmas.{sequence_of_bounds}
+use Rattle.normalizer_text.proofs.LowLemmas.{first-ascii_byte}
 use Rattle.normalizer_text.proofs.utf8.first_step.Goals as goal
 
-pub overflow_add-width : goal.overflow_add-width
-overflow_add-width c =
-    let m = c.matched-width.ensures ∙ ap (matched (places c.in-Some.trail)) (take_rest c.args.bytes.now 1) in
-    let le = (matched-le (places c.in-Some.trail) (drop 1 c.args.bytes.now)).1 in
-    omega (arith, m, length-drop 1 c.args.bytes.now)
-
-pub slice_bounds-character_of-end : goal.slice_bounds-character_of-end
-slice_bounds-character_of-end c =
-    let m = c.matched-width.ensures ∙ ap (matched (places c.in-Some.trail)) (take_rest c.args.bytes.now 1) in
-    let whole = first-whole c.args.bytes.now c.in-Some.trail _ c.requires (sym (ap (option_map places) c.in-Some.is) ∙ c.of.ensures) m c.if-width-trail.false in
-    sym (length-take-le _ _ whole.fits)
-
-pub character_of-requires : goal.character_of-requires
-character_of-requires c =
-    let m = c.matched-width.ensures ∙ ap (matched (places c.in-Some.trail)) (take_rest c.args.bytes.now 1) in
-    sequence_of_bounds _ (first-whole c.args.bytes.now c.in-Some.trail _ c.requires (sym (ap (option_map places) c.in-Some.is) ∙ c.of.ensures) m c.if-width-trail.false).sequence
-
-pub returns : goal.returns
-returns c =
-    let m = c.matched-width.ensures ∙ ap (matched (places c.in-Some.trail)) (take_rest c.args.bytes.now 1) in
-    let whole = first-whole c.args.bytes.now c.in-Some.trail _ c.requires (sym (ap (option_map places) c.in-Some.is) ∙ c.of.ensures) m c.if-width-trail.false in
-    ap (λ x. read x (1 + c.matched-width.result)) c.character_of.ensures ∙ whole.step
+pub returns-then-lead-lt128 : goal.returns-then-lead-lt128
+returns-then-lead-lt128 c =
+    c.read.ensures ∙ ap (λ v. read v 1) c.from.ensures ∙ sym (first-ascii_byte c.args.bytes.now c.requires c.if-lead-lt128.true)
