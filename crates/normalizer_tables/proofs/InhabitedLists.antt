@@ -105,7 +105,7 @@ unfolding listed_at
 listed_at-inhabited s item low =
     listed_in-inhabited s.tables low (listed_in s.supplementary low (λ past. None)) (listed_in-inhabited s.supplementary low (λ past. None) (λ k e. cc)) item
 
-named_list-inhabited : (s : Characters) (ignored : List ℕ) (n : ℕ) (r : WordReading) → r ≢ Ignored → named_list s ignored n r ≢ Some []
+pub named_list-inhabited : (s : Characters) (ignored : List ℕ) (n : ℕ) (r : WordReading) → r ≢ Ignored → named_list s ignored n r ≢ Some []
 unfolding named_list fdfa_list
 named_list-inhabited s ignored n Ignored h = absurd (h refl)
 named_list-inhabited s ignored n Itself h = λ e. cc

@@ -22,6 +22,7 @@ pub mod PartsOfConditions
 pub mod PlainCharacters
 pub mod RangeLists
 pub mod RangeTables
+pub mod ReadingsOfWords
 pub mod SoundLists
 pub mod StepConditionLemmas
 pub mod StepLemmas

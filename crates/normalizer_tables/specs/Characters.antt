@@ -79,6 +79,12 @@ list_of s ignored n = unwrap_or (list_read s ignored n) (n ∷ [])
 unfoldable pub class_of : Characters → ℕ → ℕ
 class_of s n = if scalar n then class_of_word (word_of s n) else 0
 
+-- the class of a character that reads as itself
+unfoldable pub class_of_itself : WordReading → Option ℕ
+class_of_itself Itself = Some 0
+class_of_itself (ClassForm k) = Some k
+class_of_itself _ = None
+
 unfoldable pub has_class_form : Characters → ℕ → Bool
 has_class_form s n = is_class_form (word_of s n)
 

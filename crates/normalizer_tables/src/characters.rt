@@ -1,9 +1,10 @@
 //! What decomposition data say of each character.
-ghost use Rattle.std.specs.Prelude.{◌≡◌, ◌≤◌};
+ghost use Rattle.std.specs.Prelude.{◌≡◌, ◌≢◌, ◌↔◌, ◌≤◌, ◌∷◌, [], ℕ, List, IfSome, IsTrue};
 ghost use Rattle.std.specs.Option.{option_copied};
 ghost use Rattle.normalizer_tables.specs.Ignored.{ignored_list};
 ghost use Rattle.normalizer_tables.specs.Characters.{
   class_of,
+  class_of_itself,
   has_class_form,
   items_at,
   list_of,
@@ -191,9 +192,44 @@ impl<'a> CharacterData<'a> {
     pub fn members(&self, character: char, ignored: IgnoredCharacters) -> Members<'a>
         ensures { result ≡ list_of self.now (ignored_list ignored) character }
     {
-        match self.members_read(character, ignored) {
+        self.members_by(character, self.word_of(character), ignored)
+    }
+
+    /// The list of a character by its word.
+    pub fn members_by(&self, character: char, word: u32, ignored: IgnoredCharacters) -> Members<'a>
+        requires { word ≡ word_of self.now character }
+        ensures { result ≡ list_of self.now (ignored_list ignored) character }
+    {
+        match self.members_read_by(character, word, ignored) {
             Some(members) => members,
             None => Members::one(character),
+        }
+    }
+
+    /// Whether the list of a character has members, by its word. None has an ignored character that is dropped.
+    pub fn has_members(&self, character: char, word: u32, ignored: IgnoredCharacters) -> bool
+        requires { word ≡ word_of self.now character }
+        ensures { IsTrue result ↔ (list_of self.now (ignored_list ignored) character ≢ []) }
+    {
+        match self.reading_by(character, word) {
+            WordReading::Ignored => matches!(ignored, IgnoredCharacters::Replaced),
+            _ => true,
+        }
+    }
+
+    /// The class of a character whose word says that it is its own list.
+    #[tactic(auto, unfolding(crate::specs::Characters::class_of_itself))]
+    pub fn class_of_itself(&self, character: char, word: u32) -> Option<u8>
+        requires { word ≡ word_of self.now character }
+        ensures reading { result ≡ class_of_itself (reading_of_word self.now character) }
+        ensures itself { (ignored : List ℕ) →
+            IfSome result (λ _. list_of self.now ignored character ≡ character ∷ []) }
+        ensures class { IfSome result (λ class. class ≡ class_of self.now character) }
+    {
+        match self.reading_by(character, word) {
+            WordReading::Itself => Some(0),
+            WordReading::ClassForm(class) => Some(class),
+            _ => None,
         }
     }
 
@@ -201,7 +237,19 @@ impl<'a> CharacterData<'a> {
     pub fn members_read(&self, character: char, ignored: IgnoredCharacters) -> Option<Members<'a>>
         ensures { result ≡ list_read self.now (ignored_list ignored) character }
     {
-        match self.reading(character) {
+        self.members_read_by(character, self.word_of(character), ignored)
+    }
+
+    fn members_read_by(
+        &self,
+        character: char,
+        word: u32,
+        ignored: IgnoredCharacters,
+    ) -> Option<Members<'a>>
+        requires { word ≡ word_of self.now character }
+        ensures { result ≡ list_read self.now (ignored_list ignored) character }
+    {
+        match self.reading_by(character, word) {
             WordReading::Ignored => Some(ignored_members(ignored)),
             WordReading::Itself | WordReading::ClassForm(_) => Some(Members::one(character)),
             WordReading::SpecialForm(_) => Some(fixed_list_of(character)?.members()),
@@ -214,11 +262,18 @@ impl<'a> CharacterData<'a> {
     }
 
     /// How the word of a character reads.
-    #[tactic(auto, unfolding(crate::specs::Characters::reading_of_word))]
     pub fn reading(&self, character: char) -> WordReading
         ensures { result ≡ reading_of_word self.now character }
     {
-        read(character, self.word_of(character), self.is_mapper)
+        self.reading_by(character, self.word_of(character))
+    }
+
+    #[tactic(auto, unfolding(crate::specs::Characters::reading_of_word))]
+    fn reading_by(&self, character: char, word: u32) -> WordReading
+        requires { word ≡ word_of self.now character }
+        ensures { result ≡ reading_of_word self.now character }
+    {
+        read(character, word, self.is_mapper)
     }
 
     /// The list from an item of the tables on.

@@ -5,7 +5,7 @@ use Rattle.normalizer_tables.specs.SpecialLists.{FixedList}
 use Rattle.normalizer_tables.specs.Ignored.{ignored_list}
 use Rattle.normalizer_tables.proofs.CharacterLemmas.{list_read-scalar}
 use Rattle.normalizer_tables.proofs.WordLemmas.{read-hangul}
-use Rattle.normalizer_tables.proofs.characters.CharacterData.members_read.Goals as goal
+use Rattle.normalizer_tables.proofs.characters.CharacterData.members_read_by.Goals as goal
 
 pub of_hangul_syllable-requires : goal.of_hangul_syllable-requires
 unfolding reading_of_word
@@ -25,8 +25,8 @@ pub returns-in-Itself : goal.returns-in-Itself
 unfolding named_list
 returns-in-Itself c =
     ap Some c.one.ensures ∙ elim c.in-Itself.is [
-      | inl h ↦ sym (list_read-scalar c.args.self.now (ignored_list c.args.ignored) c.args.character _ c.ranges.character.0 (sym c.reading.ensures ∙ h))
-      | inr h ↦ sym (list_read-scalar c.args.self.now (ignored_list c.args.ignored) c.args.character _ c.ranges.character.0 (sym c.reading.ensures ∙ h.1))
+      | inl h ↦ sym (list_read-scalar c.args.self.now (ignored_list c.args.ignored) c.args.character _ c.ranges.character.0 (sym c.reading_by.ensures ∙ h))
+      | inr h ↦ sym (list_read-scalar c.args.self.now (ignored_list c.args.ignored) c.args.character _ c.ranges.character.0 (sym c.reading_by.ensures ∙ h.1))
     ]
 
 pub returns-in-Ignored : goal.returns-in-Ignored

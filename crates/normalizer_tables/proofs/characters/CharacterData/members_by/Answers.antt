@@ -1,7 +1,7 @@
 use Rattle.std.proofs.Common.{sym, ◌∙◌}
 use Rattle.normalizer_tables.specs.Ignored.{ignored_list}
 use Rattle.normalizer_tables.proofs.CharacterLemmas.{list_of-reads, list_of-default}
-use Rattle.normalizer_tables.proofs.characters.CharacterData.members.Goals as goal
+use Rattle.normalizer_tables.proofs.characters.CharacterData.members_by.Goals as goal
 
 pub returns-in-Some : goal.returns-in-Some
 returns-in-Some c = sym (list_of-reads c.args.self.now (ignored_list c.args.ignored) c.args.character _ (sym c.in-Some.ensures))
