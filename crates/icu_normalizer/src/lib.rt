@@ -2,6 +2,7 @@
 #![tactic(auto)]
 
 pub mod properties;
+pub mod provider;
 pub mod uts46;
 
 pub use normalizer_builder::{Built, Records};
