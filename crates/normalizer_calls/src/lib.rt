@@ -4,6 +4,7 @@
 mod checks;
 mod composing_normalizer;
 mod form_items;
+pub mod laws;
 mod normalizer;
 mod offence;
 mod owned;
