@@ -28,7 +28,7 @@ use Rattle.normalizer_input.specs.EncodedForm.{encoded_form, IsEncodedFront}
 use Rattle.normalizer_input.proofs.EncodedFormLemmas.{is_normalized_iff_encoded_form, form_ends_with_units, longest_encoded_is_cut}
 use Rattle.normalizer_input.proofs.InputBoundaryLemmas.{boundary_of_front, decoded-parts}
 use Rattle.normalizer_input.proofs.InputCutLemmas.{front_at_input_cut, input_cut_unique, rest_at_input_cut}
-use Rattle.normalizer_input.proofs.InputOffenceLemmas.{continued_input_offence, input_offence_exists}
+use Rattle.normalizer_input.proofs.InputOffenceLemmas.{continued_input_offence, input_found_differs, input_offence_exists}
 use Rattle.normalizer_iterators.specs.declared.error.NormalizeError.{NormalizeError}
 use Rattle.normalizer_iterators.specs.declared.error.NormalizeError.TheVariants.{Sink}
 use Rattle.normalizer_calls.specs.Checks.{IsCutUnlessNormalized, IsLastingOffence, IsSplitAtCut}
@@ -166,6 +166,7 @@ is_none_iff_normalized e d form units (Some place) false is h = (λ k. (let no :
 pub IsLastingOffence-found : (m : MadeForm) (e : Encoding) (units : List ℕ) → SuitsTexts m.reading m.form → (answer : Option Offence) → IsInputOffenceOf e m.reading m.form units answer → IsLastingOffence m e units answer
 IsLastingOffence-found m e units suits answer h = record {
   offence = h;
+  differ = λ o is. input_found_differs e m.reading m.form suits.laws units o.place o.found o.wanted (subst (IsInputOffenceOf e m.reading m.form units) is h);
   lasts = λ w o is more.
       continued_input_offence e m.reading m.form suits.laws suits.inhabited units more o.place o.found o.wanted w
       (subst (IsInputOffenceOf e m.reading m.form units) is h);

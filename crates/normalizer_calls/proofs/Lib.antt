@@ -3,4 +3,5 @@ pub mod CheckLemmas
 pub mod MapperLemmas
 pub mod OwnedLemmas
 pub mod SoundPairs
+pub mod TextAnswers
 pub mod WritingLemmas

@@ -18,7 +18,7 @@ use Rattle.normalizer_input.specs.EncodedForm.{encoded_form}
 use Rattle.normalizer_input.proofs.EncodedFormLemmas.{is_normalized_iff_encoded_form}
 use Rattle.normalizer_input.specs.InputCut.{IsInputCut, IsInputNormalized}
 use Rattle.normalizer_calls.specs.Forms.{MadeForm}
-use Rattle.normalizer_calls.specs.Owned.{HandsOutForm, IsFormOf, WroteUnlessOwn}
+use Rattle.normalizer_calls.specs.Owned.{HandsOutForm, IsEncodedFormOf, WroteUnlessOwn}
 
 -- the prefix and the form of the rest are the form of the whole
 pub form_from_cut : (e : Encoding) (d : Reading) (form : Form) (units : List ℕ) (place : ℕ) → IsInputCut e d form units place
@@ -47,8 +47,8 @@ decomposed_form d Decomposing suits x = normal_form-normal_form d Decomposing su
 decomposed_form d Composing suits x = nfd-nfc d suits.laws x
 
 -- the form, encoded, is the form of the units
-pub IsFormOf-encoded : (m : MadeForm) (e : Encoding) (units : List ℕ) → SuitsTexts m.reading m.form → (content : List ℕ) → content ≡ encoded_form e m.reading m.form units → IsFormOf m e units content
-IsFormOf-encoded m e units suits content is =
+pub IsEncodedFormOf-encoded : (m : MadeForm) (e : Encoding) (units : List ℕ) → SuitsTexts m.reading m.form → (content : List ℕ) → content ≡ encoded_form e m.reading m.form units → IsEncodedFormOf m e units content
+IsEncodedFormOf-encoded m e units suits content is =
     let d = m.reading in
     let x : List ℕ = decoded_in e units in
     let form_of_x : List ℕ = normal_form d m.form x in
@@ -57,24 +57,27 @@ IsFormOf-encoded m e units suits content is =
     let decodes : decoded_in e content ≡ form_of_x = ap (decoded_in e) is ∙ (DecodesBack-in e form_of_x form_text).text in
     record {
       encoded = is;
-      equivalents = λ y y_text.
-          let same = equivalent_texts d m.form suits.laws suits.texts x y x_text y_text in
-          (λ h. sym (same.0 h) ∙ sym decodes, λ h. same.1 (sym (h ∙ decodes)));
-      own = subst (IsNormalized d m.form) (sym decodes) (normal_form-normal_form d m.form suits.laws x);
-      decomposed = ap (nfd d) decodes ∙ decomposed_form d m.form suits x;
+      text = record {
+        form = decodes;
+        equivalents = λ y y_text.
+            let same = equivalent_texts d m.form suits.laws suits.texts x y x_text y_text in
+            (λ h. sym (same.0 h) ∙ sym decodes, λ h. same.1 (sym (h ∙ decodes)));
+        own = subst (IsNormalized d m.form) (sym decodes) (normal_form-normal_form d m.form suits.laws x);
+        decomposed = ap (nfd d) decodes ∙ decomposed_form d m.form suits x;
+      };
     }
 
 -- where the units are their own form, they are the form of the units
-pub IsFormOf-own : (m : MadeForm) (e : Encoding) (units : List ℕ) → SuitsTexts m.reading m.form → IsInputNormalized e m.reading m.form units → IsFormOf m e units units
-IsFormOf-own m e units suits own =
-    IsFormOf-encoded m e units suits units (sym ((is_normalized_iff_encoded_form e m.reading m.form units (IsText-normal_form m.reading m.form suits.texts suits.scalars)).0 own))
+pub IsEncodedFormOf-own : (m : MadeForm) (e : Encoding) (units : List ℕ) → SuitsTexts m.reading m.form → IsInputNormalized e m.reading m.form units → IsEncodedFormOf m e units units
+IsEncodedFormOf-own m e units suits own =
+    IsEncodedFormOf-encoded m e units suits units (sym ((is_normalized_iff_encoded_form e m.reading m.form units (IsText-normal_form m.reading m.form suits.texts suits.scalars)).0 own))
 
 -- what was written
 module _ {S : Type 0} (taken : S → List ℕ) (m : MadeForm) (e : Encoding) (units : List ℕ) (suits : SuitsTexts m.reading m.form) (old new : S) where
   pub WroteUnlessOwn-kept : IsInputNormalized e m.reading m.form units → WroteUnlessOwn taken m e units old true new
   WroteUnlessOwn-kept own = record {
     is_own = (λ _. own, λ _. refl);
-    kept = λ _. IsFormOf-own m e units suits own;
+    kept = λ _. IsEncodedFormOf-own m e units suits own;
     wrote = λ k. (let no : true ≡ false = k in cc);
   }
 
@@ -82,14 +85,14 @@ module _ {S : Type 0} (taken : S → List ℕ) (m : MadeForm) (e : Encoding) (un
   WroteUnlessOwn-wrote differs took = record {
     is_own = (λ k. (let no : false ≡ true = k in cc), λ own. absurd (differs own));
     kept = λ k. (let no : false ≡ true = k in cc);
-    wrote = λ _. (encoded_form e m.reading m.form units, took, IsFormOf-encoded m e units suits (encoded_form e m.reading m.form units) refl);
+    wrote = λ _. (encoded_form e m.reading m.form units, took, IsEncodedFormOf-encoded m e units suits (encoded_form e m.reading m.form units) refl);
   }
 
 -- what was handed out
 module _ {S A : Type 0} (content : A → List ℕ) (IsBorrowed : A → Type 0) (taken : S → List ℕ) (m : MadeForm) (e : Encoding) (units : List ℕ) (old new : S) (own : Bool) (wrote : WroteUnlessOwn taken m e units old own new) (z : A) where
   pub HandsOutForm-borrowed : IsTrue own → content z ≡ units → IsBorrowed z → HandsOutForm content IsBorrowed m e units (Ok z)
   HandsOutForm-borrowed is same borrowed = record {
-    form = subst (IsFormOf m e units) (sym same) (wrote.kept is);
+    form = subst (IsEncodedFormOf m e units) (sym same) (wrote.kept is);
     borrows = (λ _. wrote.is_own.0 is, λ _. borrowed);
     room = λ _ _. refl;
     refused = tt;
@@ -98,7 +101,7 @@ module _ {S A : Type 0} (content : A → List ℕ) (IsBorrowed : A → Type 0) (
   pub HandsOutForm-owned : IsFalse own → taken old ≡ [] → content z ≡ taken new → ¬ IsBorrowed z → HandsOutForm content IsBorrowed m e units (Ok z)
   HandsOutForm-owned is empty same owned =
       let written = wrote.wrote is in
-      let form : IsFormOf m e units (content z) = subst (IsFormOf m e units) (sym (same ∙ written.1 ∙ ap (λ l. l ++ written.0) empty)) written.2 in
+      let form : IsEncodedFormOf m e units (content z) = subst (IsEncodedFormOf m e units) (sym (same ∙ written.1 ∙ ap (λ l. l ++ written.0) empty)) written.2 in
       let differs : ¬ IsInputNormalized e m.reading m.form units = (λ normalized. (let no : false ≡ true = sym is ∙ wrote.is_own.1 normalized in cc)) in record {
         form = form;
         borrows = (λ borrowed. absurd (owned borrowed), λ normalized. absurd (differs normalized));

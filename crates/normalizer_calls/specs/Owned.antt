@@ -1,5 +1,8 @@
 -- What calls tell that hand out the form of an input.
-use Rattle.std.specs.Prelude.{◌≡◌, ◌↔◌, ℕ, Bool, List, ◌++◌, Result, IfOk, IsOk, IsOkUnless, IsTrue, IsFalse}
+use Rattle.std.specs.Prelude.{◌≡◌, ◌↔◌, ℕ, Bool, List, ◌++◌, chars, Result, IfOk, IsOk, IsOkUnless, IsTrue, IsFalse}
+use Rattle.std.specs.Cow.{cow_str_bytes, IsBorrowedStr}
+use Rattle.std.specs.declared.borrow.CowStr.{CowStr}
+use Rattle.std.specs.declared.alloc.Global.{Global}
 use Rattle.normal_forms.specs.Equivalence.{EquivalentTexts}
 use Rattle.normal_forms.specs.Forms.{nfd, normal_form, IsNormalized}
 use Rattle.normal_forms.specs.Reading.{IsText}
@@ -11,28 +14,41 @@ use Rattle.normalizer_iterators.specs.declared.error.NormalizeError.{NormalizeEr
 use Rattle.normalizer_iterators.specs.declared.error.NormalizeError.TheVariants.{Memory}
 use Rattle.normalizer_calls.specs.Forms.{MadeForm}
 
--- The content is the form of what the units decode to, encoded as they are. It is the form of exactly the texts that are
--- equivalent to what the units decode to, its own form, and of the same decomposing form as they are.
-pub record IsFormOf (m : MadeForm) (e : Encoding) (units content : List ℕ) : Type 0 where
+-- The text z is the form of the text x. It is the form of exactly the texts that are equivalent to x, its own form, and
+-- of the same decomposing form as x.
+pub record IsFormOf (m : MadeForm) (x z : List ℕ) : Type 0 where
+  pub form : z ≡ normal_form m.reading m.form x
+  pub equivalents : (y : List ℕ) → IsText y → EquivalentTexts m.reading x y ↔ (normal_form m.reading m.form y ≡ z)
+  pub own : IsNormalized m.reading m.form z
+  pub decomposed : nfd m.reading z ≡ nfd m.reading x
+
+-- the content is the form of what the units decode to, encoded as they are
+pub record IsEncodedFormOf (m : MadeForm) (e : Encoding) (units content : List ℕ) : Type 0 where
   pub encoded : content ≡ encoded_form e m.reading m.form units
-  pub equivalents : (y : List ℕ) → IsText y
-      → EquivalentTexts m.reading (decoded_in e units) y ↔ (normal_form m.reading m.form y ≡ decoded_in e content)
-  pub own : IsNormalized m.reading m.form (decoded_in e content)
-  pub decomposed : nfd m.reading (decoded_in e content) ≡ nfd m.reading (decoded_in e units)
+  pub text : IsFormOf m (decoded_in e units) (decoded_in e content)
 
 -- The form of the units was handed out, borrowed exactly where they are well-formed and their own form. `Memory` is the
 -- only fault, and where they are, it never comes over short runs.
 pub record HandsOutForm {A : Type 0} (content : A → List ℕ) (IsBorrowed : A → Type 0) (m : MadeForm) (e : Encoding)
     (units : List ℕ) (answer : Result A NormalizeError) : Type 0 where
-  pub form : IfOk answer (λ z. IsFormOf m e units (content z))
+  pub form : IfOk answer (λ z. IsEncodedFormOf m e units (content z))
   pub borrows : IfOk answer (λ z. IsBorrowed z ↔ IsInputNormalized e m.reading m.form units)
   pub room : HasShortRuns m.has_class_form m.reading (decoded_in e units) → IsInputNormalized e m.reading m.form units
       → IsOk answer
+  pub refused : IsOkUnless answer Memory
+
+-- The form of a text was handed out, borrowed exactly where the text is its own form. `Memory` is the only fault, and
+-- where it is, it never comes over short runs.
+pub record HandsOutFormOfText (m : MadeForm) (x : List ℕ) (answer : Result (CowStr Global) NormalizeError)
+    : Type 0 where
+  pub form : IfOk answer (λ z. IsFormOf m x (chars (cow_str_bytes z)))
+  pub borrows : IfOk answer (λ z. IsBorrowedStr z ↔ IsNormalized m.reading m.form x)
+  pub room : HasShortRuns m.has_class_form m.reading x → IsNormalized m.reading m.form x → IsOk answer
   pub refused : IsOkUnless answer Memory
 
 -- The units are well-formed and their own form, or their form was written behind what was taken before.
 pub record WroteUnlessOwn {S : Type 0} (taken : S → List ℕ) (m : MadeForm) (e : Encoding) (units : List ℕ) (old : S)
     (own : Bool) (new : S) : Type 0 where
   pub is_own : IsTrue own ↔ IsInputNormalized e m.reading m.form units
-  pub kept : IsTrue own → IsFormOf m e units units
-  pub wrote : IsFalse own → (content : List ℕ) × (taken new ≡ taken old ++ content) × IsFormOf m e units content
+  pub kept : IsTrue own → IsEncodedFormOf m e units units
+  pub wrote : IsFalse own → (content : List ℕ) × (taken new ≡ taken old ++ content) × IsEncodedFormOf m e units content

@@ -1,9 +1,15 @@
 //! Whether text, bytes and 16-bit units are their own normal form, and where they first are not.
+ghost use Rattle.std.specs.Prelude.{chars};
 ghost use Rattle.normalizer_text.specs.Encodings.{Encoding};
-ghost use Rattle.normalizer_calls.specs.Checks.{ChecksForm, FindsOffence};
+ghost use Rattle.normalizer_calls.specs.Checks.{
+  ChecksForm,
+  ChecksText,
+  FindsOffence,
+  FindsOffenceOfText,
+};
 ghost use Rattle.normalizer_calls.specs.Forms.{composed_by, decomposed_by, made_form};
 
-use crate::offence::{LawfulItems, cut_of, offence_of};
+use crate::offence::{LawfulItems, cut_of, laws_hold, offence_of};
 use crate::{ComposingNormalizerBorrowed, DecomposingNormalizerBorrowed};
 use normalizer_input::Offence;
 use normalizer_iterators::NormalizeError;
@@ -21,6 +27,17 @@ fn is_own_form<U: Expected, N: LawfulItems<Chars<U>>>(
     Ok(cut_of(normalizer, units)?.is_none())
 }
 
+/// Whether a text is its own form.
+fn is_own_text<'t, N: LawfulItems<Chars<&'t str>>>(
+    normalizer: &N,
+    text: &'t str,
+) -> Result<bool, NormalizeError>
+    ensures { ChecksText (made_form (N.has_class_form normalizer.now) (N.reading normalizer.now) N.form)
+        (chars text.now) result }
+{
+    is_own_form::<&'t str, N>(normalizer, text)
+}
+
 /// The first offence of the units, which lasts whatever is put behind them.
 fn lasting_offence_of<U: Expected, N: LawfulItems<Chars<U>>>(
     normalizer: &N,
@@ -32,12 +49,24 @@ fn lasting_offence_of<U: Expected, N: LawfulItems<Chars<U>>>(
     offence_of(normalizer, units)
 }
 
+/// The first offence of a text, which lasts whatever is put behind it.
+fn lasting_offence_of_text<'t, N: LawfulItems<Chars<&'t str>>>(
+    normalizer: &N,
+    text: &'t str,
+) -> Result<Option<Offence>, NormalizeError>
+    ensures { FindsOffenceOfText (made_form (N.has_class_form normalizer.now) (N.reading normalizer.now) N.form)
+        (chars text.now) result }
+{
+    laws_hold::<&'t str, N>(normalizer);
+    offence_of::<&'t str, N>(normalizer, text)
+}
+
 impl<'a> DecomposingNormalizerBorrowed<'a> {
     /// Whether a text is its own decomposed form.
     pub fn is_normalized(&self, text: &str) -> Result<bool, NormalizeError>
-        ensures { ChecksForm (decomposed_by self.now) Encoding.Utf8 text.now result }
+        ensures { ChecksText (decomposed_by self.now) (chars text.now) result }
     {
-        is_own_form::<&str, Self>(self, text)
+        is_own_text(self, text)
     }
 
     /// Whether bytes are well-formed and their own decomposed form.
@@ -56,9 +85,9 @@ impl<'a> DecomposingNormalizerBorrowed<'a> {
 
     /// The first place at which a text is not its own decomposed form, in bytes.
     pub fn first_offence(&self, text: &str) -> Result<Option<Offence>, NormalizeError>
-        ensures { FindsOffence (decomposed_by self.now) Encoding.Utf8 text.now result }
+        ensures { FindsOffenceOfText (decomposed_by self.now) (chars text.now) result }
     {
-        lasting_offence_of::<&str, Self>(self, text)
+        lasting_offence_of_text(self, text)
     }
 
     /// The first place at which bytes are ill-formed or not their own decomposed form.
@@ -79,9 +108,9 @@ impl<'a> DecomposingNormalizerBorrowed<'a> {
 impl<'a> ComposingNormalizerBorrowed<'a> {
     /// Whether a text is its own composed form.
     pub fn is_normalized(&self, text: &str) -> Result<bool, NormalizeError>
-        ensures { ChecksForm (composed_by self.now) Encoding.Utf8 text.now result }
+        ensures { ChecksText (composed_by self.now) (chars text.now) result }
     {
-        is_own_form::<&str, Self>(self, text)
+        is_own_text(self, text)
     }
 
     /// Whether bytes are well-formed and their own composed form.
@@ -100,9 +129,9 @@ impl<'a> ComposingNormalizerBorrowed<'a> {
 
     /// The first place at which a text is not its own composed form, in bytes.
     pub fn first_offence(&self, text: &str) -> Result<Option<Offence>, NormalizeError>
-        ensures { FindsOffence (composed_by self.now) Encoding.Utf8 text.now result }
+        ensures { FindsOffenceOfText (composed_by self.now) (chars text.now) result }
     {
-        lasting_offence_of::<&str, Self>(self, text)
+        lasting_offence_of_text(self, text)
     }
 
     /// The first place at which bytes are ill-formed or not their own composed form.

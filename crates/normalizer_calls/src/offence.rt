@@ -28,6 +28,11 @@ impl<'a, I: Iterator<Item = char> + Drop> LawfulItems<I> for ComposingNormalizer
     ghost suits = { λ n. n.serves.laws };
 }
 
+/// The laws of its form hold of what a normalizer's data say. The function does nothing: its contract is the law.
+pub(crate) fn laws_hold<U: Units, N: LawfulItems<Chars<U>>>(normalizer: &N)
+    ensures { SuitsTexts (N.reading normalizer.now) N.form }
+{}
+
 /// Where the units are cut, or nothing where they are well-formed and their own form.
 pub(crate) fn cut_of<U: Expected, N: LawfulItems<Chars<U>>>(
     normalizer: &N,

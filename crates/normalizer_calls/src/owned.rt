@@ -1,15 +1,15 @@
 //! The forms of text, bytes and 16-bit units, borrowed from the input where it is its own form.
-ghost use Rattle.std.specs.Prelude.{◌≡◌, ◌++◌, [], IfOk, IsOk, IsOkUnless, OnOk};
+ghost use Rattle.std.specs.Prelude.{◌≡◌, ◌++◌, [], chars, IfOk, IsOk, IsOkUnless, OnOk};
 ghost use Rattle.std.specs.Cow.{cow_slice_items, cow_str_bytes, IsBorrowedSlice, IsBorrowedStr};
 ghost use Rattle.normal_forms.specs.ShortRuns.{HasShortRuns};
 ghost use Rattle.normalizer_text.specs.Encodings.{Encoding, decoded_in};
 ghost use Rattle.normalizer_input.specs.EncodedForm.{encoded_form};
 ghost use Rattle.normalizer_input.specs.InputCut.{IsInputCut, IsInputNormalized};
 ghost use Rattle.normalizer_calls.specs.Forms.{composed_by, decomposed_by, made_form};
-ghost use Rattle.normalizer_calls.specs.Owned.{HandsOutForm, WroteUnlessOwn};
+ghost use Rattle.normalizer_calls.specs.Owned.{HandsOutForm, HandsOutFormOfText, WroteUnlessOwn};
 
 use crate::form_items::FormItems;
-use crate::offence::{LawfulItems, cut_of};
+use crate::offence::{LawfulItems, cut_of, laws_hold};
 use crate::splits::text_of;
 use crate::writing::form_to;
 use crate::{ComposingNormalizerBorrowed, DecomposingNormalizerBorrowed};
@@ -64,9 +64,10 @@ fn form_of_str<'t, N: LawfulItems<Chars<&'t str>>>(
     alloc: Global,
     text: &'t str,
 ) -> Result<CowStr<'t, Global>, NormalizeError>
-    ensures { HandsOutForm cow_str_bytes IsBorrowedStr
-        (made_form (N.has_class_form normalizer.now) (N.reading normalizer.now) N.form) Encoding.Utf8 text.now result }
+    ensures { HandsOutFormOfText (made_form (N.has_class_form normalizer.now) (N.reading normalizer.now) N.form)
+        (chars text.now) result }
 {
+    laws_hold::<&'t str, N>(normalizer);
     let mut owned = String::new(alloc);
     if write_unless_own::<&'t str, N, String>(normalizer, text, &mut owned)? {
         Ok(CowStr::Borrowed(text))
@@ -112,7 +113,7 @@ fn form_of_utf16<'t, N: LawfulItems<Chars<&'t [u16]>>>(
 impl<'a> DecomposingNormalizerBorrowed<'a> {
     /// The decomposed form of a text, borrowed exactly where the text is its own.
     pub fn normalize<'t>(&self, text: &'t str) -> Result<CowStr<'t, Global>, NormalizeError>
-        ensures { HandsOutForm cow_str_bytes IsBorrowedStr (decomposed_by self.now) Encoding.Utf8 text.now result }
+        ensures { HandsOutFormOfText (decomposed_by self.now) (chars text.now) result }
     {
         form_of_str(self, self.characters.allocator(), text)
     }
@@ -139,7 +140,7 @@ impl<'a> DecomposingNormalizerBorrowed<'a> {
 impl<'a> ComposingNormalizerBorrowed<'a> {
     /// The composed form of a text, borrowed exactly where the text is its own.
     pub fn normalize<'t>(&self, text: &'t str) -> Result<CowStr<'t, Global>, NormalizeError>
-        ensures { HandsOutForm cow_str_bytes IsBorrowedStr (composed_by self.now) Encoding.Utf8 text.now result }
+        ensures { HandsOutFormOfText (composed_by self.now) (chars text.now) result }
     {
         form_of_str(self, self.characters.allocator(), text)
     }

@@ -1,10 +1,11 @@
 //! Text, bytes and 16-bit units in two parts: the front that stays as it is, and the rest.
-ghost use Rattle.std.specs.Prelude.{◌≡◌};
-ghost use Rattle.normalizer_text.specs.Encodings.{Encoding};
+ghost use Rattle.std.specs.Prelude.{◌≡◌, chars};
+ghost use Rattle.normalizer_text.specs.Encodings.{Encoding, decoded_in};
 ghost use Rattle.normalizer_text.specs.Steps.{IsWellFormed};
-ghost use Rattle.normalizer_text.specs.Utf8.{first_of_utf8};
+ghost use Rattle.normalizer_text.specs.Utf8.{decoded_utf8, first_of_utf8};
+ghost use Rattle.normalizer_text.specs.Utf16.{decoded_utf16};
 ghost use Rattle.normalizer_input.specs.InputCut.{IsInputCut};
-ghost use Rattle.normalizer_calls.specs.Checks.{AnswersOf, IsSplitAtCut};
+ghost use Rattle.normalizer_calls.specs.Checks.{AnswersOf, IsSplitAtCut, IsTextSplitAtCut};
 ghost use Rattle.normalizer_calls.specs.Forms.{composed_by, decomposed_by, made_form};
 
 use crate::offence::{LawfulItems, cut_of};
@@ -19,7 +20,8 @@ pub(crate) fn place_of_cut<U: Expected, N: LawfulItems<Chars<U>>>(
     units: U,
 ) -> Result<usize, NormalizeError>
     ensures { AnswersOf (made_form (N.has_class_form normalizer.now) (N.reading normalizer.now) N.form)
-        U.encoding (U.units units) (IsInputCut U.encoding (N.reading normalizer.now) N.form (U.units units)) result }
+        (decoded_in U.encoding (U.units units))
+        (IsInputCut U.encoding (N.reading normalizer.now) N.form (U.units units)) result }
 {
     match cut_of(normalizer, units)? {
         Some(place) => Ok(place),
@@ -33,7 +35,7 @@ pub(crate) fn split_at_cut<U: Expected, N: LawfulItems<Chars<U>>>(
     units: U,
 ) -> Result<(U, U), NormalizeError>
     ensures { AnswersOf (made_form (N.has_class_form normalizer.now) (N.reading normalizer.now) N.form)
-        U.encoding (U.units units) (λ parts. IsSplitAtCut
+        (decoded_in U.encoding (U.units units)) (λ parts. IsSplitAtCut
         (made_form (N.has_class_form normalizer.now) (N.reading normalizer.now) N.form)
         U.encoding (U.units units) (U.units parts.0) (U.units parts.1)) result }
 {
@@ -41,14 +43,27 @@ pub(crate) fn split_at_cut<U: Expected, N: LawfulItems<Chars<U>>>(
     Ok((units.before(place), units.after(place)))
 }
 
+/// A text in two parts, at its cut.
+fn split_text_at_cut<'t, N: LawfulItems<Chars<&'t str>>>(
+    normalizer: &N,
+    text: &'t str,
+) -> Result<(&'t str, &'t str), NormalizeError>
+    ensures { AnswersOf (made_form (N.has_class_form normalizer.now) (N.reading normalizer.now) N.form)
+        (chars text.now) (λ parts. IsTextSplitAtCut
+        (made_form (N.has_class_form normalizer.now) (N.reading normalizer.now) N.form)
+        text.now parts.0.now parts.1.now) result }
+{
+    split_at_cut::<&'t str, N>(normalizer, text)
+}
+
 impl<'a> DecomposingNormalizerBorrowed<'a> {
-    /// A text in two parts: the longest front that the decomposed form leaves as it is, whatever it does to the rest, and
-    /// the rest.
+    /// A text in two parts: the longest front that the decomposed form leaves as it is, whatever it does to the rest,
+    /// and the rest.
     pub fn split_normalized<'t>(&self, text: &'t str) -> Result<(&'t str, &'t str), NormalizeError>
-        ensures { AnswersOf (decomposed_by self.now) Encoding.Utf8 text.now
-            (λ parts. IsSplitAtCut (decomposed_by self.now) Encoding.Utf8 text.now parts.0.now parts.1.now) result }
+        ensures { AnswersOf (decomposed_by self.now) (chars text.now)
+            (λ parts. IsTextSplitAtCut (decomposed_by self.now) text.now parts.0.now parts.1.now) result }
     {
-        split_at_cut::<&'t str, Self>(self, text)
+        split_text_at_cut(self, text)
     }
 
     /// Bytes in two parts: the longest well-formed front that the decomposed form leaves as it is, and the rest.
@@ -56,7 +71,7 @@ impl<'a> DecomposingNormalizerBorrowed<'a> {
         &self,
         bytes: &'t [u8],
     ) -> Result<(&'t str, &'t [u8]), NormalizeError>
-        ensures { AnswersOf (decomposed_by self.now) Encoding.Utf8 bytes.now
+        ensures { AnswersOf (decomposed_by self.now) (decoded_utf8 bytes.now)
             (λ parts. IsSplitAtCut (decomposed_by self.now) Encoding.Utf8 bytes.now parts.0.now parts.1.now) result }
     {
         let (prefix, rest) = split_at_cut::<&'t [u8], Self>(self, bytes)?;
@@ -68,7 +83,7 @@ impl<'a> DecomposingNormalizerBorrowed<'a> {
         &self,
         units: &'t [u16],
     ) -> Result<(&'t [u16], &'t [u16]), NormalizeError>
-        ensures { AnswersOf (decomposed_by self.now) Encoding.Utf16 units.now
+        ensures { AnswersOf (decomposed_by self.now) (decoded_utf16 units.now)
             (λ parts. IsSplitAtCut (decomposed_by self.now) Encoding.Utf16 units.now parts.0.now parts.1.now) result }
     {
         split_at_cut::<&'t [u16], Self>(self, units)
@@ -76,13 +91,13 @@ impl<'a> DecomposingNormalizerBorrowed<'a> {
 }
 
 impl<'a> ComposingNormalizerBorrowed<'a> {
-    /// A text in two parts: the longest front that the composed form leaves as it is, whatever it does to the rest, and
-    /// the rest.
+    /// A text in two parts: the longest front that the composed form leaves as it is, whatever it does to the rest,
+    /// and the rest.
     pub fn split_normalized<'t>(&self, text: &'t str) -> Result<(&'t str, &'t str), NormalizeError>
-        ensures { AnswersOf (composed_by self.now) Encoding.Utf8 text.now
-            (λ parts. IsSplitAtCut (composed_by self.now) Encoding.Utf8 text.now parts.0.now parts.1.now) result }
+        ensures { AnswersOf (composed_by self.now) (chars text.now)
+            (λ parts. IsTextSplitAtCut (composed_by self.now) text.now parts.0.now parts.1.now) result }
     {
-        split_at_cut::<&'t str, Self>(self, text)
+        split_text_at_cut(self, text)
     }
 
     /// Bytes in two parts: the longest well-formed front that the composed form leaves as it is, and the rest.
@@ -90,7 +105,7 @@ impl<'a> ComposingNormalizerBorrowed<'a> {
         &self,
         bytes: &'t [u8],
     ) -> Result<(&'t str, &'t [u8]), NormalizeError>
-        ensures { AnswersOf (composed_by self.now) Encoding.Utf8 bytes.now
+        ensures { AnswersOf (composed_by self.now) (decoded_utf8 bytes.now)
             (λ parts. IsSplitAtCut (composed_by self.now) Encoding.Utf8 bytes.now parts.0.now parts.1.now) result }
     {
         let (prefix, rest) = split_at_cut::<&'t [u8], Self>(self, bytes)?;
@@ -102,7 +117,7 @@ impl<'a> ComposingNormalizerBorrowed<'a> {
         &self,
         units: &'t [u16],
     ) -> Result<(&'t [u16], &'t [u16]), NormalizeError>
-        ensures { AnswersOf (composed_by self.now) Encoding.Utf16 units.now
+        ensures { AnswersOf (composed_by self.now) (decoded_utf16 units.now)
             (λ parts. IsSplitAtCut (composed_by self.now) Encoding.Utf16 units.now parts.0.now parts.1.now) result }
     {
         split_at_cut::<&'t [u16], Self>(self, units)
