@@ -75,7 +75,7 @@ none_of : (o : Option ℕ) → ((r : ℕ) → o ≡ Some r → ⊥) → o ≡ No
 none_of None h = refl
 none_of (Some r) h = absurd (h r refl)
 
-BeginsSafely-apart : (f : ℕ → Bool) (d : Reading) (c : ℕ) → StandsApart f d c → BeginsSafely d (d.list c)
+pub BeginsSafely-apart : (f : ℕ → Bool) (d : Reading) (c : ℕ) → StandsApart f d c → BeginsSafely d (d.list c)
 BeginsSafely-apart f d c apart = by (d.list c) refl
   where
     by : (x : List ℕ) → d.list c ≡ x → BeginsSafely d x
