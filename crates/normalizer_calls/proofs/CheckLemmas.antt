@@ -1,9 +1,9 @@
 -- Where a form that is written into a check sink is refused, its input is cut.
 use Rattle.std.proofs.Common.{◌≡◌, ℕ, suc, ◌-◌, ◌≤◌, List, [], ◌∷◌, ◌++◌, length, take, drop, Result, Ok, Err, Option, Some, None}
-use Rattle.std.proofs.Common.{refl, sym, ap, subst, ◌∙◌, arith, append_assoc, length-append, length-take-le, take-append-drop}
+use Rattle.std.proofs.Common.{refl, sym, ap, subst, ◌∙◌, arith, inl, inr, append_assoc, length-append, length-take-le, take-append-drop}
 use Rattle.std.proofs.lemmas.List.{append_cancel_left, take_at}
 use Rattle.std.proofs.Math.Seq.{take-append_seam}
-use Rattle.std.specs.Prelude.{⊤, ◌↔◌, Bool, true, false, not, IsTrue}
+use Rattle.std.specs.Prelude.{⊤, ◌↔◌, ◌⊎◌, Bool, true, false, not, IsTrue}
 use Rattle.std.specs.Option.{is_some}
 use Rattle.normal_forms.specs.Reading.{Reading}
 use Rattle.normal_forms.specs.declared.Form.{Form}
@@ -25,7 +25,7 @@ use Rattle.normalizer_input.specs.InputCut.{IsInputNormalized, IsInputCut}
 use Rattle.normalizer_input.specs.InputOffence.{IsInputOffence, IsInputOffenceOf}
 use Rattle.normalizer_input.specs.declared.offence.Offence.{Offence}
 use Rattle.normalizer_input.specs.EncodedForm.{encoded_form, IsEncodedFront}
-use Rattle.normalizer_input.proofs.EncodedFormLemmas.{is_normalized_iff_encoded_form, form_ends_with_units, longest_encoded_is_cut}
+use Rattle.normalizer_input.proofs.EncodedFormLemmas.{is_normalized_iff_encoded_form, form_ends_with_units, longest_encoded_is_cut, offered_is_normalized}
 use Rattle.normalizer_input.proofs.InputBoundaryLemmas.{boundary_of_front, decoded-parts}
 use Rattle.normalizer_input.proofs.InputCutLemmas.{front_at_input_cut, input_cut_unique, rest_at_input_cut}
 use Rattle.normalizer_input.proofs.InputOffenceLemmas.{continued_input_offence, input_found_differs, input_offence_exists}
@@ -33,6 +33,7 @@ use Rattle.normalizer_iterators.specs.declared.error.NormalizeError.{NormalizeEr
 use Rattle.normalizer_iterators.specs.declared.error.NormalizeError.TheVariants.{Sink}
 use Rattle.normalizer_calls.specs.Checks.{IsCutUnlessNormalized, IsLastingOffence, IsSplitAtCut}
 use Rattle.normalizer_calls.specs.Forms.{MadeForm}
+use Rattle.normalizer_calls.specs.Passing.{StandsInInput}
 use Rattle.normalizer_calls.specs.Writing.{WasRefusedPiece, WritesText}
 
 module _ (e : Encoding) (d : Reading) (form : Form) (units : List ℕ) where
@@ -42,7 +43,7 @@ module _ (e : Encoding) (d : Reading) (form : Form) (units : List ℕ) where
   -- a check sink that was given the form
   abbrev pub IsChecked : Result ⊤ NormalizeError → Expectation → Type 0
   IsChecked answer new =
-      WritesText e (λ sink. sink.came) ExpectsTheSame ChangesNothing IsUnexpected text (record { came = []; remaining = units }) answer new
+      WritesText e (λ sink. sink.came) ExpectsTheSame ChangesNothing IsUnexpected (StandsInInput e d form units) text (record { came = []; remaining = units }) answer new
 
   module _ (suits : SuitsTexts d form) where
     pub normalized_where_expected : (new : Expectation) → IsChecked (Ok tt) new → IsInputNormalized e d form units
@@ -53,7 +54,7 @@ module _ (e : Encoding) (d : Reading) (form : Form) (units : List ℕ) where
         (is_normalized_iff_encoded_form e d form units texts).1 (form_ends_with_units e d form suits.laws suits.inhabited texts units front)
 
     module _ (new : Expectation) (h : IsChecked (Err Sink) new) where
-      abbrev refusal : WasRefusedPiece e (λ sink. sink.came) ChangesNothing IsUnexpected text (record { came = []; remaining = units }) new
+      abbrev refusal : WasRefusedPiece e (λ sink. sink.came) ChangesNothing IsUnexpected (StandsInInput e d form units) text (record { came = []; remaining = units }) new
       refusal = h.refusal refl
 
       front : List ℕ
@@ -83,6 +84,21 @@ module _ (e : Encoding) (d : Reading) (form : Form) (units : List ℕ) where
           stops (encoded_in e r.rest)
           (sym same ∙ ap (encoded_in e) whole ∙ encoded_in-append e r.beginning.front (r.piece ++ r.rest)
           ∙ ap (λ l. encoded_in e r.beginning.front ++ l) (encoded_in-append e r.piece r.rest))
+
+      -- so it is no piece of the input: what came before would be its own form, and so stand before it there
+      single : (length (h.refusal refl).piece ≤ 1) ⊎ StandsInInput e d form units (h.refusal refl).beginning.front (h.refusal refl).piece → length (h.refusal refl).piece ≤ 1
+      single (inl one) = one
+      single (inr stands) =
+          let r = h.refusal refl in
+          let texts = IsText-normal_form d form suits.texts suits.scalars in
+          let before : List ℕ = take stands.place units in
+          let form_before : encoded_form e d form before ≡ encoded_in e r.beginning.front = ap (encoded_in e) (sym stands.form_before) in
+          let own : IsInputNormalized e d form before =
+          offered_is_normalized e d form suits.laws suits.inhabited texts units stands.place stands.boundary (new.remaining, parts ∙ ap (λ l. l ++ new.remaining) (sym form_before)) in
+          let same : encoded_in e r.beginning.front ≡ before = sym form_before ∙ (is_normalized_iff_encoded_form e d form before texts).0 own in
+          absurd
+          (stops stands.next.0
+          (sym (take-append-drop stands.place units) ∙ ap (λ l. l ++ drop stands.place units) (sym same) ∙ ap (λ l. encoded_in e r.beginning.front ++ l) stands.next.1))
 
       -- no longer front of the form stands at the front of the units
       no_longer : (piece rest : List ℕ) → (h.refusal refl).piece ≡ piece → length piece ≤ 1 → text ≡ (h.refusal refl).beginning.front ++ (piece ++ rest)
@@ -116,7 +132,7 @@ module _ (e : Encoding) (d : Reading) (form : Form) (units : List ℕ) where
             same = ap (encoded_in e) (ap (take (length front)) whole ∙ take-append_seam front (r.piece ++ r.rest))
                 ∙ sym (ap (take (length (encoded_in e front))) parts ∙ take-append_seam (encoded_in e front) new.remaining);
           })
-          (no_longer r.piece r.rest refl r.short whole))
+          (no_longer r.piece r.rest refl (single r.kind) whole))
 
   -- ---- the first offence at the cut
 

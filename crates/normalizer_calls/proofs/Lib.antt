@@ -2,6 +2,9 @@ pub mod AcceptedData
 pub mod CheckLemmas
 pub mod MapperLemmas
 pub mod OwnedLemmas
+pub mod PartLemmas
+pub mod PassingLemmas
+pub mod RunLemmas
 pub mod SoundPairs
 pub mod TextAnswers
 pub mod WritingLemmas

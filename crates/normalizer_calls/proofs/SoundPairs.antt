@@ -2,13 +2,11 @@
 use Rattle.std.proofs.Common.{◌≡◌, ℕ, [], ◌∷◌, List, subst, arith, Some}
 use Rattle.std.proofs.Math.Nat.{min-le_right}
 use Rattle.normal_forms.specs.Boundary.{BeginsSafely}
-use Rattle.normal_forms.specs.Hypotheses.{HasStarterResults}
 use Rattle.normal_forms.specs.Reading.{Reading, IsStarter}
 use Rattle.normalizer_tables.specs.declared.condition.Condition.TheVariants.{Hangul, Words, Order, Pairs, RoundTrip, SafeBeginning}
 use Rattle.normalizer_tables.specs.AcceptedData.{AreAcceptedPairs, IsAccepted}
 use Rattle.normalizer_tables.specs.Characters.{Characters, list_of, reading_of}
 use Rattle.normalizer_tables.specs.Ignored.{ignored_list}
-use Rattle.normalizer_tables.specs.PairConditions.{composing_reading}
 use Rattle.normalizer_tables.specs.Pairs.{Pair, pair_of}
 use Rattle.normalizer_tables.proofs.PairLaws.{HasStarterResults-reading_of, IsNormalized-passed, BeginsSafely-passed, inhabited-passed}
 use Rattle.normalizer_calls.specs.Acceptance.{bounds_of}

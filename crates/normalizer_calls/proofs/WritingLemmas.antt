@@ -1,5 +1,5 @@
 -- Writing characters as an iterator gives them.
-use Rattle.std.proofs.Common.{◌≡◌, ℕ, List, [], ◌∷◌, ◌++◌, Option, Some, None, Result, Ok, Err, append_assoc, append-nil, refl, ap, sym, subst, ◌∙◌, arith}
+use Rattle.std.proofs.Common.{◌≡◌, ℕ, List, [], ◌∷◌, ◌++◌, Option, Some, None, Result, Ok, Err, append_assoc, append-nil, refl, ap, sym, subst, ◌∙◌, arith, inl}
 use Rattle.std.proofs.lemmas.List.Elements.{All-head}
 use Rattle.std.proofs.lemmas.Result.{IfOk-weaker}
 use Rattle.std.specs.Prelude.{⊤, Bool, OnErr, IsErrOf}
@@ -79,8 +79,8 @@ module _ {S I : Type 0} (e : Encoding) (taken : S → List ℕ) (refused left : 
     }
 
     -- a character was refused
-    pub WritesText-refused : (c : ℕ) (refusal : SinkError) → gives items (Some (Ok c)) next → AnswersUnits taken refused left refuses now (encoded_in e (c ∷ [])) (Err refusal) new
-        → (x : List ℕ) → SpellsUnless gives Memory start x → WritesText e taken refused left refuses x old (Err Sink) new
+    pub WritesText-refused : {offered : List ℕ → List ℕ → Type 0} → (c : ℕ) (refusal : SinkError) → gives items (Some (Ok c)) next → AnswersUnits taken refused left refuses now (encoded_in e (c ∷ [])) (Err refusal) new
+        → (x : List ℕ) → SpellsUnless gives Memory start x → WritesText e taken refused left refuses offered x old (Err Sink) new
     WritesText-refused c refusal step answer x h =
         let so_far = before.text x h in
         let came = SpellsUnless-next gives items next c so_far.0.rest step so_far.1 in record {
@@ -91,7 +91,7 @@ module _ {S I : Type 0} (e : Encoding) (taken : S → List ℕ) (refused left : 
             before = now;
             beginning = so_far.0;
             piece = c ∷ [];
-            short = omega arith;
+            kind = inl (omega arith);
             rest = came.0;
             goes_on = came.1;
             known = answer.known;
@@ -102,7 +102,7 @@ module _ {S I : Type 0} (e : Encoding) (taken : S → List ℕ) (refused left : 
 
   module _ (start : I) (old : S) (items next : I) (now : S) (before : WroteSoFar e taken refused gives start old items now) where
     -- the iterator gave an error
-    pub WritesText-fault : (fault : NormalizeError) → gives items (Some (Err fault)) next → (x : List ℕ) → SpellsUnless gives Memory start x → WritesText e taken refused left refuses x old (Err fault) now
+    pub WritesText-fault : {offered : List ℕ → List ℕ → Type 0} → (fault : NormalizeError) → gives items (Some (Err fault)) next → (x : List ℕ) → SpellsUnless gives Memory start x → WritesText e taken refused left refuses offered x old (Err fault) now
     WritesText-fault fault step x h =
         let so_far = before.text x h in
         let memory = SpellsUnless-fault gives items next fault so_far.0.rest step so_far.1 in
@@ -113,7 +113,7 @@ module _ {S I : Type 0} (e : Encoding) (taken : S → List ℕ) (refused left : 
     WroteSoFar-room fault step x h = let so_far = before.room x h in SpellsOk-no_fault gives items next fault so_far.0 step so_far.1
 
     -- no character was left
-    pub WritesText-all : gives items None next → (x : List ℕ) → SpellsUnless gives Memory start x → WritesText e taken refused left refuses x old (Ok tt) now
+    pub WritesText-all : {offered : List ℕ → List ℕ → Type 0} → gives items None next → (x : List ℕ) → SpellsUnless gives Memory start x → WritesText e taken refused left refuses offered x old (Ok tt) now
     WritesText-all step x h =
         let so_far = before.text x h in
         let b = so_far.0 in
@@ -128,7 +128,7 @@ module _ {S I : Type 0} (e : Encoding) (taken : S → List ℕ) (refused left : 
 -- what comes behind a hint
 module _ {S : Type 0} (e : Encoding) (taken : S → List ℕ) (refused left : S → S → Type 0) (refuses : S → List ℕ → Type 0) (hinted : S → ℕ → Result ⊤ SinkError → S → Type 0) (old : S) (n : ℕ) where
   -- where it was refused, nothing was written
-  pub WritesText-untold : (refusal : SinkError) (new : S) → AnswersHint taken refused left refuses hinted old n (Err refusal) new → (text : List ℕ) → WritesText e taken refused left refuses text old (Err Sink) new
+  pub WritesText-untold : {offered : List ℕ → List ℕ → Type 0} → (refusal : SinkError) (new : S) → AnswersHint taken refused left refuses hinted old n (Err refusal) new → (text : List ℕ) → WritesText e taken refused left refuses offered text old (Err Sink) new
   WritesText-untold refusal new told text =
       let nothing = encoded_in-nil e in record {
         written = tt;
@@ -138,7 +138,7 @@ module _ {S : Type 0} (e : Encoding) (taken : S → List ℕ) (refused left : S 
           before = old;
           beginning = record { front = []; rest = text; parts = refl; took = sym (append-nil (taken old)) ∙ ap (λ units. taken old ++ units) (sym nothing) };
           piece = [];
-          short = omega arith;
+          kind = inl (omega arith);
           rest = text;
           goes_on = refl;
           known = subst (refuses old) (sym nothing) told.units.known;
@@ -155,14 +155,14 @@ module _ {S : Type 0} (e : Encoding) (taken : S → List ℕ) (refused left : S 
     TookBeginning-told : (text : List ℕ) (to : S) → TookBeginning e taken text mid to → TookBeginning e taken text old to
     TookBeginning-told text to b = record { front = b.front; rest = b.rest; parts = b.parts; took = b.took ∙ ap (λ units. units ++ encoded_in e b.front) told.none }
 
-    pub WritesText-told : (text : List ℕ) → WritesText e taken refused left refuses text mid answer new → WritesText e taken refused left refuses text old answer new
+    pub WritesText-told : {offered : List ℕ → List ℕ → Type 0} → (text : List ℕ) → WritesText e taken refused left refuses offered text mid answer new → WritesText e taken refused left refuses offered text old answer new
     unfolding TookBeginning-told
     WritesText-told text h = record {
       written = IfOk-weaker answer _ _ (λ _ w. w ∙ ap (λ units. units ++ encoded_in e text) told.none) h.written;
       ahead = IfOk-weaker answer _ _ (λ _ ahead later r. told.units.written.ahead later (ahead later r)) h.ahead;
       fault = λ is. told.units.written.ahead new (h.fault is);
       refusal = λ is. let r = h.refusal is in
-          record { before = r.before; beginning = TookBeginning-told text r.before r.beginning; piece = r.piece; short = r.short; rest = r.rest; goes_on = r.goes_on; known = r.known; leaves = r.leaves };
+          record { before = r.before; beginning = TookBeginning-told text r.before r.beginning; piece = r.piece; kind = r.kind; rest = r.rest; goes_on = r.goes_on; known = r.known; leaves = r.leaves };
       begun = λ is. TookBeginning-told text new (h.begun is);
     }
 
@@ -170,12 +170,12 @@ module _ {S : Type 0} (e : Encoding) (taken : S → List ℕ) (refused left : S 
     TellsLengthFirst-told len is = record { hint = Ok tt; state = mid; first = subst (λ k. hinted old k (Ok tt) mid) is told.hint; stops = tt }
 
 -- the form was written, whose text is the form of x
-pub WritesForm-text : {S : Type 0} (e : Encoding) (taken : S → List ℕ) (refused left : S → S → Type 0) (refuses : S → List ℕ → Type 0) (has_class_form : ℕ → Bool) (d : Reading) (form : Form) (x y : List ℕ) (old : S) (answer : Result ⊤ NormalizeError) (new : S)
-    → x ≡ y → WritesText e taken refused left refuses (normal_form d form x) old answer new → (HasShortRuns has_class_form d x → ¬ IsErrOf answer Memory) → WritesForm e taken refused left has_class_form d form y old answer new
-WritesForm-text {S = S} e taken refused left refuses has_class_form d form x y old answer new same h room =
+pub WritesForm-text : {S : Type 0} {offered : List ℕ → List ℕ → Type 0} (e : Encoding) (taken : S → List ℕ) (refused left : S → S → Type 0) (refuses : S → List ℕ → Type 0) (has_class_form : ℕ → Bool) (d : Reading) (form : Form) (x y : List ℕ) (old : S) (answer : Result ⊤ NormalizeError) (new : S)
+    → x ≡ y → WritesText e taken refused left refuses offered (normal_form d form x) old answer new → (HasShortRuns has_class_form d x → ¬ IsErrOf answer Memory) → WritesForm e taken refused left has_class_form d form y old answer new
+WritesForm-text {S = S} {offered = offered} e taken refused left refuses has_class_form d form x y old answer new same h room =
     subst (λ z. WritesForm e taken refused left has_class_form d form z old answer new) same (record { written = h.written; fault = h.fault; room = room; begun = begun answer h })
   where
-    begun : (answer : Result ⊤ NormalizeError) → WritesText e taken refused left refuses (normal_form d form x) old answer new → OnErr answer (((s t : S) → left s t → TakesNothing taken s t) → TookBeginning e taken (normal_form d form x) old new)
+    begun : (answer : Result ⊤ NormalizeError) → WritesText e taken refused left refuses offered (normal_form d form x) old answer new → OnErr answer (((s t : S) → left s t → TakesNothing taken s t) → TookBeginning e taken (normal_form d form x) old new)
     begun (Ok done) h = tt
     begun (Err Memory) h = λ _. h.begun refl
     begun (Err Sink) h = λ keeps.

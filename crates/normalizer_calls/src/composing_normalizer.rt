@@ -144,7 +144,7 @@ impl ComposingNormalizer {
 pub struct ComposingNormalizerBorrowed<'a> {
     pub(crate) characters: CharacterData<'a>,
     pairs: &'a CanonicalCompositions,
-    bounds: Bounds,
+    pub(crate) bounds: Bounds,
     ghost serves: { ServesComposing characters bounds pairs.now },
 }
 

@@ -1,15 +1,19 @@
 //! The two kinds of normalizers as one trait, over which every call on text is written once.
-ghost use Rattle.std.specs.Prelude.{ℕ, Bool, IfOk};
+ghost use Rattle.std.specs.Prelude.{◌≡◌, ℕ, Bool, true, false, IfOk};
+ghost use Rattle.std.specs.Char.{IsScalar};
 ghost use Rattle.std.specs.Iterator.{IsFinite};
 ghost use Rattle.normal_forms.specs.declared.Form.{Form};
 ghost use Rattle.normal_forms.specs.Forms.{normal_form};
 ghost use Rattle.normal_forms.specs.Reading.{Reading};
-ghost use Rattle.normalizer_tables.specs.Characters.{has_class_form, own_reading};
-ghost use Rattle.normalizer_tables.specs.PairConditions.{composing_reading};
+ghost use Rattle.normalizer_tables.specs.Characters.{has_class_form, own_reading, word_of};
+ghost use Rattle.normalizer_tables.specs.PairConditions.{composing_reading, is_passed};
+ghost use Rattle.normalizer_tables.specs.Words.{is_plain};
 ghost use Rattle.normalizer_iterators.specs.Items.{GivesForm};
+ghost use Rattle.normalizer_calls.specs.Passing.{MayPass};
 
 use crate::{ComposingNormalizerBorrowed, DecomposingNormalizerBorrowed};
 use normalizer_iterators::{Composition, Decomposition, NormalizeError};
+use normalizer_tables::word::{is_backward_combining, is_non_round_trip};
 
 /// What gives the normal form of the characters that an iterator gives.
 pub(crate) trait FormItems<I: Iterator<Item = char> + Drop> {
@@ -22,12 +26,29 @@ pub(crate) trait FormItems<I: Iterator<Item = char> + Drop> {
 
     ghost form: { Form };
 
+    // Which characters are handed on as they are, and whether the last of them is held back where another one follows.
+    ghost passing: { Self → ℕ → Bool };
+
+    ghost held_back: { Bool };
+
     fn items(&self, characters: I) -> Result<Self::Items, NormalizeError>
         requires can { I.can_next characters }
         requires ends { IsFinite (I.remaining characters) }
         ensures form { GivesForm I.next_gives Self.Items.next_gives (has_class_form self.now) (reading self.now)
             (λ d x. normal_form d form x) characters result }
         ensures ready { IfOk result (λ it. Self.Items.can_next it × IsFinite (Self.Items.remaining it)) };
+
+    /// Whether a character is handed on as it is.
+    fn passes(&self, character: char) -> bool
+        ensures { result ≡ passing self.now character };
+
+    /// Whether a character that passes may be changed by what follows it.
+    fn holds_back(&self) -> bool
+        ensures { result ≡ held_back };
+
+    /// Characters that pass are normalized apart.
+    fn passed_characters_stand_apart(&self)
+        ensures { (c : ℕ) → IsScalar c → passing self.now c ≡ true → MayPass (reading self.now) form held_back c };
 }
 
 impl<'a, I: Iterator<Item = char> + Drop> FormItems<I> for DecomposingNormalizerBorrowed<'a> {
@@ -42,9 +63,23 @@ impl<'a, I: Iterator<Item = char> + Drop> FormItems<I> for DecomposingNormalizer
 
     ghost form = { Decomposing };
 
+    ghost passing = { λ n c. is_plain (word_of (data_of_borrowed n) c) };
+
+    ghost held_back = { false };
+
     fn items(&self, characters: I) -> Result<Decomposition<'a, I>, NormalizeError> {
         self.normalize_iter(characters)
     }
+
+    fn passes(&self, character: char) -> bool {
+        is_plain(self.characters.word_of(character))
+    }
+
+    fn holds_back(&self) -> bool {
+        false
+    }
+
+    fn passed_characters_stand_apart(&self) {}
 }
 
 impl<'a, I: Iterator<Item = char> + Drop> FormItems<I> for ComposingNormalizerBorrowed<'a> {
@@ -59,7 +94,34 @@ impl<'a, I: Iterator<Item = char> + Drop> FormItems<I> for ComposingNormalizerBo
 
     ghost form = { Composing };
 
+    ghost passing = { λ n c. is_passed (composing_data_of_borrowed n) n.bounds c };
+
+    ghost held_back = { true };
+
     fn items(&self, characters: I) -> Result<Composition<'a, I>, NormalizeError> {
         self.normalize_iter(characters)
     }
+
+    #[tactic(auto, unfolding(normalizer_tables::specs::PairConditions::is_passed))]
+    fn passes(&self, character: char) -> bool {
+        if (character as u32) < self.bounds.composition {
+            return true;
+        }
+        let word = self.characters.word_of(character);
+        !is_non_round_trip(word) && !is_backward_combining(word)
+    }
+
+    fn holds_back(&self) -> bool {
+        true
+    }
+
+    fn passed_characters_stand_apart(&self) {}
+}
+
+/// Whether a word reads as the character itself with class 0, whatever its flags.
+#[tactic(auto, unfolding(normalizer_tables::specs::Words::is_plain))]
+fn is_plain(word: u32) -> bool
+    ensures { result ≡ is_plain word }
+{
+    word & 0x3FFF_FFFF == 0
 }

@@ -8,6 +8,7 @@ pub mod laws;
 mod normalizer;
 mod offence;
 mod owned;
+mod runs;
 mod splits;
 mod to_sinks;
 mod unchecked;

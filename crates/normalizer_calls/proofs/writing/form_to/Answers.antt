@@ -15,14 +15,10 @@ returns-in_err-begin-clause-first g c =
     rw is
     (TellsLengthFirst-untold g.U.Units.encoding g.O.Output.taken g.O.Output.refused g.O.Output.left g.O.Output.refuses g.O.Output.hinted _ _ _ c.len.ensures _ _ c.in_err-begin.ensures)
 
-pub returns-in_err-items-clause-first : goal.returns-in_err-items-clause-first
-returns-in_err-items-clause-first g c =
-    TellsLengthFirst-told g.U.Units.encoding g.O.Output.taken g.O.Output.refused g.O.Output.left g.O.Output.refuses g.O.Output.hinted _ _ _ (rw c.in_ok-begin.was at c.begin.ensures) _ _ _ c.len.ensures
-
 pub returns-clause-text : goal.returns-clause-text
 returns-clause-text g c =
     WritesText-told g.U.Units.encoding g.O.Output.taken g.O.Output.refused g.O.Output.left g.O.Output.refuses g.O.Output.hinted _ _ _ (rw c.in_ok-begin.was at c.begin.ensures) _ _ _
-    (c.write_items.ensures.text _ (c.in_ok-items.ensures.form.text _ c.new.ensures.spells))
+    c.write_parts.ensures.text
 
 pub returns-clause-first : goal.returns-clause-first
 returns-clause-first g c =

@@ -1,0 +1,115 @@
+-- Characters that are handed on as they are, and runs of them.
+use Rattle.std.proofs.Common.{◌≡◌, ℕ, Bool, true, false, List, [], ◌∷◌, ◌++◌, refl, sym, ap, subst, ◌∙◌, append_assoc, append-nil}
+use Rattle.std.specs.Char.{IsScalar}
+use Rattle.std.specs.Prelude.{All}
+use Rattle.std.proofs.lemmas.List.Elements.{All-head, All-tail}
+use Rattle.normal_forms.specs.Reading.{Reading, ReadsAsItself, IsStarter}
+use Rattle.normal_forms.specs.Boundary.{BeginsWithStarter}
+use Rattle.normal_forms.specs.Decomposition.{expand}
+use Rattle.normal_forms.specs.Order.{order}
+use Rattle.normal_forms.specs.Composition.{compose, compose_from}
+use Rattle.normal_forms.specs.declared.Form.{Form}
+use Rattle.normal_forms.specs.declared.Form.TheVariants.{Decomposing, Composing}
+use Rattle.normal_forms.specs.Forms.{normal_form, nfd, nfc, IsNormalized}
+use Rattle.normal_forms.proofs.BoundaryLemmas.{nfd-boundary, BeginsWithStarter-expand, BeginsSafely-expand}
+use Rattle.normal_forms.proofs.LawLemmas.{nfc-boundary}
+use Rattle.normal_forms.proofs.OrderLemmas.{order-at_starter}
+use Rattle.normalizer_tables.specs.declared.characters.IgnoredCharacters.TheVariants.{Dropped}
+use Rattle.normalizer_tables.specs.declared.condition.Bounds.{Bounds}
+use Rattle.normalizer_tables.specs.Characters.{Characters, has_class_form, own_reading, word_of}
+use Rattle.normalizer_tables.specs.PairConditions.{composing_reading, is_passed}
+use Rattle.normalizer_tables.specs.Pairs.{Pair}
+use Rattle.normalizer_tables.specs.Words.{is_plain}
+use Rattle.normalizer_tables.proofs.ConditionLemmas.{class_of-plain}
+use Rattle.normalizer_tables.proofs.PlainCharacters.{list_of-plain_word, IsNormalized-plain_word}
+use Rattle.normalizer_iterators.specs.LazyComposing.{SuitsLazyComposing}
+use Rattle.normalizer_iterators.proofs.PassingLemmas.{BeginsSafely-apart}
+use Rattle.normalizer_calls.specs.Passing.{Divides, MayPass}
+
+-- a starter that reads as itself stands apart from what is behind it too
+MayPass-itself : (d : Reading) (c : ℕ) → ReadsAsItself d c → IsStarter d c → IsNormalized d Decomposing (c ∷ []) → MayPass d Decomposing false c
+unfolding normal_form nfd expand order
+MayPass-itself d c itself starter own = record {
+  own = own;
+  begins = λ front x. nfd-boundary d front (c ∷ x)
+      (BeginsWithStarter-expand d c x (λ none. let no : [] ≡ c ∷ [] = sym none ∙ itself in cc) (subst (BeginsWithStarter d) (sym itself) starter));
+  ends = λ _ x. ap (λ l. order d (l ++ expand d x)) itself ∙ order-at_starter d [] c (expand d x) starter;
+}
+
+-- a character whose word is 0, flags aside, passes where text is decomposed
+pub MayPass-plain : (s : Characters) (c : ℕ) → IsScalar c → is_plain (word_of s c) ≡ true → MayPass (own_reading s) Decomposing false c
+MayPass-plain s c scalar plain =
+    MayPass-itself (own_reading s) c (list_of-plain_word s [] c scalar plain) (class_of-plain s c scalar plain)
+    (IsNormalized-plain_word s [] (own_reading s).pair Decomposing c scalar plain)
+
+-- a character that a composing loop passes
+pub MayPass-passed : (s : Characters) (b : Bounds) (pairs : List Pair) → SuitsLazyComposing s b pairs → (c : ℕ) → IsScalar c → is_passed s b c ≡ true
+    → MayPass (composing_reading s pairs) Composing true c
+unfolding normal_form
+MayPass-passed s b pairs suits c scalar passed =
+    let d = composing_reading s pairs in
+    let apart = suits.apart Dropped c (record { scalar = scalar; passed = passed }) in
+    record {
+      own = apart.form;
+      begins = λ front x. nfc-boundary d suits.starters front (c ∷ x) (BeginsSafely-expand d c x apart.inhabited (BeginsSafely-apart (has_class_form s) d c apart));
+      ends = λ no. absurd (cc);
+    }
+
+module _ (d : Reading) (form : Form) where
+  pub normal_form-nil : (form : Form) → normal_form d form [] ≡ []
+  unfolding normal_form nfc nfd expand order compose compose_from
+  normal_form-nil Decomposing = refl
+  normal_form-nil Composing = refl
+
+  abbrev f : List ℕ → List ℕ
+  f = normal_form d form
+
+  -- nothing stands in front, or behind
+  pub Divides-start : (rest : List ℕ) → Divides d form [] rest
+  Divides-start rest read unread is = ap (λ l. l ++ normal_form d form read) (sym (normal_form-nil form))
+
+  pub Divides-end : (front : List ℕ) → Divides d form front []
+  Divides-end front [] unread is = ap (normal_form d form) (append-nil front) ∙ sym (append-nil (normal_form d form front)) ∙ ap (λ l. normal_form d form front ++ l) (sym (normal_form-nil form))
+  Divides-end front (c ∷ read) unread is = absurd (cc)
+
+  module _ (held_back : Bool) where
+    -- a character that passes comes next
+    pub Divides-next : (c : ℕ) → MayPass d form held_back c → (front x : List ℕ) → Divides d form front (c ∷ x)
+    Divides-next c pass front x [] unread is = Divides-end front [] [] refl
+    Divides-next c pass front x (e ∷ read) unread is =
+        let same : c ≡ e = cc in
+        subst (λ k. normal_form d form (front ++ k ∷ read) ≡ normal_form d form front ++ normal_form d form (k ∷ read)) same (pass.begins front read)
+
+    -- a run, and what is normalized apart from what stands before it
+    run_then : (run y : List ℕ) → All (MayPass d form held_back) run → ((front : List ℕ) → normal_form d form (front ++ y) ≡ normal_form d form front ++ normal_form d form y)
+        → normal_form d form (run ++ y) ≡ run ++ normal_form d form y
+    run_then [] y all apart = refl
+    run_then (c ∷ []) y all apart = apart (c ∷ []) ∙ ap (λ l. l ++ normal_form d form y) (All-head (MayPass d form held_back) c [] all).own
+    run_then (c ∷ e ∷ run) y all apart =
+        let rest = All-tail (MayPass d form held_back) c (e ∷ run) all in
+        (All-head (MayPass d form held_back) e run rest).begins (c ∷ []) (run ++ y)
+        ∙ ap (λ l. l ++ normal_form d form (e ∷ run ++ y)) (All-head (MayPass d form held_back) c (e ∷ run) all).own
+        ∙ ap (λ l. c ∷ l) (run_then (e ∷ run) y rest apart)
+
+    -- a run of which nothing is held back
+    run_ends : held_back ≡ false → (run y : List ℕ) → All (MayPass d form held_back) run → normal_form d form (run ++ y) ≡ run ++ normal_form d form y
+    run_ends free [] y all = refl
+    run_ends free (c ∷ run) y all =
+        (All-head (MayPass d form held_back) c run all).ends free (run ++ y) ∙ ap (λ l. c ∷ l) (run_ends free run y (All-tail (MayPass d form held_back) c run all))
+
+    -- a run is its own form
+    pub IsNormalized-run : (run : List ℕ) → All (MayPass d form held_back) run → IsNormalized d form run
+    IsNormalized-run run all =
+        ap (normal_form d form) (sym (append-nil run)) ∙ run_then run [] all (λ front. Divides-end front [] [] refl)
+        ∙ ap (λ l. run ++ l) (normal_form-nil form) ∙ append-nil run
+
+    -- what is behind such a run is normalized apart
+    pub Divides-run : held_back ≡ false → (c : ℕ) (run front rest : List ℕ) → All (MayPass d form held_back) (c ∷ run) → Divides d form (front ++ (c ∷ run)) rest
+    Divides-run free c run front rest all read unread is =
+        let first = All-head (MayPass d form held_back) c run all in
+        ap (normal_form d form) (append_assoc front (c ∷ run) read)
+        ∙ first.begins front (run ++ read)
+        ∙ ap (λ l. normal_form d form front ++ l) (run_ends free (c ∷ run) read all)
+        ∙ sym (append_assoc (normal_form d form front) (c ∷ run) (normal_form d form read))
+        ∙ ap (λ l. l ++ normal_form d form read)
+        (ap (λ l. normal_form d form front ++ l) (sym (IsNormalized-run (c ∷ run) all)) ∙ sym (first.begins front run))

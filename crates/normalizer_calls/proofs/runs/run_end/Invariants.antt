@@ -1,0 +1,9 @@
+use Rattle.std.proofs.Common.{◌-◌, length}
+use Rattle.normalizer_calls.proofs.RunLemmas.{PassesTo}
+use Rattle.normalizer_calls.proofs.runs.run_end.Given as goal
+
+abbrev pub invariant-loop-end : goal.invariant-loop-end
+invariant-loop-end g l = PassesTo (g.N.FormItems.passing l.normalizer) g.U.Units.encoding (g.U.Units.units l.units) l.end
+
+abbrev pub decreases-loop-end : goal.decreases-loop-end
+decreases-loop-end g l = length (g.U.Units.units l.units) - l.end

@@ -1,0 +1,39 @@
+use Rattle.std.proofs.Common.{arith, sym, ap, ◌∙◌}
+use Rattle.normalizer_text.specs.Encodings.{first_in}
+use Rattle.normalizer_text.proofs.BoundaryLemmas.{boundary-first}
+use Rattle.normalizer_text.proofs.EncodingRules.{IsDecoding-first}
+use Rattle.normalizer_calls.specs.Passing.{step_passes}
+use Rattle.normalizer_calls.proofs.RunLemmas.{boundary-step, some_step, within_step}
+use Rattle.normalizer_calls.proofs.runs.segment_end.Goals as goal
+
+pub loop-end-init : goal.loop-end-init
+loop-end-init g c = (
+  some_step (g.N.FormItems.passing c.args.normalizer.now) g.U.Units.encoding (g.U.Units.units c.args.units) 0 c.step_at-end.result c.step_at-end.ensures c.requires,
+  boundary-first (first_in g.U.Units.encoding) (IsDecoding-first g.U.Units.encoding) (g.U.Units.units c.args.units) c.step_at-end.result (record { some = c.requires; is = c.step_at-end.ensures }),
+)
+
+pub returns-then-step_passes : goal.returns-then-step_passes
+returns-then-step_passes g c = record {
+  some = c.loop-end.invariant.0;
+  boundary = c.loop-end.invariant.1;
+  next = λ _. ap (step_passes (g.N.FormItems.passing c.args.normalizer.now)) (sym c.step_at-step.ensures) ∙ sym c.step_passes.ensures ∙ c.if-step_passes.true;
+}
+
+pub overflow_add-end : goal.overflow_add-end
+overflow_add-end g c =
+    let most = within_step (g.N.FormItems.passing c.args.normalizer.now) g.U.Units.encoding (g.U.Units.units c.args.units) c.loop-end.end c.step_at-step.result c.step_at-step.ensures (omega (arith, c.len.ensures)) c.loop-end.invariant.1 in
+    omega (arith, c.len.ensures)
+
+pub loop-end-smaller : goal.loop-end-smaller
+loop-end-smaller g c =
+    let some = some_step (g.N.FormItems.passing c.args.normalizer.now) g.U.Units.encoding (g.U.Units.units c.args.units) c.loop-end.end c.step_at-step.result c.step_at-step.ensures (omega (arith, c.len.ensures)) in
+    omega (arith, c.len.ensures)
+
+pub loop-end-preserved : goal.loop-end-preserved
+loop-end-preserved g c = (
+  omega (arith, c.loop-end.invariant.0),
+  boundary-step (g.N.FormItems.passing c.args.normalizer.now) g.U.Units.encoding (g.U.Units.units c.args.units) c.loop-end.end c.step_at-step.result c.step_at-step.ensures (omega (arith, c.len.ensures)) c.loop-end.invariant.1,
+)
+
+pub returns : goal.returns
+returns g c = record { some = c.loop-end.invariant.0; boundary = c.loop-end.invariant.1; next = λ more. absurd (omega (arith, c.len.ensures)) }

@@ -1,0 +1,62 @@
+//! Where runs of characters end that are handed on as they are, and the segments between them.
+ghost use Rattle.std.specs.Prelude.{◌≡◌, ◌<◌, length, take};
+ghost use Rattle.normalizer_input.specs.InputCut.{IsInputNormalized};
+ghost use Rattle.normalizer_calls.specs.Passing.{IsPart, IsRunEnd, IsSegmentEnd, step_passes};
+
+use crate::form_items::FormItems;
+use normalizer_text::{Chars, Step, Units};
+
+/// Whether a step is a character that is handed on as it is.
+fn step_passes<U: Units, N: FormItems<Chars<U>>>(normalizer: &N, step: Step) -> bool
+    ensures { result ≡ step_passes (N.passing normalizer.now) step }
+{
+    step.character != char::REPLACEMENT_CHARACTER && normalizer.passes(step.character)
+}
+
+/// Where the run of characters ends that are handed on as they are.
+fn run_end<U: Units, N: FormItems<Chars<U>>>(normalizer: &N, units: U) -> usize
+    ensures { IsRunEnd (N.passing normalizer.now) U.encoding (U.units units) result }
+{
+    let mut end = 0;
+    while end < units.len() {
+        let step = units.step_at(end);
+        if !step_passes(normalizer, step) {
+            return end;
+        }
+        end += step.width;
+    }
+    end
+}
+
+/// Where the segment ends that begins with the first character, whether that passes or not.
+pub(crate) fn segment_end<U: Units, N: FormItems<Chars<U>>>(normalizer: &N, units: U) -> usize
+    requires { 0 < length (U.units units) }
+    ensures { IsSegmentEnd (N.passing normalizer.now) U.encoding (U.units units) result }
+{
+    let mut end = units.step_at(0).width;
+    while end < units.len() {
+        let step = units.step_at(end);
+        if step_passes(normalizer, step) {
+            return end;
+        }
+        end += step.width;
+    }
+    end
+}
+
+/// Where the front of the units ends that is handed on as it is: of a run that more follows, the last character is held
+/// back where it may compose with that.
+pub(crate) fn passed_end<U: Units, N: FormItems<Chars<U>>>(normalizer: &N, units: U) -> usize
+    ensures { 0 < result → IsPart U.encoding (N.reading normalizer.now) N.form (U.units units) result ×
+        IsInputNormalized U.encoding (N.reading normalizer.now) N.form (take result (U.units units)) }
+{
+    normalizer.passed_characters_stand_apart();
+    let end = run_end(normalizer, units);
+    if end == units.len() || !normalizer.holds_back() {
+        return end;
+    }
+    match units.before(end).last_step() {
+        Some(step) => end - step.width,
+        None => 0,
+    }
+}
