@@ -1,6 +1,5 @@
 //! Characters of tests, written as text.
 use std::alloc::Global;
-use std::fmt::Display;
 
 /// The characters of a text.
 pub(crate) fn characters(alloc: Global, text: &str) -> Option<Vec<char>> {
@@ -24,12 +23,4 @@ pub(crate) fn repeated(alloc: Global, runs: &[(&str, usize)]) -> Option<String> 
         }
     }
     Some(text)
-}
-
-/// Whether a value is shown as this text.
-pub(crate) fn is_shown_as<T: Display>(alloc: Global, value: &T, text: &str) -> bool {
-    match format!(in alloc; "{value}") {
-        Ok(shown) => shown.as_str() == text,
-        Err(_) => false,
-    }
 }

@@ -4,8 +4,6 @@
 #[cfg(test)]
 mod builder;
 #[cfg(test)]
-mod constructors;
-#[cfg(test)]
 mod decoding;
 #[cfg(test)]
 mod delegates;
@@ -21,5 +19,3 @@ mod readme;
 mod records;
 #[cfg(test)]
 mod sinks;
-#[cfg(test)]
-mod tables;

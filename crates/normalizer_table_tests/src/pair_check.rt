@@ -1,6 +1,6 @@
 //! The check of composing pairs, and of decomposition data by the pairs.
-use crate::tables::edits::{Range, data_of, number_of, tables_of};
-use crate::tables::pairs::{Pair, compositions};
+use crate::edits::{Range, data_of, number_of, tables_of};
+use crate::pairs::{Pair, compositions};
 use normalizer_tables::characters::CharacterData;
 use normalizer_tables::check::first_failing;
 use normalizer_tables::condition::{Bounds, COMPOSING, MAPPING};

@@ -1,6 +1,6 @@
 //! The code point table.
-use crate::letters::is_shown_as;
-use crate::tables::edits::Range;
+use crate::edits::Range;
+use crate::shown::is_shown_as;
 use normalizer_tables::{CodePointTable, TableError};
 use std::alloc::Global;
 

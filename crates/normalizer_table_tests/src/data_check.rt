@@ -1,5 +1,5 @@
 //! The complete check of data by which text is decomposed.
-use crate::tables::edits::{Check, Edit, REFUSED, edited, number_of, wrong_first, wrong_row};
+use crate::edits::{Check, Edit, REFUSED, edited, number_of, wrong_first, wrong_row};
 use normalizer_tables::characters::CharacterData;
 use normalizer_tables::check::first_failing;
 use normalizer_tables::condition::{Bounds, DECOMPOSING};

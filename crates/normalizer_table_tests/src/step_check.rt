@@ -1,5 +1,5 @@
 //! The check of canonical data and the supplement, by which characters are decomposed one step.
-use crate::tables::edits::{
+use crate::edits::{
     Broken, Check, CheckedData, Edit, Range, data_of, edited, number_of, supplement_of, tables_of,
     wrong_first, wrong_row,
 };

@@ -1,5 +1,5 @@
 //! One step of canonical decomposition.
-use crate::tables::edits::{Range, data_of, supplement_of, tables_of};
+use crate::edits::{Range, data_of, supplement_of, tables_of};
 use normalizer_tables::characters::CharacterData;
 use normalizer_tables::step::{Step, step_of};
 use std::alloc::Global;

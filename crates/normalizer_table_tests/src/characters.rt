@@ -1,6 +1,5 @@
 //! Lists and classes that words give to characters.
-use crate::letters::spells;
-use crate::tables::edits::{Range, data_of, tables_of};
+use crate::edits::{Range, data_of, tables_of};
 use normalizer_tables::characters::{CharacterData, IgnoredCharacters};
 use normalizer_tables::{DecompositionData, DecompositionTables};
 use std::alloc::Global;
@@ -58,11 +57,18 @@ static LISTS: [(char, &str); 9] = [
     ('\u{AC01}', "\u{1100}\u{1161}\u{11A8}"),
 ];
 
+/// Whether the list of a character is the one that a text spells.
+fn has_list(alloc: Global, character: char, text: &str) -> bool {
+    let characters: Result<Vec<char>, _> = text.chars().collect(alloc);
+    match (list_of(alloc, character), characters) {
+        (Some(list), Ok(characters)) => list.as_slice() == characters.as_slice(),
+        _ => false,
+    }
+}
+
 /// The first row with another list.
 fn wrong_list(alloc: Global) -> Option<usize> {
-    LISTS
-        .iter()
-        .position(|row| !spells(alloc, list_of(alloc, row.0), row.1))
+    LISTS.iter().position(|row| !has_list(alloc, row.0, row.1))
 }
 
 #[test]

@@ -1,5 +1,5 @@
 //! The check of canonical data that are handed in without a provider.
-use crate::tables::edits::{Broken, Check, Edit, REFUSED, edited, wrong_first, wrong_row};
+use crate::edits::{Broken, Check, Edit, REFUSED, edited, wrong_first, wrong_row};
 use normalizer_tables::{DataError, DataMarkerInfo, check_nfd_data};
 use std::alloc::Global;
 

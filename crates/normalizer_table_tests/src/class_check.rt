@@ -1,5 +1,5 @@
 //! The check of data from which classes alone are read.
-use crate::tables::edits::{Broken, Check, Edit, edited, number_of, wrong_first, wrong_row};
+use crate::edits::{Broken, Check, Edit, edited, number_of, wrong_first, wrong_row};
 use normalizer_tables::class_check::first_failing_of_classes;
 use std::alloc::Global;
 

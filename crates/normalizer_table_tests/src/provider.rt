@@ -1,6 +1,6 @@
 //! Providers, the lists of tables, and the texts of refusals.
-use crate::letters::is_shown_as;
-use crate::tables::edits::{Range, data_of, supplement_of, tables_of};
+use crate::edits::{Range, data_of, supplement_of, tables_of};
+use crate::shown::is_shown_as;
 use normalizer_tables::{
     CanonicalCompositions, DataError, DataMarker, DataMarkerInfo, DataProvider, DecompositionData,
     DecompositionTables, NonRecursiveDecompositionSupplement, NormalizerNfcV1, NormalizerNfdDataV1,

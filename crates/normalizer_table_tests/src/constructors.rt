@@ -1,6 +1,6 @@
 //! Constructors of normalizers, and the conditions for which they refuse data.
-use crate::tables::edits::{Check, CheckedData, Edit, REFUSED, edited, wrong_row};
-use crate::tables::pairs::{Pair, compositions};
+use crate::edits::{Check, CheckedData, Edit, REFUSED, edited, wrong_row};
+use crate::pairs::{Pair, compositions};
 use icu_normalizer::{ComposingNormalizer, DecomposingNormalizer};
 use normalizer_tables::{
     CanonicalCompositions, DataError, DataMarkerInfo, DataProvider, DecompositionData,
