@@ -1,9 +1,17 @@
 -- Stretches of units below a bound.
-use Rattle.std.proofs.Common.{◌≡◌, ℕ, suc, ◌+◌, ◌-◌, ◌*◌, ◌<◌, ◌≤◌, false, ltb, List, [], ◌∷◌, ◌++◌, length, take, drop, get_or, map, arith, refl, ap, sym, subst, ◌∙◌, ⊎_elim}
+use Rattle.std.proofs.Common.{◌≡◌, ℕ, suc, ◌+◌, ◌-◌, ◌*◌, ◌%◌, ◌^◌, ◌<◌, ◌≤◌, Bool, false, not, cond, eqb, leb, ltb, replicate}
+use Rattle.std.proofs.Common.{List, [], ◌∷◌, ◌++◌, length, take, drop, get_or, map, arith, refl, ap, sym, subst, ◌∙◌, ⊎_elim}
 use Rattle.std.specs.Prelude.{All}
-use Rattle.std.proofs.lemmas.Bool.{cases_lt, cond-true, cond-false, lt-ltb, le-ltb, true≢false, false_from_ne_true}
-use Rattle.std.proofs.lemmas.List.{append-nil}
-use Rattle.std.proofs.lemmas.List.Sums.{prefix_len-drop_yes, prefix_len-drop_no, prefix_len-drop_all, prefix_len-le-length, prefix_len_stops}
+use Rattle.std.specs.List.{prefix_len}
+use lib.Count.{count_trailing_zeros}
+use lib.Lanes.{chunk, zip2, mask_l, top}
+use mir.Syntax.{Width}
+use mir.Val.{Fits, bits, hbits}
+use Rattle.std.proofs.lemmas.Bool.{cases_lt, ne_eqb, eq-eqb, le-leb, lt-leb, cond-true, cond-false, lt-ltb, le-ltb, true≢false, false_from_ne_true}
+use Rattle.std.proofs.lemmas.List.{append-nil, length-map}
+use Rattle.std.proofs.lemmas.List.Folds.{prefix_len-append}
+use Rattle.std.proofs.lemmas.Simd.{chunk-drop, length-chunk, get_or-chunk, tops_compared, zip2_splat_left, mask_l-mod, first_set_mask_l}
+use Rattle.std.proofs.lemmas.List.Sums.{prefix_len-drop_yes, prefix_len-drop_no, prefix_len-drop_all, prefix_len-le-length, prefix_len_stops, prefix_len_is}
 use Rattle.std.proofs.lemmas.List.Elements.{All-nil, All-cons, All-head, All-tail, All-same}
 use Rattle.normalizer_text.specs.declared.step.Step.{Step}
 use Rattle.normalizer_text.specs.Encodings.{Encoding, first_in}
@@ -46,6 +54,60 @@ All-leading_below bound (u ∷ us) =
     (λ g. All-same P _ [] (ap (λ k. take k (u ∷ us)) (cond-false _ _ _ (le-ltb u bound g))) (All-nil P))
     (cases_lt u bound)
 
+-- ---- a vector of units
+
+module _ (bound : ℕ) (units : List ℕ) (at n below : ℕ) (room : at + n ≤ length units) (counted : below ≡ leading_below bound (take n (drop at units))) where
+  apart : leading_below bound (drop at units) ≡ cond (eqb below n) (n + leading_below bound (drop (at + n) units)) below
+  apart =
+      let p = λ (u : ℕ). ltb u bound in
+      let long = length-chunk at n units room in
+      ap (prefix_len p) (chunk-drop at n units) ∙ prefix_len-append p (chunk at n units) (drop (at + n) units)
+      ∙ ap (λ k. cond (eqb (prefix_len p (chunk at n units)) k) (k + leading_below bound (drop (at + n) units)) (prefix_len p (chunk at n units))) long
+      ∙ ap (λ k. cond (eqb k n) (n + leading_below bound (drop (at + n) units)) k) (sym counted)
+
+  -- the first that is not below the bound stands among the first n units
+  pub leading_below-within : below < n → leading_below bound (drop at units) ≡ below
+  leading_below-within few = apart ∙ cond-false _ _ _ (ne_eqb below n (λ e. absurd (omega arith)))
+
+  -- or it doesn't
+  pub leading_below-past : n ≤ below → (at + below ≤ length units) × (at + below + leading_below bound (drop (at + below) units) ≡ at + leading_below bound (drop at units))
+  leading_below-past all =
+      let most = leading_below-le bound (take n (drop at units)) in
+      let long = length-chunk at n units room in
+      let whole : below ≡ n = omega arith in
+      let rest = apart ∙ cond-true _ _ _ (eq-eqb below n whole) in
+      (omega arith, ap (λ k. at + k + leading_below bound (drop (at + k) units)) whole ∙ omega (arith, rest))
+
+prefix_len-same : (p q : ℕ → Bool) → ((x : ℕ) → p x ≡ q x) → (xs : List ℕ) → prefix_len p xs ≡ prefix_len q xs
+prefix_len-same p q same [] = refl
+prefix_len-same p q same (x ∷ xs) = ap (λ n. cond (p x) (1 + n) 0) (prefix_len-same p q same xs) ∙ ap (λ b. cond b (1 + prefix_len q xs) 0) (same x)
+
+not-leb : (bound x : ℕ) → not (leb bound x) ≡ ltb x bound
+not-leb bound x = ⊎_elim
+    (λ l. ap not (lt-leb bound x l) ∙ sym (lt-ltb x bound l))
+    (λ g. ap not (le-leb bound x g) ∙ sym (le-ltb x bound g))
+    (cases_lt x bound)
+
+-- where the first lane is that reaches the bound, by the mask of a comparison
+pub lanes-below : (w : Width) (bound : ℕ) (v : List ℕ) (n mask : ℕ) → length v ≡ n → n ≤ 64
+    → mask ≡ mask_l (map (top (hbits w)) (zip2 (λ a b. cond (leb a b) (2 ^ bits w - 1) 0) (replicate n bound) v)) % 2 ^ 64
+    → cond (eqb mask 0) n (count_trailing_zeros 64 mask) ≡ leading_below bound v
+lanes-below w bound v n mask long few is =
+    let marks = tops_compared w leb (replicate n bound) v ∙ zip2_splat_left leb bound n v long in
+    let whole = is ∙ ap (λ l. mask_l l % 2 ^ 64) marks ∙ mask_l-mod (map (λ x. leb bound x) v) 64 (omega (arith, length-map v (λ x. leb bound x))) in
+    ap (λ m. cond (eqb m 0) n (count_trailing_zeros 64 m)) whole
+    ∙ first_set_mask_l (λ x. leb bound x) v n long few
+    ∙ prefix_len-same (λ x. not (leb bound x)) (λ x. ltb x bound) (not-leb bound) v
+
+-- and where the bound is too high for any of them to reach it
+pub lanes-below_all : (w : Width) (bound : ℕ) (units : List ℕ) (at n : ℕ) → at + n ≤ length units → ((k : ℕ) → Fits w (get_or units k 0)) → 2 ^ bits w ≤ bound
+    → n ≡ leading_below bound (take n (drop at units))
+lanes-below_all w bound units at n room fits high =
+    let long = length-chunk at n units room in
+    sym (prefix_len_is (λ u. ltb u bound) (chunk at n units) n 0 (omega arith)
+    (λ k h. lt-ltb _ bound (let f = (fits (at + k)).fits in omega (arith, get_or-chunk at n units k 0 h)))
+    (λ h. absurd (omega arith)))
+
 -- ---- units that are characters by themselves
 
 module _ (first : List ℕ → Step) (d : IsDecoding first) (P : ℕ → Type 0) (single : (u : ℕ) (us : List ℕ) → P u → first (u ∷ us) ≡ read u 1) where
@@ -82,11 +144,13 @@ steps-low_units = steps-single first_of_utf16 IsDecoding-utf16 (λ u. u < 0xD800
 
 pub boundary-ascii : (e : Encoding) (bound : ℕ) (units : List ℕ) → bound ≤ 0x80 → IsBoundary (first_in e) units (leading_below bound units)
 boundary-ascii e bound units h =
-    boundary-single (first_in e) (IsDecoding-first e) (λ u. u < bound) (λ u us l. first-low e u us (omega arith)) units (leading_below bound units) (leading_below-le bound units) (All-leading_below bound units)
+    boundary-single (first_in e) (IsDecoding-first e) (λ u. u < bound) (λ u us l. first-low e u us (omega arith)) units (leading_below bound units)
+    (leading_below-le bound units) (All-leading_below bound units)
 
 pub boundary-low_units : (bound : ℕ) (units : List ℕ) → bound ≤ 0xD800 → IsBoundary first_of_utf16 units (leading_below bound units)
 boundary-low_units bound units h =
-    boundary-single first_of_utf16 IsDecoding-utf16 (λ u. u < bound) (λ u us l. first-low_unit u us (omega arith)) units (leading_below bound units) (leading_below-le bound units) (All-leading_below bound units)
+    boundary-single first_of_utf16 IsDecoding-utf16 (λ u. u < bound) (λ u us l. first-low_unit u us (omega arith)) units (leading_below bound units)
+    (leading_below-le bound units) (All-leading_below bound units)
 
 -- no byte from C0 on stands after the first one of a sequence
 lead : (b : ℕ) → 0xC0 ≤ b → allows continuation b ≡ false

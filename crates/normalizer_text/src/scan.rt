@@ -1,27 +1,107 @@
-//! Scanning units for the first one that is not below a bound.
-ghost use Rattle.std.specs.Prelude.{◌≡◌, ◌+◌, ◌≤◌, length, drop};
+//! Scanning units for the first one that is not below a bound, as many at a time as a vector holds.
+ghost use Rattle.std.specs.Prelude.{◌≡◌, ◌==◌, ℕ, ◌+◌, ◌<◌, ◌≤◌, nat_lt, if◌then◌else◌};
+ghost use Rattle.std.specs.Prelude.{List, length, take, drop, slice_index};
+ghost use Rattle.std.specs.Int.{w64, trailing_zeros};
 ghost use Rattle.normalizer_text.specs.Scans.{leading_below};
 
-// Where the bytes end that stand from a position on and are all below the bound.
-pub(crate) fn end_of_bytes_below(bytes: &[u8], position: usize, bound: u32) -> usize
-    requires { position ≤ length bytes.now }
-    ensures { result ≡ position + leading_below bound (drop position bytes.now) }
+use std::simd::prelude::*;
+
+// How many units a vector holds.
+const LANES: usize = 16;
+
+// Units that are compared with a bound by a vector, or one alone.
+pub(crate) trait Lanes: Copy {
+    ghost units: { Self → List ℕ };
+
+    fn len(self) -> usize
+        ensures { result ≡ length (units self) };
+
+    // Whether the unit at a position is below the bound.
+    fn is_below(self, position: usize, bound: u32) -> bool
+        requires { position < length (units self) }
+        ensures { result ≡ nat_lt (slice_index (units self) position) bound };
+
+    // How many units of the vector at a position stand before the first one that is not below the bound.
+    fn lanes_below(self, position: usize, bound: u32) -> usize
+        requires { position + LANES ≤ length (units self) }
+        ensures { result ≡ leading_below bound (take LANES (drop position (units self))) };
+}
+
+// Where the units end that stand from a position on and are all below the bound.
+#[inline(always)]
+pub(crate) fn end_of_below<L: Lanes>(units: L, position: usize, bound: u32) -> usize
+    requires { position ≤ length (L.units units) }
+    ensures { result ≡ position + leading_below bound (drop position (L.units units)) }
 {
+    let len = units.len();
     let mut end = position;
-    while end < bytes.len() && u32::from(bytes[end]) < bound {
+    while len - end >= LANES {
+        let below = units.lanes_below(end, bound);
+        end += below;
+        if below < LANES {
+            return end;
+        }
+    }
+    while end < len && units.is_below(end, bound) {
         end += 1;
     }
     end
 }
 
-// The same of 16-bit units.
-pub(crate) fn end_of_units_below(units: &[u16], position: usize, bound: u32) -> usize
-    requires { position ≤ length units.now }
-    ensures { result ≡ position + leading_below bound (drop position units.now) }
+// How many lanes stand before the first one whose bit is set.
+#[inline(always)]
+fn lanes_before_set(mask: u64) -> usize
+    ensures { result ≡ (if mask == 0 then LANES else trailing_zeros w64 mask) }
 {
-    let mut end = position;
-    while end < units.len() && u32::from(units[end]) < bound {
-        end += 1;
+    if mask == 0 {
+        LANES
+    } else {
+        mask.trailing_zeros() as usize
     }
-    end
+}
+
+impl<'a> Lanes for &'a [u8] {
+    ghost units = { λ bytes. bytes.now };
+
+    #[inline(always)]
+    fn len(self) -> usize {
+        <[u8]>::len(self)
+    }
+
+    #[inline(always)]
+    fn is_below(self, position: usize, bound: u32) -> bool {
+        u32::from(self[position]) < bound
+    }
+
+    #[inline(always)]
+    fn lanes_below(self, position: usize, bound: u32) -> usize {
+        let Ok(bound) = u8::try_from(bound) else {
+            return LANES;
+        };
+        let reaches = u8x16::from_slice(&self[position..]).simd_ge(u8x16::splat(bound));
+        lanes_before_set(reaches.to_bitmask())
+    }
+}
+
+impl<'a> Lanes for &'a [u16] {
+    ghost units = { λ units. units.now };
+
+    #[inline(always)]
+    fn len(self) -> usize {
+        <[u16]>::len(self)
+    }
+
+    #[inline(always)]
+    fn is_below(self, position: usize, bound: u32) -> bool {
+        u32::from(self[position]) < bound
+    }
+
+    #[inline(always)]
+    fn lanes_below(self, position: usize, bound: u32) -> usize {
+        let Ok(bound) = u16::try_from(bound) else {
+            return LANES;
+        };
+        let reaches = u16x16::from_slice(&self[position..]).simd_ge(u16x16::splat(bound));
+        lanes_before_set(reaches.to_bitmask())
+    }
 }

@@ -1,5 +1,6 @@
 //! The three encodings as one trait, over which every loop is written once.
-ghost use Rattle.std.specs.Prelude.{◌≡◌, ◌==◌, ℕ, ◌+◌, ◌<◌, ◌≤◌, List, [], length, take, drop, slice_index, MatchOption};
+ghost use Rattle.std.specs.Prelude.{◌≡◌, ◌==◌, ℕ, ◌+◌, ◌<◌, ◌≤◌, MatchOption};
+ghost use Rattle.std.specs.Prelude.{List, [], length, take, drop, slice_index};
 ghost use Rattle.normalizer_text.specs.Steps.{IsBoundary, IsFirstStep, IsLastStep};
 ghost use Rattle.normalizer_text.specs.Backwards.{IsLastStart};
 ghost use Rattle.normalizer_text.specs.Encodings.{Encoding, first_in, trails_in};
@@ -118,7 +119,7 @@ impl<'a> Units for &'a str {
     }
 
     fn end_of_below(self, position: usize, bound: u32) -> usize {
-        scan::end_of_bytes_below(self.as_bytes(), position, bound)
+        scan::end_of_below(self.as_bytes(), position, bound)
     }
 
     fn before(self, position: usize) -> Self {
@@ -148,7 +149,7 @@ impl<'a> Units for &'a [u8] {
     }
 
     fn end_of_below(self, position: usize, bound: u32) -> usize {
-        scan::end_of_bytes_below(self, position, bound)
+        scan::end_of_below(self, position, bound)
     }
 
     fn before(self, position: usize) -> Self {
@@ -178,7 +179,7 @@ impl<'a> Units for &'a [u16] {
     }
 
     fn end_of_below(self, position: usize, bound: u32) -> usize {
-        scan::end_of_units_below(self, position, bound)
+        scan::end_of_below(self, position, bound)
     }
 
     fn before(self, position: usize) -> Self {
