@@ -10,7 +10,8 @@ module _ {S : Type 0} (taken : S → List ℕ) (refused left : S → S → Type 
     pub known : OnErr answer (refuses old units)
 
   -- the output was told that an input of so many units comes, and took none
-  pub record AnswersHint (hinted : S → ℕ → Result ⊤ SinkError → S → Type 0) (old : S) (len : ℕ) (answer : Result ⊤ SinkError) (new : S) : Type 0 where
+  pub record AnswersHint (hinted : S → ℕ → Result ⊤ SinkError → S → Type 0)
+      (old : S) (len : ℕ) (answer : Result ⊤ SinkError) (new : S) : Type 0 where
     pub units : AnswersUnits old [] answer new
     pub none : taken new ≡ taken old
     pub hint : hinted old len answer new
@@ -24,5 +25,6 @@ abbrev pub NoHint : {S : Type 0} → S → ℕ → Result ⊤ SinkError → S �
 NoHint old len answer new = ⊤
 
 -- what a sink answers as an output
-abbrev pub SinkAnswers : {S : Type 0} → (S → List ℕ) → (S → S → Type 0) → (S → S → Type 0) → S → List ℕ → Result ⊤ SinkError → S → Type 0
+abbrev pub SinkAnswers : {S : Type 0} → (S → List ℕ) → (S → S → Type 0) → (S → S → Type 0)
+    → S → List ℕ → Result ⊤ SinkError → S → Type 0
 SinkAnswers taken refused left old units answer new = AnswersUnits taken refused left NothingKnown old units answer new

@@ -1,9 +1,10 @@
 -- What a call on a sink tells, over what the sink took, its fault relation, and what its refused calls leave.
 use Rattle.std.specs.Prelude.{◌≡◌, ℕ, List, ◌++◌, Result, OnOk, OnErr, ⊤}
 
--- The sink was given some units, and answered. Where it took them, they stand behind what it took before, and each fault
--- from here on is one from before the call too. Where it refused, there is a fault, and it leaves what it may.
-pub record AnswersWrite {S A E : Type 0} (taken : S → List ℕ) (refused left : S → S → Type 0) (old : S) (units : List ℕ) (answer : Result A E) (new : S) : Type 0 where
+-- The sink was given some units, and answered. Where it took them, they stand behind what it took before, and each
+-- fault from here on is one from before the call too. Where it refused, there is a fault, and it leaves what it may.
+pub record AnswersWrite {S A E : Type 0} (taken : S → List ℕ) (refused left : S → S → Type 0)
+    (old : S) (units : List ℕ) (answer : Result A E) (new : S) : Type 0 where
   pub appends : OnOk answer (taken new ≡ taken old ++ units)
   pub ahead : OnOk answer ((later : S) → refused new later → refused old later)
   pub fault : OnErr answer (refused old new)

@@ -63,7 +63,8 @@ impl<U: Expected> Model for IsNormalizedSink<U> {
 
     ghost Value = { Expectation };
 
-    ghost view = { λ sink. record { came = take sink.place (U.units sink.expected); remaining = drop sink.place (U.units sink.expected) } };
+    ghost view = { λ sink. let units = U.units sink.expected in
+        record { came = take sink.place units; remaining = drop sink.place units } };
 
     ghost invariant = { λ sink. sink.place ≤ length (U.units sink.expected) };
 }

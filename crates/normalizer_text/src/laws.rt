@@ -85,9 +85,9 @@ pub fn low_units_are_single_characters()
         steps first_of_utf16 (low ++ rest) ≡ map (λ u. read u 1) low ++ steps first_of_utf16 rest }
 {}
 
-/// A step ends with the units below a bound, whatever stands behind them, for bounds up to 80 and, in bytes, from C0 on;
-/// for 16-bit units up to D800. In what is well-formed, bytes below C3 are characters below U+00C0, and bytes below CC
-/// are characters below U+0300.
+/// A step ends with the units below a bound, whatever stands behind them: for bounds up to 80 and, in bytes, from C0
+/// on; for 16-bit units up to D800. In what is well-formed, bytes below C3 are characters below U+00C0, and bytes below
+/// CC are characters below U+0300.
 pub fn step_ends_with_low_units()
     ensures below { (bound : ℕ) (units : List ℕ) → All (λ u. u < bound) (take (leading_below bound units) units) }
     ensures ascii { (e : Encoding) (bound : ℕ) (units : List ℕ) → bound ≤ 0x80 →
