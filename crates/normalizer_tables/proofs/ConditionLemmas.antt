@@ -138,7 +138,7 @@ IsOrderedList-plain s n h plain =
       promise = rw (read-plain n (word_of s n) s.is_mapper plain) tt;
     }
 
-no_surrogate : (n : ℕ) → scalar n ≡ true → is_surrogate n ≡ true → ⊥
+pub no_surrogate : (n : ℕ) → scalar n ≡ true → is_surrogate n ≡ true → ⊥
 unfolding is_surrogate
 no_surrogate n h k = grind (arith, nat_tests)
 
@@ -175,7 +175,7 @@ no_jamo n h k = grind (arith, nat_tests)
 pub IsSoundHangul-syllable : (s : Characters) (n : ℕ) → is_hangul_syllable n ≡ true → word_of s n ≡ 1 → IsSoundHangul s n
 IsSoundHangul-syllable s n syllable one = record { syllable = λ q. one; jamo = λ q. absurd (no_jamo n syllable q) }
 
-syllable-scalar : (n : ℕ) → is_hangul_syllable n ≡ true → scalar n ≡ true
+pub syllable-scalar : (n : ℕ) → is_hangul_syllable n ≡ true → scalar n ≡ true
 unfolding is_hangul_syllable
 syllable-scalar n h = grind (arith, nat_tests)
 

@@ -1,15 +1,17 @@
 -- The first condition that fails, found number by number.
 use Rattle.std.proofs.Common.{◌≡◌, ℕ, zero, suc, min, true, false, nat_lt, ◌+◌, ◌<◌, ◌≤◌, ◌⊎◌, inl, inr, List, [], ◌∷◌, ◌++◌, length, take, drop, All, Bor, IfSome, MatchOption, Option, Some, None, slice_get, slice_index_or, get_or, refl, ap, sym, ◌∙◌, subst, add-one, drop-cons, length-take, arith}
-use Rattle.std.specs.List.{AllWithin, HoldsAt as HoldsAtPlace}
+use Rattle.std.specs.List.{AllWithin, Contains, HoldsAt as HoldsAtPlace}
 use Rattle.std.specs.Option.{option_copied}
 use Rattle.std.proofs.lemmas.Bool.Decides.{nat_tests}
 use Rattle.std.proofs.lemmas.List.{get_or-take, take-append-drop}
+use Rattle.std.proofs.lemmas.List.Elements.{All-contains}
 use Rattle.std.proofs.lemmas.Option.{slice_get_within, slice_get-get_or, slice_get_past, slice_get_read, get_or_from_slice_get}
 use Rattle.normalizer_tables.specs.declared.condition.Condition.{Condition}
 use Rattle.normalizer_tables.specs.Loaded.{Loaded, IsMet, IsMetAt, IsMetOverall}
 use Rattle.normalizer_tables.specs.Ranges.{IsComplete}
-use Rattle.normalizer_tables.specs.Conditions.{IsFirstFailing, IsPlaceOfFirstFailing}
-use Rattle.normalizer_tables.specs.Walk.{IsMetApart}
+use Rattle.normalizer_tables.specs.declared.condition.Condition.TheVariants.{Hangul}
+use Rattle.normalizer_tables.specs.Conditions.{HoldsAt, IsFirstFailing, IsPlaceOfFirstFailing, IsSoundHangul}
+use Rattle.normalizer_tables.specs.Walk.{IsMetApart, IsMetApartAt, is_asked_apart}
 use Rattle.normalizer_tables.proofs.LoadedLemmas.{IsMet-at, IsMet-within}
 use Rattle.normalizer_tables.proofs.WalkLemmas.{IsMet-apart}
 
@@ -125,6 +127,13 @@ All-front : (P : Condition → Type 0) (conditions : List Condition) (place : �
 All-front P conditions place h k d kh =
     let less : k < place = in_front place conditions k kh in
     subst P (sym (get_or-take place conditions k d less)) (h k d (omega arith) less)
+
+-- where Hangul is among the conditions that are met apart, it is sound
+pub has_sound_hangul : (loaded : Loaded) (conditions : List Condition) (place : ℕ) → IsPlaceOfFirstFailing (IsMetApart loaded) conditions place → Contains (take place conditions) Hangul → (n : ℕ) → IsSoundHangul loaded.characters n
+unfolding IsMetApart IsMetApartAt IsMetAt HoldsAt is_asked_apart
+has_sound_hangul loaded conditions place h asked n =
+    let met : IsMetApart loaded Hangul = All-contains (IsMetApart loaded) (take place conditions) Hangul (All-front (IsMetApart loaded) conditions place h.before) asked in
+    (met.1 n refl).0
 
 pub IsFirstFailing-at : (loaded : Loaded) (conditions : List Condition) (number place : ℕ) (r : Option Condition) → IsComplete loaded.characters.decompositions.table → 0x110000 < number →
     FailsFirst loaded conditions number place → r ≡ slice_get conditions place → IsFirstFailing (IsMet loaded) conditions r

@@ -28,6 +28,7 @@ pub mod StepConditionLemmas
 pub mod StepLemmas
 pub mod SurrogateLemmas
 pub mod Tables
+pub mod SyllableLemmas
 pub mod TextLemmas
 pub mod WalkLemmas
 pub mod WordLemmas

@@ -51,7 +51,7 @@ insert-starter : (d : Reading) (c e : ℕ) (w : List ℕ) → IsStarter d e → 
 unfolding insert is_reorderable
 insert-starter d c e w h = rw h
 
-order-starters : (d : Reading) (x : List ℕ) → All (IsStarter d) x → order d x ≡ x
+pub order-starters : (d : Reading) (x : List ℕ) → All (IsStarter d) x → order d x ≡ x
 unfolding order insert
 order-starters d [] h = refl
 order-starters d (c ∷ []) h = refl
@@ -59,33 +59,33 @@ order-starters d (c ∷ e ∷ x) h =
     ap (insert d c) (order-starters d (e ∷ x) (All-tail (IsStarter d) c (e ∷ x) h)) ∙ insert-starter d c e x (All-head (IsStarter d) e x (All-tail (IsStarter d) c (e ∷ x) h))
 
 -- a word of 1 reads as a Hangul syllable
-read-syllable : (n : ℕ) (is_mapper : Bool) → is_hangul_syllable n ≡ true → read n 1 is_mapper ≡ HangulSyllable
+pub read-syllable : (n : ℕ) (is_mapper : Bool) → is_hangul_syllable n ≡ true → read n 1 is_mapper ≡ HangulSyllable
 unfolding read read_low is_plain is_ordinary_class_form is_special_class_form has_high_zeros has_low_zeros
 read-syllable n true h = rw h
 read-syllable n false h = rw h
 
 -- two or three jamo are characters
-two_jamo : (l v : ℕ) → l < 55296 → v < 55296 → as_text (l ∷ v ∷ []) ≡ Some (l ∷ v ∷ [])
+pub two_jamo : (l v : ℕ) → l < 55296 → v < 55296 → as_text (l ∷ v ∷ []) ≡ Some (l ∷ v ∷ [])
 unfolding as_text
 two_jamo l v first second = rw (low_scalar l first, low_scalar v second)
 
-three_jamo : (l v t : ℕ) → l < 55296 → v < 55296 → t < 55296 → as_text (l ∷ v ∷ t ∷ []) ≡ Some (l ∷ v ∷ t ∷ [])
+pub three_jamo : (l v t : ℕ) → l < 55296 → v < 55296 → t < 55296 → as_text (l ∷ v ∷ t ∷ []) ≡ Some (l ∷ v ∷ t ∷ [])
 unfolding as_text
 three_jamo l v t first second third = rw (low_scalar l first, low_scalar v second, low_scalar t third)
 
-leading_jamo : (n : ℕ) → 0x1100 ≤ n → n ≤ 0x1112 → is_composing_jamo n ≡ true
+pub leading_jamo : (n : ℕ) → 0x1100 ≤ n → n ≤ 0x1112 → is_composing_jamo n ≡ true
 unfolding is_composing_jamo
 leading_jamo n low high = rw (le-leb 0x1100 n low, le-leb n 0x1112 high)
 
-vowel_jamo : (n : ℕ) → 0x1161 ≤ n → n ≤ 0x1175 → is_composing_jamo n ≡ true
+pub vowel_jamo : (n : ℕ) → 0x1161 ≤ n → n ≤ 0x1175 → is_composing_jamo n ≡ true
 unfolding is_composing_jamo
 vowel_jamo n low high = grind (arith, nat_tests)
 
-trailing_jamo : (n : ℕ) → 0x11A8 ≤ n → n ≤ 0x11C2 → is_composing_jamo n ≡ true
+pub trailing_jamo : (n : ℕ) → 0x11A8 ≤ n → n ≤ 0x11C2 → is_composing_jamo n ≡ true
 unfolding is_composing_jamo
 trailing_jamo n low high = grind (arith, nat_tests)
 
-syllable_in_range : (n : ℕ) → 0xAC00 ≤ n → n ≤ 0xD7A3 → is_hangul_syllable n ≡ true
+pub syllable_in_range : (n : ℕ) → 0xAC00 ≤ n → n ≤ 0xD7A3 → is_hangul_syllable n ≡ true
 unfolding is_hangul_syllable
 syllable_in_range n low high = and_from _ _ (le-leb 0xAC00 n low) (le-leb n 0xD7A3 high)
 

@@ -1,5 +1,5 @@
 -- What is asked apart from the walk over words, and what that leaves.
-use Rattle.std.proofs.Common.{◌≡◌, ◌↔◌, ℕ, ◌+◌, ◌<◌, ◌≤◌, ◌⊎◌, inl, inr, Bool, true, false, List, All, Option, Some, None, IfSome, IsTrue, refl, sym, subst, ◌∙◌, arith}
+use Rattle.std.proofs.Common.{◌≡◌, ◌↔◌, ℕ, ◌+◌, ◌-◌, ◌*◌, ◌/◌, ◌<◌, ◌≤◌, ◌⊎◌, inl, inr, Bool, true, false, List, All, Option, Some, None, IfSome, IsTrue, refl, sym, subst, ◌∙◌, arith}
 use Rattle.std.specs.Char.{IsScalar}
 use lib.Utf8.{scalar}
 use Rattle.std.proofs.lemmas.Bool.{cases_Bool, cases_order, cond-false}
@@ -9,17 +9,22 @@ use Rattle.normalizer_tables.specs.declared.condition.Condition.TheVariants.{Sur
 use Rattle.normalizer_tables.specs.Characters.{Characters, word_of, reading_of_word}
 use Rattle.normalizer_tables.specs.Conditions.{HoldsAt, IsSoundHangul, is_surrogate}
 use Rattle.normalizer_tables.specs.Data.{Supplement}
+use Rattle.normalizer_tables.specs.Hangul.{is_hangul_syllable}
 use Rattle.normalizer_tables.specs.Loaded.{Loaded, IsMet, IsMetAt}
 use Rattle.normalizer_tables.specs.PairConditions.{KeepsBeginning, PairsHoldAt, is_taken_to_begin_safely}
 use Rattle.normalizer_tables.specs.Pairs.{Pair, IsNeverSecond, is_vowel_or_trailing_jamo, listed_result, pair_of}
 use Rattle.normalizer_tables.specs.StepConditions.{AvoidsFdfa, StepsHoldAt}
-use Rattle.normalizer_tables.specs.Walk.{IsNextWord, IsMetApart, IsMetApartAt, KeepsPlainBeginning, is_asked_apart}
+use Rattle.normalizer_tables.specs.Table.{code_points}
+use Rattle.normalizer_tables.specs.Walk.{IsEndOfAlike, IsNextWord, IsMetApart, IsMetApartAt, KeepsPlainBeginning, is_asked_apart}
 use Rattle.normalizer_tables.specs.Words.{is_plain}
 use Rattle.normalizer_tables.proofs.ConditionLemmas.{HoldsAt-elsewhere, HoldsAt-plain, read-plain}
+use Rattle.normalizer_tables.proofs.HangulLemmas.{is_hangul_syllable-true}
 use Rattle.normalizer_tables.proofs.LoadedLemmas.{IfSome-all, IfSome-map, IsMet-at, IsMet-overall, IsMetAt-alone}
 use Rattle.normalizer_tables.proofs.PairConditionLemmas.{HasSafeBeginning-plain, IsNeverSecond-plain, KeepsRoundTrip-plain}
+use Rattle.normalizer_tables.proofs.PairLaws.{syllable_in_range}
 use Rattle.normalizer_tables.proofs.PairLemmas.{All-listed_result}
 use Rattle.normalizer_tables.proofs.StepConditionLemmas.{HasSoundStep-plain}
+use Rattle.normalizer_tables.proofs.SyllableLemmas.{IsMetAt-syllable_behind}
 
 pub IsMet-apart : (d : Loaded) (c : Condition) → IsMet d c → IsMetApart d c
 unfolding IsMetApart IsMetApartAt
@@ -40,10 +45,36 @@ up_to_next P from number below here n low high = elim (cases_order n number) [
   | inr (inr behind) ↦ absurd (omega arith)
 ]
 
--- the numbers before the next one with a word are asked of apart, and it is asked itself
-pub Settles-next_word : (d : Loaded) (from number : ℕ) → IsNextWord d.characters from number → (c : Condition) → IsMetApart d c → IsMetAt d c number → (n : ℕ) → from ≤ n → n < number + 1 → IsMetAt d c n
+-- a number answers for those before it that are asked of apart, for itself, and for the syllables behind it that are alike
+pub IsMetAt-answered : (d : Loaded) (hangul_is_sound : Bool) → (hangul_is_sound ≡ true → (n : ℕ) → IsSoundHangul d.characters n) → (from number end : ℕ) → IsNextWord d.characters from number →
+    IsEndOfAlike hangul_is_sound number end → (c : Condition) → IsMetApart d c → IsMetAt d c number → (n : ℕ) → from ≤ n → n < end → IsMetAt d c n
 unfolding IsMetApart IsMetApartAt
-Settles-next_word d from number next c apart at n low high = up_to_next (λ m. IsMetAt d c m) from number (λ m least before. apart.1 m (is_asked_apart-plain d c m (next.between m least before))) at n low high
+IsMetAt-answered d hangul_is_sound sound from number end next behind c apart met n low high = elim (cases_order n number) [
+  | inl same ↦ subst (λ m. IsMetAt d c m) (sym same) met
+  | inr (inl before) ↦ apart.1 n (is_asked_apart-plain d c n (next.between n low before))
+  | inr (inr after) ↦ (let alike = behind.alike n after high in IsMetAt-syllable_behind d (sound alike.0) c number n alike.1 met)
+]
+
+pub IsEndOfAlike-other : (hangul_is_sound : Bool) (n : ℕ) → IsEndOfAlike hangul_is_sound n (n + 1)
+IsEndOfAlike-other hangul_is_sound n = record { above = omega arith; within = λ h. omega arith; alike = λ m low high. absurd (omega arith) }
+
+pub IsEndOfAlike-syllable : (hangul_is_sound : Bool) (n : ℕ) → hangul_is_sound ≡ true → is_hangul_syllable n ≡ true → IsEndOfAlike hangul_is_sound n (0xAC00 + ((n - 0xAC00) / 588 + 1) * 588)
+unfolding code_points
+IsEndOfAlike-syllable hangul_is_sound n sound syllable =
+    let range = is_hangul_syllable-true n syllable in
+    record {
+      above = omega arith;
+      within = λ h. omega arith;
+      alike = λ m low high. (
+        sound,
+        record {
+          first = syllable;
+          second = syllable_in_range m (omega arith) (omega arith);
+          behind = omega arith;
+          leading = omega arith;
+        },
+      );
+    }
 
 -- ---- plain words
 

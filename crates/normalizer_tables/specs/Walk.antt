@@ -1,9 +1,10 @@
 -- How the check goes over the numbers: from one word that isn't 0 to the next. What it has asked of all others before.
-use Rattle.std.specs.Prelude.{◌≡◌, ℕ, ◌<◌, ◌≤◌, Bool, true, false, List}
+use Rattle.std.specs.Prelude.{◌≡◌, ℕ, ◌+◌, ◌-◌, ◌/◌, ◌<◌, ◌≤◌, Bool, true, false, List}
 use Rattle.normalizer_tables.specs.declared.condition.Bounds.{Bounds}
 use Rattle.normalizer_tables.specs.declared.condition.Condition.{Condition}
 use Rattle.normalizer_tables.specs.declared.condition.Condition.TheVariants.{Surrogates, Hangul}
 use Rattle.normalizer_tables.specs.Characters.{Characters, word_of}
+use Rattle.normalizer_tables.specs.Hangul.{is_hangul_syllable, n_count, s_base}
 use Rattle.normalizer_tables.specs.Loaded.{Loaded, IsMetAt, IsMetOverall}
 use Rattle.normalizer_tables.specs.PairConditions.{KeepsBeginning}
 use Rattle.normalizer_tables.specs.Pairs.{Pair}
@@ -16,6 +17,19 @@ pub record IsNextWord (s : Characters) (from n : ℕ) : Type 0 where
   pub within : n ≤ code_points
   pub between : (m : ℕ) → from ≤ m → m < n → is_plain (word_of s m) ≡ true
   pub found : n < code_points → is_plain (word_of s n) ≡ false
+
+-- two syllables, the second not before the first, with the same leading consonant
+pub record IsSyllableBehind (m n : ℕ) : Type 0 where
+  pub first : is_hangul_syllable m ≡ true
+  pub second : is_hangul_syllable n ≡ true
+  pub behind : m ≤ n
+  pub leading : (m - s_base) / n_count ≡ (n - s_base) / n_count
+
+-- the numbers behind n and before `end`, of which there are some only where Hangul is sound, are syllables behind it
+pub record IsEndOfAlike (hangul_is_sound : Bool) (n end : ℕ) : Type 0 where
+  pub above : n < end
+  pub within : n ≤ code_points → end ≤ code_points + 1
+  pub alike : (m : ℕ) → n < m → m < end → (hangul_is_sound ≡ true) × IsSyllableBehind n m
 
 -- a condition is asked of a number apart from that walk: of surrogates and of Hangul whatever their words, else where
 -- the word is 0, flags aside

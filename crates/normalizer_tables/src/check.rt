@@ -1,13 +1,19 @@
 //! The complete check of what was loaded: the first of the written conditions that it breaks.
+ghost use Rattle.std.specs.Prelude.{◌↔◌, ◌≤◌, IsTrue};
+ghost use Rattle.std.specs.List.{Contains};
 ghost use Rattle.normalizer_tables.specs.Conditions.{IsFirstFailing, IsPlaceOfFirstFailing};
 ghost use Rattle.normalizer_tables.specs.Loaded.{IsMet, IsMetAt};
 ghost use Rattle.normalizer_tables.specs.Ranges.{IsComplete};
-ghost use Rattle.normalizer_tables.specs.Walk.{IsMetApart};
+ghost use Rattle.normalizer_tables.specs.Table.{code_points};
+ghost use Rattle.normalizer_tables.specs.declared.condition.Condition.TheVariants as condition;
+ghost use Rattle.normalizer_tables.specs.Walk.{IsEndOfAlike, IsMetApart};
 
 use crate::characters::CODE_POINTS;
 use crate::check::parts::{is_met_apart, is_met_at};
 use crate::condition::Condition;
+use crate::hangul::{N_COUNT, S_BASE};
 use crate::loaded::LoadedData;
+use crate::word::is_hangul_syllable;
 
 mod lists;
 pub(crate) mod numbers;
@@ -19,14 +25,37 @@ pub fn first_failing(data: &LoadedData<'_>, conditions: &[Condition]) -> Option<
     ensures { IsFirstFailing (IsMet data.now) conditions.now result }
 {
     let mut failing = first_failing_apart(data, conditions);
+    let hangul_is_sound = asks_hangul(&conditions[..failing]);
     let mut from = 0;
     while from <= CODE_POINTS {
         // The word of the first number past the code points is that of all.
         let number = data.characters().next_with_word(from);
         failing = first_failing_at(data, &conditions[..failing], number);
-        from = number + 1;
+        from = end_of_alike(number, hangul_is_sound);
     }
     conditions.get(failing).copied()
+}
+
+/// Whether Hangul is among these conditions.
+fn asks_hangul(conditions: &[Condition]) -> bool
+    ensures { IsTrue result ↔ Contains conditions.now condition.Hangul }
+{
+    conditions
+        .iter()
+        .any(|&condition| condition == Condition::Hangul)
+}
+
+/// The end of the numbers for which this one answers. Where Hangul is sound, a syllable does for those behind it with the
+/// same leading consonant.
+fn end_of_alike(number: u32, hangul_is_sound: bool) -> u32
+    requires { number ≤ code_points }
+    ensures { IsEndOfAlike hangul_is_sound number result }
+{
+    if hangul_is_sound && is_hangul_syllable(number) {
+        S_BASE + ((number - S_BASE) / N_COUNT + 1) * N_COUNT
+    } else {
+        number + 1
+    }
 }
 
 /// The place of the first condition that fails apart from the walk over words.

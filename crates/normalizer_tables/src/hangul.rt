@@ -13,7 +13,7 @@ pub(crate) const T_BASE: u32 = 0x11A7;
 
 pub(crate) const T_COUNT: u32 = 28;
 
-const N_COUNT: u32 = 588;
+pub(crate) const N_COUNT: u32 = 588;
 
 /// The syllable of a leading consonant and a vowel, or of such a syllable and a trailing consonant.
 #[tactic(auto, unfolding(crate::specs::HangulComposition::compose_hangul))]
