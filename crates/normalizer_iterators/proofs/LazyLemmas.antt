@@ -56,6 +56,14 @@ anew-parts f d c e =
           (other, some.0, some.1, some.2)
     ]
 
+-- what doesn't begin anew continues
+pub continues-else : (f : ℕ → Bool) (d : Reading) (c : ℕ) → (continues f d c ≡ false → false ≡ true) → continues f d c ≡ true
+continues-else f d c other =
+    elim (cases_Bool (continues f d c)) [
+      | inl continuing ↦ continuing
+      | inr anew ↦ cc (other anew)
+    ]
+
 pub too_many : (n m : ℕ) → (n ≤ m → false ≡ true) → m < n
 too_many n m fails =
     elim (cases_lt m n) [

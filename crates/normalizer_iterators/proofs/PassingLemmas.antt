@@ -23,7 +23,7 @@ use Rattle.normalizer_tables.specs.PairConditions.{composing_reading}
 use Rattle.normalizer_tables.specs.Pairs.{Pair, pair_of}
 use Rattle.normalizer_iterators.specs.declared.decomposition.Decomposition.{Decomposition}
 use Rattle.normalizer_iterators.specs.Delegate.{SpellsBehind, IsReadyBehind}
-use Rattle.normalizer_iterators.specs.Decomposition.{reading_by, WillGive, StaysShort}
+use Rattle.normalizer_iterators.specs.Decomposition.{StaysShort, WillGive, pending_of, reading_by}
 use Rattle.normalizer_iterators.specs.LazyComposing.{IsPassed, StandsApart, StandsApartIn, PassedBeginAnew, SuitsLazyComposing}
 use Rattle.normalizer_iterators.specs.LazyReading.{decomposing_reading, longest_list}
 use Rattle.normalizer_iterators.specs.Passing.{AllPassed, StandsAtPassed, IsAtPassed, PassesOn, GivesStarter}
@@ -56,7 +56,7 @@ first_passed s b None h = tt
 first_passed s b (Some c) h = h
 
 pub IsAtPassed-stands : {I : Type 0} (b : Bounds) (pairs : List Pair) (s : Decomposition I) → SuitsLazyComposing s.characters b pairs → StandsAtPassed b s → IsAtPassed pairs s
-IsAtPassed-stands b pairs s suits stands = record { waiting = stands.0; apart = all_apart s.characters b pairs suits s.ignored s.pending (first_passed s.characters b s.pending stands.1) }
+IsAtPassed-stands b pairs s suits stands = record { waiting = stands.0; apart = all_apart s.characters b pairs suits s.ignored (pending_of s) (first_passed s.characters b (pending_of s) stands.1) }
 
 -- ---- the composing form
 
@@ -117,17 +117,17 @@ module _ {I : Type 0} (can : I → Type 0) (gives : I → Option ℕ → I → T
   -- what is to come begins safely
   pub BeginsSafely-to_come : (y : List ℕ) → WillGive gives s y → BeginsSafely (composing_reading s.characters pairs) y
   BeginsSafely-to_come y h =
-      let x = option_to_list s.pending ++ h.unread in
+      let x = option_to_list (pending_of s) ++ h.unread in
       subst (BeginsSafely (composing_reading s.characters pairs)) (sym (h.text ∙ ap (λ l. l ++ nfd (reading_by s) x) here.waiting))
-      (nfd-begins s.characters pairs s.ignored x (begins_apart gives s.characters pairs s.ignored s.pending s.delegate h.unread here.apart h.source))
+      (nfd-begins s.characters pairs s.ignored x (begins_apart gives s.characters pairs s.ignored (pending_of s) s.delegate h.unread here.apart h.source))
 
-  module _ (b : Bounds) (suits : SuitsLazyComposing s.characters b pairs) (c : ℕ) (pending : s.pending ≡ Some c) where
+  module _ (b : Bounds) (suits : SuitsLazyComposing s.characters b pairs) (c : ℕ) (pending : pending_of s ≡ Some c) where
     first_apart : StandsApartIn s.characters pairs s.ignored c
     first_apart = subst (λ o. IfSome o (StandsApartIn s.characters pairs s.ignored)) pending here.apart
 
     module _ (following : Option ℕ) (t : Decomposition I) (step : gives s.delegate following t.delegate)
         (near : OnSome following (can t.delegate × IsFinite (left t.delegate) × (size (left t.delegate) < size (left s.delegate))))
-        (apart : IfSome following (StandsApartIn s.characters pairs s.ignored)) (reads : t.pending ≡ following) (empty : ordered t.waiting ≡ []) (characters : t.characters ≡ s.characters)
+        (apart : IfSome following (StandsApartIn s.characters pairs s.ignored)) (reads : pending_of t ≡ following) (empty : ordered t.waiting ≡ []) (characters : t.characters ≡ s.characters)
         (ignored : t.ignored ≡ s.ignored) where
       to_come : (y : List ℕ) → WillGive gives s y → (own : List ℕ) × (rest : List ℕ) × (y ≡ own ++ rest)
           × (compose_by_starters (composing_reading s.characters pairs) y ≡ c ∷ compose_by_starters (composing_reading s.characters pairs) rest) × WillGive gives t rest
@@ -139,7 +139,7 @@ module _ {I : Type 0} (can : I → Type 0) (gives : I → Option ℕ → I → T
           let rest = option_to_list following ++ next.0 in
           let begins = begins_apart gives s.characters pairs s.ignored following t.delegate next.0 apart next.2 in
           let all : y ≡ nfd d (c ∷ rest) =
-          h.text ∙ ap (λ l. l ++ nfd d (option_to_list s.pending ++ h.unread)) here.waiting ∙ ap (λ o. nfd d (option_to_list o ++ h.unread)) pending
+          h.text ∙ ap (λ l. l ++ nfd d (option_to_list (pending_of s) ++ h.unread)) here.waiting ∙ ap (λ o. nfd d (option_to_list o ++ h.unread)) pending
           ∙ ap (λ l. nfd d (c ∷ l)) next.1 in
           let composed = λ (x : List ℕ). composed_form-is s.characters s.ignored pairs x in (
             nfd d (c ∷ []),
@@ -186,13 +186,13 @@ module _ {I : Type 0} (can : I → Type 0) (gives : I → Option ℕ → I → T
             kept = characters;
             fewer =
                 let before =
-                ap (λ l. length l + longest_list * reads_left s.pending (size (left s.delegate))) here.waiting ∙ ap (λ p. 0 + longest_list * reads_left p (size (left s.delegate))) pending in
-                let after = ap (λ l. length l + longest_list * reads_left t.pending (size (left t.delegate))) empty ∙ ap (λ p. 0 + longest_list * reads_left p (size (left t.delegate))) reads in
+                ap (λ l. length l + longest_list * reads_left (pending_of s) (size (left s.delegate))) here.waiting ∙ ap (λ p. 0 + longest_list * reads_left p (size (left s.delegate))) pending in
+                let after = ap (λ l. length l + longest_list * reads_left (pending_of t) (size (left t.delegate))) empty ∙ ap (λ p. 0 + longest_list * reads_left p (size (left t.delegate))) reads in
                 omega (arith, before, after, fewer_by following (size (left t.delegate)) (size (left s.delegate)) both.1);
           }
 
     pub GivesStarter-next : (t : Decomposition I) (first : ℕ) → t.characters ≡ s.characters → t.ignored ≡ s.ignored
-        → ReadsChunk can gives left (has_class_form s.characters) (reading_by s) c s.delegate first t.pending t.delegate t.waiting → GivesStarter can gives left s first t
+        → ReadsChunk can gives left (has_class_form s.characters) (reading_by s) c s.delegate first (pending_of t) t.delegate t.waiting → GivesStarter can gives left s first t
     GivesStarter-next t first characters ignored r =
         record {
           steps = Steps-chunk can gives left s c pending here.waiting t first characters ignored r;

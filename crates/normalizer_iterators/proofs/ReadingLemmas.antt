@@ -9,8 +9,9 @@ use Rattle.normal_forms.specs.Decomposition.{expand}
 use Rattle.normal_forms.specs.Order.{order}
 use Rattle.normal_forms.specs.ShortRuns.{places, continues}
 use Rattle.normal_forms.proofs.ExpandLemmas.{expand-append}
+use Rattle.normal_forms.proofs.OrderLemmas.{order-nil}
 use Rattle.normalizer_iterators.specs.Delegate.{HasRead, IsReadyBehind}
-use Rattle.normalizer_iterators.specs.ReadingOn.{ReadsOn, DidNotFit, ReadsChunk, ChunkDidNotFit}
+use Rattle.normalizer_iterators.specs.ReadingOn.{ReadsOn, DidNotFit, ReadsChunk, StandsAlone, ChunkDidNotFit}
 use Rattle.normalizer_iterators.proofs.LazyLemmas.{Yields-one_more}
 use Rattle.std.proofs.lemmas.Option.{slice_get_cases}
 use Rattle.normal_forms.specs.Reading.{Reading}
@@ -166,6 +167,11 @@ module _ {I : Type 0} (can : I → Type 0) (gives : I → Option ℕ → I → T
   HasRead-next before after None step h = record { step = step; nearer = tt }
   HasRead-next before after (Some c) step h = record { step = step; nearer = h.2 }
 
+  -- what was given may be held otherwise
+  pub HasRead-as : (before after : I) (given read : Option ℕ) → read ≡ given → gives before given after
+      → OnSome given (can after × IsFinite (left after) × (size (left after) < size (left before))) → HasRead gives left before read after
+  HasRead-as before after given read same step h = rw same (HasRead-next before after given step h)
+
   module _ (f : ℕ → Bool) (d : Reading) (first : Option ℕ) (delegate : I) (waiting : WaitingList) where
     pub ReadsAhead-none : IsReadyBehind can left first delegate → AgreesWith d waiting → ReadsAhead can gives left f d first delegate waiting first delegate waiting
     ReadsAhead-none ready agrees = record { ready = ready; agrees = agrees; behind = λ before read. (before, ReadSoFar-none can gives left f d before waiting agrees, read) }
@@ -213,6 +219,24 @@ ReadsChunk-from can gives left f d c first members delegate next w b new pending
   settled = r.settled;
   ready = r.ready;
   fewer = r.fewer;
+}
+
+-- a character that is its own list is a chunk where what follows begins anew
+pub ReadsChunk-alone : {I : Type 0} (can : I → Type 0) (gives : I → Option ℕ → I → Type 0) (left : I → Count) (f : ℕ → Bool) (d : Reading) (c : ℕ) (delegate next : I) (following : Option ℕ)
+    (w : WaitingList) → StandsAlone f d c following → HasRead gives left delegate following next → IsReadyBehind can left following next → ordered w ≡ [] → unordered w ≡ []
+    → ReadsChunk can gives left f d c delegate c following next w
+unfolding expand
+ReadsChunk-alone can gives left f d c delegate next following w alone read ready front open_marks = record {
+  others = [];
+  members = alone.own;
+  read = [];
+  run = (delegate, refl, read.step);
+  continuing = All-nil (λ b. continues f d b ≡ true);
+  anew = alone.anew;
+  text = front ∙ sym (order-nil d);
+  settled = open_marks;
+  ready = ready;
+  fewer = nearer_end following (size (left next)) 0 (size (left delegate)) (size (left delegate)) (omega arith) read.nearer;
 }
 
 pub ChunkDidNotFit-members : {I : Type 0} (gives : I → Option ℕ → I → Type 0) (f : ℕ → Bool) (d : Reading) (c : ℕ) (members : List ℕ) (delegate : I) → members ≡ d.list c

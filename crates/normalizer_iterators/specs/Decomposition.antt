@@ -1,38 +1,50 @@
 -- What is still to come of a decomposition.
-use Rattle.std.specs.Prelude.{◌≡◌, ℕ, ◌+◌, ◌*◌, List, [], length, Option, None, Result}
+use Rattle.std.specs.Prelude.{◌≡◌, ℕ, ◌+◌, ◌*◌, List, [], length, Option, Some, None, Result, Ok, Err}
 use Rattle.std.specs.Iterator.{Count, size}
 use Rattle.normal_forms.specs.Reading.{Reading}
 use Rattle.normal_forms.specs.Forms.{nfd}
 use Rattle.normalizer_tables.specs.Characters.{has_class_form}
 use Rattle.normalizer_iterators.specs.declared.decomposition.Decomposition.{Decomposition}
 use Rattle.normalizer_iterators.specs.declared.error.NormalizeError.{NormalizeError}
+use Rattle.normalizer_iterators.specs.declared.waiting.Classed.{Classed}
 use Rattle.normalizer_iterators.specs.Delegate.{IsReadyBehind}
 use Rattle.normalizer_iterators.specs.LazyReading.{decomposing_reading, longest_list}
 use Rattle.normalizer_iterators.specs.NextItem.{GivesNext}
+use Rattle.normalizer_iterators.specs.Reads.{character_of}
 use Rattle.normalizer_iterators.specs.ToCome.{IsToCome, AreShortToCome, reads_left}
 use Rattle.normalizer_iterators.specs.WaitingList.{ordered}
 
+-- an item without its class
+abbrev pub item_of : Option (Result Classed NormalizeError) → Option (Result ℕ NormalizeError)
+item_of None = None
+item_of (Some (Ok given)) = Some (Ok given.character)
+item_of (Some (Err e)) = Some (Err e)
+
 module _ {I : Type 0} where
+  -- the character that was read last, if one is left
+  abbrev pub pending_of : Decomposition I → Option ℕ
+  pending_of s = character_of s.pending
+
   abbrev pub reading_by : Decomposition I → Reading
   reading_by s = decomposing_reading s.characters s.ignored
 
   -- these characters, where memory suffices
   abbrev pub WillGive : (I → Option ℕ → I → Type 0) → Decomposition I → List ℕ → Type 0
-  WillGive gives s out = IsToCome gives (nfd (reading_by s)) s.pending s.delegate (ordered s.waiting) out
+  WillGive gives s out = IsToCome gives (nfd (reading_by s)) (pending_of s) s.delegate (ordered s.waiting) out
 
   -- the runs that are still to come are short
   abbrev pub StaysShort : (I → Option ℕ → I → Type 0) → Decomposition I → Type 0
-  StaysShort gives s = AreShortToCome gives (has_class_form s.characters) (reading_by s) s.pending s.delegate
+  StaysShort gives s = AreShortToCome gives (has_class_form s.characters) (reading_by s) (pending_of s) s.delegate
 
   abbrev pub IsEnded : Decomposition I → Type 0
-  IsEnded s = (s.pending ≡ None) × (ordered s.waiting ≡ [])
+  IsEnded s = (pending_of s ≡ None) × (ordered s.waiting ≡ [])
 
   abbrev pub CanDecompose : (I → Type 0) → (I → Count) → Decomposition I → Type 0
-  CanDecompose can left s = IsReadyBehind can left s.pending s.delegate
+  CanDecompose can left s = IsReadyBehind can left (pending_of s) s.delegate
 
   -- no more characters than this come
   abbrev pub items_left : (I → Count) → Decomposition I → ℕ
-  items_left left s = length (ordered s.waiting) + longest_list * reads_left s.pending (size (left s.delegate))
+  items_left left s = length (ordered s.waiting) + longest_list * reads_left (pending_of s) (size (left s.delegate))
 
   pub record DecompositionSteps (can : I → Type 0) (gives : I → Option ℕ → I → Type 0) (left : I → Count)
       (s : Decomposition I) (r : Option (Result ℕ NormalizeError)) (t : Decomposition I) : Type 0 where

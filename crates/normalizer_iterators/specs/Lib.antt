@@ -8,6 +8,7 @@ pub mod MarkRuns
 pub mod NextItem
 pub mod Passing
 pub mod ReadingOn
+pub mod Reads
 pub mod StayingMarks
 pub mod ToCome
 pub mod Waiting

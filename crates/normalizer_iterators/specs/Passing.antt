@@ -12,7 +12,7 @@ use Rattle.normalizer_iterators.specs.declared.decomposition.Decomposition.{Deco
 use Rattle.normalizer_iterators.specs.declared.decomposition.passing.Given.{Given}
 use Rattle.normalizer_iterators.specs.declared.decomposition.passing.Given.TheVariants.{Itself, FirstMember}
 use Rattle.normalizer_iterators.specs.declared.error.NormalizeError.{NormalizeError}
-use Rattle.normalizer_iterators.specs.Decomposition.{WillGive, StaysShort, CanDecompose, items_left, DecompositionSteps}
+use Rattle.normalizer_iterators.specs.Decomposition.{CanDecompose, DecompositionSteps, StaysShort, WillGive, items_left, pending_of}
 use Rattle.normalizer_iterators.specs.LazyComposing.{IsPassed, StandsApartIn}
 use Rattle.normalizer_iterators.specs.WaitingList.{ordered}
 
@@ -23,12 +23,12 @@ AllPassed s b c = IfSome c (IsPassed s b)
 module _ {I : Type 0} where
   -- nothing waits, and a composing loop passes the character that is read next
   abbrev pub StandsAtPassed : Bounds → Decomposition I → Type 0
-  StandsAtPassed b s = (ordered s.waiting ≡ []) × MatchOption s.pending ⊥ (IsPassed s.characters b)
+  StandsAtPassed b s = (ordered s.waiting ≡ []) × MatchOption (pending_of s) ⊥ (IsPassed s.characters b)
 
   -- nothing waits, and the character that is read next, if there is one, stands apart
   pub record IsAtPassed (pairs : List Pair) (s : Decomposition I) : Type 0 where
     pub waiting : ordered s.waiting ≡ []
-    pub apart : IfSome s.pending (StandsApartIn s.characters pairs s.ignored)
+    pub apart : IfSome (pending_of s) (StandsApartIn s.characters pairs s.ignored)
 
   -- c was given as it is: what was to come for it composes to c alone, apart from the rest
   pub record PassesOn (can : I → Type 0) (gives : I → Option ℕ → I → Type 0) (left : I → Count) (pairs : List Pair)

@@ -51,6 +51,11 @@ pub record ReadsChunk {I : Type 0} (can : I → Type 0) (gives : I → Option �
   pub fewer : MatchOption pending (length read ≤ size (left delegate))
       (λ _. size (left delegate_after) + length read < size (left delegate))
 
+-- a character is its own list, and what was read behind it begins anew
+pub record StandsAlone (has_class_form : ℕ → Bool) (d : Reading) (character : ℕ) (following : Option ℕ) : Type 0 where
+  pub own : d.list character ≡ character ∷ []
+  pub anew : IfSome following (λ c. continues has_class_form d c ≡ false)
+
 -- the others and the lists of the characters that continue did not fit
 pub record ChunkDidNotFit {I : Type 0} (gives : I → Option ℕ → I → Type 0) (has_class_form : ℕ → Bool) (d : Reading)
     (character : ℕ) (delegate : I) : Type 0 where

@@ -1,14 +1,14 @@
 //! Composing text character by character (The Unicode Standard, D117, D120 and D121).
-ghost use Rattle.std.specs.Prelude.{◌≡◌, ◌≤◌, ℕ, All, List, [], Option, MatchResult, OnErr, IfOk, IsOk, IsOkUnless};
+ghost use Rattle.std.specs.Prelude.{◌≡◌, ◌<◌, ◌≤◌, ℕ, All, List, [], Option, MatchResult, OnErr, IfOk, IsOk, IsOkUnless};
 ghost use Rattle.std.specs.Prelude.{IfSome, ◌++◌};
 ghost use Rattle.std.specs.Iterator.{at_most, IsFinite, MakesProgress};
 ghost use Rattle.normal_forms.specs.Forms.{nfc};
 ghost use Rattle.normal_forms.specs.Order.{order};
 ghost use Rattle.normal_forms.specs.CompositionByStarters.{join};
-ghost use Rattle.normal_forms.specs.Reading.{IsMark, Reading};
+ghost use Rattle.normal_forms.specs.Reading.{Reading};
 ghost use Rattle.normal_forms.specs.ShortRuns.{places, HasShortRuns};
 ghost use Rattle.normalizer_tables.specs.declared.characters.IgnoredCharacters.{IgnoredCharacters};
-ghost use Rattle.normalizer_tables.specs.Characters.{has_class_form, list_of, own_reading};
+ghost use Rattle.normalizer_tables.specs.Characters.{Characters, class_of, has_class_form, list_of, own_reading};
 ghost use Rattle.normalizer_tables.specs.Conditions.{Holds};
 ghost use Rattle.normalizer_tables.specs.Ignored.{ignored_list};
 ghost use Rattle.normalizer_tables.specs.PairConditions.{HasOrderedLists, composing_reading};
@@ -42,6 +42,7 @@ use crate::decomposition::Decomposition;
 use crate::decomposition::passing::Given;
 use crate::error::NormalizeError;
 use crate::marks::StayingMarks;
+use crate::waiting::Classed;
 use normalizer_tables::CanonicalCompositions;
 use normalizer_tables::characters::{CharacterData, IgnoredCharacters};
 use normalizer_tables::condition::Bounds;
@@ -240,16 +241,16 @@ fn compose_starter<I: Iterator<Item = char> + Drop>(
     let mut composite = starter;
     marks.clear();
     while !decomposed.is_at_passed(bounds) {
-        let Some(item) = decomposed.next() else {
+        let Some(item) = decomposed.next_with_class() else {
             return Ok((composite, Ahead::Ended));
         };
-        let character = match item {
-            Ok(character) => character,
+        let given = match item {
+            Ok(given) => given,
             Err(error) => return Err(error),
         };
-        match visit(characters, pairs, marks, composite, character) {
+        match visit(pairs, marks, composite, given) {
             Ok(Visited::Joined(joined)) => composite = joined,
-            Ok(Visited::StartsAnew) => return Ok((composite, Ahead::Starter(character))),
+            Ok(Visited::StartsAnew) => return Ok((composite, Ahead::Starter(given.character))),
             Ok(Visited::Stays) => {}
             Err(_) => return Err(NormalizeError::Memory),
         }
@@ -259,43 +260,39 @@ fn compose_starter<I: Iterator<Item = char> + Drop>(
 
 /// Joins a character with a starter if none of the marks between them blocks it and the two compose; else a mark stays.
 fn visit(
-    characters: &CharacterData<'_>,
     pairs: &CanonicalCompositions,
     marks: &mut StayingMarks,
     starter: char,
-    character: char,
+    given: Classed,
 ) -> Result<Visited, AllocError>
-    requires { BlocksBelow (composing_reading characters.now pairs.now) marks.old }
-    ensures ok { let d = composing_reading characters.now pairs.now in
-        IfOk result (λ v. HasVisited d starter character marks.old v marks.new) }
-    ensures err { OnErr result ((places ≤ used marks.old) ×
-        IsMark (composing_reading characters.now pairs.now) character) }
+    ensures ok { IfOk result (λ v. (s : Characters) → given.class ≡ class_of s given.character →
+        BlocksBelow (composing_reading s pairs.now) marks.old →
+        HasVisited (composing_reading s pairs.now) starter given.character marks.old v marks.new) }
+    ensures err { OnErr result ((places ≤ used marks.old) × (0 < given.class)) }
 {
-    let class = characters.class_of(character);
-    if let Some(joined) = join(pairs, marks, starter, character, class) {
+    if let Some(joined) = join(pairs, marks, starter, given) {
         return Ok(Visited::Joined(joined));
     }
-    if class == 0 {
+    if given.class == 0 {
         return Ok(Visited::StartsAnew);
     }
-    marks.push(character, class)?;
+    marks.push(given.character, given.class)?;
     Ok(Visited::Stays)
 }
 
-/// What a character of this class and a starter compose to, if none of the marks between them blocks it.
+/// What a character and a starter compose to, if none of the marks between them blocks it.
 fn join(
     pairs: &CanonicalCompositions,
     marks: &StayingMarks,
     starter: char,
-    character: char,
-    class: u8,
+    given: Classed,
 ) -> Option<char>
-    ensures { (d : Reading) → BlocksBelow d marks.now → class ≡ d.class character →
-        pair_of pairs.now starter character ≡ d.pair starter character →
-        result ≡ join d starter (staying marks.now) character }
+    ensures { (d : Reading) → BlocksBelow d marks.now → given.class ≡ d.class given.character →
+        pair_of pairs.now starter given.character ≡ d.pair starter given.character →
+        result ≡ join d starter (staying marks.now) given.character }
 {
-    if marks.lets_pass(class) {
-        pairs.compose(starter, character)
+    if marks.lets_pass(given.class) {
+        pairs.compose(starter, given.character)
     } else {
         None
     }
@@ -322,12 +319,12 @@ impl<'data, I: Iterator<Item = char> + Drop> Iterator for Composition<'data, I> 
                 if self.decomposed.is_at_passed(self.bounds) {
                     return self.pass();
                 }
-                match self.decomposed.next() {
-                    Some(Ok(character)) => {
-                        if self.characters.class_of(character) == 0 {
-                            Some(self.compose_on(character))
+                match self.decomposed.next_with_class() {
+                    Some(Ok(given)) => {
+                        if given.class == 0 {
+                            Some(self.compose_on(given.character))
                         } else {
-                            Some(Ok(character))
+                            Some(Ok(given.character))
                         }
                     }
                     Some(Err(error)) => {

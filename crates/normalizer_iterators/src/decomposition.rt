@@ -1,21 +1,25 @@
 //! Decomposing text character by character (The Unicode Standard, D118 and D119).
-ghost use Rattle.std.specs.Prelude.{◌≡◌, ℕ, List, [], None, false, Ok, IfOk, IfErr, OnOk, OnErr, IsOk, IsOkUnless};
+ghost use Rattle.std.specs.Prelude.{◌≡◌, ℕ, List, [], None, false, Ok, IfOk, IfErr, IfSome, OnOk, OnErr, IsOk};
+ghost use Rattle.std.specs.Prelude.{IsOkUnless, IsTrue};
 ghost use Rattle.std.specs.Option.{ForSome};
-ghost use Rattle.std.specs.Iterator.{at_most, IsFinite};
+ghost use Rattle.std.specs.Iterator.{at_most, IsFinite, MakesProgress};
 ghost use Rattle.normal_forms.specs.Forms.{nfd};
 ghost use Rattle.normal_forms.specs.ShortRuns.{continues, HasShortRuns};
-ghost use Rattle.normalizer_tables.specs.Characters.{has_class_form, own_reading};
+ghost use Rattle.normalizer_tables.specs.Characters.{class_of, has_class_form, own_reading};
 ghost use Rattle.normalizer_tables.specs.NfdData.{IsSoundNfdData, nfd_characters};
 ghost use Rattle.normalizer_text.specs.Steps.{Spells};
 ghost use Rattle.normalizer_iterators.specs.Delegate.{HasRead, IsReadyBehind};
 ghost use Rattle.normalizer_iterators.specs.Items.{GivesForm};
 ghost use Rattle.normalizer_iterators.specs.LazyReading.{decomposing_reading, SuitsLazyReading};
-ghost use Rattle.normalizer_iterators.specs.WaitingList.{unordered};
-ghost use Rattle.normalizer_iterators.specs.ReadingOn.{ReadsChunk, ChunkDidNotFit};
+ghost use Rattle.normalizer_iterators.specs.WaitingList.{AgreesWith, ordered, unordered};
+ghost use Rattle.normalizer_iterators.specs.Waiting.{HasClassesOf};
+ghost use Rattle.normalizer_iterators.specs.Reads.{character_of, HasOwnWord, HasOwnWords};
+ghost use Rattle.normalizer_iterators.specs.ReadingOn.{ReadsChunk, ChunkDidNotFit, StandsAlone};
 
 use crate::error::NormalizeError;
+use crate::read::{ReadCharacter, read_from};
 use crate::reading::{push_from, read_on};
-use crate::waiting::WaitingList;
+use crate::waiting::{Classed, WaitingList};
 use normalizer_tables::characters::{CharacterData, IgnoredCharacters};
 use normalizer_tables::{DecompositionData, DecompositionTables};
 use std::alloc::AllocError;
@@ -31,16 +35,26 @@ pub struct Decomposition<'data, I> {
     characters: CharacterData<'data>,
     ignored: IgnoredCharacters,
     delegate: I,
-    pending: Option<char>,
+    pending: Option<ReadCharacter>,
     waiting: WaitingList,
     ghost suits: { SuitsLazyReading (has_class_form characters) (decomposing_reading characters ignored) },
-    ghost anew: { ForSome pending (λ c. continues (has_class_form characters)
+    ghost anew: { ForSome (character_of pending) (λ c. continues (has_class_form characters)
         (decomposing_reading characters ignored) c ≡ false) },
+    ghost word: { HasOwnWords characters pending },
     ghost settled: { unordered waiting ≡ [] },
+    ghost classes: { HasClassesOf (decomposing_reading characters ignored) waiting.entries.items },
 }
 
 impl<'data, I: Iterator<Item = char> + Drop> Decomposition<'data, I> {
-    ghost use Rattle.normalizer_iterators.specs.Decomposition.{WillGive, StaysShort, CanDecompose, IsEnded};
+    ghost use Rattle.normalizer_iterators.specs.Decomposition.{
+      CanDecompose,
+      DecompositionSteps,
+      IsEnded,
+      StaysShort,
+      WillGive,
+      item_of,
+      items_left,
+    };
 
     /// The characters of the NFD of what `delegate` gives, one by one, by canonical data that the caller answers for.
     pub fn new(
@@ -82,7 +96,7 @@ impl<'data, I: Iterator<Item = char> + Drop> Decomposition<'data, I> {
         ensures refused { IsOkUnless result NormalizeError.Memory }
     {
         let mut waiting = WaitingList::new(characters.allocator());
-        let first = delegate.next();
+        let first = read_from(&characters, 0, delegate.next());
         match read_on(&characters, ignored, first, &mut delegate, &mut waiting) {
             Ok(pending) => Ok(Decomposition {
                 characters,
@@ -98,29 +112,37 @@ impl<'data, I: Iterator<Item = char> + Drop> Decomposition<'data, I> {
     /// The first member of the list of the character that was pending. The one behind it was read.
     fn next_chunk(
         &mut self,
-        character: char,
-        following: Option<char>,
+        read: ReadCharacter,
+        following: Option<ReadCharacter>,
     ) -> Result<char, NormalizeError>
         requires taken { self.old.pending ≡ None }
+        requires empty { ordered self.old.waiting ≡ [] }
         requires anew { continues (has_class_form self.old.characters)
-            (decomposing_reading self.old.characters self.old.ignored) character ≡ false }
-        requires ready { IsReadyBehind I.can_next I.remaining following self.old.delegate }
-        requires read { (before : I) × HasRead I.next_gives I.remaining before following self.old.delegate }
+            (decomposing_reading self.old.characters self.old.ignored) read.character ≡ false }
+        requires word { HasOwnWord self.old.characters read }
+        requires words { HasOwnWords self.old.characters following }
+        requires ready { IsReadyBehind I.can_next I.remaining (character_of following) self.old.delegate }
+        requires read { (before : I) ×
+            HasRead I.next_gives I.remaining before (character_of following) self.old.delegate }
         ensures ok { IfOk result (λ first. (before : I) →
-            HasRead I.next_gives I.remaining before following self.old.delegate →
+            HasRead I.next_gives I.remaining before (character_of following) self.old.delegate →
             ReadsChunk I.can_next I.next_gives I.remaining (has_class_form self.old.characters)
-            (decomposing_reading self.old.characters self.old.ignored) character before
-            first self.new.pending self.new.delegate self.new.waiting) }
+            (decomposing_reading self.old.characters self.old.ignored) read.character before
+            first (character_of self.new.pending) self.new.delegate self.new.waiting) }
         ensures err { IfErr result (λ e. (e ≡ NormalizeError.Memory) × IsEnded self.new ×
-            ((before : I) → HasRead I.next_gives I.remaining before following self.old.delegate →
+            ((before : I) → HasRead I.next_gives I.remaining before (character_of following) self.old.delegate →
             ChunkDidNotFit I.next_gives (has_class_form self.old.characters)
-            (decomposing_reading self.old.characters self.old.ignored) character before)) }
+            (decomposing_reading self.old.characters self.old.ignored) read.character before)) }
         ensures kept { (self.new.characters ≡ self.old.characters) × (self.new.ignored ≡ self.old.ignored) }
     {
+        if stands_alone(&self.characters, self.ignored, read, following) {
+            self.pending = following;
+            return Ok(read.character);
+        }
         match read_chunk(
             &self.characters,
             self.ignored,
-            character,
+            read,
             following,
             &mut self.delegate,
             &mut self.waiting,
@@ -133,6 +155,29 @@ impl<'data, I: Iterator<Item = char> + Drop> Decomposition<'data, I> {
                 self.waiting.clear();
                 Err(NormalizeError::Memory)
             }
+        }
+    }
+
+    /// The next character with its canonical combining class.
+    pub(crate) fn next_with_class(&mut self) -> Option<Result<Classed, NormalizeError>>
+        requires { CanDecompose I.can_next I.remaining self.old }
+        ensures class { IfSome result (λ item. IfOk item (λ given.
+            given.class ≡ class_of self.old.characters given.character)) }
+        ensures steps { DecompositionSteps I.can_next I.next_gives I.remaining self.old (item_of result) self.new }
+        ensures goes { MakesProgress (CanDecompose I.can_next I.remaining)
+            (λ s. at_most (items_left I.remaining s)) self.old (item_of result) self.new }
+    {
+        if let Some(given) = self.waiting.pop_front() {
+            return Some(Ok(given));
+        }
+        let read = self.pending.take()?;
+        let following = read_from(&self.characters, 0, self.delegate.next());
+        match self.next_chunk(read, following) {
+            Ok(character) => Some(Ok(Classed {
+                character,
+                class: 0,
+            })),
+            Err(error) => Some(Err(error)),
         }
     }
 }
@@ -154,27 +199,56 @@ pub fn decomposed<'data, I: Iterator<Item = char> + Drop>(
     Decomposition::over(characters, ignored, delegate)
 }
 
+/// Whether a character is its own list, and what was read behind it begins anew.
+fn stands_alone(
+    characters: &CharacterData<'_>,
+    ignored: IgnoredCharacters,
+    read: ReadCharacter,
+    following: Option<ReadCharacter>,
+) -> bool
+    requires word { HasOwnWord characters.now read }
+    requires words { HasOwnWords characters.now following }
+    ensures { IsTrue result → StandsAlone (has_class_form characters.now)
+        (decomposing_reading characters.now ignored) read.character (character_of following) }
+{
+    let word = read.word_by(characters);
+    if characters.class_of_itself(read.character, word).is_none() {
+        return false;
+    }
+    match following {
+        Some(next) => next.begins_anew(characters, ignored),
+        None => true,
+    }
+}
+
 /// The first member of the list of a character that begins anew; the others wait, with the lists of the characters that
 /// continue it, and the next one that begins anew is found. The one behind it was read.
 fn read_chunk<I: Iterator<Item = char> + Drop>(
     characters: &CharacterData<'_>,
     ignored: IgnoredCharacters,
-    character: char,
-    following: Option<char>,
+    read: ReadCharacter,
+    following: Option<ReadCharacter>,
     delegate: &mut I,
     waiting: &mut WaitingList,
-) -> Result<(char, Option<char>), AllocError>
-    requires ready { IsReadyBehind I.can_next I.remaining following delegate.old }
+) -> Result<(char, Option<ReadCharacter>), AllocError>
+    requires ready { IsReadyBehind I.can_next I.remaining (character_of following) delegate.old }
+    requires word { HasOwnWord characters.now read }
+    requires words { HasOwnWords characters.now following }
     requires anew { continues (has_class_form characters.now)
-        (decomposing_reading characters.now ignored) character ≡ false }
-    ensures ok { IfOk result (λ r. (before : I) → HasRead I.next_gives I.remaining before following delegate.old →
+        (decomposing_reading characters.now ignored) read.character ≡ false }
+    ensures ok { IfOk result (λ r. (before : I) →
+        HasRead I.next_gives I.remaining before (character_of following) delegate.old →
         ReadsChunk I.can_next I.next_gives I.remaining (has_class_form characters.now)
-        (decomposing_reading characters.now ignored) character before r.0 r.1 delegate.new waiting.new) }
-    ensures err { OnErr result ((before : I) → HasRead I.next_gives I.remaining before following delegate.old →
+        (decomposing_reading characters.now ignored) read.character before r.0 (character_of r.1) delegate.new
+        waiting.new) }
+    ensures words { IfOk result (λ r. HasOwnWords characters.now r.1) }
+    ensures classes { OnOk result (AgreesWith (decomposing_reading characters.now ignored) waiting.new) }
+    ensures err { OnErr result ((before : I) →
+        HasRead I.next_gives I.remaining before (character_of following) delegate.old →
         ChunkDidNotFit I.next_gives (has_class_form characters.now) (decomposing_reading characters.now ignored)
-        character before) }
+        read.character before) }
 {
-    let members = characters.members(character, ignored);
+    let members = characters.members_by(read.character, read.word_by(characters), ignored);
     let Some(first) = members.get(0) else {
         unreachable!()
     };
@@ -196,11 +270,10 @@ impl<'data, I: Iterator<Item = char> + Drop> Iterator for Decomposition<'data, I
     ghost remaining = { λ s. at_most (items_left I.remaining s) };
 
     fn next(&mut self) -> Option<Result<char, NormalizeError>> {
-        if let Some(character) = self.waiting.pop_front() {
-            return Some(Ok(character));
+        match self.next_with_class() {
+            Some(Ok(given)) => Some(Ok(given.character)),
+            Some(Err(error)) => Some(Err(error)),
+            None => None,
         }
-        let character = self.pending.take()?;
-        let following = self.delegate.next();
-        Some(self.next_chunk(character, following))
     }
 }

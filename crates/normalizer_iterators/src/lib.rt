@@ -6,6 +6,7 @@ pub mod decomposition;
 mod error;
 pub mod laws;
 mod marks;
+mod read;
 mod reading;
 mod waiting;
 

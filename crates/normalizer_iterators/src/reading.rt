@@ -2,12 +2,15 @@
 ghost use Rattle.std.specs.Prelude.{◌≡◌, ◌+◌, ◌≤◌, ℕ, List, ◌++◌, length, drop, IsOk, IfOk, OnOk, OnErr};
 ghost use Rattle.normal_forms.specs.Reading.{Reading};
 ghost use Rattle.normal_forms.specs.ShortRuns.{places};
-ghost use Rattle.normalizer_tables.specs.Characters.{has_class_form};
+ghost use Rattle.normalizer_tables.specs.Characters.{has_class_form, list_of};
+ghost use Rattle.normalizer_tables.specs.Ignored.{ignored_list};
 ghost use Rattle.normalizer_iterators.specs.Delegate.{HasRead, IsReadyBehind};
 ghost use Rattle.normalizer_iterators.specs.WaitingList.{held, reordered, AgreesWith};
 ghost use Rattle.normalizer_iterators.specs.LazyReading.{decomposing_reading, HasClassesFrom};
 ghost use Rattle.normalizer_iterators.specs.ReadingOn.{ReadsOn, DidNotFit};
+ghost use Rattle.normalizer_iterators.specs.Reads.{character_of, HasOwnWord, HasOwnWords};
 
+use crate::read::{ReadCharacter, read_from};
 use crate::waiting::WaitingList;
 use normalizer_tables::characters::{CharacterData, IgnoredCharacters};
 use normalizer_tables::members::Members;
@@ -18,31 +21,64 @@ use std::alloc::AllocError;
 pub(crate) fn read_on<I: Iterator<Item = char> + Drop>(
     characters: &CharacterData<'_>,
     ignored: IgnoredCharacters,
-    first: Option<char>,
+    first: Option<ReadCharacter>,
     delegate: &mut I,
     waiting: &mut WaitingList,
-) -> Result<Option<char>, AllocError>
-    requires ready { IsReadyBehind I.can_next I.remaining first delegate.old }
+) -> Result<Option<ReadCharacter>, AllocError>
+    requires ready { IsReadyBehind I.can_next I.remaining (character_of first) delegate.old }
+    requires words { HasOwnWords characters.now first }
     requires classes { AgreesWith (decomposing_reading characters.now ignored) waiting.old }
-    ensures ok { IfOk result (λ pending. (before : I) → HasRead I.next_gives I.remaining before first delegate.old →
+    ensures ok { IfOk result (λ pending. (before : I) →
+        HasRead I.next_gives I.remaining before (character_of first) delegate.old →
         ReadsOn I.can_next I.next_gives I.remaining (has_class_form characters.now)
-        (decomposing_reading characters.now ignored) before waiting.old pending delegate.new waiting.new) }
-    ensures err { OnErr result ((before : I) → HasRead I.next_gives I.remaining before first delegate.old →
+        (decomposing_reading characters.now ignored) before waiting.old (character_of pending) delegate.new
+        waiting.new) }
+    ensures words { IfOk result (HasOwnWords characters.now) }
+    ensures classes { OnOk result (AgreesWith (decomposing_reading characters.now ignored) waiting.new) }
+    ensures err { OnErr result ((before : I) →
+        HasRead I.next_gives I.remaining before (character_of first) delegate.old →
         DidNotFit I.next_gives (has_class_form characters.now) (decomposing_reading characters.now ignored)
         before waiting.old) }
 {
     let mut next = first;
-    while let Some(character) = next {
-        let members = characters.members(character, ignored);
-        if !members.is_empty() && !characters.has_class_form(character) {
+    while let Some(read) = next {
+        if read.begins_anew(characters, ignored) {
             waiting.put_in_order();
-            return Ok(Some(character));
+            return Ok(Some(read));
         }
-        push_from(characters, &members, 0, waiting)?;
-        next = delegate.next();
+        push_list(characters, ignored, read, waiting)?;
+        next = read_from(characters, 0, delegate.next());
     }
     waiting.put_in_order();
     Ok(None)
+}
+
+/// Lets the list of a character wait.
+fn push_list(
+    characters: &CharacterData<'_>,
+    ignored: IgnoredCharacters,
+    read: ReadCharacter,
+    waiting: &mut WaitingList,
+) -> Result<(), AllocError>
+    requires { HasOwnWord characters.now read }
+    ensures text { OnOk result ((d : Reading) → HasClassesFrom characters.now d → AgreesWith d waiting.old →
+        (rest : List ℕ) → reordered d waiting.old (list_of characters.now (ignored_list ignored) read.character ++ rest)
+        ≡ reordered d waiting.new rest) }
+    ensures classes { OnOk result ((d : Reading) → HasClassesFrom characters.now d → AgreesWith d waiting.old →
+        AgreesWith d waiting.new) }
+    ensures held { OnOk result (held waiting.new ≡
+        held waiting.old + length (list_of characters.now (ignored_list ignored) read.character)) }
+    ensures succeeds { held waiting.old + length (list_of characters.now (ignored_list ignored) read.character) ≤ places
+        → IsOk result }
+{
+    let word = read.word_by(characters);
+    match characters.class_of_itself(read.character, word) {
+        Some(class) => waiting.push(read.character, class),
+        None => {
+            let members = characters.members_by(read.character, word, ignored);
+            push_from(characters, &members, 0, waiting)
+        }
+    }
 }
 
 /// Lets the members of a list wait, those from this place on.

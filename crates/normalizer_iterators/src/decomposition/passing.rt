@@ -1,12 +1,15 @@
 //! Giving characters as they are, where a composing loop passes them.
-ghost use Rattle.std.specs.Prelude.{◌≡◌, ◌↔◌, List, IsTrue};
+ghost use Rattle.std.specs.Prelude.{◌≡◌, ◌↔◌, [], List, IsTrue};
 ghost use Rattle.normalizer_tables.specs.Pairs.{Pair};
 ghost use Rattle.normalizer_iterators.specs.LazyComposing.{IsPassed, PassedBeginAnew, SuitsLazyComposing};
 ghost use Rattle.normalizer_iterators.specs.Passing.{Passes, IsAtPassed, StandsAtPassed, AllPassed};
 ghost use Rattle.normalizer_iterators.specs.Decomposition.{CanDecompose};
+ghost use Rattle.normalizer_iterators.specs.Reads.{character_of, HasOwnWord, HasOwnWords};
+ghost use Rattle.normalizer_iterators.specs.WaitingList.{ordered};
 
 use crate::decomposition::Decomposition;
 use crate::error::NormalizeError;
+use crate::read::{ReadCharacter, read_from};
 use normalizer_tables::characters::CharacterData;
 use normalizer_tables::condition::Bounds;
 use normalizer_tables::word::{is_backward_combining, is_non_round_trip};
@@ -26,9 +29,7 @@ impl<'data, I: Iterator<Item = char> + Drop> Decomposition<'data, I> {
         ensures { IsTrue result ↔ StandsAtPassed bounds self.now }
     {
         match self.pending {
-            Some(character) => {
-                self.waiting.is_empty() && is_passed(&self.characters, bounds, character)
-            }
+            Some(read) => self.waiting.is_empty() && is_passed(&self.characters, bounds, read),
             None => false,
         }
     }
@@ -37,16 +38,17 @@ impl<'data, I: Iterator<Item = char> + Drop> Decomposition<'data, I> {
     pub(crate) fn pass(&mut self, bounds: Bounds) -> Option<Result<Given, NormalizeError>>
         requires can { CanDecompose I.can_next I.remaining self.old }
         requires anew { PassedBeginAnew self.old.characters bounds self.old.ignored }
+        requires empty { ordered self.old.waiting ≡ [] }
         ensures { (pairs : List Pair) → SuitsLazyComposing self.old.characters bounds pairs →
             IsAtPassed pairs self.old → Passes I.can_next I.next_gives I.remaining pairs self.old result self.new }
     {
-        let character = self.pending.take()?;
-        let following = self.delegate.next();
+        let read = self.pending.take()?;
+        let following = read_from(&self.characters, bounds.composition, self.delegate.next());
         if are_passed(&self.characters, bounds, following) {
             self.pending = following;
-            return Some(Ok(Given::Itself(character)));
+            return Some(Ok(Given::Itself(read.character)));
         }
-        match self.next_chunk(character, following) {
+        match self.next_chunk(read, following) {
             Ok(first) => Some(Ok(Given::FirstMember(first))),
             Err(error) => Some(Err(error)),
         }
@@ -54,23 +56,25 @@ impl<'data, I: Iterator<Item = char> + Drop> Decomposition<'data, I> {
 }
 
 /// Whether a composing loop passes a character, or there is none.
-fn are_passed(characters: &CharacterData<'_>, bounds: Bounds, character: Option<char>) -> bool
-    ensures { IsTrue result ↔ AllPassed characters.now bounds character }
+fn are_passed(characters: &CharacterData<'_>, bounds: Bounds, read: Option<ReadCharacter>) -> bool
+    requires { HasOwnWords characters.now read }
+    ensures { IsTrue result ↔ AllPassed characters.now bounds (character_of read) }
 {
-    match character {
-        Some(character) => is_passed(characters, bounds, character),
+    match read {
+        Some(read) => is_passed(characters, bounds, read),
         None => true,
     }
 }
 
 /// Whether a composing loop passes a character: it lies below the bound, or its word has neither flag.
 #[tactic(auto, unfolding(normalizer_tables::specs::PairConditions::is_passed))]
-fn is_passed(characters: &CharacterData<'_>, bounds: Bounds, character: char) -> bool
-    ensures { IsTrue result ↔ IsPassed characters.now bounds character }
+fn is_passed(characters: &CharacterData<'_>, bounds: Bounds, read: ReadCharacter) -> bool
+    requires { HasOwnWord characters.now read }
+    ensures { IsTrue result ↔ IsPassed characters.now bounds read.character }
 {
-    if (character as u32) < bounds.composition {
+    if (read.character as u32) < bounds.composition {
         return true;
     }
-    let word = characters.word_of(character);
+    let word = read.word_by(characters);
     !is_non_round_trip(word) && !is_backward_combining(word)
 }

@@ -1,4 +1,7 @@
-use Rattle.std.proofs.Common.{refl, sym, ◌∙◌, subst}
+use Rattle.std.proofs.Common.{◌≡◌, refl, sym, ap, ◌∙◌, subst, arith}
+use Rattle.normal_forms.specs.Reading.{IsMark}
+use Rattle.normalizer_tables.specs.Characters.{Characters, class_of}
+use Rattle.normalizer_iterators.specs.declared.waiting.Classed.{Classed}
 use Rattle.normal_forms.specs.Boundary.{BeginsSafely}
 use Rattle.normalizer_tables.specs.PairConditions.{composing_reading}
 use Rattle.normalizer_iterators.specs.LazyComposing.{SuitsLazyComposing}
@@ -7,12 +10,12 @@ use Rattle.normalizer_iterators.proofs.StarterLemmas.{GivesShort-no_fault, Compo
 use Rattle.normalizer_iterators.proofs.StarterLemmas.{ComposesStarter-ends, ComposesStarter-passes}
 use Rattle.normalizer_iterators.proofs.composition.compose_starter.Goals as goal
 
+known_class : (s old : Characters) → old ≡ s → (given : Classed) → given.class ≡ class_of old given.character → given.class ≡ class_of s given.character
+known_class s old same given is = is ∙ ap (λ k. class_of k given.character) same
+
 pub loop-bounds-init : goal.loop-bounds-init
 loop-bounds-init g c =
     ComposedSoFar-none g.I.Iterator.can_next g.I.Iterator.next_gives g.I.Iterator.remaining _ _ _ _ c.clear.ensures.staying c.clear.ensures.used (c.clear.ensures.blocking _) c.requires.can
-
-pub visit-requires : goal.visit-requires
-visit-requires g c = c.loop-bounds.invariant.blocking
 
 pub returns-in-Err-clause-steps : goal.returns-in-Err-clause-steps
 returns-in-Err-clause-steps g c =
@@ -22,30 +25,40 @@ returns-in-Err-clause-steps g c =
 pub loop-bounds-preserved-in-Ok-Joined : goal.loop-bounds-preserved-in-Ok-Joined
 loop-bounds-preserved-in-Ok-Joined g c =
     let step = rw c.in-Ok.is at c.in-Some.ensures.steps in
-    let nearer = (c.in-Some.ensures.goes.on tt).2 in
-    let visited = rw c.in-Ok-Joined.field-0-is at c.in-Ok-Joined.ensures.ok in
-    ComposedSoFar-joined g.I.Iterator.can_next g.I.Iterator.next_gives g.I.Iterator.remaining _ _ _ _ _ _ c.in-Ok.character _ _ _ c.loop-bounds.invariant step nearer visited.0 visited.1
+    let goes = rw c.in-Ok.is at c.in-Some.ensures.goes in
+    let class = known_class c.args.characters.now _ (c.loop-bounds.invariant.kept ∙ c.requires.same) c.in-Ok.given (rw c.in-Ok.is at c.in-Some.ensures.class) in
+    let visiting = rw c.in-Ok-Joined.field-0-is at c.in-Ok-Joined.ensures.ok in
+    let visited = visiting c.args.characters.now class c.loop-bounds.invariant.blocking in
+    ComposedSoFar-joined g.I.Iterator.can_next g.I.Iterator.next_gives g.I.Iterator.remaining _ _ _ _ _ _ c.in-Ok.given.character _ _ _ c.loop-bounds.invariant step (goes.on tt).2 visited.0
+    visited.1
 
 pub returns-in-Ok-StartsAnew-clause-steps : goal.returns-in-Ok-StartsAnew-clause-steps
 returns-in-Ok-StartsAnew-clause-steps g c =
     let step = rw c.in-Ok.is at c.in-Some.ensures.steps in
-    let nearer = (c.in-Some.ensures.goes.on tt).2 in
-    let visited = rw c.in-Ok-StartsAnew.field-0-is at c.in-Ok-StartsAnew.ensures.ok in
-    ComposesStarter-starts g.I.Iterator.can_next g.I.Iterator.next_gives g.I.Iterator.remaining _ _ _ _ _ _ c.in-Ok.character _ _ c.loop-bounds.invariant step nearer visited.0 visited.1 visited.2
+    let goes = rw c.in-Ok.is at c.in-Some.ensures.goes in
+    let class = known_class c.args.characters.now _ (c.loop-bounds.invariant.kept ∙ c.requires.same) c.in-Ok.given (rw c.in-Ok.is at c.in-Some.ensures.class) in
+    let visiting = rw c.in-Ok-StartsAnew.field-0-is at c.in-Ok-StartsAnew.ensures.ok in
+    let visited = visiting c.args.characters.now class c.loop-bounds.invariant.blocking in
+    ComposesStarter-starts g.I.Iterator.can_next g.I.Iterator.next_gives g.I.Iterator.remaining _ _ _ _ _ _ c.in-Ok.given.character _ _ c.loop-bounds.invariant step (goes.on tt).2 visited.0
+    visited.1 visited.2
 
 pub loop-bounds-preserved : goal.loop-bounds-preserved
 loop-bounds-preserved g c =
     let step = rw c.in-Ok.is at c.in-Some.ensures.steps in
-    let nearer = (c.in-Some.ensures.goes.on tt).2 in
-    let visited = rw c.in-Ok-Stays.field-0-is at c.in-Ok-Stays.ensures.ok in
-    ComposedSoFar-stays g.I.Iterator.can_next g.I.Iterator.next_gives g.I.Iterator.remaining _ _ _ _ _ _ c.in-Ok.character _ _ c.loop-bounds.invariant step nearer visited.0 visited.1 visited.2
-    visited.3 visited.4
+    let goes = rw c.in-Ok.is at c.in-Some.ensures.goes in
+    let class = known_class c.args.characters.now _ (c.loop-bounds.invariant.kept ∙ c.requires.same) c.in-Ok.given (rw c.in-Ok.is at c.in-Some.ensures.class) in
+    let visiting = rw c.in-Ok-Stays.field-0-is at c.in-Ok-Stays.ensures.ok in
+    let visited = visiting c.args.characters.now class c.loop-bounds.invariant.blocking in
+    ComposedSoFar-stays g.I.Iterator.can_next g.I.Iterator.next_gives g.I.Iterator.remaining _ _ _ _ _ _ c.in-Ok.given.character _ _ c.loop-bounds.invariant step (goes.on tt).2 visited.0
+    visited.1 visited.2 visited.3 visited.4
 
 pub returns-in-Err-visit-clause-steps : goal.returns-in-Err-visit-clause-steps
 returns-in-Err-visit-clause-steps g c =
     let step = rw c.in-Ok.is at c.in-Some.ensures.steps in
+    let class = known_class c.args.characters.now _ (c.loop-bounds.invariant.kept ∙ c.requires.same) c.in-Ok.given (rw c.in-Ok.is at c.in-Some.ensures.class) in
     let full = c.in-Err-visit.ensures.err in
-    (refl, ComposedSoFar-no_room g.I.Iterator.can_next g.I.Iterator.next_gives g.I.Iterator.remaining _ _ _ _ _ _ c.in-Ok.character _ c.loop-bounds.invariant step full.1 full.0)
+    let mark : IsMark (composing_reading c.args.characters.now c.args.pairs.now) c.in-Ok.given.character = omega (arith, class, full.1) in
+    (refl, ComposedSoFar-no_room g.I.Iterator.can_next g.I.Iterator.next_gives g.I.Iterator.remaining _ _ _ _ _ _ c.in-Ok.given.character _ c.loop-bounds.invariant step mark full.0)
 
 pub returns-in_default-clause-steps : goal.returns-in_default-clause-steps
 returns-in_default-clause-steps g c =

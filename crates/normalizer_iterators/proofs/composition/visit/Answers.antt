@@ -8,34 +8,33 @@ use Rattle.normalizer_iterators.proofs.LazyLemmas.{too_many}
 use Rattle.normalizer_iterators.proofs.composition.visit.Goals as goal
 
 pub returns-in-Some-clause-ok : goal.returns-in-Some-clause-ok
-returns-in-Some-clause-ok c =
-    let d = composing_reading c.args.characters.now c.args.pairs.now in
-    let class = c.class_of-class.ensures ∙ sym (class-composing_reading c.args.characters.now c.args.pairs.now c.args.character) in
-    let pair = sym (pair-composing_reading c.args.characters.now c.args.pairs.now c.args.starter c.args.character) in
-    (sym (c.join.ensures d c.requires class pair) ∙ c.in-Some.is, refl)
+returns-in-Some-clause-ok c = λ s known blocks.
+    let d = composing_reading s c.args.pairs.now in
+    let class = known ∙ sym (class-composing_reading s c.args.pairs.now c.args.given.character) in
+    let pair = sym (pair-composing_reading s c.args.pairs.now c.args.starter c.args.given.character) in
+    (sym (c.join.ensures d blocks class pair) ∙ c.in-Some.is, refl)
 
-pub returns-then-class-eq0-clause-ok : goal.returns-then-class-eq0-clause-ok
-returns-then-class-eq0-clause-ok c =
-    let d = composing_reading c.args.characters.now c.args.pairs.now in
-    let class = c.class_of-class.ensures ∙ sym (class-composing_reading c.args.characters.now c.args.pairs.now c.args.character) in
-    let pair = sym (pair-composing_reading c.args.characters.now c.args.pairs.now c.args.starter c.args.character) in
-    (sym (c.join.ensures d c.requires class pair) ∙ c.in_default.is, sym class ∙ c.if-class-eq0.true, refl)
+pub returns-then-given-eq0-clause-ok : goal.returns-then-given-eq0-clause-ok
+returns-then-given-eq0-clause-ok c = λ s known blocks.
+    let d = composing_reading s c.args.pairs.now in
+    let class = known ∙ sym (class-composing_reading s c.args.pairs.now c.args.given.character) in
+    let pair = sym (pair-composing_reading s c.args.pairs.now c.args.starter c.args.given.character) in
+    (sym (c.join.ensures d blocks class pair) ∙ c.in_default.is, sym class ∙ c.if-given-eq0.true, refl)
 
 pub returns-clause-ok : goal.returns-clause-ok
-returns-clause-ok c =
-    let d = composing_reading c.args.characters.now c.args.pairs.now in
-    let class = c.class_of-class.ensures ∙ sym (class-composing_reading c.args.characters.now c.args.pairs.now c.args.character) in
-    let pair = sym (pair-composing_reading c.args.characters.now c.args.pairs.now c.args.starter c.args.character) in (
-      sym (c.join.ensures d c.requires class pair) ∙ c.in_default.is,
-      omega (arith, class, c.if-class-eq0.false),
+returns-clause-ok c = λ s known blocks.
+    let d = composing_reading s c.args.pairs.now in
+    let class = known ∙ sym (class-composing_reading s c.args.pairs.now c.args.given.character) in
+    let pair = sym (pair-composing_reading s c.args.pairs.now c.args.starter c.args.given.character) in (
+      sym (c.join.ensures d blocks class pair) ∙ c.in_default.is,
+      omega (arith, class, c.if-given-eq0.false),
       c.in_ok-push.ensures.staying,
       c.in_ok-push.ensures.used,
-      c.in_ok-push.ensures.blocking d c.requires class,
+      c.in_ok-push.ensures.blocking d blocks class,
     )
 
 pub returns-in_err-push-clause-err : goal.returns-in_err-push-clause-err
 returns-in_err-push-clause-err c =
-    let class = c.class_of-class.ensures ∙ sym (class-composing_reading c.args.characters.now c.args.pairs.now c.args.character) in
     let full = too_many (used c.args.marks.now + 1) places (λ room. c.in_err-push.ensures.succeeds (omega arith)) in
     let exit = err_from_is_err_and c.from_residual.result c.from_residual.ensures.1 in
-    rw exit.1 (omega arith, omega (arith, class, c.if-class-eq0.false))
+    rw exit.1 (omega arith, omega (arith, c.if-given-eq0.false))

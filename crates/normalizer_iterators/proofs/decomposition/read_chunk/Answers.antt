@@ -11,42 +11,42 @@ pub unreachable-requires : goal.unreachable-requires
 unreachable-requires g c =
     let f = has_class_form c.args.characters.now in
     let d = decomposing_reading c.args.characters.now c.args.ignored in
-    let some = anew-parts f d c.args.character c.requires.anew in
-    let is = c.members-members.ensures ∙ sym (list-decomposing_reading c.args.characters.now c.args.ignored c.args.character) ∙ some.3 in
+    let some = anew-parts f d c.args.read.character c.requires.anew in
+    let is = c.members_by-members.ensures ∙ sym (list-decomposing_reading c.args.characters.now c.args.ignored c.args.read.character) ∙ some.3 in
     no_member _ 0 (omega (arith, ap length is)) (sym c.in_default.is ∙ c.get.ensures)
 
 pub push_from-requires : goal.push_from-requires
 push_from-requires g c =
     let f = has_class_form c.args.characters.now in
     let d = decomposing_reading c.args.characters.now c.args.ignored in
-    let some = anew-parts f d c.args.character c.requires.anew in
-    let is = c.members-members.ensures ∙ sym (list-decomposing_reading c.args.characters.now c.args.ignored c.args.character) ∙ some.3 in
+    let some = anew-parts f d c.args.read.character c.requires.anew in
+    let is = c.members_by-members.ensures ∙ sym (list-decomposing_reading c.args.characters.now c.args.ignored c.args.read.character) ∙ some.3 in
     omega (arith, ap length is)
 
 pub read_on-requires : goal.read_on-requires
 read_on-requires g c =
     let d = decomposing_reading c.args.characters.now c.args.ignored in
     let same = class-decomposing_reading c.args.characters.now c.args.ignored in
-    record { ready = c.requires.ready; classes = c.in_ok-push_from.ensures.classes d same (c.clear.ensures.classes d) }
+    record { ready = c.requires.ready; words = c.requires.words; classes = c.in_ok-push_from.ensures.classes d same (c.clear.ensures.classes d) }
 
 pub returns-in_err-push_from-clause-err : goal.returns-in_err-push_from-clause-err
 returns-in_err-push_from-clause-err g c =
     let f = has_class_form c.args.characters.now in
     let d = decomposing_reading c.args.characters.now c.args.ignored in
-    let is = c.members-members.ensures ∙ sym (list-decomposing_reading c.args.characters.now c.args.ignored c.args.character) in
+    let is = c.members_by-members.ensures ∙ sym (list-decomposing_reading c.args.characters.now c.args.ignored c.args.read.character) in
     let long = too_many _ (places + 1) c.in_err-push_from.ensures.succeeds in
     let exit = err_from_is_err_and c.from_residual.result c.from_residual.ensures.1 in
-    rw exit.1 (λ before read. ChunkDidNotFit-members g.I.Iterator.next_gives f d c.args.character _ before is (omega (arith, long, c.clear.ensures.held)))
+    rw exit.1 (λ before read. ChunkDidNotFit-members g.I.Iterator.next_gives f d c.args.read.character _ before is (omega (arith, long, c.clear.ensures.held)))
 
 pub returns-in_err-pending-clause-err : goal.returns-in_err-pending-clause-err
 returns-in_err-pending-clause-err g c =
     let f = has_class_form c.args.characters.now in
     let d = decomposing_reading c.args.characters.now c.args.ignored in
-    let is = c.members-members.ensures ∙ sym (list-decomposing_reading c.args.characters.now c.args.ignored c.args.character) in
+    let is = c.members_by-members.ensures ∙ sym (list-decomposing_reading c.args.characters.now c.args.ignored c.args.read.character) in
     let exit = err_from_is_err_and c.from_residual-in_err-pending.result c.from_residual-in_err-pending.ensures.1 in
     rw exit.1
     (λ before read.
-    ChunkDidNotFit-behind g.I.Iterator.next_gives f d c.args.character _ before _ is (omega (arith, c.in_ok-push_from.ensures.held, c.clear.ensures.held))
+    ChunkDidNotFit-behind g.I.Iterator.next_gives f d c.args.read.character _ before _ is (omega (arith, c.in_ok-push_from.ensures.held, c.clear.ensures.held))
     (c.in_err-pending.ensures.err before read))
 
 pub returns-clause-ok : goal.returns-clause-ok
@@ -54,9 +54,9 @@ returns-clause-ok g c =
     let f = has_class_form c.args.characters.now in
     let d = decomposing_reading c.args.characters.now c.args.ignored in
     let same = class-decomposing_reading c.args.characters.now c.args.ignored in
-    let is = c.members-members.ensures ∙ sym (list-decomposing_reading c.args.characters.now c.args.ignored c.args.character) in
+    let is = c.members_by-members.ensures ∙ sym (list-decomposing_reading c.args.characters.now c.args.ignored c.args.read.character) in
     λ before read.
-    ReadsChunk-from g.I.Iterator.can_next g.I.Iterator.next_gives g.I.Iterator.remaining f d c.args.character c.in-Some.first _ before _ _ _ _ _ is c.in-Some.ensures
+    ReadsChunk-from g.I.Iterator.can_next g.I.Iterator.next_gives g.I.Iterator.remaining f d c.args.read.character c.in-Some.first _ before _ _ _ _ _ is c.in-Some.ensures
     c.clear.ensures.ordered c.clear.ensures.unordered
     (c.in_ok-push_from.ensures.text d same (c.clear.ensures.classes d))
     (c.in_ok-pending.ensures.ok before read)

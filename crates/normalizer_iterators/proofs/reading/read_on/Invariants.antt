@@ -1,14 +1,18 @@
 use Rattle.std.specs.Iterator.{size}
 use Rattle.normalizer_tables.specs.Characters.{has_class_form}
 use Rattle.normalizer_iterators.specs.LazyReading.{decomposing_reading}
+use Rattle.normalizer_iterators.specs.Reads.{character_of, HasOwnWords}
 use Rattle.normalizer_iterators.specs.ToCome.{reads_left}
 use Rattle.normalizer_iterators.proofs.ReadingLemmas.{ReadsAhead}
 use Rattle.normalizer_iterators.proofs.reading.read_on.Given as goal
 
 abbrev pub invariant-loop-next : goal.invariant-loop-next
-invariant-loop-next g l =
-    ReadsAhead g.I.Iterator.can_next g.I.Iterator.next_gives g.I.Iterator.remaining (has_class_form l.characters)
-    (decomposing_reading l.characters l.ignored) l.fn.first l.initial.delegate l.initial.waiting l.next l.delegate l.waiting
+invariant-loop-next g l = record {
+  ahead :
+      ReadsAhead g.I.Iterator.can_next g.I.Iterator.next_gives g.I.Iterator.remaining (has_class_form l.characters)
+      (decomposing_reading l.characters l.ignored) (character_of l.fn.first) l.initial.delegate l.initial.waiting (character_of l.next) l.delegate l.waiting;
+  words : HasOwnWords l.characters l.next;
+}
 
 abbrev pub decreases-loop-next : goal.decreases-loop-next
-decreases-loop-next g l = reads_left l.next (size (g.I.Iterator.remaining l.delegate))
+decreases-loop-next g l = reads_left (character_of l.next) (size (g.I.Iterator.remaining l.delegate))

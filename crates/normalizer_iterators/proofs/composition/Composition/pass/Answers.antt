@@ -12,6 +12,7 @@ pass-requires g c =
       can = c.requires.can.source;
       anew = begins_anew s.decomposed.characters s.bounds s.pairs.now
           (suits_source g.I.Iterator.can_next g.I.Iterator.next_gives g.I.Iterator.remaining s c.requires.can) s.decomposed.ignored;
+      empty = c.requires.at_passed.waiting;
     }
 
 pub compose_on-requires : goal.compose_on-requires

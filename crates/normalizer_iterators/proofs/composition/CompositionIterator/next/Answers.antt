@@ -1,37 +1,41 @@
 use Rattle.std.proofs.Common.{length, sym, ap, ◌∙◌, arith, Ok}
+use Rattle.normalizer_tables.specs.Characters.{class_of}
 use Rattle.normalizer_iterators.proofs.ComposingLemmas.{class-composing_reading}
 use Rattle.normalizer_iterators.proofs.CompositionLemmas.{CanCompose-marks, CanCompose-next, suits_source, Steps-first_starter, Steps-leading_mark, Steps-end, Steps-fault, Steps-mark, Steps-ended}
 use Rattle.normalizer_iterators.proofs.CompositionLemmas.{Steps-starter, Steps-marks, Goes-item, Goes-marks, Goes-leading_mark, Goes-first_fault}
 use Rattle.normalizer_iterators.proofs.PassingLemmas.{IsAtPassed-stands}
 use Rattle.normalizer_iterators.proofs.composition.CompositionIterator.next.Goals as goal
 
-pub returns-then-class_of-eq0-clause-steps : goal.returns-then-class_of-eq0-clause-steps
-returns-then-class_of-eq0-clause-steps g c =
+pub returns-then-given-eq0-clause-steps : goal.returns-then-given-eq0-clause-steps
+returns-then-given-eq0-clause-steps g c =
     let s = c.args.self.now in
-    let class = c.class_of.ensures ∙ sym (class-composing_reading s.characters s.pairs.now c.in-Some-Ok.character) in
+    let known = rw c.in-Some-Ok.field-0-is at c.in-Some-Ok.ensures.class in
+    let class = known ∙ ap (λ k. class_of k c.in-Some-Ok.given.character) c.requires.same ∙ sym (class-composing_reading s.characters s.pairs.now c.in-Some-Ok.given.character) in
     let step = rw c.in-Some-Ok.field-0-is at c.in-Some-Ok.ensures.steps in
     Steps-first_starter g.I.Iterator.can_next g.I.Iterator.next_gives g.I.Iterator.remaining s
-    (rw c.in-NoStarter.is tt) c.in_default.ensures.none.0 c.in-Some-Ok.character c.pop_front.new.self _ _ _ _ step (sym class ∙ c.if-class_of-eq0.true)
-    c.compose_on-then-class_of-eq0.ensures
+    (rw c.in-NoStarter.is tt) c.in_default.ensures.none.0 c.in-Some-Ok.given.character c.pop_front.new.self _ _ _ _ step (sym class ∙ c.if-given-eq0.true)
+    c.compose_on-then-given-eq0.ensures
 
-pub returns-else-class_of-eq0-clause-steps : goal.returns-else-class_of-eq0-clause-steps
-returns-else-class_of-eq0-clause-steps g c =
+pub returns-else-given-eq0-clause-steps : goal.returns-else-given-eq0-clause-steps
+returns-else-given-eq0-clause-steps g c =
     let s = c.args.self.now in
-    let class = c.class_of.ensures ∙ sym (class-composing_reading s.characters s.pairs.now c.in-Some-Ok.character) in
+    let known = rw c.in-Some-Ok.field-0-is at c.in-Some-Ok.ensures.class in
+    let class = known ∙ ap (λ k. class_of k c.in-Some-Ok.given.character) c.requires.same ∙ sym (class-composing_reading s.characters s.pairs.now c.in-Some-Ok.given.character) in
     let step = rw c.in-Some-Ok.field-0-is at c.in-Some-Ok.ensures.steps in
-    Steps-leading_mark g.I.Iterator.can_next g.I.Iterator.next_gives g.I.Iterator.remaining s c.in-Some-Ok.character _ _ c.in-NoStarter.is c.in_default.ensures.none.0 c.in_default.ensures.none.1 step
-    (omega (arith, class, c.if-class_of-eq0.false))
+    Steps-leading_mark g.I.Iterator.can_next g.I.Iterator.next_gives g.I.Iterator.remaining s c.in-Some-Ok.given.character _ _ c.in-NoStarter.is c.in_default.ensures.none.0 c.in_default.ensures.none.1 step
+    (omega (arith, class, c.if-given-eq0.false))
 
 pub returns-in-None-clause-steps : goal.returns-in-None-clause-steps
 returns-in-None-clause-steps g c =
     Steps-end g.I.Iterator.can_next g.I.Iterator.next_gives g.I.Iterator.remaining c.args.self.now
     (rw c.in-NoStarter.is tt) c.in_default.ensures.none.0 _ _ c.in_default.ensures.none.1 c.in-None.ensures.steps
 
-pub returns-else-class_of-eq0-clause-goes : goal.returns-else-class_of-eq0-clause-goes
-returns-else-class_of-eq0-clause-goes g c =
+pub returns-else-given-eq0-clause-goes : goal.returns-else-given-eq0-clause-goes
+returns-else-given-eq0-clause-goes g c =
+    let goes = rw c.in-Some-Ok.field-0-is at c.in-Some-Ok.ensures.goes in
     let step = rw c.in-Some-Ok.field-0-is at c.in-Some-Ok.ensures.steps in
-    Goes-leading_mark g.I.Iterator.can_next g.I.Iterator.next_gives g.I.Iterator.remaining c.args.self.now c.in-Some-Ok.character _ _ c.in-NoStarter.is c.in_default.ensures.none.0
-    c.in_default.ensures.none.1 c.requires step (c.in-Some-Ok.ensures.goes.on tt).2
+    Goes-leading_mark g.I.Iterator.can_next g.I.Iterator.next_gives g.I.Iterator.remaining c.args.self.now c.in-Some-Ok.given.character _ _ c.in-NoStarter.is c.in_default.ensures.none.0
+    c.in_default.ensures.none.1 c.requires step (goes.on tt).2
 
 pub returns-in-Some-Err-clause-steps : goal.returns-in-Some-Err-clause-steps
 returns-in-Some-Err-clause-steps g c =
@@ -40,15 +44,16 @@ returns-in-Some-Err-clause-steps g c =
 
 pub returns-in-Some-Err-clause-goes : goal.returns-in-Some-Err-clause-goes
 returns-in-Some-Err-clause-goes g c =
+    let goes = rw c.in-Some-Err.field-0-is at c.in-Some-Err.ensures.goes in
     let step = rw c.in-Some-Err.field-0-is at c.in-Some-Err.ensures.steps in
     Goes-first_fault g.I.Iterator.can_next g.I.Iterator.next_gives g.I.Iterator.remaining c.args.self.now c.in-Some-Err.error _ _ c.in-NoStarter.is c.in_default.ensures.none.1 c.requires step
-    (c.in-Some-Err.ensures.goes.on tt).2
+    (goes.on tt).2
 
 pub compose_on-requires : goal.compose_on-requires
 compose_on-requires g c = CanCompose-marks g.I.Iterator.can_next g.I.Iterator.next_gives g.I.Iterator.remaining c.args.self.now _ c.requires
 
-pub compose_on-requires-then-class_of-eq0 : goal.compose_on-requires-then-class_of-eq0
-compose_on-requires-then-class_of-eq0 g c =
+pub compose_on-requires-then-given-eq0 : goal.compose_on-requires-then-given-eq0
+compose_on-requires-then-given-eq0 g c =
     let step = rw c.in-Some-Ok.field-0-is at c.in-Some-Ok.ensures.steps in
     CanCompose-next g.I.Iterator.can_next g.I.Iterator.next_gives g.I.Iterator.remaining c.args.self.now _ _ c.requires c.in-NoStarter.is (step.ready c.requires.source) step.kept.0
 

@@ -1,0 +1,93 @@
+use Rattle.std.proofs.Common.{refl, sym, ap, ◌∙◌, Ok, Err}
+use Rattle.normalizer_iterators.specs.LazyReading.{decomposing_reading}
+use Rattle.normalizer_iterators.specs.Reads.{character_of}
+use Rattle.normalizer_iterators.specs.WaitingList.{AgreesWith}
+use Rattle.normalizer_iterators.proofs.DecompositionLemmas.{Steps-ended, Steps-read, Goes-read, class-first, nothing_read, ready_behind}
+use Rattle.normalizer_iterators.proofs.ReadingLemmas.{HasRead-as}
+use Rattle.normalizer_iterators.proofs.decomposition.Decomposition.next_with_class.Goals as goal
+
+pub invariant_of-self : goal.invariant_of-self
+unfolding AgreesWith
+invariant_of-self g c =
+    let s = c.args.self.now in
+    record {
+      suits = s.suits;
+      anew = s.anew;
+      word = s.word;
+      settled = c.pop_front.ensures.unordered ∙ s.settled;
+      classes = c.pop_front.ensures.classes (decomposing_reading s.characters s.ignored) s.classes;
+    }
+
+pub returns-in-Some-clause-class : goal.returns-in-Some-clause-class
+unfolding AgreesWith
+returns-in-Some-clause-class g c = let s = c.args.self.now in c.in-Some.ensures.class (decomposing_reading s.characters s.ignored) s.classes
+
+pub invariant_of-self-in-Break-1 : goal.invariant_of-self-in-Break-1
+unfolding AgreesWith
+invariant_of-self-in-Break-1 g c =
+    let s = c.args.self.now in
+    record {
+      suits = s.suits;
+      anew = λ x e. nothing_read _ c.take.ensures.after x e;
+      word = λ r e. cc (e, c.take.ensures.after);
+      settled = c.pop_front.ensures.unordered ∙ s.settled;
+      classes = c.pop_front.ensures.classes (decomposing_reading s.characters s.ignored) s.classes;
+    }
+
+pub invariant_of-self-2 : goal.invariant_of-self-2
+unfolding AgreesWith
+invariant_of-self-2 g c =
+    let s = c.args.self.now in
+    record {
+      suits = s.suits;
+      anew = λ x e. nothing_read _ c.take.ensures.after x e;
+      word = λ r e. cc (e, c.take.ensures.after);
+      settled = c.pop_front.ensures.unordered ∙ s.settled;
+      classes = c.pop_front.ensures.classes (decomposing_reading s.characters s.ignored) s.classes;
+    }
+
+pub returns-in_err-read-clause-steps : goal.returns-in_err-read-clause-steps
+returns-in_err-read-clause-steps g c =
+    let nothing = c.in_default.ensures.none in
+    rw c.from_residual.ensures
+    (Steps-ended g.I.Iterator.can_next g.I.Iterator.next_gives g.I.Iterator.remaining c.args.self.now _ refl refl (ap character_of (sym c.in_err-read.ensures.value)) (ap character_of c.take.ensures.after)
+    nothing.0 nothing.1)
+
+pub returns-in-Ok-clause-class : goal.returns-in-Ok-clause-class
+returns-in-Ok-clause-class g c =
+    let s = c.args.self.now in
+    let pending = ap character_of (sym c.in_ok-read.ensures.value) in
+    let ready = ready_behind g.I.Iterator.can_next g.I.Iterator.remaining s c.in_ok-read.read.character pending c.requires in
+    let near = c.next.ensures.goes.on ready.1 in
+    let read = HasRead-as g.I.Iterator.can_next g.I.Iterator.next_gives g.I.Iterator.remaining _ _ _ _ c.read_from-following.ensures.character c.next.ensures.steps near in
+    class-first g.I.Iterator.can_next g.I.Iterator.next_gives g.I.Iterator.remaining s c.in_ok-read.read.character c.in-Ok.character _ _ _ _ pending (c.in-Ok.ensures.ok s.delegate read)
+
+pub returns-in-Ok-clause-steps : goal.returns-in-Ok-clause-steps
+returns-in-Ok-clause-steps g c =
+    let s = c.args.self.now in
+    let pending = ap character_of (sym c.in_ok-read.ensures.value) in
+    let ready = ready_behind g.I.Iterator.can_next g.I.Iterator.remaining s c.in_ok-read.read.character pending c.requires in
+    let near = c.next.ensures.goes.on ready.1 in
+    let read = HasRead-as g.I.Iterator.can_next g.I.Iterator.next_gives g.I.Iterator.remaining _ _ _ _ c.read_from-following.ensures.character c.next.ensures.steps near in
+    Steps-read g.I.Iterator.can_next g.I.Iterator.next_gives g.I.Iterator.remaining s c.in_ok-read.read.character pending c.in_default.ensures.none.0 _ _ read _ c.in-Ok.ensures.kept.0
+    c.in-Ok.ensures.kept.1 (Ok c.in-Ok.character) c.in-Ok.ensures.ok tt
+
+pub returns-in-Ok-clause-goes : goal.returns-in-Ok-clause-goes
+returns-in-Ok-clause-goes g c =
+    let s = c.args.self.now in
+    let pending = ap character_of (sym c.in_ok-read.ensures.value) in
+    let ready = ready_behind g.I.Iterator.can_next g.I.Iterator.remaining s c.in_ok-read.read.character pending c.requires in
+    let near = c.next.ensures.goes.on ready.1 in
+    let read = HasRead-as g.I.Iterator.can_next g.I.Iterator.next_gives g.I.Iterator.remaining _ _ _ _ c.read_from-following.ensures.character c.next.ensures.steps near in
+    Goes-read g.I.Iterator.can_next g.I.Iterator.next_gives g.I.Iterator.remaining s c.in_ok-read.read.character pending c.in_default.ensures.none.0 _ _ read _ (Ok c.in-Ok.character)
+    c.in-Ok.ensures.ok tt
+
+pub returns-in-Err-clause-steps : goal.returns-in-Err-clause-steps
+returns-in-Err-clause-steps g c =
+    let s = c.args.self.now in
+    let pending = ap character_of (sym c.in_ok-read.ensures.value) in
+    let ready = ready_behind g.I.Iterator.can_next g.I.Iterator.remaining s c.in_ok-read.read.character pending c.requires in
+    let near = c.next.ensures.goes.on ready.1 in
+    let read = HasRead-as g.I.Iterator.can_next g.I.Iterator.next_gives g.I.Iterator.remaining _ _ _ _ c.read_from-following.ensures.character c.next.ensures.steps near in
+    Steps-read g.I.Iterator.can_next g.I.Iterator.next_gives g.I.Iterator.remaining s c.in_ok-read.read.character pending c.in_default.ensures.none.0 _ _ read _ c.in-Err.ensures.kept.0
+    c.in-Err.ensures.kept.1 (Err c.in-Err.error) tt c.in-Err.ensures.err
