@@ -1,24 +1,40 @@
 -- Data that a constructor accepts serve the calls.
-use Rattle.std.proofs.Common.{◌≡◌, List, arith, false}
+use Rattle.std.proofs.Common.{◌≡◌, ℕ, ◌<◌, List, [], arith, false}
+use Rattle.std.specs.Prelude.{min}
+use Rattle.std.specs.Char.{IsScalar}
+use Rattle.normal_forms.specs.Reading.{IsStarter, ReadsAsItself}
 use Rattle.normal_forms.specs.declared.Form.TheVariants.{Composing}
-use Rattle.normalizer_tables.specs.declared.condition.Condition.TheVariants.{Order}
-use Rattle.normalizer_tables.specs.Characters.{Characters}
+use Rattle.normalizer_tables.specs.declared.condition.Condition.TheVariants.{Order, Passthrough}
+use Rattle.normalizer_tables.specs.declared.condition.Bounds.{Bounds}
+use Rattle.normalizer_tables.specs.Conditions.{Holds, HoldsAt, IsPlainStarter}
+use Rattle.normalizer_tables.specs.Characters.{Characters, own_reading}
 use Rattle.normalizer_tables.specs.Data.{Decompositions, Lists}
-use Rattle.normalizer_tables.specs.NfdData.{IsSoundNfdData, nfd_characters}
+use Rattle.normalizer_tables.specs.Loaded.{IsMet}
+use Rattle.normalizer_tables.specs.NfdData.{IsSoundNfdData, nfd_bounds, nfd_characters}
 use Rattle.normalizer_tables.specs.Pairs.{Pair}
 use Rattle.normalizer_tables.proofs.LoadedLemmas.{IsAccepted-met, parts_met}
 use Rattle.normalizer_tables.proofs.AcceptedLaws.{SuitsTexts-accepted, SuitsTexts-accepted_pairs, SuitsTexts-handed_in}
+use Rattle.normalizer_tables.proofs.SoundLists.{reads_as_itself}
 use Rattle.normalizer_calls.specs.Acceptance.{bounds_of, SuitsDecomposing}
 use Rattle.normalizer_calls.specs.ComposingAcceptance.{SuitsComposing}
 use Rattle.normalizer_calls.specs.Serving.{ServesDecomposing, ServesComposing}
 use Rattle.normalizer_calls.proofs.SoundPairs.{SuitsLazyComposing-met}
 use Rattle.normalizer_iterators.proofs.SoundData.{SuitsLazyReading-nfd, SuitsLazyReading-sound}
 
+-- a character below the bound is a starter that reads as itself: condition 10
+below_bound : (s : Characters) (b : Bounds) → Holds s b Passthrough → (c : ℕ) → IsScalar c → c < b.decomposition → ReadsAsItself (own_reading s) c × IsStarter (own_reading s) c
+unfolding Holds HoldsAt IsPlainStarter
+below_bound s b holds c scalar below = let plain = holds.1 c scalar below in (reads_as_itself s [] c plain.0, plain.1)
+
+below_least : (cap limit c : ℕ) → c < min cap limit → c < limit
+below_least cap limit c below = omega arith
+
 pub ServesDecomposing-met : (s : Characters) → s.is_mapper ≡ false → SuitsDecomposing s → ServesDecomposing s
 ServesDecomposing-met s plain met =
     let accepted = IsAccepted-met s met in
     record {
       reading = SuitsLazyReading-sound s _ (accepted 8 Order (omega arith));
+      below = below_bound s (bounds_of s.decompositions) (accepted 9 Passthrough (omega arith));
       laws = SuitsTexts-accepted s (bounds_of s.decompositions) plain accepted;
     }
 
@@ -33,7 +49,9 @@ ServesComposing-met s pairs plain met =
 
 -- canonical data that a caller answers for
 pub ServesDecomposing-handed_in : (decompositions : Decompositions) (tables : Lists) → IsSoundNfdData decompositions tables → ServesDecomposing (nfd_characters decompositions tables)
+unfolding IsMet
 ServesDecomposing-handed_in decompositions tables sound = record {
   reading = SuitsLazyReading-nfd decompositions tables sound;
+  below = λ c scalar below. below_bound (nfd_characters decompositions tables) nfd_bounds (sound 8 Passthrough (omega arith)).0 c scalar (below_least decompositions.cap 0xC0 c below);
   laws = SuitsTexts-handed_in decompositions tables sound;
 }

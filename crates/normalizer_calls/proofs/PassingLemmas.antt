@@ -1,12 +1,13 @@
 -- Characters that are handed on as they are, and runs of them.
-use Rattle.std.proofs.Common.{◌≡◌, ℕ, Bool, true, false, List, [], ◌∷◌, ◌++◌, refl, sym, ap, subst, ◌∙◌, append_assoc, append-nil}
+use Rattle.std.proofs.Common.{◌≡◌, ℕ, ◌<◌, inl, inr, Bool, true, false, List, [], ◌∷◌, ◌++◌, refl, sym, ap, subst, ◌∙◌, append_assoc, append-nil}
 use Rattle.std.specs.Char.{IsScalar}
-use Rattle.std.specs.Prelude.{All}
+use Rattle.std.specs.Prelude.{All, nat_lt, ◌||◌, ◌&&◌, not}
+use Rattle.std.proofs.lemmas.Bool.{cases_lt, le-ltb, lt-ltb}
 use Rattle.std.proofs.lemmas.List.Elements.{All-head, All-tail}
 use Rattle.normal_forms.specs.Reading.{Reading, ReadsAsItself, IsStarter}
 use Rattle.normal_forms.specs.Boundary.{BeginsWithStarter}
 use Rattle.normal_forms.specs.Decomposition.{expand}
-use Rattle.normal_forms.specs.Order.{order}
+use Rattle.normal_forms.specs.Order.{order, insert}
 use Rattle.normal_forms.specs.Composition.{compose, compose_from}
 use Rattle.normal_forms.specs.declared.Form.{Form}
 use Rattle.normal_forms.specs.declared.Form.TheVariants.{Decomposing, Composing}
@@ -19,28 +20,40 @@ use Rattle.normalizer_tables.specs.declared.condition.Bounds.{Bounds}
 use Rattle.normalizer_tables.specs.Characters.{Characters, has_class_form, own_reading, word_of}
 use Rattle.normalizer_tables.specs.PairConditions.{composing_reading, is_passed}
 use Rattle.normalizer_tables.specs.Pairs.{Pair}
-use Rattle.normalizer_tables.specs.Words.{is_plain}
+use Rattle.normalizer_tables.specs.Words.{is_backward_combining, is_non_round_trip, is_plain}
 use Rattle.normalizer_tables.proofs.ConditionLemmas.{class_of-plain}
-use Rattle.normalizer_tables.proofs.PlainCharacters.{list_of-plain_word, IsNormalized-plain_word}
+use Rattle.normalizer_tables.proofs.PlainCharacters.{list_of-plain_word}
 use Rattle.normalizer_iterators.specs.LazyComposing.{SuitsLazyComposing}
 use Rattle.normalizer_iterators.proofs.PassingLemmas.{BeginsSafely-apart}
 use Rattle.normalizer_calls.specs.Passing.{Divides, MayPass}
 
 -- a starter that reads as itself stands apart from what is behind it too
-MayPass-itself : (d : Reading) (c : ℕ) → ReadsAsItself d c → IsStarter d c → IsNormalized d Decomposing (c ∷ []) → MayPass d Decomposing false c
-unfolding normal_form nfd expand order
-MayPass-itself d c itself starter own = record {
-  own = own;
+MayPass-itself : (d : Reading) (c : ℕ) → ReadsAsItself d c → IsStarter d c → MayPass d Decomposing false c
+unfolding normal_form nfd expand order insert
+MayPass-itself d c itself starter = record {
+  own = ap (λ l. order d (l ++ [])) itself;
   begins = λ front x. nfd-boundary d front (c ∷ x)
       (BeginsWithStarter-expand d c x (λ none. let no : [] ≡ c ∷ [] = sym none ∙ itself in cc) (subst (BeginsWithStarter d) (sym itself) starter));
   ends = λ _ x. ap (λ l. order d (l ++ expand d x)) itself ∙ order-at_starter d [] c (expand d x) starter;
 }
 
--- a character whose word is 0, flags aside, passes where text is decomposed
-pub MayPass-plain : (s : Characters) (c : ℕ) → IsScalar c → is_plain (word_of s c) ≡ true → MayPass (own_reading s) Decomposing false c
-MayPass-plain s c scalar plain =
-    MayPass-itself (own_reading s) c (list_of-plain_word s [] c scalar plain) (class_of-plain s c scalar plain)
-    (IsNormalized-plain_word s [] (own_reading s).pair Decomposing c scalar plain)
+-- a character below the bound, or whose word is 0, flags aside, passes where text is decomposed
+pub MayPass-decomposed : (s : Characters) (bound : ℕ) → ((c : ℕ) → IsScalar c → c < bound → ReadsAsItself (own_reading s) c × IsStarter (own_reading s) c)
+    → (c : ℕ) → IsScalar c → (nat_lt c bound || is_plain (word_of s c)) ≡ true → MayPass (own_reading s) Decomposing false c
+MayPass-decomposed s bound below c scalar passes = elim (cases_lt c bound) [
+  | inl low ↦ let starter = below c scalar low in MayPass-itself (own_reading s) c starter.0 starter.1
+  | inr high ↦
+      let plain : is_plain (word_of s c) ≡ true = sym (ap (λ b. b || is_plain (word_of s c)) (le-ltb c bound high)) ∙ passes in
+      MayPass-itself (own_reading s) c (list_of-plain_word s [] c scalar plain) (class_of-plain s c scalar plain)
+]
+
+pub below_passes : (s : Characters) (bound c : ℕ) → c < bound → (nat_lt c bound || is_plain (word_of s c)) ≡ true
+below_passes s bound c below = ap (λ b. b || is_plain (word_of s c)) (lt-ltb c bound below)
+
+pub below_is_passed : (s : Characters) (b : Bounds) (c : ℕ) → c < b.composition → is_passed s b c ≡ true
+unfolding is_passed
+below_is_passed s b c below =
+    ap (λ l. l || (not (is_non_round_trip (word_of s c)) && not (is_backward_combining (word_of s c)))) (lt-ltb c b.composition below)
 
 -- a character that a composing loop passes
 pub MayPass-passed : (s : Characters) (b : Bounds) (pairs : List Pair) → SuitsLazyComposing s b pairs → (c : ℕ) → IsScalar c → is_passed s b c ≡ true

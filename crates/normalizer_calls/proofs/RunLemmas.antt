@@ -1,7 +1,8 @@
 -- Where runs and segments end, and that what stands before is normalized apart.
-use Rattle.std.proofs.Common.{◌≡◌, ℕ, zero, suc, ◌+◌, ◌-◌, ◌<◌, ◌≤◌, Bool, true, false, List, [], ◌∷◌, ◌++◌, length, take, drop, map, refl, sym, ap, subst, ◌∙◌, append_assoc, arith, length-drop, length-take-le, inl, inr}
+use Rattle.std.proofs.Common.{◌≡◌, ℕ, zero, suc, ◌+◌, ◌-◌, ◌<◌, ◌≤◌, Bool, true, false, List, [], ◌∷◌, ◌++◌, length, take, drop, map, refl, sym, ap, subst, ◌∙◌, append_assoc, arith, length-drop, length-take-le, take-append-drop, inl, inr}
 use Rattle.std.specs.Char.{IsScalar}
-use Rattle.std.specs.Prelude.{All, ◌==◌, not, ◌&&◌}
+use Rattle.std.specs.Prelude.{All, ◌==◌, not, ◌&&◌, min}
+use Rattle.std.proofs.lemmas.Bool.Decides.{eqb_tells}
 use Rattle.std.proofs.lemmas.Bool.{cases_lt, cases_Bool, true≢false, cond-true, cond-false, eq-eqb}
 use Rattle.std.proofs.lemmas.List.{append_cancel_left, drop_at, take_at}
 use Rattle.std.proofs.lemmas.List.Elements.{All-nil, All-cons, All-append, All-head, All-tail, All-same, All-drop, All-take}
@@ -9,21 +10,18 @@ use Rattle.normal_forms.specs.Reading.{Reading}
 use Rattle.normal_forms.specs.declared.Form.{Form}
 use Rattle.normalizer_text.specs.declared.step.Step.{Step}
 use Rattle.normalizer_text.specs.Encodings.{Encoding, first_in, decoded_in}
-use Rattle.normalizer_text.specs.Steps.{read, replaced, steps, IsBoundary, IsLastStep}
+use Rattle.normalizer_text.specs.Steps.{read, replaced, steps, width_of, IsBoundary, IsLastStep}
 use Rattle.normalizer_text.specs.Utf16.{is_single, is_high, is_low, pair_value, unpaired, first_of_utf16}
+use Rattle.normalizer_text.specs.Scans.{leading_below}
 use Rattle.normalizer_text.specs.Utf8.{first_of_utf8}
 use Rattle.normalizer_text.proofs.BoundaryLemmas.{boundary-le, boundary-more, steps-parts, steps-take-drop, width_of-append, width_of-steps}
 use Rattle.normalizer_text.proofs.EncodingRules.{IsDecoding-first}
+use Rattle.normalizer_text.proofs.ScanLemmas.{All-leading_below, first-low, leading_below-le, steps-single}
 use Rattle.normalizer_text.proofs.StepLemmas.{decoded-IsText, decoded-some, rest-shorter, steps-nil, steps-some}
 use Rattle.normalizer_text.proofs.Utf8Lemmas.{by_cases}
 use Rattle.normalizer_input.specs.InputCut.{IsInputNormalized}
-use Rattle.normalizer_calls.specs.Passing.{Divides, IsPart, IsRunEnd, IsSegmentEnd, MayPass, replacement, step_passes}
+use Rattle.normalizer_calls.specs.Passing.{Divides, IsPart, IsRunEnd, IsSegmentEnd, MayPass, PassesTo, replacement, step_passes}
 use Rattle.normalizer_calls.proofs.PassingLemmas.{Divides-end, Divides-next, Divides-run, IsNormalized-run}
-
--- all characters before the place pass
-pub record PassesTo (passing : ℕ → Bool) (e : Encoding) (units : List ℕ) (end : ℕ) : Type 0 where
-  pub boundary : IsBoundary (first_in e) units end
-  pub pass : All (λ s. step_passes passing s ≡ true) boundary.before
 
 module _ (passing : ℕ → Bool) (e : Encoding) (units : List ℕ) where
   pub PassesTo-none : PassesTo passing e units 0
@@ -31,6 +29,53 @@ module _ (passing : ℕ → Bool) (e : Encoding) (units : List ℕ) where
     boundary = record { before = []; after = steps (first_in e) units; apart = refl; taken = refl };
     pass = All-nil (λ s. step_passes passing s ≡ true);
   }
+
+  -- units below a bound are characters by themselves
+  low_passes : (bound u : ℕ) → bound ≤ 0x80 → u < bound → passing u ≡ true → step_passes passing (read u 1) ≡ true
+  low_passes bound u least below passes = elim (eqb_tells u replacement) [
+    | inl same ↦ absurd (omega (arith, same.1))
+    | inr other ↦ ap (λ b. not b && passing u) other.0 ∙ passes
+  ]
+
+  all_low_pass : (bound : ℕ) → bound ≤ 0x80 → ((c : ℕ) → c < bound → passing c ≡ true) → (low : List ℕ) → All (λ u. u < bound) low → All (λ s. step_passes passing s ≡ true) (map (λ u. read u 1) low)
+  all_low_pass bound least pass [] all = All-nil (λ s. step_passes passing s ≡ true)
+  all_low_pass bound least pass (u ∷ low) all = All-cons (λ s. step_passes passing s ≡ true) (read u 1) (map (λ v. read v 1) low)
+      (low_passes bound u least (All-head (λ v. v < bound) u low all) (pass u (All-head (λ v. v < bound) u low all)))
+      (all_low_pass bound least pass low (All-tail (λ v. v < bound) u low all))
+
+  width_of-single : (low : List ℕ) → width_of (map (λ u. read u 1) low) ≡ length low
+  width_of-single [] = refl
+  width_of-single (u ∷ low) = omega (arith, width_of-single low)
+
+  PassesTo-below : (bound : ℕ) → bound ≤ 0x80 → ((c : ℕ) → c < bound → passing c ≡ true) → (end : ℕ) → PassesTo passing e units end → PassesTo passing e units (end + leading_below bound (drop end units))
+  PassesTo-below bound least pass end so_far =
+      let b = so_far.boundary in
+      let rest = drop end units in
+      let n = leading_below bound rest in
+      let low = take n rest in
+      let all = All-leading_below bound rest in
+      let behind = steps (first_in e) (drop n rest) in
+      record {
+        boundary = record {
+          before = b.before ++ map (λ u. read u 1) low;
+          after = behind;
+          apart = b.apart
+              ∙ ap (λ l. b.before ++ l)
+              (sym (steps-parts (first_in e) (IsDecoding-first e) units end b).1 ∙ ap (steps (first_in e)) (sym (take-append-drop n rest))
+              ∙ steps-single (first_in e) (IsDecoding-first e) (λ u. u < bound) (λ u us l. first-low e u us (omega arith)) low (drop n rest) all)
+              ∙ sym (append_assoc b.before (map (λ u. read u 1) low) behind);
+          taken = (let k = b.taken in omega (arith, width_of-append b.before (map (λ u. read u 1) low), width_of-single low, length-take-le n rest (leading_below-le bound rest)));
+        };
+        pass = All-append (λ t. step_passes passing t ≡ true) b.before (map (λ u. read u 1) low) so_far.pass (all_low_pass bound least pass low all);
+      }
+
+  pub PassesTo-unseen : (bound of_characters : ℕ) → bound ≡ min of_characters 0x80 → ((c : ℕ) → c < of_characters → passing c ≡ true) → (end new : ℕ) → new ≡ end + leading_below bound (drop end units)
+      → PassesTo passing e units end → PassesTo passing e units new
+  PassesTo-unseen bound of_characters least pass end new is so_far =
+      subst (PassesTo passing e units) (sym is) (PassesTo-below bound (omega (arith, least)) (λ c below. pass c (omega (arith, least))) end so_far)
+
+  pub PassesTo-le : (end : ℕ) → PassesTo passing e units end → end ≤ length units
+  PassesTo-le end so_far = boundary-le (first_in e) (IsDecoding-first e) units end so_far.boundary
 
   module _ (end : ℕ) (s : Step) (is : s ≡ first_in e (drop end units)) (more : end < length units) where
     pub PassesTo-more : PassesTo passing e units end → step_passes passing s ≡ true → PassesTo passing e units (end + s.width)
@@ -242,24 +287,21 @@ module _ (passing : ℕ → Bool) (e : Encoding) where
 
       -- ---- how much of a run is handed on
 
-      PassesTo-run_end : (end : ℕ) → IsRunEnd passing e units end → PassesTo passing e units end
-      PassesTo-run_end end run = record { boundary = run.boundary; pass = run.pass }
-
       -- all of it, where the units end
       pub passed_to_end : (end len : ℕ) → len ≡ length units → IsRunEnd passing e units end → end ≡ len → 0 < end → IsPart e d form units end × IsInputNormalized e d form (take end units)
       passed_to_end end len length_is run all some =
-          let to = PassesTo-run_end end run in (IsPart-run end to some (λ more. absurd (omega (arith, length_is))), own_run end to)
+          let to = run.passes in (IsPart-run end to some (λ more. absurd (omega (arith, length_is))), own_run end to)
 
       -- or where nothing is held back
       pub passed_free : held_back ≡ false → (end : ℕ) → IsRunEnd passing e units end → 0 < end → IsPart e d form units end × IsInputNormalized e d form (take end units)
       passed_free free end run some =
-          let to = PassesTo-run_end end run in (IsPart-free_run end to free some, own_run end to)
+          let to = run.passes in (IsPart-free_run end to free some, own_run end to)
 
       -- else all but the last character
       pub passed_held : (end : ℕ) → IsRunEnd passing e units end → (front : List ℕ) → front ≡ take end units → (s : Step) → IsLastStep (first_in e) front s → 0 < end - s.width
           → IsPart e d form units (end - s.width) × IsInputNormalized e d form (take (end - s.width) units)
       passed_held end run front is s last some =
-          let to = PassesTo-run_end end run in
+          let to = run.passes in
           let last' = subst (λ us. IsLastStep (first_in e) us s) is last in
           let held = PassesTo-held passing e units end to s last' in
           (IsPart-run (end - s.width) held some (next_held passing e units end to s last'), own_run (end - s.width) held)

@@ -31,10 +31,14 @@ replacement = 0xFFFD
 abbrev pub step_passes : (ℕ → Bool) → Step → Bool
 step_passes passing s = not (s.character == replacement) && passing s.character
 
--- all characters before the place pass, and the next does not, or the units end
-pub record IsRunEnd (passing : ℕ → Bool) (e : Encoding) (units : List ℕ) (end : ℕ) : Type 0 where
+-- all characters before the place pass
+pub record PassesTo (passing : ℕ → Bool) (e : Encoding) (units : List ℕ) (end : ℕ) : Type 0 where
   pub boundary : IsBoundary (first_in e) units end
   pub pass : All (λ s. step_passes passing s ≡ true) boundary.before
+
+-- they do, and the next does not, or the units end
+pub record IsRunEnd (passing : ℕ → Bool) (e : Encoding) (units : List ℕ) (end : ℕ) : Type 0 where
+  pub passes : PassesTo passing e units end
   pub stops : end < length units → step_passes passing (first_in e (drop end units)) ≡ false
 
 -- a character ends at the place, and the next one passes, or the units end

@@ -1,5 +1,7 @@
 -- What a normalizer's data are to its calls.
-use Rattle.std.specs.Prelude.{List}
+use Rattle.std.specs.Prelude.{ℕ, ◌<◌, List}
+use Rattle.std.specs.Char.{IsScalar}
+use Rattle.normal_forms.specs.Reading.{IsStarter, ReadsAsItself}
 use Rattle.normal_forms.specs.declared.Form.TheVariants.{Decomposing, Composing}
 use Rattle.normalizer_tables.specs.declared.condition.Bounds.{Bounds}
 use Rattle.normalizer_tables.specs.AcceptedData.{SuitsTexts}
@@ -8,10 +10,14 @@ use Rattle.normalizer_tables.specs.PairConditions.{composing_reading}
 use Rattle.normalizer_tables.specs.Pairs.{Pair}
 use Rattle.normalizer_iterators.specs.LazyComposing.{SuitsLazyComposing}
 use Rattle.normalizer_iterators.specs.LazyReading.{SuitsLazyReading}
+use Rattle.normalizer_calls.specs.Acceptance.{bounds_of}
 
--- text may be decomposed by them character by character, and the laws of the decomposing form hold
+-- text may be decomposed by them character by character, a character below the bound is a starter that reads as itself,
+-- and the laws of the decomposing form hold
 pub record ServesDecomposing (s : Characters) : Type 0 where
   pub reading : SuitsLazyReading (has_class_form s) (own_reading s)
+  pub below : (c : ℕ) → IsScalar c → c < (bounds_of s.decompositions).decomposition
+      → ReadsAsItself (own_reading s) c × IsStarter (own_reading s) c
   pub laws : SuitsTexts (own_reading s) Decomposing
 
 -- text may be decomposed and composed by them character by character, and the laws of both forms hold

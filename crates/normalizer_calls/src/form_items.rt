@@ -1,5 +1,5 @@
 //! The two kinds of normalizers as one trait, over which every call on text is written once.
-ghost use Rattle.std.specs.Prelude.{◌≡◌, ℕ, Bool, true, false, IfOk};
+ghost use Rattle.std.specs.Prelude.{◌≡◌, ◌<◌, ◌||◌, nat_lt, ℕ, Bool, true, false, IfOk};
 ghost use Rattle.std.specs.Char.{IsScalar};
 ghost use Rattle.std.specs.Iterator.{IsFinite};
 ghost use Rattle.normal_forms.specs.declared.Form.{Form};
@@ -9,10 +9,12 @@ ghost use Rattle.normalizer_tables.specs.Characters.{has_class_form, own_reading
 ghost use Rattle.normalizer_tables.specs.PairConditions.{composing_reading, is_passed};
 ghost use Rattle.normalizer_tables.specs.Words.{is_plain};
 ghost use Rattle.normalizer_iterators.specs.Items.{GivesForm};
+ghost use Rattle.normalizer_calls.specs.Acceptance.{bounds_of};
 ghost use Rattle.normalizer_calls.specs.Passing.{MayPass};
 
 use crate::{ComposingNormalizerBorrowed, DecomposingNormalizerBorrowed};
 use normalizer_iterators::{Composition, Decomposition, NormalizeError};
+use normalizer_tables::condition::Bounds;
 use normalizer_tables::word::{is_backward_combining, is_non_round_trip};
 
 /// What gives the normal form of the characters that an iterator gives.
@@ -26,8 +28,11 @@ pub(crate) trait FormItems<I: Iterator<Item = char> + Drop> {
 
     ghost form: { Form };
 
-    // Which characters are handed on as they are, and whether the last of them is held back where another one follows.
+    // Which characters are handed on as they are, below which number each is, and whether the last of them is held back
+    // where another one follows.
     ghost passing: { Self → ℕ → Bool };
+
+    ghost bound: { Self → ℕ };
 
     ghost held_back: { Bool };
 
@@ -42,13 +47,19 @@ pub(crate) trait FormItems<I: Iterator<Item = char> + Drop> {
     fn passes(&self, character: char) -> bool
         ensures { result ≡ passing self.now character };
 
+    /// Below which number every character is handed on.
+    fn passing_bound(&self) -> u32
+        ensures { result ≡ bound self.now };
+
     /// Whether a character that passes may be changed by what follows it.
     fn holds_back(&self) -> bool
         ensures { result ≡ held_back };
 
-    /// Characters that pass are normalized apart.
+    /// Characters that pass are normalized apart, and those below the bound pass.
     fn passed_characters_stand_apart(&self)
-        ensures { (c : ℕ) → IsScalar c → passing self.now c ≡ true → MayPass (reading self.now) form held_back c };
+        ensures apart { (c : ℕ) → IsScalar c → passing self.now c ≡ true →
+            MayPass (reading self.now) form held_back c }
+        ensures below { (c : ℕ) → c < bound self.now → passing self.now c ≡ true };
 }
 
 impl<'a, I: Iterator<Item = char> + Drop> FormItems<I> for DecomposingNormalizerBorrowed<'a> {
@@ -63,7 +74,10 @@ impl<'a, I: Iterator<Item = char> + Drop> FormItems<I> for DecomposingNormalizer
 
     ghost form = { Decomposing };
 
-    ghost passing = { λ n c. is_plain (word_of (data_of_borrowed n) c) };
+    ghost passing = { λ n c. let s = data_of_borrowed n in
+        nat_lt c (bounds_of s.decompositions).decomposition || is_plain (word_of s c) };
+
+    ghost bound = { λ n. (bounds_of (data_of_borrowed n).decompositions).decomposition };
 
     ghost held_back = { false };
 
@@ -72,7 +86,12 @@ impl<'a, I: Iterator<Item = char> + Drop> FormItems<I> for DecomposingNormalizer
     }
 
     fn passes(&self, character: char) -> bool {
-        is_plain(self.characters.word_of(character))
+        (character as u32) < Bounds::of_cap(self.characters.cap()).decomposition
+            || is_plain(self.characters.word_of(character))
+    }
+
+    fn passing_bound(&self) -> u32 {
+        Bounds::of_cap(self.characters.cap()).decomposition
     }
 
     fn holds_back(&self) -> bool {
@@ -96,6 +115,8 @@ impl<'a, I: Iterator<Item = char> + Drop> FormItems<I> for ComposingNormalizerBo
 
     ghost passing = { λ n c. is_passed (composing_data_of_borrowed n) n.bounds c };
 
+    ghost bound = { λ n. n.bounds.composition };
+
     ghost held_back = { true };
 
     fn items(&self, characters: I) -> Result<Composition<'a, I>, NormalizeError> {
@@ -109,6 +130,10 @@ impl<'a, I: Iterator<Item = char> + Drop> FormItems<I> for ComposingNormalizerBo
         }
         let word = self.characters.word_of(character);
         !is_non_round_trip(word) && !is_backward_combining(word)
+    }
+
+    fn passing_bound(&self) -> u32 {
+        self.bounds.composition
     }
 
     fn holds_back(&self) -> bool {

@@ -6,9 +6,9 @@ use Rattle.normalizer_calls.proofs.runs.passed_end.Goals.{then-end-len-via-then-
 pub returns-then-end-len : goal.returns-then-end-len
 returns-then-end-len g c =
     elim c.then-end-len.branch [
-      | then-end-len-via-then-end-len w ↦ passed_to_end _ _ _ _ _ c.passed_characters_stand_apart.ensures _ _ _ c.len.ensures c.run_end-end.ensures w.if-end-len.true
-      | then-end-len-via-else-end-len+then-not-holds_back w ↦ passed_free _ _ _ _ _ c.passed_characters_stand_apart.ensures _ (sym w.holds_back.ensures ∙ w.if-not-holds_back.true) _ c.run_end-end.ensures
+      | then-end-len-via-then-end-len w ↦ passed_to_end _ _ _ _ _ c.passed_characters_stand_apart.ensures.apart _ _ _ c.len.ensures c.run_end-end.ensures w.if-end-len.true
+      | then-end-len-via-else-end-len+then-not-holds_back w ↦ passed_free _ _ _ _ _ c.passed_characters_stand_apart.ensures.apart _ (sym w.holds_back.ensures ∙ w.if-not-holds_back.true) _ c.run_end-end.ensures
     ]
 
 pub returns-in-Some : goal.returns-in-Some
-returns-in-Some g c = passed_held _ _ _ _ _ c.passed_characters_stand_apart.ensures _ _ c.run_end-end.ensures _ c.before-2.ensures _ c.in-Some.ensures
+returns-in-Some g c = passed_held _ _ _ _ _ c.passed_characters_stand_apart.ensures.apart _ _ c.run_end-end.ensures _ c.before-2.ensures _ c.in-Some.ensures

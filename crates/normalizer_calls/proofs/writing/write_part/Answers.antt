@@ -18,18 +18,18 @@ returns-then-run-gt0-clause-part g c =
 
 pub returns-in_err-write_segment-clause-refused : goal.returns-in_err-write_segment-clause-refused
 returns-in_err-write_segment-clause-refused g c =
-    let part = IsPart-segment _ _ _ _ _ c.passed_characters_stand_apart.ensures _ _ c.segment_end-end.ensures in
+    let part = IsPart-segment _ _ _ _ _ c.passed_characters_stand_apart.ensures.apart _ _ c.segment_end-end.ensures in
     let is : c.from_residual-in_err-write_segment.result ≡ Err c.in_err-write_segment.field-0.0 = search rules in
     rw is
     (WritesText-segment_refused _ _ _ _ _ part g.O.Output.taken g.O.Output.refused g.O.Output.left g.O.Output.refuses _ _ _ c.before-2.ensures _ (rw c.in_err-write_segment.was at c.write_segment.ensures.text))
 
 pub returns-in_err-write_segment-clause-room : goal.returns-in_err-write_segment-clause-room
 returns-in_err-write_segment-clause-room g c = λ short.
-    let part = IsPart-segment _ _ _ _ _ c.passed_characters_stand_apart.ensures _ _ c.segment_end-end.ensures in
+    let part = IsPart-segment _ _ _ _ _ c.passed_characters_stand_apart.ensures.apart _ _ c.segment_end-end.ensures in
     let is : c.from_residual-in_err-write_segment.result ≡ Err c.in_err-write_segment.field-0.0 = search rules in
     not_handed_on _ _ _ _ c.in_err-write_segment.was is (c.write_segment.ensures.room (HasShortRuns-part _ _ _ _ _ part _ _ c.before-2.ensures short))
 
 pub returns-clause-part : goal.returns-clause-part
 returns-clause-part g c =
-    let part = IsPart-segment _ _ _ _ _ c.passed_characters_stand_apart.ensures _ _ c.segment_end-end.ensures in
+    let part = IsPart-segment _ _ _ _ _ c.passed_characters_stand_apart.ensures.apart _ _ c.segment_end-end.ensures in
     WrotePart-segment _ _ _ _ _ part g.O.Output.taken g.O.Output.refused g.O.Output.left g.O.Output.refuses _ _ _ c.before-2.ensures (rw c.in_ok-write_segment.was at c.write_segment.ensures.text)

@@ -1,5 +1,8 @@
-use Rattle.normalizer_calls.proofs.PassingLemmas.{MayPass-passed}
+use Rattle.normalizer_calls.proofs.PassingLemmas.{MayPass-passed, below_is_passed}
 use Rattle.normalizer_calls.proofs.form_items.ComposingNormalizerBorrowedFormItems.passed_characters_stand_apart.Goals as goal
 
-pub returns : goal.returns
-returns g c = MayPass-passed _ _ _ c.args.self.now.serves.composing
+pub returns-clause-apart : goal.returns-clause-apart
+returns-clause-apart g c = MayPass-passed _ _ _ c.args.self.now.serves.composing
+
+pub returns-clause-below : goal.returns-clause-below
+returns-clause-below g c = below_is_passed _ _

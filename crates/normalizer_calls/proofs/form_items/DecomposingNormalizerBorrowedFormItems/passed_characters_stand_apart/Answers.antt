@@ -1,5 +1,8 @@
-use Rattle.normalizer_calls.proofs.PassingLemmas.{MayPass-plain}
+use Rattle.normalizer_calls.proofs.PassingLemmas.{MayPass-decomposed, below_passes}
 use Rattle.normalizer_calls.proofs.form_items.DecomposingNormalizerBorrowedFormItems.passed_characters_stand_apart.Goals as goal
 
-pub returns : goal.returns
-returns g c = MayPass-plain _
+pub returns-clause-apart : goal.returns-clause-apart
+returns-clause-apart g c = MayPass-decomposed _ _ c.args.self.now.serves.below
+
+pub returns-clause-below : goal.returns-clause-below
+returns-clause-below g c = below_passes _ _
