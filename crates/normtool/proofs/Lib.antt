@@ -1,0 +1,2 @@
+mod LabelLemmas
+mod OffenceLineLemmas

@@ -2,21 +2,33 @@
 use Rattle.std.specs.Prelude.{◌≡◌, ℕ, List, Option, Result, Ok, Err, ⊤, IfSome}
 use Rattle.std.specs.Io.KnownBytes.{Appends}
 use Rattle.normtool.specs.declared.ending.Answer.{Answer}
-use Rattle.normtool.specs.declared.ending.Answer.TheVariants.{Done}
 use Rattle.normtool.specs.declared.ending.ToolFault.{ToolFault}
 use Rattle.normtool.specs.declared.ending.ToolFault.TheVariants.{Read, Write, Memory, Data}
 use Rattle.normtool.specs.declared.words.Command.{Command}
-use Rattle.normtool.specs.Forms.{Held, MakesForm, LacksData, output_of}
+use Rattle.normtool.specs.Needs.{Held, Work, IsServed, LacksData}
+use Rattle.normtool.specs.Replies.{IsReply}
+use Rattle.normtool.specs.Tasks.{task_of}
 use Rattle.normtool.specs.Transfer.{AppendsFront}
 
+-- the command has this reply to all the bytes of a source, where the source tells them, by data that are held and
+-- accepted
+pub record Replies (command : Command) (held : Held) (left : Option (List ℕ)) (answer : Answer) (output : List ℕ)
+    : Type 0 where
+  pub work : Work
+  pub served : IsServed (task_of command) held work
+  pub input : List ℕ
+  pub whole : IfSome left (λ bytes. input ≡ bytes)
+  pub reply : IsReply work input answer output
+
 -- Of what a provider holds and of the bytes that were left in the source, and the bytes that the target took before and
--- after: all of the command's output was written, and the answer is `Done`; or a front of it, and a write was refused; or
--- the data are why there is no answer; or a read or the memory are.
-abbrev pub IsOutcome : Command → Held → Option (List ℕ) → Option (List ℕ) → Option (List ℕ) → Result Answer ToolFault → Type 0
-IsOutcome command held left before after (Ok answer) = (answer ≡ Done)
-    × (form : List ℕ → List ℕ) × MakesForm command held form × IfSome left (λ input. Appends before after (output_of form input))
+-- after: the command's output was written, and its answer is given; or a front of it, and a write was refused; or the
+-- data are why there is no answer; or a read or the memory are.
+abbrev pub IsOutcome : Command → Held → (left before after : Option (List ℕ)) → Result Answer ToolFault → Type 0
+IsOutcome command held left before after (Ok answer) =
+    (output : List ℕ) × Replies command held left answer output × Appends before after output
 IsOutcome command held left before after (Err Write) =
-    (form : List ℕ → List ℕ) × MakesForm command held form × IfSome left (λ input. AppendsFront before after (output_of form input))
-IsOutcome command held left before after (Err Data) = LacksData command held
+    (answer : Answer) × (output : List ℕ) × Replies command held left answer output
+    × AppendsFront before after output
+IsOutcome command held left before after (Err Data) = LacksData (task_of command) held
 IsOutcome command held left before after (Err Read) = ⊤
 IsOutcome command held left before after (Err Memory) = ⊤

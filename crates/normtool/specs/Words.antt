@@ -3,7 +3,9 @@ use Rattle.std.specs.Prelude.{◌≡◌, ℕ, List, [], ◌∷◌, codes}
 use Rattle.normtool.specs.declared.words.RecordSet.{RecordSet}
 use Rattle.normtool.specs.declared.words.RecordSet.TheVariants.{Rows, Nothing}
 use Rattle.normtool.specs.declared.words.Command.{Command}
-use Rattle.normtool.specs.declared.words.Command.TheVariants.{Nfd, Nfc, Nfkd, Nfkc}
+use Rattle.normtool.specs.declared.words.Command.TheVariants.{Nfd, Nfc, Nfkd, Nfkc, IsNfd, IsNfc, IsNfkd, IsNfkc}
+use Rattle.normtool.specs.declared.words.Command.TheVariants.{WhereNfd, WhereNfc, WhereNfkd, WhereNfkc}
+use Rattle.normtool.specs.declared.words.Command.TheVariants.{Map, Validate, Label}
 
 -- the word of a record set
 abbrev pub NamesRecords : RecordSet → List ℕ → Type 0
@@ -16,6 +18,17 @@ NamesCommand Nfd word = word ≡ codes "nfd"
 NamesCommand Nfc word = word ≡ codes "nfc"
 NamesCommand Nfkd word = word ≡ codes "nfkd"
 NamesCommand Nfkc word = word ≡ codes "nfkc"
+NamesCommand IsNfd word = word ≡ codes "is-nfd"
+NamesCommand IsNfc word = word ≡ codes "is-nfc"
+NamesCommand IsNfkd word = word ≡ codes "is-nfkd"
+NamesCommand IsNfkc word = word ≡ codes "is-nfkc"
+NamesCommand WhereNfd word = word ≡ codes "where-nfd"
+NamesCommand WhereNfc word = word ≡ codes "where-nfc"
+NamesCommand WhereNfkd word = word ≡ codes "where-nfkd"
+NamesCommand WhereNfkc word = word ≡ codes "where-nfkc"
+NamesCommand Map word = word ≡ codes "map"
+NamesCommand Validate word = word ≡ codes "validate"
+NamesCommand Label word = word ≡ codes "label"
 
 -- two words: of a record set, and of a command
 abbrev pub AsksFor : List (List ℕ) → RecordSet → Command → Type 0

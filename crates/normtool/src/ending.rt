@@ -2,8 +2,8 @@
 ghost use Rattle.std.specs.Prelude.{◌≡◌};
 ghost use Rattle.normtool.specs.Endings.{status_of, line_of};
 
-use icu_normalizer::DataError;
-use std::alloc::AllocError;
+use icu_normalizer::{DataError, NormalizeError};
+use std::alloc::{AllocError, AllocFailed};
 
 /// What a command answered.
 #[derive(Clone, Copy, Debug, PartialEq, Eq)]
@@ -37,6 +37,16 @@ impl From<AllocError> for ToolFault {
     }
 }
 
+impl<T: Drop> From<AllocFailed<T>> for ToolFault {
+    ghost use Rattle.normtool.specs.declared.ending.ToolFault.TheVariants.{Memory};
+
+    ghost from_gives = { λ _ fault. fault ≡ Memory };
+
+    fn from(_error: AllocFailed<T>) -> ToolFault {
+        ToolFault::Memory
+    }
+}
+
 impl From<DataError> for ToolFault {
     ghost use Rattle.normtool.specs.Faults.{fault_of};
 
@@ -47,6 +57,17 @@ impl From<DataError> for ToolFault {
             DataError::Memory => ToolFault::Memory,
             _ => ToolFault::Data,
         }
+    }
+}
+
+// A call that writes to no sink, or to a text in memory, faults only for want of memory.
+impl From<NormalizeError> for ToolFault {
+    ghost use Rattle.normtool.specs.declared.ending.ToolFault.TheVariants.{Memory};
+
+    ghost from_gives = { λ _ fault. fault ≡ Memory };
+
+    fn from(_error: NormalizeError) -> ToolFault {
+        ToolFault::Memory
     }
 }
 

@@ -1,22 +1,26 @@
-//! The program `normtool`: it reads bytes from standard input, normalizes the text that they decode to, and writes it to
-//! standard output as UTF-8.
+//! The program `normtool`: it reads bytes from standard input, and writes a normal form of the text that they decode
+//! to, tells whether they are their own form or where they first are not, or maps the text for domain names.
 #![tactic(auto)]
 
 mod building;
+mod characters;
 mod device;
-mod encoded;
 mod ending;
+mod mapping;
 #[cfg(test)]
 mod memory;
 mod normalizer;
 mod program;
+mod reply;
 mod run;
 mod set_run;
 mod standard;
+mod task;
 #[cfg(test)]
 mod tests;
 mod transfer;
 mod words;
+mod worker;
 
 pub use building::built;
 pub use device::{DeviceError, Source, Target};

@@ -1,24 +1,21 @@
-//! What makes the form that a command asks for.
-ghost use Rattle.std.specs.Prelude.{◌≡◌, ◌⊎◌, IfOk, IfErr, IsErrOf, string_bytes};
-ghost use Rattle.normal_forms.specs.Forms.{nfd, nfc};
-ghost use Rattle.normalizer_tables.specs.Characters.{own_reading};
-ghost use Rattle.normalizer_tables.specs.PairConditions.{composing_reading};
-ghost use Rattle.normalizer_calls.specs.Acceptance.{nfd_data, nfkd_data};
-ghost use Rattle.normalizer_calls.specs.Normalizers.{data_of};
-ghost use Rattle.normalizer_calls.specs.ComposingNormalizers.{composing_data_of, pairs_of};
-ghost use Rattle.normtool.specs.Forms.{MakesForm, LacksData, output_of};
-ghost use Rattle.normtool.specs.Normalizers.{form_by};
+//! Normalizers of any form.
+ghost use Rattle.std.specs.Prelude.{◌≡◌, ◌⊎◌, ◌↔◌, IfOk, IfErr, IsErrOf, IsTrue, string_bytes};
+ghost use Rattle.normalizer_text.specs.Encodings.{Encoding};
+ghost use Rattle.normalizer_input.specs.EncodedForm.{encoded_form};
+ghost use Rattle.normalizer_input.specs.InputCut.{IsInputNormalized};
+ghost use Rattle.normalizer_input.specs.InputOffence.{IsInputOffenceOf};
+ghost use Rattle.normtool.specs.Needs.{held_for_forms, kind_of, FormLacksData, IsReadBy};
+ghost use Rattle.normtool.specs.Normalizers.{kind_by, reading_by};
 
-use crate::encoded::encoded;
 use crate::ending::ToolFault;
-use crate::words::Command;
+use crate::task::NormalForm;
 use icu_normalizer::{
     ComposingNormalizer, DataProvider, DecomposingNormalizer, NormalizerNfcV1, NormalizerNfdDataV1,
-    NormalizerNfdTablesV1, NormalizerNfkdDataV1, NormalizerNfkdTablesV1, Utf8Chars,
+    NormalizerNfdTablesV1, NormalizerNfkdDataV1, NormalizerNfkdTablesV1, Offence,
 };
 use std::alloc::Global;
 
-/// A normalizer of one of the kinds that commands need.
+/// A normalizer of either kind.
 #[derive(Drop)]
 pub(crate) enum Normalizer {
     Decomposing(DecomposingNormalizer),
@@ -26,32 +23,43 @@ pub(crate) enum Normalizer {
 }
 
 impl Normalizer {
-    /// The normalizer that the command needs, over what the provider holds.
-    pub(crate) fn for_command<P>(provider: &P, command: Command) -> Result<Normalizer, ToolFault>
+    /// The normalizer to a form, over what the provider holds.
+    pub(crate) fn for_form<P>(provider: &P, form: NormalForm) -> Result<Normalizer, ToolFault>
     where
         P: DataProvider<NormalizerNfdDataV1>
             + DataProvider<NormalizerNfdTablesV1>
             + DataProvider<NormalizerNfkdDataV1>
             + DataProvider<NormalizerNfkdTablesV1>
             + DataProvider<NormalizerNfcV1>,
-        ensures ok { IfOk result (λ n. MakesForm command (record { canonical = nfd_data (⟦<P as DataProvider<NormalizerNfdDataV1>>⟧.held provider.now) (⟦<P as DataProvider<NormalizerNfdTablesV1>>⟧.held provider.now); compatibility = nfkd_data (⟦<P as DataProvider<NormalizerNfkdDataV1>>⟧.held provider.now) (⟦<P as DataProvider<NormalizerNfdTablesV1>>⟧.held provider.now) (⟦<P as DataProvider<NormalizerNfkdTablesV1>>⟧.held provider.now); pairs = ⟦<P as DataProvider<NormalizerNfcV1>>⟧.held provider.now }) (form_by n)) }
-        ensures data { IsErrOf result ToolFault.Data → LacksData command (record { canonical = nfd_data (⟦<P as DataProvider<NormalizerNfdDataV1>>⟧.held provider.now) (⟦<P as DataProvider<NormalizerNfdTablesV1>>⟧.held provider.now); compatibility = nfkd_data (⟦<P as DataProvider<NormalizerNfkdDataV1>>⟧.held provider.now) (⟦<P as DataProvider<NormalizerNfdTablesV1>>⟧.held provider.now) (⟦<P as DataProvider<NormalizerNfkdTablesV1>>⟧.held provider.now); pairs = ⟦<P as DataProvider<NormalizerNfcV1>>⟧.held provider.now }) }
+        ensures reading { IfOk result (λ n. IsReadBy form (held_for_forms
+            (⟦<P as DataProvider<NormalizerNfdDataV1>>⟧.held provider.now)
+            (⟦<P as DataProvider<NormalizerNfdTablesV1>>⟧.held provider.now)
+            (⟦<P as DataProvider<NormalizerNfkdDataV1>>⟧.held provider.now)
+            (⟦<P as DataProvider<NormalizerNfkdTablesV1>>⟧.held provider.now)
+            (⟦<P as DataProvider<NormalizerNfcV1>>⟧.held provider.now)) (reading_by n)) }
+        ensures kind { IfOk result (λ n. kind_by n ≡ kind_of form) }
+        ensures data { IsErrOf result ToolFault.Data → FormLacksData form (held_for_forms
+            (⟦<P as DataProvider<NormalizerNfdDataV1>>⟧.held provider.now)
+            (⟦<P as DataProvider<NormalizerNfdTablesV1>>⟧.held provider.now)
+            (⟦<P as DataProvider<NormalizerNfkdDataV1>>⟧.held provider.now)
+            (⟦<P as DataProvider<NormalizerNfkdTablesV1>>⟧.held provider.now)
+            (⟦<P as DataProvider<NormalizerNfcV1>>⟧.held provider.now)) }
         ensures errors { IfErr result (λ fault. (fault ≡ ToolFault.Data) ⊎ (fault ≡ ToolFault.Memory)) }
     {
-        match command {
-            Command::Nfd => {
+        match form {
+            NormalForm::Nfd => {
                 let normalizer = DecomposingNormalizer::try_new_nfd_unstable(provider)?;
                 Ok(Normalizer::Decomposing(normalizer))
             }
-            Command::Nfc => {
+            NormalForm::Nfc => {
                 let normalizer = ComposingNormalizer::try_new_nfc_unstable(provider)?;
                 Ok(Normalizer::Composing(normalizer))
             }
-            Command::Nfkd => {
+            NormalForm::Nfkd => {
                 let normalizer = DecomposingNormalizer::try_new_nfkd_unstable(provider)?;
                 Ok(Normalizer::Decomposing(normalizer))
             }
-            Command::Nfkc => {
+            NormalForm::Nfkc => {
                 let normalizer = ComposingNormalizer::try_new_nfkc_unstable(provider)?;
                 Ok(Normalizer::Composing(normalizer))
             }
@@ -59,45 +67,40 @@ impl Normalizer {
     }
 
     /// The UTF-8 of the form of the text that the bytes decode to.
-    pub(crate) fn output(&self, alloc: Global, bytes: &[u8]) -> Result<String, ToolFault>
-        ensures text { IfOk result (λ text. string_bytes text ≡ output_of (form_by self.now) bytes.now) }
+    pub(crate) fn form_of(&self, alloc: Global, bytes: &[u8]) -> Result<String, ToolFault>
+        ensures form { IfOk result (λ text. string_bytes text
+            ≡ encoded_form Encoding.Utf8 (reading_by self.now) (kind_by self.now) bytes.now) }
+        ensures errors { IfErr result (λ fault. fault ≡ ToolFault.Memory) }
+    {
+        let mut text = String::new(alloc);
+        match self {
+            Normalizer::Decomposing(n) => n.as_borrowed().normalize_utf8_to(bytes, &mut text)?,
+            Normalizer::Composing(n) => n.as_borrowed().normalize_utf8_to(bytes, &mut text)?,
+        }
+        Ok(text)
+    }
+
+    /// Whether the bytes are well-formed and their own form.
+    pub(crate) fn is_own_form(&self, bytes: &[u8]) -> Result<bool, ToolFault>
+        ensures own { IfOk result (λ own. IsTrue own
+            ↔ IsInputNormalized Encoding.Utf8 (reading_by self.now) (kind_by self.now) bytes.now) }
         ensures errors { IfErr result (λ fault. fault ≡ ToolFault.Memory) }
     {
         match self {
-            Normalizer::Decomposing(normalizer) => decomposed(alloc, normalizer, bytes),
-            Normalizer::Composing(normalizer) => composed(alloc, normalizer, bytes),
+            Normalizer::Decomposing(n) => Ok(n.as_borrowed().is_normalized_utf8(bytes)?),
+            Normalizer::Composing(n) => Ok(n.as_borrowed().is_normalized_utf8(bytes)?),
         }
     }
-}
 
-/// The UTF-8 of the decomposed form of the text that the bytes decode to.
-fn decomposed(
-    alloc: Global,
-    normalizer: &DecomposingNormalizer,
-    bytes: &[u8],
-) -> Result<String, ToolFault>
-    ensures text { IfOk result (λ text. string_bytes text ≡ output_of (nfd (own_reading (data_of normalizer.now))) bytes.now) }
-    ensures errors { IfErr result (λ fault. fault ≡ ToolFault.Memory) }
-{
-    let characters = Utf8Chars::new(bytes);
-    let Ok(characters) = normalizer.as_borrowed().normalize_iter(characters) else {
-        return Err(ToolFault::Memory);
-    };
-    encoded(alloc, characters)
-}
-
-/// The UTF-8 of the composed form of the text that the bytes decode to.
-fn composed(
-    alloc: Global,
-    normalizer: &ComposingNormalizer,
-    bytes: &[u8],
-) -> Result<String, ToolFault>
-    ensures text { IfOk result (λ text. string_bytes text ≡ output_of (nfc (composing_reading (composing_data_of normalizer.now) (pairs_of normalizer.now))) bytes.now) }
-    ensures errors { IfErr result (λ fault. fault ≡ ToolFault.Memory) }
-{
-    let characters = Utf8Chars::new(bytes);
-    let Ok(characters) = normalizer.as_borrowed().normalize_iter(characters) else {
-        return Err(ToolFault::Memory);
-    };
-    encoded(alloc, characters)
+    /// The first place at which the bytes are ill-formed or not their own form.
+    pub(crate) fn first_offence(&self, bytes: &[u8]) -> Result<Option<Offence>, ToolFault>
+        ensures offence { IfOk result (λ offence.
+            IsInputOffenceOf Encoding.Utf8 (reading_by self.now) (kind_by self.now) bytes.now offence) }
+        ensures errors { IfErr result (λ fault. fault ≡ ToolFault.Memory) }
+    {
+        match self {
+            Normalizer::Decomposing(n) => Ok(n.as_borrowed().first_offence_utf8(bytes)?),
+            Normalizer::Composing(n) => Ok(n.as_borrowed().first_offence_utf8(bytes)?),
+        }
+    }
 }

@@ -14,8 +14,8 @@ use crate::set_run::run_over;
 use crate::words::{USAGE, words};
 use std::alloc::Global;
 
-/// Does what the words after the program's name ask for. It gives the exit status, and the line for standard error without
-/// its line feed: empty where there is none. Words that ask for nothing leave both devices as they are.
+/// Does what the words after the program's name ask for. It gives the exit status, and the line for standard error
+/// without its line feed: empty where there is none. Words that ask for nothing leave both devices as they are.
 pub fn program<R: Source, W: Target>(
     alloc: Global,
     all: &[String],

@@ -17,7 +17,8 @@ pub fn run_over<R: Source, W: Target>(
     reader: &mut R,
     writer: &mut W,
 ) -> Result<Answer, ToolFault>
-    ensures outcome { IsOutcomeOver records command (R.left reader.old) (W.taken writer.old) (W.taken writer.new) result }
+    ensures outcome { IsOutcomeOver records command
+        (R.left reader.old) (W.taken writer.old) (W.taken writer.new) result }
     ensures read { IsErrOf result ToolFault.Read → R.refused reader.old reader.new }
     ensures write { IsErrOf result ToolFault.Write → W.refused writer.old writer.new }
     ensures unwritten { IfErr result (λ fault. fault ≢ ToolFault.Write → writer.new ≡ writer.old) }

@@ -19,8 +19,8 @@ impl<R: Read> Source for Input<R> {
     }
 }
 
-/// A writer as a target. It tells the bytes that the writer tells. A write that takes none, or is interrupted, counts as
-/// refused.
+/// A writer as a target. It tells the bytes that the writer tells. A write that takes none, or is interrupted, counts
+/// as refused.
 #[derive(Drop)]
 pub(crate) struct Output<W>(pub(crate) W);
 

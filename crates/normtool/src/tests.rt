@@ -6,7 +6,8 @@ use crate::{
 use icu_normalizer::{
     Built, CanonicalCompositions, DataError, DataMarkerInfo, DataProvider, DecompositionData,
     DecompositionTables, NormalizerNfcV1, NormalizerNfdDataV1, NormalizerNfdTablesV1,
-    NormalizerNfkdDataV1, NormalizerNfkdTablesV1,
+    NormalizerNfkdDataV1, NormalizerNfkdTablesV1, NormalizerUts46DataV1, Record, Records,
+    Uts46Record, Uts46Status,
 };
 use std::alloc::Global;
 
@@ -26,17 +27,32 @@ fn ask_for(alloc: Global, texts: [&str; 2], records: RecordSet, command: Command
     }
 }
 
+/// The commands by their names.
+const COMMANDS: [(&str, Command); 15] = [
+    ("nfd", Command::Nfd),
+    ("nfc", Command::Nfc),
+    ("nfkd", Command::Nfkd),
+    ("nfkc", Command::Nfkc),
+    ("is-nfd", Command::IsNfd),
+    ("is-nfc", Command::IsNfc),
+    ("is-nfkd", Command::IsNfkd),
+    ("is-nfkc", Command::IsNfkc),
+    ("where-nfd", Command::WhereNfd),
+    ("where-nfc", Command::WhereNfc),
+    ("where-nfkd", Command::WhereNfkd),
+    ("where-nfkc", Command::WhereNfkc),
+    ("map", Command::Map),
+    ("validate", Command::Validate),
+    ("label", Command::Label),
+];
+
 #[test]
 fn two_words_ask_for_a_command(rt: HostRuntime) {
     let alloc = rt.alloc();
-    assert!(rt; ask_for(alloc, ["rows", "nfd"], RecordSet::Rows, Command::Nfd));
-    assert!(rt; ask_for(alloc, ["rows", "nfc"], RecordSet::Rows, Command::Nfc));
-    assert!(rt; ask_for(alloc, ["rows", "nfkd"], RecordSet::Rows, Command::Nfkd));
-    assert!(rt; ask_for(alloc, ["rows", "nfkc"], RecordSet::Rows, Command::Nfkc));
-    assert!(rt; ask_for(alloc, ["none", "nfd"], RecordSet::Nothing, Command::Nfd));
-    assert!(rt; ask_for(alloc, ["none", "nfc"], RecordSet::Nothing, Command::Nfc));
-    assert!(rt; ask_for(alloc, ["none", "nfkd"], RecordSet::Nothing, Command::Nfkd));
-    assert!(rt; ask_for(alloc, ["none", "nfkc"], RecordSet::Nothing, Command::Nfkc));
+    for (name, command) in COMMANDS {
+        assert!(rt; ask_for(alloc, ["rows", name], RecordSet::Rows, command));
+        assert!(rt; ask_for(alloc, ["none", name], RecordSet::Nothing, command));
+    }
 }
 
 fn ask_for_nothing(alloc: Global, texts: &[&str]) -> bool {
@@ -57,6 +73,8 @@ fn other_words_ask_for_nothing(rt: HostRuntime) {
     assert!(rt; ask_for_nothing(alloc, &["rows", ""]));
     assert!(rt; ask_for_nothing(alloc, &["none", "none"]));
     assert!(rt; ask_for_nothing(alloc, &["rows", "nfdd"]));
+    assert!(rt; ask_for_nothing(alloc, &["rows", "is-"]));
+    assert!(rt; ask_for_nothing(alloc, &["rows", "where-label"]));
 }
 
 fn ends_with(outcome: Result<Answer, ToolFault>, status: u8, line: &str) -> bool {
@@ -109,15 +127,22 @@ fn a_refused_call_ends_the_transfer(rt: HostRuntime) {
     assert!(rt; page.bytes.as_slice() == b"front a".as_slice());
 }
 
-/// Whether the command writes this output for the input, and ends well.
-fn is_output(alloc: Global, data: &Built, command: Command, input: &[u8], output: &[u8]) -> bool {
+/// Whether the command answers this, and writes this output for the input.
+fn is_reply(
+    alloc: Global,
+    data: &Built,
+    command: Command,
+    input: &[u8],
+    answer: Answer,
+    output: &[u8],
+) -> bool {
     let mut page = Page::new(alloc, output.len());
     let outcome = run(alloc, data, command, &mut Pieces::of(input), &mut page);
-    outcome == Ok(Answer::Done) && page.bytes.as_slice() == output
+    outcome == Ok(answer) && page.bytes.as_slice() == output
 }
 
-/// A command, an input and its output.
-type Run = (Command, &'static [u8], &'static [u8]);
+/// A command, an input, its answer and its output.
+type Run = (Command, &'static [u8], Answer, &'static [u8]);
 
 /// The place of the first run over the record set with another output, or how many runs there are.
 fn first_other(alloc: Global, records: RecordSet, runs: &[Run]) -> usize {
@@ -125,8 +150,8 @@ fn first_other(alloc: Global, records: RecordSet, runs: &[Run]) -> usize {
         return 0;
     };
     for place in 0..runs.len() {
-        let (command, input, output) = runs[place];
-        if !is_output(alloc, &data, command, input, output) {
+        let (command, input, answer, output) = runs[place];
+        if !is_reply(alloc, &data, command, input, answer, output) {
             return place;
         }
     }
@@ -134,63 +159,102 @@ fn first_other(alloc: Global, records: RecordSet, runs: &[Run]) -> usize {
 }
 
 const RUNS: [Run; 23] = [
-    (Command::Nfd, b"\xE1\xBB\x87", b"\x65\xCC\xA3\xCC\x82"),
-    (Command::Nfd, b"\xCC\x88\xCC\xA3", b"\xCC\xA3\xCC\x88"),
-    (Command::Nfd, b"\xFF\xC3\xA4", b"\xEF\xBF\xBD\x61\xCC\x88"),
+    (
+        Command::Nfd,
+        b"\xE1\xBB\x87",
+        Answer::Done,
+        b"\x65\xCC\xA3\xCC\x82",
+    ),
+    (
+        Command::Nfd,
+        b"\xCC\x88\xCC\xA3",
+        Answer::Done,
+        b"\xCC\xA3\xCC\x88",
+    ),
+    (
+        Command::Nfd,
+        b"\xFF\xC3\xA4",
+        Answer::Done,
+        b"\xEF\xBF\xBD\x61\xCC\x88",
+    ),
     (
         Command::Nfd,
         b"\xEA\xB0\x81",
+        Answer::Done,
         b"\xE1\x84\x80\xE1\x85\xA1\xE1\x86\xA8",
     ),
-    (Command::Nfd, b"", b""),
-    (Command::Nfd, b"as it is", b"as it is"),
-    (Command::Nfd, b"\xC3\xAA\xCC\xA3", b"\x65\xCC\xA3\xCC\x82"),
-    (Command::Nfc, b"\x65\xCC\x82\xCC\xA3", b"\xE1\xBB\x87"),
-    (Command::Nfc, b"\x65\xCC\x82\xCC\x82", b"\xC3\xAA\xCC\x82"),
+    (Command::Nfd, b"", Answer::Done, b""),
+    (Command::Nfd, b"as it is", Answer::Done, b"as it is"),
+    (
+        Command::Nfd,
+        b"\xC3\xAA\xCC\xA3",
+        Answer::Done,
+        b"\x65\xCC\xA3\xCC\x82",
+    ),
+    (
+        Command::Nfc,
+        b"\x65\xCC\x82\xCC\xA3",
+        Answer::Done,
+        b"\xE1\xBB\x87",
+    ),
+    (
+        Command::Nfc,
+        b"\x65\xCC\x82\xCC\x82",
+        Answer::Done,
+        b"\xC3\xAA\xCC\x82",
+    ),
     (
         Command::Nfc,
         b"\x61\xCC\x82\xCC\x88",
+        Answer::Done,
         b"\x61\xCC\x82\xCC\x88",
     ),
     (
         Command::Nfc,
         b"\xE1\x84\x80\xE1\x85\xA1\xE1\x86\xA8",
+        Answer::Done,
         b"\xEA\xB0\x81",
     ),
     (
         Command::Nfc,
         b"\xEA\xB0\x80\xE1\x86\xA7",
+        Answer::Done,
         b"\xEA\xB0\x80\xE1\x86\xA7",
     ),
-    (Command::Nfc, b"\xCC\x88\x61", b"\xCC\x88\x61"),
-    (Command::Nfc, b"", b""),
+    (Command::Nfc, b"\xCC\x88\x61", Answer::Done, b"\xCC\x88\x61"),
+    (Command::Nfc, b"", Answer::Done, b""),
     (
         Command::Nfc,
         b"\xFF\x61\xCC\x88\xFF",
+        Answer::Done,
         b"\xEF\xBF\xBD\xC3\xA4\xEF\xBF\xBD",
     ),
-    (Command::Nfkd, b"\xEF\xAC\x81", b"\x66\x69"),
-    (Command::Nfkc, b"\xEF\xAC\x81", b"\x66\x69"),
-    (Command::Nfd, b"\xEF\xAC\x81", b"\xEF\xAC\x81"),
-    (Command::Nfc, b"\xEF\xAC\x81", b"\xEF\xAC\x81"),
+    (Command::Nfkd, b"\xEF\xAC\x81", Answer::Done, b"\x66\x69"),
+    (Command::Nfkc, b"\xEF\xAC\x81", Answer::Done, b"\x66\x69"),
+    (Command::Nfd, b"\xEF\xAC\x81", Answer::Done, b"\xEF\xAC\x81"),
+    (Command::Nfc, b"\xEF\xAC\x81", Answer::Done, b"\xEF\xAC\x81"),
     (
         Command::Nfkd,
         b"\xE1\xBB\x87\xEF\xBE\x9E",
+        Answer::Done,
         b"\x65\xE3\x82\x99\xCC\xA3\xCC\x82",
     ),
     (
         Command::Nfkc,
         b"\xE1\xBB\x87\xEF\xBE\x9E",
+        Answer::Done,
         b"\xE1\xBB\x87\xE3\x82\x99",
     ),
     (
         Command::Nfc,
         b"\xE1\xBB\x87\xEF\xBE\x9E",
+        Answer::Done,
         b"\xE1\xBB\x87\xEF\xBE\x9E",
     ),
     (
         Command::Nfkc,
         b"\xE1\x84\x80\xE1\x85\xA1\xE1\x86\xA8",
+        Answer::Done,
         b"\xEA\xB0\x81",
     ),
 ];
@@ -200,9 +264,228 @@ fn texts_are_put_into_forms(rt: HostRuntime) {
     assert_eq!(rt; first_other(rt.alloc(), RecordSet::Rows, &RUNS), RUNS.len());
 }
 
+const CHECKS: [Run; 13] = [
+    (Command::IsNfc, b"\x61\xCC\x88", Answer::No, b""),
+    (Command::IsNfc, b"\xC3\xA4\xCC\xA7", Answer::Done, b""),
+    (Command::IsNfc, b"\xC3\xA4", Answer::Done, b""),
+    (Command::IsNfd, b"\xC3\xA4", Answer::No, b""),
+    (Command::IsNfd, b"\x61\xCC\x88", Answer::Done, b""),
+    (Command::IsNfc, b"\xFF", Answer::No, b""),
+    (Command::IsNfd, b"\xFF", Answer::No, b""),
+    (Command::IsNfc, b"\xEF\xBF\xBD", Answer::Done, b""),
+    (Command::IsNfd, b"", Answer::Done, b""),
+    (Command::IsNfkc, b"", Answer::Done, b""),
+    (Command::IsNfc, b"\xEF\xAC\x81", Answer::Done, b""),
+    (Command::IsNfkc, b"\xEF\xAC\x81", Answer::No, b""),
+    (Command::IsNfkd, b"\xEF\xAC\x81", Answer::No, b""),
+];
+
+#[test]
+fn forms_are_checked(rt: HostRuntime) {
+    assert_eq!(rt;
+        first_other(rt.alloc(), RecordSet::Rows, &CHECKS),
+        CHECKS.len()
+    );
+}
+
+const OFFENCES: [Run; 13] = [
+    (
+        Command::WhereNfc,
+        b"\x61\xCC\x88",
+        Answer::No,
+        b"0 0061 00e4\n",
+    ),
+    (
+        Command::WhereNfc,
+        b"\xC3\xA4\xCC\xA7\xCC\x88\xCC\xA3",
+        Answer::No,
+        b"4 0308 0323\n",
+    ),
+    (
+        Command::WhereNfd,
+        b"\x61\xE1\xBB\x87",
+        Answer::No,
+        b"1 1ec7 0065\n",
+    ),
+    (
+        Command::WhereNfd,
+        b"\x61\xCC\x88\xCC\xA3",
+        Answer::No,
+        b"1 0308 0323\n",
+    ),
+    (
+        Command::WhereNfd,
+        b"\x61\xCC\x88\xCC\xA3\xCC\xA7",
+        Answer::No,
+        b"1 0308 0327\n",
+    ),
+    (
+        Command::WhereNfc,
+        b"\xE2\x84\xAB",
+        Answer::No,
+        b"0 212b 00c5\n",
+    ),
+    (
+        Command::WhereNfc,
+        b"\x61\xEF\xBF\xBD\xFF\x62",
+        Answer::No,
+        b"4 fffd fffd\n",
+    ),
+    (
+        Command::WhereNfd,
+        b"\xF0\x9D\x85\x9E",
+        Answer::No,
+        b"0 1d15e 1d157\n",
+    ),
+    (
+        Command::WhereNfkc,
+        b"\xEF\xAC\x81",
+        Answer::No,
+        b"0 fb01 0066\n",
+    ),
+    (
+        Command::WhereNfkd,
+        b"\xEF\xAC\x81",
+        Answer::No,
+        b"0 fb01 0066\n",
+    ),
+    (Command::WhereNfc, b"\xEF\xAC\x81", Answer::Done, b""),
+    (Command::WhereNfc, b"\xC3\xA4\xCC\xA7", Answer::Done, b""),
+    (Command::WhereNfc, b"", Answer::Done, b""),
+];
+
+#[test]
+fn offences_are_told(rt: HostRuntime) {
+    assert_eq!(rt;
+        first_other(rt.alloc(), RecordSet::Rows, &OFFENCES),
+        OFFENCES.len()
+    );
+}
+
+/// Whether the command tells an offence with this line, of a letter with so many times two marks out of order.
+fn is_long_offence(alloc: Global, data: &Built, command: Command, line: &[u8]) -> bool {
+    let Some(marks) = repeated(alloc, b"\xCC\x88\xCC\xA3", 2000) else {
+        return false;
+    };
+    let mut input = Vec::new(alloc);
+    if input.push(b'a').is_err() || input.extend_from_slice(&marks).is_err() {
+        return false;
+    }
+    is_reply(alloc, data, command, &input, Answer::No, line)
+}
+
+#[test]
+fn offences_of_long_runs_are_told(rt: HostRuntime) {
+    let alloc = rt.alloc();
+    let Ok(data) = built(alloc, RecordSet::Rows) else {
+        panic!(rt; "no data are built");
+    };
+    assert!(rt; is_long_offence(alloc, &data, Command::WhereNfd, b"1 0308 0323\n"));
+    assert!(rt; is_long_offence(alloc, &data, Command::WhereNfc, b"0 0061 00e4\n"));
+}
+
+const MAPPINGS: [Run; 11] = [
+    (
+        Command::Map,
+        b"\x61\xE1\xA0\x8B\xCC\x88",
+        Answer::Done,
+        b"\xC3\xA4",
+    ),
+    (
+        Command::Validate,
+        b"\x61\xE1\xA0\x8B\xCC\x88",
+        Answer::Done,
+        b"\x61\xEF\xBF\xBD\xCC\x88",
+    ),
+    (Command::Map, b"\xCD\x85", Answer::Done, b"\xCE\xB9"),
+    (Command::Map, b"\x41\xCC\x88", Answer::Done, b"\xC3\xA4"),
+    (Command::Map, b"\xD8\x9C", Answer::Done, b"\xEF\xBF\xBD"),
+    (Command::Map, b"\xEF\xAC\x81", Answer::Done, b"\x66\x69"),
+    (Command::Map, b"", Answer::Done, b""),
+    (
+        Command::Label,
+        b"\x41\xCC\x88\x2E\x62\x2E\xD8\x9C",
+        Answer::No,
+        b"\xC3\xA4\x0A\x62\x0A",
+    ),
+    (Command::Label, b"", Answer::Done, b"\x0A"),
+    (
+        Command::Label,
+        b"\x61\x2E\x2E\x62",
+        Answer::Done,
+        b"\x61\x0A\x0A\x62\x0A",
+    ),
+    (
+        Command::Label,
+        b"\x61\x2E\xCC\x88",
+        Answer::Done,
+        b"\x61\x0A\xCC\x88\x0A",
+    ),
+];
+
+#[test]
+fn texts_are_mapped(rt: HostRuntime) {
+    assert_eq!(rt;
+        first_other(rt.alloc(), RecordSet::Rows, &MAPPINGS),
+        MAPPINGS.len()
+    );
+}
+
+/// Data by which mapping gives a letter with diaeresis, that validation maps to another letter.
+fn unsteady(alloc: Global) -> Option<Built> {
+    let mapping = ['\u{61}', '\u{308}'].to_vec(alloc).ok()?;
+    let mut records = Vec::new(alloc);
+    records.push(record('\u{E4}', 0, mapping)).ok()?;
+    records.push(record('\u{308}', 230, Vec::new(alloc))).ok()?;
+    let mut mapper = Vec::new(alloc);
+    let status = Uts46Status::Mapped(['\u{62}'].to_vec(alloc).ok()?);
+    mapper
+        .push(Uts46Record {
+            c: '\u{E4}',
+            status,
+        })
+        .ok()?;
+    Records::build(alloc, &records, &mapper).ok()
+}
+
+/// A record with a canonical mapping, or with none where it is empty.
+fn record(c: char, class: u8, mapping: Vec<char>) -> Record {
+    Record {
+        c,
+        class,
+        mapping,
+        compatibility: false,
+        excluded: false,
+    }
+}
+
+// What mapping gives is not always what validation gives back.
+#[test]
+fn a_field_that_validation_changes_is_not_kept(rt: HostRuntime) {
+    let alloc = rt.alloc();
+    let data = unsteady(alloc);
+    assert!(rt;
+        data.is_some_and(|data| {
+            is_reply(
+                alloc,
+                &data,
+                Command::Label,
+                b"\x61\xCC\x88",
+                Answer::No,
+                b""
+            )
+        })
+    );
+}
+
 const RUNS_WITHOUT_RECORDS: [Run; 2] = [
-    (Command::Nfd, b"\xE1\xBB\x87", b"\xE1\xBB\x87"),
-    (Command::Nfkc, b"\x61\xCC\x88", b"\x61\xCC\x88"),
+    (Command::Nfd, b"\xE1\xBB\x87", Answer::Done, b"\xE1\xBB\x87"),
+    (
+        Command::Nfkc,
+        b"\x61\xCC\x88",
+        Answer::Done,
+        b"\x61\xCC\x88",
+    ),
 ];
 
 // Without records nothing but Hangul syllables is replaced, and no mark is known.
@@ -229,7 +512,7 @@ fn letters_are_decomposed(alloc: Global, data: &Built, count: usize) -> bool {
     let Some(output) = repeated(alloc, b"\x61\xCC\x88", count) else {
         return false;
     };
-    is_output(alloc, data, Command::Nfd, &input, &output)
+    is_reply(alloc, data, Command::Nfd, &input, Answer::Done, &output)
 }
 
 // Input and output are larger than a chunk of 8,192 bytes.
@@ -302,6 +585,16 @@ impl DataProvider<NormalizerNfdDataV1> for WithTables {
     }
 }
 
+impl DataProvider<NormalizerUts46DataV1> for WithTables {
+    ghost use Rattle.std.specs.Prelude.{Some};
+
+    ghost held = { λ p. Some p.data.packed.mapper };
+
+    fn load(&self) -> Result<DecompositionData, DataError> {
+        <Built as DataProvider<NormalizerUts46DataV1>>::load(&self.data)
+    }
+}
+
 impl DataProvider<NormalizerNfdTablesV1> for WithTables {
     ghost held = { λ p. p.tables };
 
@@ -357,10 +650,9 @@ fn no_command_runs(alloc: Global, tables: Option<DecompositionTables>) -> bool {
         return false;
     };
     let provider = WithTables { data, tables };
-    lacks_data(alloc, &provider, Command::Nfd)
-        && lacks_data(alloc, &provider, Command::Nfc)
-        && lacks_data(alloc, &provider, Command::Nfkd)
-        && lacks_data(alloc, &provider, Command::Nfkc)
+    COMMANDS
+        .iter()
+        .all(|(_, command)| lacks_data(alloc, &provider, *command))
 }
 
 // Data that are missing, or that break a condition, are told before anything is read.

@@ -27,6 +27,28 @@ pub enum Command {
     Nfkd,
     /// Normalization Form KC.
     Nfkc,
+    /// Whether the input is its own Normalization Form D.
+    IsNfd,
+    /// Whether the input is its own Normalization Form C.
+    IsNfc,
+    /// Whether the input is its own Normalization Form KD.
+    IsNfkd,
+    /// Whether the input is its own Normalization Form KC.
+    IsNfkc,
+    /// Where the input first is not its own Normalization Form D.
+    WhereNfd,
+    /// Where the input first is not its own Normalization Form C.
+    WhereNfc,
+    /// Where the input first is not its own Normalization Form KD.
+    WhereNfkd,
+    /// Where the input first is not its own Normalization Form KC.
+    WhereNfkc,
+    /// What mapping makes of the input (UTS #46, section 4).
+    Map,
+    /// The same with U+FFFD for each ignored character.
+    Validate,
+    /// The fields of the mapped input that are valid, each on a line.
+    Label,
 }
 
 impl RecordSet {
@@ -58,6 +80,17 @@ impl Command {
             "nfc" => Some(Command::Nfc),
             "nfkd" => Some(Command::Nfkd),
             "nfkc" => Some(Command::Nfkc),
+            "is-nfd" => Some(Command::IsNfd),
+            "is-nfc" => Some(Command::IsNfc),
+            "is-nfkd" => Some(Command::IsNfkd),
+            "is-nfkc" => Some(Command::IsNfkc),
+            "where-nfd" => Some(Command::WhereNfd),
+            "where-nfc" => Some(Command::WhereNfc),
+            "where-nfkd" => Some(Command::WhereNfkd),
+            "where-nfkc" => Some(Command::WhereNfkc),
+            "map" => Some(Command::Map),
+            "validate" => Some(Command::Validate),
+            "label" => Some(Command::Label),
             _ => None,
         }
     }
