@@ -21,7 +21,8 @@ validated h x = nfc (mapper_reading h Replaced) x
 abbrev pub fields : List ℕ → List (List ℕ)
 fields x = slice_split (λ c. c == 0x2E) x
 
--- the field holds no U+FFFD, and validation gives it back
+-- the field holds no U+FFFD, and validation gives it back (bytes_eq tells of any two lists of numbers whether they are
+-- the same)
 abbrev pub is_kept : MapperData → List ℕ → Bool
 is_kept h field = not (list_any (λ c. c == 0xFFFD) field) && bytes_eq (validated h field) field
 
