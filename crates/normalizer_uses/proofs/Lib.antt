@@ -1,4 +1,5 @@
 pub mod AcceptedData
+pub mod CallerLemmas
 pub mod FormsOfData
 pub mod LastLemmas
 pub mod RecordedLaws

@@ -23,6 +23,12 @@ ghost use Rattle.normalizer_iterators.specs.Items.{SpellsOk, SpellsUnless};
 ghost use Rattle.normalizer_uses.specs.Last.{last_of};
 
 mod by_records;
+pub mod growing;
+pub mod identifiers;
+pub mod keys;
+pub mod labels;
+pub mod reports;
+pub mod shaping;
 pub mod sinks;
 
 pub use by_records::{NormalForm, form_by_records, what_is_built_suits_the_laws};
