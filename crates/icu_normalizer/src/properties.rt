@@ -1,4 +1,5 @@
-//! Properties of characters: canonical combining classes, the pairs that compose, and one step of canonical decomposition.
+//! Properties of characters: canonical combining classes, the pairs that compose, and one step of canonical
+//! decomposition.
 pub use normalizer_properties::{
     CanonicalCombiningClass, CanonicalCombiningClassMap, CanonicalCombiningClassMapBorrowed,
     CanonicalComposition, CanonicalCompositionBorrowed, CanonicalDecomposition,
