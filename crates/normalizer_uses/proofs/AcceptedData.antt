@@ -6,8 +6,7 @@ use Rattle.normalizer_tables.specs.declared.provider.DataError.TheVariants as er
 use Rattle.normalizer_tables.specs.declared.provider.DataMarkerInfo.{DataMarkerInfo}
 use Rattle.normalizer_tables.specs.AcceptedData.{composing_conditions, decomposing_conditions, pair_conditions}
 use Rattle.normalizer_tables.specs.Characters.{Characters}
-use Rattle.normalizer_tables.specs.Loaded.{IsMet, Loaded, characters_alone, characters_and_pairs}
-use Rattle.normalizer_tables.specs.Pairs.{Pair}
+use Rattle.normalizer_tables.specs.Loaded.{IsMet, characters_alone, characters_and_pairs}
 use Rattle.normalizer_tables.proofs.FailingLemmas.{IsFirstFailing-not_all}
 use Rattle.normalizer_tables.proofs.LoadedLemmas.{All-front}
 use Rattle.normalizer_calls.specs.Acceptance.{data_from, RefusesToDecompose}
@@ -15,7 +14,6 @@ use Rattle.normalizer_calls.specs.ComposingAcceptance.{RefusesToCompose}
 use Rattle.normalizer_packing.specs.declared.Packed.{Packed}
 use Rattle.normalizer_builder.specs.Demands.{loaded_of}
 use Rattle.normalizer_builder.specs.Fitness.{IsFirstUnfit}
-use Rattle.normalizer_packing.specs.declared.entry.Kind.{Kind}
 use Rattle.normalizer_packing.specs.declared.entry.Kind.TheVariants.{Canonical, Compatibility}
 use Rattle.normalizer_packing.specs.ReadBack.{characters_of}
 use Rattle.normalizer_builder.proofs.FitData.{fit_kind}

@@ -1,5 +1,5 @@
 -- What callers of the calls on text conclude from their contracts.
-use Rattle.std.proofs.Common.{◌≡◌, ℕ, ◌+◌, ◌≤◌, List, [], ◌∷◌, ◌++◌, length, take, drop, sym, ap, subst, ◌∙◌, arith, append-nil, length-append, take-append-drop}
+use Rattle.std.proofs.Common.{◌≡◌, ℕ, List, [], ◌∷◌, ◌++◌, length, take, drop, sym, ap, subst, ◌∙◌, arith, append-nil, length-append, take-append-drop}
 use Rattle.std.specs.Prelude.{◌↔◌, Bool, false, true, chars}
 use Rattle.std.specs.List.{Contains, IsAnyAnswer}
 use Rattle.std.proofs.Common.{eqb}
@@ -8,9 +8,9 @@ use Rattle.std.proofs.lemmas.List.Elements.{contains_decides, Decides-contains}
 use Rattle.std.specs.Str.{IsCharBoundary, IsUtf8}
 use Rattle.std.proofs.lemmas.Str.{chars-append, IsCharBoundary-from_take}
 use Rattle.std.proofs.Math.Seq.{take-append_seam, drop-append_seam}
-use Rattle.normal_forms.specs.Reading.{Reading, IsText}
+use Rattle.normal_forms.specs.Reading.{IsText}
 use Rattle.normal_forms.specs.declared.Form.TheVariants.{Composing}
-use Rattle.normal_forms.specs.Forms.{nfc, normal_form, IsNormalized}
+use Rattle.normal_forms.specs.Forms.{normal_form, IsNormalized}
 use Rattle.normal_forms.specs.Equivalence.{EquivalentTexts}
 use Rattle.normalizer_text.specs.Encodings.{Encoding}
 use Rattle.normalizer_text.proofs.EncodingRules.{IsDecoding-first}
