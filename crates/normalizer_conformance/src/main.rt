@@ -7,6 +7,7 @@ mod by_hand;
 mod comparison;
 mod fault;
 mod held;
+mod input;
 mod normalizers;
 mod questions;
 mod ranges;

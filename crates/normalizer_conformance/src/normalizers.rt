@@ -1,17 +1,29 @@
-//! The forms of texts, over data that are held.
+//! The normalizers over data that are held, and what their calls answer.
 use crate::fault::Fault;
 use crate::held::Held;
 use icu_normalizer::{
-    ComposingNormalizer, DataError, DecomposingNormalizer, Utf8Chars, Utf16Chars,
+    ComposingNormalizer, DataError, DecomposingNormalizer, NormalizeError, Offence, Utf8Chars,
+    Utf16Chars,
 };
 use normalizer_uses::{NormalForm, collected};
 use std::alloc::Global;
+use std::borrow::{CowSlice, CowStr};
 
 /// A normalizer of one of the two kinds.
 #[derive(Drop)]
 pub enum Normalizer {
     Decomposing(DecomposingNormalizer),
     Composing(ComposingNormalizer),
+}
+
+/// What a call of the normalizer answers, of whichever kind it is.
+macro_rules! called {
+    ($normalizer:expr, $call:ident($($argument:expr),*)) => {
+        match $normalizer {
+            Normalizer::Decomposing(normalizer) => normalizer.as_borrowed().$call($($argument),*),
+            Normalizer::Composing(normalizer) => normalizer.as_borrowed().$call($($argument),*),
+        }
+    };
 }
 
 impl Normalizer {
@@ -33,8 +45,8 @@ impl Normalizer {
         })
     }
 
-    /// The form of the text that bytes decode to.
-    pub fn form_of_bytes(&self, alloc: Global, bytes: &[u8]) -> Result<Vec<char>, Fault> {
+    /// The items of the form of what bytes decode to.
+    pub fn items_of_bytes(&self, alloc: Global, bytes: &[u8]) -> Result<Vec<char>, Fault> {
         let text = Utf8Chars::new(bytes);
         Ok(match self {
             Normalizer::Decomposing(normalizer) => {
@@ -46,8 +58,8 @@ impl Normalizer {
         })
     }
 
-    /// The form of the text that 16-bit units decode to.
-    pub fn form_of_units(&self, alloc: Global, units: &[u16]) -> Result<Vec<char>, Fault> {
+    /// The items of the form of what 16-bit units decode to.
+    pub fn items_of_units(&self, alloc: Global, units: &[u16]) -> Result<Vec<char>, Fault> {
         let text = Utf16Chars::new(units);
         Ok(match self {
             Normalizer::Decomposing(normalizer) => {
@@ -57,6 +69,85 @@ impl Normalizer {
                 collected(alloc, normalizer.as_borrowed().normalize_iter(text)?)?
             }
         })
+    }
+
+    pub fn normalize_to(&self, text: &str, form: &mut String) -> Result<(), NormalizeError> {
+        called!(self, normalize_to(text, form))
+    }
+
+    pub fn normalize_utf8_to(&self, bytes: &[u8], form: &mut String) -> Result<(), NormalizeError> {
+        called!(self, normalize_utf8_to(bytes, form))
+    }
+
+    pub fn normalize_utf16_to(
+        &self,
+        units: &[u16],
+        form: &mut Vec<u16>,
+    ) -> Result<(), NormalizeError> {
+        called!(self, normalize_utf16_to(units, form))
+    }
+
+    pub fn normalize<'t>(&self, text: &'t str) -> Result<CowStr<'t, Global>, NormalizeError> {
+        called!(self, normalize(text))
+    }
+
+    pub fn normalize_utf8<'t>(
+        &self,
+        bytes: &'t [u8],
+    ) -> Result<CowStr<'t, Global>, NormalizeError> {
+        called!(self, normalize_utf8(bytes))
+    }
+
+    pub fn normalize_utf16<'t>(
+        &self,
+        units: &'t [u16],
+    ) -> Result<CowSlice<'t, u16, Global>, NormalizeError> {
+        called!(self, normalize_utf16(units))
+    }
+
+    pub fn is_normalized(&self, text: &str) -> Result<bool, NormalizeError> {
+        called!(self, is_normalized(text))
+    }
+
+    pub fn is_normalized_utf8(&self, bytes: &[u8]) -> Result<bool, NormalizeError> {
+        called!(self, is_normalized_utf8(bytes))
+    }
+
+    pub fn is_normalized_utf16(&self, units: &[u16]) -> Result<bool, NormalizeError> {
+        called!(self, is_normalized_utf16(units))
+    }
+
+    pub fn split_normalized<'t>(
+        &self,
+        text: &'t str,
+    ) -> Result<(&'t str, &'t str), NormalizeError> {
+        called!(self, split_normalized(text))
+    }
+
+    pub fn split_normalized_utf8<'t>(
+        &self,
+        bytes: &'t [u8],
+    ) -> Result<(&'t str, &'t [u8]), NormalizeError> {
+        called!(self, split_normalized_utf8(bytes))
+    }
+
+    pub fn split_normalized_utf16<'t>(
+        &self,
+        units: &'t [u16],
+    ) -> Result<(&'t [u16], &'t [u16]), NormalizeError> {
+        called!(self, split_normalized_utf16(units))
+    }
+
+    pub fn first_offence(&self, text: &str) -> Result<Option<Offence>, NormalizeError> {
+        called!(self, first_offence(text))
+    }
+
+    pub fn first_offence_utf8(&self, bytes: &[u8]) -> Result<Option<Offence>, NormalizeError> {
+        called!(self, first_offence_utf8(bytes))
+    }
+
+    pub fn first_offence_utf16(&self, units: &[u16]) -> Result<Option<Offence>, NormalizeError> {
+        called!(self, first_offence_utf16(units))
     }
 
     /// What two characters compose to, of a normalizer that composes.

@@ -3,10 +3,13 @@ use crate::fault::Fault;
 use crate::setting::Setting;
 use std::alloc::Global;
 
+mod calls;
 mod data;
 mod decoding;
 mod forms;
+mod mapping;
 mod plain;
+mod properties;
 mod recorded;
 
 /// The answer to a question.
@@ -20,11 +23,21 @@ pub fn answer(
     };
     match *name {
         "nfd" | "nfc" | "nfkd" | "nfkc" => forms::form(alloc, setting, name, rest),
-        "compose" => forms::composite(alloc, setting, rest),
+        "is" => calls::is_own(alloc, setting, rest),
+        "split" => calls::split(alloc, setting, rest),
+        "offence" => calls::offence(alloc, setting, rest),
+        "owned" => calls::owned(alloc, setting, rest),
         "unchecked" => forms::unchecked(alloc, setting, rest),
         "by-records" => forms::by_records(alloc, setting, rest),
         "plain" => plain::form(alloc, setting, rest),
         "plain-cut" => plain::cut(alloc, setting, rest),
+        "map" => mapping::map(alloc, setting, rest),
+        "validate" => mapping::validate(alloc, setting, rest),
+        "virama" => mapping::is_virama(alloc, setting, rest),
+        "class" => properties::class(alloc, setting, rest),
+        "compose" => properties::composite(alloc, setting, rest),
+        "decompose" => properties::step(alloc, setting, rest),
+        "shaped" => properties::shaped(alloc, setting, rest),
         "decode" => decoding::decoded(alloc, rest),
         "head" => decoding::head(alloc, rest),
         "word" => data::word(alloc, setting, rest),

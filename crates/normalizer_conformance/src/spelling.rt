@@ -1,28 +1,49 @@
 //! Answers as rows write them.
 use crate::fault::Fault;
+use crate::words::push_word;
 use icu_normalizer::{BuildError, DataError};
 use std::alloc::Global;
 
-/// A character by its number, in at least four hexadecimal digits.
-pub fn spelled(alloc: Global, character: char) -> Result<String, Fault> {
-    Ok(format!(in alloc; "{:04X}", u32::from(character))?)
+/// What rows write by its number in hexadecimal digits.
+pub trait Spelled: Copy {
+    fn spelled(self, alloc: Global) -> Result<String, Fault>;
 }
 
-/// Characters with a space between each two.
-pub fn spelled_all(alloc: Global, characters: &[char]) -> Result<String, Fault> {
+impl Spelled for char {
+    fn spelled(self, alloc: Global) -> Result<String, Fault> {
+        Ok(format!(in alloc; "{:04X}", u32::from(self))?)
+    }
+}
+
+impl Spelled for u8 {
+    fn spelled(self, alloc: Global) -> Result<String, Fault> {
+        Ok(format!(in alloc; "{:02X}", self)?)
+    }
+}
+
+impl Spelled for u16 {
+    fn spelled(self, alloc: Global) -> Result<String, Fault> {
+        Ok(format!(in alloc; "{:04X}", self)?)
+    }
+}
+
+/// Characters, bytes or units with a space between each two.
+pub fn spelled_all<T: Spelled>(alloc: Global, all: &[T]) -> Result<String, Fault> {
     let mut text = String::new(alloc);
-    for character in characters {
-        push_character(alloc, &mut text, *character)?;
+    for one in all {
+        push_word(&mut text, one.spelled(alloc)?.as_str())?;
     }
     Ok(text)
 }
 
-fn push_character(alloc: Global, text: &mut String, character: char) -> Result<(), Fault> {
-    if !text.is_empty() {
-        text.push(' ')?;
-    }
-    text.push_str(spelled(alloc, character)?.as_str())?;
-    Ok(())
+/// The characters of a text.
+pub fn spelled_text(alloc: Global, text: &str) -> Result<String, Fault> {
+    let characters: Vec<char> = text.chars().collect(alloc)?;
+    spelled_all(alloc, &characters)
+}
+
+pub fn spelled_bool(alloc: Global, answer: bool) -> Result<String, Fault> {
+    Ok(String::from_str(alloc, if answer { "yes" } else { "no" })?)
 }
 
 /// What a constructor or a test of data answered.

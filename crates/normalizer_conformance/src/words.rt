@@ -48,7 +48,7 @@ pub fn joined(alloc: Global, words: &[&str]) -> Result<String, Fault> {
     Ok(text)
 }
 
-fn push_word(text: &mut String, word: &str) -> Result<(), Fault> {
+pub fn push_word(text: &mut String, word: &str) -> Result<(), Fault> {
     if !text.is_empty() {
         text.push(' ')?;
     }

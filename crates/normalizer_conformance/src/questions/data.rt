@@ -1,4 +1,4 @@
-//! `word nfd 00E4`, `cap nfd`: what data say. `try nfc`, `check nfd`: what a constructor or the test of data answers.
+//! `word nfd 00E4`, `cap nfd`: what data say. `try nfc`, `try mapper`, `check nfd`: what takes data answers.
 use crate::fault::Fault;
 use crate::held::Held;
 use crate::normalizers::Normalizer;
@@ -6,7 +6,11 @@ use crate::questions::forms::form_named;
 use crate::setting::Setting;
 use crate::spelling::acceptance;
 use crate::words::hexadecimal;
-use icu_normalizer::{CodePointTable, DecompositionData, check_nfd_data};
+use icu_normalizer::properties::{
+    CanonicalCombiningClassMap, CanonicalComposition, CanonicalDecomposition,
+};
+use icu_normalizer::uts46::Uts46Mapper;
+use icu_normalizer::{CodePointTable, DataError, DecompositionData, check_nfd_data};
 use std::alloc::Global;
 
 fn data_named<'a>(held: &'a Held, kind: &str) -> Result<&'a DecompositionData, Fault> {
@@ -53,8 +57,17 @@ pub fn constructed(
     let [name] = question else {
         return Err(Fault::Unreadable);
     };
-    let form = form_named(name)?;
-    acceptance(alloc, Normalizer::new(setting.held()?, form).err())
+    acceptance(alloc, refusal(setting.held()?, name)?)
+}
+
+fn refusal(held: &Held, name: &str) -> Result<Option<DataError>, Fault> {
+    Ok(match name {
+        "mapper" => Uts46Mapper::try_new(held).err(),
+        "pairs" => CanonicalComposition::try_new_unstable(held).err(),
+        "steps" => CanonicalDecomposition::try_new_unstable(held).err(),
+        "classes" => CanonicalCombiningClassMap::try_new_unstable(held).err(),
+        form => Normalizer::new(held, form_named(form)?).err(),
+    })
 }
 
 /// What the test of canonical data answers.

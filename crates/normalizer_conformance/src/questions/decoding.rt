@@ -1,28 +1,20 @@
-//! `decode bytes E2 98 E2 98 83`, `decode units D800 DC00`: the characters, asked from the front, from the back and from
-//! both in turn. `head E0 80 80`: the same of bytes, which also stand before 62, after 61 and between the two.
+//! `decode bytes E2 98 E2 98 83`, `decode units D800 DC00`, `decode 0061 0308`: the characters, from the front, from
+//! the back and in turn. `head E0 80 80`: the same of bytes, which also stand before 62, after 61 and between the two.
 use crate::fault::Fault;
+use crate::input::Input;
 use crate::spelling::spelled_all;
-use crate::words::{bytes, units};
+use crate::words::bytes;
 use normalizer_text::{Chars, Units};
 use std::alloc::{AllocError, Global};
 
-/// The characters that bytes or 16-bit units decode to.
+/// The characters that an input decodes to.
 pub fn decoded(alloc: Global, input: &[&str]) -> Result<String, Fault> {
-    match input {
-        [encoding, input @ ..] if *encoding == "bytes" => {
-            spelled_all(
-                alloc,
-                &from_everywhere(alloc, bytes(alloc, input)?.as_slice())?,
-            )
-        }
-        [encoding, input @ ..] if *encoding == "units" => {
-            spelled_all(
-                alloc,
-                &from_everywhere(alloc, units(alloc, input)?.as_slice())?,
-            )
-        }
-        _ => Err(Fault::Unreadable),
-    }
+    let characters = match Input::read(alloc, input)? {
+        Input::Text(text) => from_everywhere(alloc, text.as_str())?,
+        Input::Bytes(bytes) => from_everywhere(alloc, bytes.as_slice())?,
+        Input::Units(units) => from_everywhere(alloc, units.as_slice())?,
+    };
+    spelled_all(alloc, &characters)
 }
 
 /// The characters from the front, if they are the same from the back and from both in turn.
@@ -43,19 +35,25 @@ fn from_back<U: Units>(alloc: Global, units: U) -> Result<Vec<char>, AllocError>
     Ok(found)
 }
 
+/// The characters, taken from the front and from the back in turn and put between those that were taken before.
 fn in_turn<U: Units>(alloc: Global, units: U) -> Result<Vec<char>, AllocError> {
     let mut chars = Chars::new(units);
     let mut found = Vec::new(alloc);
-    let mut backs = Vec::new(alloc);
-    for _ in 0..units.len() {
-        let Some(front) = chars.next() else { break };
-        found.push(front)?;
-        let Some(back) = chars.next_back() else { break };
-        backs.push(back)?;
+    for place in 0..units.len() {
+        let Some(character) = next_in_turn(&mut chars, place) else {
+            break;
+        };
+        found.insert(found.len().div_ceil(2), character)?;
     }
-    backs.reverse();
-    found.extend_from_slice(&backs)?;
     Ok(found)
+}
+
+fn next_in_turn<U: Units>(chars: &mut Chars<U>, place: usize) -> Option<char> {
+    if place.is_multiple_of(2) {
+        chars.next()
+    } else {
+        chars.next_back()
+    }
 }
 
 /// What bytes decode to, if they do so in each place.

@@ -1,11 +1,12 @@
-//! `nfc 0061 0308`, `nfd bytes FF 61`, `nfc units 0061 D800`: the form of a text. Characters are asked as bytes and as
-//! 16-bit units. `compose 0061 0308`: what two characters compose to.
+//! `nfc 0061 0308`, `nfd bytes FF 61`, `nfc units 0061 D800`: the form of an input, by an iterator, written to a sink
+//! and handed out. Characters are asked in all three encodings.
 use crate::fault::Fault;
 use crate::held::Held;
+use crate::input::{Input, text, utf16};
 use crate::normalizers::Normalizer;
 use crate::setting::Setting;
-use crate::spelling::{spelled, spelled_all};
-use crate::words::{bytes, character, characters, units};
+use crate::spelling::{Spelled, spelled_all};
+use crate::words::character;
 use icu_normalizer::{Decomposition, check_nfd_data};
 use normalizer_uses::{NormalForm, collected, form_by_records, nfd_by_data};
 use std::alloc::Global;
@@ -20,76 +21,88 @@ pub fn form_named(name: &str) -> Result<NormalForm, Fault> {
     }
 }
 
-/// The form of a text.
+/// The form of an input.
 pub fn form(
     alloc: Global,
     setting: &mut Setting<'_>,
     name: &str,
-    text: &[&str],
+    input: &[&str],
 ) -> Result<String, Fault> {
     let normalizer = setting.normalizer(form_named(name)?)?;
-    spelled_all(alloc, &form_of_input(alloc, normalizer, text)?)
+    let form = match Input::read(alloc, input)? {
+        Input::Text(text) => form_of_text(alloc, normalizer, &text)?,
+        Input::Bytes(bytes) => form_of_bytes(alloc, normalizer, &bytes)?,
+        Input::Units(units) => form_of_units(alloc, normalizer, &units)?,
+    };
+    spelled_all(alloc, &form)
 }
 
-fn form_of_input(
-    alloc: Global,
-    normalizer: &Normalizer,
-    text: &[&str],
-) -> Result<Vec<char>, Fault> {
-    match text {
-        [encoding, input @ ..] if *encoding == "bytes" => {
-            normalizer.form_of_bytes(alloc, &bytes(alloc, input)?)
-        }
-        [encoding, input @ ..] if *encoding == "units" => {
-            normalizer.form_of_units(alloc, &units(alloc, input)?)
-        }
-        input => form_of_text(alloc, normalizer, &characters(alloc, input)?),
-    }
-}
-
-/// The form of characters, by bytes, if it is the same by 16-bit units.
-fn form_of_text(alloc: Global, normalizer: &Normalizer, text: &[char]) -> Result<Vec<char>, Fault> {
-    let by_bytes = normalizer.form_of_bytes(alloc, utf8(alloc, text)?.as_bytes())?;
-    let by_units = normalizer.form_of_units(alloc, &utf16(alloc, text)?)?;
-    if by_bytes.as_slice() == by_units.as_slice() {
-        Ok(by_bytes)
+/// A form, if other ways to ask give the same.
+fn agreed(form: Vec<char>, others_agree: bool) -> Result<Vec<char>, Fault> {
+    if others_agree {
+        Ok(form)
     } else {
         Err(Fault::Divided)
     }
 }
 
-fn utf8(alloc: Global, text: &[char]) -> Result<String, Fault> {
-    let mut all = String::new(alloc);
-    for character in text {
-        all.push(*character)?;
-    }
-    Ok(all)
+fn spell(text: &str, characters: &[char]) -> bool {
+    text.chars().eq(characters.iter().copied())
 }
 
-fn utf16(alloc: Global, text: &[char]) -> Result<Vec<u16>, Fault> {
+fn form_of_text(alloc: Global, normalizer: &Normalizer, text: &str) -> Result<Vec<char>, Fault> {
+    let form = form_of_bytes(alloc, normalizer, text.as_bytes())?;
+    let by_units = form_of_units(alloc, normalizer, &utf16(alloc, text)?)?;
+    let mut written = String::new(alloc);
+    normalizer.normalize_to(text, &mut written)?;
+    let handed_out = normalizer.normalize(text)?;
+    let others_agree = form.as_slice() == by_units.as_slice()
+        && spell(&written, &form)
+        && spell(&handed_out, &form);
+    agreed(form, others_agree)
+}
+
+fn form_of_bytes(alloc: Global, normalizer: &Normalizer, bytes: &[u8]) -> Result<Vec<char>, Fault> {
+    let form = normalizer.items_of_bytes(alloc, bytes)?;
+    let mut written = String::new(alloc);
+    normalizer.normalize_utf8_to(bytes, &mut written)?;
+    let handed_out = normalizer.normalize_utf8(bytes)?;
+    let others_agree = spell(&written, &form) && spell(&handed_out, &form);
+    agreed(form, others_agree)
+}
+
+fn form_of_units(
+    alloc: Global,
+    normalizer: &Normalizer,
+    units: &[u16],
+) -> Result<Vec<char>, Fault> {
+    let form = normalizer.items_of_units(alloc, units)?;
+    let encoded = encoded(alloc, &form)?;
+    let mut written = Vec::new(alloc);
+    normalizer.normalize_utf16_to(units, &mut written)?;
+    let handed_out = normalizer.normalize_utf16(units)?;
+    let others_agree = written.as_slice() == encoded.as_slice()
+        && handed_out.as_slice() == encoded.as_slice();
+    agreed(form, others_agree)
+}
+
+/// The UTF-16 of characters.
+fn encoded(alloc: Global, characters: &[char]) -> Result<Vec<u16>, Fault> {
     let mut all = Vec::new(alloc);
-    for character in text {
+    for character in characters {
         let mut units = [0; 2];
         all.extend_from_slice(character.encode_utf16(&mut units))?;
     }
     Ok(all)
 }
 
-/// What two characters compose to, or `none`.
-pub fn composite(alloc: Global, setting: &mut Setting<'_>, pair: &[&str]) -> Result<String, Fault> {
-    let [first, second] = pair else {
-        return Err(Fault::Unreadable);
-    };
-    let normalizer = setting.normalizer(NormalForm::Nfc)?;
-    match normalizer.composite(character(first)?, character(second)?)? {
-        Some(composite) => spelled(alloc, composite),
-        None => Ok(String::from_str(alloc, "none")?),
-    }
-}
-
 /// The NFD of a text by data that are tested once and then taken as they are.
-pub fn unchecked(alloc: Global, setting: &mut Setting<'_>, text: &[&str]) -> Result<String, Fault> {
-    let text = characters(alloc, text)?;
+pub fn unchecked(
+    alloc: Global,
+    setting: &mut Setting<'_>,
+    characters: &[&str],
+) -> Result<String, Fault> {
+    let text = text(alloc, characters)?;
     let held = setting.held()?;
     let by_normalizer = unchecked_form(alloc, held, &text)?;
     let by_iterator = unchecked_decomposition(alloc, held, &text)?;
@@ -100,20 +113,19 @@ pub fn unchecked(alloc: Global, setting: &mut Setting<'_>, text: &[&str]) -> Res
     }
 }
 
-fn unchecked_form(alloc: Global, held: &Held, text: &[char]) -> Result<Vec<char>, Fault> {
+fn unchecked_form(alloc: Global, held: &Held, text: &str) -> Result<Vec<char>, Fault> {
     let (Some(words), Some(tables)) = (&held.canonical, &held.tables) else {
         return Err(Fault::Unreadable);
     };
-    Ok(nfd_by_data(alloc, words, tables, utf8(alloc, text)?.as_bytes())?)
+    Ok(nfd_by_data(alloc, words, tables, text.as_bytes())?)
 }
 
-fn unchecked_decomposition(alloc: Global, held: &Held, text: &[char]) -> Result<Vec<char>, Fault> {
+fn unchecked_decomposition(alloc: Global, held: &Held, text: &str) -> Result<Vec<char>, Fault> {
     let (Some(words), Some(tables)) = (&held.canonical, &held.tables) else {
         return Err(Fault::Unreadable);
     };
     check_nfd_data(words, tables)?;
-    let text = utf8(alloc, text)?;
-    let items = Decomposition::new(text.as_str().chars(), words, tables)?;
+    let items = Decomposition::new(text.chars(), words, tables)?;
     Ok(collected(alloc, items)?)
 }
 
@@ -123,10 +135,10 @@ pub fn by_records(
     setting: &mut Setting<'_>,
     question: &[&str],
 ) -> Result<String, Fault> {
-    let [name, text @ ..] = question else {
+    let [name, characters @ ..] = question else {
         return Err(Fault::Unreadable);
     };
-    let text = utf8(alloc, &characters(alloc, text)?)?;
+    let text = text(alloc, characters)?;
     let (records, mapper) = (setting.records(), setting.mapper());
     match form_by_records(alloc, records, mapper, form_named(name)?, text.as_bytes()) {
         Ok(form) => spelled_all(alloc, &form),

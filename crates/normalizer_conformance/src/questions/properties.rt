@@ -1,0 +1,127 @@
+//! `class 0340 = 230`: the canonical combining class of a number. `decompose AC01 = expansion AC00 11A8`: one step of
+//! decomposition; `shaped 2126 = 03A9 0000`: what a shaper is told of it. `compose 0061 0308 = 00E4`: what two
+//! characters compose to. Each is asked in every way, of owned and of borrowed properties, and by the shaper traits.
+use crate::fault::Fault;
+use crate::setting::Setting;
+use crate::spelling::Spelled;
+use crate::words::{character, hexadecimal};
+use icu_normalizer::harfbuzz::{CombiningClassFunc, ComposeFunc, DecomposeFunc};
+use icu_normalizer::properties::{
+    CanonicalCombiningClass, CanonicalCombiningClassMap, CanonicalComposition,
+    CanonicalDecomposition, Decomposed,
+};
+use normalizer_uses::NormalForm;
+use std::alloc::Global;
+
+/// The class of a number.
+pub fn class(alloc: Global, setting: &mut Setting<'_>, question: &[&str]) -> Result<String, Fault> {
+    let [number] = question else {
+        return Err(Fault::Unreadable);
+    };
+    let number = hexadecimal(number)?;
+    let classes = CanonicalCombiningClassMap::try_new_unstable(setting.held()?)?;
+    let class = classes.as_borrowed().get32_u8(number);
+    if classes.as_borrowed().get32(number) == CanonicalCombiningClass(class)
+        && char::from_u32(number).is_none_or(|character| is_class(&classes, character, class))
+    {
+        Ok(format!(in alloc; "{class}")?)
+    } else {
+        Err(Fault::Divided)
+    }
+}
+
+fn is_class(classes: &CanonicalCombiningClassMap, character: char, class: u8) -> bool {
+    let borrowed = classes.as_borrowed();
+    borrowed.get(character) == CanonicalCombiningClass(class)
+        && borrowed.get_u8(character) == class
+        && is_told_class(classes, character, class)
+        && is_told_class(&classes, character, class)
+        && is_told_class(&borrowed, character, class)
+}
+
+fn is_told_class<C: CombiningClassFunc>(classes: &C, character: char, class: u8) -> bool {
+    classes.combining_class(character) == class
+}
+
+/// One step of the canonical decomposition of a character.
+pub fn step(alloc: Global, setting: &mut Setting<'_>, question: &[&str]) -> Result<String, Fault> {
+    let [digits] = question else {
+        return Err(Fault::Unreadable);
+    };
+    let steps = CanonicalDecomposition::try_new_unstable(setting.held()?)?;
+    match steps.as_borrowed().decompose(character(digits)?) {
+        Decomposed::Default => Ok(String::from_str(alloc, "default")?),
+        Decomposed::Singleton(a) => {
+            let a = a.spelled(alloc)?;
+            Ok(format!(in alloc; "singleton {a}")?)
+        }
+        Decomposed::Expansion(a, b) => {
+            let (a, b) = (a.spelled(alloc)?, b.spelled(alloc)?);
+            Ok(format!(in alloc; "expansion {a} {b}")?)
+        }
+    }
+}
+
+/// What a shaper is told of the step of a character.
+pub fn shaped(
+    alloc: Global,
+    setting: &mut Setting<'_>,
+    question: &[&str],
+) -> Result<String, Fault> {
+    let [digits] = question else {
+        return Err(Fault::Unreadable);
+    };
+    let steps = CanonicalDecomposition::try_new_unstable(setting.held()?)?;
+    let character = character(digits)?;
+    let mapping = told_step(&steps, character);
+    if told_step(&&steps, character) != mapping
+        || told_step(&steps.as_borrowed(), character) != mapping
+    {
+        return Err(Fault::Divided);
+    }
+    let Some((first, second)) = mapping else {
+        return Ok(String::from_str(alloc, "none")?);
+    };
+    let (first, second) = (first.spelled(alloc)?, second.spelled(alloc)?);
+    Ok(format!(in alloc; "{first} {second}")?)
+}
+
+fn told_step<D: DecomposeFunc>(steps: &D, character: char) -> Option<(char, char)> {
+    steps.decompose(character)
+}
+
+/// What two characters compose to, or `none`.
+pub fn composite(alloc: Global, setting: &mut Setting<'_>, pair: &[&str]) -> Result<String, Fault> {
+    let [first, second] = pair else {
+        return Err(Fault::Unreadable);
+    };
+    let (first, second) = (character(first)?, character(second)?);
+    let composite = setting
+        .normalizer(NormalForm::Nfc)?
+        .composite(first, second)?;
+    let pairs = CanonicalComposition::try_new_unstable(setting.held()?)?;
+    if !is_composite(&pairs, first, second, composite) {
+        return Err(Fault::Divided);
+    }
+    match composite {
+        Some(composite) => composite.spelled(alloc),
+        None => Ok(String::from_str(alloc, "none")?),
+    }
+}
+
+fn is_composite(
+    pairs: &CanonicalComposition,
+    first: char,
+    second: char,
+    composite: Option<char>,
+) -> bool {
+    let borrowed = pairs.as_borrowed();
+    borrowed.compose(first, second) == composite
+        && told_composite(pairs, first, second) == composite
+        && told_composite(&pairs, first, second) == composite
+        && told_composite(&borrowed, first, second) == composite
+}
+
+fn told_composite<C: ComposeFunc>(pairs: &C, first: char, second: char) -> Option<char> {
+    pairs.compose(first, second)
+}
