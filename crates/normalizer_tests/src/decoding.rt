@@ -1,4 +1,4 @@
-//! Ill-formed input in every place, from both ends, against values from outside: tables, and std's own decoding.
+//! Decoding from both ends: what is left, and short byte strings against std's own decoding.
 use crate::letters::{characters, spells};
 use normalizer_text::{Chars, Units, Utf8Chars, Utf16Chars};
 use std::alloc::Global;
@@ -63,113 +63,6 @@ fn decodes_to<U: Units>(alloc: Global, units: U, text: &str) -> bool {
             in_turn(alloc, units, units.len().saturating_add(1)),
             text,
         )
-}
-
-/// Three texts, one after the other.
-fn joined(alloc: Global, before: &str, text: &str, after: &str) -> Option<String> {
-    let mut joined = String::new(alloc);
-    joined.push_str(before).ok()?;
-    joined.push_str(text).ok()?;
-    joined.push_str(after).ok()?;
-    Some(joined)
-}
-
-/// Bytes between two texts.
-fn joined_bytes(alloc: Global, before: &str, bytes: &[u8], after: &str) -> Option<Vec<u8>> {
-    let mut joined = before.as_bytes().to_vec(alloc).ok()?;
-    joined.extend_from_slice(bytes).ok()?;
-    joined.extend_from_slice(after.as_bytes()).ok()?;
-    Some(joined)
-}
-
-/// Whether bytes decode to a text between these two.
-fn decodes_between(alloc: Global, before: &str, after: &str, bytes: &[u8], text: &str) -> bool {
-    let Some(text) = joined(alloc, before, text, after) else {
-        return false;
-    };
-    match joined_bytes(alloc, before, bytes, after) {
-        Some(bytes) => decodes_to(alloc, bytes.as_slice(), &text),
-        None => false,
-    }
-}
-
-/// Whether bytes decode to a text alone, before a letter, behind one and between two.
-fn decodes_anywhere(alloc: Global, bytes: &[u8], text: &str) -> bool {
-    decodes_between(alloc, "", "", bytes, text)
-        && decodes_between(alloc, "", "b", bytes, text)
-        && decodes_between(alloc, "a", "", bytes, text)
-        && decodes_between(alloc, "a", "b", bytes, text)
-}
-
-static BYTES: [(&[u8], &str); 19] = [
-    (b"\x80", "\u{FFFD}"),
-    (b"\xC2", "\u{FFFD}"),
-    (b"\xED\x9F", "\u{FFFD}"),
-    (b"\xE0\xA0", "\u{FFFD}"),
-    (b"\xF0\x90", "\u{FFFD}"),
-    (b"\xF0\x90\x80", "\u{FFFD}"),
-    (b"\xF4\x8F\xBF", "\u{FFFD}"),
-    (b"\xFF", "\u{FFFD}"),
-    (b"\xC0\x80", "\u{FFFD}\u{FFFD}"),
-    (b"\xC1\xBF", "\u{FFFD}\u{FFFD}"),
-    (b"\xF5\x80", "\u{FFFD}\u{FFFD}"),
-    (b"\xFE\xFF", "\u{FFFD}\u{FFFD}"),
-    (b"\xE0\x80\x80", "\u{FFFD}\u{FFFD}\u{FFFD}"),
-    (b"\xED\xA0\x80", "\u{FFFD}\u{FFFD}\u{FFFD}"),
-    (b"\xF0\x80\x80\x80", "\u{FFFD}\u{FFFD}\u{FFFD}\u{FFFD}"),
-    (b"\xF4\x90\x80\x80", "\u{FFFD}\u{FFFD}\u{FFFD}\u{FFFD}"),
-    (b"\xE2\x98\xE2\x98\x83", "\u{FFFD}\u{2603}"),
-    (b"\xF1\x80\x80\xC2\xA2", "\u{FFFD}\u{A2}"),
-    (
-        b"\x00\x7F\xC2\x80\xDF\xBF\xE0\xA0\x80\xEF\xBF\xBF\xF0\x90\x80\x80\xF4\x8F\xBF\xBF",
-        "\0\x7F\u{80}\u{7FF}\u{800}\u{FFFF}\u{10000}\u{10FFFF}",
-    ),
-];
-
-/// The first row whose bytes decode to another text.
-fn wrong_bytes(alloc: Global) -> Option<usize> {
-    BYTES
-        .iter()
-        .position(|row| !decodes_anywhere(alloc, row.0, row.1))
-}
-
-#[test]
-fn bytes_decode_as_the_tables_say(rt: HostRuntime) {
-    assert_eq!(rt; wrong_bytes(rt.alloc()), None);
-}
-
-static UNITS: [(&[u16], &str); 6] = [
-    (&[0xD800, 0xD800, 0xDC00], "\u{FFFD}\u{10000}"),
-    (&[0xDC00, 0xD800], "\u{FFFD}\u{FFFD}"),
-    (&[0xDBFF, 0xDFFF], "\u{10FFFF}"),
-    (&[0xD834, 0xDD57, 0xD834], "\u{1D157}\u{FFFD}"),
-    (&[0x61, 0xD800, 0x308, 0xD800], "a\u{FFFD}\u{308}\u{FFFD}"),
-    (
-        &[0xD7FF, 0xDFFF, 0xE000, 0xFFFF],
-        "\u{D7FF}\u{FFFD}\u{E000}\u{FFFF}",
-    ),
-];
-
-/// The first row whose 16-bit units decode to another text.
-fn wrong_units(alloc: Global) -> Option<usize> {
-    UNITS
-        .iter()
-        .position(|row| !decodes_to(alloc, row.0, row.1))
-}
-
-#[test]
-fn units_decode_as_the_tables_say(rt: HostRuntime) {
-    assert_eq!(rt; wrong_units(rt.alloc()), None);
-}
-
-fn is_decoded_text(alloc: Global, text: &str) -> bool {
-    decodes_to(alloc, text, text)
-}
-
-#[test]
-fn text_decodes_to_itself(rt: HostRuntime) {
-    assert!(rt; is_decoded_text(rt.alloc(), ""));
-    assert!(rt; is_decoded_text(rt.alloc(), "a\u{308}\u{1EC7}\u{1D157}"));
 }
 
 /// Whether the first character that bytes decode to is this one, and these bytes are left.

@@ -1,6 +1,5 @@
 //! How often a delegate is asked, and ended iterators, over the record set `rows`.
-use icu_normalizer::{Built, ComposingNormalizer, DecomposingNormalizer, Records};
-use normalizer_rows::{mapper_records, records};
+use crate::over_rows::{nfc, nfd};
 use std::alloc::Global;
 use std::cell::Cell;
 
@@ -30,20 +29,6 @@ impl<'a> Iterator for Asked<'a> {
             None
         }
     }
-}
-
-fn built(alloc: Global) -> Option<Built> {
-    let records = records(alloc).ok()?;
-    let mapper = mapper_records(alloc).ok()?;
-    Records::build(alloc, &records, &mapper).ok()
-}
-
-fn nfd(alloc: Global) -> Option<DecomposingNormalizer> {
-    DecomposingNormalizer::try_new_nfd_unstable(&built(alloc)?).ok()
-}
-
-fn nfc(alloc: Global) -> Option<ComposingNormalizer> {
-    ComposingNormalizer::try_new_nfc_unstable(&built(alloc)?).ok()
 }
 
 /// An item, U+0000 for a fault, and how often the delegate was asked up to it.

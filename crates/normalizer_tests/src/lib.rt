@@ -12,6 +12,8 @@ mod forms;
 #[cfg(test)]
 mod letters;
 #[cfg(test)]
+mod over_rows;
+#[cfg(test)]
 mod packing;
 #[cfg(test)]
 mod readme;
