@@ -1,8 +1,9 @@
-//! Normalizing into sinks: one with little room, and those that note or refuse a hint.
+//! Normalizing into sinks: one with little room, those that note or refuse a hint, and one that counts the writes.
 ghost use Rattle.std.specs.Prelude.{◌≡◌, ⊤, string_bytes};
 ghost use Rattle.normalizer_text.specs.Sinks.{AnyFault};
 
-use crate::over_rows::nfd;
+use crate::letters::repeated;
+use crate::over_rows::{nfc, nfd};
 use icu_normalizer::sink::{SinkError, Write, Write16};
 use icu_normalizer::{DecomposingNormalizerBorrowed, NormalizeError};
 use std::alloc::Global;
@@ -161,4 +162,112 @@ fn a_sink_is_told_the_length_first(rt: HostRuntime) {
     );
     assert!(rt; is_ended_by_hint(alloc, &normalizer, &[]));
     assert!(rt; is_ended_by_hint(alloc, &normalizer, &[0x61]));
+}
+
+// Counts the writes.
+#[derive(Drop)]
+struct Counting<T> {
+    taken: T,
+    writes: usize,
+}
+
+impl Write for Counting<String> {
+    ghost taken = { λ s. string_bytes s.taken };
+
+    ghost refused = { AnyFault };
+
+    ghost left = { λ old new. string_bytes new.taken ≡ string_bytes old.taken };
+
+    fn write_str(&mut self, text: &str) -> Result<(), SinkError> {
+        self.writes = self.writes.saturating_add(1);
+        self.taken.write_str(text)
+    }
+
+    fn write_char(&mut self, c: char) -> Result<(), SinkError> {
+        self.writes = self.writes.saturating_add(1);
+        self.taken.write_char(c)
+    }
+}
+
+impl Write16 for Counting<Vec<u16>> {
+    ghost taken = { λ s. s.taken.items };
+
+    ghost refused = { AnyFault };
+
+    ghost left = { λ old new. new.taken.items ≡ old.taken.items };
+
+    ghost hinted = { λ _ _ _ _. ⊤ };
+
+    fn size_hint(&mut self, _len: usize) -> Result<(), SinkError> {
+        Ok(())
+    }
+
+    fn write_slice(&mut self, units: &[u16]) -> Result<(), SinkError> {
+        self.writes = self.writes.saturating_add(1);
+        self.taken.write_slice(units)
+    }
+
+    fn write_char(&mut self, c: char) -> Result<(), SinkError> {
+        self.writes = self.writes.saturating_add(1);
+        self.taken.write_char(c)
+    }
+}
+
+impl<T> Counting<T> {
+    fn new(taken: T) -> Self {
+        Counting { taken, writes: 0 }
+    }
+}
+
+// Whether a text was taken as it is, in two writes at most.
+fn took_text(sink: &Counting<String>, text: &str) -> bool {
+    sink.writes <= 2 && sink.taken.as_str() == text
+}
+
+fn took_units(sink: &Counting<Vec<u16>>, units: &[u16]) -> bool {
+    sink.writes <= 2 && sink.taken.as_slice() == units
+}
+
+// Whether a normalizer takes a text as it is in each encoding, in two writes at most.
+macro_rules! in_two_writes {
+    ($alloc:expr, $normalizer:expr, $text:expr, $units:expr) => {{
+        let mut text = Counting::new(String::new($alloc));
+        let mut bytes = Counting::new(String::new($alloc));
+        let mut units = Counting::new(Vec::new($alloc));
+        $normalizer.normalize_to($text, &mut text).ok()?;
+        $normalizer.normalize_utf8_to($text.as_bytes(), &mut bytes).ok()?;
+        $normalizer.normalize_utf16_to($units, &mut units).ok()?;
+        Some(took_text(&text, $text) && took_text(&bytes, $text) && took_units(&units, $units))
+    }};
+}
+
+fn decomposes_in_two_writes(alloc: Global, text: &str, units: &[u16]) -> Option<bool> {
+    let normalizer = nfd(alloc)?;
+    in_two_writes!(alloc, normalizer.as_borrowed(), text, units)
+}
+
+fn composes_in_two_writes(alloc: Global, text: &str, units: &[u16]) -> Option<bool> {
+    let normalizer = nfc(alloc)?;
+    in_two_writes!(alloc, normalizer.as_borrowed(), text, units)
+}
+
+// Whether both forms of a text that nothing changes are written in two pieces at most.
+fn is_passed(alloc: Global, text: &str) -> Option<bool> {
+    let units: Vec<u16> = text.encode_utf16().collect(alloc).ok()?;
+    Some(
+        decomposes_in_two_writes(alloc, text, &units)?
+            && composes_in_two_writes(alloc, text, &units)?,
+    )
+}
+
+fn is_passed_repeated(alloc: Global, letter: &str, times: usize) -> bool {
+    match repeated(alloc, &[(letter, times)]) {
+        Some(text) => is_passed(alloc, &text) == Some(true),
+        None => false,
+    }
+}
+
+#[test]
+fn a_text_that_nothing_changes_is_passed_in_pieces(rt: HostRuntime) {
+    assert!(rt; is_passed_repeated(rt.alloc(), "a", 1000));
 }
