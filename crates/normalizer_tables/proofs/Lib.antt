@@ -1,4 +1,7 @@
 pub mod AcceptedLaws
+pub mod BlockCounts
+pub mod BlockEquality
+pub mod BlockLemmas
 pub mod CharacterLemmas
 pub mod CodePoints
 pub mod CompositionLemmas
@@ -12,7 +15,7 @@ pub mod InsertionLemmas
 pub mod ListLengths
 pub mod ListedLemmas
 pub mod LoadedLemmas
-pub mod NextInRanges
+pub mod NextInBlocks
 pub mod NextWords
 pub mod OrderedLists
 pub mod PairConditionLemmas

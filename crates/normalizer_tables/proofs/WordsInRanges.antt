@@ -1,10 +1,9 @@
 -- The word of a number in a list of ranges.
-use Rattle.std.proofs.Common.{◌≡◌, ℕ, ◌<◌, ◌≤◌, ◌&&◌, ◌⊎◌, true, false, List, [], ◌∷◌, length, get_or, refl, inl, inr, nat_le, if◌then◌else◌, nat_lt, All, arith, ap, sym, subst, ◌∙◌, zero, suc}
-use Rattle.std.proofs.lemmas.Bool.{le-leb, lt-leb, ltb-true, ltb-false, cases_order}
+use Rattle.std.proofs.Common.{◌≡◌, ℕ, ◌<◌, ◌≤◌, ◌&&◌, ◌⊎◌, true, false, List, [], ◌∷◌, length, get_or, refl, inl, inr, nat_le, if◌then◌else◌, All, arith, ap, sym, subst, ◌∙◌, zero, suc}
+use Rattle.std.proofs.lemmas.Bool.{le-leb, lt-leb, cases_order}
 use Rattle.std.proofs.lemmas.List.Elements.{All-head, All-tail, All-from_get_or}
-use Rattle.std.proofs.lemmas.List.Sorted.{IsPartitionedBy-ltb}
-use Rattle.std.proofs.Math.Nat.{eq-or-lt_of_le}
-use Rattle.std.specs.List.Sorted.{IsNonDecreasingBy, IsPartitionedBy, IsPartitionPoint}
+use Rattle.std.proofs.lemmas.List.{get_or_read}
+use Rattle.normalizer_tables.specs.Blocks.{IsFirstFrom}
 use Rattle.normalizer_tables.specs.Ranges.{WordRange, IsRangeList, word_in}
 
 -- the number lies before the range or after it
@@ -36,38 +35,33 @@ word_in-at (r ∷ rs) n zero d within low high before = word_in-held r rs n low 
 word_in-at (r ∷ rs) n (suc k) d within low high before =
     word_in-missed r rs n (before 0 (omega arith)) ∙ word_in-at rs n k d (omega arith) low high (λ j below. before (suc j) (omega arith))
 
--- the ends of a list of ranges don't fall
-IsNonDecreasingBy-last : (rs : List WordRange) → IsRangeList rs → IsNonDecreasingBy (λ r. r.1) rs
-IsNonDecreasingBy-last rs h i j d le within = elim (eq-or-lt_of_le le) as (λ _. (get_or rs i d).1 ≤ (get_or rs j d).1) [
-  | inl same ↦ subst (λ (m : ℕ). (get_or rs i d).1 ≤ (get_or rs m d).1) same (omega arith)
-  | inr below ↦ omega (arith, h.rising i j d below within, (h.ranges j d within).0)
-]
+-- a number from `n` on, where a range is the first that doesn't end before `n`
+module _ (rs : List WordRange) (n at : ℕ) (first : IsFirstFrom rs n at) (m : ℕ) (from : n ≤ m) where
+  -- where that range holds the number, its word is the number's
+  pub word_in-point : (r : WordRange) → at < length rs → r ≡ get_or rs at r → r.0 ≤ m → m ≤ r.1 → word_in rs m ≡ r.2
+  word_in-point r within is low high =
+      let here : r ≡ get_or rs at (0, 0, 0) = get_or_read rs at r within is (0, 0, 0) in
+      word_in-at rs m at (0, 0, 0) within (subst (λ (q : WordRange). q.0 ≤ m) here low) (subst (λ (q : WordRange). m ≤ q.1) here high) (λ j below. inl (omega (arith, first.before j below)))
+      ∙ ap (λ q. q.2) (sym here)
 
--- the ranges that end before a number come before the others
-pub IsPartitionedBy-last : (rs : List WordRange) (n : ℕ) → IsRangeList rs → IsPartitionedBy (λ r. nat_lt r.1 n) rs
-IsPartitionedBy-last rs n h = IsPartitionedBy-ltb (λ r. r.1) rs n (IsNonDecreasingBy-last rs h)
+  -- where it begins after the number, none holds it
+  pub word_in-gap : (r : WordRange) → IsRangeList rs → at < length rs → r ≡ get_or rs at r → m < r.0 → word_in rs m ≡ 0
+  word_in-gap r h within is high = word_in-all_missed rs m (All-from_get_or (Misses m) rs (0, 0, 0) (λ k below. misses k below))
+    where
+      misses : (k : ℕ) → k < length rs → Misses m (get_or rs k (0, 0, 0))
+      misses k below = elim (cases_order k at) as (λ _. Misses m (get_or rs k (0, 0, 0))) [
+        | inl same ↦ inr (subst (λ (q : WordRange). m < q.0) (get_or_read rs at r within is (0, 0, 0) ∙ ap (λ j. get_or rs j (0, 0, 0)) (sym same)) high)
+        | inr (inl before) ↦ inl (omega (arith, first.before k before))
+        | inr (inr after) ↦
+            let here : r ≡ get_or rs at (0, 0, 0) = get_or_read rs at r within is (0, 0, 0) in
+            inr (omega (arith, ap (λ q. q.0) here, h.rising at k (0, 0, 0) after below, (h.ranges at (0, 0, 0) within).0))
+      ]
 
--- the ranges before `at` end before the number, and no other does
-abbrev pub EndsBefore : ℕ → List WordRange → ℕ → Type 0
-EndsBefore n rs at = IsPartitionPoint (λ r. nat_lt r.1 n ≡ true) (λ r. nat_lt r.1 n ≡ false) rs at
+  -- where no range is left, none holds it
+  pub word_in-above : length rs ≤ at → word_in rs m ≡ 0
+  word_in-above above = word_in-all_missed rs m (All-from_get_or (Misses m) rs (0, 0, 0) (λ k below. inl (omega (arith, first.before k (omega arith)))))
 
--- the first range that doesn't end before the number holds it
-pub word_in-point : (rs : List WordRange) (n at : ℕ) (r : WordRange) → EndsBefore n rs at → at < length rs → r ≡ get_or rs at r → r.0 ≤ n → word_in rs n ≡ r.2
-word_in-point rs n at r point within is low =
-    word_in-at rs n at r within (subst (λ (q : WordRange). q.0 ≤ n) is low) (ltb-false _ _ (point.1 at r (omega arith) within)) (λ j below. inl (ltb-true _ _ (point.0 j r (omega arith) below)))
-    ∙ ap (λ q. q.2) (sym is)
-
--- where that range begins after the number, none holds it
-pub word_in-gap : (rs : List WordRange) (n at : ℕ) (r : WordRange) → IsRangeList rs → EndsBefore n rs at → at < length rs → r ≡ get_or rs at r → n < r.0 → word_in rs n ≡ 0
-word_in-gap rs n at r h point within is high = word_in-all_missed rs n (All-from_get_or (Misses n) rs r (λ k below. misses k below))
-  where
-    misses : (k : ℕ) → k < length rs → Misses n (get_or rs k r)
-    misses k below = elim (cases_order k at) as (λ _. Misses n (get_or rs k r)) [
-      | inl same ↦ inr (subst (λ (q : WordRange). n < q.0) (is ∙ ap (λ m. get_or rs m r) (sym same)) high)
-      | inr (inl before) ↦ inl (ltb-true _ _ (point.0 k r (omega arith) before))
-      | inr (inr after) ↦ inr (omega (arith, h.rising at k r after below, ltb-false _ _ (point.1 at r (omega arith) within)))
-    ]
-
--- where all ranges end before the number, none holds it
-pub word_in-above : (rs : List WordRange) (n at : ℕ) → EndsBefore n rs at → length rs ≤ at → word_in rs n ≡ 0
-word_in-above rs n at point above = word_in-all_missed rs n (λ k d below. inl (ltb-true _ _ (point.0 k d (omega arith) (omega arith))))
+-- the first range that doesn't end before a number reaches it
+pub first-reaches : (rs : List WordRange) (n at : ℕ) → IsFirstFrom rs n at → (r : WordRange) → at < length rs → r ≡ get_or rs at r → n ≤ r.1
+first-reaches rs n at first r within is =
+    subst (λ (q : WordRange). n ≤ q.1) (sym (get_or_read rs at r within is (0, 0, 0))) (first.behind at (omega arith) within)

@@ -1,4 +1,5 @@
 pub mod AcceptedData
+pub mod Blocks
 pub mod Characters
 pub mod ClassConditions
 pub mod Conditions

@@ -1,5 +1,5 @@
 -- The pairs of characters that have a primary composite (The Unicode Standard, D114), Hangul ones included.
-use Rattle.std.specs.Prelude.{◌≡◌, ℕ, Bool, true, false, ◌&&◌, ◌||◌, ◌==◌, nat_lt, List, AllPairs, find, Option, None, if◌then◌else◌}
+use Rattle.std.specs.Prelude.{◌≡◌, ℕ, Bool, true, false, ◌&&◌, ◌||◌, ◌==◌, nat_eq, nat_lt, List, AllPairs, find, Option, None, if◌then◌else◌}
 use Rattle.std.specs.Option.{option_map}
 use Rattle.std.specs.List.Sorted.{IsPartitionPoint}
 use Rattle.std.specs.Int.{is_in_range}
@@ -8,6 +8,10 @@ use Rattle.normalizer_tables.specs.HangulComposition.{compose_hangul}
 -- the second character, the first, and what they compose to
 abbrev pub Pair : Type 0
 Pair = ℕ × ℕ × ℕ
+
+-- whether two triples are the same
+abbrev pub same_pair : Pair → Pair → Bool
+same_pair p q = (nat_eq p.0 q.0 && nat_eq p.1 q.1) && nat_eq p.2 q.2
 
 -- the triple stands before those of this second and this first
 unfoldable pub is_before : Pair → ℕ → ℕ → Bool

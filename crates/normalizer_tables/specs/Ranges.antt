@@ -21,9 +21,9 @@ unfoldable pub word_in : List WordRange → ℕ → ℕ
 word_in [] n = 0
 word_in (r ∷ rs) n = if nat_le r.0 n && nat_le n r.1 then r.2 else word_in rs n
 
--- the table that gives each code point its word in the ranges, and each number above `above`
-unfoldable pub table_of : List WordRange → ℕ → Table
-table_of ranges above = record { words = map (word_in ranges) (range_with_len 0 code_points); past = above }
+-- the word of each code point in the ranges
+unfoldable pub words_of : List WordRange → List ℕ
+words_of ranges = map (word_in ranges) (range_with_len 0 code_points)
 
 -- the table has a word for every code point
 unfoldable pub IsComplete : Table → Type 0

@@ -18,6 +18,7 @@ ghost use Rattle.normalizer_tables.specs.SoundData.{Bounds, IsSoundData};
 pub mod accepted;
 pub mod pairs;
 pub mod plain;
+pub mod tables;
 
 /// The members of every list read as themselves.
 pub fn lists_are_full()

@@ -1,6 +1,7 @@
 //! Normalization data handed in: code point tables, the words in them, the pairs, the provider and the complete check.
 #![tactic(auto)]
 
+mod blocks;
 pub mod characters;
 pub mod check;
 pub mod class_check;
@@ -30,4 +31,4 @@ pub use provider::{
     NormalizerUts46DataV1,
 };
 pub use scalars::{Scalars16, Scalars24};
-pub use table::{CodePointTable, TableError};
+pub use table::{CodePointTable, TableError, block_count};

@@ -122,6 +122,29 @@ impl CanonicalCompositions {
     }
 }
 
+/// Equal where the lists that were handed in are.
+impl PartialEq for CanonicalCompositions {
+    ghost use Rattle.std.specs.Cmp.{partial_equiv_from_equiv};
+    ghost use Rattle.std.specs.Cmp.Lexicographic.{pointwise};
+    ghost use Rattle.std.proofs.lemmas.Cmp.{and_equiv, lists_equiv, nat_eq_equiv, on_equiv};
+    ghost use Rattle.normalizer_tables.specs.Pairs.{same_pair, Pair};
+
+    ghost eq = { pointwise same_pair };
+
+    ghost laws = { partial_equiv_from_equiv (lists_equiv (and_equiv (and_equiv (on_equiv (λ (p : Pair). p.0) nat_eq_equiv) (on_equiv (λ (p : Pair). p.1) nat_eq_equiv)) (on_equiv (λ (p : Pair). p.2) nat_eq_equiv))) };
+
+    fn eq(&self, other: &Self) -> bool {
+        self.pairs == other.pairs
+    }
+}
+
+impl Eq for CanonicalCompositions {
+    ghost use Rattle.std.proofs.lemmas.Cmp.{and_equiv, lists_equiv, nat_eq_equiv, on_equiv};
+    ghost use Rattle.normalizer_tables.specs.Pairs.{Pair};
+
+    ghost laws = { lists_equiv (and_equiv (and_equiv (on_equiv (λ (p : Pair). p.0) nat_eq_equiv) (on_equiv (λ (p : Pair). p.1) nat_eq_equiv)) (on_equiv (λ (p : Pair). p.2) nat_eq_equiv)) };
+}
+
 impl Clone for CanonicalCompositions {
     ghost is_clone = { λ c d. d ≡ c };
 

@@ -63,7 +63,7 @@ pub trait DataProvider<M: DataMarker> {
 }
 
 /// Words, and the number below which every character may be passed unseen by a loop that composes.
-#[derive(Drop, Clone)]
+#[derive(Drop, Clone, PartialEq, Eq)]
 pub struct DecompositionData {
     pub table: CodePointTable,
     pub passthrough_cap: u16,
@@ -75,10 +75,12 @@ impl Model for DecompositionData {
     ghost Value = { Decompositions };
 
     ghost view = { λ d. record { table = d.table; cap = d.passthrough_cap } };
+
+    ghost inverse = { λ d. record { table = d.table; passthrough_cap = d.cap } };
 }
 
 /// The lists that words point into.
-#[derive(Drop, Clone)]
+#[derive(Drop, Clone, PartialEq, Eq)]
 pub struct DecompositionTables {
     pub scalars16: Scalars16,
     pub scalars24: Scalars24,
@@ -90,10 +92,12 @@ impl Model for DecompositionTables {
     ghost Value = { Lists };
 
     ghost view = { λ t. record { scalars16 = t.scalars16; scalars24 = t.scalars24 } };
+
+    ghost inverse = { λ t. record { scalars16 = t.scalars16; scalars24 = t.scalars24 } };
 }
 
 /// What one step of decomposition needs where the words alone don't say it.
-#[derive(Drop, Clone)]
+#[derive(Drop, Clone, PartialEq, Eq)]
 pub struct NonRecursiveDecompositionSupplement {
     pub table: CodePointTable,
     pub scalars24: Scalars24,
@@ -105,6 +109,8 @@ impl Model for NonRecursiveDecompositionSupplement {
     ghost Value = { Supplement };
 
     ghost view = { λ s. record { table = s.table; scalars24 = s.scalars24 } };
+
+    ghost inverse = { λ s. record { table = s.table; scalars24 = s.scalars24 } };
 }
 
 /// Canonical decompositions.

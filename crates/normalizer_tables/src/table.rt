@@ -1,8 +1,10 @@
 //! The code point table: a 32-bit word for every number.
 ghost use Rattle.std.specs.Prelude.{◌≡◌, ◌↔◌, ◌≤◌, IfOk, IsErrOf, IsTrue};
-ghost use Rattle.normalizer_tables.specs.Ranges.{word_in, IsComplete, IsRangeList, IsTableOf};
+ghost use Rattle.normalizer_tables.specs.Blocks.{block_count};
+ghost use Rattle.normalizer_tables.specs.Ranges.{IsComplete, IsRangeList, IsTableOf};
 ghost use Rattle.normalizer_tables.specs.Table.{word_at, code_points, IsNextWithWord};
 
+use crate::blocks::Blocks;
 use std::alloc::AllocError;
 use std::marker::Model;
 use thiserror::Error;
@@ -17,22 +19,35 @@ pub enum TableError {
     Memory,
 }
 
-/// A word for every number: one for each code point, and one for all numbers above 0x10FFFF.
-#[derive(Drop)]
+impl From<AllocError> for TableError {
+    ghost use Rattle.normalizer_tables.specs.declared.table.TableError.TheVariants.{Memory};
+
+    ghost from_gives = { λ _ error. error ≡ Memory };
+
+    fn from(_error: AllocError) -> TableError {
+        TableError::Memory
+    }
+}
+
+/// A word for every number: one for each code point, and one for all numbers above 0x10FFFF. Tables are equal where
+/// each number has the same word in both.
+#[derive(Drop, PartialEq, Eq)]
 pub struct CodePointTable {
-    ranges: Vec<(u32, u32, u32)>,
+    words: Blocks,
     past: u32,
 }
 
 impl Model for CodePointTable {
     ghost use Rattle.normalizer_tables.specs.Table.{Table};
-    ghost use Rattle.normalizer_tables.specs.Ranges.{table_of, IsRangeList};
+    ghost use Rattle.normalizer_tables.specs.Ranges.{IsComplete};
 
     ghost Value = { Table };
 
-    ghost view = { λ t. table_of t.ranges.items t.past };
+    ghost view = { λ t. record { words = t.words; past = t.past } };
 
-    ghost invariant = { λ t. IsRangeList t.ranges.items };
+    ghost inverse = { λ t. record { words = t.words; past = t.past } };
+
+    ghost invariant = { λ t. IsComplete (record { words = t.words; past = t.past }) };
 }
 
 impl CodePointTable {
@@ -43,11 +58,11 @@ impl CodePointTable {
         ensures accepted { IfOk result (λ _. IsRangeList ranges.items) }
         ensures refused { IsErrOf result TableError.Ranges ↔ (¬ IsRangeList ranges.items) }
     {
-        if is_range_list(&ranges) {
-            Ok(CodePointTable { ranges, past })
-        } else {
-            Err(TableError::Ranges)
+        if !is_range_list(&ranges) {
+            return Err(TableError::Ranges);
         }
+        let words = Blocks::from_ranges(*ranges.allocator(), &ranges)?;
+        Ok(CodePointTable { words, past })
     }
 
     /// The word of a character.
@@ -75,20 +90,22 @@ impl CodePointTable {
         if number > LAST_CODE_POINT {
             return self.past;
         }
-        word_in_ranges(&self.ranges, number)
+        self.words.word(number)
     }
 
     /// The least code point from a number on whose word isn't 0 once the bits of `flags` are taken away.
     pub fn next_with_word(&self, from: u32, flags: u32) -> Option<u32>
         ensures { IsNextWithWord self.now flags from result }
     {
-        for &(first, last, word) in &self.ranges {
-            if from <= last && word & !flags != 0 {
-                return Some(first.max(from));
-            }
-        }
-        None
+        self.words.next_with_word(from, flags)
     }
+}
+
+/// How many blocks of 64 code points a table keeps, equal ones once.
+pub fn block_count(table: &CodePointTable) -> usize
+    ensures { result ≡ block_count table.now }
+{
+    table.words.count()
 }
 
 impl Clone for CodePointTable {
@@ -96,7 +113,7 @@ impl Clone for CodePointTable {
 
     fn clone(&self) -> Result<Self, AllocError> {
         Ok(CodePointTable {
-            ranges: self.ranges.clone()?,
+            words: self.words.clone()?,
             past: self.past,
         })
     }
@@ -116,16 +133,4 @@ fn is_range_list(ranges: &[(u32, u32, u32)]) -> bool
         next_free = last + 1;
     }
     true
-}
-
-/// The word of a number in a list of ranges, by halving.
-fn word_in_ranges(ranges: &[(u32, u32, u32)], number: u32) -> u32
-    requires { IsRangeList ranges.now }
-    ensures { result ≡ word_in ranges.now number }
-{
-    let at = ranges.partition_point(|range| range.1 < number);
-    match ranges.get(at) {
-        Some(&(first, _, word)) if first <= number => word,
-        _ => 0,
-    }
 }

@@ -1,0 +1,211 @@
+//! How the words of a table are stored: in blocks of 64 code points each, equal blocks once.
+ghost use Rattle.std.specs.Prelude.{◌≡◌, ◌+◌, ◌≤◌, ◌<◌, IfOk, ℕ, length, position, nat_eq, slice_index};
+ghost use Rattle.std.specs.Cmp.Lexicographic.{pointwise};
+ghost use Rattle.normalizer_tables.specs.Blocks.{block_count, range_block, IsFirstFrom, IsJoined, IsNextInBlock};
+ghost use Rattle.normalizer_tables.specs.Ranges.{word_in, words_of, IsRangeList};
+ghost use Rattle.normalizer_tables.specs.Table.{code_points, IsNextWithWord};
+
+use std::alloc::{AllocError, Global};
+use std::marker::Model;
+
+/// How many code points a block has.
+const BLOCK: u32 = 64;
+
+/// How many blocks the code points have.
+const PLACES: u32 = 17_408;
+
+/// A word for each code point.
+#[derive(Drop)]
+pub(crate) struct Blocks {
+    /// The blocks, each once, in the order of their first use.
+    blocks: Vec<[u32; 64]>,
+    /// Which block stands for each 64 code points.
+    numbers: Vec<u16>,
+}
+
+impl Model for Blocks {
+    ghost use Rattle.std.specs.Prelude.{ℕ, List};
+    ghost use Rattle.normalizer_tables.specs.Blocks.{block_places, stored_words, IsStored};
+
+    ghost Value = { List ℕ };
+
+    ghost view = { λ b. stored_words b.blocks.items b.numbers.items };
+
+    ghost invariant = { λ b. IsStored block_places b.blocks.items b.numbers.items };
+}
+
+impl Blocks {
+    /// The words that ranges give.
+    pub(crate) fn from_ranges(alloc: Global, ranges: &[(u32, u32, u32)]) -> Result<Self, AllocError>
+        requires { IsRangeList ranges.now }
+        ensures { IfOk result (λ words. words ≡ words_of ranges.now) }
+    {
+        let mut blocks = Vec::new(alloc);
+        let mut numbers = Vec::with_capacity(alloc, PLACES as usize)?;
+        let mut at = 0;
+        for place in 0..PLACES {
+            let (block, next) = block_from(ranges, at, place * BLOCK);
+            numbers.push(joined(&mut blocks, block)? as u16)?;
+            at = next;
+        }
+        Ok(Blocks { blocks, numbers })
+    }
+
+    /// The word of a code point.
+    pub(crate) fn word(&self, number: u32) -> u32
+        requires { number < code_points }
+        ensures { result ≡ slice_index self.now number }
+    {
+        let block = self.numbers[(number / BLOCK) as usize];
+        self.blocks[block as usize][(number % BLOCK) as usize]
+    }
+
+    /// How many blocks are kept.
+    pub(crate) fn count(&self) -> usize
+        ensures { (above : ℕ) → result ≡ block_count (record { words = self.now; past = above }) }
+    {
+        self.blocks.len()
+    }
+
+    /// The least code point from a number on whose word isn't 0 once the bits of `flags` are taken away.
+    pub(crate) fn next_with_word(&self, from: u32, flags: u32) -> Option<u32>
+        ensures { (above : ℕ) → IsNextWithWord (record { words = self.now; past = above }) flags from result }
+    {
+        let mut passed = None;
+        for place in from / BLOCK..PLACES {
+            let number = self.numbers[place as usize];
+            if passed == Some(number) {
+                continue;
+            }
+            let start = place * BLOCK;
+            match next_in_block(
+                &self.blocks[number as usize],
+                from.saturating_sub(start),
+                flags,
+            ) {
+                Some(offset) => return Some(start + offset),
+                None if from <= start => passed = Some(number),
+                None => {}
+            }
+        }
+        None
+    }
+}
+
+/// The least place in a block, from one on, whose word isn't 0 once the bits of `flags` are taken away.
+fn next_in_block(block: &[u32; 64], from: u32, flags: u32) -> Option<u32>
+    ensures { IsNextInBlock block.now flags from result }
+{
+    for offset in from..BLOCK {
+        if block[offset as usize] & !flags != 0 {
+            return Some(offset);
+        }
+    }
+    None
+}
+
+impl Clone for Blocks {
+    ghost is_clone = { λ a b. b ≡ a };
+
+    fn clone(&self) -> Result<Self, AllocError> {
+        Ok(Blocks {
+            blocks: Vec::from_slice(*self.blocks.allocator(), &self.blocks)?,
+            numbers: self.numbers.clone()?,
+        })
+    }
+}
+
+impl Eq for Blocks {
+    ghost use Rattle.std.proofs.lemmas.Cmp.{nat_list_eq_equiv};
+
+    ghost laws = { nat_list_eq_equiv };
+}
+
+impl PartialEq for Blocks {
+    ghost use Rattle.std.specs.Cmp.{partial_equiv_from_equiv};
+    ghost use Rattle.std.proofs.lemmas.Cmp.{nat_list_eq_equiv};
+
+    ghost eq = { pointwise nat_eq };
+
+    ghost laws = { partial_equiv_from_equiv nat_list_eq_equiv };
+
+    fn eq(&self, other: &Self) -> bool {
+        self.numbers == other.numbers && self.blocks == other.blocks
+    }
+}
+
+/// The number of a block, which joins those that are kept where it is none of them.
+fn joined(blocks: &mut Vec<[u32; 64]>, block: [u32; 64]) -> Result<usize, AllocError>
+    ensures { IfOk result (IsJoined blocks.old.items block blocks.new.items) }
+{
+    if let Some(number) = number_of(blocks, &block) {
+        return Ok(number);
+    }
+    blocks.push(block)?;
+    Ok(blocks.len() - 1)
+}
+
+fn number_of(blocks: &[[u32; 64]], block: &[u32; 64]) -> Option<usize>
+    ensures { result ≡ position (λ kept. pointwise nat_eq kept block.now) blocks.now }
+{
+    blocks.iter().position(|kept| kept == block)
+}
+
+/// The block of the ranges from a number on, and the first range that doesn't end within it.
+fn block_from(ranges: &[(u32, u32, u32)], at: usize, start: u32) -> ([u32; 64], usize)
+    requires ranges { IsRangeList ranges.now }
+    requires at { IsFirstFrom ranges.now start at }
+    requires room { start ≤ 0x10FFC0 }
+    ensures block { result.0 ≡ range_block ranges.now start }
+    ensures next { IsFirstFrom ranges.now (start + 64) result.1 }
+{
+    match ranges.get(at) {
+        None => ([0; 64], at),
+        Some(&(first, _, _)) if start + BLOCK <= first => ([0; 64], at),
+        Some(&(first, last, word)) if first <= start && start + 63 <= last => {
+            ([word; 64], first_behind(ranges, at, start + 63))
+        }
+        Some(_) => mixed_block(ranges, at, start),
+    }
+}
+
+/// The same, number by number.
+fn mixed_block(ranges: &[(u32, u32, u32)], at: usize, start: u32) -> ([u32; 64], usize)
+    requires ranges { IsRangeList ranges.now }
+    requires at { IsFirstFrom ranges.now start at }
+    requires room { start ≤ 0x10FFC0 }
+    ensures block { result.0 ≡ range_block ranges.now start }
+    ensures next { IsFirstFrom ranges.now (start + 64) result.1 }
+{
+    let mut block = [0; 64];
+    let mut at = at;
+    for offset in 0..BLOCK {
+        block[offset as usize] = word_from(ranges, at, start + offset);
+        at = first_behind(ranges, at, start + offset);
+    }
+    (block, at)
+}
+
+/// The word of a number, where the ranges before this one end before it and the others don't.
+fn word_from(ranges: &[(u32, u32, u32)], at: usize, number: u32) -> u32
+    requires ranges { IsRangeList ranges.now }
+    requires at { IsFirstFrom ranges.now number at }
+    ensures { result ≡ word_in ranges.now number }
+{
+    match ranges.get(at) {
+        Some(&(first, _, word)) if first <= number => word,
+        _ => 0,
+    }
+}
+
+/// The first range that doesn't end before the next number.
+fn first_behind(ranges: &[(u32, u32, u32)], at: usize, number: u32) -> usize
+    requires ranges { IsRangeList ranges.now }
+    requires at { IsFirstFrom ranges.now number at }
+    ensures { IsFirstFrom ranges.now (number + 1) result }
+{
+    match ranges.get(at) {
+        Some(range) if range.1 <= number => at + 1,
+        _ => at,
+    }
+}

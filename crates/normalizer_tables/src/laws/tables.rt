@@ -1,0 +1,14 @@
+//! When tables are equal.
+ghost use Rattle.std.specs.Prelude.{◌≡◌, ◌↔◌, ℕ, IsTrue};
+ghost use Rattle.normalizer_tables.specs.Table.{word_at};
+
+use crate::table::CodePointTable;
+
+/// Tables are equal exactly where each number has the same word in both.
+pub fn equal_tables_agree(table: &CodePointTable, other: &CodePointTable) -> bool
+    ensures { IsTrue result ↔ ((n : ℕ) → word_at table.now n ≡ word_at other.now n) }
+{
+    let _ = table.get32(0);
+    let _ = other.get32(0);
+    table == other
+}
