@@ -1,20 +1,14 @@
 -- Hangul syllables by the condition on Hangul: each other condition that one meets is met by those behind it with the same leading consonant.
-use Rattle.std.proofs.Common.{◌≡◌, ◌≢◌, ◌==◌, ℕ, ◌+◌, ◌-◌, ◌*◌, ◌/◌, ◌%◌, ◌<◌, ◌≤◌, inl, inr, Bool, true, false, ◌&&◌, List, [], ◌∷◌, length, All, slice_get, Option, Some, None, IfSome, drop, refl, sym, ap, subst, ◌∙◌, eq-eqb, ne_eqb, arith}
-use Rattle.std.specs.Char.{IsScalar}
-use lib.Utf8.{scalar}
-use Rattle.std.proofs.Math.Utf8.{low_scalar}
-use Rattle.std.proofs.lemmas.Bool.{and_from, cases_Bool, cases_lt, eqb-false, eqb-true, le-leb, cond-true}
-use Rattle.std.proofs.lemmas.Bool.Decides.{nat_tests}
+use Rattle.std.proofs.Common.{◌≡◌, ◌≢◌, ◌==◌, ℕ, ◌+◌, ◌-◌, ◌*◌, ◌/◌, ◌%◌, ◌≤◌, inl, inr, true, false, List, [], ◌∷◌, All, slice_get, Some, None, refl, sym, ap, subst, ◌∙◌, eq-eqb, ne_eqb, arith}
+use Rattle.std.proofs.lemmas.Bool.{and_from, cases_Bool, cases_lt, eqb-false, eqb-true, le-leb}
 use Rattle.std.proofs.lemmas.List.Elements.{All-cons, All-nil}
 use Rattle.normal_forms.specs.Composition.{compose, joined, is_blocked}
-use Rattle.normal_forms.specs.Order.{order}
-use Rattle.normal_forms.specs.Reading.{IsStarter}
 use Rattle.normalizer_tables.specs.declared.condition.Bounds.{Bounds}
 use Rattle.normalizer_tables.specs.declared.condition.Condition.{Condition}
 use Rattle.normalizer_tables.specs.declared.condition.Condition.TheVariants.{Surrogates, Hangul, Words, Members, Order, Passthrough, RoundTrip, SafeBeginning, FdfaForms, Steps}
 use Rattle.normalizer_tables.specs.declared.word.WordReading.TheVariants.{HangulSyllable}
 use Rattle.normalizer_tables.specs.Characters.{Characters, word_of, reading_of_word, as_text, named_list, list_read, list_of, class_of, has_class_form, own_reading}
-use Rattle.normalizer_tables.specs.Conditions.{HoldsAt, IsOrderedList, IsPlainStarter, IsSoundHangul, IsSoundWord, KeepsPromise, ReadsToItself, is_composing_jamo, is_surrogate}
+use Rattle.normalizer_tables.specs.Conditions.{HoldsAt, IsOrderedList, IsPlainStarter, IsSoundHangul, IsSoundWord, KeepsPromise, ReadsToItself, is_composing_jamo}
 use Rattle.normalizer_tables.specs.Data.{Supplement}
 use Rattle.normalizer_tables.specs.Hangul.{is_hangul_syllable, hangul_decomposition}
 use Rattle.normalizer_tables.specs.HangulComposition.{compose_hangul, is_leading_consonant, is_vowel, is_trailing_consonant, is_lv_syllable}
@@ -23,7 +17,7 @@ use Rattle.normalizer_tables.specs.PairConditions.{composing_reading, HasSafeBeg
 use Rattle.normalizer_tables.specs.Pairs.{Pair, is_vowel_or_trailing_jamo, pair_of}
 use Rattle.normalizer_tables.specs.StepConditions.{AvoidsFdfa, StepsHoldAt}
 use Rattle.normalizer_tables.specs.Walk.{IsSyllableBehind}
-use Rattle.normalizer_tables.specs.Words.{ignored_marker, is_backward_combining, is_class_form, is_ordinary_class_form, is_special_class_form}
+use Rattle.normalizer_tables.specs.Words.{is_backward_combining, is_class_form, is_ordinary_class_form, is_special_class_form}
 use Rattle.normalizer_tables.proofs.CharacterLemmas.{list_of-reads, list_read-scalar}
 use Rattle.normalizer_tables.proofs.CompositionLemmas.{begins_safely_from_first, compose-first, compose_from-joined, compose_from-end, first_of_safe_beginning}
 use Rattle.normalizer_tables.proofs.ConditionLemmas.{IsSoundClassForm-none, no_surrogate, syllable-scalar}

@@ -1,4 +1,4 @@
-use Rattle.std.proofs.Common.{◌+◌, ◌*◌, ◌-◌, ◌/◌, sym, arith}
+use Rattle.std.proofs.Common.{sym, arith}
 use Rattle.normalizer_tables.specs.Table.{code_points}
 use Rattle.normalizer_tables.proofs.HangulLemmas.{is_hangul_syllable-true}
 use Rattle.normalizer_tables.proofs.WalkLemmas.{IsEndOfAlike-syllable, IsEndOfAlike-other}
