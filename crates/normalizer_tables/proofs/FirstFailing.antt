@@ -129,25 +129,36 @@ All-front P conditions place h k d kh =
     subst P (sym (get_or-take place conditions k d less)) (h k d (omega arith) less)
 
 -- where Hangul is among the conditions that are met apart, it is sound
-pub has_sound_hangul : (loaded : Loaded) (conditions : List Condition) (place : ℕ) → IsPlaceOfFirstFailing (IsMetApart loaded) conditions place → Contains (take place conditions) Hangul → (n : ℕ) → IsSoundHangul loaded.characters n
+pub has_sound_hangul : (loaded : Loaded) (conditions : List Condition) (place : ℕ) → IsPlaceOfFirstFailing (IsMetApart loaded) conditions place →
+    Contains (take place conditions) Hangul → (n : ℕ) → IsSoundHangul loaded.characters n
 unfolding IsMetApart IsMetApartAt IsMetAt HoldsAt is_asked_apart
 has_sound_hangul loaded conditions place h asked n =
     let met : IsMetApart loaded Hangul = All-contains (IsMetApart loaded) (take place conditions) Hangul (All-front (IsMetApart loaded) conditions place h.before) asked in
     (met.1 n refl).0
 
-pub IsFirstFailing-at : (loaded : Loaded) (conditions : List Condition) (number place : ℕ) (r : Option Condition) → IsComplete loaded.characters.decompositions.table → 0x110000 < number →
-    FailsFirst loaded conditions number place → r ≡ slice_get conditions place → IsFirstFailing (IsMet loaded) conditions r
+IsFirstFailing-place : (loaded : Loaded) (conditions : List Condition) (place : ℕ) (r : Option Condition) → AllWithin (IsMet loaded) conditions 0 place →
+    ((c : Condition) → slice_get conditions place ≡ Some c → ¬ IsMet loaded c) → r ≡ slice_get conditions place → IsFirstFailing (IsMet loaded) conditions r
 unfolding IsFirstFailing
-IsFirstFailing-at loaded conditions number place None complete past h e =
+IsFirstFailing-place loaded conditions place None met fails e =
     let all : length conditions ≤ place = slice_get_end conditions place (sym e) in
-    λ k d kh. before_holds loaded conditions number place complete past h k d (omega arith) (omega arith)
-IsFirstFailing-at loaded conditions number place (Some c) complete past h e = (
+    λ k d kh. met k d (omega arith) (omega arith)
+IsFirstFailing-place loaded conditions place (Some c) met fails e = (
   take place conditions,
   drop (place + 1) conditions,
   cut_at conditions place c (sym e),
-  All-front (IsMet loaded) conditions place (before_holds loaded conditions number place complete past h),
-  h.fails c (sym e),
+  All-front (IsMet loaded) conditions place met,
+  fails c (sym e),
 )
+
+pub IsFirstFailing-at : (loaded : Loaded) (conditions : List Condition) (number place : ℕ) (r : Option Condition) → IsComplete loaded.characters.decompositions.table → 0x110000 < number →
+    FailsFirst loaded conditions number place → r ≡ slice_get conditions place → IsFirstFailing (IsMet loaded) conditions r
+IsFirstFailing-at loaded conditions number place r complete past h e =
+    IsFirstFailing-place loaded conditions place r (before_holds loaded conditions number place complete past h) h.fails e
+
+-- before the first condition none fails
+pub IsFirstFailing-at_once : (loaded : Loaded) (conditions : List Condition) (number place : ℕ) (r : Option Condition) → place ≡ 0 → FailsFirst loaded conditions number place →
+    r ≡ slice_get conditions place → IsFirstFailing (IsMet loaded) conditions r
+IsFirstFailing-at_once loaded conditions number place r first h e = IsFirstFailing-place loaded conditions place r (λ k d low kh. absurd (omega arith)) h.fails e
 
 -- what `get` and `copied` give of a slice
 pub copied-slice_get : (conditions : List Condition) (place : ℕ) (o : Option (Bor Condition)) → IfSome o (λ x. x.now ≡ get_or conditions place x.now) → MatchOption o (length conditions ≤ place) (λ x. (place < length conditions) × HoldsAtPlace (λ y. x.now ≡ y) conditions place) → option_copied o ≡ slice_get conditions place

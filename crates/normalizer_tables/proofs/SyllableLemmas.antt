@@ -227,7 +227,8 @@ module _ (s : Characters) (sound : (n : ℕ) → IsSoundHangul s n) where
     StepsHoldAt-behind t _ = tt
 
 -- where Hangul is sound, what a syllable meets is met by those behind it with the same leading consonant
-pub IsMetAt-syllable_behind : (d : Loaded) → ((n : ℕ) → IsSoundHangul d.characters n) → (c : Condition) (m n : ℕ) → IsSyllableBehind m n → IsMetAt d c m → IsMetAt d c n
+pub IsMetAt-syllable_behind : (d : Loaded) → ((n : ℕ) → IsSoundHangul d.characters n) →
+    (c : Condition) (m n : ℕ) → IsSyllableBehind m n → IsMetAt d c m → IsMetAt d c n
 unfolding IsMetAt
 IsMetAt-syllable_behind d sound c m n alike met = (
   HoldsAt-behind d.characters sound m n alike d.bounds c met.0,

@@ -1,5 +1,5 @@
 //! The complete check of what was loaded: the first of the written conditions that it breaks.
-ghost use Rattle.std.specs.Prelude.{◌↔◌, ◌≤◌, IsTrue};
+ghost use Rattle.std.specs.Prelude.{◌≡◌, ◌↔◌, ◌≤◌, IsTrue, slice_get};
 ghost use Rattle.std.specs.List.{Contains};
 ghost use Rattle.normalizer_tables.specs.Conditions.{IsFirstFailing, IsPlaceOfFirstFailing};
 ghost use Rattle.normalizer_tables.specs.Loaded.{IsMet, IsMetAt};
@@ -28,12 +28,22 @@ pub fn first_failing(data: &LoadedData<'_>, conditions: &[Condition]) -> Option<
     let hangul_is_sound = asks_hangul(&conditions[..failing]);
     let mut from = 0;
     while from <= CODE_POINTS {
+        if failing == 0 {
+            return condition_at(conditions, failing);
+        }
         // The word of the first number past the code points is that of all.
         let number = data.characters().next_with_word(from);
         failing = first_failing_at(data, &conditions[..failing], number);
         from = end_of_alike(number, hangul_is_sound);
     }
-    conditions.get(failing).copied()
+    condition_at(conditions, failing)
+}
+
+/// The condition at a place, if there is one.
+fn condition_at(conditions: &[Condition], place: usize) -> Option<Condition>
+    ensures { result ≡ slice_get conditions.now place }
+{
+    conditions.get(place).copied()
 }
 
 /// Whether Hangul is among these conditions.
@@ -45,8 +55,8 @@ fn asks_hangul(conditions: &[Condition]) -> bool
         .any(|&condition| condition == Condition::Hangul)
 }
 
-/// The end of the numbers for which this one answers. Where Hangul is sound, a syllable does for those behind it with the
-/// same leading consonant.
+/// The end of the numbers for which this one answers. Where Hangul is sound, a syllable does for those behind it with
+/// the same leading consonant.
 fn end_of_alike(number: u32, hangul_is_sound: bool) -> u32
     requires { number ≤ code_points }
     ensures { IsEndOfAlike hangul_is_sound number result }

@@ -64,8 +64,8 @@ pub fn keeps_beginning(
     !is_taken || begins_safely(data, compositions, character, word)
 }
 
-/// Whether all characters whose word is 0, flags aside, keep their beginnings. Only the seconds of pairs may not, Hangul
-/// ones included.
+/// Whether all characters whose word is 0, flags aside, keep their beginnings. Only the seconds of pairs may not,
+/// Hangul ones included.
 pub fn keep_plain_beginnings(
     data: &CharacterData<'_>,
     bounds: Bounds,
@@ -98,7 +98,8 @@ fn jamo_keep_beginnings(
     bounds: Bounds,
     compositions: &CanonicalCompositions,
 ) -> bool
-    ensures { IsTrue result ↔ ((n : ℕ) → is_vowel_or_trailing_jamo n ≡ true → KeepsPlainBeginning data.now bounds compositions.now n) }
+    ensures { IsTrue result ↔
+        ((n : ℕ) → is_vowel_or_trailing_jamo n ≡ true → KeepsPlainBeginning data.now bounds compositions.now n) }
 {
     for jamo in 0x1161..0x1200 {
         if !keeps_plain_beginning(data, bounds, compositions, jamo) {

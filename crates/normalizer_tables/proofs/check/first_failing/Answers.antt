@@ -1,6 +1,6 @@
-use Rattle.std.proofs.Common.{◌≡◌, true, ◌<◌, ◌≤◌, ◌+◌, slice_get, ◌∙◌, arith}
+use Rattle.std.proofs.Common.{◌≡◌, true, ◌<◌, ◌≤◌, ◌+◌, arith}
 use Rattle.normalizer_tables.specs.Table.{code_points}
-use Rattle.normalizer_tables.proofs.FirstFailing.{FailsFirst-start, FailsFirst-step, has_sound_hangul, IsFirstFailing-at, copied-slice_get}
+use Rattle.normalizer_tables.proofs.FirstFailing.{FailsFirst-start, FailsFirst-step, has_sound_hangul, IsFirstFailing-at, IsFirstFailing-at_once}
 use Rattle.normalizer_tables.proofs.WalkLemmas.{IsMetAt-answered}
 use Rattle.normalizer_tables.proofs.check.first_failing.Goals as goal
 
@@ -21,27 +21,33 @@ loop-from-init c = record {
 
 pub loop-from-preserved : goal.loop-from-preserved
 loop-from-preserved c =
+    let apart = c.first_failing_apart-failing.ensures in
+    let answers = c.end_of_alike-from.ensures in
     let sound = λ (asked : c.asks_hangul-hangul_is_sound.result ≡ true).
-    has_sound_hangul c.args.data.now c.args.conditions.now c.first_failing_apart-failing.result c.first_failing_apart-failing.ensures (c.asks_hangul-hangul_is_sound.ensures.0 asked) in
+    has_sound_hangul c.args.data.now c.args.conditions.now c.first_failing_apart-failing.result apart (c.asks_hangul-hangul_is_sound.ensures.0 asked) in
     let next = rw c.characters.ensures at c.next_with_word-number.ensures in
     let number = c.next_with_word-number.result in
     let end = c.end_of_alike-from.result in
     let number_within = within_code_points number next.within in
     record {
-      within = end_within end (c.end_of_alike-from.ensures.within next.within);
+      within = end_within end (answers.within next.within);
       complete = λ positive. c.first_failing_at-failing.ensures.complete;
       first =
           FailsFirst-step c.args.data.now c.args.conditions.now c.loop-from.from number end c.loop-from.failing c.first_failing_at-failing.result
-          c.loop-from.invariant.first (IsMetAt-answered c.args.data.now c.asks_hangul-hangul_is_sound.result sound c.loop-from.from number end next c.end_of_alike-from.ensures) c.first_failing_at-failing.ensures.place;
+          c.loop-from.invariant.first
+          (IsMetAt-answered c.args.data.now c.asks_hangul-hangul_is_sound.result sound c.loop-from.from number end next answers) c.first_failing_at-failing.ensures.place;
     }
 
 pub next_with_word-number-requires : goal.next_with_word-number-requires
 unfolding code_points
 next_with_word-number-requires c = c.loop-from-test.true
 
+pub returns-then-failing-eq0 : goal.returns-then-failing-eq0
+returns-then-failing-eq0 c =
+    IsFirstFailing-at_once c.args.data.now c.args.conditions.now c.loop-from.from c.loop-from.failing c.condition_at.result c.if-failing-eq0.true c.loop-from.invariant.first c.condition_at.ensures
+
 pub returns : goal.returns
 returns c =
     let past : 0x110000 < c.loop-from.from = omega arith in
-    let got : c.copied.result ≡ slice_get c.args.conditions.now c.loop-from.failing = c.copied.ensures ∙ copied-slice_get c.args.conditions.now c.loop-from.failing c.get.result c.get.ensures.lookup.1 c.get.ensures.lookup.3 in
-    IsFirstFailing-at c.args.data.now c.args.conditions.now c.loop-from.from c.loop-from.failing c.copied.result
-    (c.loop-from.invariant.complete (omega arith)) past c.loop-from.invariant.first got
+    IsFirstFailing-at c.args.data.now c.args.conditions.now c.loop-from.from c.loop-from.failing c.condition_at-2.result
+    (c.loop-from.invariant.complete (omega arith)) past c.loop-from.invariant.first c.condition_at-2.ensures
