@@ -12,7 +12,8 @@ unfolding visit
 length-visit d [] c = omega arith
 length-visit d (a ∷ between) c = either (joined d a between c) (length-visit d between c)
   where
-    either : (o : Option ℕ) → length between ≤ length (visit d between c) → length (a ∷ between) ≤ length (elim o as (λ _. List ℕ) [ Some composite ↦ composite ∷ between | None ↦ a ∷ visit d between c ])
+    either : (o : Option ℕ) → length between ≤ length (visit d between c) →
+        length (a ∷ between) ≤ length (elim o as (λ _. List ℕ) [ Some composite ↦ composite ∷ between | None ↦ a ∷ visit d between c ])
     either (Some composite) h = omega arith
     either None h = omega arith
 
@@ -43,7 +44,8 @@ unfolding compose visit
 compose-first d text first h = visited d [] text 0 first h
 
 -- the next character joins
-pub compose_from-joined : (d : Reading) (text : List ℕ) (place a c next : ℕ) → slice_get text place ≡ Some c → joined d a [] c ≡ Some next → compose_from d (next ∷ []) (drop (place + 1) text) ≡ compose_from d (a ∷ []) (drop place text)
+pub compose_from-joined : (d : Reading) (text : List ℕ) (place a c next : ℕ) → slice_get text place ≡ Some c → joined d a [] c ≡ Some next →
+    compose_from d (next ∷ []) (drop (place + 1) text) ≡ compose_from d (a ∷ []) (drop place text)
 compose_from-joined d text place a c next h joins =
     ap (λ w. compose_from d w (drop (place + 1) text)) (sym (visit-joined d a c next joins)) ∙ visited d (a ∷ []) text place c h
 

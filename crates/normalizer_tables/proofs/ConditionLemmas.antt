@@ -213,7 +213,8 @@ HoldsAt-elsewhere s b Passthrough n h other = λ q below. absurd (h q)
 HoldsAt-elsewhere s b _ n h other = tt
 
 -- what is left of a scalar value
-pub HoldsAt-others : (s : Characters) (b : Bounds) (c : Condition) (n : ℕ) → IsScalar n → (c ≡ Hangul → ⊥) → (c ≡ Words → ⊥) → (c ≡ Members → ⊥) → (c ≡ Order → ⊥) → (c ≡ Passthrough → ⊥) → HoldsAt s b c n
+pub HoldsAt-others : (s : Characters) (b : Bounds) (c : Condition) (n : ℕ) → IsScalar n → (c ≡ Hangul → ⊥) → (c ≡ Words → ⊥) → (c ≡ Members → ⊥) → (c ≡ Order → ⊥) → (c ≡ Passthrough → ⊥) →
+    HoldsAt s b c n
 unfolding HoldsAt
 HoldsAt-others s b Surrogates n h h1 h2 h3 h4 h5 = λ q. absurd (no_surrogate n h q)
 HoldsAt-others s b Hangul n h h1 h2 h3 h4 h5 = absurd (h1 refl)
@@ -244,7 +245,8 @@ read_alone x n o e h =
     rw first (grind (arith, nat_tests))
 
 -- with a plain word, the condition on Hangul syllables holds of all but these
-pub HoldsAt-hangul_plain : (s : Characters) (b : Bounds) (c : Condition) (n : ℕ) (r : Bool) → scalar n ≡ true → is_plain (word_of s n) ≡ true → c ≡ Hangul → r ≡ is_hangul_syllable n → (not r ≡ true → HoldsAt s b c n) × (HoldsAt s b c n → not r ≡ true)
+pub HoldsAt-hangul_plain : (s : Characters) (b : Bounds) (c : Condition) (n : ℕ) (r : Bool) → scalar n ≡ true → is_plain (word_of s n) ≡ true → c ≡ Hangul → r ≡ is_hangul_syllable n →
+    (not r ≡ true → HoldsAt s b c n) × (HoldsAt s b c n → not r ≡ true)
 unfolding HoldsAt
 HoldsAt-hangul_plain s b c n true h plain e f =
     (λ q. cc, λ q. absurd (hangul-not_plain s n plain (sym f) (subst (λ d. HoldsAt s b d n) e q)))

@@ -161,6 +161,7 @@ pub IsFirstFailing-at_once : (loaded : Loaded) (conditions : List Condition) (nu
 IsFirstFailing-at_once loaded conditions number place r first h e = IsFirstFailing-place loaded conditions place r (λ k d low kh. absurd (omega arith)) h.fails e
 
 -- what `get` and `copied` give of a slice
-pub copied-slice_get : (conditions : List Condition) (place : ℕ) (o : Option (Bor Condition)) → IfSome o (λ x. x.now ≡ get_or conditions place x.now) → MatchOption o (length conditions ≤ place) (λ x. (place < length conditions) × HoldsAtPlace (λ y. x.now ≡ y) conditions place) → option_copied o ≡ slice_get conditions place
+pub copied-slice_get : (conditions : List Condition) (place : ℕ) (o : Option (Bor Condition)) → IfSome o (λ x. x.now ≡ get_or conditions place x.now) →
+    MatchOption o (length conditions ≤ place) (λ x. (place < length conditions) × HoldsAtPlace (λ y. x.now ≡ y) conditions place) → option_copied o ≡ slice_get conditions place
 copied-slice_get conditions place None same found = sym (slice_get_past conditions place found)
 copied-slice_get conditions place (Some x) same found = sym (slice_get_read conditions (length conditions) place x.now refl found.0 same)

@@ -41,7 +41,8 @@ no_leading_consonant : (c : ℕ) → 0xAC00 ≤ c → is_leading_consonant c ≡
 unfolding is_leading_consonant
 no_leading_consonant c h = and_right _ _ (lt-leb c 0x1112 (omega arith))
 
-pub compose_hangul-lv : (leading vowel : ℕ) → is_leading_consonant leading ≡ true → is_vowel vowel ≡ true → compose_hangul leading vowel ≡ Some (0xAC00 + ((leading - 0x1100) * 588 + (vowel - 0x1161) * 28))
+pub compose_hangul-lv : (leading vowel : ℕ) → is_leading_consonant leading ≡ true → is_vowel vowel ≡ true →
+    compose_hangul leading vowel ≡ Some (0xAC00 + ((leading - 0x1100) * 588 + (vowel - 0x1161) * 28))
 unfolding compose_hangul lv_syllable
 compose_hangul-lv leading vowel h k = cond-true _ _ _ (and_from _ _ h k)
 

@@ -167,7 +167,8 @@ list_read-inhabited s i n h =
       ]
     ] refl
 
-pub HasInhabitedLists-reading_of : (s : Characters) (i : IgnoredCharacters) (pairing : ℕ → ℕ → Option ℕ) → (s.is_mapper ≡ false) ⊎ (i ≡ Replaced) → HasInhabitedLists (reading_of s (ignored_list i) pairing)
+pub HasInhabitedLists-reading_of : (s : Characters) (i : IgnoredCharacters) (pairing : ℕ → ℕ → Option ℕ) → (s.is_mapper ≡ false) ⊎ (i ≡ Replaced) →
+    HasInhabitedLists (reading_of s (ignored_list i) pairing)
 unfolding list_of
 HasInhabitedLists-reading_of s i pairing h = record {
   inhabited = λ c. elim (list_read s (ignored_list i) c) as (λ o. o ≢ Some [] → unwrap_or o (c ∷ []) ≢ []) [

@@ -25,7 +25,9 @@ too_long xs rest place n left (inl h) = absurd (omega arith)
 too_long xs rest place n left (inr h) = omega arith
 
 -- n items of what is left from a place on
-pub items_at-rest : {A : Type 0} (xs rest : List A) (place n : ℕ) (r : Option (Bor (List A))) → (place ≤ length xs) × (length xs ≤ length xs) × (rest ≡ slice_range xs place (length xs)) × (length rest + place ≡ length xs) → PartBy (λ (b : Bor (List A)). b.now) rest 0 n r → option_copied r ≡ items_at xs place n
+pub items_at-rest : {A : Type 0} (xs rest : List A) (place n : ℕ) (r : Option (Bor (List A))) →
+    (place ≤ length xs) × (length xs ≤ length xs) × (rest ≡ slice_range xs place (length xs)) × (length rest + place ≡ length xs) → PartBy (λ (b : Bor (List A)). b.now) rest 0 n r →
+    option_copied r ≡ items_at xs place n
 items_at-rest xs rest place n r (h, same, part, lengths) p =
     let e : rest ≡ drop place xs = part ∙ take_all (length xs - place) (drop place xs) (simp length-drop (omega arith)) in
     let left : length rest ≡ length xs - place = ap length e ∙ length-drop place xs in
@@ -57,11 +59,13 @@ pub listed_in-narrow : (t : Lists) (low item : ℕ) (after : ℕ → Option (Lis
 unfolding listed_in
 listed_in-narrow t low item after h = placed_in-within t.scalars16 (narrow_at t.scalars16 low) (placed_in t.scalars24 (wide_at t.scalars24 low) after) item h
 
-pub listed_in-wide : (t : Lists) (low item : ℕ) (after : ℕ → Option (List ℕ)) → length t.scalars16 ≤ item → item - length t.scalars16 < length t.scalars24 → listed_in t low after item ≡ wide_at t.scalars24 low (item - length t.scalars16)
+pub listed_in-wide : (t : Lists) (low item : ℕ) (after : ℕ → Option (List ℕ)) → length t.scalars16 ≤ item → item - length t.scalars16 < length t.scalars24 →
+    listed_in t low after item ≡ wide_at t.scalars24 low (item - length t.scalars16)
 unfolding listed_in
 listed_in-wide t low item after h k = placed_in-past t.scalars16 (narrow_at t.scalars16 low) (placed_in t.scalars24 (wide_at t.scalars24 low) after) item h ∙ placed_in-within t.scalars24 (wide_at t.scalars24 low) after (item - length t.scalars16) k
 
-pub listed_in-past : (t : Lists) (low item : ℕ) (after : ℕ → Option (List ℕ)) → length t.scalars16 ≤ item → length t.scalars24 ≤ item - length t.scalars16 → listed_in t low after item ≡ after (item - length t.scalars16 - length t.scalars24)
+pub listed_in-past : (t : Lists) (low item : ℕ) (after : ℕ → Option (List ℕ)) → length t.scalars16 ≤ item → length t.scalars24 ≤ item - length t.scalars16 →
+    listed_in t low after item ≡ after (item - length t.scalars16 - length t.scalars24)
 unfolding listed_in
 listed_in-past t low item after h k = placed_in-past t.scalars16 (narrow_at t.scalars16 low) (placed_in t.scalars24 (wide_at t.scalars24 low) after) item h ∙ placed_in-past t.scalars24 (wide_at t.scalars24 low) after (item - length t.scalars16) k
 
@@ -71,16 +75,19 @@ unfolding listed_at
 listed_at-first s item low list h = h (listed_in s.supplementary low (λ past. None))
 
 -- the list lies in the supplementary tables
-pub listed_at-supplementary : (s : Characters) (item low k : ℕ) (list : Option (List ℕ)) → ((after : ℕ → Option (List ℕ)) → listed_in s.tables low after item ≡ after k) → ((after : ℕ → Option (List ℕ)) → listed_in s.supplementary low after k ≡ list) → listed_at s item low ≡ list
+pub listed_at-supplementary : (s : Characters) (item low k : ℕ) (list : Option (List ℕ)) → ((after : ℕ → Option (List ℕ)) → listed_in s.tables low after item ≡ after k) →
+    ((after : ℕ → Option (List ℕ)) → listed_in s.supplementary low after k ≡ list) → listed_at s item low ≡ list
 unfolding listed_at
 listed_at-supplementary s item low k list first second = first (listed_in s.supplementary low (λ past. None)) ∙ second (λ past. None)
 
 -- the item is past all tables
-pub listed_at-past : (s : Characters) (item low k j : ℕ) → ((after : ℕ → Option (List ℕ)) → listed_in s.tables low after item ≡ after k) → ((after : ℕ → Option (List ℕ)) → listed_in s.supplementary low after k ≡ after j) → listed_at s item low ≡ None
+pub listed_at-past : (s : Characters) (item low k j : ℕ) → ((after : ℕ → Option (List ℕ)) → listed_in s.tables low after item ≡ after k) →
+    ((after : ℕ → Option (List ℕ)) → listed_in s.supplementary low after k ≡ after j) → listed_at s item low ≡ None
 unfolding listed_at
 listed_at-past s item low k j first second = first (listed_in s.supplementary low (λ past. None)) ∙ second (λ past. None)
 
 -- the item is past the first tables, and there are no others
-pub listed_at-alone : (s : Characters) (item low k : ℕ) → ((after : ℕ → Option (List ℕ)) → listed_in s.tables low after item ≡ after k) → s.supplementary ≡ record { scalars16 = []; scalars24 = [] } → listed_at s item low ≡ None
+pub listed_at-alone : (s : Characters) (item low k : ℕ) → ((after : ℕ → Option (List ℕ)) → listed_in s.tables low after item ≡ after k) →
+    s.supplementary ≡ record { scalars16 = []; scalars24 = [] } → listed_at s item low ≡ None
 listed_at-alone s item low k first e =
     listed_at-past s item low k (k - 0 - 0) first (λ after. subst (λ (t : Lists). listed_in t low after k ≡ after (k - 0 - 0)) (sym e) (listed_in-past (record { scalars16 = []; scalars24 = [] }) low k after (omega arith) (omega arith)))

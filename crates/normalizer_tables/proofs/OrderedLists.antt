@@ -70,7 +70,8 @@ keeps_place-either k j (inr h) =
     let none : nat_lt 0 j ≡ false = grind (arith, nat_tests) in
     rw none
 
-pub rises_from-member : (class : ℕ → ℕ) (k : ℕ) (x : List ℕ) (place m j : ℕ) → slice_get x place ≡ Some m → j ≡ class m → ((0 < j) × (k ≤ j)) ⊎ (j ≤ 0) → rises_from class k (drop place x) ≡ rises_from class j (drop (place + 1) x)
+pub rises_from-member : (class : ℕ → ℕ) (k : ℕ) (x : List ℕ) (place m j : ℕ) → slice_get x place ≡ Some m → j ≡ class m → ((0 < j) × (k ≤ j)) ⊎ (j ≤ 0) →
+    rises_from class k (drop place x) ≡ rises_from class j (drop (place + 1) x)
 unfolding rises_from
 rises_from-member class k x place m j h e either =
     let kept : keeps_place k (class m) ≡ true = keeps_place-either k (class m) (subst (λ n. ((0 < n) × (k ≤ n)) ⊎ (n ≤ 0)) e either) in

@@ -17,14 +17,16 @@ pub list_of-plain : (s : Characters) (n : ℕ) → scalar n ≡ true → is_plai
 list_of-plain s n h plain = list_of-reads s [] n (n ∷ []) (list_read-plain s n h plain)
 
 -- where the first character is a starter, the list begins safely exactly if that is never second
-pub HasSafeBeginning-first : (s : Characters) (pairs : List Pair) (n first : ℕ) (r : Bool) → slice_get (list_of s [] n) 0 ≡ Some first → class_of s first ≡ 0 → IsTrue r ↔ IsNeverSecond pairs first → IsTrue r ↔ HasSafeBeginning s pairs n
+pub HasSafeBeginning-first : (s : Characters) (pairs : List Pair) (n first : ℕ) (r : Bool) → slice_get (list_of s [] n) 0 ≡ Some first → class_of s first ≡ 0 →
+    IsTrue r ↔ IsNeverSecond pairs first → IsTrue r ↔ HasSafeBeginning s pairs n
 unfolding IsNeverSecond
 HasSafeBeginning-first s pairs n first r h starter never = (
   λ yes. let begins = begins_safely_from_first (composing_reading s pairs) (list_of s [] n) first h starter (never.0 yes) in record { begins = begins.0; safely = begins.1 },
   λ safe. never.1 (first_of_safe_beginning (composing_reading s pairs) (list_of s [] n) first h safe.safely).1,
 )
 
-pub HasSafeBeginning-plain : (s : Characters) (pairs : List Pair) (n : ℕ) (r : Bool) → scalar n ≡ true → is_plain (word_of s n) ≡ true → IsTrue r ↔ IsNeverSecond pairs n → IsTrue r ↔ HasSafeBeginning s pairs n
+pub HasSafeBeginning-plain : (s : Characters) (pairs : List Pair) (n : ℕ) (r : Bool) → scalar n ≡ true → is_plain (word_of s n) ≡ true → IsTrue r ↔ IsNeverSecond pairs n →
+    IsTrue r ↔ HasSafeBeginning s pairs n
 HasSafeBeginning-plain s pairs n r h plain never =
     HasSafeBeginning-first s pairs n n r (ap (λ x. slice_get x 0) (list_of-plain s n h plain)) (class_of-plain s n h plain) never
 
@@ -48,7 +50,8 @@ unfolding KeepsRoundTrip
 KeepsRoundTrip-plain s b pairs n plain h taken = RoundTrips-plain s pairs n h plain
 
 -- the condition on results, of the lists of a pair
-pub HasOrderedLists-members : (s : Characters) (p : Pair) (first second result : List ℕ) (r : Bool) → first ≡ list_of s [] p.1 → second ≡ list_of s [] p.0 → result ≡ list_of s [] p.2 → IsTrue r ↔ (result ≡ order (own_reading s) (first ++ second)) → IsTrue r ↔ HasOrderedLists s [] p
+pub HasOrderedLists-members : (s : Characters) (p : Pair) (first second result : List ℕ) (r : Bool) → first ≡ list_of s [] p.1 → second ≡ list_of s [] p.0 → result ≡ list_of s [] p.2 →
+    IsTrue r ↔ (result ≡ order (own_reading s) (first ++ second)) → IsTrue r ↔ HasOrderedLists s [] p
 unfolding HasOrderedLists
 HasOrderedLists-members s p first second result r of_first of_second of_result h =
     let joined = ap₂ (λ x y. order (own_reading s) (x ++ y)) of_first of_second in

@@ -32,7 +32,8 @@ use Rattle.normalizer_tables.proofs.PairLemmas.{All-listed_result}
 use Rattle.normalizer_tables.proofs.HangulLemmas.{IsLv, IsLvt, compose_hangul-some, hangul_decomposition-lv, hangul_decomposition-two, hangul_decomposition-lvt}
 
 -- a pair is one of Hangul or a listed one
-pub pair_of-some : (pairs : List Pair) (first second result : ℕ) → pair_of pairs first second ≡ Some result → (compose_hangul first second ≡ Some result) ⊎ (listed_result pairs first second ≡ Some result)
+pub pair_of-some : (pairs : List Pair) (first second result : ℕ) → pair_of pairs first second ≡ Some result →
+    (compose_hangul first second ≡ Some result) ⊎ (listed_result pairs first second ≡ Some result)
 unfolding pair_of
 pair_of-some pairs first second result joins =
     cond_both (is_vowel_or_trailing_jamo second) _ _ (λ o. o ≡ Some result → (compose_hangul first second ≡ Some result) ⊎ (listed_result pairs first second ≡ Some result)) (λ _ e. inl e) (λ _ e. inr e) joins
@@ -219,7 +220,8 @@ module _ (s : Characters) (b : Bounds) (pairs : List Pair) where
   composes_to_some n [] h e = cc
   composes_to_some n (c ∷ x) h e = cc
 
-  pub IsNormalized-passed : Holds s b Order → HoldsOfPairs s b pairs RoundTrip → (ignored : List ℕ) (n : ℕ) → IsScalar n → is_passed s b n ≡ true → IsNormalized (reading_of s ignored (pair_of pairs)) Composing (n ∷ [])
+  pub IsNormalized-passed : Holds s b Order → HoldsOfPairs s b pairs RoundTrip → (ignored : List ℕ) (n : ℕ) → IsScalar n → is_passed s b n ≡ true →
+      IsNormalized (reading_of s ignored (pair_of pairs)) Composing (n ∷ [])
   unfolding normal_form nfc nfd expand
   IsNormalized-passed in_order trips ignored n h passed =
       let d = reading_of s ignored (pair_of pairs) in
@@ -233,7 +235,8 @@ module _ (s : Characters) (b : Bounds) (pairs : List Pair) where
   same_beginning ignored [] h = tt
   same_beginning ignored (c ∷ x) h = h
 
-  pub BeginsSafely-passed : HoldsOfPairs s b pairs SafeBeginning → (ignored : List ℕ) (n : ℕ) → IsScalar n → is_passed s b n ≡ true → BeginsSafely (reading_of s ignored (pair_of pairs)) (list_of s ignored n)
+  pub BeginsSafely-passed : HoldsOfPairs s b pairs SafeBeginning → (ignored : List ℕ) (n : ℕ) → IsScalar n → is_passed s b n ≡ true →
+      BeginsSafely (reading_of s ignored (pair_of pairs)) (list_of s ignored n)
   BeginsSafely-passed holds ignored n h passed =
       let begins = beginning holds n h passed in
       subst (BeginsSafely (reading_of s ignored (pair_of pairs))) (sym (same_list ignored n h begins.begins)) (same_beginning ignored (list_of s [] n) begins.safely)

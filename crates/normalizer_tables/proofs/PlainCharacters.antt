@@ -25,9 +25,11 @@ unfolding normal_form nfc nfd expand order insert compose compose_from visit
 form_of_itself d Decomposing c itself = rw itself refl
 form_of_itself d Composing c itself = rw itself refl
 
-pub IsNormalized-plain_word : (s : Characters) (ignored : List ℕ) (pairing : ℕ → ℕ → Option ℕ) (form : Form) (n : ℕ) → scalar n ≡ true → is_plain (word_of s n) ≡ true → IsNormalized (reading_of s ignored pairing) form (n ∷ [])
+pub IsNormalized-plain_word : (s : Characters) (ignored : List ℕ) (pairing : ℕ → ℕ → Option ℕ) (form : Form) (n : ℕ) → scalar n ≡ true → is_plain (word_of s n) ≡ true →
+    IsNormalized (reading_of s ignored pairing) form (n ∷ [])
 IsNormalized-plain_word s ignored pairing form n h plain = form_of_itself (reading_of s ignored pairing) form n (list_of-plain_word s ignored n h plain)
 
-pub continues-plain_word : (s : Characters) (ignored : List ℕ) (pairing : ℕ → ℕ → Option ℕ) (n : ℕ) → scalar n ≡ true → is_plain (word_of s n) ≡ true → continues (has_class_form s) (reading_of s ignored pairing) n ≡ false
+pub continues-plain_word : (s : Characters) (ignored : List ℕ) (pairing : ℕ → ℕ → Option ℕ) (n : ℕ) → scalar n ≡ true → is_plain (word_of s n) ≡ true →
+    continues (has_class_form s) (reading_of s ignored pairing) n ≡ false
 unfolding continues has_class_form
 continues-plain_word s ignored pairing n h plain = rw (plain-no_class_form (word_of s n) plain, list_of-plain_word s ignored n h plain) refl

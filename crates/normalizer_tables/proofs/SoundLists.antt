@@ -143,7 +143,8 @@ unfolding IsPlainStarter
 ignored_beginning s b sound Dropped d e = tt
 ignored_beginning s b sound Replaced d e = e 0xFFFD ∙ (replacement_of s b sound).1
 
-pub BeginsWithStarter-list_of : (s : Characters) (b : Bounds) → IsSoundData s b → (i : IgnoredCharacters) (pairing : ℕ → ℕ → Option ℕ) (c : ℕ) → has_class_form s c ≡ false → BeginsWithStarter (reading_of s (ignored_list i) pairing) (list_of s (ignored_list i) c)
+pub BeginsWithStarter-list_of : (s : Characters) (b : Bounds) → IsSoundData s b → (i : IgnoredCharacters) (pairing : ℕ → ℕ → Option ℕ) (c : ℕ) → has_class_form s c ≡ false →
+    BeginsWithStarter (reading_of s (ignored_list i) pairing) (list_of s (ignored_list i) c)
 BeginsWithStarter-list_of s b sound i pairing c h =
     elim (kind_of s (ignored_list i) c) [
       | elsewhere q e ↦ subst (BeginsWithStarter (reading_of s (ignored_list i) pairing)) (sym e) (class_of-no_class_form s c h)
@@ -155,7 +156,8 @@ order-ignored : (i : IgnoredCharacters) (d : Reading) → order d (ignored_list 
 order-ignored Dropped d = order-nil d
 order-ignored Replaced d = order-one d 0xFFFD
 
-pub order-list_of : (s : Characters) (b : Bounds) → IsSoundData s b → (i : IgnoredCharacters) (pairing : ℕ → ℕ → Option ℕ) (c : ℕ) → order (reading_of s (ignored_list i) pairing) (list_of s (ignored_list i) c) ≡ list_of s (ignored_list i) c
+pub order-list_of : (s : Characters) (b : Bounds) → IsSoundData s b → (i : IgnoredCharacters) (pairing : ℕ → ℕ → Option ℕ) (c : ℕ) →
+    order (reading_of s (ignored_list i) pairing) (list_of s (ignored_list i) c) ≡ list_of s (ignored_list i) c
 order-list_of s b sound i pairing c =
     elim (kind_of s (ignored_list i) c) [
       | elsewhere q e ↦ subst (λ x. order (reading_of s (ignored_list i) pairing) x ≡ x) (sym e) (order-one (reading_of s (ignored_list i) pairing) c)

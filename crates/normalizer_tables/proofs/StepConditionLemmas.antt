@@ -19,13 +19,15 @@ pub IsSoundStep-same : (s : Characters) (n : ℕ) (step other : Step) (r : Bool)
 IsSoundStep-same s n step other r e h = subst (λ o. IsTrue r ↔ IsSoundStep s n o) (sym e) h
 
 -- a list that isn't the character alone
-pub IsInOrder-apart : (s : Characters) (n : ℕ) (x list : List ℕ) (is_alone r : Bool) → list ≡ list_of s [] n → IsTrue is_alone ↔ (list ≡ n ∷ []) → is_alone ≡ false → IsTrue r ↔ (list_of s [] n ≡ order (own_reading s) x) → IsTrue r ↔ IsInOrder s n x
+pub IsInOrder-apart : (s : Characters) (n : ℕ) (x list : List ℕ) (is_alone r : Bool) → list ≡ list_of s [] n → IsTrue is_alone ↔ (list ≡ n ∷ []) → is_alone ≡ false →
+    IsTrue r ↔ (list_of s [] n ≡ order (own_reading s) x) → IsTrue r ↔ IsInOrder s n x
 unfolding IsInOrder
 IsInOrder-apart s n x list true r of_n alone apart h = cc
 IsInOrder-apart s n x list false r of_n alone apart h = (λ yes. (λ e. let f = alone.1 (of_n ∙ e) in cc, h.0 yes), λ ordered. h.1 ordered.1)
 
 -- a list that is
-pub IsInOrder-alone : (s : Characters) (n : ℕ) (x list : List ℕ) (is_alone : Bool) → list ≡ list_of s [] n → IsTrue is_alone ↔ (list ≡ n ∷ []) → is_alone ≡ true → IsTrue (not is_alone) ↔ IsInOrder s n x
+pub IsInOrder-alone : (s : Characters) (n : ℕ) (x list : List ℕ) (is_alone : Bool) → list ≡ list_of s [] n → IsTrue is_alone ↔ (list ≡ n ∷ []) → is_alone ≡ true →
+    IsTrue (not is_alone) ↔ IsInOrder s n x
 unfolding IsInOrder
 IsInOrder-alone s n x list true of_n alone same = (λ f. cc, λ ordered. absurd (ordered.0 (sym of_n ∙ alone.0 refl)))
 IsInOrder-alone s n x list false of_n alone same = cc

@@ -179,7 +179,8 @@ module _ (s : Characters) (sound : (n : ℕ) → IsSoundHangul s n) where
     -- it begins safely where its leading consonant does
     HasSafeBeginning-syllable : (pairs : List Pair) → ((a : ℕ) → pair_of pairs a (0x1100 + (n - 0xAC00) / 588) ≡ None) → HasSafeBeginning s pairs n
     HasSafeBeginning-syllable pairs never =
-        let safe = begins_safely_from_first (composing_reading s pairs) (list_of s [] n) (0x1100 + (n - 0xAC00) / 588) (ap (λ x. slice_get x 0) jamo_list) (jamo_starts _ (jamo.members 0 0 (omega arith))) never in
+        let starts = jamo_starts _ (jamo.members 0 0 (omega arith)) in
+        let safe = begins_safely_from_first (composing_reading s pairs) (list_of s [] n) (0x1100 + (n - 0xAC00) / 588) (ap (λ x. slice_get x 0) jamo_list) starts never in
         record { begins = safe.0; safely = safe.1 }
 
     leading_never_second : (pairs : List Pair) → HasSafeBeginning s pairs n → (a : ℕ) → pair_of pairs a (0x1100 + (n - 0xAC00) / 588) ≡ None

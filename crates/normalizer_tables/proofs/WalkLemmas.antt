@@ -127,7 +127,8 @@ module _ (d : Loaded) (c : Condition) (no_trip : c ≡ RoundTrip → ⊥) (no_be
   unfolding IsMetApartAt IsMetAt
   alone_met asked met n = (met n (asked n)).0
 
-pub IsMetApartAt-surrogates : (d : Loaded) (c : Condition) (r : Bool) → c ≡ Surrogates → IsTrue r ↔ ((n : ℕ) → is_surrogate n ≡ true → word_of d.characters n ≡ 0xC000FFFD) → IsTrue r ↔ IsMetApartAt d c
+pub IsMetApartAt-surrogates : (d : Loaded) (c : Condition) (r : Bool) → c ≡ Surrogates → IsTrue r ↔ ((n : ℕ) → is_surrogate n ≡ true → word_of d.characters n ≡ 0xC000FFFD) →
+    IsTrue r ↔ IsMetApartAt d c
 unfolding HoldsAt is_asked_apart
 IsMetApartAt-surrogates d c r e h =
     subst (λ k. IsTrue r ↔ IsMetApartAt d k) (sym e) (
@@ -149,7 +150,8 @@ IfSome-each : {A : Type 0} (P : ℕ → Type 0) (Q : A → ℕ → Type 0) (o : 
 IfSome-each P Q None h = tt
 IfSome-each P Q (Some a) h = h
 
-pub IsMetApartAt-beginnings : (d : Loaded) (c : Condition) (r : Bool) → c ≡ SafeBeginning → IsTrue r ↔ IfSome d.pairs (λ pairs. (n : ℕ) → KeepsPlainBeginning d.characters d.bounds pairs n) → IsTrue r ↔ IsMetApartAt d c
+pub IsMetApartAt-beginnings : (d : Loaded) (c : Condition) (r : Bool) → c ≡ SafeBeginning → IsTrue r ↔ IfSome d.pairs (λ pairs. (n : ℕ) → KeepsPlainBeginning d.characters d.bounds pairs n) →
+    IsTrue r ↔ IsMetApartAt d c
 unfolding IsMetApartAt IsMetAt HoldsAt PairsHoldAt StepsHoldAt KeepsPlainBeginning is_asked_apart
 IsMetApartAt-beginnings d c r e h =
     subst (λ k. IsTrue r ↔ IsMetApartAt d k) (sym e) (
