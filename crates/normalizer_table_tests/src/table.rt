@@ -1,7 +1,7 @@
 //! The code point table.
 use crate::edits::Range;
 use crate::shown::is_shown_as;
-use normalizer_tables::{CodePointTable, TableError};
+use normalizer_tables::{CodePointTable, TableError, block_count};
 use std::alloc::Global;
 
 /// The table of some ranges.
@@ -103,6 +103,38 @@ fn has_word_in_empty_copy(alloc: Global, number: u32, word: u32) -> bool {
 fn a_copy_of_no_ranges_has_the_word_0(rt: HostRuntime) {
     assert!(rt; has_word_in_empty_copy(rt.alloc(), 0x10_FFFF, 0));
     assert!(rt; has_word_in_empty_copy(rt.alloc(), 0x11_0000, 1));
+}
+
+fn blocks_of(alloc: Global, ranges: &[Range]) -> Option<usize> {
+    Some(block_count(&table_of(alloc, ranges, 0)?))
+}
+
+#[test]
+fn equal_blocks_are_kept_once(rt: HostRuntime) {
+    assert_eq!(rt; blocks_of(rt.alloc(), &[]), Some(1));
+    assert_eq!(rt; blocks_of(rt.alloc(), &[(0xAC00, 0xD7A3, 1)]), Some(3));
+}
+
+const TOGETHER: [Range; 1] = [(0x61, 0x62, 1)];
+
+const APART: [Range; 2] = [(0x61, 0x61, 1), (0x62, 0x62, 1)];
+
+/// Whether the table of a range is equal to that of its numbers one by one, with this word past the end.
+fn is_equal_apart(alloc: Global, past: u32) -> Option<bool> {
+    Some(table_of(alloc, &TOGETHER, 0)? == table_of(alloc, &APART, past)?)
+}
+
+fn is_equal_to_its_copy(alloc: Global) -> Option<bool> {
+    let table = table_of(alloc, &APART, 0)?;
+    let copy = table.clone().ok()?;
+    Some(table == copy)
+}
+
+#[test]
+fn tables_of_the_same_words_are_equal(rt: HostRuntime) {
+    assert_eq!(rt; is_equal_apart(rt.alloc(), 0), Some(true));
+    assert_eq!(rt; is_equal_apart(rt.alloc(), 1), Some(false));
+    assert_eq!(rt; is_equal_to_its_copy(rt.alloc()), Some(true));
 }
 
 static REFUSED: [&[Range]; 8] = [
