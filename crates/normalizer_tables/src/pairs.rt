@@ -131,7 +131,9 @@ impl PartialEq for CanonicalCompositions {
 
     ghost eq = { pointwise same_pair };
 
-    ghost laws = { partial_equiv_from_equiv (lists_equiv (and_equiv (and_equiv (on_equiv (λ (p : Pair). p.0) nat_eq_equiv) (on_equiv (λ (p : Pair). p.1) nat_eq_equiv)) (on_equiv (λ (p : Pair). p.2) nat_eq_equiv))) };
+    ghost laws = { partial_equiv_from_equiv (lists_equiv
+        (and_equiv (and_equiv (on_equiv (λ (p : Pair). p.0) nat_eq_equiv) (on_equiv (λ (p : Pair). p.1) nat_eq_equiv))
+        (on_equiv (λ (p : Pair). p.2) nat_eq_equiv))) };
 
     fn eq(&self, other: &Self) -> bool {
         self.pairs == other.pairs
@@ -142,7 +144,9 @@ impl Eq for CanonicalCompositions {
     ghost use Rattle.std.proofs.lemmas.Cmp.{and_equiv, lists_equiv, nat_eq_equiv, on_equiv};
     ghost use Rattle.normalizer_tables.specs.Pairs.{Pair};
 
-    ghost laws = { lists_equiv (and_equiv (and_equiv (on_equiv (λ (p : Pair). p.0) nat_eq_equiv) (on_equiv (λ (p : Pair). p.1) nat_eq_equiv)) (on_equiv (λ (p : Pair). p.2) nat_eq_equiv)) };
+    ghost laws = { lists_equiv
+        (and_equiv (and_equiv (on_equiv (λ (p : Pair). p.0) nat_eq_equiv) (on_equiv (λ (p : Pair). p.1) nat_eq_equiv))
+        (on_equiv (λ (p : Pair). p.2) nat_eq_equiv)) };
 }
 
 impl Clone for CanonicalCompositions {
