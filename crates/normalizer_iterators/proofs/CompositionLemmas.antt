@@ -4,7 +4,9 @@ use Rattle.std.specs.Iterator.{Count, IsFinite, at_most, MakesProgress}
 use Rattle.normal_forms.specs.Reading.{Reading, IsStarter, IsMark}
 use Rattle.normal_forms.specs.CompositionByStarters.{compose_after, compose_by_starters}
 use Rattle.normal_forms.proofs.ComposeLemmas.{compose_by_starters-nil, compose_by_starters-starter, compose_by_starters-mark}
+use Rattle.normalizer_tables.specs.Characters.{Characters}
 use Rattle.normalizer_tables.specs.PairConditions.{composing_reading}
+use Rattle.normalizer_tables.specs.Pairs.{Pair}
 use Rattle.normalizer_iterators.specs.declared.composition.Ahead.{Ahead}
 use Rattle.normalizer_iterators.specs.declared.composition.Ahead.TheVariants.{NoStarter, Passed, Starter, Ended}
 use Rattle.normalizer_iterators.specs.declared.composition.Composition.{Composition}
@@ -15,7 +17,6 @@ use Rattle.normalizer_iterators.specs.declared.marks.StayingMarks.{StayingMarks}
 use Rattle.normalizer_iterators.specs.Decomposition as decomposition
 use Rattle.normalizer_iterators.specs.NextItem.{GaveFirst}
 use Rattle.normalizer_iterators.specs.StayingMarks.{staying}
-use Rattle.normalizer_iterators.specs.LazyComposing.{SuitsLazyComposing}
 use Rattle.normalizer_iterators.specs.MarkRuns.{HasShortMarkRuns}
 use Rattle.normalizer_iterators.specs.Passing.{IsAtPassed, PassesOn, GivesStarter}
 use Rattle.normalizer_iterators.specs.Composing.{composed_ahead, ahead_left, items_left, UnlessEnded, WherePassed, IsBeforeStarter, WillGiveBehind, GivesShort, ComposesStarter, ComposesOn}
@@ -24,19 +25,31 @@ use Rattle.normalizer_iterators.proofs.MarkRunLemmas.{HasShortMarkRuns-rest}
 use Rattle.normalizer_iterators.proofs.StarterLemmas.{GivesShort-next, GivesShort-no_fault}
 
 module _ {I : Type 0} (can : I → Type 0) (gives : I → Option ℕ → I → Type 0) (left : I → Count) where
+  -- ---- the same data under another name
+
+  pub behind_by : (k l : Characters) (pairs : List Pair) (marks : List ℕ) (ahead : Ahead) (n : Decomposition I) (out : List ℕ) → k ≡ l
+      → WillGiveBehind gives (composing_reading l pairs) marks ahead n out → WillGiveBehind gives (composing_reading k pairs) marks ahead n out
+  behind_by k l pairs marks ahead n out same h = subst (λ j. WillGiveBehind gives (composing_reading j pairs) marks ahead n out) (sym same) h
+
+  pub short_by : (k l : Characters) (pairs : List Pair) (ahead : Ahead) (n : Decomposition I) → k ≡ l
+      → UnlessEnded ahead (GivesShort gives (composing_reading l pairs) n) → UnlessEnded ahead (GivesShort gives (composing_reading k pairs) n)
+  short_by k l pairs ahead n same h = subst (λ j. UnlessEnded ahead (GivesShort gives (composing_reading j pairs) n)) (sym same) h
+
   -- ---- a starter is composed, or a fault comes
 
   pub ComposesOn-given : (starter : ℕ) (s : Composition I) (composite : ℕ) (m : StayingMarks) (ahead : Ahead) (n : Decomposition I) → CanCompose can left s
-      → ComposesStarter gives left (pairing_by s) starter s.decomposed composite (staying m) ahead n → decomposition.CanDecompose can left n → n.characters ≡ s.characters
+      → ComposesStarter gives left (pairing_by s) starter s.decomposed composite (staying m) ahead n → decomposition.CanDecompose can left n → n.characters ≡ s.decomposed.characters
       → WherePassed ahead (IsAtPassed s.pairs.now n) → ComposesOn can gives left starter s (Ok composite) (record s { decomposed = n; marks = m; ahead = ahead })
   ComposesOn-given starter s composite m ahead n before composes ready same passed = record {
-    first = composes.text;
+    first = λ y h.
+        let text = composes.text y h in
+        (text.0, text.1, behind_by n.characters s.decomposed.characters s.pairs.now (staying m) ahead n text.0 same text.2);
     fault = tt;
-    room = λ h. (refl, composes.short h);
+    room = λ h. (refl, short_by n.characters s.decomposed.characters s.pairs.now ahead n same (composes.short h));
     ends = tt;
-    ready = record { source = ready; same = same; suits = before.suits; passed = passed };
+    ready = record { source = ready; suits = rw same before.suits; passed = passed };
     fewer = composes.fewer;
-    kept = (refl, refl);
+    kept = (same, refl);
   }
 
   -- nothing is to come
@@ -44,16 +57,16 @@ module _ {I : Type 0} (can : I → Type 0) (gives : I → Option ℕ → I → T
   nothing_ahead d marks n none = record { unread = []; source = tt; text = ap (λ l. l ++ []) (sym none) }
 
   pub ComposesOn-fault : (starter : ℕ) (s : Composition I) (e : NormalizeError) (m : StayingMarks) (n : Decomposition I) → CanCompose can left s → e ≡ Memory
-      → (GivesShort gives (pairing_by s) s.decomposed → ⊥) → staying m ≡ [] → decomposition.CanDecompose can left n → n.characters ≡ s.characters
+      → (GivesShort gives (pairing_by s) s.decomposed → ⊥) → staying m ≡ [] → decomposition.CanDecompose can left n → n.characters ≡ s.decomposed.characters
       → ComposesOn can gives left starter s (Err e) (record s { decomposed = n; marks = m; ahead = Ended })
   ComposesOn-fault starter s e m n before memory long none ready same = record {
-    first = λ y h. nothing_ahead (pairing_by s) (staying m) n none;
+    first = λ y h. nothing_ahead (composing_reading n.characters s.pairs.now) (staying m) n none;
     fault = memory;
     room = λ h. absurd (long h);
     ends = (refl, none);
-    ready = record { source = ready; same = same; suits = before.suits; passed = tt };
+    ready = record { source = ready; suits = rw same before.suits; passed = tt };
     fewer = omega (arith, ap length none);
-    kept = (refl, refl);
+    kept = (same, refl);
   }
 
   -- ---- a mark is given
@@ -71,7 +84,7 @@ module _ {I : Type 0} (can : I → Type 0) (gives : I → Option ℕ → I → T
       ends = tt;
       stays = λ h. cc (h.1, front);
     };
-    ready = λ h. record { source = h.source; same = h.same; suits = h.suits; passed = h.passed };
+    ready = λ h. record { source = h.source; suits = h.suits; passed = h.passed };
     kept = (refl, refl);
   }
 
@@ -92,7 +105,7 @@ module _ {I : Type 0} (can : I → Type 0) (gives : I → Option ℕ → I → T
       ends = (is, none_left);
       stays = λ h. refl;
     };
-    ready = λ h. record { source = h.source; same = h.same; suits = h.suits; passed = h.passed };
+    ready = λ h. record { source = h.source; suits = h.suits; passed = h.passed };
     kept = (refl, refl);
   }
 
@@ -126,14 +139,11 @@ module _ {I : Type 0} (can : I → Type 0) (gives : I → Option ℕ → I → T
   -- ---- it may be called
 
   pub CanCompose-marks : (s : Composition I) (m : StayingMarks) → CanCompose can left s → CanCompose can left (record s { marks = m })
-  CanCompose-marks s m h = record { source = h.source; same = h.same; suits = h.suits; passed = h.passed }
+  CanCompose-marks s m h = record { source = h.source; suits = h.suits; passed = h.passed }
 
   pub CanCompose-next : (s : Composition I) (m : StayingMarks) (n : Decomposition I) → CanCompose can left s → s.ahead ≡ NoStarter → decomposition.CanDecompose can left n
       → n.characters ≡ s.decomposed.characters → CanCompose can left (record s { marks = m; decomposed = n })
-  CanCompose-next s m n h is ready kept = record { source = ready; same = kept ∙ h.same; suits = h.suits; passed = subst (λ b. WherePassed b (IsAtPassed s.pairs.now n)) (sym is) tt }
-
-  pub suits_source : (s : Composition I) → CanCompose can left s → SuitsLazyComposing s.decomposed.characters s.bounds s.pairs.now
-  suits_source s h = subst (λ k. SuitsLazyComposing k s.bounds s.pairs.now) (sym h.same) h.suits
+  CanCompose-next s m n h is ready kept = record { source = ready; suits = rw kept h.suits; passed = subst (λ b. WherePassed b (IsAtPassed s.pairs.now n)) (sym is) tt }
 
   -- ---- where no mark is given first, it doesn't matter how many were
 
@@ -198,14 +208,14 @@ module _ {I : Type 0} (can : I → Type 0) (gives : I → Option ℕ → I → T
         let d = pairing_by s in
         record {
           item = record {
-            first = λ out h. nothing_ahead d (staying m) n none_left;
+            first = λ out h. nothing_ahead (composing_reading n.characters s.pairs.now) (staying m) n none_left;
             fault = step.item.fault;
             room = λ h. absurd (GivesShort-no_fault can gives left d s.decomposed e n step (short_before h));
             ends = (refl, none_left);
             stays = λ h. absurd (not_ended h.0);
           };
-          ready = λ h. record { source = step.ready h.source; same = step.kept.0 ∙ h.same; suits = h.suits; passed = tt };
-          kept = (refl, refl);
+          ready = λ h. record { source = step.ready h.source; suits = rw step.kept.0 h.suits; passed = tt };
+          kept = (step.kept.0, refl);
         }
 
     module _ (none : staying s.marks ≡ []) where
@@ -222,19 +232,21 @@ module _ {I : Type 0} (can : I → Type 0) (gives : I → Option ℕ → I → T
           → ComposesOn can gives left c (record s { marks = m; decomposed = n; ahead = a }) r t → CompositionSteps can gives left s (Some r) t
       Steps-first_starter c m n a r t step starter on =
           let d = pairing_by s in
+          let same_after : (y : List ℕ) → compose_after d c [] y ≡ compose_after (composing_reading n.characters s.pairs.now) c [] y
+          = λ y. ap (λ k. compose_after (composing_reading k s.pairs.now) c [] y) (sym step.kept.0) in
           record {
             item = record {
               first = λ out h.
                   let next = step.item.first h.unread (source_before h) in
                   let text : out ≡ compose_after d c [] next.0 = text_before out h ∙ ap (compose_by_starters d) next.1 ∙ compose_by_starters-starter d c next.0 starter in
-                  subst (λ o. MatchResult r (GaveFirst (WillGive gives) o t) (λ _. WillGive gives t [])) (sym text) (on.first next.0 next.2);
+                  subst (λ o. MatchResult r (GaveFirst (WillGive gives) o t) (λ _. WillGive gives t [])) (sym (text ∙ same_after next.0)) (on.first next.0 next.2);
               fault = on.fault;
-              room = λ h. on.room (GivesShort-next can gives left d s.decomposed c n step (short_before h)).0;
+              room = λ h. on.room (short_by n.characters s.decomposed.characters s.pairs.now NoStarter n step.kept.0 (GivesShort-next can gives left d s.decomposed c n step (short_before h)).0);
               ends = on.ends;
               stays = λ h. absurd (not_ended h.0);
             };
             ready = λ _. on.ready;
-            kept = on.kept;
+            kept = (on.kept.0 ∙ step.kept.0, on.kept.1);
           }
 
       pub Steps-end : (m : StayingMarks) (n : Decomposition I) → staying m ≡ [] → decomposition.DecompositionSteps can gives left s.decomposed None n
@@ -245,14 +257,14 @@ module _ {I : Type 0} (can : I → Type 0) (gives : I → Option ℕ → I → T
             item = record {
               first = λ out h.
                   let end = step.item.first h.unread (source_before h) in
-                  (text_before out h ∙ ap (compose_by_starters d) end.0 ∙ compose_by_starters-nil d, nothing_ahead d (staying m) n none_left);
+                  (text_before out h ∙ ap (compose_by_starters d) end.0 ∙ compose_by_starters-nil d, nothing_ahead (composing_reading n.characters s.pairs.now) (staying m) n none_left);
               fault = tt;
               room = λ h. (tt, tt);
               ends = (refl, none_left);
               stays = λ h. refl;
             };
-            ready = λ h. record { source = step.ready h.source; same = step.kept.0 ∙ h.same; suits = h.suits; passed = tt };
-            kept = (refl, refl);
+            ready = λ h. record { source = step.ready h.source; suits = rw step.kept.0 h.suits; passed = tt };
+            kept = (step.kept.0, refl);
           }
 
       -- a character is given as it is
@@ -263,25 +275,35 @@ module _ {I : Type 0} (can : I → Type 0) (gives : I → Option ℕ → I → T
           record {
             item = record {
               first = λ out h.
-                  let next = on.text h.unread (source_before h) in
-                  let composed = subst (λ k. compose_by_starters (composing_reading k s.pairs.now) h.unread ≡ c ∷ compose_by_starters (composing_reading k s.pairs.now) next.1) ready.same next.3 in
-                  (compose_by_starters d next.1, text_before out h ∙ composed, record { unread = next.1; source = next.4; text = ap (λ l. l ++ compose_by_starters d next.1) (sym none) });
+                  let next = on.text h.unread (source_before h) in (
+                    compose_by_starters d next.1,
+                    text_before out h ∙ next.3,
+                    behind_by n.characters s.decomposed.characters s.pairs.now (staying s.marks) Passed n _ on.kept
+                        (record { unread = next.1; source = next.4; text = ap (λ l. l ++ compose_by_starters d next.1) (sym none) }),
+                  );
               fault = tt;
               room = λ h.
                   let short = short_before h in
-                  let next = on.text short.unread short.source in
-                  (refl, record { unread = next.1; source = next.4; short = on.short short.short; runs = HasShortMarkRuns-rest d next.0 next.1 (subst (HasShortMarkRuns d) next.2 short.runs) });
+                  let next = on.text short.unread short.source in (
+                    refl,
+                    short_by n.characters s.decomposed.characters s.pairs.now Passed n on.kept (record {
+                      unread = next.1;
+                      source = next.4;
+                      short = on.short short.short;
+                      runs = HasShortMarkRuns-rest d next.0 next.1 (subst (HasShortMarkRuns d) next.2 short.runs);
+                    }),
+                  );
               ends = tt;
               stays = λ h. absurd (not_ended h.0);
             };
-            ready = λ h. record { source = on.ready; same = on.kept ∙ h.same; suits = h.suits; passed = on.at_passed };
-            kept = (refl, refl);
+            ready = λ h. record { source = on.ready; suits = rw on.kept h.suits; passed = on.at_passed };
+            kept = (on.kept, refl);
           }
 
       pub Goes-passed : (c : ℕ) (n : Decomposition I) → CanCompose can left s → PassesOn can gives left s.pairs.now s.decomposed c n
           → MakesProgress {A = Result ℕ NormalizeError} (CanCompose can left) (λ v. at_most (items_left left v)) s (Some (Ok c)) (record s { decomposed = n; ahead = Passed })
       Goes-passed c n ready on =
-          Goes-item s (Ok c) (record s { decomposed = n; ahead = Passed }) (record { source = on.ready; same = on.kept ∙ ready.same; suits = ready.suits; passed = on.at_passed })
+          Goes-item s (Ok c) (record s { decomposed = n; ahead = Passed }) (record { source = on.ready; suits = rw on.kept ready.suits; passed = on.at_passed })
           (omega (arith, on.fewer, left_in_source, ap length none))
 
       pub Goes-first_starter : (c : ℕ) (m : StayingMarks) (n : Decomposition I) (a : Ahead) (r : Result ℕ NormalizeError) (t : Composition I) → GivesStarter can gives left s.decomposed c n
@@ -293,7 +315,7 @@ module _ {I : Type 0} (can : I → Type 0) (gives : I → Option ℕ → I → T
           → decomposition.items_left left n < decomposition.items_left left s.decomposed
           → MakesProgress {A = Result ℕ NormalizeError} (CanCompose can left) (λ v. at_most (items_left left v)) s (Some (Err e)) (record s { decomposed = n; ahead = Ended })
       Goes-fault e n ready step fewer =
-          Goes-item s (Err e) (record s { decomposed = n; ahead = Ended }) (record { source = step.ready ready.source; same = step.kept.0 ∙ ready.same; suits = ready.suits; passed = tt })
+          Goes-item s (Err e) (record s { decomposed = n; ahead = Ended }) (record { source = step.ready ready.source; suits = rw step.kept.0 ready.suits; passed = tt })
           (omega (arith, left_in_source, ap length none))
 
   pub Steps-leading_mark : (s : Composition I) (c : ℕ) (m : StayingMarks) (n : Decomposition I) → s.ahead ≡ NoStarter → staying s.marks ≡ [] → staying m ≡ []
@@ -309,19 +331,20 @@ module _ {I : Type 0} (can : I → Type 0) (gives : I → Option ℕ → I → T
                 compose_by_starters d next.0,
                 h.text ∙ ap (λ b. staying s.marks ++ composed_ahead d b h.unread) is ∙ ap (λ l. l ++ compose_by_starters d h.unread) none
                     ∙ ap (compose_by_starters d) next.1 ∙ compose_by_starters-mark d c next.0 mark,
-                subst (λ b. WillGiveBehind gives d (staying m) b n (compose_by_starters d next.0)) (sym is)
-                    (record { unread = next.0; source = next.2; text = ap (λ l. l ++ compose_by_starters d next.0) (sym none_left) }),
+                behind_by n.characters s.decomposed.characters s.pairs.now (staying m) s.ahead n _ step.kept.0 (subst (λ b. WillGiveBehind gives d (staying m) b n (compose_by_starters d next.0)) (sym is)
+                    (record { unread = next.0; source = next.2; text = ap (λ l. l ++ compose_by_starters d next.0) (sym none_left) })),
               );
           fault = tt;
           room = λ h. (
             refl,
-            subst (λ b. UnlessEnded b (GivesShort gives d n)) (sym is) (GivesShort-next can gives left d s.decomposed c n step (subst (λ b. UnlessEnded b (GivesShort gives d s.decomposed)) is h)).0,
+            short_by n.characters s.decomposed.characters s.pairs.now s.ahead n step.kept.0 (subst (λ b. UnlessEnded b (GivesShort gives d n)) (sym is)
+                (GivesShort-next can gives left d s.decomposed c n step (subst (λ b. UnlessEnded b (GivesShort gives d s.decomposed)) is h)).0),
           );
           ends = tt;
           stays = λ h. cc (h.0, is);
         };
-        ready = λ h. record { source = step.ready h.source; same = step.kept.0 ∙ h.same; suits = h.suits; passed = subst (λ b. WherePassed b (IsAtPassed s.pairs.now n)) (sym is) tt };
-        kept = (refl, refl);
+        ready = λ h. record { source = step.ready h.source; suits = rw step.kept.0 h.suits; passed = subst (λ b. WherePassed b (IsAtPassed s.pairs.now n)) (sym is) tt };
+        kept = (step.kept.0, refl);
       }
 
   pub Goes-leading_mark : (s : Composition I) (c : ℕ) (m : StayingMarks) (n : Decomposition I) → s.ahead ≡ NoStarter → staying s.marks ≡ [] → staying m ≡ [] → CanCompose can left s
@@ -335,5 +358,5 @@ module _ {I : Type 0} (can : I → Type 0) (gives : I → Option ℕ → I → T
       → decomposition.DecompositionSteps can gives left s.decomposed (Some (Err e)) n → decomposition.items_left left n < decomposition.items_left left s.decomposed
       → MakesProgress {A = Result ℕ NormalizeError} (CanCompose can left) (λ v. at_most (items_left left v)) s (Some (Err e)) (record s { marks = m; decomposed = n; ahead = Ended })
   Goes-first_fault s e m n is none_left ready step fewer =
-      Goes-item s (Err e) (record s { marks = m; decomposed = n; ahead = Ended }) (record { source = step.ready ready.source; same = step.kept.0 ∙ ready.same; suits = ready.suits; passed = tt })
+      Goes-item s (Err e) (record s { marks = m; decomposed = n; ahead = Ended }) (record { source = step.ready ready.source; suits = rw step.kept.0 ready.suits; passed = tt })
       (omega (arith, ap length none_left, ap (λ b. ahead_left b (decomposition.items_left left s.decomposed)) is))

@@ -79,8 +79,11 @@ module _ {I : Type 0} (can : I → Type 0) (gives : I → Option ℕ → I → T
             (s.anew c pending) r (to_come out h) in
             (next.0, next.1, rw (characters, ignored) next.2);
         fault = tt;
-        room = λ h.
-            (refl, rw (characters, ignored) (AreShortToCome-chunk gives can left (has_class_form s.characters) (reading_by s) c s.delegate t.delegate first (pending_of t) t.waiting r (short_to_come h)));
+        room = λ h. (
+          refl,
+          rw (characters, ignored)
+              (AreShortToCome-chunk gives can left (has_class_form s.characters) (reading_by s) c s.delegate t.delegate first (pending_of t) t.waiting r (short_to_come h)),
+        );
         ends = tt;
         stays = λ h. cc (h.0, pending);
       };

@@ -88,13 +88,13 @@ module _ {I : Type 0} where
 
   -- the data and the pairs by which it composes
   abbrev pub data_of_composition : Composition I → Characters
-  data_of_composition s = s.characters
+  data_of_composition s = s.decomposed.characters
 
   abbrev pub pairs_of_composition : Composition I → List Pair
   pairs_of_composition s = s.pairs.now
 
   abbrev pub pairing_by : Composition I → Reading
-  pairing_by s = composing_reading s.characters s.pairs.now
+  pairing_by s = composing_reading (data_of_composition s) (pairs_of_composition s)
 
   -- these characters, where memory suffices
   abbrev pub WillGive : (I → Option ℕ → I → Type 0) → Composition I → List ℕ → Type 0
@@ -110,8 +110,7 @@ module _ {I : Type 0} where
   -- it may be called: data and pairs may be composed lazily
   pub record CanCompose (can : I → Type 0) (left : I → Count) (s : Composition I) : Type 0 where
     pub source : decomposition.CanDecompose can left s.decomposed
-    pub same : s.decomposed.characters ≡ s.characters
-    pub suits : SuitsLazyComposing s.characters s.bounds s.pairs.now
+    pub suits : SuitsLazyComposing s.decomposed.characters s.bounds s.pairs.now
     pub passed : WherePassed s.ahead (IsAtPassed s.pairs.now s.decomposed)
 
   -- no more characters than this come
@@ -129,10 +128,10 @@ module _ {I : Type 0} where
     pub ends : OnErr r (IsEnded t)
     pub ready : CanCompose can left t
     pub fewer : items_left left t ≤ decomposition.items_left left s.decomposed
-    pub kept : (t.characters ≡ s.characters) × (t.pairs.now ≡ s.pairs.now)
+    pub kept : (t.decomposed.characters ≡ s.decomposed.characters) × (t.pairs.now ≡ s.pairs.now)
 
   pub record CompositionSteps (can : I → Type 0) (gives : I → Option ℕ → I → Type 0) (left : I → Count)
       (s : Composition I) (r : Option (Result ℕ NormalizeError)) (t : Composition I) : Type 0 where
     pub item : GivesNext (WillGive gives) (StaysShort gives) IsEnded s r t
     pub ready : CanCompose can left s → CanCompose can left t
-    pub kept : (t.characters ≡ s.characters) × (t.pairs.now ≡ s.pairs.now)
+    pub kept : (t.decomposed.characters ≡ s.decomposed.characters) × (t.pairs.now ≡ s.pairs.now)

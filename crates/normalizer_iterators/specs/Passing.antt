@@ -12,7 +12,8 @@ use Rattle.normalizer_iterators.specs.declared.decomposition.Decomposition.{Deco
 use Rattle.normalizer_iterators.specs.declared.decomposition.passing.Given.{Given}
 use Rattle.normalizer_iterators.specs.declared.decomposition.passing.Given.TheVariants.{Itself, FirstMember}
 use Rattle.normalizer_iterators.specs.declared.error.NormalizeError.{NormalizeError}
-use Rattle.normalizer_iterators.specs.Decomposition.{CanDecompose, DecompositionSteps, StaysShort, WillGive, items_left, pending_of}
+use Rattle.normalizer_iterators.specs.Decomposition.{CanDecompose, DecompositionSteps, StaysShort, WillGive}
+use Rattle.normalizer_iterators.specs.Decomposition.{items_left, pending_of}
 use Rattle.normalizer_iterators.specs.LazyComposing.{IsPassed, StandsApartIn}
 use Rattle.normalizer_iterators.specs.WaitingList.{ordered}
 

@@ -1,6 +1,6 @@
 //! Composing text character by character (The Unicode Standard, D117, D120 and D121).
-ghost use Rattle.std.specs.Prelude.{◌≡◌, ◌<◌, ◌≤◌, ℕ, All, List, [], Option, MatchResult, OnErr, IfOk, IsOk, IsOkUnless};
-ghost use Rattle.std.specs.Prelude.{IfSome, ◌++◌};
+ghost use Rattle.std.specs.Prelude.{◌≡◌, ◌<◌, ◌≤◌, ◌++◌, ℕ, All, List, [], Option, IfSome, MatchResult, OnErr, IfOk};
+ghost use Rattle.std.specs.Prelude.{IsOk, IsOkUnless};
 ghost use Rattle.std.specs.Iterator.{at_most, IsFinite, MakesProgress};
 ghost use Rattle.normal_forms.specs.Forms.{nfc};
 ghost use Rattle.normal_forms.specs.Order.{order};
@@ -55,7 +55,6 @@ use std::alloc::AllocError;
 #[derive(Drop)]
 pub struct Composition<'data, I> {
     decomposed: Decomposition<'data, I>,
-    characters: CharacterData<'data>,
     pairs: &'data CanonicalCompositions,
     bounds: Bounds,
     marks: StayingMarks,
@@ -113,10 +112,8 @@ impl<'data, I: Iterator<Item = char> + Drop> Composition<'data, I> {
         ensures refused { IsOkUnless result NormalizeError.Memory }
     {
         let marks = StayingMarks::new(characters.allocator());
-        let copied = characters.copied();
         Ok(Composition {
             decomposed: Decomposition::over(characters, ignored, delegate)?,
-            characters: copied,
             pairs,
             bounds,
             marks,
@@ -145,7 +142,6 @@ impl<'data, I: Iterator<Item = char> + Drop> Composition<'data, I> {
     {
         match compose_starter(
             &mut self.decomposed,
-            &self.characters,
             self.pairs,
             self.bounds,
             &mut self.marks,
@@ -221,19 +217,17 @@ pub fn composed<'data, I: Iterator<Item = char> + Drop>(
 /// doesn't join; and what is ahead then, behind the marks that stay.
 fn compose_starter<I: Iterator<Item = char> + Drop>(
     decomposed: &mut Decomposition<'_, I>,
-    characters: &CharacterData<'_>,
     pairs: &CanonicalCompositions,
     bounds: Bounds,
     marks: &mut StayingMarks,
     starter: char,
 ) -> Result<(char, Ahead), NormalizeError>
     requires can { CanDecompose I.can_next I.remaining decomposed.old }
-    requires same { decomposed.old.characters ≡ characters.now }
-    requires suits { SuitsLazyComposing characters.now bounds pairs.now }
+    requires suits { SuitsLazyComposing decomposed.old.characters bounds pairs.now }
     ensures ready { CanDecompose I.can_next I.remaining decomposed.new }
-    ensures same { decomposed.new.characters ≡ characters.now }
+    ensures kept { decomposed.new.characters ≡ decomposed.old.characters }
     ensures passed { IfOk result (λ r. WherePassed r.1 (IsAtPassed pairs.now decomposed.new)) }
-    ensures steps { let d = composing_reading characters.now pairs.now in MatchResult result
+    ensures steps { let d = composing_reading decomposed.old.characters pairs.now in MatchResult result
         (λ r. ComposesStarter I.next_gives I.remaining d starter decomposed.old r.0 (staying marks.new) r.1
         decomposed.new)
         (λ e. (e ≡ NormalizeError.Memory) × (¬ GivesShort I.next_gives d decomposed.old)) }

@@ -26,9 +26,9 @@ pub loop-bounds-preserved-in-Ok-Joined : goal.loop-bounds-preserved-in-Ok-Joined
 loop-bounds-preserved-in-Ok-Joined g c =
     let step = rw c.in-Ok.is at c.in-Some.ensures.steps in
     let goes = rw c.in-Ok.is at c.in-Some.ensures.goes in
-    let class = known_class c.args.characters.now _ (c.loop-bounds.invariant.kept ∙ c.requires.same) c.in-Ok.given (rw c.in-Ok.is at c.in-Some.ensures.class) in
+    let class = known_class c.args.decomposed.now.characters _ c.loop-bounds.invariant.kept c.in-Ok.given (rw c.in-Ok.is at c.in-Some.ensures.class) in
     let visiting = rw c.in-Ok-Joined.field-0-is at c.in-Ok-Joined.ensures.ok in
-    let visited = visiting c.args.characters.now class c.loop-bounds.invariant.blocking in
+    let visited = visiting c.args.decomposed.now.characters class c.loop-bounds.invariant.blocking in
     ComposedSoFar-joined g.I.Iterator.can_next g.I.Iterator.next_gives g.I.Iterator.remaining _ _ _ _ _ _ c.in-Ok.given.character _ _ _ c.loop-bounds.invariant step (goes.on tt).2 visited.0
     visited.1
 
@@ -36,9 +36,9 @@ pub returns-in-Ok-StartsAnew-clause-steps : goal.returns-in-Ok-StartsAnew-clause
 returns-in-Ok-StartsAnew-clause-steps g c =
     let step = rw c.in-Ok.is at c.in-Some.ensures.steps in
     let goes = rw c.in-Ok.is at c.in-Some.ensures.goes in
-    let class = known_class c.args.characters.now _ (c.loop-bounds.invariant.kept ∙ c.requires.same) c.in-Ok.given (rw c.in-Ok.is at c.in-Some.ensures.class) in
+    let class = known_class c.args.decomposed.now.characters _ c.loop-bounds.invariant.kept c.in-Ok.given (rw c.in-Ok.is at c.in-Some.ensures.class) in
     let visiting = rw c.in-Ok-StartsAnew.field-0-is at c.in-Ok-StartsAnew.ensures.ok in
-    let visited = visiting c.args.characters.now class c.loop-bounds.invariant.blocking in
+    let visited = visiting c.args.decomposed.now.characters class c.loop-bounds.invariant.blocking in
     ComposesStarter-starts g.I.Iterator.can_next g.I.Iterator.next_gives g.I.Iterator.remaining _ _ _ _ _ _ c.in-Ok.given.character _ _ c.loop-bounds.invariant step (goes.on tt).2 visited.0
     visited.1 visited.2
 
@@ -46,18 +46,18 @@ pub loop-bounds-preserved : goal.loop-bounds-preserved
 loop-bounds-preserved g c =
     let step = rw c.in-Ok.is at c.in-Some.ensures.steps in
     let goes = rw c.in-Ok.is at c.in-Some.ensures.goes in
-    let class = known_class c.args.characters.now _ (c.loop-bounds.invariant.kept ∙ c.requires.same) c.in-Ok.given (rw c.in-Ok.is at c.in-Some.ensures.class) in
+    let class = known_class c.args.decomposed.now.characters _ c.loop-bounds.invariant.kept c.in-Ok.given (rw c.in-Ok.is at c.in-Some.ensures.class) in
     let visiting = rw c.in-Ok-Stays.field-0-is at c.in-Ok-Stays.ensures.ok in
-    let visited = visiting c.args.characters.now class c.loop-bounds.invariant.blocking in
+    let visited = visiting c.args.decomposed.now.characters class c.loop-bounds.invariant.blocking in
     ComposedSoFar-stays g.I.Iterator.can_next g.I.Iterator.next_gives g.I.Iterator.remaining _ _ _ _ _ _ c.in-Ok.given.character _ _ c.loop-bounds.invariant step (goes.on tt).2 visited.0
     visited.1 visited.2 visited.3 visited.4
 
 pub returns-in-Err-visit-clause-steps : goal.returns-in-Err-visit-clause-steps
 returns-in-Err-visit-clause-steps g c =
     let step = rw c.in-Ok.is at c.in-Some.ensures.steps in
-    let class = known_class c.args.characters.now _ (c.loop-bounds.invariant.kept ∙ c.requires.same) c.in-Ok.given (rw c.in-Ok.is at c.in-Some.ensures.class) in
+    let class = known_class c.args.decomposed.now.characters _ c.loop-bounds.invariant.kept c.in-Ok.given (rw c.in-Ok.is at c.in-Some.ensures.class) in
     let full = c.in-Err-visit.ensures.err in
-    let mark : IsMark (composing_reading c.args.characters.now c.args.pairs.now) c.in-Ok.given.character = omega (arith, class, full.1) in
+    let mark : IsMark (composing_reading c.args.decomposed.now.characters c.args.pairs.now) c.in-Ok.given.character = omega (arith, class, full.1) in
     (refl, ComposedSoFar-no_room g.I.Iterator.can_next g.I.Iterator.next_gives g.I.Iterator.remaining _ _ _ _ _ _ c.in-Ok.given.character _ c.loop-bounds.invariant step mark full.0)
 
 pub returns-in_default-clause-steps : goal.returns-in_default-clause-steps
@@ -67,7 +67,7 @@ returns-in_default-clause-steps g c =
 pub returns-clause-steps : goal.returns-clause-steps
 returns-clause-steps g c =
     let before = c.loop-bounds.invariant in
-    let same = before.kept ∙ c.requires.same in
+    let same = before.kept in
     let suits = subst (λ k. SuitsLazyComposing k c.args.bounds c.args.pairs.now) (sym same) c.requires.suits in
     let here = IsAtPassed-stands c.args.bounds c.args.pairs.now c.loop-bounds.decomposed suits (c.is_at_passed.ensures.0 c.loop-bounds-test.false) in
     ComposesStarter-passes g.I.Iterator.can_next g.I.Iterator.next_gives g.I.Iterator.remaining _ _ _ _ c.loop-bounds.decomposed _ before
@@ -76,6 +76,6 @@ returns-clause-steps g c =
 
 pub returns-clause-passed : goal.returns-clause-passed
 returns-clause-passed g c =
-    let same = c.loop-bounds.invariant.kept ∙ c.requires.same in
+    let same = c.loop-bounds.invariant.kept in
     let suits = subst (λ k. SuitsLazyComposing k c.args.bounds c.args.pairs.now) (sym same) c.requires.suits in
     IsAtPassed-stands c.args.bounds c.args.pairs.now c.loop-bounds.decomposed suits (c.is_at_passed.ensures.0 c.loop-bounds-test.false)

@@ -5,7 +5,8 @@ use Rattle.normalizer_iterators.proofs.composition.compose_starter.Given as goal
 
 abbrev pub invariant-loop-bounds : goal.invariant-loop-bounds
 invariant-loop-bounds g l =
-    ComposedSoFar g.I.Iterator.can_next g.I.Iterator.next_gives g.I.Iterator.remaining (composing_reading l.characters l.pairs) l.fn.starter l.initial.decomposed l.composite l.decomposed l.marks
+    ComposedSoFar g.I.Iterator.can_next g.I.Iterator.next_gives g.I.Iterator.remaining (composing_reading l.initial.decomposed.characters l.pairs)
+    l.fn.starter l.initial.decomposed l.composite l.decomposed l.marks
 
 abbrev pub decreases-loop-bounds : goal.decreases-loop-bounds
 decreases-loop-bounds g l = decomposition.items_left g.I.Iterator.remaining l.decomposed

@@ -3,4 +3,4 @@ use Rattle.normalizer_iterators.proofs.composition.Composition.compose.Goals as 
 
 pub returns-clause-lists : goal.returns-clause-lists
 returns-clause-lists g c =
-    λ b ignored hangul pairs. lists-compose c.args.self.now.characters b hangul c.args.self.now.pairs.now ignored pairs c.args.starter c.args.second c.compose.result c.compose.ensures
+    λ b ignored hangul pairs. lists-compose c.args.self.now.decomposed.characters b hangul c.args.self.now.pairs.now ignored pairs c.args.starter c.args.second c.compose.result c.compose.ensures

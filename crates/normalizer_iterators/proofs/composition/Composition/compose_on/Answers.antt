@@ -4,10 +4,10 @@ use Rattle.normalizer_iterators.proofs.composition.Composition.compose_on.Goals 
 pub returns-in-Ok : goal.returns-in-Ok
 returns-in-Ok g c =
     ComposesOn-given g.I.Iterator.can_next g.I.Iterator.next_gives g.I.Iterator.remaining c.args.starter c.args.self.now _ _ _ _ c.requires c.in-Ok.ensures.steps c.in-Ok.ensures.ready
-    c.in-Ok.ensures.same c.in-Ok.ensures.passed
+    c.in-Ok.ensures.kept c.in-Ok.ensures.passed
 
 pub returns-in-Err : goal.returns-in-Err
 returns-in-Err g c =
     let fault = c.in-Err.ensures.steps in
     ComposesOn-fault g.I.Iterator.can_next g.I.Iterator.next_gives g.I.Iterator.remaining c.args.starter c.args.self.now _ _ _ c.requires fault.0 fault.1 c.clear.ensures.staying
-    c.in-Err.ensures.ready c.in-Err.ensures.same
+    c.in-Err.ensures.ready c.in-Err.ensures.kept

@@ -6,6 +6,8 @@ use Rattle.normalizer_tables.specs.PairConditions.{composing_reading}
 use Rattle.normalizer_iterators.specs.LazyReading.{decomposing_reading}
 use Rattle.normalizer_iterators.proofs.ComposingLemmas.{nfc-reading_by, HasShortMarkRuns-composing_reading}
 use Rattle.normalizer_iterators.proofs.ShortChunkLemmas.{HasShortMarkRuns-nfd}
+use Rattle.normalizer_iterators.specs.declared.composition.Ahead.TheVariants.{NoStarter}
+use Rattle.normalizer_iterators.proofs.CompositionLemmas.{behind_by, short_by}
 use Rattle.normalizer_iterators.proofs.composition.Composition.over.Goals as goal
 
 pub returns-clause-text : goal.returns-clause-text
@@ -14,7 +16,7 @@ returns-clause-text g c = λ x spelled.
     let ignored = c.args.ignored in
     let pairs = c.args.pairs.now in
     let y = nfd (decomposing_reading s ignored) x in
-    rw c.copied-copied.ensures (record {
+    behind_by g.I.Iterator.can_next g.I.Iterator.next_gives g.I.Iterator.remaining _ s pairs _ NoStarter _ _ c.in_ok-over.ensures.kept.0 (record {
       unread = y;
       source = c.in_ok-over.ensures.text x spelled;
       text =
@@ -26,7 +28,7 @@ pub returns-clause-short : goal.returns-clause-short
 returns-clause-short g c = λ x spelled runs.
     let s = c.args.characters in
     let ignored = c.args.ignored in
-    rw c.copied-copied.ensures (record {
+    short_by g.I.Iterator.can_next g.I.Iterator.next_gives g.I.Iterator.remaining _ s c.args.pairs.now NoStarter _ c.in_ok-over.ensures.kept.0 (record {
       unread = nfd (decomposing_reading s ignored) x;
       source = c.in_ok-over.ensures.text x spelled;
       short = c.in_ok-over.ensures.short x spelled runs;

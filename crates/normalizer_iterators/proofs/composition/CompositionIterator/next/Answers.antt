@@ -1,7 +1,6 @@
 use Rattle.std.proofs.Common.{length, sym, ap, ◌∙◌, arith, Ok}
-use Rattle.normalizer_tables.specs.Characters.{class_of}
 use Rattle.normalizer_iterators.proofs.ComposingLemmas.{class-composing_reading}
-use Rattle.normalizer_iterators.proofs.CompositionLemmas.{CanCompose-marks, CanCompose-next, suits_source, Steps-first_starter, Steps-leading_mark, Steps-end, Steps-fault, Steps-mark, Steps-ended}
+use Rattle.normalizer_iterators.proofs.CompositionLemmas.{CanCompose-marks, CanCompose-next, Steps-first_starter, Steps-leading_mark, Steps-end, Steps-fault, Steps-mark, Steps-ended}
 use Rattle.normalizer_iterators.proofs.CompositionLemmas.{Steps-starter, Steps-marks, Goes-item, Goes-marks, Goes-leading_mark, Goes-first_fault}
 use Rattle.normalizer_iterators.proofs.PassingLemmas.{IsAtPassed-stands}
 use Rattle.normalizer_iterators.proofs.composition.CompositionIterator.next.Goals as goal
@@ -10,7 +9,7 @@ pub returns-then-given-eq0-clause-steps : goal.returns-then-given-eq0-clause-ste
 returns-then-given-eq0-clause-steps g c =
     let s = c.args.self.now in
     let known = rw c.in-Some-Ok.field-0-is at c.in-Some-Ok.ensures.class in
-    let class = known ∙ ap (λ k. class_of k c.in-Some-Ok.given.character) c.requires.same ∙ sym (class-composing_reading s.characters s.pairs.now c.in-Some-Ok.given.character) in
+    let class = known ∙ sym (class-composing_reading s.decomposed.characters s.pairs.now c.in-Some-Ok.given.character) in
     let step = rw c.in-Some-Ok.field-0-is at c.in-Some-Ok.ensures.steps in
     Steps-first_starter g.I.Iterator.can_next g.I.Iterator.next_gives g.I.Iterator.remaining s
     (rw c.in-NoStarter.is tt) c.in_default.ensures.none.0 c.in-Some-Ok.given.character c.pop_front.new.self _ _ _ _ step (sym class ∙ c.if-given-eq0.true)
@@ -20,10 +19,10 @@ pub returns-else-given-eq0-clause-steps : goal.returns-else-given-eq0-clause-ste
 returns-else-given-eq0-clause-steps g c =
     let s = c.args.self.now in
     let known = rw c.in-Some-Ok.field-0-is at c.in-Some-Ok.ensures.class in
-    let class = known ∙ ap (λ k. class_of k c.in-Some-Ok.given.character) c.requires.same ∙ sym (class-composing_reading s.characters s.pairs.now c.in-Some-Ok.given.character) in
+    let class = known ∙ sym (class-composing_reading s.decomposed.characters s.pairs.now c.in-Some-Ok.given.character) in
     let step = rw c.in-Some-Ok.field-0-is at c.in-Some-Ok.ensures.steps in
-    Steps-leading_mark g.I.Iterator.can_next g.I.Iterator.next_gives g.I.Iterator.remaining s c.in-Some-Ok.given.character _ _ c.in-NoStarter.is c.in_default.ensures.none.0 c.in_default.ensures.none.1 step
-    (omega (arith, class, c.if-given-eq0.false))
+    Steps-leading_mark g.I.Iterator.can_next g.I.Iterator.next_gives g.I.Iterator.remaining s c.in-Some-Ok.given.character _ _ c.in-NoStarter.is c.in_default.ensures.none.0
+    c.in_default.ensures.none.1 step (omega (arith, class, c.if-given-eq0.false))
 
 pub returns-in-None-clause-steps : goal.returns-in-None-clause-steps
 returns-in-None-clause-steps g c =
@@ -82,7 +81,7 @@ pass-requires-then-is_at_passed g c =
       marks = c.in_default.ensures.none.1;
       ahead = rw c.in-NoStarter.is tt;
       at_passed =
-          IsAtPassed-stands s.bounds s.pairs.now s.decomposed (suits_source g.I.Iterator.can_next g.I.Iterator.next_gives g.I.Iterator.remaining s c.requires)
+          IsAtPassed-stands s.bounds s.pairs.now s.decomposed c.requires.suits
           (c.is_at_passed.ensures.0 c.if-is_at_passed.true);
     }
 

@@ -50,7 +50,8 @@ pub returns-in_err-read-clause-steps : goal.returns-in_err-read-clause-steps
 returns-in_err-read-clause-steps g c =
     let nothing = c.in_default.ensures.none in
     rw c.from_residual.ensures
-    (Steps-ended g.I.Iterator.can_next g.I.Iterator.next_gives g.I.Iterator.remaining c.args.self.now _ refl refl (ap character_of (sym c.in_err-read.ensures.value)) (ap character_of c.take.ensures.after)
+    (Steps-ended g.I.Iterator.can_next g.I.Iterator.next_gives g.I.Iterator.remaining c.args.self.now _ refl refl
+    (ap character_of (sym c.in_err-read.ensures.value)) (ap character_of c.take.ensures.after)
     nothing.0 nothing.1)
 
 pub returns-in-Ok-clause-class : goal.returns-in-Ok-clause-class

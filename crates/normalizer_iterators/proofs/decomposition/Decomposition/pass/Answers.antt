@@ -30,7 +30,8 @@ next_chunk-requires g c =
 pub returns-in_err-read : goal.returns-in_err-read
 returns-in_err-read g c = λ pairs suits here.
     rw c.from_residual.ensures
-    (Steps-ended g.I.Iterator.can_next g.I.Iterator.next_gives g.I.Iterator.remaining c.args.self.now _ refl refl (ap character_of (sym c.in_err-read.ensures.value)) (ap character_of c.take.ensures.after) here.waiting here.waiting)
+    (Steps-ended g.I.Iterator.can_next g.I.Iterator.next_gives g.I.Iterator.remaining c.args.self.now _ refl refl (ap character_of (sym c.in_err-read.ensures.value))
+    (ap character_of c.take.ensures.after) here.waiting here.waiting)
 
 pub returns-then-are_passed : goal.returns-then-are_passed
 returns-then-are_passed g c = λ pairs suits here.
