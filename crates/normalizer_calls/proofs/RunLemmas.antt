@@ -1,7 +1,7 @@
 -- Where runs and segments end, and that what stands before is normalized apart.
 use Rattle.std.proofs.Common.{◌≡◌, ℕ, zero, suc, ◌+◌, ◌-◌, ◌<◌, ◌≤◌, Bool, true, false, List, [], ◌∷◌, ◌++◌, length, take, drop, map, refl, sym, ap, subst, ◌∙◌, append_assoc, arith, length-drop, length-take-le, take-append-drop, inl, inr}
 use Rattle.std.specs.Char.{IsScalar}
-use Rattle.std.specs.Prelude.{All, ◌==◌, not, ◌&&◌, min}
+use Rattle.std.specs.Prelude.{All, ◌⊎◌, ◌≢◌, ◌==◌, not, ◌&&◌, min}
 use Rattle.std.proofs.lemmas.Bool.Decides.{eqb_tells}
 use Rattle.std.proofs.lemmas.Bool.{cases_lt, cases_Bool, true≢false, cond-true, cond-false, eq-eqb}
 use Rattle.std.proofs.lemmas.List.{append_cancel_left, drop_at, take_at}
@@ -20,7 +20,7 @@ use Rattle.normalizer_text.proofs.ScanLemmas.{All-leading_below, first-low, lead
 use Rattle.normalizer_text.proofs.StepLemmas.{decoded-IsText, decoded-some, rest-shorter, steps-nil, steps-some}
 use Rattle.normalizer_text.proofs.Utf8Lemmas.{by_cases}
 use Rattle.normalizer_input.specs.InputCut.{IsInputNormalized}
-use Rattle.normalizer_calls.specs.Passing.{Divides, IsPart, IsRunEnd, IsSegmentEnd, MayPass, PassesTo, replacement, step_passes}
+use Rattle.normalizer_calls.specs.Passing.{Divides, HasHeldBack, IsHandedOn, IsPart, IsRunEnd, IsSegmentEnd, MayPass, PassesTo, replacement, step_passes}
 use Rattle.normalizer_calls.proofs.PassingLemmas.{Divides-end, Divides-next, Divides-run, IsNormalized-run}
 
 module _ (passing : ℕ → Bool) (e : Encoding) (units : List ℕ) where
@@ -305,3 +305,31 @@ module _ (passing : ℕ → Bool) (e : Encoding) where
           let last' = subst (λ us. IsLastStep (first_in e) us s) is last in
           let held = PassesTo-held passing e units end to s last' in
           (IsPart-run (end - s.width) held some (next_held passing e units end to s last'), own_run (end - s.width) held)
+
+-- ---- that is how much is handed on
+
+module _ (passing : ℕ → Bool) (held_back : Bool) (e : Encoding) (units : List ℕ) (run : ℕ) (is_run : IsRunEnd passing e units run) where
+  pub IsHandedOn-to_end : (len : ℕ) → len ≡ length units → run ≡ len → IsHandedOn passing held_back e units run
+  IsHandedOn-to_end len length_is end = record { run = run; is_run = is_run; whole = λ _. refl; held = λ more _. absurd (omega (arith, length_is)) }
+
+  pub IsHandedOn-free : held_back ≡ false → IsHandedOn passing held_back e units run
+  IsHandedOn-free free = record { run = run; is_run = is_run; whole = λ _. refl; held = λ _ held. absurd (true≢false (sym held ∙ free)) }
+
+  module _ (len : ℕ) (length_is : len ≡ length units) (goes_on : run ≢ len) (held : held_back ≡ true) (end : ℕ) where
+    held_whole : (run ≡ length units) ⊎ (held_back ≡ false) → end ≡ run
+    held_whole (inl all) = absurd (goes_on (all ∙ sym length_is))
+    held_whole (inr free) = absurd (true≢false (sym held ∙ free))
+
+    pub IsHandedOn-held : HasHeldBack e units run end → IsHandedOn passing held_back e units end
+    IsHandedOn-held back = record { run = run; is_run = is_run; whole = held_whole; held = λ _ _. back }
+
+  pub HasHeldBack-last : (front : List ℕ) → front ≡ take run units → (s : Step) → IsLastStep (first_in e) front s → HasHeldBack e units run (run - s.width)
+  HasHeldBack-last front is s last =
+      let here : IsLastStep (first_in e) (take run units) s = subst (λ us. IsLastStep (first_in e) us s) is last in
+      let fits = here.fits in
+      inr (s, here, omega (arith, length-take-le run units (PassesTo-le passing e units run is_run.passes)))
+
+  pub HasHeldBack-none : (front : List ℕ) → front ≡ take run units → front ≡ [] → HasHeldBack e units run 0
+  HasHeldBack-none front is none =
+      let empty : length (take run units) ≡ 0 = ap length (sym is ∙ none) in
+      inl (omega (arith, empty, length-take-le run units (PassesTo-le passing e units run is_run.passes)), refl)

@@ -1,14 +1,14 @@
 -- Text whose form is made in parts: runs of characters that are handed on as they are, and what stands between them.
 -- Private functions alone speak of it.
-use Rattle.std.specs.Prelude.{◌≡◌, ℕ, ◌<◌, Bool, true, false, not, ◌&&◌, ◌==◌, List, [], ◌∷◌, ◌++◌, length}
-use Rattle.std.specs.Prelude.{take, drop, All}
+use Rattle.std.specs.Prelude.{◌≡◌, ℕ, ◌+◌, ◌<◌, ◌⊎◌, Bool, true, false, not, ◌&&◌, ◌==◌, List, [], ◌∷◌, ◌++◌}
+use Rattle.std.specs.Prelude.{length, take, drop, All}
 use Rattle.normal_forms.specs.Reading.{Reading}
 use Rattle.normal_forms.specs.declared.Form.{Form}
 use Rattle.normal_forms.specs.Forms.{normal_form, IsNormalized}
 use Rattle.normal_forms.specs.Cut.{IsFront}
 use Rattle.normalizer_text.specs.declared.step.Step.{Step}
 use Rattle.normalizer_text.specs.Encodings.{Encoding, first_in, encoded_in, decoded_in}
-use Rattle.normalizer_text.specs.Steps.{IsBoundary}
+use Rattle.normalizer_text.specs.Steps.{IsBoundary, IsLastStep}
 use Rattle.normalizer_input.specs.EncodedForm.{encoded_form}
 
 -- however much of the rest is read behind the front, both are normalized apart
@@ -40,6 +40,18 @@ pub record PassesTo (passing : ℕ → Bool) (e : Encoding) (units : List ℕ) (
 pub record IsRunEnd (passing : ℕ → Bool) (e : Encoding) (units : List ℕ) (end : ℕ) : Type 0 where
   pub passes : PassesTo passing e units end
   pub stops : end < length units → step_passes passing (first_in e (drop end units)) ≡ false
+
+-- the run is empty, or goes on behind the place with its last character alone
+abbrev pub HasHeldBack : Encoding → List ℕ → ℕ → ℕ → Type 0
+HasHeldBack e units run end =
+    ((run ≡ 0) × (end ≡ 0)) ⊎ ((s : Step) × IsLastStep (first_in e) (take run units) s × (end + s.width ≡ run))
+
+-- how much of a run is handed on: all of it where the units end or nothing is held back, else all but its last character
+pub record IsHandedOn (passing : ℕ → Bool) (held_back : Bool) (e : Encoding) (units : List ℕ) (end : ℕ) : Type 0 where
+  pub run : ℕ
+  pub is_run : IsRunEnd passing e units run
+  pub whole : (run ≡ length units) ⊎ (held_back ≡ false) → end ≡ run
+  pub held : run < length units → held_back ≡ true → HasHeldBack e units run end
 
 -- a character ends at the place, and the next one passes, or the units end
 pub record IsSegmentEnd (passing : ℕ → Bool) (e : Encoding) (units : List ℕ) (end : ℕ) : Type 0 where

@@ -1,7 +1,7 @@
 //! Where runs of characters end that are handed on as they are, and the segments between them.
 ghost use Rattle.std.specs.Prelude.{◌≡◌, ◌<◌, ◌≤◌, length, take};
 ghost use Rattle.normalizer_input.specs.InputCut.{IsInputNormalized};
-ghost use Rattle.normalizer_calls.specs.Passing.{IsPart, IsRunEnd, IsSegmentEnd, PassesTo, step_passes};
+ghost use Rattle.normalizer_calls.specs.Passing.{IsHandedOn, IsPart, IsRunEnd, IsSegmentEnd, PassesTo, step_passes};
 
 use crate::form_items::FormItems;
 use normalizer_text::{Chars, Step, Units};
@@ -60,7 +60,8 @@ pub(crate) fn segment_end<U: Units, N: FormItems<Chars<U>>>(normalizer: &N, unit
 /// Where the front of the units ends that is handed on as it is: of a run that more follows, the last character is held
 /// back where it may compose with that.
 pub(crate) fn passed_end<U: Units, N: FormItems<Chars<U>>>(normalizer: &N, units: U) -> usize
-    ensures { 0 < result → IsPart U.encoding (N.reading normalizer.now) N.form (U.units units) result ×
+    ensures handed { IsHandedOn (N.passing normalizer.now) N.held_back U.encoding (U.units units) result }
+    ensures part { 0 < result → IsPart U.encoding (N.reading normalizer.now) N.form (U.units units) result ×
         IsInputNormalized U.encoding (N.reading normalizer.now) N.form (take result (U.units units)) }
 {
     normalizer.passed_characters_stand_apart();

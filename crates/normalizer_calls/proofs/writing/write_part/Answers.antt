@@ -6,14 +6,14 @@ use Rattle.normalizer_calls.proofs.writing.write_part.Goals as goal
 
 pub returns-in_err-write_piece-clause-refused : goal.returns-in_err-write_piece-clause-refused
 returns-in_err-write_piece-clause-refused g c =
-    let run = c.passed_end-run.ensures c.if-run-gt0.true in
+    let run = c.passed_end-run.ensures.part c.if-run-gt0.true in
     let is : c.from_residual.result ≡ Err Sink = search rules in
     rw is
     (WritesText-run_refused _ _ _ _ _ run.0 g.O.Output.taken g.O.Output.refused g.O.Output.left g.O.Output.refuses _ _ run.1 _ c.before-then-run-gt0.ensures _ (rw c.in_err-write_piece.was at c.write_piece.ensures))
 
 pub returns-then-run-gt0-clause-part : goal.returns-then-run-gt0-clause-part
 returns-then-run-gt0-clause-part g c =
-    let run = c.passed_end-run.ensures c.if-run-gt0.true in
+    let run = c.passed_end-run.ensures.part c.if-run-gt0.true in
     WrotePart-run _ _ _ _ _ run.0 g.O.Output.taken g.O.Output.refused g.O.Output.left g.O.Output.refuses _ _ run.1 _ c.before-then-run-gt0.ensures (rw c.in_ok-write_piece.was at c.write_piece.ensures)
 
 pub returns-in_err-write_segment-clause-refused : goal.returns-in_err-write_segment-clause-refused
