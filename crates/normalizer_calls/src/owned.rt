@@ -1,5 +1,5 @@
 //! The forms of text, bytes and 16-bit units, borrowed from the input where it is its own form.
-ghost use Rattle.std.specs.Prelude.{◌≡◌, ◌++◌, [], chars, IfOk, IsOk, IsOkUnless, OnOk};
+ghost use Rattle.std.specs.Prelude.{◌≡◌, ◌++◌, [], chars, IfOk, IsOk, IsOkUnless, OnOk, string_bytes};
 ghost use Rattle.std.specs.Cow.{cow_slice_items, cow_str_bytes, IsBorrowedSlice, IsBorrowedStr};
 ghost use Rattle.normal_forms.specs.ShortRuns.{HasShortRuns};
 ghost use Rattle.normalizer_text.specs.Encodings.{Encoding, decoded_in};
@@ -16,12 +16,45 @@ use crate::{ComposingNormalizerBorrowed, DecomposingNormalizerBorrowed};
 use normalizer_iterators::NormalizeError;
 use normalizer_text::check_sink::Expected;
 use normalizer_text::output::Output;
+use normalizer_text::sink::SinkError;
 use normalizer_text::{Chars, Units};
 use std::alloc::Global;
 use std::borrow::{CowSlice, CowStr};
 
-/// Writes the form of units that are cut at a place: the prefix as it is, and the form of the rest.
-fn write_from_cut<U: Units, N: FormItems<Chars<U>>, O: Output<U>>(
+/// An output that grows, and makes room at once.
+trait Growing<U: Units>: Output<U> {
+    /// Makes room for so many units behind those that were taken, or refuses it.
+    fn make_room(&mut self, len: usize) -> Result<(), SinkError>
+        ensures { OnOk result (Self.taken self.new ≡ Self.taken self.old) };
+}
+
+impl<'t> Growing<&'t str> for String {
+    fn make_room(&mut self, len: usize) -> Result<(), SinkError>
+        ensures { OnOk result (string_bytes self.new ≡ string_bytes self.old) }
+    {
+        self.reserve(len).map_err(|_| SinkError)
+    }
+}
+
+impl<'t> Growing<&'t [u8]> for String {
+    fn make_room(&mut self, len: usize) -> Result<(), SinkError>
+        ensures { OnOk result (string_bytes self.new ≡ string_bytes self.old) }
+    {
+        self.reserve(len).map_err(|_| SinkError)
+    }
+}
+
+impl<'t> Growing<&'t [u16]> for Vec<u16> {
+    fn make_room(&mut self, len: usize) -> Result<(), SinkError>
+        ensures { OnOk result (self.new.items ≡ self.old.items) }
+    {
+        self.reserve(len).map_err(|_| SinkError)
+    }
+}
+
+/// Writes the form of units that are cut at a place: the prefix as it is, and the form of the rest. Room for as many
+/// units is made first.
+fn write_from_cut<U: Units, N: FormItems<Chars<U>>, O: Growing<U>>(
     normalizer: &N,
     units: U,
     place: usize,
@@ -31,12 +64,13 @@ fn write_from_cut<U: Units, N: FormItems<Chars<U>>, O: Output<U>>(
     ensures { OnOk result (O.taken output.new ≡
         O.taken output.old ++ encoded_form U.encoding (N.reading normalizer.now) N.form (U.units units)) }
 {
+    output.make_room(units.len())?;
     output.write_piece(units.before(place))?;
     form_to(normalizer, units.after(place), output)
 }
 
 /// Writes the form of the units, unless they are well-formed and their own form. A refused write is want of memory.
-fn write_unless_own<U: Expected, N: LawfulItems<Chars<U>>, O: Output<U>>(
+fn write_unless_own<U: Expected, N: LawfulItems<Chars<U>>, O: Growing<U>>(
     normalizer: &N,
     units: U,
     output: &mut O,

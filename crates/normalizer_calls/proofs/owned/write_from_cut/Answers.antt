@@ -1,3 +1,4 @@
+use Rattle.std.proofs.Common.{ap, ◌++◌, ◌∙◌}
 use Rattle.normalizer_calls.proofs.CheckLemmas.{boundary_at_cut}
 use Rattle.normalizer_calls.proofs.OwnedLemmas.{written_from_cut}
 use Rattle.normalizer_calls.proofs.owned.write_from_cut.Goals as goal
@@ -10,5 +11,7 @@ after-requires g c = boundary_at_cut _ _ _ _ _ c.requires
 
 pub returns : goal.returns
 returns g c =
+    let room = rw c.in_ok-make_room.was at c.make_room.ensures in
     let took = rw c.in_ok-write_piece.was at c.write_piece.ensures in
-    written_from_cut g.O.Output.taken _ _ _ _ _ c.requires _ _ _ _ _ _ c.before-2.ensures c.after.ensures took.written.appends c.form_to.ensures.text.written
+    written_from_cut g.O.Output.taken _ _ _ _ _ c.requires _ _ _ _ _ _ c.before-2.ensures c.after.ensures
+    (took.written.appends ∙ ap (λ l. l ++ g.U.Units.units c.before-2.result) room) c.form_to.ensures.text.written
