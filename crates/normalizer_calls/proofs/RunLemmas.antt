@@ -1,5 +1,6 @@
 -- Where runs and segments end, and that what stands before is normalized apart.
-use Rattle.std.proofs.Common.{◌≡◌, ℕ, zero, suc, ◌+◌, ◌-◌, ◌<◌, ◌≤◌, Bool, true, false, List, [], ◌∷◌, ◌++◌, length, take, drop, map, refl, sym, ap, subst, ◌∙◌, append_assoc, arith, length-drop, length-take-le, take-append-drop, inl, inr}
+use Rattle.std.proofs.Common.{◌≡◌, ℕ, zero, suc, ◌+◌, ◌-◌, ◌<◌, ◌≤◌, Bool, true, false, List, [], ◌∷◌, ◌++◌, length, take, drop, map, refl, sym, ap, subst, ◌∙◌}
+use Rattle.std.proofs.Common.{append_assoc, arith, length-drop, length-take-le, take-append-drop, inl, inr}
 use Rattle.std.specs.Char.{IsScalar}
 use Rattle.std.specs.Prelude.{All, ◌⊎◌, ◌≢◌, ◌==◌, not, ◌&&◌, min}
 use Rattle.std.proofs.lemmas.Bool.Decides.{eqb_tells}
@@ -47,7 +48,8 @@ module _ (passing : ℕ → Bool) (e : Encoding) (units : List ℕ) where
   width_of-single [] = refl
   width_of-single (u ∷ low) = omega (arith, width_of-single low)
 
-  PassesTo-below : (bound : ℕ) → bound ≤ 0x80 → ((c : ℕ) → c < bound → passing c ≡ true) → (end : ℕ) → PassesTo passing e units end → PassesTo passing e units (end + leading_below bound (drop end units))
+  PassesTo-below : (bound : ℕ) → bound ≤ 0x80 → ((c : ℕ) → c < bound → passing c ≡ true) → (end : ℕ) → PassesTo passing e units end
+      → PassesTo passing e units (end + leading_below bound (drop end units))
   PassesTo-below bound least pass end so_far =
       let b = so_far.boundary in
       let rest = drop end units in
@@ -148,7 +150,8 @@ module _ (passing : ℕ → Bool) (e : Encoding) (units : List ℕ) where
         let same : first_in e rest ∷ steps (first_in e) (drop (first_in e rest).width rest) ≡ s ∷ steps (first_in e) (drop end units) = sym first ∙ behind in
         let is : first_in e rest ≡ s = cc in
         let of_last : All (λ t. step_passes passing t ≡ true) (s ∷ []) =
-        All-same (λ t. step_passes passing t ≡ true) _ _ (sym (drop_at before (s ∷ []) (length before) refl)) (All-drop (λ t. step_passes passing t ≡ true) (length before) (before ++ s ∷ []) all_pass) in
+        All-same (λ t. step_passes passing t ≡ true) _ _ (sym (drop_at before (s ∷ []) (length before) refl))
+        (All-drop (λ t. step_passes passing t ≡ true) (length before) (before ++ s ∷ []) all_pass) in
         ap (step_passes passing) is ∙ All-head (λ t. step_passes passing t ≡ true) s [] of_last
 
 -- ---- an error is read as U+FFFD
@@ -199,7 +202,8 @@ module _ (passing : ℕ → Bool) (e : Encoding) where
       by n [] h = All-same (λ s. s.is_error ≡ true → s.character ≡ replacement) _ _ (steps-nil (first_in e)) (All-nil (λ s. s.is_error ≡ true → s.character ≡ replacement))
       by zero (u ∷ us) h = absurd (omega arith)
       by (suc n) (u ∷ us) h = All-same (λ s. s.is_error ≡ true → s.character ≡ replacement) _ _ (steps-some (first_in e) (IsDecoding-first e) (u ∷ us) (omega arith))
-          (All-cons (λ s. s.is_error ≡ true → s.character ≡ replacement) _ _ (error_first e (u ∷ us)) (by n (drop (first_in e (u ∷ us)).width (u ∷ us)) (rest-shorter (first_in e) (IsDecoding-first e) (u ∷ us) n (omega arith) h)))
+          (All-cons (λ s. s.is_error ≡ true → s.character ≡ replacement) _ _ (error_first e (u ∷ us))
+          (by n (drop (first_in e (u ∷ us)).width (u ∷ us)) (rest-shorter (first_in e) (IsDecoding-first e) (u ∷ us) n (omega arith) h)))
 
   all_right : (ss : List Step) → All (λ s. s.is_error ≡ true → s.character ≡ replacement) ss → All (λ s. step_passes passing s ≡ true) ss → All (λ s. s.is_error ≡ false) ss
   all_right [] known pass = All-nil (λ s. s.is_error ≡ false)

@@ -46,7 +46,8 @@ abbrev pub HasHeldBack : Encoding → List ℕ → ℕ → ℕ → Type 0
 HasHeldBack e units run end =
     ((run ≡ 0) × (end ≡ 0)) ⊎ ((s : Step) × IsLastStep (first_in e) (take run units) s × (end + s.width ≡ run))
 
--- how much of a run is handed on: all of it where the units end or nothing is held back, else all but its last character
+-- how much of a run is handed on: all of it where the units end or nothing is held back, else all but the last
+-- character
 pub record IsHandedOn (passing : ℕ → Bool) (held_back : Bool) (e : Encoding) (units : List ℕ) (end : ℕ) : Type 0 where
   pub run : ℕ
   pub is_run : IsRunEnd passing e units run

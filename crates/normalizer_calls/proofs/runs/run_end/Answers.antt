@@ -15,7 +15,8 @@ returns-then-not-step_passes g c = record {
 pub overflow_add-end : goal.overflow_add-end
 overflow_add-end g c =
     let units = g.U.Units.units c.args.units in
-    let most = within_step (g.N.FormItems.passing c.args.normalizer.now) g.U.Units.encoding units c.loop-end.end c.step_at-step.result c.step_at-step.ensures (omega (arith, c.len.ensures)) c.loop-end.invariant.boundary in
+    let most = within_step (g.N.FormItems.passing c.args.normalizer.now) g.U.Units.encoding units c.loop-end.end c.step_at-step.result c.step_at-step.ensures
+    (omega (arith, c.len.ensures)) c.loop-end.invariant.boundary in
     omega (arith, c.len.ensures)
 
 pub returns : goal.returns

@@ -21,18 +21,21 @@ returns-then-step_passes g c = record {
 
 pub overflow_add-end : goal.overflow_add-end
 overflow_add-end g c =
-    let most = within_step (g.N.FormItems.passing c.args.normalizer.now) g.U.Units.encoding (g.U.Units.units c.args.units) c.loop-end.end c.step_at-step.result c.step_at-step.ensures (omega (arith, c.len.ensures)) c.loop-end.invariant.1 in
+    let most = within_step (g.N.FormItems.passing c.args.normalizer.now) g.U.Units.encoding (g.U.Units.units c.args.units) c.loop-end.end c.step_at-step.result
+    c.step_at-step.ensures (omega (arith, c.len.ensures)) c.loop-end.invariant.1 in
     omega (arith, c.len.ensures)
 
 pub loop-end-smaller : goal.loop-end-smaller
 loop-end-smaller g c =
-    let some = some_step (g.N.FormItems.passing c.args.normalizer.now) g.U.Units.encoding (g.U.Units.units c.args.units) c.loop-end.end c.step_at-step.result c.step_at-step.ensures (omega (arith, c.len.ensures)) in
+    let some = some_step (g.N.FormItems.passing c.args.normalizer.now) g.U.Units.encoding (g.U.Units.units c.args.units) c.loop-end.end c.step_at-step.result
+    c.step_at-step.ensures (omega (arith, c.len.ensures)) in
     omega (arith, c.len.ensures)
 
 pub loop-end-preserved : goal.loop-end-preserved
 loop-end-preserved g c = (
   omega (arith, c.loop-end.invariant.0),
-  boundary-step (g.N.FormItems.passing c.args.normalizer.now) g.U.Units.encoding (g.U.Units.units c.args.units) c.loop-end.end c.step_at-step.result c.step_at-step.ensures (omega (arith, c.len.ensures)) c.loop-end.invariant.1,
+  boundary-step (g.N.FormItems.passing c.args.normalizer.now) g.U.Units.encoding (g.U.Units.units c.args.units) c.loop-end.end c.step_at-step.result
+      c.step_at-step.ensures (omega (arith, c.len.ensures)) c.loop-end.invariant.1,
 )
 
 pub returns : goal.returns

@@ -9,7 +9,8 @@ returns-in_err-write_piece-clause-refused g c =
     let run = c.passed_end-run.ensures.part c.if-run-gt0.true in
     let is : c.from_residual.result ≡ Err Sink = search rules in
     rw is
-    (WritesText-run_refused _ _ _ _ _ run.0 g.O.Output.taken g.O.Output.refused g.O.Output.left g.O.Output.refuses _ _ run.1 _ c.before-then-run-gt0.ensures _ (rw c.in_err-write_piece.was at c.write_piece.ensures))
+    (WritesText-run_refused _ _ _ _ _ run.0 g.O.Output.taken g.O.Output.refused g.O.Output.left g.O.Output.refuses _ _ run.1 _ c.before-then-run-gt0.ensures _
+    (rw c.in_err-write_piece.was at c.write_piece.ensures))
 
 pub returns-then-run-gt0-clause-part : goal.returns-then-run-gt0-clause-part
 returns-then-run-gt0-clause-part g c =
@@ -21,7 +22,8 @@ returns-in_err-write_segment-clause-refused g c =
     let part = IsPart-segment _ _ _ _ _ c.passed_characters_stand_apart.ensures.apart _ _ c.segment_end-end.ensures in
     let is : c.from_residual-in_err-write_segment.result ≡ Err c.in_err-write_segment.field-0.0 = search rules in
     rw is
-    (WritesText-segment_refused _ _ _ _ _ part g.O.Output.taken g.O.Output.refused g.O.Output.left g.O.Output.refuses _ _ _ c.before-2.ensures _ (rw c.in_err-write_segment.was at c.write_segment.ensures.text))
+    (WritesText-segment_refused _ _ _ _ _ part g.O.Output.taken g.O.Output.refused g.O.Output.left g.O.Output.refuses _ _ _ c.before-2.ensures _
+    (rw c.in_err-write_segment.was at c.write_segment.ensures.text))
 
 pub returns-in_err-write_segment-clause-room : goal.returns-in_err-write_segment-clause-room
 returns-in_err-write_segment-clause-room g c = λ short.

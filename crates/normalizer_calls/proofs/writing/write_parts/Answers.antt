@@ -9,7 +9,8 @@ pub returns-in_err-position-clause-text : goal.returns-in_err-position-clause-te
 returns-in_err-position-clause-text g c =
     let is : c.from_residual.result ≡ Err c.in_err-position.field-0.0 = search rules in
     rw is
-    (WritesText-behind _ _ _ g.O.Output.taken g.O.Output.refused g.O.Output.left g.O.Output.refuses _ _ _ _ c.loop-position.invariant _ c.after.ensures _ _ (rw c.in_err-position.was at c.write_part.ensures.refused))
+    (WritesText-behind _ _ _ g.O.Output.taken g.O.Output.refused g.O.Output.left g.O.Output.refuses _ _ _ _ c.loop-position.invariant _ c.after.ensures _ _
+    (rw c.in_err-position.was at c.write_part.ensures.refused))
 
 pub returns-in_err-position-clause-room : goal.returns-in_err-position-clause-room
 returns-in_err-position-clause-room g c = λ short.
@@ -31,7 +32,8 @@ loop-position-smaller g c =
 
 pub loop-position-preserved : goal.loop-position-preserved
 loop-position-preserved g c =
-    WroteUpTo-more _ _ _ g.O.Output.taken g.O.Output.refused g.O.Output.left g.O.Output.refuses _ _ _ _ c.loop-position.invariant _ c.after.ensures _ _ (rw c.in_ok-position.was at c.write_part.ensures.part)
+    WroteUpTo-more _ _ _ g.O.Output.taken g.O.Output.refused g.O.Output.left g.O.Output.refuses _ _ _ _ c.loop-position.invariant _ c.after.ensures _ _
+    (rw c.in_ok-position.was at c.write_part.ensures.part)
 
 pub returns-clause-text : goal.returns-clause-text
 returns-clause-text g c =
