@@ -3,7 +3,7 @@ use Rattle.std.proofs.Common.{◌≡◌, ℕ, ◌+◌, ◌<◌, ◌≤◌, true,
 use Rattle.std.proofs.lemmas.Bool.{leb-true, or_cases, or_left, or_right}
 use Rattle.std.proofs.lemmas.List.Elements.{All-head, All-tail}
 use Rattle.normalizer_tables.specs.Characters.{items_at}
-use Rattle.normalizer_tables.specs.Conditions.{item_count}
+use Rattle.normalizer_tables.specs.Conditions.{item_count, item_limit}
 use Rattle.normalizer_tables.specs.Data.{Lists}
 use Rattle.normalizer_packing.specs.declared.entry.Kind.{Kind}
 use Rattle.normalizer_packing.specs.declared.entry.Kind.TheVariants.{Canonical, Compatibility, Mapper}
@@ -104,7 +104,7 @@ module _ (entries : List CharacterEntry) (s : Stores) (h : CanPoint entries s) (
   length_of_listed = among_all HasLengthOfWord x (listed_in entries kind) (h.packable.lengths kind) listed
 
   -- and its item is within the limit
-  pub item_within_limit : item_of entries x < 0xFFF
+  pub item_within_limit : item_of entries x < item_limit
   item_within_limit = omega (arith, h.within, item_of-within entries x kind listed (length_of_word x length_of_listed))
 
   -- a list that the first store holds stands there

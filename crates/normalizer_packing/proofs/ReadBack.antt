@@ -6,7 +6,7 @@ use lib.Utf8.{scalar_cases}
 use Rattle.std.proofs.lemmas.Bool.{and_parts}
 use Rattle.std.proofs.lemmas.Bool.Decides.{nat_tests}
 use Rattle.normalizer_tables.specs.Characters.{Characters, as_text, word_of}
-use Rattle.normalizer_tables.specs.Conditions.{is_surrogate, item_count}
+use Rattle.normalizer_tables.specs.Conditions.{is_surrogate, item_count, item_limit}
 use Rattle.normalizer_tables.specs.Hangul.{is_hangul_syllable}
 use Rattle.normalizer_tables.specs.Pairs.{Pair}
 use Rattle.normalizer_tables.specs.SpecialLists.{fdfa_list}
@@ -98,7 +98,7 @@ module _ (entries : List CharacterEntry) (pairs : List Pair) (p : Packed) (packs
   packed_word kind n within = (of_kind kind).words.words n within
 
   -- all tables that words of a kind point into have few items
-  pub few_items : (kind : Kind) → item_count (characters_of p kind).tables + item_count (characters_of p kind).supplementary ≤ 0xFFF
+  pub few_items : (kind : Kind) → item_count (characters_of p kind).tables + item_count (characters_of p kind).supplementary ≤ item_limit
   few_items Canonical = omega (arith, ap item_count packs.tables, packs.within)
   few_items Compatibility = omega (arith, ap item_count packs.tables, ap item_count packs.supplementary_tables, packs.within)
   few_items Mapper = omega (arith, ap item_count packs.tables, ap item_count packs.supplementary_tables, packs.within)

@@ -8,6 +8,7 @@ use Rattle.std.proofs.lemmas.Bool.{and_parts, cond-false, lt-ltb}
 use Rattle.std.proofs.lemmas.Bool.Decides.{nat_tests}
 use Rattle.std.proofs.lemmas.List.Elements.{All-head}
 use Rattle.normal_forms.specs.Boundary.{BeginsWithStarter}
+use Rattle.normalizer_tables.specs.Conditions.{item_limit}
 use Rattle.normalizer_tables.specs.declared.word.WordReading.{WordReading}
 use Rattle.normalizer_tables.specs.declared.word.WordReading.TheVariants.{Ignored, Itself, ClassForm, SpecialForm, TwoCharacters, HangulSyllable, Fdfa, OneCharacter, Listed}
 use Rattle.normalizer_tables.specs.Characters.{Characters, as_text, class_of, has_class_form, list_read, named_list, reading_of_word, word_of}
@@ -274,7 +275,7 @@ module _ (kind : Kind) (entries : List CharacterEntry) (s : Characters) (n : ℕ
             (λ ignored. ap Some (sym same) ∙ expected ignored) class.0 class.1 (kept_is ∙ same) spelled
 
         -- a list in the tables
-        pub line_listed : (item : ℕ) → IsGiven s x item → item < 0xFFF → HasLengthOfWord x → without_flags (word_of s n) ≡ pointing_word (class_in entries) x item →
+        pub line_listed : (item : ℕ) → IsGiven s x item → item < item_limit → HasLengthOfWord x → without_flags (word_of s n) ≡ pointing_word (class_in entries) x item →
             spelling_in kind entries n ≡ by.Listed → IsReadBack kind entries s n
         unfolding named_list IsTold pointing_word
         line_listed item given within long rest spelled =

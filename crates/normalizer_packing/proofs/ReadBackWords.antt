@@ -4,6 +4,7 @@ use Rattle.std.proofs.lemmas.Bool.{cases_lt}
 use Rattle.std.proofs.lemmas.Nat.{and_mask}
 use Rattle.normalizer_tables.specs.declared.word.WordReading.{WordReading}
 use Rattle.normalizer_tables.specs.declared.word.WordReading.TheVariants.{Ignored, Itself, ClassForm, SpecialForm, TwoCharacters, HangulSyllable, Fdfa, OneCharacter, Listed}
+use Rattle.normalizer_tables.specs.Conditions.{item_limit}
 use Rattle.normalizer_tables.specs.Hangul.{is_hangul_syllable}
 use Rattle.normalizer_tables.specs.Words.{ignored_marker, class_of_word, is_class_form, is_ordinary_class_form, is_special_class_form, low_byte, is_plain, has_high_zeros, has_low_zeros, listed, read}
 use Rattle.normalizer_tables.specs.Words.{read_low, two_characters}
@@ -159,7 +160,7 @@ reads_two n w a b m first second no_high no_low unlike rest =
     no_class n w m (TwoCharacters a b) ordinary special
     (rw (not_marked w v rest m unlike, plain_unless w v rest (λ e. omega arith), ordinary, special, high, low) (ap₂ TwoCharacters one two))
 
-reads_pointing : (n w item low q : ℕ) (marks m : Bool) → item < 0xFFF → low < 0x10 → q < 2 → not (q * 2 ^ 4 == 0) ≡ marks → without_flags w ≡ (item + 1) * 0x10000 + (q * 0x10 + low) →
+reads_pointing : (n w item low q : ℕ) (marks m : Bool) → item < item_limit → low < 0x10 → q < 2 → not (q * 2 ^ 4 == 0) ≡ marks → without_flags w ≡ (item + 1) * 0x10000 + (q * 0x10 + low) →
     Reads n w m (Listed item low marks) 0 false
 unfolding read listed
 reads_pointing n w item low q marks m within short bit told rest =
@@ -175,7 +176,7 @@ reads_pointing n w item low q marks m within short bit told rest =
     no_class n w m (Listed item low marks) ordinary special
     (rw (not_marked w v rest m (λ e. omega arith), plain_unless w v rest (λ e. omega arith), ordinary, special, high, none, place, length, promise, told) refl)
 
-pub reads_listed : (n w item low : ℕ) (marks m : Bool) → item < 0xFFF → low < 0x10 → without_flags w ≡ (item + 1) * 0x10000 + ((if marks then 0x10 else 0) + low) →
+pub reads_listed : (n w item low : ℕ) (marks m : Bool) → item < item_limit → low < 0x10 → without_flags w ≡ (item + 1) * 0x10000 + ((if marks then 0x10 else 0) + low) →
     Reads n w m (Listed item low marks) 0 false
 reads_listed n w item low true m within short rest = reads_pointing n w item low 1 true m within short (omega arith) refl rest
 reads_listed n w item low false m within short rest = reads_pointing n w item low 0 false m within short (omega arith) refl rest

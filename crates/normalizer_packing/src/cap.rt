@@ -6,20 +6,18 @@ use crate::entries::Entries;
 use crate::entry::Kind;
 use crate::flags::composes_to;
 use normalizer_tables::CanonicalCompositions;
-
-/// The greatest bound.
-const LIMIT: u16 = 0x0300;
+use normalizer_tables::condition::CAP_LIMIT;
 
 /// The least character that a composing loop may not pass unseen, but at most the limit.
 pub fn cap_of(entries: &Entries<'_>, compositions: &CanonicalCompositions, kind: Kind) -> u16
     ensures { IsCap kind entries.now compositions.now result }
 {
-    for number in 0..LIMIT {
+    for number in 0..CAP_LIMIT {
         if !may_pass(entries, compositions, kind, number) {
             return number;
         }
     }
-    LIMIT
+    CAP_LIMIT
 }
 
 /// Whether a composing loop may pass a number unseen.

@@ -1,6 +1,7 @@
 //! Words that point to a list in a table.
 ghost use Rattle.std.specs.Prelude.{◌≡◌, ◌<◌, ◌^◌, nat_lt};
 ghost use Rattle.std.specs.List.{list_all};
+ghost use Rattle.normalizer_tables.specs.Conditions.{item_limit};
 ghost use Rattle.normalizer_packing.specs.Entries.{class_in};
 ghost use Rattle.normalizer_packing.specs.Stored.{HasLengthOfWord, has_marks_behind, low_length, pointing_word};
 
@@ -10,7 +11,7 @@ use crate::stored::is_narrow;
 /// The word, without its flags, that points to a list at an item.
 #[tactic(auto, unfolding(crate::specs::Stored::pointing_word))]
 pub fn pointing_word(entries: &Entries<'_>, list: &[char], item: u32) -> u32
-    requires within { item < 0xFFF }
+    requires within { item < item_limit }
     requires length { HasLengthOfWord list.now }
     ensures word { result ≡ pointing_word (class_in entries.now) list.now item }
     ensures room { result < 2 ^ 30 }

@@ -7,6 +7,7 @@ ghost use Rattle.normalizer_packing.specs.Stores.{tables_in, AreStored};
 use crate::entries::Entries;
 use crate::entry::Kind;
 use crate::stored::{Store, put_lists};
+use normalizer_tables::condition::ITEM_LIMIT;
 use std::alloc::{AllocError, Global};
 use thiserror::Error;
 
@@ -20,9 +21,6 @@ pub enum PackError {
     #[error("out of memory")]
     Memory,
 }
-
-/// The most items that the tables may have together.
-const ITEM_LIMIT: usize = 0xFFF;
 
 /// The lists of canonical data, and those that only the other kinds of data need.
 #[derive(Drop)]

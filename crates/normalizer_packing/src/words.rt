@@ -64,7 +64,7 @@ impl PackedWords<'_, '_> {
     fn item_of(&self, list: &[char]) -> u32
         requires ready { CanPoint self.now.entries.now self.now.stores.now }
         requires listed { is_among list.now (listed_in self.now.entries.now self.now.kind) ≡ true }
-        ensures within { result < 0xFFF }
+        ensures within { result < item_limit }
         ensures item { result ≡ item_of self.now.entries.now list.now }
     {
         let canonical = &self.stores.canonical;

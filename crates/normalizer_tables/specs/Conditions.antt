@@ -21,7 +21,7 @@ use Rattle.normalizer_tables.specs.Characters.{Characters, word_of, reading_of_w
 
 -- the most items that the tables may have together, and the greatest bound below which characters may pass unseen
 abbrev pub item_limit : ℕ
-item_limit = 0xFFF
+item_limit = 0x1FFF
 
 abbrev pub cap_limit : ℕ
 cap_limit = 0x0300

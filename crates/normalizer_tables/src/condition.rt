@@ -3,10 +3,16 @@ ghost use Rattle.std.specs.Prelude.{◌≡◌};
 ghost use Rattle.normalizer_tables.specs.Conditions.{number_of};
 ghost use Rattle.normalizer_tables.specs.Loaded.{bounds_of_cap};
 
+/// The most items that all tables may have together.
+pub const ITEM_LIMIT: usize = 0x1FFF;
+
+/// The greatest cap.
+pub const CAP_LIMIT: u16 = 0x0300;
+
 /// A written condition. What classes alone ask, or pairs alone, has an entry of its own, under the number of the whole.
 #[derive(Clone, Copy, PartialEq, Eq, Debug)]
 pub enum Condition {
-    /// The tables together hold at most 0xFFF items.
+    /// The tables together hold at most 0x1FFF items.
     ItemLimit,
     /// `passthrough_cap` is at most U+0300.
     CapLimit,

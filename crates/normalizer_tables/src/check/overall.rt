@@ -10,15 +10,9 @@ ghost use Rattle.normalizer_tables.specs.Conditions.{
 
 use crate::characters::CharacterData;
 use crate::check::numbers::is_plain_starter;
-use crate::condition::Condition;
+use crate::condition::{CAP_LIMIT, Condition, ITEM_LIMIT};
 use crate::provider::DecompositionTables;
 use crate::word::{is_backward_combining, is_class_form, is_non_round_trip};
-
-/// The most items that all tables may have together.
-pub const ITEM_LIMIT: usize = 0xFFF;
-
-/// The greatest cap.
-pub const CAP_LIMIT: u16 = 0x0300;
 
 #[tactic(auto, unfolding(crate::specs::Conditions::HoldsOverall))]
 pub fn holds_overall(data: &CharacterData<'_>, condition: Condition) -> bool
