@@ -47,7 +47,7 @@ fn edits_and_the_conditions_that_they_break(rt: HostRuntime) {
 
 /// Edits that break a condition of complete data: of classes most are not asked.
 const OF_COMPLETE_DATA: [Broken; 17] = [
-    (Edit::Items(4096), 0),
+    (Edit::Items(8192), 0),
     (Edit::Cap(0x301), 0),
     (Edit::Word(0xFFFD, 0), 0),
     (Edit::Word(0xFFFD, 0xC000_0000), 0),

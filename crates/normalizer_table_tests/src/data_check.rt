@@ -31,7 +31,7 @@ const MAPPER_CHECK: DataCheck = DataCheck { is_mapper: true };
 fn data_that_pass(rt: HostRuntime) {
     let alloc = rt.alloc();
     assert!(rt; CHECK.finds(alloc, &[], 0));
-    assert!(rt; CHECK.finds(alloc, &[Edit::Items(4095)], 0));
+    assert!(rt; CHECK.finds(alloc, &[Edit::Items(8191)], 0));
     assert!(rt; CHECK.finds(alloc, &[Edit::Cap(0x61), Edit::Word(0x61, 0x4000_0062)], 0));
 }
 

@@ -185,7 +185,7 @@ pub(crate) type Broken = (Edit, u8);
 
 /// One edit for each condition that it breaks, and that condition.
 pub(crate) const REFUSED: [Broken; 17] = [
-    (Edit::Items(4096), 1),
+    (Edit::Items(8192), 1),
     (Edit::Cap(0x301), 2),
     (Edit::Word(0xFFFD, 0), 3),
     (Edit::Word(0xFFFD, 0xC000_0000), 3),

@@ -30,7 +30,7 @@ impl Check for NfdCheck {
 fn data_that_pass(rt: HostRuntime) {
     let alloc = rt.alloc();
     assert!(rt; NfdCheck.finds(alloc, &[], 0));
-    assert!(rt; NfdCheck.finds(alloc, &[Edit::Items(4095)], 0));
+    assert!(rt; NfdCheck.finds(alloc, &[Edit::Items(8191)], 0));
     assert!(rt; NfdCheck.finds(alloc, &[Edit::Cap(0xFFFF)], 0));
 }
 

@@ -128,6 +128,6 @@ fn many_are_refused(alloc: Global, count: u16) -> bool {
 
 #[test]
 fn more_items_than_tables_hold(rt: HostRuntime) {
-    // The tables hold 4095 items, three for each of 1365 characters.
-    assert!(rt; many_are_refused(rt.alloc(), 1366));
+    // The tables hold 8191 items, three for each of 2730 characters.
+    assert!(rt; many_are_refused(rt.alloc(), 2731));
 }

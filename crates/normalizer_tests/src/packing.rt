@@ -179,7 +179,7 @@ fn words_of_each_kind(rt: HostRuntime) {
 }
 
 /// A character of the block of U+4E00 with a list of 17.
-fn long_entry(alloc: Global, place: u8) -> Option<Entry> {
+fn long_entry(alloc: Global, place: u16) -> Option<Entry> {
     let character = char::from_u32(0x4E00 + u32::from(place)).unwrap_or('?');
     entry(alloc, character, 0, &[character; 17], None)
 }
@@ -190,10 +190,10 @@ fn last_entry(alloc: Global, len: usize) -> Option<Entry> {
     entry(alloc, '\u{FB01}', 0, &list, None)
 }
 
-/// 240 characters with lists of 17, and one with a list of so many.
+/// 481 characters with lists of 17, and one with a list of so many.
 fn long_lists(alloc: Global, last: usize) -> Option<Vec<Entry>> {
     let mut entries = Vec::new(alloc);
-    for place in 0..240 {
+    for place in 0..481 {
         entries.push(long_entry(alloc, place)?).ok()?;
     }
     entries.push(last_entry(alloc, last)?).ok()?;
@@ -232,9 +232,9 @@ fn is_full(alloc: Global, last: usize) -> bool {
 
 #[test]
 fn more_items_than_words_can_point_to(rt: HostRuntime) {
-    // 17 times 240 items, and 15 or 16: the most, or one more.
-    assert!(rt; holds_items(rt.alloc(), 15, 0xFFF));
-    assert!(rt; is_full(rt.alloc(), 16));
+    // 17 times 481 items, and 14 or 15: the most, or one more.
+    assert!(rt; holds_items(rt.alloc(), 14, 0x1FFF));
+    assert!(rt; is_full(rt.alloc(), 15));
 }
 
 /// Marks that fall.
