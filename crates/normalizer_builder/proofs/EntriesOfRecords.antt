@@ -12,26 +12,13 @@ use Rattle.normalizer_tables.specs.Hangul.{is_hangul_syllable}
 use Rattle.normalizer_packing.specs.declared.entry.Kind.{Kind}
 use Rattle.normalizer_packing.specs.declared.entry.Kind.TheVariants as kind
 use Rattle.normalizer_packing.specs.Entries.{CharacterEntry, AreRising, own_list, class_in, list_in, entry_of as packed_entry_of}
+use Rattle.normalizer_packing.proofs.EntryLemmas.{find-missing}
 use Rattle.normalizer_records.specs.declared.records.Mappings.{Mappings}
 use Rattle.normalizer_records.specs.declared.records.Mappings.TheVariants.{Canonical, All as AllMappings}
 use Rattle.normalizer_records.specs.Entry.{Entry, MapperEntry, Status}
 use Rattle.normalizer_records.specs.Meaning.{class_of, entry_of, canonical_list, compatibility_list, mapper_list, replacement, expansion, replace_by, full_list, status_of}
 use Rattle.normalizer_records.specs.Meaning.{mapped_list, mapping_among, recorded_classes}
 use Rattle.normalizer_builder.specs.Recorded.{AreMadeOf, ListsCharacters, entry_for, recorded_characters}
-
-Contains-cons : {X : Type 0} (x : X) (xs : List X) (y : X) → Contains xs y → Contains (x ∷ xs) y
-Contains-cons x xs y h = Contains-append_right (x ∷ []) xs y h
-
-Contains-head : {X : Type 0} (x : X) (xs : List X) → Contains (x ∷ xs) x
-Contains-head x xs = (0, omega arith, refl)
-
--- none is found where no element has this number
-pub find-missing : {X : Type 0} (number : X → ℕ) (xs : List X) (n : ℕ) → (Contains (map number xs) n → ⊥) → find (λ x. number x == n) xs ≡ None
-find-missing number [] n missing = refl
-find-missing number (x ∷ xs) n missing = elim (eqb_tells (number x) n) [
-  | inl h ↦ absurd (missing (subst (Contains (map number (x ∷ xs))) h.1 (Contains-head (number x) (map number xs))))
-  | inr h ↦ ap (λ b. cond b (Some x) (find (λ y. number y == n) xs)) h.0 ∙ find-missing number xs n (λ k. missing (Contains-cons (number x) (map number xs) n k))
-]
 
 -- an element has this number, or none is found by it
 pub find-recorded : {X : Type 0} (number : X → ℕ) (xs : List X) (n : ℕ) → ((k : ℕ) × (k < length xs) × ((d : X) → number (get_or xs k d) ≡ n)) ⊎ (find (λ x. number x == n) xs ≡ None)

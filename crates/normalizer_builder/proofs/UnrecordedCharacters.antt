@@ -18,8 +18,9 @@ use Rattle.normalizer_records.specs.Meaning.{class_of, entry_of, expansion, full
 use Rattle.normalizer_records.proofs.ExpansionLemmas.{expansion-replaced}
 use Rattle.normalizer_records.proofs.SyllableLemmas.{IsJamo, jamo_members, jamo_some, replacement-syllable}
 use Rattle.normalizer_records.proofs.UnrecordedLemmas.{jamo_alone, jamo_fixed}
+use Rattle.normalizer_packing.proofs.EntryLemmas.{find-missing}
 use Rattle.normalizer_builder.specs.Recorded.{recorded_characters}
-use Rattle.normalizer_builder.proofs.EntriesOfRecords.{class_of_record, find-missing}
+use Rattle.normalizer_builder.proofs.EntriesOfRecords.{class_of_record}
 use Rattle.normalizer_builder.proofs.NoRefusal.{no_fixed_fault}
 
 -- none passes a test that not any passes

@@ -1,8 +1,9 @@
 -- Look-ups in entries that rise.
-use Rattle.std.proofs.Common.{◌≡◌, ◌≢◌, ◌==◌, ℕ, ◌<◌, ◌≤◌, Bool, true, false, List, [], ◌∷◌, length, get_or, refl, Some, None, find, All, arith, ap, sym, subst, ◌∙◌, zero, suc, inl, inr, nat_lt}
+use Rattle.std.proofs.Common.{◌≡◌, ◌≢◌, ◌==◌, ℕ, ◌<◌, ◌≤◌, Bool, true, false, List, [], ◌∷◌, length, get_or}
+use Rattle.std.proofs.Common.{refl, Some, None, find, All, arith, ap, sym, subst, ◌∙◌, zero, suc, inl, inr, nat_lt, Contains, map, cond}
 use Rattle.std.proofs.lemmas.Bool.{cases_order, eq-eqb, ltb-true, ltb-false, lt-ltb}
-use Rattle.std.proofs.lemmas.Bool.Decides.{nat_tests}
-use Rattle.std.proofs.lemmas.List.Elements.{All-head, All-tail, All-from_get_or}
+use Rattle.std.proofs.lemmas.Bool.Decides.{eqb_tells, nat_tests}
+use Rattle.std.proofs.lemmas.List.Elements.{All-head, All-tail, All-from_get_or, Contains-append_right}
 use Rattle.std.proofs.Math.Nat.{eq-or-lt_of_le}
 use Rattle.std.specs.List.Sorted.{IsPartitionedBy, IsPartitionPoint}
 use Rattle.normalizer_packing.specs.Entries.{CharacterEntry, AreRising, entry_of}
@@ -61,3 +62,17 @@ module _ (entries : List CharacterEntry) (n at : ℕ) (rising : AreRising entrie
   pub entry_of-above : length entries ≤ at → entry_of entries n ≡ None
   unfolding entry_of
   entry_of-above above = find-none (λ f. f.character == n) entries (λ k d within. other_before k d (omega arith) within)
+
+pub Contains-cons : {X : Type 0} (x : X) (xs : List X) (y : X) → Contains xs y → Contains (x ∷ xs) y
+Contains-cons x xs y h = Contains-append_right (x ∷ []) xs y h
+
+pub Contains-head : {X : Type 0} (x : X) (xs : List X) → Contains (x ∷ xs) x
+Contains-head x xs = (0, omega arith, refl)
+
+-- none is found where no element has this number
+pub find-missing : {X : Type 0} (number : X → ℕ) (xs : List X) (n : ℕ) → (Contains (map number xs) n → ⊥) → find (λ x. number x == n) xs ≡ None
+find-missing number [] n missing = refl
+find-missing number (x ∷ xs) n missing = elim (eqb_tells (number x) n) [
+  | inl h ↦ absurd (missing (subst (Contains (map number (x ∷ xs))) h.1 (Contains-head (number x) (map number xs))))
+  | inr h ↦ ap (λ b. cond b (Some x) (find (λ y. number y == n) xs)) h.0 ∙ find-missing number xs n (λ k. missing (Contains-cons (number x) (map number xs) n k))
+]

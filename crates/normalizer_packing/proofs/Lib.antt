@@ -1,3 +1,4 @@
+pub mod AlikeWords
 pub mod EntryLemmas
 pub mod FlagLemmas
 pub mod PackableLemmas

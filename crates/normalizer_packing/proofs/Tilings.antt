@@ -1,17 +1,16 @@
 -- Ranges that follow one another without a gap.
-use Rattle.std.proofs.Common.{◌≡◌, ℕ, ◌<◌, ◌≤◌, ◌+◌, true, List, [], ◌∷◌, ◌++◌, refl, arith, sym, subst, ◌∙◌, inl, inr}
-use Rattle.std.proofs.lemmas.Bool.{le-leb, lt-ltb, cases_order, cases_lt}
+use Rattle.std.proofs.Common.{◌≡◌, ℕ, zero, suc, ◌<◌, ◌≤◌, ◌+◌, ◌-◌, true, List, Contains, length, get_or, [], ◌∷◌, ◌++◌, refl, arith, sym, subst, ◌∙◌, inl, inr}
+use Rattle.std.specs.List.Sorted.{IsStrictlyIncreasing}
+use Rattle.std.proofs.lemmas.Bool.{le-leb, lt-ltb, cases_lt}
+use Rattle.std.proofs.lemmas.List.{get_or_default}
+use Rattle.std.proofs.lemmas.List.Kept.{AllPairs-from_increasing}
 use Rattle.std.proofs.Math.Nat.{eq-or-lt_of_le}
 use Rattle.normalizer_tables.specs.Ranges.{WordRange, word_in}
 use Rattle.normalizer_tables.specs.Table.{code_points}
 use Rattle.normalizer_tables.proofs.RangeLists.{rises_from, rises_from-decides}
 use Rattle.normalizer_tables.proofs.WordsInRanges.{word_in-held, word_in-missed}
+use Rattle.normalizer_packing.specs.Stretches.{AreAlike, CoverUpTo, IsStretch, Tiles}
 use Rattle.normalizer_packing.specs.Words.{CoverWords}
-
--- the ranges follow one another from a to before b
-unfoldable pub Tiles : List WordRange → ℕ → ℕ → Type 0
-Tiles [] a b = a ≡ b
-Tiles (r ∷ rs) a b = (r.0 ≡ a) × (r.0 ≤ r.1) × Tiles rs (r.1 + 1) b
 
 Tiles-le : (rs : List WordRange) (a b : ℕ) → Tiles rs a b → a ≤ b
 unfolding Tiles
@@ -47,60 +46,76 @@ word_in-behind (r ∷ rs) a b e w n t low high =
     let after : r.1 + 1 ≤ b = Tiles-le rs (r.1 + 1) b t.2 in
     word_in-missed r (rs ++ (b, e, w) ∷ []) n (inl (omega arith)) ∙ word_in-behind rs (r.1 + 1) b e w n t.2 low high
 
--- the ranges so far end before `first`, and from there on to before `number` the word is `word`
-pub record CoversUpTo (is_word : ℕ → ℕ → Type 0) (rs : List WordRange) (first word number : ℕ) : Type 0 where
-  pub tiles : Tiles rs 0 first
-  pub below : first < number
-  pub words : (n : ℕ) → n < first → is_word n (word_in rs n)
-  pub last : (n : ℕ) → first ≤ n → n < number → is_word n word
+module _ (is_word : ℕ → ℕ → Type 0) where
+  pub CoverUpTo-start : CoverUpTo is_word [] 0
+  unfolding Tiles
+  CoverUpTo-start = record { tiles = refl; words = λ n low. absurd (omega arith) }
 
-pub CoversUpTo-start : (is_word : ℕ → ℕ → Type 0) (word : ℕ) → is_word 0 word → CoversUpTo is_word [] 0 word 1
-unfolding Tiles
-CoversUpTo-start is_word word h =
-    record { tiles = refl; below = omega arith; words = λ n low. absurd (omega arith); last = λ n low high. (let zero : 0 ≡ n = omega arith in subst (λ (m : ℕ). is_word m word) zero h) }
+  module _ (rs : List WordRange) (from : ℕ) (so_far : CoverUpTo is_word rs from) where
+    -- one more stretch
+    pub CoverUpTo-push : (end e word : ℕ) → e + 1 ≡ end → from ≤ e → IsStretch is_word from end → is_word from word → CoverUpTo is_word (rs ++ (from, e, word) ∷ []) end
+    CoverUpTo-push end e word ends low alike here =
+        record {
+          tiles = subst (λ (m : ℕ). Tiles (rs ++ (from, e, word) ∷ []) 0 m) ends (Tiles-push rs 0 from e word so_far.tiles low);
+          words = λ n below. elim (cases_lt n from) as (λ _. is_word n (word_in (rs ++ (from, e, word) ∷ []) n)) [
+            | inl before ↦ subst (λ (v : ℕ). is_word n v) (sym (word_in-before rs ((from, e, word) ∷ []) 0 from n so_far.tiles (omega arith) before)) (so_far.words n before)
+            | inr behind ↦ subst (λ (v : ℕ). is_word n v) (sym (word_in-behind rs 0 from e word n so_far.tiles behind (omega arith))) (alike n word behind below here)
+          ];
+        }
 
-module _ (is_word : ℕ → ℕ → Type 0) (rs : List WordRange) (first word number : ℕ) (so_far : CoversUpTo is_word rs first word number) where
-  -- one more number has the same word
-  pub CoversUpTo-same : (next : ℕ) → is_word number next → next ≡ word → CoversUpTo is_word rs first word (number + 1)
-  CoversUpTo-same next h same =
-      record {
-        tiles = so_far.tiles;
-        below = omega (arith, so_far.below);
-        words = so_far.words;
-        last = λ n low high. elim (eq-or-lt_of_le {n = n} (let le : n ≤ number = omega arith in le)) as (λ _. is_word n word) [
-          | inl here ↦ subst (λ (m : ℕ). is_word m word) (sym here) (subst (λ (v : ℕ). is_word number v) same h)
-          | inr before ↦ so_far.last n low before
-        ];
-      }
+    pub CoverUpTo-same : (end : ℕ) → from ≡ end → CoverUpTo is_word rs end
+    CoverUpTo-same end same = subst (λ (m : ℕ). CoverUpTo is_word rs m) same so_far
 
-  -- the words up to before `number`, where a range ends there
-  words_up_to : (n e : ℕ) → e + 1 ≡ number → n < number → is_word n (word_in (rs ++ (first, e, word) ∷ []) n)
-  words_up_to n e ends below = elim (cases_order n first) as (λ _. is_word n (word_in (rs ++ (first, e, word) ∷ []) n)) [
-    | inl same ↦ behind (omega arith)
-    | inr (inl before) ↦ subst (λ (v : ℕ). is_word n v) (sym (word_in-before rs ((first, e, word) ∷ []) 0 first n so_far.tiles (omega arith) before)) (so_far.words n before)
-    | inr (inr after) ↦ behind (omega arith)
-  ]
+    -- all numbers have their words
+    pub CoverWords-all : from ≡ code_points → CoverWords is_word rs
+    CoverWords-all all =
+        record {
+          range_list = (rises_from-decides rs).0 (rises_from-Tiles rs 0 from so_far.tiles (omega arith));
+          words = λ n below. so_far.words n (omega arith);
+        }
+
+  pub IsStretch-one : (n : ℕ) → IsStretch is_word n (n + 1)
+  IsStretch-one n m w low high h = let same : n ≡ m = omega arith in subst (λ (k : ℕ). is_word k w) same h
+
+  -- between told numbers all are alike
+  pub IsStretch-untold : (told : List ℕ) (from end : ℕ) → AreAlike is_word told → ((n : ℕ) → from ≤ n → n < end → Contains told n → ⊥) → IsStretch is_word from end
+  IsStretch-untold told from end alike untold n w low below h = let same : from + (n - from) ≡ n = omega arith in subst (λ (m : ℕ). is_word m w) same (by (n - from) (omega arith))
     where
-      behind : first ≤ n → is_word n (word_in (rs ++ (first, e, word) ∷ []) n)
-      behind low = subst (λ (v : ℕ). is_word n v) (sym (word_in-behind rs 0 first e word n so_far.tiles low (omega arith))) (so_far.last n low below)
+      by : (k : ℕ) → from + k < end → is_word (from + k) w
+      by zero inside = let same : from ≡ from + 0 = omega arith in subst (λ (m : ℕ). is_word m w) same h
+      by (suc k) inside =
+          let same : from + k + 1 ≡ from + suc k = omega arith in
+          subst (λ (m : ℕ). is_word m w) same (alike (from + k) w (untold _ (omega arith) (omega arith)) (untold _ (omega arith) (omega arith)) (by k (omega arith)))
 
-  tiles_up_to : (e : ℕ) → e + 1 ≡ number → Tiles (rs ++ (first, e, word) ∷ []) 0 number
-  tiles_up_to e ends = subst (λ (m : ℕ). Tiles (rs ++ (first, e, word) ∷ []) 0 m) ends (Tiles-push rs 0 first e word so_far.tiles (omega (arith, so_far.below)))
+-- the told numbers before a place are below `from`, and the others aren't
+pub record HasPassed (told : List ℕ) (place from : ℕ) : Type 0 where
+  pub before : (k d : ℕ) → k < place → k < length told → get_or told k d < from
+  pub behind : (k d : ℕ) → place ≤ k → k < length told → from ≤ get_or told k d
 
-  -- it has another, and so a range ends before it
-  pub CoversUpTo-push : (next e : ℕ) → e + 1 ≡ number → is_word number next → CoversUpTo is_word (rs ++ (first, e, word) ∷ []) number next (number + 1)
-  CoversUpTo-push next e ends h =
-      record {
-        tiles = tiles_up_to e ends;
-        below = omega arith;
-        words = λ n below. words_up_to n e ends below;
-        last = λ n low high. (let same : number ≡ n = omega arith in subst (λ (m : ℕ). is_word m next) same h);
-      }
+pub HasPassed-start : (told : List ℕ) → HasPassed told 0 0
+HasPassed-start told = record { before = λ k d low within. absurd (omega arith); behind = λ k d low within. omega arith }
 
-  -- all numbers have their words
-  pub CoverWords-end : (e : ℕ) → e + 1 ≡ number → number ≡ code_points → CoverWords is_word (rs ++ (first, e, word) ∷ [])
-  CoverWords-end e ends all =
-      record {
-        range_list = (rises_from-decides (rs ++ (first, e, word) ∷ [])).0 (rises_from-Tiles _ 0 number (tiles_up_to e ends) (omega arith));
-        words = λ n below. words_up_to n e ends (omega arith);
-      }
+module _ (told : List ℕ) (rising : IsStrictlyIncreasing told) where
+  not_below : (i j d : ℕ) → i ≤ j → j < length told → get_or told i d ≤ get_or told j d
+  not_below i j d le within = elim (eq-or-lt_of_le le) as (λ _. get_or told i d ≤ get_or told j d) [
+    | inl same ↦ subst (λ (m : ℕ). get_or told i d ≤ get_or told m d) same (omega arith)
+    | inr below ↦ omega (arith, AllPairs-from_increasing told rising i j d below within)
+  ]
+
+  module _ (place from : ℕ) (passed : HasPassed told place from) where
+    -- no told number stands between
+    pub untold-between : (number : ℕ) → place < length told → (e : ℕ) → number ≡ get_or told place e → (n : ℕ) → from ≤ n → n < number → Contains told n → ⊥
+    untold-between number within e here n low below h = elim (cases_lt h.0 place) as (λ _. ⊥) [
+      | inl before ↦ omega (arith, passed.before h.0 n before h.1, h.2)
+      | inr behind ↦ omega (arith, not_below place h.0 n behind h.1, here, get_or_default told place e n within, h.2)
+    ]
+
+    pub untold-behind : place ≡ length told → (end n : ℕ) → from ≤ n → n < end → Contains told n → ⊥
+    untold-behind all end n low below h = omega (arith, passed.before h.0 n (omega (arith, h.1)) h.1, h.2)
+
+    pub HasPassed-next : (number : ℕ) → place < length told → (e : ℕ) → number ≡ get_or told place e → HasPassed told (place + 1) (number + 1)
+    HasPassed-next number within e here =
+        record {
+          before = λ k d low inside. omega (arith, not_below k place d (omega arith) within, here, get_or_default told place e d within);
+          behind = λ k d low inside. omega (arith, AllPairs-from_increasing told rising place k d (omega arith) inside, here, get_or_default told place e d within);
+        }

@@ -9,4 +9,5 @@ pub mod Spelling
 pub mod Steps
 pub mod Stored
 pub mod Stores
+pub mod Stretches
 pub mod Words

@@ -16,6 +16,7 @@ mod spelling;
 mod steps;
 mod stored;
 mod stores;
+mod told;
 mod words;
 
 use normalizer_tables::{

@@ -4,6 +4,7 @@ ghost use Rattle.normalizer_tables.specs.Conditions.{item_limit};
 ghost use Rattle.normalizer_packing.specs.PackedWords.{CanPoint};
 ghost use Rattle.normalizer_packing.specs.Packing.{ArePackable, Packs, PacksKind};
 ghost use Rattle.normalizer_packing.specs.Stored.{needed_items};
+ghost use Rattle.normalizer_packing.specs.Stretches.{ListsTold};
 
 use crate::Packed;
 use crate::cap::cap_of;
@@ -12,13 +13,14 @@ use crate::entry::{Entry, Kind};
 use crate::ranges::table_of;
 use crate::steps::supplement_of;
 use crate::stores::{PackError, Stores, stores_of};
+use crate::told::told_characters;
 use crate::words::PackedWords;
 use normalizer_tables::{CanonicalCompositions, DecompositionData, TableError};
 use std::alloc::{AllocError, Global};
 
 /// Packs the entries of characters, and pairs of characters that compose (second, first and result), into data: the
-/// same entries and pairs into the same data. Lists stand in the tables in the order in which characters first need them, an
-/// equal one once. Refuses lists that have more items than words can point to.
+/// same entries and pairs into the same data. Lists stand in the tables in the order in which characters first need
+/// them, an equal one once. Refuses lists that have more items than words can point to.
 pub fn pack(
     alloc: Global,
     entries: &[Entry],
@@ -46,11 +48,26 @@ fn packed_with<'e>(
     requires { CanPoint entries stores }
     ensures packed { IfOk result (Packs entries.entry pairs.items) }
 {
+    let told = told_characters(alloc, entries.as_slice(), &pairs)?;
     let compositions = compositions_of(pairs)?;
-    let canonical = data_of(alloc, &entries, &compositions, &stores, Kind::Canonical)?;
-    let compatibility = data_of(alloc, &entries, &compositions, &stores, Kind::Compatibility)?;
-    let mapper = data_of(alloc, &entries, &compositions, &stores, Kind::Mapper)?;
-    let supplement = supplement_of(alloc, &entries)?;
+    let canonical = data_of(
+        alloc,
+        &entries,
+        &compositions,
+        &stores,
+        &told,
+        Kind::Canonical,
+    )?;
+    let compatibility = data_of(
+        alloc,
+        &entries,
+        &compositions,
+        &stores,
+        &told,
+        Kind::Compatibility,
+    )?;
+    let mapper = data_of(alloc, &entries, &compositions, &stores, &told, Kind::Mapper)?;
+    let supplement = supplement_of(alloc, &entries, &told)?;
     Ok(Packed {
         canonical,
         compatibility,
@@ -79,9 +96,11 @@ fn data_of<'a, 'e>(
     entries: &'a Entries<'e>,
     compositions: &'a CanonicalCompositions,
     stores: &'a Stores<'e>,
+    told: &[char],
     kind: Kind,
 ) -> Result<DecompositionData, AllocError>
-    requires { CanPoint entries.now stores.now }
+    requires stored { CanPoint entries.now stores.now }
+    requires told { ListsTold entries.now compositions.now told.now }
     ensures { IfOk result (PacksKind kind entries.now compositions.now) }
 {
     let words = PackedWords {
@@ -91,7 +110,7 @@ fn data_of<'a, 'e>(
         kind,
     };
     Ok(DecompositionData {
-        table: table_of(alloc, &words)?,
+        table: table_of(alloc, &words, told)?,
         passthrough_cap: cap_of(entries, compositions, kind),
     })
 }

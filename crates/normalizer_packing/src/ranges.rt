@@ -1,6 +1,9 @@
-//! Tables of words that are computed number by number.
-ghost use Rattle.std.specs.Prelude.{IfOk, ◌<◌};
+//! Tables of words that are computed stretch by stretch.
+ghost use Rattle.std.specs.Prelude.{IfOk, ◌+◌, ◌<◌, ◌≤◌};
+ghost use Rattle.normalizer_packing.specs.Stretches.{AreAlike, CoverUpTo, IsStretch};
 ghost use Rattle.normalizer_packing.specs.Words.{CoverWords, HasWords};
+ghost use Rattle.normalizer_tables.specs.Table.{code_points};
+ghost use Rattle.std.specs.List.Sorted.{IsStrictlyIncreasing};
 
 use normalizer_tables::characters::CODE_POINTS;
 use normalizer_tables::{CodePointTable, TableError};
@@ -24,12 +27,18 @@ pub trait Words {
         ensures { is_word self.now number result };
 }
 
-/// The table of the words of all code points, where equal neighbours make one range.
-pub fn table_of<W: Words>(alloc: Global, words: &W) -> Result<CodePointTable, AllocError>
-    requires { W.is_ready words.now }
+/// The table of the words of all code points, where those between two told characters have one word.
+pub fn table_of<W: Words>(
+    alloc: Global,
+    words: &W,
+    told: &[char],
+) -> Result<CodePointTable, AllocError>
+    requires ready { W.is_ready words.now }
+    requires rising { IsStrictlyIncreasing told.now }
+    requires alike { AreAlike (W.is_word words.now) told.now }
     ensures { IfOk result (HasWords (W.is_word words.now)) }
 {
-    let ranges = ranges_of(alloc, words)?;
+    let ranges = ranges_of(alloc, words, told)?;
     match CodePointTable::from_ranges(ranges, 0) {
         Ok(table) => Ok(table),
         Err(TableError::Memory) => Err(AllocError),
@@ -37,22 +46,62 @@ pub fn table_of<W: Words>(alloc: Global, words: &W) -> Result<CodePointTable, Al
     }
 }
 
-/// The ranges of equal words, one after another, that have all code points.
-fn ranges_of<W: Words>(alloc: Global, words: &W) -> Result<Vec<(u32, u32, u32)>, AllocError>
-    requires { W.is_ready words.now }
+/// Ranges of one word each, one after another, that have all code points: each told character, and all between two.
+fn ranges_of<W: Words>(
+    alloc: Global,
+    words: &W,
+    told: &[char],
+) -> Result<Vec<(u32, u32, u32)>, AllocError>
+    requires ready { W.is_ready words.now }
+    requires rising { IsStrictlyIncreasing told.now }
+    requires alike { AreAlike (W.is_word words.now) told.now }
     ensures { IfOk result (λ v. CoverWords (W.is_word words.now) v.items) }
 {
     let mut ranges = Vec::new(alloc);
-    let mut first = 0;
-    let mut word = words.word_of(first);
-    for number in 1..CODE_POINTS {
-        let next = words.word_of(number);
-        if next != word {
-            ranges.push((first, number - 1, word))?;
-            first = number;
-            word = next;
-        }
+    let mut from = 0;
+    for &character in told {
+        push_up_to(&mut ranges, words, from, character)?;
+        from = character as u32 + 1;
     }
-    ranges.push((first, CODE_POINTS - 1, word))?;
+    push_stretch(&mut ranges, words, from, CODE_POINTS)?;
     Ok(ranges)
+}
+
+/// Adds the numbers from one up to before a character, which have the word of the first, and the character.
+fn push_up_to<W: Words>(
+    ranges: &mut Vec<(u32, u32, u32)>,
+    words: &W,
+    from: u32,
+    character: char,
+) -> Result<(), AllocError>
+    requires ready { W.is_ready words.now }
+    requires ordered { from ≤ character }
+    requires alike { IsStretch (W.is_word words.now) from character }
+    ensures within { character < code_points }
+    ensures words { IfOk result (λ _. CoverUpTo (W.is_word words.now) ranges.old.items from →
+        CoverUpTo (W.is_word words.now) ranges.new.items (character + 1)) }
+{
+    let number = character as u32;
+    push_stretch(ranges, words, from, number)?;
+    push_stretch(ranges, words, number, number + 1)
+}
+
+/// Adds the numbers from one up to before another, which have the word of the first.
+fn push_stretch<W: Words>(
+    ranges: &mut Vec<(u32, u32, u32)>,
+    words: &W,
+    from: u32,
+    end: u32,
+) -> Result<(), AllocError>
+    requires ready { W.is_ready words.now }
+    requires within { end ≤ code_points }
+    requires ordered { from ≤ end }
+    requires alike { IsStretch (W.is_word words.now) from end }
+    ensures { IfOk result (λ _. CoverUpTo (W.is_word words.now) ranges.old.items from →
+        CoverUpTo (W.is_word words.now) ranges.new.items end) }
+{
+    if from < end {
+        ranges.push((from, end - 1, words.word_of(from)))?;
+    }
+    Ok(())
 }

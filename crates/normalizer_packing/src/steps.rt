@@ -1,9 +1,11 @@
 //! The supplement: one step of decomposition, where the word of canonical data doesn't tell it.
-ghost use Rattle.std.specs.Prelude.{◌≡◌, true, false, [], ◌∷◌, Some, IfOk, if◌then◌else◌, nat_le};
+ghost use Rattle.std.specs.Prelude.{◌≡◌, true, false, [], ◌∷◌, List, Some, IfOk, if◌then◌else◌, nat_le};
 ghost use Rattle.normalizer_packing.specs.Entries.{class_in, entry_of};
+ghost use Rattle.normalizer_tables.specs.Pairs.{Pair};
 ghost use Rattle.normalizer_packing.specs.Stored.{first_come, is_among, place_of};
 ghost use Rattle.normalizer_packing.specs.Stores.{Holds};
 ghost use Rattle.normalizer_packing.specs.Steps.{are_narrow, asked_step, asks_supplement, step_in, step_lists};
+ghost use Rattle.normalizer_packing.specs.Stretches.{ListsTold};
 ghost use Rattle.normalizer_packing.specs.Steps.{stored_step, stored_steps, word_of_place, word_of_step, PacksSteps};
 
 use crate::entries::Entries;
@@ -193,11 +195,13 @@ fn word_of_one(character: char) -> u32
 pub fn supplement_of(
     alloc: Global,
     entries: &Entries<'_>,
+    told: &[char],
 ) -> Result<NonRecursiveDecompositionSupplement, AllocError>
+    requires { (pairs : List Pair) × ListsTold entries.now pairs told.now }
     ensures { IfOk result (PacksSteps entries.now) }
 {
     let steps = stored_steps(alloc, entries)?;
-    supplement_with(alloc, entries, steps.as_slice())
+    supplement_with(alloc, entries, told, steps.as_slice())
 }
 
 /// The supplement with these steps in its table.
@@ -205,24 +209,28 @@ pub fn supplement_of(
 fn supplement_with(
     alloc: Global,
     entries: &Entries<'_>,
+    told: &[char],
     steps: &[[char; 2]],
 ) -> Result<NonRecursiveDecompositionSupplement, AllocError>
-    requires { steps.now ≡ stored_steps entries.now }
+    requires told { (pairs : List Pair) × ListsTold entries.now pairs told.now }
+    requires steps { steps.now ≡ stored_steps entries.now }
     ensures { IfOk result (PacksSteps entries.now) }
 {
     let store = store_of(alloc, steps)?;
-    supplement_in(alloc, StepWords { entries, store })
+    supplement_in(alloc, StepWords { entries, store }, told)
 }
 
 /// The supplement with these words.
 fn supplement_in(
     alloc: Global,
     words: StepWords<'_, '_, '_>,
+    told: &[char],
 ) -> Result<NonRecursiveDecompositionSupplement, AllocError>
-    requires { Holds (step_lists words.entries.now) words.store }
+    requires held { Holds (step_lists words.entries.now) words.store }
+    requires told { (pairs : List Pair) × ListsTold words.entries.now pairs told.now }
     ensures { IfOk result (PacksSteps words.entry.entries.now) }
 {
-    let table = table_of(alloc, &words)?;
+    let table = table_of(alloc, &words, told)?;
     let StepWords { store, .. } = words;
     let mut scalars24 = store.into_scalars24();
     scalars24.truncate(STEP_LIMIT);

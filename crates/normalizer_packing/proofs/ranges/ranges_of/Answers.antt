@@ -1,34 +1,39 @@
-use Rattle.std.proofs.Common.{◌≡◌, ℕ, ◌+◌, ◌-◌, arith}
+use Rattle.std.proofs.Common.{◌≡◌, arith, refl}
 use Rattle.normalizer_tables.specs.Table.{code_points}
-use Rattle.normalizer_packing.proofs.Tilings.{CoversUpTo-start, CoversUpTo-same, CoversUpTo-push, CoverWords-end}
+use Rattle.normalizer_packing.proofs.Tilings.{CoverUpTo-start, CoverWords-all, HasPassed-next, HasPassed-start, IsStretch-untold, untold-behind, untold-between}
 use Rattle.normalizer_packing.proofs.ranges.ranges_of.Goals as goal
-use Rattle.normalizer_packing.proofs.ranges.ranges_of.Goals.{then-next-word+in_ok-push, else-next-word}
 
-pub word_of-word-requires-clause-within : goal.word_of-word-requires-clause-within
+all_numbers : 0x110000 ≡ code_points
 unfolding code_points
-word_of-word-requires-clause-within g c = omega arith
+all_numbers = refl
 
-pub loop-number-init : goal.loop-number-init
-loop-number-init g c = rw c.new-ranges.ensures.items (CoversUpTo-start _ _ c.word_of-word.ensures)
+pub loop-character-init : goal.loop-character-init
+loop-character-init g c = rw c.new-ranges.ensures.items (CoverUpTo-start _, HasPassed-start _, omega arith)
 
-pub word_of-next-requires-clause-within : goal.word_of-next-requires-clause-within
-unfolding code_points
-word_of-next-requires-clause-within g c = c.loop-number-test.true
+pub push_up_to-requires-clause-ordered : goal.push_up_to-requires-clause-ordered
+push_up_to-requires-clause-ordered g c = rw c.character-item.is (c.loop-character.invariant.1.behind _ _ (omega arith) c.loop-character-test.true)
 
-pub loop-number-preserved : goal.loop-number-preserved
-loop-number-preserved g c = elim c.if-next-word.branch [
-  | then-next-word+in_ok-push w ↦
-      let ends : c.loop-number.number - 1 + 1 ≡ c.loop-number.number = omega (arith, c.loop-number.invariant.below) in
-      rw (w.ranges-is, w.first-is, w.word-is, w.in_ok-push.ensures.items)
-      (CoversUpTo-push _ _ _ _ _ c.loop-number.invariant c.word_of-next.result (c.loop-number.number - 1) ends c.word_of-next.ensures)
-  | else-next-word w ↦ rw (w.ranges-is, w.first-is, w.word-is) (CoversUpTo-same _ _ _ _ _ c.loop-number.invariant c.word_of-next.result c.word_of-next.ensures w.if-next-word.false)
-]
+pub push_up_to-requires-clause-alike : goal.push_up_to-requires-clause-alike
+push_up_to-requires-clause-alike g c =
+    IsStretch-untold _ c.args.told.now _ _ c.requires.alike
+    (untold-between c.args.told.now c.requires.rising _ _ c.loop-character.invariant.1 c.character-item.result c.loop-character-test.true _ c.character-item.is)
 
-all_numbers : (n : ℕ) → n ≡ 0x110000 → n ≡ code_points
-unfolding code_points
-all_numbers n e = e
+pub loop-character-preserved : goal.loop-character-preserved
+loop-character-preserved g c = (
+  c.in_ok-push_up_to.ensures.words c.loop-character.invariant.0,
+  HasPassed-next c.args.told.now c.requires.rising _ _ c.loop-character.invariant.1 c.character-item.result c.loop-character-test.true _ c.character-item.is,
+  omega (arith, c.in_ok-push_up_to.ensures.within),
+)
+
+pub push_stretch-requires-clause-within : goal.push_stretch-requires-clause-within
+push_stretch-requires-clause-within g c = omega (arith, all_numbers)
+
+pub push_stretch-requires-clause-ordered : goal.push_stretch-requires-clause-ordered
+push_stretch-requires-clause-ordered g c = omega (arith, all_numbers, c.loop-character.invariant.2)
+
+pub push_stretch-requires-clause-alike : goal.push_stretch-requires-clause-alike
+push_stretch-requires-clause-alike g c =
+    IsStretch-untold _ c.args.told.now _ _ c.requires.alike (untold-behind c.args.told.now c.requires.rising _ _ c.loop-character.invariant.1 (omega (arith, c.loop-character-test.false)) 0x110000)
 
 pub returns : goal.returns
-returns g c =
-    let all : c.loop-number.number ≡ 0x110000 = omega arith in
-    rw c.in_ok-push-2.ensures.items (CoverWords-end _ _ _ _ _ c.loop-number.invariant 0x10FFFF (omega arith) (all_numbers _ all))
+returns g c = CoverWords-all _ _ _ (c.in_ok-push_stretch.ensures c.loop-character.invariant.0) all_numbers

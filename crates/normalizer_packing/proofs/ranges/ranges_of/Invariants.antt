@@ -1,5 +1,10 @@
-use Rattle.normalizer_packing.proofs.Tilings.{CoversUpTo}
+use Rattle.std.proofs.Common.{◌≤◌}
+use Rattle.normalizer_tables.specs.Table.{code_points}
+use Rattle.normalizer_packing.specs.Stretches.{CoverUpTo}
+use Rattle.normalizer_packing.proofs.Tilings.{HasPassed}
 use Rattle.normalizer_packing.proofs.ranges.ranges_of.Given as goal
 
-abbrev pub invariant-loop-number : goal.invariant-loop-number
-invariant-loop-number g l = CoversUpTo (g.W.Words.is_word l.words) l.ranges.items l.first l.word l.number
+-- the numbers before `from` have their words, and no told one behind it was passed
+abbrev pub invariant-loop-character : goal.invariant-loop-character
+invariant-loop-character g l =
+    CoverUpTo (g.W.Words.is_word l.words) l.ranges.items l.from × HasPassed l.told l.character-index l.from × (l.from ≤ code_points)

@@ -1,0 +1,40 @@
+-- Tables made of stretches of numbers that have one word. What functions of this crate tell one another of them.
+use Rattle.std.specs.Prelude.{◌≡◌, ℕ, ◌+◌, ◌<◌, ◌≤◌, List, [], ◌∷◌, ◌++◌, map, All, Contains}
+use Rattle.std.specs.List.Sorted.{IsStrictlyIncreasing}
+use Rattle.normalizer_tables.specs.Pairs.{Pair}
+use Rattle.normalizer_tables.specs.Ranges.{WordRange, word_in}
+use Rattle.normalizer_packing.specs.Entries.{CharacterEntry}
+
+-- the ranges follow one another from a to before b
+unfoldable pub Tiles : List WordRange → ℕ → ℕ → Type 0
+Tiles [] a b = a ≡ b
+Tiles (r ∷ rs) a b = (r.0 ≡ a) × (r.0 ≤ r.1) × Tiles rs (r.1 + 1) b
+
+-- ranges one after another that give each number below `end` its word
+pub record CoverUpTo (is_word : ℕ → ℕ → Type 0) (rs : List WordRange) (end : ℕ) : Type 0 where
+  pub tiles : Tiles rs 0 end
+  pub words : (n : ℕ) → n < end → is_word n (word_in rs n)
+
+-- the numbers from one up to before another have the word of the first
+abbrev pub IsStretch : (ℕ → ℕ → Type 0) → ℕ → ℕ → Type 0
+IsStretch is_word from end = (n w : ℕ) → from ≤ n → n < end → is_word from w → is_word n w
+
+-- two neighbours have one word, unless one of them is told
+abbrev pub AreAlike : (ℕ → ℕ → Type 0) → List ℕ → Type 0
+AreAlike is_word told =
+    (n w : ℕ) → ¬ Contains told n → ¬ Contains told (n + 1) → is_word n w → is_word (n + 1) w
+
+-- where composing vowels and trailing consonants of Hangul begin, and the first characters behind them and behind their
+-- block; the first syllable and the first character behind them; the last character before surrogates and the first
+-- behind them; U+FFFD
+abbrev pub edges : List ℕ
+edges = 0x1161 ∷ 0x1176 ∷ 0x11A8 ∷ 0x11C3 ∷ 0x1200 ∷ 0xAC00 ∷ 0xD7A4 ∷ 0xD7FF ∷ 0xE000 ∷ 0xFFFD ∷ []
+
+-- the numbers of which entries, pairs, or the packing of numbers that no entry changes say something
+abbrev pub told_numbers : List CharacterEntry → List Pair → List ℕ
+told_numbers entries pairs = map (λ e. e.character) entries ++ map (λ p. p.0) pairs ++ edges
+
+-- they all, in their order
+pub record ListsTold (entries : List CharacterEntry) (pairs : List Pair) (told : List ℕ) : Type 0 where
+  pub all : All (Contains told) (told_numbers entries pairs)
+  pub rising : IsStrictlyIncreasing told

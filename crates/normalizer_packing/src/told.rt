@@ -1,0 +1,55 @@
+//! The characters of which something is told: all numbers between two of them have one word.
+ghost use Rattle.std.specs.Prelude.{◌≡◌, IfOk, map};
+ghost use Rattle.normalizer_packing.specs.Stretches.{ListsTold, told_numbers};
+
+use crate::entry::Entry;
+use std::alloc::{AllocError, Global};
+
+/// Where composing vowels and trailing consonants of Hangul begin, and the first characters behind them and behind
+/// their block; the first syllable and the first character behind them; the last character before surrogates and the
+/// first behind them; U+FFFD.
+const EDGES: [char; 10] = [
+    '\u{1161}', '\u{1176}', '\u{11A8}', '\u{11C3}', '\u{1200}', '\u{AC00}', '\u{D7A4}', '\u{D7FF}',
+    '\u{E000}', '\u{FFFD}',
+];
+
+/// The characters of which entries, pairs, or the packing of numbers that no entry changes say something, in their
+/// order.
+pub fn told_characters(
+    alloc: Global,
+    entries: &[Entry],
+    pairs: &[(char, char, char)],
+) -> Result<Vec<char>, AllocError>
+    ensures { IfOk result (λ v. ListsTold entries.now pairs.now v.items) }
+{
+    let mut told = unsorted_characters(alloc, entries, pairs)?;
+    told.sort_unstable();
+    told.dedup();
+    Ok(told)
+}
+
+fn unsorted_characters(
+    alloc: Global,
+    entries: &[Entry],
+    pairs: &[(char, char, char)],
+) -> Result<Vec<char>, AllocError>
+    ensures { IfOk result (λ v. v.items ≡ told_numbers entries.now pairs.now) }
+{
+    let mut told = characters_of(alloc, entries)?;
+    let seconds = seconds_of(alloc, pairs)?;
+    told.extend_from_slice(&seconds)?;
+    told.extend_from_slice(&EDGES)?;
+    Ok(told)
+}
+
+fn characters_of(alloc: Global, entries: &[Entry]) -> Result<Vec<char>, AllocError>
+    ensures { IfOk result (λ v. v.items ≡ map (λ e. e.character) entries.now) }
+{
+    entries.iter().map(|entry| entry.character).collect(alloc)
+}
+
+fn seconds_of(alloc: Global, pairs: &[(char, char, char)]) -> Result<Vec<char>, AllocError>
+    ensures { IfOk result (λ v. v.items ≡ map (λ p. p.0) pairs.now) }
+{
+    pairs.iter().map(|pair| pair.0).collect(alloc)
+}
