@@ -3,18 +3,24 @@ ghost use Rattle.std.specs.Prelude.{◌≡◌, List, None, IfOk, IsOkUnless, Mat
 ghost use Rattle.normal_forms.specs.declared.Form.{Form};
 ghost use Rattle.normal_forms.specs.Hypotheses.{HasInhabitedLists, SuitsForm};
 ghost use Rattle.normalizer_packing.specs.declared.Packed.{Packed};
-ghost use Rattle.normalizer_packing.specs.declared.entry.Kind.TheVariants.{Canonical, Compatibility};
+ghost use Rattle.normalizer_packing.specs.declared.entry.Kind.TheVariants.{Canonical, Compatibility, Mapper};
 ghost use Rattle.normalizer_packing.specs.ReadBack.{characters_of};
 ghost use Rattle.normalizer_records.specs.declared.records.Mappings.{Mappings};
 ghost use Rattle.normalizer_records.specs.Entry.{Entry, MapperEntry};
 ghost use Rattle.normalizer_text.specs.Utf8.{decoded_utf8};
 ghost use Rattle.normalizer_calls.specs.ComposingNormalizers.{composing_data_of, pairs_of};
+ghost use Rattle.normalizer_calls.specs.Mappers.{mapper_data_of};
 ghost use Rattle.normalizer_calls.specs.Normalizers.{data_of};
+ghost use Rattle.normalizer_properties.specs.Properties as properties;
 ghost use Rattle.normalizer_builder.specs.Building.{Builds, IsSmallest};
 ghost use Rattle.normalizer_builder.specs.Fitness.{IsFirstUnfit};
 ghost use Rattle.normalizer_uses.specs.RecordedForms.{form_of_data, recorded_form, recorded_reading};
 
 use crate::{nfc_of_bytes, nfd_of_bytes};
+use icu_normalizer::properties::{
+    CanonicalCombiningClassMap, CanonicalComposition, CanonicalDecomposition,
+};
+use icu_normalizer::uts46::Uts46Mapper;
 use icu_normalizer::{ComposingNormalizer, DataError, DecomposingNormalizer, NormalizeError};
 use normalizer_builder::{Built, Records};
 use normalizer_records::{BuildError, Record, Uts46Record};
@@ -135,4 +141,42 @@ fn want_of_memory(error: DataError) -> NormalizeError
             unreachable!()
         }
     }
+}
+
+/// The pairs that compose, of data that were built: their constructor refuses nothing but memory.
+pub fn built_composition(built: &Built) -> Result<CanonicalComposition, DataError>
+    requires { IsFirstUnfit built.now.packed None }
+    ensures held { IfOk result (λ c. properties.pairs_of c ≡ built.now.packed.compositions) }
+    ensures refused { IsOkUnless result DataError.Memory }
+{
+    CanonicalComposition::try_new_unstable(built)
+}
+
+/// The canonical combining classes of data that were built: their constructor refuses nothing but memory.
+pub fn built_combining_classes(built: &Built) -> Result<CanonicalCombiningClassMap, DataError>
+    requires { IsFirstUnfit built.now.packed None }
+    ensures held { IfOk result (λ m. properties.classes_of m ≡ built.now.packed.canonical) }
+    ensures refused { IsOkUnless result DataError.Memory }
+{
+    CanonicalCombiningClassMap::try_new_unstable(built)
+}
+
+/// The mapper over data that were built: its constructor refuses nothing but memory.
+pub fn built_mapper(built: &Built) -> Result<Uts46Mapper, DataError>
+    requires { IsFirstUnfit built.now.packed None }
+    ensures held { IfOk result (λ m. mapper_data_of m ≡
+        (characters_of built.now.packed Mapper, built.now.packed.compositions)) }
+    ensures refused { IsOkUnless result DataError.Memory }
+{
+    Uts46Mapper::try_new(built)
+}
+
+/// One step of canonical decomposition by data that were built: its constructor refuses nothing but memory.
+pub fn built_decomposition(built: &Built) -> Result<CanonicalDecomposition, DataError>
+    requires { IsFirstUnfit built.now.packed None }
+    ensures held { IfOk result (λ d. properties.steps_of d ≡
+        (characters_of built.now.packed Canonical, built.now.packed.supplement)) }
+    ensures refused { IsOkUnless result DataError.Memory }
+{
+    CanonicalDecomposition::try_new_unstable(built)
 }

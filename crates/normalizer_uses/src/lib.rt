@@ -31,7 +31,10 @@ pub mod reports;
 pub mod shaping;
 pub mod sinks;
 
-pub use by_records::{NormalForm, form_by_records, what_is_built_suits_the_laws};
+pub use by_records::{
+    NormalForm, built_combining_classes, built_composition, built_decomposition, built_mapper,
+    form_by_records, what_is_built_suits_the_laws,
+};
 use icu_normalizer::{
     ComposingNormalizer, ComposingNormalizerBorrowed, DataError, DataProvider,
     DecomposingNormalizerBorrowed, Decomposition, DecompositionData, DecompositionTables,

@@ -1,0 +1,6 @@
+use Rattle.normalizer_tables.specs.declared.provider.DataMarkerInfo.TheVariants.{NormalizerNfcV1}
+use Rattle.normalizer_uses.proofs.AcceptedData.{IsOkUnless-memory, pairs_not_refused}
+use Rattle.normalizer_uses.proofs.by_records.built_composition.Goals as goal
+
+pub returns-clause-refused : goal.returns-clause-refused
+returns-clause-refused c = IsOkUnless-memory _ (pairs_not_refused c.args.built.now.packed c.requires NormalizerNfcV1) _ c.try_new_unstable.ensures.1
