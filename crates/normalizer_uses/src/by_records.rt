@@ -63,6 +63,12 @@ pub fn what_is_built_suits_the_laws()
         (mappings : Mappings) → HasInhabitedLists (recorded_reading records mappings) }
 {}
 
+/// What records that build mean meets all that constructors ask. The function does nothing: its contract is the law.
+pub fn what_is_built_is_accepted()
+    ensures { (records : List Entry) (uts46 : List MapperEntry) (p : Packed) → Builds records uts46 p →
+        IsFirstUnfit p None }
+{}
+
 /// The normal form by data that were built.
 fn form_by_built(
     alloc: Global,
