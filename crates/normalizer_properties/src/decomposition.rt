@@ -13,7 +13,7 @@ ghost use Rattle.normalizer_properties.specs.StepMeaning.{HasSteps, MeansInLists
 
 use normalizer_tables::characters::CharacterData;
 use normalizer_tables::check::first_failing;
-use normalizer_tables::condition::{Bounds, STEPPING};
+use normalizer_tables::condition::{GREATEST_BOUNDS, STEPPING};
 use normalizer_tables::loaded::LoadedData;
 use normalizer_tables::refusal::refusal_of;
 use normalizer_tables::step::{Step as Decomposed, step_of};
@@ -21,12 +21,6 @@ use normalizer_tables::{
     DataError, DataMarkerInfo, DataProvider, DecompositionData, DecompositionTables,
     NonRecursiveDecompositionSupplement, NormalizerNfdDataV1, NormalizerNfdSupplementV1,
     NormalizerNfdTablesV1,
-};
-
-/// The bounds of canonical data. No condition that is asked here looks at them.
-const BOUNDS: Bounds = Bounds {
-    decomposition: 0xC0,
-    composition: 0x0300,
 };
 
 /// One step of canonical decomposition.
@@ -72,7 +66,8 @@ impl CanonicalDecomposition {
         ensures err { IfErr result (RefusesSteps marker (steps_from decompositions tables supplement)) }
     {
         let characters = CharacterData::new(&decompositions, &tables, None, false);
-        let loaded = LoadedData::new(characters, BOUNDS, None, Some(&supplement));
+        // No condition that is asked here looks at the bounds.
+        let loaded = LoadedData::new(characters, GREATEST_BOUNDS, None, Some(&supplement));
         match first_failing(&loaded, &STEPPING) {
             Some(condition) => Err(refusal_of(marker, condition)),
             None => Ok(CanonicalDecomposition {

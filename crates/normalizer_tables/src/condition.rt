@@ -65,6 +65,12 @@ pub struct Bounds {
     pub composition: u32,
 }
 
+/// The greatest bounds: no character below U+00C0 has a canonical mapping, and none below U+0300 a combining class.
+pub const GREATEST_BOUNDS: Bounds = Bounds {
+    decomposition: 0xC0,
+    composition: CAP_LIMIT as u32,
+};
+
 impl Bounds {
     /// The bounds of data with this cap.
     pub fn of_cap(cap: u16) -> Self
@@ -72,8 +78,8 @@ impl Bounds {
     {
         let cap = u32::from(cap);
         Bounds {
-            decomposition: cap.min(0xC0),
-            composition: cap.min(0x0300),
+            decomposition: cap.min(GREATEST_BOUNDS.decomposition),
+            composition: cap.min(GREATEST_BOUNDS.composition),
         }
     }
 }

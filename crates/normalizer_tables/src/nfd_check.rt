@@ -10,7 +10,7 @@ ghost use Rattle.normalizer_tables.specs.declared.provider.DataMarkerInfo.TheVar
 
 use crate::characters::CharacterData;
 use crate::check::first_failing;
-use crate::condition::{Bounds, Condition};
+use crate::condition::{Condition, GREATEST_BOUNDS};
 use crate::loaded::LoadedData;
 use crate::provider::{DataError, DataMarkerInfo, DecompositionData, DecompositionTables};
 use crate::refusal::refusal_of;
@@ -39,11 +39,7 @@ pub fn check_nfd_data<'a>(
         (nfd_loaded decompositions.now tables.now) nfd_conditions) }
 {
     let characters = CharacterData::new(decompositions, tables, None, false);
-    let bounds = Bounds {
-        decomposition: 0xC0,
-        composition: 0x0300,
-    };
-    let loaded = LoadedData::new(characters, bounds, None, None);
+    let loaded = LoadedData::new(characters, GREATEST_BOUNDS, None, None);
     match first_failing(&loaded, &NFD_DATA) {
         Some(condition) => Err(refusal_of(DataMarkerInfo::NormalizerNfdDataV1, condition)),
         None => Ok(()),
