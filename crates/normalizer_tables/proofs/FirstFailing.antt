@@ -1,19 +1,21 @@
 -- The first condition that fails, found number by number.
 use Rattle.std.proofs.Common.{◌≡◌, ℕ, zero, suc, min, true, false, nat_lt, ◌+◌, ◌<◌, ◌≤◌, ◌⊎◌, inl, inr, List, [], ◌∷◌, ◌++◌, length, take, drop, All, Bor, IfSome, MatchOption, Option, Some, None, slice_get, slice_index_or, get_or, refl, ap, sym, ◌∙◌, subst, add-one, drop-cons, length-take, arith}
-use Rattle.std.specs.List.{AllWithin, Contains, HoldsAt as HoldsAtPlace}
+use Rattle.std.specs.List.{AllWithin, Contains, HoldsAt as HoldsAtPlace, list_any}
 use Rattle.std.specs.Option.{option_copied}
+use Rattle.std.proofs.lemmas.Bool.{cases_Bool}
 use Rattle.std.proofs.lemmas.Bool.Decides.{nat_tests}
 use Rattle.std.proofs.lemmas.List.{get_or-take, take-append-drop}
 use Rattle.std.proofs.lemmas.List.Elements.{All-contains}
+use Rattle.std.proofs.lemmas.List.Folds.{list_any_at}
 use Rattle.std.proofs.lemmas.Option.{slice_get_within, slice_get-get_or, slice_get_past, slice_get_read, get_or_from_slice_get}
 use Rattle.normalizer_tables.specs.declared.condition.Condition.{Condition}
 use Rattle.normalizer_tables.specs.Loaded.{Loaded, IsMet, IsMetAt, IsMetOverall}
 use Rattle.normalizer_tables.specs.Ranges.{IsComplete}
 use Rattle.normalizer_tables.specs.declared.condition.Condition.TheVariants.{Hangul}
 use Rattle.normalizer_tables.specs.Conditions.{HoldsAt, IsFirstFailing, IsPlaceOfFirstFailing, IsSoundHangul}
-use Rattle.normalizer_tables.specs.Walk.{IsMetApart, IsMetApartAt, is_asked_apart}
-use Rattle.normalizer_tables.proofs.LoadedLemmas.{IsMet-at, IsMet-within}
-use Rattle.normalizer_tables.proofs.WalkLemmas.{IsMet-apart}
+use Rattle.normalizer_tables.specs.Walk.{IsMetApart, IsMetApartAt, is_asked_apart, is_asked_of_words}
+use Rattle.normalizer_tables.proofs.LoadedLemmas.{IsMet-at, IsMet-everywhere, IsMet-within}
+use Rattle.normalizer_tables.proofs.WalkLemmas.{IsMet-apart, IsMetAt-apart}
 
 -- of the numbers below `number` and of what is asked apart, the condition at this place is the first that fails
 pub record FailsFirst (loaded : Loaded) (conditions : List Condition) (number place : ℕ) : Type 0 where
@@ -155,10 +157,29 @@ pub IsFirstFailing-at : (loaded : Loaded) (conditions : List Condition) (number 
 IsFirstFailing-at loaded conditions number place r complete past h e =
     IsFirstFailing-place loaded conditions place r (before_holds loaded conditions number place complete past h) h.fails e
 
--- before the first condition none fails
-pub IsFirstFailing-at_once : (loaded : Loaded) (conditions : List Condition) (number place : ℕ) (r : Option Condition) → place ≡ 0 → FailsFirst loaded conditions number place →
-    r ≡ slice_get conditions place → IsFirstFailing (IsMet loaded) conditions r
-IsFirstFailing-at_once loaded conditions number place r first h e = IsFirstFailing-place loaded conditions place r (λ k d low kh. absurd (omega arith)) h.fails e
+asked_of_none : (conditions : List Condition) (place : ℕ) → place ≤ length conditions → list_any is_asked_of_words (take place conditions) ≡ false →
+    AllWithin (λ c. is_asked_of_words c ≡ false) conditions 0 place
+asked_of_none conditions place within none k d low h = elim (cases_Bool (is_asked_of_words (slice_index_or conditions k d))) [
+  | inl asked ↦ (
+      let short : k < length (take place conditions) = simp length-take (omega arith) in
+      let some : list_any is_asked_of_words (take place conditions) ≡ true =
+      list_any_at is_asked_of_words (take place conditions) k d short (ap is_asked_of_words (get_or-take place conditions k d h) ∙ asked) in
+      absurd (clash none some))
+  | inr not_asked ↦ not_asked
+] where
+  clash : list_any is_asked_of_words (take place conditions) ≡ false → list_any is_asked_of_words (take place conditions) ≡ true → ⊥
+  clash a b = cc
+
+-- where no condition before the place is asked of words, what was asked apart is all
+pub IsFirstFailing-unasked : (loaded : Loaded) (conditions : List Condition) (number place : ℕ) (r : Option Condition) → list_any is_asked_of_words (take place conditions) ≡ false →
+    FailsFirst loaded conditions number place → r ≡ slice_get conditions place → IsFirstFailing (IsMet loaded) conditions r
+IsFirstFailing-unasked loaded conditions number place r none h e = IsFirstFailing-place loaded conditions place r met h.fails e
+  where
+    met : AllWithin (IsMet loaded) conditions 0 place
+    met k d low kh =
+        let apart = h.apart k d low kh in
+        let c = slice_index_or conditions k d in
+        IsMet-everywhere loaded c (overall_part loaded c apart) (IsMetAt-apart loaded c (asked_of_none conditions place h.within none k d low kh) apart)
 
 -- what `get` and `copied` give of a slice
 pub copied-slice_get : (conditions : List Condition) (place : ℕ) (o : Option (Bor Condition)) → IfSome o (λ x. x.now ≡ get_or conditions place x.now) →

@@ -94,6 +94,22 @@ IsMet-within d c complete overall each = (
   supplement_within d.characters d.supplement c complete (λ n h. (each n h).2),
 )
 
+IfSome-numbers : {A : Type 0} (Q : A → ℕ → Type 0) (o : Option A) → ((n : ℕ) → IfSome o (λ a. Q a n)) → IfSome o (λ a. (n : ℕ) → Q a n)
+IfSome-numbers Q None each = tt
+IfSome-numbers Q (Some a) each = each
+
+IfSome-both : {A : Type 0} (P Q : A → Type 0) (o : Option A) → IfSome o P → IfSome o Q → IfSome o (λ a. P a × Q a)
+IfSome-both P Q None h k = tt
+IfSome-both P Q (Some a) h k = (h, k)
+
+pub IsMet-everywhere : (d : Loaded) (c : Condition) → IsMetOverall d c → ((n : ℕ) → IsMetAt d c n) → IsMet d c
+unfolding IsMet IsMetOverall IsMetAt Holds HoldsOfPairs HoldsOfSteps
+IsMet-everywhere d c overall each = (
+  (overall.0, λ n. (each n).0),
+  IfSome-both _ _ d.pairs overall.1 (IfSome-numbers (λ pairs n. PairsHoldAt d.characters d.bounds pairs c n) d.pairs (λ n. (each n).1)),
+  IfSome-numbers (λ t n. StepsHoldAt d.characters t c n) d.supplement (λ n. (each n).2),
+)
+
 -- each condition is one on the characters by themselves, by the pairs or by the supplement
 PairsHoldAt-others : (s : Characters) (b : Bounds) (pairs : List Pair) (c : Condition) (n : ℕ) → (c ≡ RoundTrip → ⊥) → (c ≡ SafeBeginning → ⊥) → PairsHoldAt s b pairs c n
 unfolding PairsHoldAt

@@ -5,7 +5,7 @@ use lib.Utf8.{scalar}
 use Rattle.std.proofs.lemmas.Bool.{cases_Bool, cases_order, cond-false}
 use Rattle.normalizer_tables.specs.declared.condition.Bounds.{Bounds}
 use Rattle.normalizer_tables.specs.declared.condition.Condition.{Condition}
-use Rattle.normalizer_tables.specs.declared.condition.Condition.TheVariants.{Surrogates, Hangul, RoundTrip, SafeBeginning, FdfaForms, Steps}
+use Rattle.normalizer_tables.specs.declared.condition.Condition.TheVariants.{Surrogates, Hangul, Words, Members, Order, Passthrough, RoundTrip, SafeBeginning, FdfaForms, Steps}
 use Rattle.normalizer_tables.specs.Characters.{Characters, word_of, reading_of_word}
 use Rattle.normalizer_tables.specs.Conditions.{HoldsAt, IsSoundHangul, is_surrogate}
 use Rattle.normalizer_tables.specs.Data.{Supplement}
@@ -15,7 +15,7 @@ use Rattle.normalizer_tables.specs.PairConditions.{KeepsBeginning, PairsHoldAt, 
 use Rattle.normalizer_tables.specs.Pairs.{Pair, IsNeverSecond, is_vowel_or_trailing_jamo, listed_result, pair_of}
 use Rattle.normalizer_tables.specs.StepConditions.{AvoidsFdfa, StepsHoldAt}
 use Rattle.normalizer_tables.specs.Table.{code_points}
-use Rattle.normalizer_tables.specs.Walk.{IsEndOfAlike, IsNextWord, IsMetApart, IsMetApartAt, KeepsPlainBeginning, is_asked_apart}
+use Rattle.normalizer_tables.specs.Walk.{IsEndOfAlike, IsNextWord, IsMetApart, IsMetApartAt, KeepsPlainBeginning, is_asked_apart, is_asked_of_words}
 use Rattle.normalizer_tables.specs.Words.{is_plain}
 use Rattle.normalizer_tables.proofs.ConditionLemmas.{HoldsAt-elsewhere, HoldsAt-plain, read-plain}
 use Rattle.normalizer_tables.proofs.HangulLemmas.{is_hangul_syllable-true}
@@ -29,6 +29,21 @@ use Rattle.normalizer_tables.proofs.SyllableLemmas.{IsMetAt-syllable_behind}
 pub IsMet-apart : (d : Loaded) (c : Condition) → IsMet d c → IsMetApart d c
 unfolding IsMetApart IsMetApartAt
 IsMet-apart d c met = (IsMet-overall d c met, λ n asked. IsMet-at d c n met)
+
+-- what is asked of no word is met by every number where it is met apart
+pub IsMetAt-apart : (d : Loaded) (c : Condition) → is_asked_of_words c ≡ false → IsMetApart d c → (n : ℕ) → IsMetAt d c n
+unfolding is_asked_of_words IsMetApart IsMetApartAt IsMetAt HoldsAt PairsHoldAt StepsHoldAt is_asked_apart
+IsMetAt-apart d Surrogates e met n = met.1 n refl
+IsMetAt-apart d Hangul e met n = met.1 n refl
+IsMetAt-apart d Words e met n = cc
+IsMetAt-apart d Members e met n = cc
+IsMetAt-apart d Order e met n = cc
+IsMetAt-apart d Passthrough e met n = cc
+IsMetAt-apart d RoundTrip e met n = cc
+IsMetAt-apart d SafeBeginning e met n = cc
+IsMetAt-apart d FdfaForms e met n = cc
+IsMetAt-apart d Steps e met n = cc
+IsMetAt-apart d _ e met n = (tt, IfSome-all _ (λ pairs. tt) d.pairs, IfSome-all _ (λ t. tt) d.supplement)
 
 -- what is 0, flags aside, is asked of apart
 pub is_asked_apart-plain : (d : Loaded) (c : Condition) (n : ℕ) → is_plain (word_of d.characters n) ≡ true → is_asked_apart d.characters c n ≡ true

@@ -2,7 +2,7 @@
 use Rattle.std.specs.Prelude.{◌≡◌, ℕ, ◌+◌, ◌-◌, ◌/◌, ◌<◌, ◌≤◌, Bool, true, false, List}
 use Rattle.normalizer_tables.specs.declared.condition.Bounds.{Bounds}
 use Rattle.normalizer_tables.specs.declared.condition.Condition.{Condition}
-use Rattle.normalizer_tables.specs.declared.condition.Condition.TheVariants.{Surrogates, Hangul}
+use Rattle.normalizer_tables.specs.declared.condition.Condition.TheVariants.{Surrogates, Hangul, Words, Members, Order, Passthrough, RoundTrip, SafeBeginning, FdfaForms, Steps}
 use Rattle.normalizer_tables.specs.Characters.{Characters, word_of}
 use Rattle.normalizer_tables.specs.Hangul.{is_hangul_syllable, n_count, s_base}
 use Rattle.normalizer_tables.specs.Loaded.{Loaded, IsMetAt, IsMetOverall}
@@ -40,6 +40,18 @@ is_asked_apart s c n = is_plain (word_of s n)
 
 unfoldable pub IsMetApartAt : Loaded → Condition → Type 0
 IsMetApartAt d c = (n : ℕ) → is_asked_apart d.characters c n ≡ true → IsMetAt d c n
+
+-- a condition says something of words that aren't 0, beyond what was asked apart
+unfoldable pub is_asked_of_words : Condition → Bool
+is_asked_of_words Words = true
+is_asked_of_words Members = true
+is_asked_of_words Order = true
+is_asked_of_words Passthrough = true
+is_asked_of_words RoundTrip = true
+is_asked_of_words SafeBeginning = true
+is_asked_of_words FdfaForms = true
+is_asked_of_words Steps = true
+is_asked_of_words _ = false
 
 -- what a condition says apart from the walk
 unfoldable pub IsMetApart : Loaded → Condition → Type 0

@@ -1,12 +1,12 @@
 //! The complete check of what was loaded: the first of the written conditions that it breaks.
 ghost use Rattle.std.specs.Prelude.{◌≡◌, ◌↔◌, ◌≤◌, IsTrue, slice_get};
-ghost use Rattle.std.specs.List.{Contains};
+ghost use Rattle.std.specs.List.{Contains, list_any};
 ghost use Rattle.normalizer_tables.specs.Conditions.{IsFirstFailing, IsPlaceOfFirstFailing};
 ghost use Rattle.normalizer_tables.specs.Loaded.{IsMet, IsMetAt};
 ghost use Rattle.normalizer_tables.specs.Ranges.{IsComplete};
 ghost use Rattle.normalizer_tables.specs.Table.{code_points};
 ghost use Rattle.normalizer_tables.specs.declared.condition.Condition.TheVariants as condition;
-ghost use Rattle.normalizer_tables.specs.Walk.{IsEndOfAlike, IsMetApart};
+ghost use Rattle.normalizer_tables.specs.Walk.{IsEndOfAlike, IsMetApart, is_asked_of_words};
 
 use crate::characters::CODE_POINTS;
 use crate::check::parts::{is_met_apart, is_met_at};
@@ -28,7 +28,7 @@ pub fn first_failing(data: &LoadedData<'_>, conditions: &[Condition]) -> Option<
     let hangul_is_sound = asks_hangul(&conditions[..failing]);
     let mut from = 0;
     while from <= CODE_POINTS {
-        if failing == 0 {
+        if !are_asked_of_words(&conditions[..failing]) {
             return condition_at(conditions, failing);
         }
         // The word of the first number past the code points is that of all.
@@ -53,6 +53,30 @@ fn asks_hangul(conditions: &[Condition]) -> bool
     conditions
         .iter()
         .any(|&condition| condition == Condition::Hangul)
+}
+
+/// Whether one of these conditions says something of words that aren't 0, beyond what was asked apart.
+fn are_asked_of_words(conditions: &[Condition]) -> bool
+    ensures { result ≡ list_any is_asked_of_words conditions.now }
+{
+    conditions.iter().any(|&condition| is_asked_of_words(condition))
+}
+
+#[tactic(auto, unfolding(crate::specs::Walk::is_asked_of_words))]
+fn is_asked_of_words(condition: Condition) -> bool
+    ensures { result ≡ is_asked_of_words condition }
+{
+    matches!(
+        condition,
+        Condition::Words
+            | Condition::Members
+            | Condition::Order
+            | Condition::Passthrough
+            | Condition::RoundTrip
+            | Condition::SafeBeginning
+            | Condition::FdfaForms
+            | Condition::Steps
+    )
 }
 
 /// The end of the numbers for which this one answers. Where Hangul is sound, a syllable does for those behind it with

@@ -1,6 +1,6 @@
-use Rattle.std.proofs.Common.{◌≡◌, true, ◌<◌, ◌≤◌, ◌+◌, arith}
+use Rattle.std.proofs.Common.{◌≡◌, sym, true, ◌<◌, ◌≤◌, ◌+◌, arith}
 use Rattle.normalizer_tables.specs.Table.{code_points}
-use Rattle.normalizer_tables.proofs.FirstFailing.{FailsFirst-start, FailsFirst-step, has_sound_hangul, IsFirstFailing-at, IsFirstFailing-at_once}
+use Rattle.normalizer_tables.proofs.FirstFailing.{FailsFirst-start, FailsFirst-step, has_sound_hangul, IsFirstFailing-at, IsFirstFailing-unasked}
 use Rattle.normalizer_tables.proofs.WalkLemmas.{IsMetAt-answered}
 use Rattle.normalizer_tables.proofs.check.first_failing.Goals as goal
 
@@ -42,9 +42,10 @@ pub next_with_word-number-requires : goal.next_with_word-number-requires
 unfolding code_points
 next_with_word-number-requires c = c.loop-from-test.true
 
-pub returns-then-failing-eq0 : goal.returns-then-failing-eq0
-returns-then-failing-eq0 c =
-    IsFirstFailing-at_once c.args.data.now c.args.conditions.now c.loop-from.from c.loop-from.failing c.condition_at.result c.if-failing-eq0.true c.loop-from.invariant.first c.condition_at.ensures
+pub returns-then-not-are_asked_of_words : goal.returns-then-not-are_asked_of_words
+returns-then-not-are_asked_of_words c =
+    IsFirstFailing-unasked c.args.data.now c.args.conditions.now c.loop-from.from c.loop-from.failing c.condition_at.result
+    (sym c.if-not-are_asked_of_words.ensures) c.loop-from.invariant.first c.condition_at.ensures
 
 pub returns : goal.returns
 returns c =
