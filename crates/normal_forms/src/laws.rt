@@ -1,7 +1,8 @@
 //! The laws of the normal forms, over any reading of characters and both forms. Each function does nothing: its
 //! contract is the law, and its proof stands in `proofs/`.
 
-ghost use Rattle.std.specs.Prelude.{◌≡◌, ◌≢◌, ℕ, ◌≤◌, ◌<◌, ◌⊎◌, ◌+◌, ◌-◌, ◌↔◌, Bool, true, false, List, [], ◌∷◌, ◌++◌, length, take, drop, slice_get, Option, Some, None, All};
+ghost use Rattle.std.specs.Prelude.{◌≡◌, ◌≢◌, ℕ, ◌≤◌, ◌<◌, ◌⊎◌, ◌+◌, ◌-◌, ◌↔◌, Bool, true, false, Option, Some, None};
+ghost use Rattle.std.specs.Prelude.{List, [], ◌∷◌, ◌++◌, length, take, drop, slice_get, All};
 ghost use Rattle.std.specs.List.{AllPass};
 ghost use Rattle.normal_forms.specs.Reading.{Reading, IsStarter, IsMark, IsText};
 ghost use Rattle.normal_forms.specs.Alike.{AreAlike};
@@ -17,7 +18,14 @@ ghost use Rattle.normal_forms.specs.Forms.{Form, Decomposing, Composing, nfd, nf
 ghost use Rattle.normal_forms.specs.Equivalence.{Equivalent, EquivalentTexts};
 ghost use Rattle.normal_forms.specs.Cut.{QualifiesForCut, IsCut, IsCommonFront, IsFront};
 ghost use Rattle.normal_forms.specs.Offence.{IsFirstOffence, IsOffenceOf};
-ghost use Rattle.normal_forms.specs.Hypotheses.{HasFullLists, HasStarterResults, HasInhabitedLists, HasScalarResults, HasTextLists, SuitsForm};
+ghost use Rattle.normal_forms.specs.Hypotheses.{
+  HasFullLists,
+  HasStarterResults,
+  HasInhabitedLists,
+  HasScalarResults,
+  HasTextLists,
+  SuitsForm,
+};
 
 /// Exactly one list is in canonical order for a text: the relation by runs and the function agree (D109).
 pub fn canonical_order()
