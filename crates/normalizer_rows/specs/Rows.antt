@@ -20,7 +20,13 @@ is_excluded Compatibility = false
 
 -- the record of a character with its class and mapping; an empty mapping is none
 abbrev pub entry_of : ℕ → ℕ → List ℕ → Kind → Entry
-entry_of c class mapping kind = record { c = c; class = class; mapping = mapping; compatibility = is_compatibility kind; excluded = is_excluded kind }
+entry_of c class mapping kind = record {
+  c = c;
+  class = class;
+  mapping = mapping;
+  compatibility = is_compatibility kind;
+  excluded = is_excluded kind;
+}
 
 abbrev pub status_of : List ℕ → Treatment → Status
 status_of mapping Mapped = MapsTo mapping
