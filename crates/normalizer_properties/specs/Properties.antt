@@ -4,11 +4,15 @@ use Rattle.normalizer_tables.specs.Data.{Decompositions}
 use Rattle.normalizer_tables.specs.Pairs.{Pair}
 use Rattle.normalizer_tables.specs.Steps.{step_of}
 use Rattle.normalizer_properties.specs.declared.combining_class.CanonicalCombiningClassMap.{CanonicalCombiningClassMap}
-use Rattle.normalizer_properties.specs.declared.combining_class.CanonicalCombiningClassMapBorrowed.{CanonicalCombiningClassMapBorrowed}
+use Rattle.normalizer_properties.specs.declared.combining_class.CanonicalCombiningClassMapBorrowed.{
+  CanonicalCombiningClassMapBorrowed,
+}
 use Rattle.normalizer_properties.specs.declared.composition.CanonicalComposition.{CanonicalComposition}
 use Rattle.normalizer_properties.specs.declared.composition.CanonicalCompositionBorrowed.{CanonicalCompositionBorrowed}
 use Rattle.normalizer_properties.specs.declared.decomposition.CanonicalDecomposition.{CanonicalDecomposition}
-use Rattle.normalizer_properties.specs.declared.decomposition.CanonicalDecompositionBorrowed.{CanonicalDecompositionBorrowed}
+use Rattle.normalizer_properties.specs.declared.decomposition.CanonicalDecompositionBorrowed.{
+  CanonicalDecompositionBorrowed,
+}
 use Rattle.normalizer_properties.specs.Shapers.{shaper_mapping}
 use Rattle.normalizer_properties.specs.StepData.{StepData, steps_from}
 
