@@ -1,6 +1,6 @@
 -- Where runs and segments end, and that what stands before is normalized apart.
 use Rattle.std.proofs.Common.{◌≡◌, ℕ, zero, suc, ◌+◌, ◌-◌, ◌<◌, ◌≤◌, Bool, true, false, List, [], ◌∷◌, ◌++◌, length, take, drop, map, refl, sym, ap, subst, ◌∙◌}
-use Rattle.std.proofs.Common.{append_assoc, arith, length-drop, length-take-le, take-append-drop, inl, inr}
+use Rattle.std.proofs.Common.{append_assoc, arith, length-drop, length-take-le, inl, inr}
 use Rattle.std.specs.Char.{IsScalar}
 use Rattle.std.specs.Prelude.{All, ◌⊎◌, ◌≢◌, ◌==◌, not, ◌&&◌, min}
 use Rattle.std.proofs.lemmas.Bool.Decides.{eqb_tells}
@@ -11,13 +11,12 @@ use Rattle.normal_forms.specs.Reading.{Reading}
 use Rattle.normal_forms.specs.declared.Form.{Form}
 use Rattle.normalizer_text.specs.declared.step.Step.{Step}
 use Rattle.normalizer_text.specs.Encodings.{Encoding, first_in, decoded_in}
-use Rattle.normalizer_text.specs.Steps.{read, replaced, steps, width_of, IsBoundary, IsLastStep}
+use Rattle.normalizer_text.specs.Steps.{read, replaced, steps, IsBoundary, IsLastStep}
 use Rattle.normalizer_text.specs.Utf16.{is_single, is_high, is_low, pair_value, unpaired, first_of_utf16}
-use Rattle.normalizer_text.specs.Scans.{leading_below}
+use Rattle.normalizer_text.specs.Scans.{EndsLowCharacters}
 use Rattle.normalizer_text.specs.Utf8.{first_of_utf8}
-use Rattle.normalizer_text.proofs.BoundaryLemmas.{boundary-le, boundary-more, steps-parts, steps-take-drop, width_of-append, width_of-steps}
+use Rattle.normalizer_text.proofs.BoundaryLemmas.{boundary-between, boundary-le, boundary-more, steps-parts, steps-take-drop, width_of-append, width_of-steps}
 use Rattle.normalizer_text.proofs.EncodingRules.{IsDecoding-first}
-use Rattle.normalizer_text.proofs.ScanLemmas.{All-leading_below, first-low, leading_below-le, steps-single}
 use Rattle.normalizer_text.proofs.StepLemmas.{decoded-IsText, decoded-some, rest-shorter, steps-nil, steps-some}
 use Rattle.normalizer_text.proofs.Utf8Lemmas.{by_cases}
 use Rattle.normalizer_input.specs.InputCut.{IsInputNormalized}
@@ -31,50 +30,42 @@ module _ (passing : ℕ → Bool) (e : Encoding) (units : List ℕ) where
     pass = All-nil (λ s. step_passes passing s ≡ true);
   }
 
-  -- units below a bound are characters by themselves
-  low_passes : (bound u : ℕ) → bound ≤ 0x80 → u < bound → passing u ≡ true → step_passes passing (read u 1) ≡ true
-  low_passes bound u least below passes = elim (eqb_tells u replacement) [
-    | inl same ↦ absurd (omega (arith, same.1))
-    | inr other ↦ ap (λ b. not b && passing u) other.0 ∙ passes
-  ]
+  -- characters below a bound pass
+  module _ (bound of_characters : ℕ) (least : bound ≡ min of_characters replacement) (pass : (c : ℕ) → c < of_characters → passing c ≡ true) where
+    low_passes : (s : Step) → s.character < bound → step_passes passing s ≡ true
+    low_passes s below = elim (eqb_tells s.character replacement) [
+      | inl same ↦ absurd (omega (arith, same.1, least))
+      | inr other ↦ ap (λ b. not b && passing s.character) other.0 ∙ pass s.character (omega (arith, least))
+    ]
 
-  all_low_pass : (bound : ℕ) → bound ≤ 0x80 → ((c : ℕ) → c < bound → passing c ≡ true) → (low : List ℕ) → All (λ u. u < bound) low → All (λ s. step_passes passing s ≡ true) (map (λ u. read u 1) low)
-  all_low_pass bound least pass [] all = All-nil (λ s. step_passes passing s ≡ true)
-  all_low_pass bound least pass (u ∷ low) all = All-cons (λ s. step_passes passing s ≡ true) (read u 1) (map (λ v. read v 1) low)
-      (low_passes bound u least (All-head (λ v. v < bound) u low all) (pass u (All-head (λ v. v < bound) u low all)))
-      (all_low_pass bound least pass low (All-tail (λ v. v < bound) u low all))
+    all_low_pass : (ss : List Step) → All (λ c. c < bound) (map (λ s. s.character) ss) → All (λ s. step_passes passing s ≡ true) ss
+    all_low_pass [] all = All-nil (λ s. step_passes passing s ≡ true)
+    all_low_pass (s ∷ ss) all = All-cons (λ t. step_passes passing t ≡ true) s ss
+        (low_passes s (All-head (λ c. c < bound) s.character (map (λ t. t.character) ss) all))
+        (all_low_pass ss (All-tail (λ c. c < bound) s.character (map (λ t. t.character) ss) all))
 
-  width_of-single : (low : List ℕ) → width_of (map (λ u. read u 1) low) ≡ length low
-  width_of-single [] = refl
-  width_of-single (u ∷ low) = omega (arith, width_of-single low)
-
-  PassesTo-below : (bound : ℕ) → bound ≤ 0x80 → ((c : ℕ) → c < bound → passing c ≡ true) → (end : ℕ) → PassesTo passing e units end
-      → PassesTo passing e units (end + leading_below bound (drop end units))
-  PassesTo-below bound least pass end so_far =
-      let b = so_far.boundary in
-      let rest = drop end units in
-      let n = leading_below bound rest in
-      let low = take n rest in
-      let all = All-leading_below bound rest in
-      let behind = steps (first_in e) (drop n rest) in
-      record {
-        boundary = record {
-          before = b.before ++ map (λ u. read u 1) low;
-          after = behind;
-          apart = b.apart
-              ∙ ap (λ l. b.before ++ l)
-              (sym (steps-parts (first_in e) (IsDecoding-first e) units end b).1 ∙ ap (steps (first_in e)) (sym (take-append-drop n rest))
-              ∙ steps-single (first_in e) (IsDecoding-first e) (λ u. u < bound) (λ u us l. first-low e u us (omega arith)) low (drop n rest) all)
-              ∙ sym (append_assoc b.before (map (λ u. read u 1) low) behind);
-          taken = (let k = b.taken in omega (arith, width_of-append b.before (map (λ u. read u 1) low), width_of-single low, length-take-le n rest (leading_below-le bound rest)));
-        };
-        pass = All-append (λ t. step_passes passing t ≡ true) b.before (map (λ u. read u 1) low) so_far.pass (all_low_pass bound least pass low all);
-      }
-
-  pub PassesTo-unseen : (bound of_characters : ℕ) → bound ≡ min of_characters 0x80 → ((c : ℕ) → c < of_characters → passing c ≡ true) → (end new : ℕ) → new ≡ end + leading_below bound (drop end units)
-      → PassesTo passing e units end → PassesTo passing e units new
-  PassesTo-unseen bound of_characters least pass end new is so_far =
-      subst (PassesTo passing e units) (sym is) (PassesTo-below bound (omega (arith, least)) (λ c below. pass c (omega (arith, least))) end so_far)
+    pub PassesTo-low : (end new : ℕ) → EndsLowCharacters e units end bound new → PassesTo passing e units end → PassesTo passing e units new
+    PassesTo-low end new low so_far =
+        let b = so_far.boundary in
+        let rest = drop end units in
+        let n = new - end in
+        let behind = low.behind in
+        let more = steps (first_in e) (take n rest) in
+        let most = boundary-le (first_in e) (IsDecoding-first e) units new low.boundary in
+        record {
+          boundary = record {
+            before = b.before ++ more;
+            after = steps (first_in e) (drop n rest);
+            apart = b.apart
+                ∙ ap (λ l. b.before ++ l)
+                (sym (steps-parts (first_in e) (IsDecoding-first e) units end b).1
+                ∙ steps-take-drop (first_in e) (IsDecoding-first e) rest n (boundary-between (first_in e) (IsDecoding-first e) units end new b low.boundary behind))
+                ∙ sym (append_assoc b.before more (steps (first_in e) (drop n rest)));
+            taken = (let k = b.taken in
+                omega (arith, width_of-append b.before more, width_of-steps (first_in e) (IsDecoding-first e) (take n rest), length-take-le n rest (omega (arith, length-drop end units))));
+          };
+          pass = All-append (λ s. step_passes passing s ≡ true) b.before more so_far.pass (all_low_pass more low.low);
+        }
 
   pub PassesTo-le : (end : ℕ) → PassesTo passing e units end → end ≤ length units
   PassesTo-le end so_far = boundary-le (first_in e) (IsDecoding-first e) units end so_far.boundary

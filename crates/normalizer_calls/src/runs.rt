@@ -1,13 +1,13 @@
 //! Where runs of characters end that are handed on as they are, and the segments between them.
 ghost use Rattle.std.specs.Prelude.{◌≡◌, ◌<◌, ◌≤◌, length, take};
 ghost use Rattle.normalizer_input.specs.InputCut.{IsInputNormalized};
-ghost use Rattle.normalizer_calls.specs.Passing.{IsHandedOn, IsPart, IsRunEnd, IsSegmentEnd, PassesTo, step_passes};
+ghost use Rattle.normalizer_calls.specs.Passing.{IsHandedOn, IsPart, IsRunEnd, IsSegmentEnd, step_passes};
 
 use crate::form_items::FormItems;
 use normalizer_text::{Chars, Step, Units};
 
-// Units below this are characters by themselves, in each encoding.
-const SINGLE_UNITS: u32 = 0x80;
+// U+FFFD, which stands for errors.
+const REPLACEMENT: u32 = char::REPLACEMENT_CHARACTER as u32;
 
 /// Whether a step is a character that is handed on as it is.
 fn step_passes<U: Units, N: FormItems<Chars<U>>>(normalizer: &N, step: Step) -> bool
@@ -16,27 +16,19 @@ fn step_passes<U: Units, N: FormItems<Chars<U>>>(normalizer: &N, step: Step) -> 
     step.character != char::REPLACEMENT_CHARACTER && normalizer.passes(step.character)
 }
 
-/// Where the units end behind a position that are characters by themselves, and pass unseen.
-fn unseen_end<U: Units, N: FormItems<Chars<U>>>(normalizer: &N, units: U, position: usize) -> usize
-    requires { PassesTo (N.passing normalizer.now) U.encoding (U.units units) position }
-    ensures pass { PassesTo (N.passing normalizer.now) U.encoding (U.units units) result }
-    ensures behind { position ≤ result }
-{
-    normalizer.passed_characters_stand_apart();
-    units.end_of_below(position, normalizer.passing_bound().min(SINGLE_UNITS))
-}
-
 /// Where the run of characters ends that are handed on as they are.
 fn run_end<U: Units, N: FormItems<Chars<U>>>(normalizer: &N, units: U) -> usize
     ensures { IsRunEnd (N.passing normalizer.now) U.encoding (U.units units) result }
 {
-    let mut end = unseen_end(normalizer, units, 0);
+    normalizer.passed_characters_stand_apart();
+    let bound = normalizer.passing_bound().min(REPLACEMENT);
+    let mut end = units.end_of_low(0, bound);
     while end < units.len() {
         let step = units.step_at(end);
         if !step_passes(normalizer, step) {
             return end;
         }
-        end = unseen_end(normalizer, units, end + step.width);
+        end = units.end_of_low(end + step.width, bound);
     }
     end
 }

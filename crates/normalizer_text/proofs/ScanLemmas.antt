@@ -1,6 +1,6 @@
 -- Stretches of units below a bound.
 use Rattle.std.proofs.Common.{◌≡◌, ℕ, suc, ◌+◌, ◌-◌, ◌*◌, ◌%◌, ◌^◌, ◌<◌, ◌≤◌, Bool, false, not, cond, eqb, leb, ltb, replicate}
-use Rattle.std.proofs.Common.{List, [], ◌∷◌, ◌++◌, length, take, drop, get_or, map, arith, refl, ap, sym, subst, ◌∙◌, ⊎_elim}
+use Rattle.std.proofs.Common.{inl, inr, List, [], ◌∷◌, ◌++◌, length, take, drop, get_or, map, arith, refl, ap, sym, subst, ◌∙◌, ⊎_elim}
 use Rattle.std.specs.Prelude.{All}
 use Rattle.std.specs.List.{prefix_len}
 use lib.Count.{count_trailing_zeros}
@@ -12,18 +12,18 @@ use Rattle.std.proofs.lemmas.List.{append-nil, length-map}
 use Rattle.std.proofs.lemmas.List.Folds.{prefix_len-append}
 use Rattle.std.proofs.lemmas.Simd.{chunk-drop, length-chunk, get_or-chunk, tops_compared, zip2_splat_left, mask_l-mod, first_set_mask_l}
 use Rattle.std.proofs.lemmas.List.Sums.{prefix_len-drop_yes, prefix_len-drop_no, prefix_len-drop_all, prefix_len-le-length, prefix_len_stops, prefix_len_is}
-use Rattle.std.proofs.lemmas.List.Elements.{All-nil, All-cons, All-head, All-tail, All-same}
+use Rattle.std.proofs.lemmas.List.Elements.{All-nil, All-cons, All-head, All-tail, All-same, All-weaker}
 use Rattle.normalizer_text.specs.declared.step.Step.{Step}
-use Rattle.normalizer_text.specs.Encodings.{Encoding, first_in}
-use Rattle.normalizer_text.specs.Scans.{leading_below}
+use Rattle.normalizer_text.specs.Encodings.{Encoding, first_in, decoded_in}
+use Rattle.normalizer_text.specs.Scans.{leading_below, EndsLowCharacters, IsLowByteBound}
 use Rattle.normalizer_text.specs.Steps.{read, steps, IsWellFormed, IsBoundary}
 use Rattle.normalizer_text.specs.Utf8.{allows, continuation, first_of_utf8, decoded_utf8}
 use Rattle.normalizer_text.specs.Utf16.{first_of_utf16}
 use Rattle.normalizer_text.proofs.Decoding.{IsDecoding}
 use Rattle.normalizer_text.proofs.EncodingRules.{IsDecoding-first}
-use Rattle.normalizer_text.proofs.StepLemmas.{IsRight, steps-nil, steps-some}
+use Rattle.normalizer_text.proofs.StepLemmas.{IsRight, decoded-nil, decoded-some, steps-nil, steps-some}
 use Rattle.normalizer_text.proofs.BackLemmas.{boundary-at}
-use Rattle.normalizer_text.proofs.BoundaryLemmas.{boundary-end, boundary-well_formed, well_formed-parts}
+use Rattle.normalizer_text.proofs.BoundaryLemmas.{boundary-after, boundary-end, boundary-well_formed, well_formed-parts}
 use Rattle.normalizer_text.proofs.LowLemmas.{first-ascii, first-low_unit, decoded-low}
 use Rattle.normalizer_text.proofs.MatchLemmas.{allows-true}
 use Rattle.normalizer_text.proofs.Utf8Lemmas.{IsDecoding-utf8, HasTrails-utf8}
@@ -174,3 +174,44 @@ pub text-low_bytes : (limit : ℕ) → 0xC2 ≤ limit → limit ≤ 0xE0 → (by
 text-low_bytes limit least most bytes w =
     let front = well_formed-parts first_of_utf8 IsDecoding-utf8 bytes (leading_below limit bytes) (boundary-low_bytes limit bytes (omega arith)) w in
     decoded-low limit least most (take (leading_below limit bytes) bytes) front.0 (All-leading_below limit bytes)
+
+-- ---- how far it goes with characters below a bound
+
+module _ (e : Encoding) (bound : ℕ) (units : List ℕ) (from : ℕ) (here : IsBoundary (first_in e) units from) where
+  ends_low : (n : ℕ) → IsBoundary (first_in e) (drop from units) n → All (λ c. c < bound) (decoded_in e (take n (drop from units))) → EndsLowCharacters e units from bound (from + n)
+  ends_low n ends low = record {
+    behind = omega arith;
+    boundary = boundary-after (first_in e) (IsDecoding-first e) units from n here ends;
+    low = (let same : from + n - from ≡ n = omega arith in All-same (λ c. c < bound) _ _ (ap (λ k. decoded_in e (take k (drop from units))) same) low);
+  }
+
+  -- where each unit is a character by itself
+  pub EndsLowCharacters-single : (limit : ℕ) → limit ≤ bound → ((u : ℕ) (us : List ℕ) → u < limit → first_in e (u ∷ us) ≡ read u 1)
+      → (to : ℕ) → to ≡ from + leading_below limit (drop from units) → EndsLowCharacters e units from bound to
+  EndsLowCharacters-single limit most single to is =
+      let rest = drop from units in
+      let n = leading_below limit rest in
+      subst (EndsLowCharacters e units from bound) (sym is)
+      (ends_low n
+      (boundary-single (first_in e) (IsDecoding-first e) (λ u. u < limit) single rest n (leading_below-le limit rest) (All-leading_below limit rest))
+      (low_text (take n rest) (All-leading_below limit rest)))
+    where
+      low_text : (low : List ℕ) → All (λ u. u < limit) low → All (λ c. c < bound) (decoded_in e low)
+      low_text [] all = All-same (λ c. c < bound) _ _ (decoded-nil (first_in e)) (All-nil (λ c. c < bound))
+      low_text (u ∷ low) all =
+          let small = All-head (λ u. u < limit) u low all in
+          All-same (λ c. c < bound) _ _
+          (decoded-some (first_in e) (IsDecoding-first e) (u ∷ low) (omega arith) ∙ ap (λ s. s.character ∷ decoded_in e (drop s.width (u ∷ low))) (single u low small))
+          (All-cons (λ c. c < bound) u (decoded_in e low) (omega arith) (low_text low (All-tail (λ u. u < limit) u low all)))
+
+-- in what is well-formed
+pub EndsLowCharacters-text : (bound limit : ℕ) → IsLowByteBound bound limit → (bytes : List ℕ) → IsWellFormed first_of_utf8 bytes → (from : ℕ) → IsBoundary first_of_utf8 bytes from
+    → (to : ℕ) → to ≡ from + leading_below limit (drop from bytes) → EndsLowCharacters Encoding.Utf8 bytes from bound to
+EndsLowCharacters-text bound limit (inl single) bytes w from here to is = EndsLowCharacters-single Encoding.Utf8 bound bytes from here limit single.1 (λ u us l. first-ascii u us (let k = single.0 in omega arith)) to is
+EndsLowCharacters-text bound limit (inr of_pairs) bytes w from here to is =
+    let rest = drop from bytes in
+    let n = leading_below limit rest in
+    let low = text-low_bytes limit of_pairs.0 of_pairs.1 rest (well_formed-parts first_of_utf8 IsDecoding-utf8 bytes from here w).1 in
+    subst (EndsLowCharacters Encoding.Utf8 bytes from bound) (sym is)
+    (ends_low Encoding.Utf8 bound bytes from here n (boundary-low_bytes limit rest (let k = of_pairs.0 in omega arith))
+    (All-weaker (λ c. c < (limit - 0xC0) * 64) (λ c. c < bound) (λ c l. let k = of_pairs.2 in omega arith) _ low))

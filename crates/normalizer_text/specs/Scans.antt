@@ -1,7 +1,21 @@
 -- Scanning units.
-use Rattle.std.specs.Prelude.{ℕ, List, nat_lt}
-use Rattle.std.specs.List.{prefix_len}
+use Rattle.std.specs.Prelude.{ℕ, ◌-◌, ◌*◌, ◌<◌, ◌≤◌, ◌⊎◌, List, nat_lt, All}
+use Rattle.std.specs.List.{prefix_len, slice_range}
+use Rattle.normalizer_text.specs.Encodings.{Encoding, first_in, decoded_in}
+use Rattle.normalizer_text.specs.Steps.{IsBoundary}
 
 -- how many units stand before the first one that is not below the bound
 abbrev pub leading_below : ℕ → List ℕ → ℕ
 leading_below bound units = prefix_len (λ unit. nat_lt unit bound) units
+
+-- a step ends at the place `to`, and the characters from the place `from` up to it are below the bound
+pub record EndsLowCharacters (e : Encoding) (units : List ℕ) (from bound to : ℕ) : Type 0 where
+  pub behind : from ≤ to
+  pub boundary : IsBoundary (first_in e) units to
+  pub low : All (λ c. c < bound) (decoded_in e (slice_range units from to))
+
+-- bytes of well-formed UTF-8 below this one are of characters below the bound: of single bytes, or of single bytes and
+-- of pairs, of which each first byte has 64 characters
+abbrev pub IsLowByteBound : ℕ → ℕ → Type 0
+IsLowByteBound bound byte =
+    ((byte ≤ 0x80) × (byte ≤ bound)) ⊎ ((0xC2 ≤ byte) × (byte ≤ 0xE0) × ((byte - 0xC0) * 64 ≤ bound))

@@ -35,6 +35,9 @@ pub(crate) fn end_of_below<L: Lanes>(units: L, position: usize, bound: u32) -> u
 {
     let len = units.len();
     let mut end = position;
+    if end < len && !units.is_below(end, bound) {
+        return end;
+    }
     while len - end >= LANES {
         let below = units.lanes_below(end, bound);
         end += below;

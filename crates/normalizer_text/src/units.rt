@@ -1,16 +1,22 @@
 //! The three encodings as one trait, over which every loop is written once.
-ghost use Rattle.std.specs.Prelude.{◌≡◌, ◌==◌, ℕ, ◌+◌, ◌<◌, ◌≤◌, MatchOption};
+ghost use Rattle.std.specs.Prelude.{◌≡◌, ◌==◌, ℕ, ◌<◌, MatchOption};
 ghost use Rattle.std.specs.Prelude.{List, [], length, take, drop, slice_index};
 ghost use Rattle.normalizer_text.specs.Steps.{IsBoundary, IsFirstStep, IsLastStep};
 ghost use Rattle.normalizer_text.specs.Backwards.{IsLastStart};
 ghost use Rattle.normalizer_text.specs.Encodings.{Encoding, first_in, trails_in};
-ghost use Rattle.normalizer_text.specs.Scans.{leading_below};
+ghost use Rattle.normalizer_text.specs.Scans.{EndsLowCharacters};
 
 use crate::step::Step;
 use crate::{scan, utf8, utf16};
 
 // No step takes more units.
 const LONGEST_STEP: usize = 4;
+
+// Bytes below this are characters by themselves.
+const ASCII: u32 = 0x80;
+
+// And so are 16-bit units below this.
+const SURROGATES: u32 = 0xD800;
 
 /// Text in an encoding: a `str`, bytes that may not be UTF-8, or 16-bit units that may not be UTF-16. A position counts
 /// units from the front.
@@ -34,10 +40,10 @@ pub trait Units: Copy {
         requires { position < length (units self) }
         ensures { result ≡ trails_in encoding (slice_index (units self) position) };
 
-    // Where the units end that stand from a position on and are all below the bound.
-    fn end_of_below(self, position: usize, bound: u32) -> usize
-        requires { position ≤ length (units self) }
-        ensures { result ≡ position + leading_below bound (drop position (units self)) };
+    // How far it goes from a position on with characters below the bound, as far as their units alone tell.
+    fn end_of_low(self, position: usize, bound: u32) -> usize
+        requires { IsBoundary (first_in encoding) (units self) position }
+        ensures { EndsLowCharacters encoding (units self) position bound result };
 
     // The units before a position at which a step ends.
     fn before(self, position: usize) -> Self
@@ -118,8 +124,8 @@ impl<'a> Units for &'a str {
         utf8::is_continuation(self.as_bytes()[position])
     }
 
-    fn end_of_below(self, position: usize, bound: u32) -> usize {
-        scan::end_of_below(self.as_bytes(), position, bound)
+    fn end_of_low(self, position: usize, bound: u32) -> usize {
+        scan::end_of_below(self.as_bytes(), position, utf8::low_byte_bound(bound))
     }
 
     fn before(self, position: usize) -> Self {
@@ -148,8 +154,8 @@ impl<'a> Units for &'a [u8] {
         utf8::is_continuation(self[position])
     }
 
-    fn end_of_below(self, position: usize, bound: u32) -> usize {
-        scan::end_of_below(self, position, bound)
+    fn end_of_low(self, position: usize, bound: u32) -> usize {
+        scan::end_of_below(self, position, bound.min(ASCII))
     }
 
     fn before(self, position: usize) -> Self {
@@ -178,8 +184,8 @@ impl<'a> Units for &'a [u16] {
         utf16::is_low_surrogate(self[position])
     }
 
-    fn end_of_below(self, position: usize, bound: u32) -> usize {
-        scan::end_of_below(self, position, bound)
+    fn end_of_low(self, position: usize, bound: u32) -> usize {
+        scan::end_of_below(self, position, bound.min(SURROGATES))
     }
 
     fn before(self, position: usize) -> Self {

@@ -1,0 +1,13 @@
+use Rattle.std.proofs.Common.{arith}
+use Rattle.normalizer_text.specs.Encodings.{Encoding, first_in}
+use Rattle.normalizer_text.proofs.BoundaryLemmas.{boundary-le}
+use Rattle.normalizer_text.proofs.EncodingRules.{IsDecoding-first}
+use Rattle.normalizer_text.proofs.LowLemmas.{first-low_unit}
+use Rattle.normalizer_text.proofs.ScanLemmas.{EndsLowCharacters-single}
+use Rattle.normalizer_text.proofs.units.RefSliceU16Units.end_of_low.Goals as goal
+
+pub end_of_below-requires : goal.end_of_below-requires
+end_of_below-requires c = boundary-le (first_in Encoding.Utf16) (IsDecoding-first Encoding.Utf16) c.args.self.now c.args.position c.requires
+
+pub returns : goal.returns
+returns c = EndsLowCharacters-single Encoding.Utf16 _ _ _ c.requires _ (omega (arith, c.min.ensures)) (λ u us l. first-low_unit u us (omega (arith, c.min.ensures))) _ c.end_of_below.ensures
