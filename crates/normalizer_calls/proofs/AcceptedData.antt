@@ -2,6 +2,7 @@
 use Rattle.std.proofs.Common.{◌≡◌, ℕ, ◌<◌, List, [], arith, false}
 use Rattle.std.specs.Prelude.{min}
 use Rattle.std.specs.Char.{IsScalar}
+use Rattle.normal_forms.specs.Order.{order}
 use Rattle.normal_forms.specs.Reading.{IsStarter, ReadsAsItself}
 use Rattle.normal_forms.specs.declared.Form.TheVariants.{Composing}
 use Rattle.normalizer_tables.specs.declared.condition.Condition.TheVariants.{Order, Passthrough}
@@ -26,6 +27,11 @@ below_bound : (s : Characters) (b : Bounds) → Holds s b Passthrough → (c : �
 unfolding Holds HoldsAt IsPlainStarter
 below_bound s b holds c scalar below = let plain = holds.1 c scalar below in (reads_as_itself s [] c plain.0, plain.1)
 
+-- the list of a character is in canonical order: condition 9
+list_ordered : (s : Characters) (b : Bounds) → Holds s b Order → (c : ℕ) → IsScalar c → order (own_reading s) ((own_reading s).list c) ≡ (own_reading s).list c
+unfolding Holds HoldsAt
+list_ordered s b holds c scalar = (holds.1 c scalar).ordered
+
 below_least : (cap limit c : ℕ) → c < min cap limit → c < limit
 below_least cap limit c below = omega arith
 
@@ -35,6 +41,7 @@ ServesDecomposing-met s plain met =
     record {
       reading = SuitsLazyReading-sound s _ (accepted 8 Order (omega arith));
       below = below_bound s (bounds_of s.decompositions) (accepted 9 Passthrough (omega arith));
+      ordered = list_ordered s (bounds_of s.decompositions) (accepted 8 Order (omega arith));
       laws = SuitsTexts-accepted s (bounds_of s.decompositions) plain accepted;
     }
 
@@ -53,5 +60,6 @@ unfolding IsMet
 ServesDecomposing-handed_in decompositions tables sound = record {
   reading = SuitsLazyReading-nfd decompositions tables sound;
   below = λ c scalar below. below_bound (nfd_characters decompositions tables) nfd_bounds (sound 8 Passthrough (omega arith)).0 c scalar (below_least decompositions.cap 0xC0 c below);
+  ordered = list_ordered (nfd_characters decompositions tables) nfd_bounds (sound 7 Order (omega arith)).0;
   laws = SuitsTexts-handed_in decompositions tables sound;
 }

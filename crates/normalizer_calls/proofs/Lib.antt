@@ -1,6 +1,7 @@
 pub mod AcceptedData
 pub mod CheckLemmas
 pub mod MapperLemmas
+pub mod MemberLemmas
 pub mod OwnedLemmas
 pub mod PartLemmas
 pub mod PassingLemmas

@@ -1,5 +1,5 @@
 -- Forms that are written part by part.
-use Rattle.std.proofs.Common.{◌≡◌, ℕ, ◌+◌, ◌≤◌, Bool, List, [], ◌∷◌, ◌++◌, length, take, drop, Result, Ok, Err, refl, sym, ap, subst, ◌∙◌, append_assoc, append-nil, take-append-drop, arith, inl, inr}
+use Rattle.std.proofs.Common.{◌≡◌, ℕ, ◌+◌, ◌<◌, ◌≤◌, Bool, List, length-take-le, [], ◌∷◌, ◌++◌, length, take, drop, Result, Ok, Err, refl, sym, ap, subst, ◌∙◌, append_assoc, append-nil, take-append-drop, arith, inl, inr}
 use Rattle.std.specs.Prelude.{◌⊎◌, IsErrOf}
 use Rattle.std.proofs.lemmas.Bool.{cases_Bool, cond-true, cond-false}
 use Rattle.std.proofs.lemmas.List.{append_cancel_right, drop-drop}
@@ -77,6 +77,14 @@ module _ (e : Encoding) (d : Reading) (form : Form) where
     form-parts =
         ap (normal_form d form) (text-parts units end part.boundary)
         ∙ part.divides [] (decoded_in e (drop end units)) [] (sym (append-nil (decoded_in e (drop end units))))
+
+    -- it has units
+    pub some_part : (segment : List ℕ) → segment ≡ take end units → 0 < length segment
+    some_part segment is =
+        let some = part.some in
+        let most = boundary-le (first_in e) (IsDecoding-first e) units end part.boundary in
+        let size : length segment ≡ end = ap length is ∙ length-take-le end units most in
+        omega (arith, size)
 
     pub HasShortRuns-part : (f : ℕ → Bool) (segment : List ℕ) → segment ≡ take end units → HasShortRuns f d (decoded_in e units) → HasShortRuns f d (decoded_in e segment)
     HasShortRuns-part f segment is h =

@@ -17,15 +17,17 @@ use Rattle.normal_forms.proofs.LawLemmas.{nfc-boundary}
 use Rattle.normal_forms.proofs.OrderLemmas.{order-at_starter}
 use Rattle.normalizer_tables.specs.declared.characters.IgnoredCharacters.TheVariants.{Dropped}
 use Rattle.normalizer_tables.specs.declared.condition.Bounds.{Bounds}
-use Rattle.normalizer_tables.specs.Characters.{Characters, has_class_form, own_reading, word_of}
+use Rattle.normalizer_tables.specs.Characters.{Characters, has_class_form, list_of, own_reading, word_of}
 use Rattle.normalizer_tables.specs.PairConditions.{composing_reading, is_passed}
 use Rattle.normalizer_tables.specs.Pairs.{Pair}
 use Rattle.normalizer_tables.specs.Words.{is_backward_combining, is_non_round_trip, is_plain}
 use Rattle.normalizer_tables.proofs.ConditionLemmas.{class_of-plain}
 use Rattle.normalizer_tables.proofs.PlainCharacters.{list_of-plain_word}
+use Rattle.normalizer_calls.specs.Acceptance.{bounds_of}
+use Rattle.normalizer_calls.specs.Serving.{ServesDecomposing}
 use Rattle.normalizer_iterators.specs.LazyComposing.{SuitsLazyComposing}
 use Rattle.normalizer_iterators.proofs.PassingLemmas.{BeginsSafely-apart}
-use Rattle.normalizer_calls.specs.Passing.{Divides, MayPass}
+use Rattle.normalizer_calls.specs.Passing.{BeginsApart, Divides, MayPass}
 
 -- a starter that reads as itself stands apart from what is behind it too
 MayPass-itself : (d : Reading) (c : ℕ) → ReadsAsItself d c → IsStarter d c → MayPass d Decomposing false c
@@ -46,6 +48,33 @@ MayPass-decomposed s bound below c scalar passes = elim (cases_lt c bound) [
       let plain : is_plain (word_of s c) ≡ true = sym (ap (λ b. b || is_plain (word_of s c)) (le-ltb c bound high)) ∙ passes in
       MayPass-itself (own_reading s) c (list_of-plain_word s [] c scalar plain) (class_of-plain s c scalar plain)
 ]
+
+not-true : (b : Bool) → not b ≡ true → b ≡ false
+not-true true h = absurd (cc)
+not-true false h = refl
+
+first_begins : (d : Reading) (list : List ℕ) → ((first : ℕ) (others : List ℕ) → list ≡ first ∷ others → IsStarter d first) → BeginsWithStarter d list
+first_begins d [] starters = tt
+first_begins d (first ∷ others) starters = starters first others refl
+
+-- a character below the bound, or without class form, begins apart where text is decomposed
+pub BeginsApart-decomposed : (s : Characters) → ServesDecomposing s → (c : ℕ) → IsScalar c
+    → (nat_lt c (bounds_of s.decompositions).decomposition || not (has_class_form s c)) ≡ true → BeginsApart (own_reading s) Decomposing c
+unfolding normal_form
+BeginsApart-decomposed s serves c scalar begins = elim (cases_lt c (bounds_of s.decompositions).decomposition) [
+  | inl low ↦ let starter = serves.below c scalar low in (MayPass-itself (own_reading s) c starter.0 starter.1).begins
+  | inr high ↦
+      let d = own_reading s in
+      let other : not (has_class_form s c) ≡ true = sym (ap (λ b. b || not (has_class_form s c)) (le-ltb c (bounds_of s.decompositions).decomposition high)) ∙ begins in
+      let anew : has_class_form s c ≡ false = not-true (has_class_form s c) other in
+      λ front x. nfd-boundary d front (c ∷ x)
+      (BeginsWithStarter-expand d c x (serves.laws.inhabited.inhabited c) (first_begins d (d.list c) (λ first others is. serves.reading.starters c first others anew is)))
+]
+
+-- the form of a character alone is its list
+pub form_of_one : (s : Characters) → ServesDecomposing s → (c : ℕ) → IsScalar c → normal_form (own_reading s) Decomposing (c ∷ []) ≡ list_of s [] c
+unfolding normal_form nfd expand
+form_of_one s serves c scalar = ap (order (own_reading s)) (append-nil (list_of s [] c)) ∙ serves.ordered c scalar
 
 pub below_passes : (s : Characters) (bound c : ℕ) → c < bound → (nat_lt c bound || is_plain (word_of s c)) ≡ true
 below_passes s bound c below = ap (λ b. b || is_plain (word_of s c)) (lt-ltb c bound below)
@@ -85,14 +114,14 @@ module _ (d : Reading) (form : Form) where
   Divides-end front [] unread is = ap (normal_form d form) (append-nil front) ∙ sym (append-nil (normal_form d form front)) ∙ ap (λ l. normal_form d form front ++ l) (sym (normal_form-nil form))
   Divides-end front (c ∷ read) unread is = absurd (cc)
 
-  module _ (held_back : Bool) where
-    -- a character that passes comes next
-    pub Divides-next : (c : ℕ) → MayPass d form held_back c → (front x : List ℕ) → Divides d form front (c ∷ x)
-    Divides-next c pass front x [] unread is = Divides-end front [] [] refl
-    Divides-next c pass front x (e ∷ read) unread is =
-        let same : c ≡ e = cc in
-        subst (λ k. normal_form d form (front ++ k ∷ read) ≡ normal_form d form front ++ normal_form d form (k ∷ read)) same (pass.begins front read)
+  -- a character that begins apart comes next
+  pub Divides-next : (c : ℕ) → BeginsApart d form c → (front x : List ℕ) → Divides d form front (c ∷ x)
+  Divides-next c begins front x [] unread is = Divides-end front [] [] refl
+  Divides-next c begins front x (e ∷ read) unread is =
+      let same : c ≡ e = cc in
+      subst (λ k. normal_form d form (front ++ k ∷ read) ≡ normal_form d form front ++ normal_form d form (k ∷ read)) same (begins front read)
 
+  module _ (held_back : Bool) where
     -- a run, and what is normalized apart from what stands before it
     run_then : (run y : List ℕ) → All (MayPass d form held_back) run → ((front : List ℕ) → normal_form d form (front ++ y) ≡ normal_form d form front ++ normal_form d form y)
         → normal_form d form (run ++ y) ≡ run ++ normal_form d form y

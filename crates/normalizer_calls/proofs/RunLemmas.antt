@@ -20,7 +20,7 @@ use Rattle.normalizer_text.proofs.EncodingRules.{IsDecoding-first}
 use Rattle.normalizer_text.proofs.StepLemmas.{decoded-IsText, decoded-some, rest-shorter, steps-nil, steps-some}
 use Rattle.normalizer_text.proofs.Utf8Lemmas.{by_cases}
 use Rattle.normalizer_input.specs.InputCut.{IsInputNormalized}
-use Rattle.normalizer_calls.specs.Passing.{Divides, HasHeldBack, IsHandedOn, IsPart, IsRunEnd, IsSegmentEnd, MayPass, PassesTo, replacement, step_passes}
+use Rattle.normalizer_calls.specs.Passing.{BeginsApart, Divides, HasHeldBack, IsHandedOn, IsPart, IsRunEnd, IsSegmentEnd, MayPass, PassesTo, replacement, step_passes}
 use Rattle.normalizer_calls.proofs.PassingLemmas.{Divides-end, Divides-next, Divides-run, IsNormalized-run}
 
 module _ (passing : ℕ → Bool) (e : Encoding) (units : List ℕ) where
@@ -185,6 +185,36 @@ passes_right passing s known passes = elim (cases_Bool s.is_error) [
   | inr right ↦ right
 ]
 
+-- ---- where a text is divided
+
+module _ (e : Encoding) (d : Reading) (form : Form) (units : List ℕ) where
+  -- the character in front of what is behind a place begins apart, or none is there: it is normalized apart
+  Divides-before : (end : ℕ) → (end < length units → IsScalar (first_in e (drop end units)).character → BeginsApart d form (first_in e (drop end units)).character)
+      → (front : List ℕ) → Divides d form front (decoded_in e (drop end units))
+  Divides-before end next front = elim (cases_lt end (length units)) [
+    | inl more ↦
+        let rest = drop end units in
+        let some : 0 < length rest = omega (arith, length-drop end units) in
+        let s = first_in e rest in
+        subst (Divides d form front) (sym (decoded-some (first_in e) (IsDecoding-first e) rest some))
+        (Divides-next d form s.character (next more ((IsDecoding-first e).scalar rest some)) front (decoded_in e (drop s.width rest)))
+    | inr none ↦
+        let rest = drop end units in
+        subst (Divides d form front) (sym (decoded-none e rest (omega (arith, length-drop end units)))) (Divides-end d form front)
+  ]
+    where
+      decoded-none : (e : Encoding) (us : List ℕ) → length us ≡ 0 → decoded_in e us ≡ []
+      decoded-none e [] h = ap (map (λ s. s.character)) (steps-nil (first_in e))
+      decoded-none e (u ∷ us) h = absurd (omega arith)
+
+  -- a segment
+  pub IsPart-segment : (beginning : ℕ → Bool) → ((c : ℕ) → IsScalar c → beginning c ≡ true → BeginsApart d form c) → (end : ℕ) → IsSegmentEnd beginning e units end → IsPart e d form units end
+  IsPart-segment beginning law end h = record {
+    some = h.some;
+    boundary = h.boundary;
+    divides = λ front. Divides-before end (λ more scalar. law (first_in e (drop end units)).character scalar (h.next more)) (front ++ decoded_in e (take end units));
+  }
+
 module _ (passing : ℕ → Bool) (e : Encoding) where
   steps-right : (us : List ℕ) → All (λ s. s.is_error ≡ true → s.character ≡ replacement) (steps (first_in e) us)
   steps-right us = by (length us) us (omega arith)
@@ -213,33 +243,6 @@ module _ (passing : ℕ → Bool) (e : Encoding) where
         (all_may_pass ss (All-tail IsScalar s.character (map (λ s. s.character) ss) scalars) (All-tail (λ s. step_passes passing s ≡ true) s ss pass))
 
     module _ (units : List ℕ) where
-      -- the step in front of what is behind a place passes: it is normalized apart
-      Divides-passed : (end : ℕ) → (end < length units → step_passes passing (first_in e (drop end units)) ≡ true) → IsBoundary (first_in e) units end → (front : List ℕ)
-          → Divides d form front (decoded_in e (drop end units))
-      Divides-passed end next b front = elim (cases_lt end (length units)) [
-        | inl more ↦
-            let rest = drop end units in
-            let some : 0 < length rest = omega (arith, length-drop end units) in
-            let s = first_in e rest in
-            subst (Divides d form front) (sym (decoded-some (first_in e) (IsDecoding-first e) rest some))
-            (Divides-next d form held_back s.character (may_pass s ((IsDecoding-first e).scalar rest some) (next more)) front (decoded_in e (drop s.width rest)))
-        | inr none ↦
-            let rest = drop end units in
-            subst (Divides d form front) (sym (decoded-none e rest (omega (arith, length-drop end units)))) (Divides-end d form front)
-      ]
-        where
-          decoded-none : (e : Encoding) (us : List ℕ) → length us ≡ 0 → decoded_in e us ≡ []
-          decoded-none e [] h = ap (map (λ s. s.character)) (steps-nil (first_in e))
-          decoded-none e (u ∷ us) h = absurd (omega arith)
-
-      -- a segment
-      pub IsPart-segment : (end : ℕ) → IsSegmentEnd passing e units end → IsPart e d form units end
-      IsPart-segment end h = record {
-        some = h.some;
-        boundary = h.boundary;
-        divides = λ front. Divides-passed end h.next h.boundary (front ++ decoded_in e (take end units));
-      }
-
       -- characters that all pass are well-formed and their own form
       module _ (end : ℕ) (to : PassesTo passing e units end) where
         passed_steps : All (λ s. step_passes passing s ≡ true) (steps (first_in e) (take end units))
@@ -259,7 +262,7 @@ module _ (passing : ℕ → Bool) (e : Encoding) where
         IsPart-run some next = record {
           some = some;
           boundary = to.boundary;
-          divides = λ front. Divides-passed end next to.boundary (front ++ decoded_in e (take end units));
+          divides = λ front. Divides-before e d form units end (λ more scalar. (may_pass (first_in e (drop end units)) scalar (next more)).begins) (front ++ decoded_in e (take end units));
         }
 
         -- a run of which nothing is held back

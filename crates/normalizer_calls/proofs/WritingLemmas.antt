@@ -125,6 +125,11 @@ module _ {S I : Type 0} (e : Encoding) (taken : S → List ℕ) (refused left : 
           begun = λ k. absurd (cc);
         }
 
+-- the same text was written
+pub WritesText-same : {S : Type 0} {offered : List ℕ → List ℕ → Type 0} (e : Encoding) (taken : S → List ℕ) (refused left : S → S → Type 0) (refuses : S → List ℕ → Type 0) (x y : List ℕ) (old : S) (answer : Result ⊤ NormalizeError) (new : S)
+    → x ≡ y → WritesText e taken refused left refuses offered x old answer new → WritesText e taken refused left refuses offered y old answer new
+WritesText-same {offered = offered} e taken refused left refuses x y old answer new same h = subst (λ z. WritesText e taken refused left refuses offered z old answer new) same h
+
 -- what comes behind a hint
 module _ {S : Type 0} (e : Encoding) (taken : S → List ℕ) (refused left : S → S → Type 0) (refuses : S → List ℕ → Type 0) (hinted : S → ℕ → Result ⊤ SinkError → S → Type 0) (old : S) (n : ℕ) where
   -- where it was refused, nothing was written

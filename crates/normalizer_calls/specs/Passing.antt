@@ -16,12 +16,16 @@ abbrev pub Divides : Reading → Form → List ℕ → List ℕ → Type 0
 Divides d form front rest = (read unread : List ℕ) → rest ≡ read ++ unread
     → normal_form d form (front ++ read) ≡ normal_form d form front ++ normal_form d form read
 
+-- a text that begins with c is normalized apart from what stands before
+abbrev pub BeginsApart : Reading → Form → ℕ → Type 0
+BeginsApart d form c = (front x : List ℕ)
+    → normal_form d form (front ++ c ∷ x) ≡ normal_form d form front ++ normal_form d form (c ∷ x)
+
 -- c may be handed on as it is: it is its own form, and a text that begins with it is normalized apart from what stands
 -- before. What stands behind it is so too, unless it is held back.
 pub record MayPass (d : Reading) (form : Form) (held_back : Bool) (c : ℕ) : Type 0 where
   pub own : IsNormalized d form (c ∷ [])
-  pub begins : (front x : List ℕ)
-      → normal_form d form (front ++ c ∷ x) ≡ normal_form d form front ++ normal_form d form (c ∷ x)
+  pub begins : BeginsApart d form c
   pub ends : held_back ≡ false → (x : List ℕ) → normal_form d form (c ∷ x) ≡ c ∷ normal_form d form x
 
 -- U+FFFD, which stands for errors, never passes
@@ -54,11 +58,11 @@ pub record IsHandedOn (passing : ℕ → Bool) (held_back : Bool) (e : Encoding)
   pub whole : (run ≡ length units) ⊎ (held_back ≡ false) → end ≡ run
   pub held : run < length units → held_back ≡ true → HasHeldBack e units run end
 
--- a character ends at the place, and the next one passes, or the units end
-pub record IsSegmentEnd (passing : ℕ → Bool) (e : Encoding) (units : List ℕ) (end : ℕ) : Type 0 where
+-- a character ends at the place, and the next one begins a segment of its own, or the units end
+pub record IsSegmentEnd (beginning : ℕ → Bool) (e : Encoding) (units : List ℕ) (end : ℕ) : Type 0 where
   pub some : 0 < end
   pub boundary : IsBoundary (first_in e) units end
-  pub next : end < length units → step_passes passing (first_in e (drop end units)) ≡ true
+  pub next : end < length units → beginning (first_in e (drop end units)).character ≡ true
 
 -- the units up to a place, which are normalized apart from the others, whatever stands before them
 pub record IsPart (e : Encoding) (d : Reading) (form : Form) (units : List ℕ) (end : ℕ) : Type 0 where

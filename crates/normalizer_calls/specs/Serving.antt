@@ -1,6 +1,7 @@
 -- What a normalizer's data are to its calls.
-use Rattle.std.specs.Prelude.{ℕ, ◌<◌, List}
+use Rattle.std.specs.Prelude.{◌≡◌, ℕ, ◌<◌, List}
 use Rattle.std.specs.Char.{IsScalar}
+use Rattle.normal_forms.specs.Order.{order}
 use Rattle.normal_forms.specs.Reading.{IsStarter, ReadsAsItself}
 use Rattle.normal_forms.specs.declared.Form.TheVariants.{Decomposing, Composing}
 use Rattle.normalizer_tables.specs.declared.condition.Bounds.{Bounds}
@@ -13,11 +14,12 @@ use Rattle.normalizer_iterators.specs.LazyReading.{SuitsLazyReading}
 use Rattle.normalizer_calls.specs.Acceptance.{bounds_of}
 
 -- text may be decomposed by them character by character, a character below the bound is a starter that reads as itself,
--- and the laws of the decomposing form hold
+-- lists are in canonical order, and the laws of the decomposing form hold
 pub record ServesDecomposing (s : Characters) : Type 0 where
   pub reading : SuitsLazyReading (has_class_form s) (own_reading s)
   pub below : (c : ℕ) → IsScalar c → c < (bounds_of s.decompositions).decomposition
       → ReadsAsItself (own_reading s) c × IsStarter (own_reading s) c
+  pub ordered : (c : ℕ) → IsScalar c → order (own_reading s) ((own_reading s).list c) ≡ (own_reading s).list c
   pub laws : SuitsTexts (own_reading s) Decomposing
 
 -- text may be decomposed and composed by them character by character, and the laws of both forms hold

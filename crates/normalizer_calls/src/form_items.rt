@@ -1,5 +1,5 @@
 //! The two kinds of normalizers as one trait, over which every call on text is written once.
-ghost use Rattle.std.specs.Prelude.{◌≡◌, ◌<◌, ◌||◌, nat_lt, ℕ, Bool, true, false, IfOk};
+ghost use Rattle.std.specs.Prelude.{◌≡◌, ◌<◌, ◌||◌, ◌∷◌, [], nat_lt, not, ℕ, Bool, true, false, IfOk, IfSome};
 ghost use Rattle.std.specs.Char.{IsScalar};
 ghost use Rattle.std.specs.Iterator.{IsFinite};
 ghost use Rattle.normal_forms.specs.declared.Form.{Form};
@@ -10,11 +10,13 @@ ghost use Rattle.normalizer_tables.specs.PairConditions.{composing_reading, is_p
 ghost use Rattle.normalizer_tables.specs.Words.{is_plain};
 ghost use Rattle.normalizer_iterators.specs.Items.{GivesForm};
 ghost use Rattle.normalizer_calls.specs.Acceptance.{bounds_of};
-ghost use Rattle.normalizer_calls.specs.Passing.{MayPass};
+ghost use Rattle.normalizer_calls.specs.Passing.{BeginsApart, MayPass};
 
 use crate::{ComposingNormalizerBorrowed, DecomposingNormalizerBorrowed};
 use normalizer_iterators::{Composition, Decomposition, NormalizeError};
+use normalizer_tables::characters::IgnoredCharacters;
 use normalizer_tables::condition::Bounds;
+use normalizer_tables::members::Members;
 use normalizer_tables::word::{is_backward_combining, is_non_round_trip};
 
 /// What gives the normal form of the characters that an iterator gives.
@@ -36,6 +38,9 @@ pub(crate) trait FormItems<I: Iterator<Item = char> + Drop> {
 
     ghost held_back: { Bool };
 
+    // Which characters begin apart.
+    ghost beginning: { Self → ℕ → Bool };
+
     fn items(&self, characters: I) -> Result<Self::Items, NormalizeError>
         requires can { I.can_next characters }
         requires ends { IsFinite (I.remaining characters) }
@@ -55,10 +60,20 @@ pub(crate) trait FormItems<I: Iterator<Item = char> + Drop> {
     fn holds_back(&self) -> bool
         ensures { result ≡ held_back };
 
-    /// Characters that pass are normalized apart, and those below the bound pass.
+    /// Whether what begins with a character is normalized apart from what stands before.
+    fn begins(&self, character: char) -> bool
+        ensures { result ≡ beginning self.now character };
+
+    /// The form of a character alone, if its list is that.
+    fn form_of_one(&self, character: char) -> Option<Members<'_>>
+        ensures { IfSome result (λ members. members ≡ normal_form (reading self.now) form (character ∷ [])) };
+
+    /// Characters that pass are normalized apart, and those below the bound pass; what begins apart is normalized apart
+    /// from what stands before.
     fn passed_characters_stand_apart(&self)
         ensures apart { (c : ℕ) → IsScalar c → passing self.now c ≡ true →
             MayPass (reading self.now) form held_back c }
+        ensures begins { (c : ℕ) → IsScalar c → beginning self.now c ≡ true → BeginsApart (reading self.now) form c }
         ensures below { (c : ℕ) → c < bound self.now → passing self.now c ≡ true };
 }
 
@@ -81,6 +96,9 @@ impl<'a, I: Iterator<Item = char> + Drop> FormItems<I> for DecomposingNormalizer
 
     ghost held_back = { false };
 
+    ghost beginning = { λ n c. let s = data_of_borrowed n in
+        nat_lt c (bounds_of s.decompositions).decomposition || not (has_class_form s c) };
+
     fn items(&self, characters: I) -> Result<Decomposition<'a, I>, NormalizeError> {
         self.normalize_iter(characters)
     }
@@ -96,6 +114,18 @@ impl<'a, I: Iterator<Item = char> + Drop> FormItems<I> for DecomposingNormalizer
 
     fn holds_back(&self) -> bool {
         false
+    }
+
+    fn begins(&self, character: char) -> bool {
+        (character as u32) < Bounds::of_cap(self.characters.cap()).decomposition
+            || !self.characters.has_class_form(character)
+    }
+
+    fn form_of_one(&self, character: char) -> Option<Members<'_>> {
+        Some(
+            self.characters
+                .members(character, IgnoredCharacters::Dropped),
+        )
     }
 
     fn passed_characters_stand_apart(&self) {}
@@ -119,6 +149,8 @@ impl<'a, I: Iterator<Item = char> + Drop> FormItems<I> for ComposingNormalizerBo
 
     ghost held_back = { true };
 
+    ghost beginning = { λ n c. is_passed (composing_data_of_borrowed n) n.bounds c };
+
     fn items(&self, characters: I) -> Result<Composition<'a, I>, NormalizeError> {
         self.normalize_iter(characters)
     }
@@ -138,6 +170,14 @@ impl<'a, I: Iterator<Item = char> + Drop> FormItems<I> for ComposingNormalizerBo
 
     fn holds_back(&self) -> bool {
         true
+    }
+
+    fn begins(&self, character: char) -> bool {
+        <Self as FormItems<I>>::passes(self, character)
+    }
+
+    fn form_of_one(&self, _character: char) -> Option<Members<'_>> {
+        None
     }
 
     fn passed_characters_stand_apart(&self) {}

@@ -33,15 +33,15 @@ fn run_end<U: Units, N: FormItems<Chars<U>>>(normalizer: &N, units: U) -> usize
     end
 }
 
-/// Where the segment ends that begins with the first character, whether that passes or not.
+/// Where the segment ends that begins with the first character: before the next one that begins apart.
 pub(crate) fn segment_end<U: Units, N: FormItems<Chars<U>>>(normalizer: &N, units: U) -> usize
     requires { 0 < length (U.units units) }
-    ensures { IsSegmentEnd (N.passing normalizer.now) U.encoding (U.units units) result }
+    ensures { IsSegmentEnd (N.beginning normalizer.now) U.encoding (U.units units) result }
 {
     let mut end = units.step_at(0).width;
     while end < units.len() {
         let step = units.step_at(end);
-        if step_passes(normalizer, step) {
+        if normalizer.begins(step.character) {
             return end;
         }
         end += step.width;

@@ -11,6 +11,7 @@ ghost use Rattle.normalizer_calls.specs.Writing.{NothingOffered, TellsLengthFirs
 use crate::form_items::FormItems;
 use crate::runs::{passed_end, segment_end};
 use normalizer_iterators::NormalizeError;
+use normalizer_tables::members::Members;
 use normalizer_text::output::Output;
 use normalizer_text::{Chars, Units};
 
@@ -33,18 +34,42 @@ where
     Ok(())
 }
 
+/// Writes the members of a list, each behind the one before.
+fn write_members<U: Units, O: Output<U>>(
+    members: &Members<'_>,
+    output: &mut O,
+) -> Result<(), NormalizeError>
+    ensures text { WritesText U.encoding O.taken O.refused O.left O.refuses NothingOffered
+        members.now output.old result output.new }
+    ensures room { ¬ IsErrOf result NormalizeError.Memory }
+{
+    let mut place = 0;
+    while place < members.len() {
+        output.write_char(members.at(place))?;
+        place += 1;
+    }
+    Ok(())
+}
+
 /// Writes the form of what the units decode to, character by character.
 fn write_segment<U: Units, N: FormItems<Chars<U>>, O: Output<U>>(
     normalizer: &N,
     units: U,
     output: &mut O,
 ) -> Result<(), NormalizeError>
+    requires { 0 < length (U.units units) }
     ensures text { WritesText U.encoding O.taken O.refused O.left O.refuses NothingOffered
         (normal_form (N.reading normalizer.now) N.form (decoded_in U.encoding (U.units units)))
         output.old result output.new }
     ensures room { HasShortRuns (N.has_class_form normalizer.now) (N.reading normalizer.now)
         (decoded_in U.encoding (U.units units)) → ¬ IsErrOf result NormalizeError.Memory }
 {
+    let first = units.step_at(0);
+    if first.width == units.len() {
+        if let Some(members) = normalizer.form_of_one(first.character) {
+            return write_members::<U, O>(&members, output);
+        }
+    }
     let items = normalizer.items(Chars::new(units))?;
     write_items(items, output)
 }

@@ -2,7 +2,6 @@ use Rattle.std.proofs.Common.{arith, sym, ap, ◌∙◌}
 use Rattle.normalizer_text.specs.Encodings.{first_in}
 use Rattle.normalizer_text.proofs.BoundaryLemmas.{boundary-first}
 use Rattle.normalizer_text.proofs.EncodingRules.{IsDecoding-first}
-use Rattle.normalizer_calls.specs.Passing.{step_passes}
 use Rattle.normalizer_calls.proofs.RunLemmas.{boundary-step, some_step, within_step}
 use Rattle.normalizer_calls.proofs.runs.segment_end.Goals as goal
 
@@ -12,11 +11,11 @@ loop-end-init g c = (
   boundary-first (first_in g.U.Units.encoding) (IsDecoding-first g.U.Units.encoding) (g.U.Units.units c.args.units) c.step_at-end.result (record { some = c.requires; is = c.step_at-end.ensures }),
 )
 
-pub returns-then-step_passes : goal.returns-then-step_passes
-returns-then-step_passes g c = record {
+pub returns-then-begins : goal.returns-then-begins
+returns-then-begins g c = record {
   some = c.loop-end.invariant.0;
   boundary = c.loop-end.invariant.1;
-  next = λ _. ap (step_passes (g.N.FormItems.passing c.args.normalizer.now)) (sym c.step_at-step.ensures) ∙ sym c.step_passes.ensures ∙ c.if-step_passes.true;
+  next = λ _. ap (λ s. g.N.FormItems.beginning c.args.normalizer.now s.character) (sym c.step_at-step.ensures) ∙ sym c.begins.ensures ∙ c.if-begins.true;
 }
 
 pub overflow_add-end : goal.overflow_add-end

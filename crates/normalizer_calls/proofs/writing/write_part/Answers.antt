@@ -1,6 +1,6 @@
 use Rattle.std.proofs.Common.{◌≡◌, rules, Err}
 use Rattle.normalizer_iterators.specs.declared.error.NormalizeError.TheVariants.{Sink}
-use Rattle.normalizer_calls.proofs.PartLemmas.{HasShortRuns-part, WritesText-run_refused, WritesText-segment_refused, WrotePart-run, WrotePart-segment, not_handed_on}
+use Rattle.normalizer_calls.proofs.PartLemmas.{HasShortRuns-part, WritesText-run_refused, WritesText-segment_refused, WrotePart-run, WrotePart-segment, not_handed_on, some_part}
 use Rattle.normalizer_calls.proofs.RunLemmas.{IsPart-segment}
 use Rattle.normalizer_calls.proofs.writing.write_part.Goals as goal
 
@@ -17,9 +17,14 @@ returns-then-run-gt0-clause-part g c =
     let run = c.passed_end-run.ensures.part c.if-run-gt0.true in
     WrotePart-run _ _ _ _ _ run.0 g.O.Output.taken g.O.Output.refused g.O.Output.left g.O.Output.refuses _ _ run.1 _ c.before-then-run-gt0.ensures (rw c.in_ok-write_piece.was at c.write_piece.ensures)
 
+pub write_segment-requires : goal.write_segment-requires
+write_segment-requires g c =
+    let part = IsPart-segment _ _ _ _ _ c.passed_characters_stand_apart.ensures.begins _ c.segment_end-end.ensures in
+    some_part _ _ _ _ _ part _ c.before-2.ensures
+
 pub returns-in_err-write_segment-clause-refused : goal.returns-in_err-write_segment-clause-refused
 returns-in_err-write_segment-clause-refused g c =
-    let part = IsPart-segment _ _ _ _ _ c.passed_characters_stand_apart.ensures.apart _ _ c.segment_end-end.ensures in
+    let part = IsPart-segment _ _ _ _ _ c.passed_characters_stand_apart.ensures.begins _ c.segment_end-end.ensures in
     let is : c.from_residual-in_err-write_segment.result ≡ Err c.in_err-write_segment.field-0.0 = search rules in
     rw is
     (WritesText-segment_refused _ _ _ _ _ part g.O.Output.taken g.O.Output.refused g.O.Output.left g.O.Output.refuses _ _ _ c.before-2.ensures _
@@ -27,11 +32,11 @@ returns-in_err-write_segment-clause-refused g c =
 
 pub returns-in_err-write_segment-clause-room : goal.returns-in_err-write_segment-clause-room
 returns-in_err-write_segment-clause-room g c = λ short.
-    let part = IsPart-segment _ _ _ _ _ c.passed_characters_stand_apart.ensures.apart _ _ c.segment_end-end.ensures in
+    let part = IsPart-segment _ _ _ _ _ c.passed_characters_stand_apart.ensures.begins _ c.segment_end-end.ensures in
     let is : c.from_residual-in_err-write_segment.result ≡ Err c.in_err-write_segment.field-0.0 = search rules in
     not_handed_on _ _ _ _ c.in_err-write_segment.was is (c.write_segment.ensures.room (HasShortRuns-part _ _ _ _ _ part _ _ c.before-2.ensures short))
 
 pub returns-clause-part : goal.returns-clause-part
 returns-clause-part g c =
-    let part = IsPart-segment _ _ _ _ _ c.passed_characters_stand_apart.ensures.apart _ _ c.segment_end-end.ensures in
+    let part = IsPart-segment _ _ _ _ _ c.passed_characters_stand_apart.ensures.begins _ c.segment_end-end.ensures in
     WrotePart-segment _ _ _ _ _ part g.O.Output.taken g.O.Output.refused g.O.Output.left g.O.Output.refuses _ _ _ c.before-2.ensures (rw c.in_ok-write_segment.was at c.write_segment.ensures.text)

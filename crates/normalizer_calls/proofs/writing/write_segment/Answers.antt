@@ -1,0 +1,11 @@
+use Rattle.std.proofs.Common.{ap, sym, ◌∙◌}
+use Rattle.normal_forms.specs.Forms.{normal_form}
+use Rattle.normalizer_calls.proofs.MemberLemmas.{decoded-one}
+use Rattle.normalizer_calls.proofs.WritingLemmas.{WritesText-same}
+use Rattle.normalizer_calls.proofs.writing.write_segment.Goals as goal
+
+pub returns-in-Some-clause-text : goal.returns-in-Some-clause-text
+returns-in-Some-clause-text g c =
+    let one = decoded-one g.U.Units.encoding _ c.step_at-first.result c.requires c.step_at-first.ensures (c.if-first-len.true ∙ c.len.ensures) in
+    let same = c.in-Some.ensures ∙ ap (normal_form (g.N.FormItems.reading c.args.normalizer.now) g.N.FormItems.form) (sym one) in
+    WritesText-same g.U.Units.encoding g.O.Output.taken g.O.Output.refused g.O.Output.left g.O.Output.refuses _ _ _ _ _ same c.write_members.ensures.text
