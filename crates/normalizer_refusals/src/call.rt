@@ -16,6 +16,7 @@ pub enum Call {
     ComposedItemsOfMarks,
     ComposedItemsOfShortRuns,
     MappedItems,
+    ValidatedItems,
     OwnedText,
     OwnedBytes,
     OwnedUnits,
@@ -42,7 +43,7 @@ pub enum Constructor {
 }
 
 /// All calls, each with its name.
-pub const CALLS: [(&str, Call); 30] = [
+pub const CALLS: [(&str, Call); 31] = [
     ("table", Call::Table),
     ("pairs", Call::Pairs),
     ("copy-of-table", Call::CopyOfTable),
@@ -72,6 +73,7 @@ pub const CALLS: [(&str, Call); 30] = [
         Call::ComposedItemsOfShortRuns,
     ),
     ("mapped-items", Call::MappedItems),
+    ("validated-items", Call::ValidatedItems),
     ("owned-text", Call::OwnedText),
     ("owned-bytes", Call::OwnedBytes),
     ("owned-units", Call::OwnedUnits),

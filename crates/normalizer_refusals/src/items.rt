@@ -1,4 +1,5 @@
-//! Iterators whose items are asked one by one.
+//! Iterators whose items are asked one by one. A refused growth is answered once: where an iterator is made, and none is
+//! then, or in the place of its first item, with nothing behind it.
 ghost use Rattle.std.specs.Prelude.{IfOk};
 ghost use Rattle.std.specs.Iterator.{IsFinite};
 
@@ -9,80 +10,109 @@ use icu_normalizer::NormalizeError;
 use std::str::Chars;
 
 impl Normalizers {
-    /// An iterator over a letter with marks is made; memory is wanted by its items alone.
     pub fn decomposed_items(&self) -> Answer {
-        match self.nfd.as_borrowed().normalize_iter(LONG.chars()) {
-            Ok(made) => items(Ok(made), LONG_NFD),
-            Err(_) => Answer::Wrong,
-        }
+        wanted_by_items(
+            self.nfd.as_borrowed().normalize_iter(LONG.chars()),
+            LONG_NFD,
+        )
     }
 
     pub fn decomposed_items_of_marks(&self) -> Answer {
-        items(self.nfd.as_borrowed().normalize_iter(MARKS.chars()), MARKS)
+        wanted_when_made(self.nfd.as_borrowed().normalize_iter(MARKS.chars()), MARKS)
     }
 
     pub fn decomposed_items_of_short_runs(&self) -> Answer {
-        items(self.nfd.as_borrowed().normalize_iter(SHORT.chars()), SHORT)
+        wanted_by_items(self.nfd.as_borrowed().normalize_iter(SHORT.chars()), SHORT)
     }
 
     pub fn composed_items(&self) -> Answer {
-        match self.nfc.as_borrowed().normalize_iter(LONG.chars()) {
-            Ok(made) => items(Ok(made), LONG_NFC),
-            Err(_) => Answer::Wrong,
-        }
+        wanted_by_items(
+            self.nfc.as_borrowed().normalize_iter(LONG.chars()),
+            LONG_NFC,
+        )
     }
 
     pub fn composed_items_of_marks(&self) -> Answer {
-        items(self.nfc.as_borrowed().normalize_iter(MARKS.chars()), MARKS)
+        wanted_when_made(self.nfc.as_borrowed().normalize_iter(MARKS.chars()), MARKS)
     }
 
     pub fn composed_items_of_short_runs(&self) -> Answer {
-        items(
+        wanted_by_items(
             self.nfc.as_borrowed().normalize_iter(SHORT.chars()),
             SHORT_NFC,
         )
     }
 
     pub fn mapped_items(&self) -> Answer {
-        items(
+        wanted_by_items(
             self.mapper.as_borrowed().map_normalize(LONG.chars()),
+            LONG_NFC,
+        )
+    }
+
+    pub fn validated_items(&self) -> Answer {
+        wanted_by_items(
+            self.mapper.as_borrowed().normalize_validate(LONG.chars()),
             LONG_NFC,
         )
     }
 }
 
-/// How the items of an iterator answer where they are to be these characters: a fault stands once, and then the end.
-fn items<I>(iterator: Result<I, NormalizeError>, wanted: &str) -> Answer
+/// The answer of an iterator that is to be made, and whose items want memory.
+fn wanted_by_items<I>(made: Result<I, NormalizeError>, wanted: &str) -> Answer
 where
     I: Iterator<Item = Result<char, NormalizeError>> + Drop,
-    requires can { IfOk iterator I.can_next }
-    requires ends { IfOk iterator (λ it. IsFinite (I.remaining it)) }
+    requires can { IfOk made I.can_next }
+    requires ends { IfOk made (λ it. IsFinite (I.remaining it)) }
 {
-    match iterator {
+    match made {
         Ok(items) => given(items, wanted.chars()),
+        Err(_) => Answer::Wrong,
+    }
+}
+
+/// The answer of an iterator that wants memory when it is made, and whose items want none.
+fn wanted_when_made<I>(made: Result<I, NormalizeError>, wanted: &str) -> Answer
+where
+    I: Iterator<Item = Result<char, NormalizeError>> + Drop,
+    requires can { IfOk made I.can_next }
+    requires ends { IfOk made (λ it. IsFinite (I.remaining it)) }
+{
+    match made {
+        Ok(items) => Answer::of(given(items, wanted.chars()) == Answer::Right),
         Err(fault) => fault.answer(),
     }
 }
 
-fn given<I>(items: I, mut wanted: Chars<'_>) -> Answer
+/// How items answer that are to be these characters.
+fn given<I>(mut items: I, mut wanted: Chars<'_>) -> Answer
 where
     I: Iterator<Item = Result<char, NormalizeError>> + Drop,
     requires can { I.can_next items }
     requires ends { IsFinite (I.remaining items) }
 {
-    let mut refusal = None;
-    for item in items {
-        if refusal.is_some() {
-            return Answer::Wrong;
-        }
-        match item {
-            Ok(character) if wanted.next() == Some(character) => {}
-            Err(fault) => refusal = Some(fault.answer()),
-            Ok(_) => return Answer::Wrong,
-        }
-    }
-    match refusal {
-        Some(refusal) => refusal,
+    match items.next() {
+        Some(Err(fault)) => match items.next() {
+            None => fault.answer(),
+            Some(_) => Answer::Wrong,
+        },
+        Some(Ok(first)) => Answer::of(wanted.next() == Some(first) && are(items, wanted)),
         None => Answer::of(wanted.next().is_none()),
     }
+}
+
+/// Whether the items are these characters.
+fn are<I>(items: I, mut wanted: Chars<'_>) -> bool
+where
+    I: Iterator<Item = Result<char, NormalizeError>> + Drop,
+    requires can { I.can_next items }
+    requires ends { IsFinite (I.remaining items) }
+{
+    for item in items {
+        match item {
+            Ok(character) if wanted.next() == Some(character) => {}
+            _ => return false,
+        }
+    }
+    wanted.next().is_none()
 }

@@ -158,6 +158,7 @@ impl Normalizers {
             Call::ComposedItemsOfMarks => self.composed_items_of_marks(),
             Call::ComposedItemsOfShortRuns => self.composed_items_of_short_runs(),
             Call::MappedItems => self.mapped_items(),
+            Call::ValidatedItems => self.validated_items(),
             Call::OwnedText => self.owned_text(),
             Call::OwnedBytes => self.owned_bytes(),
             Call::OwnedUnits => self.owned_units(),
