@@ -150,7 +150,7 @@ pub struct ComposingNormalizerBorrowed<'a> {
 
 impl<'a> ComposingNormalizerBorrowed<'a> {
     ghost use Rattle.normalizer_calls.specs.ComposingNormalizers.{composing_data_of_borrowed, pairs_of_borrowed};
-    ghost use Rattle.normalizer_iterators.specs.Composing.{data_of_composition, pairs_of_composition};
+    ghost use Rattle.normalizer_iterators.specs.Composition.{data_of_composition, pairs_of_composition};
 
     /// The characters of the composed form of what `iter` gives, one by one.
     pub fn normalize_iter<I: Iterator<Item = char> + Drop>(

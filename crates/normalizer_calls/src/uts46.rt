@@ -121,7 +121,7 @@ pub struct Uts46MapperBorrowed<'a> {
 
 impl<'a> Uts46MapperBorrowed<'a> {
     ghost use Rattle.normalizer_tables.specs.declared.characters.IgnoredCharacters.TheVariants.{Dropped, Replaced};
-    ghost use Rattle.normalizer_iterators.specs.Composing.{data_of_composition, pairs_of_composition};
+    ghost use Rattle.normalizer_iterators.specs.Composition.{data_of_composition, pairs_of_composition};
     ghost use Rattle.normalizer_calls.specs.Mappers.{mapper_data_of_borrowed};
 
     /// Whether a character has the class of viramas in the mapper's data.

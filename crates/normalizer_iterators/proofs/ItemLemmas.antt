@@ -6,8 +6,8 @@ use Rattle.normal_forms.specs.Reading.{Reading}
 use Rattle.normal_forms.specs.ShortRuns.{HasShortRuns}
 use Rattle.normalizer_text.specs.Steps.{Spells}
 use Rattle.normalizer_iterators.specs.Decomposition.{WillGive, StaysShort, IsEnded, DecompositionSteps}
-use Rattle.normalizer_iterators.specs.Composing as composing
-use Rattle.normalizer_iterators.specs.Composing.{CompositionSteps}
+use Rattle.normalizer_iterators.specs.Composition as composition
+use Rattle.normalizer_iterators.specs.Composition.{CompositionSteps}
 use Rattle.normalizer_iterators.specs.declared.composition.Composition.{Composition}
 use Rattle.normalizer_iterators.specs.declared.decomposition.Decomposition.{Decomposition}
 use Rattle.normalizer_iterators.specs.declared.error.NormalizeError.{NormalizeError}
@@ -134,11 +134,11 @@ module _ {I : Type 0} (can : I → Type 0) (gives : I → Option ℕ → I → T
   SpellsOk-decomposition = SpellsOk-to_come (WillGive gives) (StaysShort gives) IsEnded (DecompositionSteps can gives left) (λ s r t steps. steps.item)
 
   -- a composition spells what is to come of it
-  pub SpellsUnless-composition : (s : Composition I) (x : List ℕ) → composing.WillGive gives s x → SpellsUnless (CompositionSteps can gives left) Memory s x
-  SpellsUnless-composition = SpellsUnless-to_come (composing.WillGive gives) (composing.StaysShort gives) composing.IsEnded (CompositionSteps can gives left) (λ s r t steps. steps.item)
+  pub SpellsUnless-composition : (s : Composition I) (x : List ℕ) → composition.WillGive gives s x → SpellsUnless (CompositionSteps can gives left) Memory s x
+  SpellsUnless-composition = SpellsUnless-to_come (composition.WillGive gives) (composition.StaysShort gives) composition.IsEnded (CompositionSteps can gives left) (λ s r t steps. steps.item)
 
-  pub SpellsOk-composition : (s : Composition I) (x : List ℕ) → composing.WillGive gives s x → composing.StaysShort gives s → SpellsOk (CompositionSteps can gives left) s x
-  SpellsOk-composition = SpellsOk-to_come (composing.WillGive gives) (composing.StaysShort gives) composing.IsEnded (CompositionSteps can gives left) (λ s r t steps. steps.item)
+  pub SpellsOk-composition : (s : Composition I) (x : List ℕ) → composition.WillGive gives s x → composition.StaysShort gives s → SpellsOk (CompositionSteps can gives left) s x
+  SpellsOk-composition = SpellsOk-to_come (composition.WillGive gives) (composition.StaysShort gives) composition.IsEnded (CompositionSteps can gives left) (λ s r t steps. steps.item)
 
 -- ---- what a maker answers
 

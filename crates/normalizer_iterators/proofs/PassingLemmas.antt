@@ -1,5 +1,5 @@
 -- Characters that a composing loop passes, in a text that is decomposed.
-use Rattle.std.proofs.Common.{◌≡◌, ℕ, ◌+◌, ◌*◌, ◌<◌, Bool, false, List, [], ◌∷◌, ◌++◌, length, refl, sym, ap, ◌∙◌, subst, arith, Option, Some, None, IfSome, OnSome, MatchOption, option_to_list}
+use Rattle.std.proofs.Common.{◌≡◌, ℕ, ◌+◌, ◌*◌, ◌<◌, Bool, false, List, [], ◌∷◌, ◌++◌, length, refl, sym, ap, ◌∙◌, subst, arith, Option, Some, None, OnSome, MatchOption, option_to_list}
 use Rattle.std.proofs.Common.{append-nil}
 use Rattle.std.specs.Option.{ForSome}
 use Rattle.std.specs.Iterator.{Count, size, IsFinite}
@@ -31,7 +31,7 @@ use Rattle.normalizer_iterators.specs.ReadingOn.{ReadsChunk}
 use Rattle.normalizer_iterators.specs.ToCome.{reads_left}
 use Rattle.normalizer_iterators.specs.WaitingList.{ordered}
 use Rattle.normalizer_iterators.proofs.ComposingLemmas.{nfd-reading_by, nfc-reading_by}
-use Rattle.normalizer_iterators.proofs.DecompositionLemmas.{Steps-chunk, Goes-chunk}
+use Rattle.normalizer_iterators.proofs.DecompositionLemmas.{at_some, Steps-chunk, Goes-chunk}
 use Rattle.normalizer_iterators.proofs.LazyLemmas.{continues-anew, spelled_next}
 
 -- ---- what stands apart
@@ -43,13 +43,11 @@ begins_anew s b pairs suits ignored = record {
 
 pub all_anew : (s : Characters) (b : Bounds) (ignored : IgnoredCharacters) → PassedBeginAnew s b ignored → (following : Option ℕ) → AllPassed s b following
     → ForSome following (λ c. continues (has_class_form s) (decomposing_reading s ignored) c ≡ false)
-all_anew s b ignored anew None passed = λ c e. cc
-all_anew s b ignored anew (Some e) passed = λ c is. let same : e ≡ c = cc in subst (λ k. continues (has_class_form s) (decomposing_reading s ignored) k ≡ false) same (anew.anew e passed)
+all_anew s b ignored anew following passed = λ c is. anew.anew c (at_some following (IsPassed s b) passed c is)
 
 pub all_apart : (s : Characters) (b : Bounds) (pairs : List Pair) → SuitsLazyComposing s b pairs → (ignored : IgnoredCharacters) (following : Option ℕ) → AllPassed s b following
-    → IfSome following (StandsApartIn s pairs ignored)
-all_apart s b pairs suits ignored None passed = tt
-all_apart s b pairs suits ignored (Some c) passed = suits.apart ignored c passed
+    → ForSome following (StandsApartIn s pairs ignored)
+all_apart s b pairs suits ignored following passed = λ c is. suits.apart ignored c (at_some following (IsPassed s b) passed c is)
 
 first_passed : (s : Characters) (b : Bounds) (pending : Option ℕ) → MatchOption pending ⊥ (IsPassed s b) → AllPassed s b pending
 first_passed s b None h = tt
@@ -84,14 +82,15 @@ BeginsSafely-apart f d c apart = by (d.list c) refl
 
 -- what stands apart and what is behind it begin safely
 begins_apart : {I : Type 0} (gives : I → Option ℕ → I → Type 0) (s : Characters) (pairs : List Pair) (ignored : IgnoredCharacters) (following : Option ℕ) (u : I) (rest : List ℕ)
-    → IfSome following (StandsApartIn s pairs ignored) → SpellsBehind gives following u rest
+    → ForSome following (StandsApartIn s pairs ignored) → SpellsBehind gives following u rest
     → BeginsSafely (reading_of s (ignored_list ignored) (pair_of pairs)) (expand (reading_of s (ignored_list ignored) (pair_of pairs)) (option_to_list following ++ rest))
 unfolding expand
 begins_apart gives s pairs ignored None u rest apart source =
     subst (λ l. BeginsSafely (reading_of s (ignored_list ignored) (pair_of pairs)) (expand (reading_of s (ignored_list ignored) (pair_of pairs)) l)) (sym source) tt
 begins_apart gives s pairs ignored (Some e) u rest apart source =
-    BeginsSafely-expand (reading_of s (ignored_list ignored) (pair_of pairs)) e rest apart.inhabited
-    (BeginsSafely-apart (has_class_form s) (reading_of s (ignored_list ignored) (pair_of pairs)) e apart)
+    let stands = apart e refl in
+    BeginsSafely-expand (reading_of s (ignored_list ignored) (pair_of pairs)) e rest stands.inhabited
+    (BeginsSafely-apart (has_class_form s) (reading_of s (ignored_list ignored) (pair_of pairs)) e stands)
 
 -- only classes and pairs matter to where a text may begin
 BeginsSafely-pairs : (s : Characters) (pairs : List Pair) (ignored : IgnoredCharacters) (x : List ℕ) → BeginsSafely (reading_of s (ignored_list ignored) (pair_of pairs)) x
@@ -123,11 +122,11 @@ module _ {I : Type 0} (can : I → Type 0) (gives : I → Option ℕ → I → T
 
   module _ (b : Bounds) (suits : SuitsLazyComposing s.characters b pairs) (c : ℕ) (pending : pending_of s ≡ Some c) where
     first_apart : StandsApartIn s.characters pairs s.ignored c
-    first_apart = subst (λ o. IfSome o (StandsApartIn s.characters pairs s.ignored)) pending here.apart
+    first_apart = here.apart c pending
 
     module _ (following : Option ℕ) (t : Decomposition I) (step : gives s.delegate following t.delegate)
         (near : OnSome following (can t.delegate × IsFinite (left t.delegate) × (size (left t.delegate) < size (left s.delegate))))
-        (apart : IfSome following (StandsApartIn s.characters pairs s.ignored)) (reads : pending_of t ≡ following) (empty : ordered t.waiting ≡ []) (characters : t.characters ≡ s.characters)
+        (apart : ForSome following (StandsApartIn s.characters pairs s.ignored)) (reads : pending_of t ≡ following) (empty : ordered t.waiting ≡ []) (characters : t.characters ≡ s.characters)
         (ignored : t.ignored ≡ s.ignored) where
       to_come : (y : List ℕ) → WillGive gives s y → (own : List ℕ) × (rest : List ℕ) × (y ≡ own ++ rest)
           × (compose_by_starters (composing_reading s.characters pairs) y ≡ c ∷ compose_by_starters (composing_reading s.characters pairs) rest) × WillGive gives t rest

@@ -1,4 +1,5 @@
 pub mod Composing
+pub mod Composition
 pub mod Decomposition
 pub mod Delegate
 pub mod Items

@@ -2,6 +2,7 @@
 use Rattle.std.specs.Prelude.{◌≡◌, ℕ, ◌<◌, List, [], ◌∷◌, ◌++◌, Option, Some, None, Result, Ok, Err, IfSome}
 use Rattle.std.specs.Prelude.{MatchOption}
 use Rattle.std.specs.Iterator.{Count}
+use Rattle.std.specs.Option.{ForSome}
 use Rattle.normal_forms.specs.Reading.{IsStarter}
 use Rattle.normal_forms.specs.CompositionByStarters.{compose_by_starters}
 use Rattle.normalizer_tables.specs.declared.condition.Bounds.{Bounds}
@@ -29,7 +30,7 @@ module _ {I : Type 0} where
   -- nothing waits, and the character that is read next, if there is one, stands apart
   pub record IsAtPassed (pairs : List Pair) (s : Decomposition I) : Type 0 where
     pub waiting : ordered s.waiting ≡ []
-    pub apart : IfSome (pending_of s) (StandsApartIn s.characters pairs s.ignored)
+    pub apart : ForSome (pending_of s) (StandsApartIn s.characters pairs s.ignored)
 
   -- c was given as it is: what was to come for it composes to c alone, apart from the rest
   pub record PassesOn (can : I → Type 0) (gives : I → Option ℕ → I → Type 0) (left : I → Count) (pairs : List Pair)

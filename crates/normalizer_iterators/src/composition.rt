@@ -16,27 +16,13 @@ ghost use Rattle.normalizer_tables.specs.declared.condition.Bounds.{Bounds};
 ghost use Rattle.normalizer_tables.specs.declared.condition.Condition.TheVariants as condition;
 ghost use Rattle.normalizer_tables.specs.Pairs.{pair_of};
 ghost use Rattle.normalizer_text.specs.Steps.{Spells};
+ghost use Rattle.normalizer_iterators.specs.declared.composition.Ahead.TheVariants.{Passed};
 ghost use Rattle.normalizer_iterators.specs.Decomposition.{CanDecompose};
-ghost use Rattle.normalizer_iterators.specs.Items.{GivesForm};
 ghost use Rattle.normalizer_iterators.specs.LazyComposing.{SuitsLazyComposing};
 ghost use Rattle.normalizer_iterators.specs.Passing.{IsAtPassed};
 ghost use Rattle.normalizer_iterators.specs.LazyReading.{decomposing_reading, reading_by, SuitsLazyReading};
 ghost use Rattle.normalizer_iterators.specs.StayingMarks.{staying, used, BlocksBelow};
-ghost use Rattle.normalizer_iterators.specs.Composing.{
-  CanCompose,
-  ComposesOn,
-  ComposesStarter,
-  CompositionSteps,
-  GivesShort,
-  HasVisited,
-  IsBeforeStarter,
-  StaysShort,
-  WherePassed,
-  WillGive,
-  data_of_composition,
-  items_left,
-  pairs_of_composition,
-};
+ghost use Rattle.normalizer_iterators.specs.Composing.{ComposesStarter, GivesShort, HasVisited, IsBeforeStarter};
 
 use crate::decomposition::Decomposition;
 use crate::decomposition::passing::Given;
@@ -47,6 +33,10 @@ use normalizer_tables::CanonicalCompositions;
 use normalizer_tables::characters::{CharacterData, IgnoredCharacters};
 use normalizer_tables::condition::Bounds;
 use std::alloc::AllocError;
+
+mod making;
+
+pub use making::composed;
 
 /// The characters of a text, decomposed, in canonical order, and composed.
 ///
@@ -59,6 +49,8 @@ pub struct Composition<'data, I> {
     bounds: Bounds,
     marks: StayingMarks,
     ahead: Ahead,
+    ghost suits: { SuitsLazyComposing decomposed.characters bounds pairs.now },
+    ghost passed: { ahead ≡ Passed → IsAtPassed pairs.now decomposed },
 }
 
 /// What comes behind the marks that stay.
@@ -86,6 +78,17 @@ enum Visited {
 }
 
 impl<'data, I: Iterator<Item = char> + Drop> Composition<'data, I> {
+    ghost use Rattle.normalizer_iterators.specs.Composition.{
+      CanCompose,
+      ComposesOn,
+      CompositionSteps,
+      StaysShort,
+      WillGive,
+      data_of_composition,
+      items_left,
+      pairs_of_composition,
+    };
+
     /// Reads the delegate up to its first character that begins anew.
     fn over(
         characters: CharacterData<'data>,
@@ -138,7 +141,8 @@ impl<'data, I: Iterator<Item = char> + Drop> Composition<'data, I> {
     /// Composes a starter with what follows it.
     fn compose_on(&mut self, starter: char) -> Result<char, NormalizeError>
         requires { CanCompose I.can_next I.remaining self.old }
-        ensures { ComposesOn I.can_next I.next_gives I.remaining starter self.old result self.new }
+        ensures { ComposesOn I.can_next I.next_gives I.remaining starter self.old.decomposed self.old.pairs.now
+            result self.new }
     {
         match compose_starter(
             &mut self.decomposed,
@@ -190,29 +194,6 @@ impl<'data, I: Iterator<Item = char> + Drop> Composition<'data, I> {
     }
 }
 
-/// The composed form of what a delegate gives, character by character, by data and pairs that may be read and composed
-/// lazily.
-pub fn composed<'data, I: Iterator<Item = char> + Drop>(
-    characters: CharacterData<'data>,
-    ignored: IgnoredCharacters,
-    pairs: &'data CanonicalCompositions,
-    bounds: Bounds,
-    delegate: I,
-) -> Result<Composition<'data, I>, NormalizeError>
-    requires can { I.can_next delegate }
-    requires ends { IsFinite (I.remaining delegate) }
-    requires reading { SuitsLazyReading (has_class_form characters) (decomposing_reading characters ignored) }
-    requires composing { SuitsLazyComposing characters bounds pairs.now }
-    ensures form { GivesForm I.next_gives ⟦<Composition<'data, I> as Iterator>⟧.next_gives
-        (has_class_form characters.entry)
-        (reading_by characters.entry ignored pairs.now) nfc delegate result }
-    ensures ready { IfOk result ⟦<Composition<'data, I> as Iterator>⟧.can_next }
-    ensures kept { IfOk result (λ it.
-        (data_of_composition it ≡ characters.entry) × (pairs_of_composition it ≡ pairs.now)) }
-{
-    Composition::over(characters, ignored, pairs, bounds, delegate)
-}
-
 /// What a starter becomes by the characters that follow it, up to a character that is passed or the next starter that
 /// doesn't join; and what is ahead then, behind the marks that stay.
 fn compose_starter<I: Iterator<Item = char> + Drop>(
@@ -226,7 +207,7 @@ fn compose_starter<I: Iterator<Item = char> + Drop>(
     requires suits { SuitsLazyComposing decomposed.old.characters bounds pairs.now }
     ensures ready { CanDecompose I.can_next I.remaining decomposed.new }
     ensures kept { decomposed.new.characters ≡ decomposed.old.characters }
-    ensures passed { IfOk result (λ r. WherePassed r.1 (IsAtPassed pairs.now decomposed.new)) }
+    ensures passed { IfOk result (λ r. r.1 ≡ Ahead.Passed → IsAtPassed pairs.now decomposed.new) }
     ensures steps { let d = composing_reading decomposed.old.characters pairs.now in MatchResult result
         (λ r. ComposesStarter I.next_gives I.remaining d starter decomposed.old r.0 (staying marks.new) r.1
         decomposed.new)
@@ -293,6 +274,8 @@ fn join(
 }
 
 impl<'data, I: Iterator<Item = char> + Drop> Iterator for Composition<'data, I> {
+    ghost use Rattle.normalizer_iterators.specs.Composition.{CanCompose, CompositionSteps, items_left};
+
     type Item = Result<char, NormalizeError>;
 
     ghost can_next = { CanCompose I.can_next I.remaining };

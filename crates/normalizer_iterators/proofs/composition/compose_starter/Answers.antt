@@ -75,7 +75,7 @@ returns-clause-steps g c =
     (BeginsSafely-to_come g.I.Iterator.can_next g.I.Iterator.next_gives g.I.Iterator.remaining c.args.pairs.now c.loop-bounds.decomposed here y h))
 
 pub returns-clause-passed : goal.returns-clause-passed
-returns-clause-passed g c =
+returns-clause-passed g c = λ _.
     let same = c.loop-bounds.invariant.kept in
     let suits = subst (λ k. SuitsLazyComposing k c.args.bounds c.args.pairs.now) (sym same) c.requires.suits in
     IsAtPassed-stands c.args.bounds c.args.pairs.now c.loop-bounds.decomposed suits (c.is_at_passed.ensures.0 c.loop-bounds-test.false)

@@ -16,7 +16,8 @@ returns-clause-text g c = λ x spelled.
     let ignored = c.args.ignored in
     let pairs = c.args.pairs.now in
     let y = nfd (decomposing_reading s ignored) x in
-    behind_by g.I.Iterator.can_next g.I.Iterator.next_gives g.I.Iterator.remaining _ s pairs _ NoStarter _ _ c.in_ok-over.ensures.kept.0 (record {
+    behind_by g.I.Iterator.can_next g.I.Iterator.next_gives g.I.Iterator.remaining _ (composing_reading s pairs) _ NoStarter _ _
+    (ap (λ k. composing_reading k pairs) c.in_ok-over.ensures.kept.0) (record {
       unread = y;
       source = c.in_ok-over.ensures.text x spelled;
       text =
@@ -28,7 +29,8 @@ pub returns-clause-short : goal.returns-clause-short
 returns-clause-short g c = λ x spelled runs.
     let s = c.args.characters in
     let ignored = c.args.ignored in
-    short_by g.I.Iterator.can_next g.I.Iterator.next_gives g.I.Iterator.remaining _ s c.args.pairs.now NoStarter _ c.in_ok-over.ensures.kept.0 (record {
+    short_by g.I.Iterator.can_next g.I.Iterator.next_gives g.I.Iterator.remaining _ (composing_reading s c.args.pairs.now) NoStarter _
+    (ap (λ k. composing_reading k c.args.pairs.now) c.in_ok-over.ensures.kept.0) (record {
       unread = nfd (decomposing_reading s ignored) x;
       source = c.in_ok-over.ensures.text x spelled;
       short = c.in_ok-over.ensures.short x spelled runs;

@@ -1,3 +1,4 @@
+use Rattle.std.proofs.Common.{refl}
 use Rattle.normalizer_iterators.proofs.CompositionLemmas.{Steps-fault, Steps-end, Steps-first_starter, Steps-passed, Goes-passed, Goes-first_starter, Goes-fault}
 use Rattle.normalizer_iterators.proofs.PassingLemmas.{begins_anew}
 use Rattle.normalizer_iterators.proofs.composition.Composition.pass.Goals as goal
@@ -6,71 +7,99 @@ pub pass-requires : goal.pass-requires
 pass-requires g c =
     let s = c.args.self.now in
     record {
-      can = c.requires.can.source;
-      anew = begins_anew s.decomposed.characters s.bounds s.pairs.now
-          c.requires.can.suits s.decomposed.ignored;
+      can = c.requires.can;
+      anew = begins_anew s.decomposed.characters s.bounds s.pairs.now s.suits s.decomposed.ignored;
       empty = c.requires.at_passed.waiting;
     }
 
-pub compose_on-requires : goal.compose_on-requires
-compose_on-requires g c =
-    let s = c.args.self.now in
-    let suits = c.requires.can.suits in
-    let reached = rw c.in-Some-Ok-FirstMember.field-0-is at c.in-Some-Ok-FirstMember.ensures s.pairs.now suits c.requires.at_passed in
-    let given = rw c.in-Some-Ok-FirstMember.field-0-0-is at reached in
-    record { source = given.steps.ready c.requires.can.source; suits = rw given.steps.kept.0 c.requires.can.suits; passed = tt }
+-- ---- a character is given as it is
 
 pub returns-in-Some-Ok-Itself-clause-steps : goal.returns-in-Some-Ok-Itself-clause-steps
 returns-in-Some-Ok-Itself-clause-steps g c =
     let s = c.args.self.now in
-    let suits = c.requires.can.suits in
-    let reached = rw c.in-Some-Ok-Itself.field-0-is at c.in-Some-Ok-Itself.ensures s.pairs.now suits c.requires.at_passed in
+    let reached = rw c.in-Some-Ok-Itself.field-0-is at c.in-Some-Ok-Itself.ensures s.pairs.now s.suits c.requires.at_passed in
     let given = rw c.in-Some-Ok-Itself.field-0-0-is at reached in
-    Steps-passed g.I.Iterator.can_next g.I.Iterator.next_gives g.I.Iterator.remaining s c.requires.ahead c.requires.marks c.in-Some-Ok-Itself.character c.pass.new.self c.requires.can given
+    Steps-passed g.I.Iterator.can_next g.I.Iterator.next_gives g.I.Iterator.remaining s c.requires.ahead c.requires.marks _ c.in-Some-Ok-Itself.character
+    (record { kept = (given.kept, refl); marks = c.requires.marks; ahead = refl }) given
 
 pub returns-in-Some-Ok-Itself-clause-goes : goal.returns-in-Some-Ok-Itself-clause-goes
 returns-in-Some-Ok-Itself-clause-goes g c =
     let s = c.args.self.now in
-    let suits = c.requires.can.suits in
-    let reached = rw c.in-Some-Ok-Itself.field-0-is at c.in-Some-Ok-Itself.ensures s.pairs.now suits c.requires.at_passed in
+    let reached = rw c.in-Some-Ok-Itself.field-0-is at c.in-Some-Ok-Itself.ensures s.pairs.now s.suits c.requires.at_passed in
     let given = rw c.in-Some-Ok-Itself.field-0-0-is at reached in
-    Goes-passed g.I.Iterator.can_next g.I.Iterator.next_gives g.I.Iterator.remaining s c.requires.ahead c.requires.marks c.in-Some-Ok-Itself.character c.pass.new.self c.requires.can given
+    Goes-passed g.I.Iterator.can_next g.I.Iterator.next_gives g.I.Iterator.remaining s c.requires.ahead c.requires.marks _ c.in-Some-Ok-Itself.character
+    (record { kept = (given.kept, refl); marks = c.requires.marks; ahead = refl }) given
+
+pub invariant_of-self : goal.invariant_of-self
+invariant_of-self g c =
+    let s = c.args.self.now in
+    let reached = rw c.in-Some-Ok-Itself.field-0-is at c.in-Some-Ok-Itself.ensures s.pairs.now s.suits c.requires.at_passed in
+    let given = rw c.in-Some-Ok-Itself.field-0-0-is at reached in
+    record { suits = rw given.kept s.suits; passed = λ is. given.at_passed }
+
+-- ---- the first member of its list is composed
+
+pub compose_on-requires : goal.compose_on-requires
+compose_on-requires g c =
+    let s = c.args.self.now in
+    let reached = rw c.in-Some-Ok-FirstMember.field-0-is at c.in-Some-Ok-FirstMember.ensures s.pairs.now s.suits c.requires.at_passed in
+    let given = rw c.in-Some-Ok-FirstMember.field-0-0-is at reached in
+    given.steps.ready c.requires.can
+
+pub invariant_of-self-in-Some-Ok-FirstMember : goal.invariant_of-self-in-Some-Ok-FirstMember
+invariant_of-self-in-Some-Ok-FirstMember g c =
+    let s = c.args.self.now in
+    let reached = rw c.in-Some-Ok-FirstMember.field-0-is at c.in-Some-Ok-FirstMember.ensures s.pairs.now s.suits c.requires.at_passed in
+    let given = rw c.in-Some-Ok-FirstMember.field-0-0-is at reached in
+    record { suits = rw given.steps.kept.0 s.suits; passed = λ is. cc is }
 
 pub returns-in-Some-Ok-FirstMember-clause-steps : goal.returns-in-Some-Ok-FirstMember-clause-steps
 returns-in-Some-Ok-FirstMember-clause-steps g c =
     let s = c.args.self.now in
-    let suits = c.requires.can.suits in
-    let reached = rw c.in-Some-Ok-FirstMember.field-0-is at c.in-Some-Ok-FirstMember.ensures s.pairs.now suits c.requires.at_passed in
+    let reached = rw c.in-Some-Ok-FirstMember.field-0-is at c.in-Some-Ok-FirstMember.ensures s.pairs.now s.suits c.requires.at_passed in
     let given = rw c.in-Some-Ok-FirstMember.field-0-0-is at reached in
-    let starter = given.starter s.pairs.now in
-    Steps-first_starter g.I.Iterator.can_next g.I.Iterator.next_gives g.I.Iterator.remaining s c.requires.ahead c.requires.marks c.in-Some-Ok-FirstMember.starter s.marks c.pass.new.self _ _ _
-    given.steps starter c.compose_on.ensures
+    Steps-first_starter g.I.Iterator.can_next g.I.Iterator.next_gives g.I.Iterator.remaining s c.requires.ahead c.requires.marks c.in-Some-Ok-FirstMember.starter c.pass.new.self _ _
+    given.steps (given.starter s.pairs.now) c.compose_on.ensures
 
 pub returns-in-Some-Ok-FirstMember-clause-goes : goal.returns-in-Some-Ok-FirstMember-clause-goes
 returns-in-Some-Ok-FirstMember-clause-goes g c =
     let s = c.args.self.now in
-    let suits = c.requires.can.suits in
-    let reached = rw c.in-Some-Ok-FirstMember.field-0-is at c.in-Some-Ok-FirstMember.ensures s.pairs.now suits c.requires.at_passed in
+    let reached = rw c.in-Some-Ok-FirstMember.field-0-is at c.in-Some-Ok-FirstMember.ensures s.pairs.now s.suits c.requires.at_passed in
     let given = rw c.in-Some-Ok-FirstMember.field-0-0-is at reached in
-    Goes-first_starter g.I.Iterator.can_next g.I.Iterator.next_gives g.I.Iterator.remaining s c.requires.ahead c.requires.marks c.in-Some-Ok-FirstMember.starter s.marks c.pass.new.self _ _ _ given
-    c.compose_on.ensures
+    Goes-first_starter g.I.Iterator.can_next g.I.Iterator.next_gives g.I.Iterator.remaining s c.requires.ahead c.requires.marks c.in-Some-Ok-FirstMember.starter c.pass.new.self _ _
+    given c.compose_on.ensures
+
+-- ---- a fault, or the end
 
 pub returns-in-Some-Err-clause-steps : goal.returns-in-Some-Err-clause-steps
 returns-in-Some-Err-clause-steps g c =
     let s = c.args.self.now in
-    let suits = c.requires.can.suits in
-    let reached = rw c.in-Some-Err.field-0-is at c.in-Some-Err.ensures s.pairs.now suits c.requires.at_passed in
-    Steps-fault g.I.Iterator.can_next g.I.Iterator.next_gives g.I.Iterator.remaining s c.requires.ahead c.in-Some-Err.error s.marks c.pass.new.self c.requires.marks reached.0
+    let reached = rw c.in-Some-Err.field-0-is at c.in-Some-Err.ensures s.pairs.now s.suits c.requires.at_passed in
+    Steps-fault g.I.Iterator.can_next g.I.Iterator.next_gives g.I.Iterator.remaining s c.requires.ahead c.requires.marks _ c.in-Some-Err.error
+    (record { kept = (reached.0.kept.0, refl); marks = c.requires.marks; ahead = refl }) reached.0
 
 pub returns-in-Some-Err-clause-goes : goal.returns-in-Some-Err-clause-goes
 returns-in-Some-Err-clause-goes g c =
     let s = c.args.self.now in
-    let suits = c.requires.can.suits in
-    let reached = rw c.in-Some-Err.field-0-is at c.in-Some-Err.ensures s.pairs.now suits c.requires.at_passed in
-    Goes-fault g.I.Iterator.can_next g.I.Iterator.next_gives g.I.Iterator.remaining s c.requires.ahead c.requires.marks c.in-Some-Err.error c.pass.new.self c.requires.can reached.0 reached.1
+    let reached = rw c.in-Some-Err.field-0-is at c.in-Some-Err.ensures s.pairs.now s.suits c.requires.at_passed in
+    Goes-fault g.I.Iterator.can_next g.I.Iterator.next_gives g.I.Iterator.remaining s c.requires.ahead c.requires.marks _ c.in-Some-Err.error
+    (record { kept = (reached.0.kept.0, refl); marks = c.requires.marks; ahead = refl }) (reached.0.ready c.requires.can) reached.1
+
+pub invariant_of-self-in-Some-Err : goal.invariant_of-self-in-Some-Err
+invariant_of-self-in-Some-Err g c =
+    let s = c.args.self.now in
+    let reached = rw c.in-Some-Err.field-0-is at c.in-Some-Err.ensures s.pairs.now s.suits c.requires.at_passed in
+    record { suits = rw reached.0.kept.0 s.suits; passed = λ is. cc is }
 
 pub returns-in-None-clause-steps : goal.returns-in-None-clause-steps
 returns-in-None-clause-steps g c =
     let s = c.args.self.now in
-    Steps-end g.I.Iterator.can_next g.I.Iterator.next_gives g.I.Iterator.remaining s c.requires.ahead c.requires.marks s.marks c.pass.new.self c.requires.marks
-    (c.in-None.ensures s.pairs.now c.requires.can.suits c.requires.at_passed)
+    let end = c.in-None.ensures s.pairs.now s.suits c.requires.at_passed in
+    Steps-end g.I.Iterator.can_next g.I.Iterator.next_gives g.I.Iterator.remaining s c.requires.ahead c.requires.marks _
+    (record { kept = (end.kept.0, refl); marks = c.requires.marks; ahead = refl }) end
+
+pub invariant_of-self-in-None : goal.invariant_of-self-in-None
+invariant_of-self-in-None g c =
+    let s = c.args.self.now in
+    let end = c.in-None.ensures s.pairs.now s.suits c.requires.at_passed in
+    record { suits = rw end.kept.0 s.suits; passed = λ is. cc is }

@@ -1,4 +1,5 @@
-use Rattle.std.proofs.Common.{refl, sym, ap, subst, Err, IfSome}
+use Rattle.std.proofs.Common.{refl, sym, ap, subst, Err}
+use Rattle.std.specs.Option.{ForSome}
 use Rattle.normalizer_iterators.specs.LazyComposing.{StandsApartIn}
 use Rattle.normalizer_iterators.specs.Reads.{character_of}
 use Rattle.normalizer_iterators.proofs.DecompositionLemmas.{Steps-ended, Steps-read, Goes-read, ready_behind}
@@ -40,7 +41,7 @@ returns-then-are_passed g c = λ pairs suits here.
     let ready = ready_behind g.I.Iterator.can_next g.I.Iterator.remaining s c.in_ok-read.read.character pending c.requires.can in
     let near = c.next.ensures.goes.on ready.1 in
     PassesOn-next g.I.Iterator.can_next g.I.Iterator.next_gives g.I.Iterator.remaining pairs s here c.args.bounds suits c.in_ok-read.read.character pending _ _ c.next.ensures.steps near
-    (subst (λ o. IfSome o (StandsApartIn s.characters pairs s.ignored)) c.read_from-following.ensures.character
+    (subst (λ o. ForSome o (StandsApartIn s.characters pairs s.ignored)) c.read_from-following.ensures.character
     (all_apart s.characters c.args.bounds pairs suits s.ignored _ (c.are_passed.ensures.0 c.if-are_passed.true)))
     c.read_from-following.ensures.character here.waiting refl refl
 

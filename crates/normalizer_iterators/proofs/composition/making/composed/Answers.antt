@@ -1,11 +1,11 @@
 use Rattle.normal_forms.specs.Forms.{nfc}
 use Rattle.normal_forms.specs.ShortRuns.{HasShortRuns}
 use Rattle.normalizer_tables.specs.Characters.{has_class_form}
-use Rattle.normalizer_iterators.specs.Composing.{WillGive, StaysShort, CompositionSteps}
+use Rattle.normalizer_iterators.specs.Composition.{WillGive, StaysShort, CompositionSteps}
 use Rattle.normalizer_iterators.specs.LazyReading.{decomposing_reading, reading_by}
 use Rattle.normalizer_iterators.proofs.ComposingLemmas.{HasShortRuns-reading_by}
 use Rattle.normalizer_iterators.proofs.ItemLemmas.{GivesForm-made, SpellsOk-composition, SpellsUnless-composition}
-use Rattle.normalizer_iterators.proofs.composition.composed.Goals as goal
+use Rattle.normalizer_iterators.proofs.composition.making.composed.Goals as goal
 
 pub returns-clause-form : goal.returns-clause-form
 returns-clause-form g c =

@@ -1,0 +1,65 @@
+-- What is still to come of a composition.
+use Rattle.std.specs.Prelude.{◌≡◌, ℕ, ◌+◌, ◌≤◌, List, [], length, Option, Result, MatchResult, IfErr, IsOk, OnErr}
+use Rattle.std.specs.Iterator.{Count}
+use Rattle.normal_forms.specs.Reading.{Reading}
+use Rattle.normal_forms.specs.CompositionByStarters.{compose_after}
+use Rattle.normalizer_tables.specs.Characters.{Characters}
+use Rattle.normalizer_tables.specs.PairConditions.{composing_reading}
+use Rattle.normalizer_tables.specs.Pairs.{Pair}
+use Rattle.normalizer_iterators.specs.declared.composition.Ahead.TheVariants.{Ended}
+use Rattle.normalizer_iterators.specs.declared.composition.Composition.{Composition}
+use Rattle.normalizer_iterators.specs.declared.decomposition.Decomposition.{Decomposition}
+use Rattle.normalizer_iterators.specs.declared.error.NormalizeError.{NormalizeError}
+use Rattle.normalizer_iterators.specs.declared.error.NormalizeError.TheVariants.{Memory}
+use Rattle.normalizer_iterators.specs.Composing.{UnlessEnded, WillGiveBehind, GivesShort, ahead_left}
+use Rattle.normalizer_iterators.specs.Decomposition as decomposition
+use Rattle.normalizer_iterators.specs.NextItem.{GaveFirst, GivesNext}
+use Rattle.normalizer_iterators.specs.StayingMarks.{staying}
+
+module _ {I : Type 0} where
+  -- the data and the pairs by which it composes
+  abbrev pub data_of_composition : Composition I → Characters
+  data_of_composition s = s.decomposed.characters
+
+  abbrev pub pairs_of_composition : Composition I → List Pair
+  pairs_of_composition s = s.pairs.now
+
+  abbrev pub pairing_by : Composition I → Reading
+  pairing_by s = composing_reading (data_of_composition s) (pairs_of_composition s)
+
+  -- these characters, where memory suffices
+  abbrev pub WillGive : (I → Option ℕ → I → Type 0) → Composition I → List ℕ → Type 0
+  WillGive gives s out = WillGiveBehind gives (pairing_by s) (staying s.marks) s.ahead s.decomposed out
+
+  -- the runs that are still to come are short
+  abbrev pub StaysShort : (I → Option ℕ → I → Type 0) → Composition I → Type 0
+  StaysShort gives s = UnlessEnded s.ahead (GivesShort gives (pairing_by s) s.decomposed)
+
+  abbrev pub IsEnded : Composition I → Type 0
+  IsEnded s = (s.ahead ≡ Ended) × (staying s.marks ≡ [])
+
+  abbrev pub CanCompose : (I → Type 0) → (I → Count) → Composition I → Type 0
+  CanCompose can left s = decomposition.CanDecompose can left s.decomposed
+
+  -- no more characters than this come
+  abbrev pub items_left : (I → Count) → Composition I → ℕ
+  items_left left s = length (staying s.marks) + ahead_left s.ahead (decomposition.items_left left s.decomposed)
+
+  -- a starter was composed with what was decomposed behind it, and given, or a fault came
+  pub record ComposesOn (can : I → Type 0) (gives : I → Option ℕ → I → Type 0) (left : I → Count) (starter : ℕ)
+      (old : Decomposition I) (pairs : List Pair) (r : Result ℕ NormalizeError) (t : Composition I) : Type 0 where
+    pub first : (y : List ℕ) → decomposition.WillGive gives old y → MatchResult r
+        (GaveFirst (WillGive gives) (compose_after (composing_reading old.characters pairs) starter [] y) t)
+        (λ _. WillGive gives t [])
+    pub fault : IfErr r (λ e. e ≡ Memory)
+    pub room : GivesShort gives (composing_reading old.characters pairs) old → IsOk r × StaysShort gives t
+    pub ends : OnErr r (IsEnded t)
+    pub ready : CanCompose can left t
+    pub fewer : items_left left t ≤ decomposition.items_left left old
+    pub kept : (t.decomposed.characters ≡ old.characters) × (t.pairs.now ≡ pairs)
+
+  pub record CompositionSteps (can : I → Type 0) (gives : I → Option ℕ → I → Type 0) (left : I → Count)
+      (s : Composition I) (r : Option (Result ℕ NormalizeError)) (t : Composition I) : Type 0 where
+    pub item : GivesNext (WillGive gives) (StaysShort gives) IsEnded s r t
+    pub ready : CanCompose can left s → CanCompose can left t
+    pub kept : (t.decomposed.characters ≡ s.decomposed.characters) × (t.pairs.now ≡ s.pairs.now)

@@ -1,0 +1,38 @@
+//! Making a composition.
+ghost use Rattle.std.specs.Prelude.{◌≡◌, IfOk};
+ghost use Rattle.std.specs.Iterator.{IsFinite};
+ghost use Rattle.normal_forms.specs.Forms.{nfc};
+ghost use Rattle.normalizer_tables.specs.Characters.{has_class_form};
+ghost use Rattle.normalizer_iterators.specs.Composition.{data_of_composition, pairs_of_composition};
+ghost use Rattle.normalizer_iterators.specs.Items.{GivesForm};
+ghost use Rattle.normalizer_iterators.specs.LazyComposing.{SuitsLazyComposing};
+ghost use Rattle.normalizer_iterators.specs.LazyReading.{decomposing_reading, reading_by, SuitsLazyReading};
+
+use crate::composition::Composition;
+use crate::error::NormalizeError;
+use normalizer_tables::CanonicalCompositions;
+use normalizer_tables::characters::{CharacterData, IgnoredCharacters};
+use normalizer_tables::condition::Bounds;
+
+/// The composed form of what a delegate gives, character by character, by data and pairs that may be read and composed
+/// lazily.
+pub fn composed<'data, I: Iterator<Item = char> + Drop>(
+    characters: CharacterData<'data>,
+    ignored: IgnoredCharacters,
+    pairs: &'data CanonicalCompositions,
+    bounds: Bounds,
+    delegate: I,
+) -> Result<Composition<'data, I>, NormalizeError>
+    requires can { I.can_next delegate }
+    requires ends { IsFinite (I.remaining delegate) }
+    requires reading { SuitsLazyReading (has_class_form characters) (decomposing_reading characters ignored) }
+    requires composing { SuitsLazyComposing characters bounds pairs.now }
+    ensures form { GivesForm I.next_gives ⟦<Composition<'data, I> as Iterator>⟧.next_gives
+        (has_class_form characters.entry)
+        (reading_by characters.entry ignored pairs.now) nfc delegate result }
+    ensures ready { IfOk result ⟦<Composition<'data, I> as Iterator>⟧.can_next }
+    ensures kept { IfOk result (λ it.
+        (data_of_composition it ≡ characters.entry) × (pairs_of_composition it ≡ pairs.now)) }
+{
+    Composition::over(characters, ignored, pairs, bounds, delegate)
+}
