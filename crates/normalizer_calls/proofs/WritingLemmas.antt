@@ -1,6 +1,5 @@
 -- Writing characters as an iterator gives them.
 use Rattle.std.proofs.Common.{◌≡◌, ℕ, List, [], ◌∷◌, ◌++◌, Option, Some, None, Result, Ok, Err, append_assoc, append-nil, refl, ap, sym, subst, ◌∙◌, arith, inl}
-use Rattle.std.proofs.lemmas.List.Elements.{All-head}
 use Rattle.std.proofs.lemmas.Result.{IfOk-weaker}
 use Rattle.std.specs.Prelude.{⊤, Bool, OnErr, IsErrOf}
 use Rattle.normal_forms.specs.declared.Form.{Form}
@@ -15,31 +14,8 @@ use Rattle.normalizer_text.proofs.OutputLemmas.{encoded_in-append, encoded_in-ni
 use Rattle.normalizer_iterators.specs.declared.error.NormalizeError.{NormalizeError}
 use Rattle.normalizer_iterators.specs.declared.error.NormalizeError.TheVariants.{Memory, Sink}
 use Rattle.normalizer_iterators.specs.Items.{SpellsOk, SpellsUnless}
+use Rattle.normalizer_iterators.proofs.ItemLemmas.{SpellsOk-next, SpellsOk-no_fault, SpellsUnless-end, SpellsUnless-fault, SpellsUnless-next}
 use Rattle.normalizer_calls.specs.Writing.{TellsLengthFirst, TookBeginning, WritesForm, WritesText}
-
-module _ {I : Type 0} (gives : I → Option (Result ℕ NormalizeError) → I → Type 0) where
-  -- a character that came is the first of those that were left
-  pub SpellsUnless-next : (s t : I) (c : ℕ) (x : List ℕ) → gives s (Some (Ok c)) t → SpellsUnless gives Memory s x → (rest : List ℕ) × (x ≡ c ∷ rest) × SpellsUnless gives Memory t rest
-  SpellsUnless-next s t c [] step h = absurd (h (Some (Ok c)) t step)
-  SpellsUnless-next s t c (d ∷ x) step h = let next = h (Some (Ok c)) t step in (x, ap (λ e. e ∷ x) (sym next.0), next.1)
-
-  -- where none came, none was left
-  pub SpellsUnless-end : (s t : I) (x : List ℕ) → gives s None t → SpellsUnless gives Memory s x → x ≡ []
-  SpellsUnless-end s t [] step h = refl
-  SpellsUnless-end s t (c ∷ x) step h = absurd (h None t step)
-
-  -- an error that came is the fault
-  pub SpellsUnless-fault : (s t : I) (fault : NormalizeError) (x : List ℕ) → gives s (Some (Err fault)) t → SpellsUnless gives Memory s x → fault ≡ Memory
-  SpellsUnless-fault s t fault [] step h = (h (Some (Err fault)) t step).0
-  SpellsUnless-fault s t fault (c ∷ x) step h = (h (Some (Err fault)) t step).0
-
-  SpellsOk-next : (s t : I) (c : ℕ) (x : List ℕ) → gives s (Some (Ok c)) t → SpellsOk gives s x → (rest : List ℕ) × SpellsOk gives t rest
-  SpellsOk-next s t c [] step h = let none : Some (Ok c) ≡ None = All-head (λ r. r ≡ None) (Some (Ok c)) [] (h.at (Some (Ok c) ∷ []) t (t, step, refl)) in absurd (cc)
-  SpellsOk-next s t c (d ∷ x) step h = (x, (h (Some (Ok c)) t step).1)
-
-  pub SpellsOk-no_fault : (s t : I) (fault : NormalizeError) (x : List ℕ) → gives s (Some (Err fault)) t → SpellsOk gives s x → ⊥
-  SpellsOk-no_fault s t fault [] step h = let none : Some (Err fault) ≡ None = All-head (λ r. r ≡ None) (Some (Err fault)) [] (h.at (Some (Err fault) ∷ []) t (t, step, refl)) in cc
-  SpellsOk-no_fault s t fault (d ∷ x) step h = let other : Some (Err fault) ≡ Some (Ok d) = (h (Some (Err fault)) t step).0 in cc
 
 -- a beginning was written of what an iterator gives from `start`, and it has come to `items`
 pub record WroteSoFar {S I : Type 0} (e : Encoding) (taken : S → List ℕ) (refused : S → S → Type 0) (gives : I → Option (Result ℕ NormalizeError) → I → Type 0) (start : I) (old : S) (items : I) (now : S) : Type 0 where
@@ -62,7 +38,7 @@ module _ {S I : Type 0} (e : Encoding) (taken : S → List ℕ) (refused left : 
       text = λ x h.
           let so_far = before.text x h in
           let b = so_far.0 in
-          let came = SpellsUnless-next gives items next c b.rest step so_far.1 in (
+          let came = SpellsUnless-next gives Memory items next c b.rest step so_far.1 in (
             record {
               front = b.front ++ c ∷ [];
               rest = came.0;
@@ -75,7 +51,7 @@ module _ {S I : Type 0} (e : Encoding) (taken : S → List ℕ) (refused left : 
             came.2,
           );
       ahead = λ later h. before.ahead later (answer.written.ahead later h);
-      room = λ x h. let so_far = before.room x h in SpellsOk-next gives items next c so_far.0 step so_far.1;
+      room = λ x h. let so_far = before.room x h in let came = SpellsOk-next gives items next c so_far.0 step so_far.1 in (came.0, came.2);
     }
 
     -- a character was refused
@@ -83,7 +59,7 @@ module _ {S I : Type 0} (e : Encoding) (taken : S → List ℕ) (refused left : 
         → (x : List ℕ) → SpellsUnless gives Memory start x → WritesText e taken refused left refuses offered x old (Err Sink) new
     WritesText-refused c refusal step answer x h =
         let so_far = before.text x h in
-        let came = SpellsUnless-next gives items next c so_far.0.rest step so_far.1 in record {
+        let came = SpellsUnless-next gives Memory items next c so_far.0.rest step so_far.1 in record {
           written = tt;
           ahead = tt;
           fault = λ _. before.ahead new answer.written.fault;
@@ -105,7 +81,7 @@ module _ {S I : Type 0} (e : Encoding) (taken : S → List ℕ) (refused left : 
     pub WritesText-fault : {offered : List ℕ → List ℕ → Type 0} → (fault : NormalizeError) → gives items (Some (Err fault)) next → (x : List ℕ) → SpellsUnless gives Memory start x → WritesText e taken refused left refuses offered x old (Err fault) now
     WritesText-fault fault step x h =
         let so_far = before.text x h in
-        let memory = SpellsUnless-fault gives items next fault so_far.0.rest step so_far.1 in
+        let memory = (SpellsUnless-fault gives Memory items next fault so_far.0.rest step so_far.1).0 in
         record { written = tt; ahead = tt; fault = λ k. absurd (cc); refusal = λ k. absurd (cc); begun = λ _. so_far.0 }
 
     -- which it never does where each item is `Ok`
@@ -117,7 +93,7 @@ module _ {S I : Type 0} (e : Encoding) (taken : S → List ℕ) (refused left : 
     WritesText-all step x h =
         let so_far = before.text x h in
         let b = so_far.0 in
-        let ended = SpellsUnless-end gives items next b.rest step so_far.1 in record {
+        let ended = (SpellsUnless-end gives Memory items next b.rest step so_far.1).0 in record {
           written = b.took ∙ ap (λ y. taken old ++ encoded_in e y) (sym (b.parts ∙ ap (λ y. b.front ++ y) ended ∙ append-nil b.front));
           ahead = before.ahead;
           fault = λ k. absurd (cc);
