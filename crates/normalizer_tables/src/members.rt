@@ -105,7 +105,7 @@ impl<'a> Members<'a> {
         }
     }
 
-    pub(crate) fn one(a: char) -> Self
+    pub fn one(a: char) -> Self
         ensures { result ≡ a ∷ [] }
     {
         Members {
