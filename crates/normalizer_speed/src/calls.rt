@@ -37,18 +37,24 @@ pub enum Call {
     Check,
     CheckUtf8,
     CheckUtf16,
+    /// The form is an answer of its own.
+    HandOut,
+    /// The form comes item by item.
+    Iterate,
     /// Another implementation in the same language.
     PortWrite,
     PortCheck,
 }
 
-pub const CALLS: [(Call, &str); 8] = [
+pub const CALLS: [(Call, &str); 10] = [
     (Call::Write, "normalize_to"),
     (Call::WriteUtf8, "normalize_utf8_to"),
     (Call::WriteUtf16, "normalize_utf16_to"),
     (Call::Check, "is_normalized"),
     (Call::CheckUtf8, "is_normalized_utf8"),
     (Call::CheckUtf16, "is_normalized_utf16"),
+    (Call::HandOut, "normalize"),
+    (Call::Iterate, "normalize_iter"),
     (Call::PortWrite, "unicode_normalization to"),
     (Call::PortCheck, "unicode_normalization is"),
 ];
@@ -95,6 +101,8 @@ pub fn go(
         Call::Check => tell(normalizer.is_normalized(text)?, written),
         Call::CheckUtf8 => tell(normalizer.is_normalized_utf8(text.as_bytes())?, written),
         Call::CheckUtf16 => tell(normalizer.is_normalized_utf16(&corpus.units)?, written),
+        Call::HandOut => normalizer.hand_out(text, &mut written.made),
+        Call::Iterate => normalizer.iterate(text, &mut written.text),
         Call::PortWrite => {
             written.made = by_port(alloc, named.form, text)?;
             Ok(())

@@ -1,5 +1,7 @@
 //! The normalizers of the four forms.
+use crate::fault::Fault;
 use icu_normalizer::{ComposingNormalizer, DecomposingNormalizer, NormalizeError};
+use std::borrow::CowStr;
 use unicode_normalization::Form;
 
 /// A normalizer of one of the two kinds.
@@ -37,6 +39,36 @@ impl Normalizer {
             Normalizer::Decomposing(n) => n.as_borrowed().normalize_utf16_to(units, sink),
             Normalizer::Composing(n) => n.as_borrowed().normalize_utf16_to(units, sink),
         }
+    }
+
+    /// The form as an answer of its own, which is copied where it is borrowed.
+    pub fn hand_out(&self, text: &str, sink: &mut String) -> Result<(), Fault> {
+        let form = match self {
+            Normalizer::Decomposing(n) => n.as_borrowed().normalize(text)?,
+            Normalizer::Composing(n) => n.as_borrowed().normalize(text)?,
+        };
+        match form {
+            CowStr::Borrowed(text) => sink.push_str(text)?,
+            CowStr::Owned(made) => *sink = made,
+        }
+        Ok(())
+    }
+
+    /// The form, item by item.
+    pub fn iterate(&self, text: &str, sink: &mut String) -> Result<(), Fault> {
+        match self {
+            Normalizer::Decomposing(n) => {
+                for item in n.as_borrowed().normalize_iter(text.chars())? {
+                    sink.push(item?)?;
+                }
+            }
+            Normalizer::Composing(n) => {
+                for item in n.as_borrowed().normalize_iter(text.chars())? {
+                    sink.push(item?)?;
+                }
+            }
+        }
+        Ok(())
     }
 
     pub fn is_normalized(&self, text: &str) -> Result<bool, NormalizeError> {
