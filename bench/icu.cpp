@@ -1,9 +1,8 @@
-// Times ICU4C and memcpy as crates/normalizer_speed times its calls: `icu ROUNDS FILE..`, with the same lines.
+// Times ICU4C: `icu ROUNDS FILE..`. It writes a line for each step, with what program.c writes but the last column.
 #include <chrono>
 #include <cstdint>
 #include <cstdio>
 #include <cstdlib>
-#include <cstring>
 #include <fstream>
 #include <functional>
 #include <iterator>
@@ -51,9 +50,7 @@ void timed(const char *file, const char *form, const char *call, Written &writte
 void times(const char *file, const std::string &text, int rounds, const Named (&forms)[4]) {
     const UnicodeString units = UnicodeString::fromUTF8(text);
     Written written;
-    std::string copy(text.size(), ' ');
     for (int round = 0; round < rounds; round++) {
-        timed(file, "", "memcpy", written, [&] { std::memcpy(&copy[0], text.data(), text.size()); });
         for (const Named &named : forms) {
             UErrorCode error = U_ZERO_ERROR;
             timed(file, named.name, "ICU4C normalizeUTF8", written, [&] {
