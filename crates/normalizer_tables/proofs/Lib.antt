@@ -33,7 +33,6 @@ pub mod SurrogateLemmas
 pub mod Tables
 pub mod SyllableLemmas
 pub mod TextLemmas
-pub mod UnseenCharacters
 pub mod WalkLemmas
 pub mod WordLemmas
 pub mod WordsInRanges

@@ -1,6 +1,5 @@
 -- What the data say of each character: its list and its class.
-use Rattle.std.specs.Prelude.{◌≡◌, ℕ, ◌+◌, ◌-◌, ◌<◌, Bool, false, nat_lt, nat_le, List, [], ◌∷◌, length, take, drop, Option, Some, None, unwrap_or, option_and_then, if◌then◌else◌}
-use Rattle.std.specs.Char.{IsScalar}
+use Rattle.std.specs.Prelude.{ℕ, ◌+◌, ◌-◌, Bool, nat_lt, nat_le, List, [], ◌∷◌, length, take, drop, Option, Some, None, unwrap_or, option_and_then, if◌then◌else◌}
 use Rattle.std.specs.List.{list_all}
 use Rattle.std.specs.Option.{option_map}
 use lib.Utf8.{scalar}
@@ -88,15 +87,6 @@ class_of_itself _ = None
 
 unfoldable pub has_class_form : Characters → ℕ → Bool
 has_class_form s n = is_class_form (word_of s n)
-
--- c is its own list, whatever stands for an ignored character, and its word has no class form
-pub record PassesUnseen (s : Characters) (c : ℕ) : Type 0 where
-  pub itself : (ignored : List ℕ) → list_of s ignored c ≡ c ∷ []
-  pub no_class_form : has_class_form s c ≡ false
-
--- each character below the bound
-abbrev pub AllPassUnseen : Characters → ℕ → Type 0
-AllPassUnseen s bound = (c : ℕ) → IsScalar c → c < bound → PassesUnseen s c
 
 -- the reading that data and pairs make
 abbrev pub reading_of : Characters → List ℕ → (ℕ → ℕ → Option ℕ) → Reading

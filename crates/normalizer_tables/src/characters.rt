@@ -3,8 +3,6 @@ ghost use Rattle.std.specs.Prelude.{◌≡◌, ◌≢◌, ◌↔◌, ◌≤◌, 
 ghost use Rattle.std.specs.Option.{option_copied};
 ghost use Rattle.normalizer_tables.specs.Ignored.{ignored_list};
 ghost use Rattle.normalizer_tables.specs.Characters.{
-  AllPassUnseen,
-  PassesUnseen,
   class_of,
   class_of_itself,
   has_class_form,
@@ -48,13 +46,12 @@ pub struct CharacterData<'a> {
     tables: &'a DecompositionTables,
     supplementary: Option<&'a DecompositionTables>,
     is_mapper: bool,
-    unseen_below: u32,
 }
 
 impl<'a> Model for CharacterData<'a> {
     ghost use Rattle.std.specs.Option.{option_copied};
     ghost use Rattle.normalizer_tables.specs.Data.{lists_or_none};
-    ghost use Rattle.normalizer_tables.specs.Characters.{Characters, AllPassUnseen};
+    ghost use Rattle.normalizer_tables.specs.Characters.{Characters};
 
     ghost Value = { Characters };
 
@@ -64,13 +61,6 @@ impl<'a> Model for CharacterData<'a> {
       supplementary = lists_or_none (option_copied s.supplementary);
       is_mapper = s.is_mapper;
     } };
-
-    ghost invariant = { λ s. AllPassUnseen (record {
-      decompositions = s.decompositions.now;
-      tables = s.tables.now;
-      supplementary = lists_or_none (option_copied s.supplementary);
-      is_mapper = s.is_mapper;
-    }) s.unseen_below };
 }
 
 impl<'a> CharacterData<'a> {
@@ -97,29 +87,7 @@ impl<'a> CharacterData<'a> {
             tables,
             supplementary,
             is_mapper,
-            unseen_below: 0,
         }
-    }
-
-    /// The same data, by which a decomposing loop passes each character below this bound unseen.
-    pub fn with_bound(&self, bound: u32) -> CharacterData<'a>
-        requires { AllPassUnseen self.now bound }
-        ensures { result ≡ self.now }
-    {
-        CharacterData {
-            decompositions: self.decompositions,
-            tables: self.tables,
-            supplementary: self.supplementary,
-            is_mapper: self.is_mapper,
-            unseen_below: bound,
-        }
-    }
-
-    /// Whether a decomposing loop passes a character unseen. No word is looked up.
-    pub fn passes_unseen(&self, character: char) -> bool
-        ensures { IsTrue result → PassesUnseen self.now character }
-    {
-        (character as u32) < self.unseen_below
     }
 
     /// The same data, borrowed once more.
@@ -131,7 +99,6 @@ impl<'a> CharacterData<'a> {
             tables: self.tables,
             supplementary: self.supplementary,
             is_mapper: self.is_mapper,
-            unseen_below: self.unseen_below,
         }
     }
 
@@ -210,9 +177,6 @@ impl<'a> CharacterData<'a> {
     pub fn class_of(&self, character: char) -> u8
         ensures { result ≡ class_of self.now character }
     {
-        if self.passes_unseen(character) {
-            return 0;
-        }
         class_of_word(self.word_of(character))
     }
 

@@ -105,7 +105,7 @@ impl<'a> Members<'a> {
         }
     }
 
-    pub fn one(a: char) -> Self
+    pub(crate) fn one(a: char) -> Self
         ensures { result ≡ a ∷ [] }
     {
         Members {
