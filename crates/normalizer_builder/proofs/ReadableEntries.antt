@@ -11,7 +11,7 @@ use Rattle.normalizer_tables.specs.Hangul.{is_hangul_syllable}
 use Rattle.normalizer_tables.specs.SpecialLists.{FixedList, fixed_list_of}
 use Rattle.normalizer_packing.specs.declared.entry.Kind.{Kind}
 use Rattle.normalizer_packing.specs.declared.entry.Kind.TheVariants as kind
-use Rattle.normalizer_packing.specs.Entries.{CharacterEntry, class_in, composing_reading, entry_of as packed_entry_of, kept_list, list_in, own_list}
+use Rattle.normalizer_packing.specs.Entries.{CharacterEntry, class_in, reading_of_entries, entry_of as packed_entry_of, kept_list, list_in, own_list}
 use Rattle.normalizer_packing.specs.ReadBack.{AreReadable, tells_class}
 use Rattle.normalizer_packing.specs.Spelling.{has_fixed_list, have_classes, list_eq}
 use Rattle.normalizer_packing.proofs.TableLemmas.{eq_list}
@@ -69,7 +69,7 @@ no_mark k e = grind (arith, nat_tests)
 
 -- a list that is neither begins with a starter, if it doesn't begin with a mark
 starter_first : (records : List Entry) (entries : List CharacterEntry) → ((n : ℕ) → class_in entries n ≡ class_of records n) → (x : List ℕ) → begins_with_mark records x ≡ false →
-    BeginsWithStarter (composing_reading entries []) x
+    BeginsWithStarter (reading_of_entries entries []) x
 starter_first records entries same [] h = tt
 starter_first records entries same (c ∷ x) h = same c ∙ no_mark (class_of records c) h
 
@@ -218,10 +218,10 @@ module _ (records : List Entry) (uts46 : List MapperEntry) (none : IsFirstRefusa
       let parts = or_parts (has_fixed_list (class_in entries) n (kept_list k entries n)) (list_eq (kept_list k entries n) (n ∷ [])) e in
       true≢false (sym (eq_list (kept_list k entries n) (n ∷ []) (kept_syllable k n h)) ∙ parts.1)
 
-  kept_first : (k : Kind) (n : ℕ) → tells_class k entries n ≡ false → BeginsWithStarter (composing_reading entries []) (kept_list k entries n)
+  kept_first : (k : Kind) (n : ℕ) → tells_class k entries n ≡ false → BeginsWithStarter (reading_of_entries entries []) (kept_list k entries n)
   kept_first k n h = elim (cases_Bool (is_hangul_syllable n)) [
     | inl syllable ↦ absurd (told_syllable k n syllable h)
-    | inr other ↦ subst (BeginsWithStarter (composing_reading entries [])) (sym (kept_other k n other)) (starter_first records entries meaning.classes _ (bare k n (free k n other h)))
+    | inr other ↦ subst (BeginsWithStarter (reading_of_entries entries [])) (sym (kept_other k n other)) (starter_first records entries meaning.classes _ (bare k n (free k n other h)))
   ]
 
   -- the class of a character whose canonical or compatibility list is such a one

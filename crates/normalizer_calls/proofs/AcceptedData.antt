@@ -1,5 +1,5 @@
 -- Data that a constructor accepts serve the calls.
-use Rattle.std.proofs.Common.{◌≡◌, ℕ, ◌<◌, List, [], arith, false}
+use Rattle.std.proofs.Common.{◌≡◌, ℕ, ◌<◌, List, [], arith, false, None}
 use Rattle.std.specs.Prelude.{min}
 use Rattle.std.specs.Char.{IsScalar}
 use Rattle.normal_forms.specs.Order.{order}
@@ -8,11 +8,13 @@ use Rattle.normal_forms.specs.declared.Form.TheVariants.{Composing}
 use Rattle.normalizer_tables.specs.declared.condition.Condition.TheVariants.{Order, Passthrough}
 use Rattle.normalizer_tables.specs.declared.condition.Bounds.{Bounds}
 use Rattle.normalizer_tables.specs.Conditions.{Holds, HoldsAt, IsPlainStarter}
-use Rattle.normalizer_tables.specs.Characters.{Characters, own_reading}
+use Rattle.normalizer_tables.specs.Characters.{Characters, characters_from}
 use Rattle.normalizer_tables.specs.Data.{Decompositions, Lists}
 use Rattle.normalizer_tables.specs.Loaded.{IsMet}
-use Rattle.normalizer_tables.specs.NfdData.{IsSoundNfdData, nfd_bounds, nfd_characters}
+use Rattle.normalizer_tables.specs.NfdData.{IsSoundNfdData, nfd_bounds}
 use Rattle.normalizer_tables.specs.Pairs.{Pair}
+use Rattle.normalizer_tables.specs.Readings.{reading_by}
+use Rattle.normalizer_tables.specs.declared.characters.IgnoredCharacters.TheVariants.{Dropped}
 use Rattle.normalizer_tables.proofs.LoadedLemmas.{IsAccepted-met, parts_met}
 use Rattle.normalizer_tables.proofs.AcceptedLaws.{SuitsTexts-accepted, SuitsTexts-accepted_pairs, SuitsTexts-handed_in}
 use Rattle.normalizer_tables.proofs.SoundLists.{reads_as_itself}
@@ -23,12 +25,12 @@ use Rattle.normalizer_calls.proofs.SoundPairs.{SuitsLazyComposing-met}
 use Rattle.normalizer_iterators.proofs.SoundData.{SuitsLazyReading-nfd, SuitsLazyReading-sound}
 
 -- a character below the bound is a starter that reads as itself: condition 10
-below_bound : (s : Characters) (b : Bounds) → Holds s b Passthrough → (c : ℕ) → IsScalar c → c < b.decomposition → ReadsAsItself (own_reading s) c × IsStarter (own_reading s) c
+below_bound : (s : Characters) (b : Bounds) → Holds s b Passthrough → (c : ℕ) → IsScalar c → c < b.decomposition → ReadsAsItself (reading_by s Dropped []) c × IsStarter (reading_by s Dropped []) c
 unfolding Holds HoldsAt IsPlainStarter
 below_bound s b holds c scalar below = let plain = holds.1 c scalar below in (reads_as_itself s [] c plain.0, plain.1)
 
 -- the list of a character is in canonical order: condition 9
-list_ordered : (s : Characters) (b : Bounds) → Holds s b Order → (c : ℕ) → IsScalar c → order (own_reading s) ((own_reading s).list c) ≡ (own_reading s).list c
+list_ordered : (s : Characters) (b : Bounds) → Holds s b Order → (c : ℕ) → IsScalar c → order (reading_by s Dropped []) ((reading_by s Dropped []).list c) ≡ (reading_by s Dropped []).list c
 unfolding Holds HoldsAt
 list_ordered s b holds c scalar = (holds.1 c scalar).ordered
 
@@ -55,11 +57,11 @@ ServesComposing-met s pairs plain met =
     }
 
 -- canonical data that a caller answers for
-pub ServesDecomposing-handed_in : (decompositions : Decompositions) (tables : Lists) → IsSoundNfdData decompositions tables → ServesDecomposing (nfd_characters decompositions tables)
+pub ServesDecomposing-handed_in : (decompositions : Decompositions) (tables : Lists) → IsSoundNfdData decompositions tables → ServesDecomposing (characters_from decompositions tables None)
 unfolding IsMet
 ServesDecomposing-handed_in decompositions tables sound = record {
   reading = SuitsLazyReading-nfd decompositions tables sound;
-  below = λ c scalar below. below_bound (nfd_characters decompositions tables) nfd_bounds (sound 8 Passthrough (omega arith)).0 c scalar (below_least decompositions.cap 0xC0 c below);
-  ordered = list_ordered (nfd_characters decompositions tables) nfd_bounds (sound 7 Order (omega arith)).0;
+  below = λ c scalar below. below_bound (characters_from decompositions tables None) nfd_bounds (sound 8 Passthrough (omega arith)).0 c scalar (below_least decompositions.cap 0xC0 c below);
+  ordered = list_ordered (characters_from decompositions tables None) nfd_bounds (sound 7 Order (omega arith)).0;
   laws = SuitsTexts-handed_in decompositions tables sound;
 }

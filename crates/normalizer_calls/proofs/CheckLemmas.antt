@@ -14,6 +14,8 @@ use Rattle.normal_forms.specs.ShortRuns.{HasShortRuns}
 use Rattle.normal_forms.proofs.ChunkLemmas.{HasShortRuns-rest}
 use Rattle.normal_forms.proofs.TextLemmas.{IsText-normal_form}
 use Rattle.normalizer_tables.specs.AcceptedData.{SuitsTexts}
+use Rattle.normalizer_calls.specs.inner.Offences.{IsCutUnlessNormalized}
+use Rattle.normalizer_calls.specs.inner.Writing.{WasRefusedPiece, WritesText}
 use Rattle.normalizer_text.specs.CheckSinks.{Expectation, ChangesNothing, ExpectsTheSame, IsUnexpected}
 use Rattle.normalizer_text.specs.Encodings.{Encoding, first_in, encoded_in, decoded_in}
 use Rattle.normalizer_text.specs.Steps.{IsBoundary, IsFirstStep}
@@ -31,10 +33,9 @@ use Rattle.normalizer_input.proofs.InputCutLemmas.{front_at_input_cut, input_cut
 use Rattle.normalizer_input.proofs.InputOffenceLemmas.{continued_input_offence, input_found_differs, input_offence_exists}
 use Rattle.normalizer_iterators.specs.declared.error.NormalizeError.{NormalizeError}
 use Rattle.normalizer_iterators.specs.declared.error.NormalizeError.TheVariants.{Sink}
-use Rattle.normalizer_calls.specs.Checks.{IsCutUnlessNormalized, IsLastingOffence, IsSplitAtCut}
+use Rattle.normalizer_calls.specs.Checks.{IsLastingOffence, IsSplitAtCut}
 use Rattle.normalizer_calls.specs.Forms.{MadeForm}
-use Rattle.normalizer_calls.specs.Passing.{StandsInInput}
-use Rattle.normalizer_calls.specs.Writing.{WasRefusedPiece, WritesText}
+use Rattle.normalizer_calls.specs.inner.Passing.{StandsInInput}
 
 module _ (e : Encoding) (d : Reading) (form : Form) (units : List ℕ) where
   abbrev text : List ℕ

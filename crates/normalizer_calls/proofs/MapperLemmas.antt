@@ -1,5 +1,5 @@
 -- The mapper's data that a constructor accepts serve its calls.
-use Rattle.std.proofs.Common.{◌≡◌, ℕ, ◌≤◌, List, ◌∷◌, length, None, subst, arith}
+use Rattle.std.proofs.Common.{◌≡◌, ℕ, ◌≤◌, List, [], ◌∷◌, length, subst, arith}
 use Rattle.normal_forms.specs.Boundary.{BeginsWithStarter}
 use Rattle.normal_forms.specs.Reading.{Reading, IsStarter}
 use Rattle.normalizer_tables.specs.declared.condition.Bounds.{Bounds}
@@ -7,13 +7,14 @@ use Rattle.normalizer_tables.specs.Characters.{Characters, has_class_form, list_
 use Rattle.normalizer_tables.specs.declared.characters.IgnoredCharacters.{IgnoredCharacters}
 use Rattle.normalizer_tables.specs.declared.characters.IgnoredCharacters.TheVariants.{Dropped, Replaced}
 use Rattle.normalizer_tables.specs.Ignored.{ignored_list}
-use Rattle.normalizer_tables.specs.Pairs.{Pair}
+use Rattle.normalizer_tables.specs.Pairs.{Pair, pair_of}
 use Rattle.normalizer_tables.specs.SoundData.{IsSoundData}
+use Rattle.normalizer_tables.specs.Readings.{reading_by}
 use Rattle.normalizer_tables.proofs.AcceptedLaws.{IsSoundData-accepted, SuitsMapper-accepted}
 use Rattle.normalizer_tables.proofs.ListLengths.{length-list_of}
 use Rattle.normalizer_tables.proofs.LoadedLemmas.{parts_met}
 use Rattle.normalizer_tables.proofs.SoundLists.{BeginsWithStarter-list_of}
-use Rattle.normalizer_iterators.specs.LazyReading.{decomposing_reading, SuitsLazyReading}
+use Rattle.normalizer_iterators.specs.LazyReading.{SuitsLazyReading}
 use Rattle.normalizer_calls.specs.Acceptance.{bounds_of}
 use Rattle.normalizer_calls.specs.ComposingAcceptance.{SuitsComposing}
 use Rattle.normalizer_calls.specs.Uts46.{ServesMapper}
@@ -27,10 +28,10 @@ first_is_starter : (d : Reading) (x : List ℕ) (first : ℕ) (others : List ℕ
 first_is_starter d x first others e h = subst (BeginsWithStarter d) e h
 
 -- however ignored characters are treated
-SuitsLazyReading-either : (s : Characters) (b : Bounds) → IsSoundData s b → (i : IgnoredCharacters) → SuitsLazyReading (has_class_form s) (decomposing_reading s i)
+SuitsLazyReading-either : (s : Characters) (b : Bounds) → IsSoundData s b → (i : IgnoredCharacters) → SuitsLazyReading (has_class_form s) (reading_by s i [])
 SuitsLazyReading-either s b sound i = record {
   starters = λ c first others other e.
-      first_is_starter (decomposing_reading s i) (list_of s (ignored_list i) c) first others e (BeginsWithStarter-list_of s b sound i (λ x y. None) c other);
+      first_is_starter (reading_by s i []) (list_of s (ignored_list i) c) first others e (BeginsWithStarter-list_of s b sound i (pair_of []) c other);
   short = λ c. length-list_of s (ignored_list i) c (ignored_short i);
 }
 

@@ -10,6 +10,7 @@ use Rattle.normal_forms.proofs.TextLemmas.{IsText-normal_form}
 use Rattle.normal_forms.proofs.EquivalenceLemmas.{equivalent_texts}
 use Rattle.normal_forms.proofs.LawLemmas.{nfd-nfc, normal_form-normal_form}
 use Rattle.normalizer_tables.specs.AcceptedData.{SuitsTexts}
+use Rattle.normalizer_calls.specs.inner.Owned.{WroteUnlessOwn}
 use Rattle.normalizer_text.specs.Encodings.{Encoding, first_in, encoded_in, decoded_in}
 use Rattle.normalizer_text.proofs.EncodingRules.{IsDecoding-first, DecodesBack-in, encoded-decoded}
 use Rattle.normalizer_text.proofs.OutputLemmas.{encoded_in-append}
@@ -18,7 +19,7 @@ use Rattle.normalizer_input.specs.EncodedForm.{encoded_form}
 use Rattle.normalizer_input.proofs.EncodedFormLemmas.{is_normalized_iff_encoded_form}
 use Rattle.normalizer_input.specs.InputCut.{IsInputCut, IsInputNormalized}
 use Rattle.normalizer_calls.specs.Forms.{MadeForm}
-use Rattle.normalizer_calls.specs.Owned.{HandsOutForm, IsEncodedFormOf, WroteUnlessOwn}
+use Rattle.normalizer_calls.specs.Owned.{HandsOutForm, IsEncodedFormOf}
 
 -- the prefix and the form of the rest are the form of the whole
 pub form_from_cut : (e : Encoding) (d : Reading) (form : Form) (units : List ℕ) (place : ℕ) → IsInputCut e d form units place

@@ -21,9 +21,10 @@ use Rattle.normalizer_input.specs.EncodedForm.{encoded_form}
 use Rattle.normalizer_input.specs.InputCut.{IsInputNormalized}
 use Rattle.normalizer_iterators.specs.declared.error.NormalizeError.{NormalizeError}
 use Rattle.normalizer_iterators.specs.declared.error.NormalizeError.TheVariants.{Sink}
-use Rattle.normalizer_calls.specs.Passing.{Divides, IsPart, StandsInInput, WrotePart}
-use Rattle.normalizer_calls.specs.Writing.{NothingOffered, TookBeginning, WritesText}
+use Rattle.normalizer_calls.specs.inner.Passing.{Divides, IsPart, StandsInInput, WrotePart}
+use Rattle.normalizer_calls.specs.Writing.{TookBeginning}
 use Rattle.normalizer_calls.proofs.PassingLemmas.{normal_form-nil, Divides-start}
+use Rattle.normalizer_calls.specs.inner.Writing.{NothingOffered, WritesText}
 
 -- ---- short runs of a front
 

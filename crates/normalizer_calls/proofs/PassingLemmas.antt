@@ -17,17 +17,18 @@ use Rattle.normal_forms.proofs.LawLemmas.{nfc-boundary}
 use Rattle.normal_forms.proofs.OrderLemmas.{order-at_starter}
 use Rattle.normalizer_tables.specs.declared.characters.IgnoredCharacters.TheVariants.{Dropped}
 use Rattle.normalizer_tables.specs.declared.condition.Bounds.{Bounds}
-use Rattle.normalizer_tables.specs.Characters.{Characters, has_class_form, list_of, own_reading, word_of}
-use Rattle.normalizer_tables.specs.PairConditions.{composing_reading, is_passed}
+use Rattle.normalizer_tables.specs.Characters.{Characters, has_class_form, list_of, word_of}
+use Rattle.normalizer_tables.specs.PairConditions.{is_passed}
 use Rattle.normalizer_tables.specs.Pairs.{Pair}
 use Rattle.normalizer_tables.specs.Words.{is_backward_combining, is_non_round_trip, is_plain}
+use Rattle.normalizer_tables.specs.Readings.{reading_by}
 use Rattle.normalizer_tables.proofs.ConditionLemmas.{class_of-plain}
 use Rattle.normalizer_tables.proofs.PlainCharacters.{list_of-plain_word}
 use Rattle.normalizer_calls.specs.Acceptance.{bounds_of}
 use Rattle.normalizer_calls.specs.Serving.{ServesDecomposing}
 use Rattle.normalizer_iterators.specs.LazyComposing.{SuitsLazyComposing}
 use Rattle.normalizer_iterators.proofs.PassingLemmas.{BeginsSafely-apart}
-use Rattle.normalizer_calls.specs.Passing.{BeginsApart, Divides, MayPass}
+use Rattle.normalizer_calls.specs.inner.Passing.{BeginsApart, Divides, MayPass}
 
 -- a starter that reads as itself stands apart from what is behind it too
 MayPass-itself : (d : Reading) (c : ℕ) → ReadsAsItself d c → IsStarter d c → MayPass d Decomposing false c
@@ -40,13 +41,13 @@ MayPass-itself d c itself starter = record {
 }
 
 -- a character below the bound, or whose word is 0, flags aside, passes where text is decomposed
-pub MayPass-decomposed : (s : Characters) (bound : ℕ) → ((c : ℕ) → IsScalar c → c < bound → ReadsAsItself (own_reading s) c × IsStarter (own_reading s) c)
-    → (c : ℕ) → IsScalar c → (nat_lt c bound || is_plain (word_of s c)) ≡ true → MayPass (own_reading s) Decomposing false c
+pub MayPass-decomposed : (s : Characters) (bound : ℕ) → ((c : ℕ) → IsScalar c → c < bound → ReadsAsItself (reading_by s Dropped []) c × IsStarter (reading_by s Dropped []) c)
+    → (c : ℕ) → IsScalar c → (nat_lt c bound || is_plain (word_of s c)) ≡ true → MayPass (reading_by s Dropped []) Decomposing false c
 MayPass-decomposed s bound below c scalar passes = elim (cases_lt c bound) [
-  | inl low ↦ let starter = below c scalar low in MayPass-itself (own_reading s) c starter.0 starter.1
+  | inl low ↦ let starter = below c scalar low in MayPass-itself (reading_by s Dropped []) c starter.0 starter.1
   | inr high ↦
       let plain : is_plain (word_of s c) ≡ true = sym (ap (λ b. b || is_plain (word_of s c)) (le-ltb c bound high)) ∙ passes in
-      MayPass-itself (own_reading s) c (list_of-plain_word s [] c scalar plain) (class_of-plain s c scalar plain)
+      MayPass-itself (reading_by s Dropped []) c (list_of-plain_word s [] c scalar plain) (class_of-plain s c scalar plain)
 ]
 
 not-true : (b : Bool) → not b ≡ true → b ≡ false
@@ -59,12 +60,12 @@ first_begins d (first ∷ others) starters = starters first others refl
 
 -- a character below the bound, or without class form, begins apart where text is decomposed
 pub BeginsApart-decomposed : (s : Characters) → ServesDecomposing s → (c : ℕ) → IsScalar c
-    → (nat_lt c (bounds_of s.decompositions).decomposition || not (has_class_form s c)) ≡ true → BeginsApart (own_reading s) Decomposing c
+    → (nat_lt c (bounds_of s.decompositions).decomposition || not (has_class_form s c)) ≡ true → BeginsApart (reading_by s Dropped []) Decomposing c
 unfolding normal_form
 BeginsApart-decomposed s serves c scalar begins = elim (cases_lt c (bounds_of s.decompositions).decomposition) [
-  | inl low ↦ let starter = serves.below c scalar low in (MayPass-itself (own_reading s) c starter.0 starter.1).begins
+  | inl low ↦ let starter = serves.below c scalar low in (MayPass-itself (reading_by s Dropped []) c starter.0 starter.1).begins
   | inr high ↦
-      let d = own_reading s in
+      let d = reading_by s Dropped [] in
       let other : not (has_class_form s c) ≡ true = sym (ap (λ b. b || not (has_class_form s c)) (le-ltb c (bounds_of s.decompositions).decomposition high)) ∙ begins in
       let anew : has_class_form s c ≡ false = not-true (has_class_form s c) other in
       λ front x. nfd-boundary d front (c ∷ x)
@@ -72,9 +73,9 @@ BeginsApart-decomposed s serves c scalar begins = elim (cases_lt c (bounds_of s.
 ]
 
 -- the form of a character alone is its list
-pub form_of_one : (s : Characters) → ServesDecomposing s → (c : ℕ) → IsScalar c → normal_form (own_reading s) Decomposing (c ∷ []) ≡ list_of s [] c
+pub form_of_one : (s : Characters) → ServesDecomposing s → (c : ℕ) → IsScalar c → normal_form (reading_by s Dropped []) Decomposing (c ∷ []) ≡ list_of s [] c
 unfolding normal_form nfd expand
-form_of_one s serves c scalar = ap (order (own_reading s)) (append-nil (list_of s [] c)) ∙ serves.ordered c scalar
+form_of_one s serves c scalar = ap (order (reading_by s Dropped [])) (append-nil (list_of s [] c)) ∙ serves.ordered c scalar
 
 pub below_passes : (s : Characters) (bound c : ℕ) → c < bound → (nat_lt c bound || is_plain (word_of s c)) ≡ true
 below_passes s bound c below = ap (λ b. b || is_plain (word_of s c)) (lt-ltb c bound below)
@@ -86,10 +87,10 @@ below_is_passed s b c below =
 
 -- a character that a composing loop passes
 pub MayPass-passed : (s : Characters) (b : Bounds) (pairs : List Pair) → SuitsLazyComposing s b pairs → (c : ℕ) → IsScalar c → is_passed s b c ≡ true
-    → MayPass (composing_reading s pairs) Composing true c
+    → MayPass (reading_by s Dropped pairs) Composing true c
 unfolding normal_form
 MayPass-passed s b pairs suits c scalar passed =
-    let d = composing_reading s pairs in
+    let d = reading_by s Dropped pairs in
     let apart = suits.apart Dropped c (record { scalar = scalar; passed = passed }) in
     record {
       own = apart.form;

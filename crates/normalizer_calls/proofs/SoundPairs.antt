@@ -5,9 +5,10 @@ use Rattle.normal_forms.specs.Boundary.{BeginsSafely}
 use Rattle.normal_forms.specs.Reading.{Reading, IsStarter}
 use Rattle.normalizer_tables.specs.declared.condition.Condition.TheVariants.{Hangul, Words, Order, Pairs, RoundTrip, SafeBeginning}
 use Rattle.normalizer_tables.specs.AcceptedData.{AreAcceptedPairs, IsAccepted}
-use Rattle.normalizer_tables.specs.Characters.{Characters, list_of, reading_of}
+use Rattle.normalizer_tables.specs.Characters.{Characters, list_of}
 use Rattle.normalizer_tables.specs.Ignored.{ignored_list}
-use Rattle.normalizer_tables.specs.Pairs.{Pair, pair_of}
+use Rattle.normalizer_tables.specs.Pairs.{Pair}
+use Rattle.normalizer_tables.specs.Readings.{reading_by}
 use Rattle.normalizer_tables.proofs.PairLaws.{HasStarterResults-reading_of, IsNormalized-passed, BeginsSafely-passed, inhabited-passed}
 use Rattle.normalizer_calls.specs.Acceptance.{bounds_of}
 use Rattle.normalizer_iterators.specs.LazyComposing.{SuitsLazyComposing}
@@ -31,7 +32,7 @@ SuitsLazyComposing-met s pairs accepted accepted_pairs =
             (BeginsSafely-passed s b pairs begins [] c h.scalar h.passed) h.passed;
         inhabited = inhabited-passed s b pairs begins (ignored_list ignored) c h.scalar h.passed;
         safely =
-            λ first others e. first_apart (reading_of s (ignored_list ignored) (pair_of pairs)) (list_of s (ignored_list ignored) c) first others e
+            λ first others e. first_apart (reading_by s ignored pairs) (list_of s (ignored_list ignored) c) first others e
             (BeginsSafely-passed s b pairs begins (ignored_list ignored) c h.scalar h.passed);
       };
     }

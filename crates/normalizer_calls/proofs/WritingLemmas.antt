@@ -15,7 +15,8 @@ use Rattle.normalizer_iterators.specs.declared.error.NormalizeError.{NormalizeEr
 use Rattle.normalizer_iterators.specs.declared.error.NormalizeError.TheVariants.{Memory, Sink}
 use Rattle.normalizer_iterators.specs.Items.{SpellsOk, SpellsUnless}
 use Rattle.normalizer_iterators.proofs.ItemLemmas.{SpellsOk-next, SpellsOk-no_fault, SpellsUnless-end, SpellsUnless-fault, SpellsUnless-next}
-use Rattle.normalizer_calls.specs.Writing.{TellsLengthFirst, TookBeginning, WritesForm, WritesText}
+use Rattle.normalizer_calls.specs.Writing.{TellsLengthFirst, TookBeginning, WritesForm}
+use Rattle.normalizer_calls.specs.inner.Writing.{WritesText}
 
 -- a beginning was written of what an iterator gives from `start`, and it has come to `items`
 pub record WroteSoFar {S I : Type 0} (e : Encoding) (taken : S → List ℕ) (refused : S → S → Type 0) (gives : I → Option (Result ℕ NormalizeError) → I → Type 0) (start : I) (old : S) (items : I) (now : S) : Type 0 where

@@ -1,20 +1,15 @@
 -- Which data a constructor accepts, and how it answers others.
-use Rattle.std.specs.Prelude.{Option, Some, None, Result, Ok, Err, All, false}
+use Rattle.std.specs.Prelude.{Option, Some, None, Result, Ok, Err, All}
 use Rattle.normalizer_tables.specs.declared.condition.Bounds.{Bounds}
 use Rattle.normalizer_tables.specs.declared.provider.DataError.{DataError}
 use Rattle.normalizer_tables.specs.declared.provider.DataMarkerInfo.{DataMarkerInfo}
 use Rattle.normalizer_tables.specs.declared.provider.DataMarkerInfo.TheVariants as marker
 use Rattle.normalizer_tables.specs.AcceptedData.{decomposing_conditions}
-use Rattle.normalizer_tables.specs.Characters.{Characters}
-use Rattle.normalizer_tables.specs.Data.{Decompositions, Lists, lists_or_none}
+use Rattle.normalizer_tables.specs.Characters.{Characters, characters_from}
+use Rattle.normalizer_tables.specs.Data.{Decompositions, Lists}
 pub use Rattle.normalizer_tables.specs.Held.{AcceptsHeld, RefusesHeld, AnswersHeld}
 use Rattle.normalizer_tables.specs.Loaded.{IsMet, bounds_of_cap, characters_alone}
 use Rattle.normalizer_tables.specs.Refusals.{RefusesFirstFailing}
-
--- data that are no mapper's
-abbrev pub data_from : Decompositions → Lists → Option Lists → Characters
-data_from decompositions tables supplementary =
-    record { decompositions = decompositions; tables = tables; supplementary = lists_or_none supplementary; is_mapper = false }
 
 -- below which numbers characters pass unseen
 abbrev pub bounds_of : Decompositions → Bounds
@@ -32,11 +27,12 @@ RefusesToDecompose kind s e = RefusesFirstFailing kind (characters_alone s) deco
 abbrev pub nfd_data : Option Decompositions → Option Lists → Result Characters DataMarkerInfo
 nfd_data None tables = Err marker.NormalizerNfdDataV1
 nfd_data (Some decompositions) None = Err marker.NormalizerNfdTablesV1
-nfd_data (Some decompositions) (Some tables) = Ok (data_from decompositions tables None)
+nfd_data (Some decompositions) (Some tables) = Ok (characters_from decompositions tables None)
 
 -- the same for compatibility forms
 abbrev pub nfkd_data : Option Decompositions → Option Lists → Option Lists → Result Characters DataMarkerInfo
 nfkd_data None tables supplementary = Err marker.NormalizerNfkdDataV1
 nfkd_data (Some decompositions) None supplementary = Err marker.NormalizerNfdTablesV1
 nfkd_data (Some decompositions) (Some tables) None = Err marker.NormalizerNfkdTablesV1
-nfkd_data (Some decompositions) (Some tables) (Some supplementary) = Ok (data_from decompositions tables (Some supplementary))
+nfkd_data (Some decompositions) (Some tables) (Some supplementary) =
+    Ok (characters_from decompositions tables (Some supplementary))

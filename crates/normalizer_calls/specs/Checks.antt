@@ -2,11 +2,9 @@
 use Rattle.std.specs.Prelude.{◌≡◌, ◌≢◌, ◌↔◌, ◌⊎◌, ℕ, ◌≤◌, Bool, List, [], ◌++◌, length, take, encode_utf8_all}
 use Rattle.std.specs.Prelude.{chars, Option, MatchOption, Result, IfOk, IsOk, IsOkUnless, IsTrue}
 use Rattle.std.specs.Option.{ForSome}
-use Rattle.normal_forms.specs.Reading.{Reading}
-use Rattle.normal_forms.specs.declared.Form.{Form}
 use Rattle.normal_forms.specs.Cut.{IsCut}
 use Rattle.normal_forms.specs.Forms.{IsNormalized}
-use Rattle.normal_forms.specs.Offence.{IsFirst, IsFirstOffence}
+use Rattle.normal_forms.specs.Offence.{IsFirstOffence}
 use Rattle.normal_forms.specs.ShortRuns.{HasShortRuns}
 use Rattle.normalizer_text.specs.Steps.{IsWellFormed}
 use Rattle.normalizer_text.specs.Encodings.{Encoding, first_in, decoded_in}
@@ -16,15 +14,6 @@ use Rattle.normalizer_input.specs.InputOffence.{IsInputOffence, IsInputOffenceOf
 use Rattle.normalizer_iterators.specs.declared.error.NormalizeError.{NormalizeError}
 use Rattle.normalizer_iterators.specs.declared.error.NormalizeError.TheVariants.{Memory}
 use Rattle.normalizer_calls.specs.Forms.{MadeForm}
-
--- where the units are cut, or nothing where they are well-formed and their own form
-abbrev pub IsCutUnlessNormalized : Encoding → Reading → Form → List ℕ → Option ℕ → Type 0
-IsCutUnlessNormalized e d form units answer = MatchOption answer (IsInputNormalized e d form units)
-    (λ place. (IsInputNormalized e d form units → ⊥) × IsInputCut e d form units place)
-
--- what x begins with, or nothing where x is empty
-abbrev pub IsFirstOrNone : List ℕ → Option ℕ → Type 0
-IsFirstOrNone x first = MatchOption first (x ≡ []) (IsFirst x)
 
 -- The answer is as it is to be. `Memory` is the only fault, and never comes where the text x that was looked at has
 -- short runs.

@@ -1,13 +1,14 @@
 -- The data and the pairs of composing normalizers.
 use Rattle.std.specs.Prelude.{List}
-use Rattle.normalizer_tables.specs.Characters.{Characters}
+use Rattle.normalizer_tables.specs.Characters.{Characters, characters_from}
 use Rattle.normalizer_tables.specs.Pairs.{Pair}
 use Rattle.normalizer_calls.specs.declared.composing_normalizer.ComposingNormalizer.{ComposingNormalizer}
-use Rattle.normalizer_calls.specs.declared.composing_normalizer.ComposingNormalizerBorrowed.{ComposingNormalizerBorrowed}
-use Rattle.normalizer_calls.specs.Acceptance.{data_from}
+use Rattle.normalizer_calls.specs.declared.composing_normalizer.ComposingNormalizerBorrowed.{
+  ComposingNormalizerBorrowed,
+}
 
 abbrev pub composing_data_of : ComposingNormalizer → Characters
-composing_data_of n = data_from n.decompositions n.tables n.supplementary
+composing_data_of n = characters_from n.decompositions n.tables n.supplementary
 
 abbrev pub pairs_of : ComposingNormalizer → List Pair
 pairs_of n = n.pairs

@@ -1,11 +1,14 @@
 -- By what a normalizer makes its form.
-use Rattle.std.specs.Prelude.{ℕ, Bool}
+use Rattle.std.specs.Prelude.{ℕ, Bool, []}
 use Rattle.normal_forms.specs.Reading.{Reading}
 use Rattle.normal_forms.specs.declared.Form.{Form}
 use Rattle.normal_forms.specs.declared.Form.TheVariants.{Decomposing, Composing}
-use Rattle.normalizer_tables.specs.Characters.{has_class_form, own_reading}
-use Rattle.normalizer_tables.specs.PairConditions.{composing_reading}
-use Rattle.normalizer_calls.specs.declared.composing_normalizer.ComposingNormalizerBorrowed.{ComposingNormalizerBorrowed}
+use Rattle.normalizer_tables.specs.Characters.{has_class_form}
+use Rattle.normalizer_tables.specs.Readings.{reading_by}
+use Rattle.normalizer_tables.specs.declared.characters.IgnoredCharacters.TheVariants.{Dropped}
+use Rattle.normalizer_calls.specs.declared.composing_normalizer.ComposingNormalizerBorrowed.{
+  ComposingNormalizerBorrowed,
+}
 use Rattle.normalizer_calls.specs.declared.normalizer.DecomposingNormalizerBorrowed.{DecomposingNormalizerBorrowed}
 use Rattle.normalizer_calls.specs.ComposingNormalizers.{composing_data_of_borrowed, pairs_of_borrowed}
 use Rattle.normalizer_calls.specs.Normalizers.{data_of_borrowed}
@@ -19,13 +22,14 @@ pub record MadeForm : Type 0 where
 -- the decomposing form by the data of a normalizer
 abbrev pub decomposed_by : DecomposingNormalizerBorrowed → MadeForm
 decomposed_by n =
-    let s = data_of_borrowed n in record { has_class_form = has_class_form s; reading = own_reading s; form = Decomposing }
+    let s = data_of_borrowed n in
+    record { has_class_form = has_class_form s; reading = reading_by s Dropped []; form = Decomposing }
 
 -- the composing form by the data and the pairs of a normalizer
 abbrev pub composed_by : ComposingNormalizerBorrowed → MadeForm
 composed_by n =
     let s = composing_data_of_borrowed n in
-    record { has_class_form = has_class_form s; reading = composing_reading s (pairs_of_borrowed n); form = Composing }
+    record { has_class_form = has_class_form s; reading = reading_by s Dropped (pairs_of_borrowed n); form = Composing }
 
 -- the same, named by its parts
 abbrev pub made_form : (ℕ → Bool) → Reading → Form → MadeForm

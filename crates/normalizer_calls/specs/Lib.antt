@@ -7,7 +7,7 @@ pub mod FormsWritten
 pub mod Mappers
 pub mod Normalizers
 pub mod Owned
-pub mod Passing
 pub mod Serving
 pub mod Uts46
 pub mod Writing
+pub mod inner

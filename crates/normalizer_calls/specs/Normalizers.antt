@@ -1,11 +1,10 @@
 -- The data of normalizers.
-use Rattle.normalizer_tables.specs.Characters.{Characters}
+use Rattle.normalizer_tables.specs.Characters.{Characters, characters_from}
 use Rattle.normalizer_calls.specs.declared.normalizer.DecomposingNormalizer.{DecomposingNormalizer}
 use Rattle.normalizer_calls.specs.declared.normalizer.DecomposingNormalizerBorrowed.{DecomposingNormalizerBorrowed}
-use Rattle.normalizer_calls.specs.Acceptance.{data_from}
 
 abbrev pub data_of : DecomposingNormalizer → Characters
-data_of n = data_from n.decompositions n.tables n.supplementary
+data_of n = characters_from n.decompositions n.tables n.supplementary
 
 abbrev pub data_of_borrowed : DecomposingNormalizerBorrowed → Characters
 data_of_borrowed n = n.characters

@@ -1,5 +1,5 @@
 -- What calls tell that hand out the form of an input.
-use Rattle.std.specs.Prelude.{◌≡◌, ◌↔◌, ℕ, Bool, List, ◌++◌, chars, Result, IfOk, IsOk, IsOkUnless, IsTrue, IsFalse}
+use Rattle.std.specs.Prelude.{◌≡◌, ◌↔◌, ℕ, List, ◌++◌, chars, Result, IfOk, IsOk, IsOkUnless}
 use Rattle.std.specs.Cow.{cow_str_bytes, IsBorrowedStr}
 use Rattle.std.specs.declared.borrow.CowStr.{CowStr}
 use Rattle.std.specs.declared.alloc.Global.{Global}
@@ -45,10 +45,3 @@ pub record HandsOutFormOfText (m : MadeForm) (x : List ℕ) (answer : Result (Co
   pub borrows : IfOk answer (λ z. IsBorrowedStr z ↔ IsNormalized m.reading m.form x)
   pub room : HasShortRuns m.has_class_form m.reading x → IsNormalized m.reading m.form x → IsOk answer
   pub refused : IsOkUnless answer Memory
-
--- The units are well-formed and their own form, or their form was written behind what was taken before.
-pub record WroteUnlessOwn {S : Type 0} (taken : S → List ℕ) (m : MadeForm) (e : Encoding) (units : List ℕ) (old : S)
-    (own : Bool) (new : S) : Type 0 where
-  pub is_own : IsTrue own ↔ IsInputNormalized e m.reading m.form units
-  pub kept : IsTrue own → IsEncodedFormOf m e units units
-  pub wrote : IsFalse own → (content : List ℕ) × (taken new ≡ taken old ++ content) × IsEncodedFormOf m e units content

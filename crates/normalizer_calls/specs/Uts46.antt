@@ -1,17 +1,17 @@
--- The mapper (UTS #46, section 4): its data, which of them it accepts, and its two readings.
-use Rattle.std.specs.Prelude.{List, Option, Some, None, Result, Ok, Err, true}
-use Rattle.normal_forms.specs.Reading.{Reading}
+-- The mapper (UTS #46, section 4): its data, and which of them it accepts. They have two readings: ignored characters
+-- are dropped, as mapping wants it, or stand for U+FFFD, as validation wants it.
+use Rattle.std.specs.Prelude.{List, Option, Some, None, Result, Ok, Err, true, []}
 use Rattle.normalizer_tables.specs.declared.condition.Bounds.{Bounds}
 use Rattle.normalizer_tables.specs.declared.provider.DataMarkerInfo.{DataMarkerInfo}
 use Rattle.normalizer_tables.specs.declared.provider.DataMarkerInfo.TheVariants as marker
 use Rattle.normalizer_tables.specs.AcceptedData.{SuitsMapper}
-use Rattle.normalizer_tables.specs.Characters.{Characters, has_class_form, reading_of}
+use Rattle.normalizer_tables.specs.Characters.{Characters, has_class_form}
 use Rattle.normalizer_tables.specs.Data.{Decompositions, Lists}
 use Rattle.normalizer_tables.specs.declared.characters.IgnoredCharacters.{IgnoredCharacters}
-use Rattle.normalizer_tables.specs.Ignored.{ignored_list}
-use Rattle.normalizer_tables.specs.Pairs.{Pair, pair_of}
+use Rattle.normalizer_tables.specs.Pairs.{Pair}
+use Rattle.normalizer_tables.specs.Readings.{reading_by}
 use Rattle.normalizer_iterators.specs.LazyComposing.{SuitsLazyComposing}
-use Rattle.normalizer_iterators.specs.LazyReading.{decomposing_reading, SuitsLazyReading}
+use Rattle.normalizer_iterators.specs.LazyReading.{SuitsLazyReading}
 
 -- the mapper's data and the pairs
 abbrev pub MapperData : Type 0
@@ -34,12 +34,8 @@ uts46_data (Some decompositions) (Some tables) (Some supplementary) None = Err m
 uts46_data (Some decompositions) (Some tables) (Some supplementary) (Some pairs) =
     Ok (mapper_data decompositions tables supplementary pairs)
 
--- the reading where ignored characters are dropped, as mapping wants it, or stand for U+FFFD, as validation wants it
-abbrev pub mapper_reading : MapperData → IgnoredCharacters → Reading
-mapper_reading h i = reading_of h.0 (ignored_list i) (pair_of h.1)
-
 -- text may be mapped by them character by character in either way, and the laws that a mapper keeps hold
 pub record ServesMapper (h : MapperData) (b : Bounds) : Type 0 where
-  pub reading : (i : IgnoredCharacters) → SuitsLazyReading (has_class_form h.0) (decomposing_reading h.0 i)
+  pub reading : (i : IgnoredCharacters) → SuitsLazyReading (has_class_form h.0) (reading_by h.0 i [])
   pub composing : SuitsLazyComposing h.0 b h.1
-  pub laws : (i : IgnoredCharacters) → SuitsMapper (mapper_reading h i)
+  pub laws : (i : IgnoredCharacters) → SuitsMapper (reading_by h.0 i h.1)

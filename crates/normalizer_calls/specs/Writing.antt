@@ -1,5 +1,5 @@
 -- What is known where a text was written to a sink in an encoding, or only a beginning of it.
-use Rattle.std.specs.Prelude.{◌≡◌, ℕ, ◌≤◌, ◌⊎◌, Bool, List, ◌++◌, length, Result, ⊤, OnOk, OnErr, IsErrOf}
+use Rattle.std.specs.Prelude.{◌≡◌, ℕ, ◌≤◌, ◌⊎◌, Bool, List, ◌++◌, Result, ⊤, OnOk, OnErr, IsErrOf}
 use Rattle.normal_forms.specs.declared.Form.{Form}
 use Rattle.normal_forms.specs.Forms.{normal_form}
 use Rattle.normal_forms.specs.Reading.{Reading}
@@ -10,10 +10,6 @@ use Rattle.normalizer_text.specs.declared.sink.SinkError.{SinkError}
 use Rattle.normalizer_iterators.specs.declared.error.NormalizeError.{NormalizeError}
 use Rattle.normalizer_iterators.specs.declared.error.NormalizeError.TheVariants.{Memory, Sink}
 
--- nothing is offered but characters, one by one
-abbrev pub NothingOffered : List ℕ → List ℕ → Type 0
-NothingOffered front piece = ⊥
-
 module _ {S : Type 0} (e : Encoding) (taken : S → List ℕ) where
   -- a beginning of the text, which ends between characters, was taken behind what was taken before
   pub record TookBeginning (text : List ℕ) (old new : S) : Type 0 where
@@ -22,40 +18,20 @@ module _ {S : Type 0} (e : Encoding) (taken : S → List ℕ) where
     pub parts : text ≡ front ++ rest
     pub took : taken new ≡ taken old ++ encoded_in e front
 
-  -- a beginning of the text was taken, and then a piece that goes on with it was refused: at most one character, or
-  -- what was offered behind that beginning
-  pub record WasRefusedPiece (left : S → S → Type 0) (refuses : S → List ℕ → Type 0)
-      (offered : List ℕ → List ℕ → Type 0) (text : List ℕ) (old new : S) : Type 0 where
-    pub before : S
-    pub beginning : TookBeginning text old before
-    pub piece : List ℕ
-    pub kind : (length piece ≤ 1) ⊎ offered beginning.front piece
-    pub rest : List ℕ
-    pub goes_on : beginning.rest ≡ piece ++ rest
-    pub known : refuses before (encoded_in e piece)
-    pub leaves : left before new
-
-  -- a text was written, or the output refused a piece, or memory was refused
-  pub record WritesText (refused left : S → S → Type 0) (refuses : S → List ℕ → Type 0)
-      (offered : List ℕ → List ℕ → Type 0) (text : List ℕ) (old : S) (answer : Result ⊤ NormalizeError) (new : S)
-      : Type 0 where
-    pub written : OnOk answer (taken new ≡ taken old ++ encoded_in e text)
-    pub ahead : OnOk answer ((later : S) → refused new later → refused old later)
-    pub fault : IsErrOf answer Sink → refused old new
-    pub refusal : IsErrOf answer Sink → WasRefusedPiece left refuses offered text old new
-    pub begun : IsErrOf answer Memory → TookBeginning text old new
-
-  -- The normal form of the text x was written: it stands behind what was taken before. `Sink` comes only with a fault of
-  -- the sink, and `Memory` never where the text has short runs. After either a beginning of the form was taken, if calls
-  -- that are refused take nothing.
-  pub record WritesForm (refused left : S → S → Type 0) (has_class_form : ℕ → Bool) (d : Reading) (form : Form) (x : List ℕ) (old : S) (answer : Result ⊤ NormalizeError) (new : S) : Type 0 where
+  -- The normal form of the text x was written: it stands behind what was taken before. `Sink` comes only with a fault
+  -- of the sink, and `Memory` never where the text has short runs. After either a beginning of the form was taken, if
+  -- calls that are refused take nothing.
+  pub record WritesForm (refused left : S → S → Type 0) (has_class_form : ℕ → Bool) (d : Reading) (form : Form)
+      (x : List ℕ) (old : S) (answer : Result ⊤ NormalizeError) (new : S) : Type 0 where
     pub written : OnOk answer (taken new ≡ taken old ++ encoded_in e (normal_form d form x))
     pub fault : IsErrOf answer Sink → refused old new
     pub room : HasShortRuns has_class_form d x → ¬ IsErrOf answer Memory
-    pub begun : OnErr answer (((s t : S) → left s t → TakesNothing taken s t) → TookBeginning (normal_form d form x) old new)
+    pub begun : OnErr answer (((s t : S) → left s t → TakesNothing taken s t)
+        → TookBeginning (normal_form d form x) old new)
 
 -- the sink was told first how many units the input has; where it refused that, nothing else was done
-pub record TellsLengthFirst {S : Type 0} (taken : S → List ℕ) (hinted : S → ℕ → Result ⊤ SinkError → S → Type 0) (len : ℕ) (old : S) (answer : Result ⊤ NormalizeError) (new : S) : Type 0 where
+pub record TellsLengthFirst {S : Type 0} (taken : S → List ℕ) (hinted : S → ℕ → Result ⊤ SinkError → S → Type 0)
+    (len : ℕ) (old : S) (answer : Result ⊤ NormalizeError) (new : S) : Type 0 where
   pub hint : Result ⊤ SinkError
   pub state : S
   pub first : hinted old len hint state

@@ -2,16 +2,11 @@
 ghost use Rattle.std.specs.Prelude.{◌≡◌, IfOk, IfErr};
 ghost use Rattle.std.specs.Iterator.{IsFinite};
 ghost use Rattle.normal_forms.specs.Forms.{nfc};
-ghost use Rattle.normalizer_tables.specs.Characters.{has_class_form};
-ghost use Rattle.normalizer_tables.specs.PairConditions.{composing_reading};
+ghost use Rattle.normalizer_tables.specs.Characters.{has_class_form, characters_from};
+ghost use Rattle.normalizer_tables.specs.Readings.{reading_by};
+ghost use Rattle.normalizer_tables.specs.declared.characters.IgnoredCharacters.TheVariants.{Dropped};
 ghost use Rattle.normalizer_iterators.specs.Items.{GivesForm};
-ghost use Rattle.normalizer_calls.specs.Acceptance.{
-  bounds_of,
-  data_from,
-  nfd_data,
-  nfkd_data,
-  AnswersHeld,
-};
+ghost use Rattle.normalizer_calls.specs.Acceptance.{bounds_of, nfd_data, nfkd_data, AnswersHeld};
 ghost use Rattle.normalizer_calls.specs.ComposingAcceptance.{
   with_pairs,
   RefusesToCompose,
@@ -39,7 +34,8 @@ pub struct ComposingNormalizer {
     tables: DecompositionTables,
     supplementary: Option<DecompositionTables>,
     pairs: CanonicalCompositions,
-    ghost serves: { ServesComposing (data_from decompositions tables supplementary) (bounds_of decompositions) pairs },
+    ghost serves: { ServesComposing (characters_from decompositions tables supplementary)
+        (bounds_of decompositions) pairs },
 }
 
 impl ComposingNormalizer {
@@ -96,9 +92,10 @@ impl ComposingNormalizer {
         supplementary: Option<DecompositionTables>,
         pairs: CanonicalCompositions,
     ) -> Result<Self, DataError>
-        ensures ok { IfOk result (λ n. (composing_data_of n ≡ data_from decompositions tables supplementary) ×
-            (pairs_of n ≡ pairs) × SuitsComposing (data_from decompositions tables supplementary, pairs)) }
-        ensures err { IfErr result (RefusesToCompose marker (data_from decompositions tables supplementary, pairs)) }
+        ensures ok { IfOk result (λ n. (composing_data_of n ≡ characters_from decompositions tables supplementary) ×
+            (pairs_of n ≡ pairs) × SuitsComposing (characters_from decompositions tables supplementary, pairs)) }
+        ensures err { IfErr result (RefusesToCompose marker
+            (characters_from decompositions tables supplementary, pairs)) }
     {
         let characters = CharacterData::new(
             &decompositions,
@@ -161,7 +158,7 @@ impl<'a> ComposingNormalizerBorrowed<'a> {
         requires ends { IsFinite (I.remaining iter) }
         ensures form { GivesForm I.next_gives ⟦<Composition<'a, I> as Iterator>⟧.next_gives
             (has_class_form (composing_data_of_borrowed self.now))
-            (composing_reading (composing_data_of_borrowed self.now) (pairs_of_borrowed self.now)) nfc iter result }
+            (reading_by (composing_data_of_borrowed self.now) Dropped (pairs_of_borrowed self.now)) nfc iter result }
         ensures ready { IfOk result ⟦<Composition<'a, I> as Iterator>⟧.can_next }
         ensures held { IfOk result (λ it. (data_of_composition it ≡ composing_data_of_borrowed self.now) ×
             (pairs_of_composition it ≡ pairs_of_borrowed self.now)) }

@@ -5,12 +5,14 @@ ghost use Rattle.std.specs.Iterator.{IsFinite};
 ghost use Rattle.normal_forms.specs.declared.Form.{Form};
 ghost use Rattle.normal_forms.specs.Forms.{normal_form};
 ghost use Rattle.normal_forms.specs.Reading.{Reading};
-ghost use Rattle.normalizer_tables.specs.Characters.{has_class_form, own_reading, word_of};
-ghost use Rattle.normalizer_tables.specs.PairConditions.{composing_reading, is_passed};
+ghost use Rattle.normalizer_tables.specs.Characters.{has_class_form, word_of};
+ghost use Rattle.normalizer_tables.specs.PairConditions.{is_passed};
 ghost use Rattle.normalizer_tables.specs.Words.{is_plain};
+ghost use Rattle.normalizer_tables.specs.Readings.{reading_by};
+ghost use Rattle.normalizer_tables.specs.declared.characters.IgnoredCharacters.TheVariants.{Dropped};
 ghost use Rattle.normalizer_iterators.specs.Items.{GivesForm};
 ghost use Rattle.normalizer_calls.specs.Acceptance.{bounds_of};
-ghost use Rattle.normalizer_calls.specs.Passing.{BeginsApart, MayPass};
+ghost use Rattle.normalizer_calls.specs.inner.Passing.{BeginsApart, MayPass};
 
 use crate::{ComposingNormalizerBorrowed, DecomposingNormalizerBorrowed};
 use normalizer_iterators::{Composition, Decomposition, NormalizeError};
@@ -85,7 +87,7 @@ impl<'a, I: Iterator<Item = char> + Drop> FormItems<I> for DecomposingNormalizer
 
     ghost has_class_form = { λ n. has_class_form (data_of_borrowed n) };
 
-    ghost reading = { λ n. own_reading (data_of_borrowed n) };
+    ghost reading = { λ n. reading_by (data_of_borrowed n) Dropped [] };
 
     ghost form = { Decomposing };
 
@@ -139,7 +141,7 @@ impl<'a, I: Iterator<Item = char> + Drop> FormItems<I> for ComposingNormalizerBo
 
     ghost has_class_form = { λ n. has_class_form (composing_data_of_borrowed n) };
 
-    ghost reading = { λ n. composing_reading (composing_data_of_borrowed n) (pairs_of_borrowed n) };
+    ghost reading = { λ n. reading_by (composing_data_of_borrowed n) Dropped (pairs_of_borrowed n) };
 
     ghost form = { Composing };
 

@@ -1,11 +1,12 @@
 //! Normalizers over data that a provider holds.
-ghost use Rattle.std.specs.Prelude.{◌≡◌, IfOk, IfErr};
+ghost use Rattle.std.specs.Prelude.{◌≡◌, IfOk, IfErr, []};
 ghost use Rattle.std.specs.Iterator.{IsFinite};
 ghost use Rattle.normal_forms.specs.Forms.{nfd};
-ghost use Rattle.normalizer_tables.specs.Characters.{has_class_form, own_reading};
+ghost use Rattle.normalizer_tables.specs.Characters.{has_class_form, characters_from};
+ghost use Rattle.normalizer_tables.specs.Readings.{reading_by};
+ghost use Rattle.normalizer_tables.specs.declared.characters.IgnoredCharacters.TheVariants.{Dropped};
 ghost use Rattle.normalizer_iterators.specs.Items.{GivesForm};
 ghost use Rattle.normalizer_calls.specs.Acceptance.{
-  data_from,
   nfd_data,
   nfkd_data,
   AnswersHeld,
@@ -32,7 +33,7 @@ pub struct DecomposingNormalizer {
     decompositions: DecompositionData,
     tables: DecompositionTables,
     supplementary: Option<DecompositionTables>,
-    ghost serves: { ServesDecomposing (data_from decompositions tables supplementary) },
+    ghost serves: { ServesDecomposing (characters_from decompositions tables supplementary) },
 }
 
 impl DecomposingNormalizer {
@@ -80,9 +81,9 @@ impl DecomposingNormalizer {
         tables: DecompositionTables,
         supplementary: Option<DecompositionTables>,
     ) -> Result<Self, DataError>
-        ensures ok { IfOk result (λ n. (data_of n ≡ data_from decompositions tables supplementary) ×
-            SuitsDecomposing (data_from decompositions tables supplementary)) }
-        ensures err { IfErr result (RefusesToDecompose marker (data_from decompositions tables supplementary)) }
+        ensures ok { IfOk result (λ n. (data_of n ≡ characters_from decompositions tables supplementary) ×
+            SuitsDecomposing (characters_from decompositions tables supplementary)) }
+        ensures err { IfErr result (RefusesToDecompose marker (characters_from decompositions tables supplementary)) }
     {
         let characters = CharacterData::new(
             &decompositions,
@@ -136,7 +137,7 @@ impl<'a> DecomposingNormalizerBorrowed<'a> {
         requires ends { IsFinite (I.remaining iter) }
         ensures form { GivesForm I.next_gives ⟦<Decomposition<'a, I> as Iterator>⟧.next_gives
             (has_class_form (data_of_borrowed self.now))
-            (own_reading (data_of_borrowed self.now)) nfd iter result }
+            (reading_by (data_of_borrowed self.now) Dropped []) nfd iter result }
         ensures ready { IfOk result ⟦<Decomposition<'a, I> as Iterator>⟧.can_next }
     {
         decomposed(self.characters.copied(), IgnoredCharacters::Dropped, iter)

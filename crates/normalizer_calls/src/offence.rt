@@ -3,9 +3,9 @@ ghost use Rattle.std.specs.Prelude.{IfOk, IsOk, IsOkUnless};
 ghost use Rattle.normal_forms.specs.Forms.{normal_form};
 ghost use Rattle.normal_forms.specs.ShortRuns.{HasShortRuns};
 ghost use Rattle.normalizer_tables.specs.AcceptedData.{SuitsTexts};
+ghost use Rattle.normalizer_calls.specs.inner.Offences.{IsCutUnlessNormalized, IsFirstOrNone};
 ghost use Rattle.normalizer_text.specs.Encodings.{decoded_in};
 ghost use Rattle.normalizer_input.specs.InputOffence.{IsInputOffenceOf};
-ghost use Rattle.normalizer_calls.specs.Checks.{IsCutUnlessNormalized, IsFirstOrNone};
 
 use crate::form_items::FormItems;
 use crate::writing::form_to;

@@ -6,7 +6,8 @@ ghost use Rattle.normalizer_text.specs.Encodings.{Encoding, decoded_in};
 ghost use Rattle.normalizer_input.specs.EncodedForm.{encoded_form};
 ghost use Rattle.normalizer_input.specs.InputCut.{IsInputCut, IsInputNormalized};
 ghost use Rattle.normalizer_calls.specs.Forms.{composed_by, decomposed_by, made_form};
-ghost use Rattle.normalizer_calls.specs.Owned.{HandsOutForm, HandsOutFormOfText, WroteUnlessOwn};
+ghost use Rattle.normalizer_calls.specs.Owned.{HandsOutForm, HandsOutFormOfText};
+ghost use Rattle.normalizer_calls.specs.inner.Owned.{WroteUnlessOwn};
 
 use crate::form_items::FormItems;
 use crate::offence::{LawfulItems, cut_of, laws_hold};
@@ -134,7 +135,8 @@ fn form_of_utf16<'t, N: LawfulItems<Chars<&'t [u16]>>>(
     units: &'t [u16],
 ) -> Result<CowSlice<'t, u16, Global>, NormalizeError>
     ensures { HandsOutForm cow_slice_items IsBorrowedSlice
-        (made_form (N.has_class_form normalizer.now) (N.reading normalizer.now) N.form) Encoding.Utf16 units.now result }
+        (made_form (N.has_class_form normalizer.now) (N.reading normalizer.now) N.form) Encoding.Utf16
+        units.now result }
 {
     let mut owned = Vec::new(alloc);
     if write_unless_own::<&'t [u16], N, Vec<u16>>(normalizer, units, &mut owned)? {

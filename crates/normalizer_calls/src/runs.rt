@@ -1,7 +1,7 @@
 //! Where runs of characters end that are handed on as they are, and the segments between them.
 ghost use Rattle.std.specs.Prelude.{◌≡◌, ◌<◌, ◌≤◌, length, take};
 ghost use Rattle.normalizer_input.specs.InputCut.{IsInputNormalized};
-ghost use Rattle.normalizer_calls.specs.Passing.{IsHandedOn, IsPart, IsRunEnd, IsSegmentEnd, step_passes};
+ghost use Rattle.normalizer_calls.specs.inner.Passing.{IsHandedOn, IsPart, IsRunEnd, IsSegmentEnd, step_passes};
 
 use crate::form_items::FormItems;
 use normalizer_text::{Chars, Step, Units};

@@ -1,8 +1,8 @@
 //! Normalizing text, bytes and 16-bit units into sinks.
 //!
-//! Each call answers `Sink` where the sink refused a call, and `Memory` where the marks that wait needed more room than was
-//! granted, which they never do where the runs of the text are short. After either a beginning of the form may have been
-//! written; the normalizer is as it was.
+//! Each call answers `Sink` where the sink refused a call, and `Memory` where the marks that wait needed more room than
+//! was granted, which they never do where the runs of the text are short. After either a beginning of the form may have
+//! been written; the normalizer is as it was.
 ghost use Rattle.std.specs.Prelude.{length, chars};
 ghost use Rattle.normalizer_text.specs.Encodings.{Encoding};
 ghost use Rattle.normalizer_text.specs.Utf8.{decoded_utf8};

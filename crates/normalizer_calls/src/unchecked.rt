@@ -1,7 +1,8 @@
 //! Canonical data that are taken as they are: the caller answers for what `check_nfd_data` tests. No memory is taken
 //! for the data.
-ghost use Rattle.std.specs.Prelude.{◌≡◌};
-ghost use Rattle.normalizer_tables.specs.NfdData.{IsSoundNfdData, nfd_characters};
+ghost use Rattle.std.specs.Prelude.{◌≡◌, None};
+ghost use Rattle.normalizer_tables.specs.NfdData.{IsSoundNfdData};
+ghost use Rattle.normalizer_tables.specs.Characters.{characters_from};
 
 use crate::normalizer::DecomposingNormalizerBorrowed;
 use normalizer_tables::characters::CharacterData;
@@ -16,7 +17,7 @@ impl<'a> DecomposingNormalizerBorrowed<'a> {
         tables: &'a DecompositionTables,
     ) -> Self
         requires { IsSoundNfdData decompositions.now tables.now }
-        ensures { data_of_borrowed result ≡ nfd_characters decompositions.now tables.now }
+        ensures { data_of_borrowed result ≡ characters_from decompositions.now tables.now None }
     {
         DecomposingNormalizerBorrowed {
             characters: CharacterData::new(decompositions, tables, None, false),

@@ -4,15 +4,11 @@ ghost use Rattle.std.specs.Iterator.{IsFinite};
 ghost use Rattle.normal_forms.specs.Forms.{nfc};
 ghost use Rattle.normalizer_tables.specs.Characters.{class_of, has_class_form};
 ghost use Rattle.normalizer_tables.specs.Held.{AnswersHeld};
+ghost use Rattle.normalizer_tables.specs.Readings.{reading_by};
 ghost use Rattle.normalizer_iterators.specs.Items.{GivesForm};
 ghost use Rattle.normalizer_calls.specs.Acceptance.{bounds_of};
 ghost use Rattle.normalizer_calls.specs.ComposingAcceptance.{RefusesToCompose, SuitsComposing};
-ghost use Rattle.normalizer_calls.specs.Uts46.{
-  mapper_data,
-  mapper_reading,
-  uts46_data,
-  ServesMapper,
-};
+ghost use Rattle.normalizer_calls.specs.Uts46.{mapper_data, uts46_data, ServesMapper};
 
 use normalizer_iterators::composition::composed;
 use normalizer_iterators::{Composition, NormalizeError};
@@ -131,8 +127,8 @@ impl<'a> Uts46MapperBorrowed<'a> {
         self.characters.class_of(character) == VIRAMA
     }
 
-    /// What `iter` gives, mapped and in Normalization Form C, character by character. Ignored characters are dropped, so
-    /// that marks after them reach the base before them.
+    /// What `iter` gives, mapped and in Normalization Form C, character by character. Ignored characters are dropped,
+    /// so that marks after them reach the base before them.
     pub fn map_normalize<I: Iterator<Item = char> + Drop>(
         &self,
         iter: I,
@@ -140,7 +136,8 @@ impl<'a> Uts46MapperBorrowed<'a> {
         requires can { I.can_next iter }
         requires ends { IsFinite (I.remaining iter) }
         ensures form { let h = mapper_data_of_borrowed self.now in GivesForm I.next_gives
-            ⟦<Composition<'a, I> as Iterator>⟧.next_gives (has_class_form h.0) (mapper_reading h Dropped) nfc iter result }
+            ⟦<Composition<'a, I> as Iterator>⟧.next_gives (has_class_form h.0) (reading_by h.0 Dropped h.1)
+            nfc iter result }
         ensures ready { IfOk result ⟦<Composition<'a, I> as Iterator>⟧.can_next }
         ensures held { IfOk result (λ it. (data_of_composition it ≡ (mapper_data_of_borrowed self.now).0) ×
             (pairs_of_composition it ≡ (mapper_data_of_borrowed self.now).1)) }
@@ -158,7 +155,8 @@ impl<'a> Uts46MapperBorrowed<'a> {
         requires can { I.can_next iter }
         requires ends { IsFinite (I.remaining iter) }
         ensures form { let h = mapper_data_of_borrowed self.now in GivesForm I.next_gives
-            ⟦<Composition<'a, I> as Iterator>⟧.next_gives (has_class_form h.0) (mapper_reading h Replaced) nfc iter result }
+            ⟦<Composition<'a, I> as Iterator>⟧.next_gives (has_class_form h.0) (reading_by h.0 Replaced h.1)
+            nfc iter result }
         ensures ready { IfOk result ⟦<Composition<'a, I> as Iterator>⟧.can_next }
         ensures held { IfOk result (λ it. (data_of_composition it ≡ (mapper_data_of_borrowed self.now).0) ×
             (pairs_of_composition it ≡ (mapper_data_of_borrowed self.now).1)) }

@@ -5,8 +5,9 @@ ghost use Rattle.normal_forms.specs.Forms.{normal_form};
 ghost use Rattle.normal_forms.specs.ShortRuns.{HasShortRuns};
 ghost use Rattle.normalizer_text.specs.Encodings.{decoded_in};
 ghost use Rattle.normalizer_iterators.specs.Items.{SpellsOk, SpellsUnless};
-ghost use Rattle.normalizer_calls.specs.Passing.{StandsInInput, WrotePart};
-ghost use Rattle.normalizer_calls.specs.Writing.{NothingOffered, TellsLengthFirst, WritesText};
+ghost use Rattle.normalizer_calls.specs.inner.Passing.{StandsInInput, WrotePart};
+ghost use Rattle.normalizer_calls.specs.Writing.{TellsLengthFirst};
+ghost use Rattle.normalizer_calls.specs.inner.Writing.{NothingOffered, WritesText};
 
 use crate::form_items::FormItems;
 use crate::runs::{passed_end, segment_end};

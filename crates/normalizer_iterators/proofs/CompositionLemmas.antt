@@ -4,7 +4,6 @@ use Rattle.std.specs.Iterator.{Count, IsFinite, at_most, MakesProgress}
 use Rattle.normal_forms.specs.Reading.{Reading, IsStarter, IsMark}
 use Rattle.normal_forms.specs.CompositionByStarters.{compose_after, compose_by_starters}
 use Rattle.normal_forms.proofs.ComposeLemmas.{compose_by_starters-nil, compose_by_starters-starter, compose_by_starters-mark}
-use Rattle.normalizer_tables.specs.PairConditions.{composing_reading}
 use Rattle.normalizer_iterators.specs.declared.composition.Ahead.{Ahead}
 use Rattle.normalizer_iterators.specs.declared.composition.Ahead.TheVariants.{NoStarter, Passed, Starter, Ended}
 use Rattle.normalizer_iterators.specs.declared.composition.Composition.{Composition}
@@ -20,6 +19,8 @@ use Rattle.normalizer_iterators.specs.Composing.{composed_ahead, ahead_left, Unl
 use Rattle.normalizer_iterators.specs.Composition.{CanCompose, ComposesOn, CompositionSteps, StaysShort, WillGive, items_left, pairing_by}
 use Rattle.normalizer_iterators.proofs.MarkRunLemmas.{HasShortMarkRuns-rest}
 use Rattle.normalizer_iterators.proofs.StarterLemmas.{GivesShort-next, GivesShort-no_fault}
+use Rattle.normalizer_tables.specs.Readings.{reading_by}
+use Rattle.normalizer_tables.specs.declared.characters.IgnoredCharacters.TheVariants.{Dropped}
 
 module _ {I : Type 0} where
   -- t has the data and the pairs of s; these marks stay, and this is ahead
@@ -49,7 +50,7 @@ module _ {I : Type 0} (can : I → Type 0) (gives : I → Option ℕ → I → T
   -- ---- what is to come, by the parts
 
   pairing_by-kept : (s t : Composition I) → (t.decomposed.characters ≡ s.decomposed.characters) × (t.pairs.now ≡ s.pairs.now) → pairing_by t ≡ pairing_by s
-  pairing_by-kept s t kept = ap (λ k. composing_reading k t.pairs.now) kept.0 ∙ ap (composing_reading s.decomposed.characters) kept.1
+  pairing_by-kept s t kept = ap (λ k. reading_by k Dropped t.pairs.now) kept.0 ∙ ap (reading_by s.decomposed.characters Dropped) kept.1
 
   WillGive-by : (s t : Composition I) (front : List ℕ) (behind : Ahead) → Becomes s front behind t → (out : List ℕ)
       → WillGiveBehind gives (pairing_by s) front behind t.decomposed out → WillGive gives t out
@@ -238,8 +239,8 @@ module _ {I : Type 0} (can : I → Type 0) (gives : I → Option ℕ → I → T
         → IsStarter (pairing_by s) c → ComposesOn can gives left c n s.pairs.now r t → CompositionSteps can gives left s (Some r) t
     Steps-first_starter c n r t step starter on =
         let d = pairing_by s in
-        let same_after : (y : List ℕ) → compose_after d c [] y ≡ compose_after (composing_reading n.characters s.pairs.now) c [] y
-        = λ y. ap (λ k. compose_after (composing_reading k s.pairs.now) c [] y) (sym step.kept.0) in
+        let same_after : (y : List ℕ) → compose_after d c [] y ≡ compose_after (reading_by n.characters Dropped s.pairs.now) c [] y
+        = λ y. ap (λ k. compose_after (reading_by k Dropped s.pairs.now) c [] y) (sym step.kept.0) in
         record {
           item = record {
             first = λ out h.
@@ -247,7 +248,7 @@ module _ {I : Type 0} (can : I → Type 0) (gives : I → Option ℕ → I → T
                 let text : out ≡ compose_after d c [] next.0 = text_before out h ∙ ap (compose_by_starters d) next.1 ∙ compose_by_starters-starter d c next.0 starter in
                 subst (λ o. MatchResult r (GaveFirst (WillGive gives) o t) (λ _. WillGive gives t [])) (sym (text ∙ same_after next.0)) (on.first next.0 next.2);
             fault = on.fault;
-            room = λ h. on.room (subst (λ k. GivesShort gives (composing_reading k s.pairs.now) n) (sym step.kept.0) (GivesShort-next can gives left d s.decomposed c n step (short_before h)).0);
+            room = λ h. on.room (subst (λ k. GivesShort gives (reading_by k Dropped s.pairs.now) n) (sym step.kept.0) (GivesShort-next can gives left d s.decomposed c n step (short_before h)).0);
             ends = on.ends;
             stays = λ h. absurd (not_ended h.0);
           };

@@ -10,7 +10,7 @@ use Rattle.normalizer_iterators.specs.declared.waiting.WaitingList.{WaitingList}
 use Rattle.normalizer_iterators.specs.Reads.{character_of}
 use Rattle.normalizer_iterators.proofs.LazyLemmas.{anew-parts}
 use Rattle.normalizer_iterators.specs.declared.error.NormalizeError.TheVariants.{Memory}
-use Rattle.normalizer_iterators.specs.Decomposition.{CanDecompose, DecompositionSteps, IsEnded, StaysShort, WillGive, items_left, pending_of, reading_by}
+use Rattle.normalizer_iterators.specs.Decomposition.{CanDecompose, DecompositionSteps, IsEnded, StaysShort, WillGive, items_left, pending_of, reading_of}
 use Rattle.normalizer_iterators.specs.Delegate.{HasRead, IsReadyBehind}
 use Rattle.normalizer_iterators.specs.LazyReading.{longest_list}
 use Rattle.normalizer_iterators.specs.ReadingOn.{ReadsChunk, ChunkDidNotFit}
@@ -35,19 +35,19 @@ nothing_read (Some r) none c e = cc
 module _ {I : Type 0} (can : I → Type 0) (gives : I → Option ℕ → I → Type 0) (left : I → Count) where
   -- the first member of what begins anew is a starter
   pub class-first : (s : Decomposition I) (c first : ℕ) (delegate next : I) (pending : Option ℕ) (w : WaitingList) → pending_of s ≡ Some c
-      → ReadsChunk can gives left (has_class_form s.characters) (reading_by s) c delegate first pending next w → 0 ≡ class_of s.characters first
+      → ReadsChunk can gives left (has_class_form s.characters) (reading_of s) c delegate first pending next w → 0 ≡ class_of s.characters first
   class-first s c first delegate next pending w here r =
-      let parts = anew-parts (has_class_form s.characters) (reading_by s) c (s.anew c here) in
+      let parts = anew-parts (has_class_form s.characters) (reading_of s) c (s.anew c here) in
       sym (s.suits.starters c first r.others parts.0 r.members)
 
   ended : (s : Decomposition I) → pending_of s ≡ None → ordered s.waiting ≡ [] → WillGive gives s []
-  ended s none empty = IsToCome-ended gives (nfd (reading_by s)) (pending_of s) s.delegate (ordered s.waiting) (nfd-nil (reading_by s)) none empty
+  ended s none empty = IsToCome-ended gives (nfd (reading_of s)) (pending_of s) s.delegate (ordered s.waiting) (nfd-nil (reading_of s)) none empty
 
   pub Steps-ended : (s t : Decomposition I) → t.characters ≡ s.characters → t.ignored ≡ s.ignored → pending_of s ≡ None → pending_of t ≡ None → ordered s.waiting ≡ [] → ordered t.waiting ≡ []
       → DecompositionSteps can gives left s None t
   Steps-ended s t characters ignored before after empty empty_after = record {
     item = record {
-      first = λ out h. (IsToCome-none gives (nfd (reading_by s)) (pending_of s) s.delegate (ordered s.waiting) out (nfd-nil (reading_by s)) before empty h, ended t after empty_after);
+      first = λ out h. (IsToCome-none gives (nfd (reading_of s)) (pending_of s) s.delegate (ordered s.waiting) out (nfd-nil (reading_of s)) before empty h, ended t after empty_after);
       fault = tt;
       room = λ h. (tt, short h);
       ends = (after, empty_after);
@@ -59,30 +59,30 @@ module _ {I : Type 0} (can : I → Type 0) (gives : I → Option ℕ → I → T
     where
       short : StaysShort gives s → StaysShort gives t
       short h = rw (characters, ignored, after)
-          (AreShortToCome-ended gives (has_class_form s.characters) (reading_by s) None s.delegate t.delegate refl
-          (subst (λ p. AreShortToCome gives (has_class_form s.characters) (reading_by s) p s.delegate) before h))
+          (AreShortToCome-ended gives (has_class_form s.characters) (reading_of s) None s.delegate t.delegate refl
+          (subst (λ p. AreShortToCome gives (has_class_form s.characters) (reading_of s) p s.delegate) before h))
 
   module _ (s : Decomposition I) (c : ℕ) (pending : pending_of s ≡ Some c) (empty : ordered s.waiting ≡ []) where
-    to_come : (out : List ℕ) → WillGive gives s out → IsToCome gives (nfd (reading_by s)) (Some c) s.delegate (ordered s.waiting) out
-    to_come out h = subst (λ p. IsToCome gives (nfd (reading_by s)) p s.delegate (ordered s.waiting) out) pending h
+    to_come : (out : List ℕ) → WillGive gives s out → IsToCome gives (nfd (reading_of s)) (Some c) s.delegate (ordered s.waiting) out
+    to_come out h = subst (λ p. IsToCome gives (nfd (reading_of s)) p s.delegate (ordered s.waiting) out) pending h
 
-    short_to_come : StaysShort gives s → AreShortToCome gives (has_class_form s.characters) (reading_by s) (Some c) s.delegate
-    short_to_come h = subst (λ p. AreShortToCome gives (has_class_form s.characters) (reading_by s) p s.delegate) pending h
+    short_to_come : StaysShort gives s → AreShortToCome gives (has_class_form s.characters) (reading_of s) (Some c) s.delegate
+    short_to_come h = subst (λ p. AreShortToCome gives (has_class_form s.characters) (reading_of s) p s.delegate) pending h
 
     pub Steps-chunk : (t : Decomposition I) (first : ℕ) → t.characters ≡ s.characters → t.ignored ≡ s.ignored
-        → ReadsChunk can gives left (has_class_form s.characters) (reading_by s) c s.delegate first (pending_of t) t.delegate t.waiting → DecompositionSteps can gives left s (Some (Ok first)) t
+        → ReadsChunk can gives left (has_class_form s.characters) (reading_of s) c s.delegate first (pending_of t) t.delegate t.waiting → DecompositionSteps can gives left s (Some (Ok first)) t
     Steps-chunk t first characters ignored r = record {
       item = record {
         first = λ out h.
             let next =
-            IsToCome-chunk gives can left (has_class_form s.characters) (reading_by s) s.suits c s.delegate t.delegate first (pending_of t) t.waiting (ordered s.waiting) out empty
+            IsToCome-chunk gives can left (has_class_form s.characters) (reading_of s) s.suits c s.delegate t.delegate first (pending_of t) t.waiting (ordered s.waiting) out empty
             (s.anew c pending) r (to_come out h) in
             (next.0, next.1, rw (characters, ignored) next.2);
         fault = tt;
         room = λ h. (
           refl,
           rw (characters, ignored)
-              (AreShortToCome-chunk gives can left (has_class_form s.characters) (reading_by s) c s.delegate t.delegate first (pending_of t) t.waiting r (short_to_come h)),
+              (AreShortToCome-chunk gives can left (has_class_form s.characters) (reading_of s) c s.delegate t.delegate first (pending_of t) t.waiting r (short_to_come h)),
         );
         ends = tt;
         stays = λ h. cc (h.0, pending);
@@ -92,12 +92,12 @@ module _ {I : Type 0} (can : I → Type 0) (gives : I → Option ℕ → I → T
     }
 
     pub Steps-refused : (t : Decomposition I) → t.characters ≡ s.characters → t.ignored ≡ s.ignored → pending_of t ≡ None → ordered t.waiting ≡ []
-        → ChunkDidNotFit gives (has_class_form s.characters) (reading_by s) c s.delegate → DecompositionSteps can gives left s (Some (Err Memory)) t
+        → ChunkDidNotFit gives (has_class_form s.characters) (reading_of s) c s.delegate → DecompositionSteps can gives left s (Some (Err Memory)) t
     Steps-refused t characters ignored after empty_after long = record {
       item = record {
         first = λ out h. ended t after empty_after;
         fault = refl;
-        room = λ h. absurd (short_chunk_fits gives can left (has_class_form s.characters) (reading_by s) c s.delegate (s.anew c pending) long (short_to_come h));
+        room = λ h. absurd (short_chunk_fits gives can left (has_class_form s.characters) (reading_of s) c s.delegate (s.anew c pending) long (short_to_come h));
         ends = (after, empty_after);
         stays = λ h. cc (h.0, pending);
       };
@@ -112,8 +112,8 @@ module _ {I : Type 0} (can : I → Type 0) (gives : I → Option ℕ → I → T
     -- the chunk was read, behind a character that had been read, or didn't fit
     module _ (following : Option ℕ) (u : I) (read : HasRead gives left s.delegate following u) (t : Decomposition I) (characters : t.characters ≡ s.characters) (ignored : t.ignored ≡ s.ignored) where
       pub Steps-read : (r : Result ℕ NormalizeError) → IfOk r
-          (λ first. (before : I) → HasRead gives left before following u → ReadsChunk can gives left (has_class_form s.characters) (reading_by s) c before first (pending_of t) t.delegate t.waiting)
-          → IfErr r (λ e. (e ≡ Memory) × IsEnded t × ((before : I) → HasRead gives left before following u → ChunkDidNotFit gives (has_class_form s.characters) (reading_by s) c before))
+          (λ first. (before : I) → HasRead gives left before following u → ReadsChunk can gives left (has_class_form s.characters) (reading_of s) c before first (pending_of t) t.delegate t.waiting)
+          → IfErr r (λ e. (e ≡ Memory) × IsEnded t × ((before : I) → HasRead gives left before following u → ChunkDidNotFit gives (has_class_form s.characters) (reading_of s) c before))
           → DecompositionSteps can gives left s (Some r) t
       Steps-read (Ok first) ok err = Steps-chunk t first characters ignored (ok s.delegate read)
       Steps-read (Err e) ok err =
@@ -123,17 +123,17 @@ module _ {I : Type 0} (can : I → Type 0) (gives : I → Option ℕ → I → T
     items_left-ended t end =
         ap (λ l. length l + longest_list * reads_left (pending_of t) (size (left t.delegate))) end.1 ∙ ap (λ p. 0 + longest_list * reads_left p (size (left t.delegate))) end.0 ∙ omega arith
 
-    pub Goes-chunk : (t : Decomposition I) (first : ℕ) → ReadsChunk can gives left (has_class_form s.characters) (reading_by s) c s.delegate first (pending_of t) t.delegate t.waiting
+    pub Goes-chunk : (t : Decomposition I) (first : ℕ) → ReadsChunk can gives left (has_class_form s.characters) (reading_of s) c s.delegate first (pending_of t) t.delegate t.waiting
         → MakesProgress {A = Result ℕ NormalizeError} (CanDecompose can left) (λ u. at_most (items_left left u)) s (Some (Ok first)) t
     Goes-chunk t first r =
-        let smaller = chunk_size gives can left (has_class_form s.characters) (reading_by s) s.suits c s.delegate t.delegate first (pending_of t) t.waiting r in
+        let smaller = chunk_size gives can left (has_class_form s.characters) (reading_of s) s.suits c s.delegate t.delegate first (pending_of t) t.waiting r in
         record { on = λ finite. (r.ready, tt, omega (arith, smaller, items_left-pending)); keeps = r.ready; rests = λ finite. tt }
 
     -- what was read is nearer to the end
     pub Goes-read : (following : Option ℕ) (u : I) → HasRead gives left s.delegate following u → (t : Decomposition I) (r : Result ℕ NormalizeError)
         → IfOk r (λ first. (before : I) → HasRead gives left before following u
-        → ReadsChunk can gives left (has_class_form s.characters) (reading_by s) c before first (pending_of t) t.delegate t.waiting)
-        → IfErr r (λ e. (e ≡ Memory) × IsEnded t × ((before : I) → HasRead gives left before following u → ChunkDidNotFit gives (has_class_form s.characters) (reading_by s) c before))
+        → ReadsChunk can gives left (has_class_form s.characters) (reading_of s) c before first (pending_of t) t.delegate t.waiting)
+        → IfErr r (λ e. (e ≡ Memory) × IsEnded t × ((before : I) → HasRead gives left before following u → ChunkDidNotFit gives (has_class_form s.characters) (reading_of s) c before))
         → MakesProgress {A = Result ℕ NormalizeError} (CanDecompose can left) (λ v. at_most (items_left left v)) s (Some r) t
     Goes-read following u read t (Ok first) ok err = Goes-chunk t first (ok s.delegate read)
     Goes-read following u read t (Err e) ok err =

@@ -7,17 +7,19 @@ use Rattle.normal_forms.specs.ShortRuns.{continues, is_empty}
 use Rattle.normalizer_tables.specs.declared.characters.IgnoredCharacters.{IgnoredCharacters}
 use Rattle.normalizer_tables.specs.Characters.{Characters, list_of}
 use Rattle.normalizer_tables.specs.Ignored.{ignored_list}
+use Rattle.normalizer_tables.specs.Pairs.{Pair}
+use Rattle.normalizer_tables.specs.Readings.{reading_by}
 use Rattle.normalizer_text.specs.Steps.{Spells}
 use Rattle.normalizer_iterators.specs.Delegate.{SpellsBehind}
-use Rattle.normalizer_iterators.specs.LazyReading.{decomposing_reading, HasClassesFrom}
+use Rattle.normalizer_iterators.specs.LazyReading.{HasClassesFrom}
 
 -- ---- the reading that the data give
 
-pub class-decomposing_reading : (s : Characters) (ignored : IgnoredCharacters) → HasClassesFrom s (decomposing_reading s ignored)
-class-decomposing_reading s ignored c = refl
+pub class-reading_by : (s : Characters) (ignored : IgnoredCharacters) (pairs : List Pair) → HasClassesFrom s (reading_by s ignored pairs)
+class-reading_by s ignored pairs c = refl
 
-pub list-decomposing_reading : (s : Characters) (ignored : IgnoredCharacters) (c : ℕ) → (decomposing_reading s ignored).list c ≡ list_of s (ignored_list ignored) c
-list-decomposing_reading s ignored c = refl
+pub list-reading_by : (s : Characters) (ignored : IgnoredCharacters) (pairs : List Pair) (c : ℕ) → (reading_by s ignored pairs).list c ≡ list_of s (ignored_list ignored) c
+list-reading_by s ignored pairs c = refl
 
 -- ---- what continues
 

@@ -10,11 +10,13 @@ use Rattle.normalizer_tables.specs.declared.word.WordReading.{WordReading}
 use Rattle.normalizer_tables.specs.declared.word.WordReading.TheVariants.{Ignored, Itself, ClassForm, SpecialForm}
 use Rattle.normalizer_tables.specs.Characters.{Characters, word_of, reading_of_word, named_list, list_of, class_of, has_class_form}
 use Rattle.normalizer_tables.specs.Conditions.{Holds, HoldsAt, IsSoundWord}
-use Rattle.normalizer_tables.specs.PairConditions.{composing_reading, is_passed}
+use Rattle.normalizer_tables.specs.PairConditions.{is_passed}
 use Rattle.normalizer_tables.specs.Pairs.{Pair}
 use Rattle.normalizer_tables.specs.SpecialLists.{FixedList, fixed_list_of}
 use Rattle.normalizer_tables.specs.Words.{ignored_marker, class_of_word, is_plain, is_class_form, is_ordinary_class_form, is_special_class_form, is_backward_combining, is_non_round_trip}
 use Rattle.normalizer_tables.specs.Words.{has_high_zeros, has_low_zeros, low_byte, two_characters, read_low, listed, read}
+use Rattle.normalizer_tables.specs.Readings.{reading_by}
+use Rattle.normalizer_tables.specs.declared.characters.IgnoredCharacters.TheVariants.{Dropped}
 use Rattle.normalizer_tables.proofs.CharacterLemmas.{list_read-scalar, list_of-reads, class_of-scalar}
 
 -- all nine lie above the bound
@@ -72,7 +74,7 @@ module _ (s : Characters) (n : ℕ) (h : IsScalar n) where
   class_of-form form = class_of-scalar s n h ∙ rw form refl
 
   module _ (b : Bounds) (bounded : b.composition ≤ 0x0300) (pairs : List Pair) (words : Holds s b Words) (inhabited : list_of s [] n ≡ [] → ⊥)
-      (safely : BeginsSafely (composing_reading s pairs) (list_of s [] n)) (passed : is_passed s b n ≡ true) where
+      (safely : BeginsSafely (reading_by s Dropped pairs) (list_of s [] n)) (passed : is_passed s b n ≡ true) where
     sound : IsSoundWord s n
     unfolding Holds HoldsAt
     sound = words.1 n h
@@ -85,7 +87,7 @@ module _ (s : Characters) (n : ℕ) (h : IsScalar n) where
     not_ordinary form ordinary =
         let class = class_of-form form in
         let marked = (sound.class_form.ordinary ordinary).0 in
-        list_of-ordinary ordinary (λ l. (l ≡ [] → ⊥) → BeginsSafely (composing_reading s pairs) l → ⊥) (λ some begins. some refl)
+        list_of-ordinary ordinary (λ l. (l ≡ [] → ⊥) → BeginsSafely (reading_by s Dropped pairs) l → ⊥) (λ some begins. some refl)
         (λ some begins. let starter : class_of s n ≡ 0 = begins.0 in omega arith) inhabited safely
 
     not_special : is_class_form (word_of s n) ≡ true → is_special_class_form (word_of s n) ≡ true → ⊥

@@ -17,15 +17,15 @@ use Rattle.normal_forms.specs.ShortRuns.{HasShortRuns}
 use Rattle.normalizer_text.specs.Steps.{Spells}
 use Rattle.normalizer_tables.specs.declared.characters.IgnoredCharacters.{IgnoredCharacters}
 use Rattle.normalizer_tables.specs.declared.condition.Bounds.{Bounds}
-use Rattle.normalizer_tables.specs.Characters.{Characters, reading_of, has_class_form}
-use Rattle.normalizer_tables.specs.Ignored.{ignored_list}
-use Rattle.normalizer_tables.specs.PairConditions.{composing_reading}
-use Rattle.normalizer_tables.specs.Pairs.{Pair, pair_of}
+use Rattle.normalizer_tables.specs.Characters.{Characters, has_class_form}
+use Rattle.normalizer_tables.specs.Pairs.{Pair}
+use Rattle.normalizer_tables.specs.Readings.{reading_by}
+use Rattle.normalizer_tables.specs.declared.characters.IgnoredCharacters.TheVariants.{Dropped}
 use Rattle.normalizer_iterators.specs.declared.decomposition.Decomposition.{Decomposition}
 use Rattle.normalizer_iterators.specs.Delegate.{SpellsBehind, IsReadyBehind}
-use Rattle.normalizer_iterators.specs.Decomposition.{StaysShort, WillGive, pending_of, reading_by}
+use Rattle.normalizer_iterators.specs.Decomposition.{StaysShort, WillGive, pending_of, reading_of}
 use Rattle.normalizer_iterators.specs.LazyComposing.{IsPassed, StandsApart, StandsApartIn, PassedBeginAnew, SuitsLazyComposing}
-use Rattle.normalizer_iterators.specs.LazyReading.{decomposing_reading, longest_list}
+use Rattle.normalizer_iterators.specs.LazyReading.{longest_list}
 use Rattle.normalizer_iterators.specs.Passing.{AllPassed, StandsAtPassed, IsAtPassed, PassesOn, GivesStarter}
 use Rattle.normalizer_iterators.specs.ReadingOn.{ReadsChunk}
 use Rattle.normalizer_iterators.specs.ToCome.{reads_left}
@@ -38,11 +38,11 @@ use Rattle.normalizer_iterators.proofs.LazyLemmas.{continues-anew, spelled_next}
 
 pub begins_anew : (s : Characters) (b : Bounds) (pairs : List Pair) → SuitsLazyComposing s b pairs → (ignored : IgnoredCharacters) → PassedBeginAnew s b ignored
 begins_anew s b pairs suits ignored = record {
-  anew = λ c passed. let apart = suits.apart ignored c passed in continues-anew (has_class_form s) (decomposing_reading s ignored) c apart.anew apart.inhabited;
+  anew = λ c passed. let apart = suits.apart ignored c passed in continues-anew (has_class_form s) (reading_by s ignored []) c apart.anew apart.inhabited;
 }
 
 pub all_anew : (s : Characters) (b : Bounds) (ignored : IgnoredCharacters) → PassedBeginAnew s b ignored → (following : Option ℕ) → AllPassed s b following
-    → ForSome following (λ c. continues (has_class_form s) (decomposing_reading s ignored) c ≡ false)
+    → ForSome following (λ c. continues (has_class_form s) (reading_by s ignored []) c ≡ false)
 all_anew s b ignored anew following passed = λ c is. anew.anew c (at_some following (IsPassed s b) passed c is)
 
 pub all_apart : (s : Characters) (b : Bounds) (pairs : List Pair) → SuitsLazyComposing s b pairs → (ignored : IgnoredCharacters) (following : Option ℕ) → AllPassed s b following
@@ -59,12 +59,12 @@ IsAtPassed-stands b pairs s suits stands = record { waiting = stands.0; apart = 
 -- ---- the composing form
 
 composed_form-is : (s : Characters) (ignored : IgnoredCharacters) (pairs : List Pair) (x : List ℕ)
-    → composed_form (reading_of s (ignored_list ignored) (pair_of pairs)) x ≡ compose_by_starters (composing_reading s pairs) (nfd (decomposing_reading s ignored) x)
+    → composed_form (reading_by s ignored pairs) x ≡ compose_by_starters (reading_by s Dropped pairs) (nfd (reading_by s ignored []) x)
 unfolding composed_form nfd order insert is_reorderable expand compose_by_starters compose_after join is_above
 composed_form-is s ignored pairs x = refl
 
 own_form : (s : Characters) (b : Bounds) (pairs : List Pair) → SuitsLazyComposing s b pairs → (ignored : IgnoredCharacters) (c : ℕ) → StandsApartIn s pairs ignored c
-    → composed_form (reading_of s (ignored_list ignored) (pair_of pairs)) (c ∷ []) ≡ c ∷ []
+    → composed_form (reading_by s ignored pairs) (c ∷ []) ≡ c ∷ []
 unfolding normal_form
 own_form s b pairs suits ignored c apart =
     composed_form-is s ignored pairs (c ∷ []) ∙ sym (nfc-reading_by s ignored pairs suits.starters (c ∷ [])) ∙ apart.form
@@ -83,28 +83,28 @@ BeginsSafely-apart f d c apart = by (d.list c) refl
 -- what stands apart and what is behind it begin safely
 begins_apart : {I : Type 0} (gives : I → Option ℕ → I → Type 0) (s : Characters) (pairs : List Pair) (ignored : IgnoredCharacters) (following : Option ℕ) (u : I) (rest : List ℕ)
     → ForSome following (StandsApartIn s pairs ignored) → SpellsBehind gives following u rest
-    → BeginsSafely (reading_of s (ignored_list ignored) (pair_of pairs)) (expand (reading_of s (ignored_list ignored) (pair_of pairs)) (option_to_list following ++ rest))
+    → BeginsSafely (reading_by s ignored pairs) (expand (reading_by s ignored pairs) (option_to_list following ++ rest))
 unfolding expand
 begins_apart gives s pairs ignored None u rest apart source =
-    subst (λ l. BeginsSafely (reading_of s (ignored_list ignored) (pair_of pairs)) (expand (reading_of s (ignored_list ignored) (pair_of pairs)) l)) (sym source) tt
+    subst (λ l. BeginsSafely (reading_by s ignored pairs) (expand (reading_by s ignored pairs) l)) (sym source) tt
 begins_apart gives s pairs ignored (Some e) u rest apart source =
     let stands = apart e refl in
-    BeginsSafely-expand (reading_of s (ignored_list ignored) (pair_of pairs)) e rest stands.inhabited
-    (BeginsSafely-apart (has_class_form s) (reading_of s (ignored_list ignored) (pair_of pairs)) e stands)
+    BeginsSafely-expand (reading_by s ignored pairs) e rest stands.inhabited
+    (BeginsSafely-apart (has_class_form s) (reading_by s ignored pairs) e stands)
 
 -- only classes and pairs matter to where a text may begin
-BeginsSafely-pairs : (s : Characters) (pairs : List Pair) (ignored : IgnoredCharacters) (x : List ℕ) → BeginsSafely (reading_of s (ignored_list ignored) (pair_of pairs)) x
-    → BeginsSafely (composing_reading s pairs) x
+BeginsSafely-pairs : (s : Characters) (pairs : List Pair) (ignored : IgnoredCharacters) (x : List ℕ) → BeginsSafely (reading_by s ignored pairs) x
+    → BeginsSafely (reading_by s Dropped pairs) x
 BeginsSafely-pairs s pairs ignored [] h = tt
 BeginsSafely-pairs s pairs ignored (c ∷ x) h = h
 
 nfd-begins : (s : Characters) (pairs : List Pair) (ignored : IgnoredCharacters) (x : List ℕ)
-    → BeginsSafely (reading_of s (ignored_list ignored) (pair_of pairs)) (expand (reading_of s (ignored_list ignored) (pair_of pairs)) x)
-    → BeginsSafely (composing_reading s pairs) (nfd (decomposing_reading s ignored) x)
+    → BeginsSafely (reading_by s ignored pairs) (expand (reading_by s ignored pairs) x)
+    → BeginsSafely (reading_by s Dropped pairs) (nfd (reading_by s ignored []) x)
 unfolding nfd
 nfd-begins s pairs ignored x begins =
-    let d = reading_of s (ignored_list ignored) (pair_of pairs) in
-    subst (BeginsSafely (composing_reading s pairs)) (nfd-reading_by s ignored pairs x) (BeginsSafely-pairs s pairs ignored (nfd d x) (BeginsSafely-order d (expand d x) begins))
+    let d = reading_by s ignored pairs in
+    subst (BeginsSafely (reading_by s Dropped pairs)) (nfd-reading_by s ignored pairs x) (BeginsSafely-pairs s pairs ignored (nfd d x) (BeginsSafely-order d (expand d x) begins))
 
 -- a starter and its marks are done where what follows begins safely
 pub compose_after-boundary : (d : Reading) (a : ℕ) (p y : List ℕ) → BeginsSafely d y → compose_after d a p y ≡ (a ∷ p) ++ compose_by_starters d y
@@ -114,10 +114,10 @@ compose_after-boundary d a p (c ∷ y) begins =
 
 module _ {I : Type 0} (can : I → Type 0) (gives : I → Option ℕ → I → Type 0) (left : I → Count) (pairs : List Pair) (s : Decomposition I) (here : IsAtPassed pairs s) where
   -- what is to come begins safely
-  pub BeginsSafely-to_come : (y : List ℕ) → WillGive gives s y → BeginsSafely (composing_reading s.characters pairs) y
+  pub BeginsSafely-to_come : (y : List ℕ) → WillGive gives s y → BeginsSafely (reading_by s.characters Dropped pairs) y
   BeginsSafely-to_come y h =
       let x = option_to_list (pending_of s) ++ h.unread in
-      subst (BeginsSafely (composing_reading s.characters pairs)) (sym (h.text ∙ ap (λ l. l ++ nfd (reading_by s) x) here.waiting))
+      subst (BeginsSafely (reading_by s.characters Dropped pairs)) (sym (h.text ∙ ap (λ l. l ++ nfd (reading_of s) x) here.waiting))
       (nfd-begins s.characters pairs s.ignored x (begins_apart gives s.characters pairs s.ignored (pending_of s) s.delegate h.unread here.apart h.source))
 
   module _ (b : Bounds) (suits : SuitsLazyComposing s.characters b pairs) (c : ℕ) (pending : pending_of s ≡ Some c) where
@@ -129,10 +129,10 @@ module _ {I : Type 0} (can : I → Type 0) (gives : I → Option ℕ → I → T
         (apart : ForSome following (StandsApartIn s.characters pairs s.ignored)) (reads : pending_of t ≡ following) (empty : ordered t.waiting ≡ []) (characters : t.characters ≡ s.characters)
         (ignored : t.ignored ≡ s.ignored) where
       to_come : (y : List ℕ) → WillGive gives s y → (own : List ℕ) × (rest : List ℕ) × (y ≡ own ++ rest)
-          × (compose_by_starters (composing_reading s.characters pairs) y ≡ c ∷ compose_by_starters (composing_reading s.characters pairs) rest) × WillGive gives t rest
+          × (compose_by_starters (reading_by s.characters Dropped pairs) y ≡ c ∷ compose_by_starters (reading_by s.characters Dropped pairs) rest) × WillGive gives t rest
       to_come y h =
-          let d = reading_by s in
-          let D = reading_of s.characters (ignored_list s.ignored) (pair_of pairs) in
+          let d = reading_of s in
+          let D = reading_by s.characters s.ignored pairs in
           let source : Spells gives s.delegate h.unread = subst (λ o. SpellsBehind gives o s.delegate h.unread) pending h.source in
           let next = spelled_next gives s.delegate following t.delegate h.unread step source in
           let rest = option_to_list following ++ next.0 in
@@ -146,7 +146,7 @@ module _ {I : Type 0} (can : I → Type 0) (gives : I → Option ℕ → I → T
             all ∙ sym (nfd-reading_by s.characters s.ignored pairs (c ∷ rest)) ∙ nfd-boundary D (c ∷ []) rest (BeginsWithStarter-from_safely D (expand D rest) begins)
                 ∙ ap (λ l. l ++ nfd D rest) (nfd-reading_by s.characters s.ignored pairs (c ∷ []))
                 ∙ ap (λ l. nfd d (c ∷ []) ++ l) (nfd-reading_by s.characters s.ignored pairs rest),
-            ap (compose_by_starters (composing_reading s.characters pairs)) all ∙ sym (composed (c ∷ rest)) ∙ composed_form-boundary D (c ∷ []) rest begins
+            ap (compose_by_starters (reading_by s.characters Dropped pairs)) all ∙ sym (composed (c ∷ rest)) ∙ composed_form-boundary D (c ∷ []) rest begins
                 ∙ ap (λ l. l ++ composed_form D rest) (own_form s.characters b pairs suits s.ignored c first_apart) ∙ ap (λ l. c ∷ l) (composed rest),
             rw (characters, ignored, reads, empty) (record { unread = next.0; source = next.2; text = refl }),
           )
@@ -154,7 +154,7 @@ module _ {I : Type 0} (can : I → Type 0) (gives : I → Option ℕ → I → T
       short_to_come : StaysShort gives s → StaysShort gives t
       short_to_come h =
           let f = has_class_form s.characters in
-          let d = reading_by s in
+          let d = reading_of s in
           let source : Spells gives s.delegate h.unread = subst (λ o. SpellsBehind gives o s.delegate h.unread) pending h.source in
           let next = spelled_next gives s.delegate following t.delegate h.unread step source in
           let short : HasShortRuns f d (c ∷ h.unread) = subst (λ o. HasShortRuns f d (option_to_list o ++ h.unread)) pending h.short in
@@ -191,7 +191,7 @@ module _ {I : Type 0} (can : I → Type 0) (gives : I → Option ℕ → I → T
           }
 
     pub GivesStarter-next : (t : Decomposition I) (first : ℕ) → t.characters ≡ s.characters → t.ignored ≡ s.ignored
-        → ReadsChunk can gives left (has_class_form s.characters) (reading_by s) c s.delegate first (pending_of t) t.delegate t.waiting → GivesStarter can gives left s first t
+        → ReadsChunk can gives left (has_class_form s.characters) (reading_of s) c s.delegate first (pending_of t) t.delegate t.waiting → GivesStarter can gives left s first t
     GivesStarter-next t first characters ignored r =
         record {
           steps = Steps-chunk can gives left s c pending here.waiting t first characters ignored r;

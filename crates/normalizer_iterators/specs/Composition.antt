@@ -4,8 +4,9 @@ use Rattle.std.specs.Iterator.{Count}
 use Rattle.normal_forms.specs.Reading.{Reading}
 use Rattle.normal_forms.specs.CompositionByStarters.{compose_after}
 use Rattle.normalizer_tables.specs.Characters.{Characters}
-use Rattle.normalizer_tables.specs.PairConditions.{composing_reading}
 use Rattle.normalizer_tables.specs.Pairs.{Pair}
+use Rattle.normalizer_tables.specs.Readings.{reading_by}
+use Rattle.normalizer_tables.specs.declared.characters.IgnoredCharacters.TheVariants.{Dropped}
 use Rattle.normalizer_iterators.specs.declared.composition.Ahead.TheVariants.{Ended}
 use Rattle.normalizer_iterators.specs.declared.composition.Composition.{Composition}
 use Rattle.normalizer_iterators.specs.declared.decomposition.Decomposition.{Decomposition}
@@ -25,7 +26,7 @@ module _ {I : Type 0} where
   pairs_of_composition s = s.pairs.now
 
   abbrev pub pairing_by : Composition I → Reading
-  pairing_by s = composing_reading (data_of_composition s) (pairs_of_composition s)
+  pairing_by s = reading_by (data_of_composition s) Dropped (pairs_of_composition s)
 
   -- these characters, where memory suffices
   abbrev pub WillGive : (I → Option ℕ → I → Type 0) → Composition I → List ℕ → Type 0
@@ -49,10 +50,10 @@ module _ {I : Type 0} where
   pub record ComposesOn (can : I → Type 0) (gives : I → Option ℕ → I → Type 0) (left : I → Count) (starter : ℕ)
       (old : Decomposition I) (pairs : List Pair) (r : Result ℕ NormalizeError) (t : Composition I) : Type 0 where
     pub first : (y : List ℕ) → decomposition.WillGive gives old y → MatchResult r
-        (GaveFirst (WillGive gives) (compose_after (composing_reading old.characters pairs) starter [] y) t)
+        (GaveFirst (WillGive gives) (compose_after (reading_by old.characters Dropped pairs) starter [] y) t)
         (λ _. WillGive gives t [])
     pub fault : IfErr r (λ e. e ≡ Memory)
-    pub room : GivesShort gives (composing_reading old.characters pairs) old → IsOk r × StaysShort gives t
+    pub room : GivesShort gives (reading_by old.characters Dropped pairs) old → IsOk r × StaysShort gives t
     pub ends : OnErr r (IsEnded t)
     pub ready : CanCompose can left t
     pub fewer : items_left left t ≤ decomposition.items_left left old

@@ -4,11 +4,12 @@ use Rattle.std.specs.Iterator.{Count, size}
 use Rattle.normal_forms.specs.Reading.{Reading}
 use Rattle.normal_forms.specs.Forms.{nfd}
 use Rattle.normalizer_tables.specs.Characters.{has_class_form}
+use Rattle.normalizer_tables.specs.Readings.{reading_by}
 use Rattle.normalizer_iterators.specs.declared.decomposition.Decomposition.{Decomposition}
 use Rattle.normalizer_iterators.specs.declared.error.NormalizeError.{NormalizeError}
 use Rattle.normalizer_iterators.specs.declared.waiting.Classed.{Classed}
 use Rattle.normalizer_iterators.specs.Delegate.{IsReadyBehind}
-use Rattle.normalizer_iterators.specs.LazyReading.{decomposing_reading, longest_list}
+use Rattle.normalizer_iterators.specs.LazyReading.{longest_list}
 use Rattle.normalizer_iterators.specs.NextItem.{GivesNext}
 use Rattle.normalizer_iterators.specs.Reads.{character_of}
 use Rattle.normalizer_iterators.specs.ToCome.{IsToCome, AreShortToCome, reads_left}
@@ -25,16 +26,16 @@ module _ {I : Type 0} where
   abbrev pub pending_of : Decomposition I → Option ℕ
   pending_of s = character_of s.pending
 
-  abbrev pub reading_by : Decomposition I → Reading
-  reading_by s = decomposing_reading s.characters s.ignored
+  abbrev pub reading_of : Decomposition I → Reading
+  reading_of s = reading_by s.characters s.ignored []
 
   -- these characters, where memory suffices
   abbrev pub WillGive : (I → Option ℕ → I → Type 0) → Decomposition I → List ℕ → Type 0
-  WillGive gives s out = IsToCome gives (nfd (reading_by s)) (pending_of s) s.delegate (ordered s.waiting) out
+  WillGive gives s out = IsToCome gives (nfd (reading_of s)) (pending_of s) s.delegate (ordered s.waiting) out
 
   -- the runs that are still to come are short
   abbrev pub StaysShort : (I → Option ℕ → I → Type 0) → Decomposition I → Type 0
-  StaysShort gives s = AreShortToCome gives (has_class_form s.characters) (reading_by s) (pending_of s) s.delegate
+  StaysShort gives s = AreShortToCome gives (has_class_form s.characters) (reading_of s) (pending_of s) s.delegate
 
   abbrev pub IsEnded : Decomposition I → Type 0
   IsEnded s = (pending_of s ≡ None) × (ordered s.waiting ≡ [])

@@ -9,9 +9,10 @@ use Rattle.normal_forms.specs.ShortRuns.{continues}
 use Rattle.normalizer_tables.specs.declared.characters.IgnoredCharacters.{IgnoredCharacters}
 use Rattle.normalizer_tables.specs.declared.condition.Bounds.{Bounds}
 use Rattle.normalizer_tables.specs.Characters.{Characters, has_class_form}
-use Rattle.normalizer_tables.specs.PairConditions.{composing_reading, is_passed}
+use Rattle.normalizer_tables.specs.PairConditions.{is_passed}
 use Rattle.normalizer_tables.specs.Pairs.{Pair}
-use Rattle.normalizer_iterators.specs.LazyReading.{decomposing_reading, reading_by}
+use Rattle.normalizer_tables.specs.Readings.{reading_by}
+use Rattle.normalizer_tables.specs.declared.characters.IgnoredCharacters.TheVariants.{Dropped}
 
 -- a composing loop passes c
 pub record IsPassed (s : Characters) (b : Bounds) (c : ℕ) : Type 0 where
@@ -31,9 +32,9 @@ StandsApartIn s pairs ignored = StandsApart (has_class_form s) (reading_by s ign
 
 -- each character that is passed begins anew
 pub record PassedBeginAnew (s : Characters) (b : Bounds) (ignored : IgnoredCharacters) : Type 0 where
-  pub anew : (c : ℕ) → IsPassed s b c → continues (has_class_form s) (decomposing_reading s ignored) c ≡ false
+  pub anew : (c : ℕ) → IsPassed s b c → continues (has_class_form s) (reading_by s ignored []) c ≡ false
 
 -- what pairs compose to are starters, and each character that is passed stands apart
 pub record SuitsLazyComposing (s : Characters) (b : Bounds) (pairs : List Pair) : Type 0 where
-  pub starters : HasStarterResults (composing_reading s pairs)
+  pub starters : HasStarterResults (reading_by s Dropped pairs)
   pub apart : (ignored : IgnoredCharacters) (c : ℕ) → IsPassed s b c → StandsApartIn s pairs ignored c

@@ -1,18 +1,7 @@
 -- What the data have to say of characters where they are read lazily.
-use Rattle.std.specs.Prelude.{◌≡◌, ℕ, ◌≤◌, Bool, false, List, ◌∷◌, length, None}
+use Rattle.std.specs.Prelude.{◌≡◌, ℕ, ◌≤◌, Bool, false, List, ◌∷◌, length}
 use Rattle.normal_forms.specs.Reading.{Reading, IsStarter}
-use Rattle.normalizer_tables.specs.declared.characters.IgnoredCharacters.{IgnoredCharacters}
-use Rattle.normalizer_tables.specs.Characters.{Characters, reading_of, class_of}
-use Rattle.normalizer_tables.specs.Ignored.{ignored_list}
-use Rattle.normalizer_tables.specs.Pairs.{Pair, pair_of}
-
--- the reading of data where nothing is composed
-abbrev pub decomposing_reading : Characters → IgnoredCharacters → Reading
-decomposing_reading s ignored = reading_of s (ignored_list ignored) (λ a b. None)
-
--- the reading of data and pairs
-abbrev pub reading_by : Characters → IgnoredCharacters → List Pair → Reading
-reading_by s ignored pairs = reading_of s (ignored_list ignored) (pair_of pairs)
+use Rattle.normalizer_tables.specs.Characters.{Characters, class_of}
 
 -- the classes of the reading are those of the data
 abbrev pub HasClassesFrom : Characters → Reading → Type 0

@@ -7,8 +7,9 @@ use Rattle.normal_forms.specs.Reading.{IsStarter}
 use Rattle.normal_forms.specs.CompositionByStarters.{compose_by_starters}
 use Rattle.normalizer_tables.specs.declared.condition.Bounds.{Bounds}
 use Rattle.normalizer_tables.specs.Characters.{Characters}
-use Rattle.normalizer_tables.specs.PairConditions.{composing_reading}
 use Rattle.normalizer_tables.specs.Pairs.{Pair}
+use Rattle.normalizer_tables.specs.Readings.{reading_by}
+use Rattle.normalizer_tables.specs.declared.characters.IgnoredCharacters.TheVariants.{Dropped}
 use Rattle.normalizer_iterators.specs.declared.decomposition.Decomposition.{Decomposition}
 use Rattle.normalizer_iterators.specs.declared.decomposition.passing.Given.{Given}
 use Rattle.normalizer_iterators.specs.declared.decomposition.passing.Given.TheVariants.{Itself, FirstMember}
@@ -36,8 +37,8 @@ module _ {I : Type 0} where
   pub record PassesOn (can : I → Type 0) (gives : I → Option ℕ → I → Type 0) (left : I → Count) (pairs : List Pair)
       (s : Decomposition I) (c : ℕ) (t : Decomposition I) : Type 0 where
     pub text : (y : List ℕ) → WillGive gives s y → (own : List ℕ) × (rest : List ℕ) × (y ≡ own ++ rest)
-        × (compose_by_starters (composing_reading s.characters pairs) y
-        ≡ c ∷ compose_by_starters (composing_reading s.characters pairs) rest) × WillGive gives t rest
+        × (compose_by_starters (reading_by s.characters Dropped pairs) y
+        ≡ c ∷ compose_by_starters (reading_by s.characters Dropped pairs) rest) × WillGive gives t rest
     pub short : StaysShort gives s → StaysShort gives t
     pub ready : CanDecompose can left t
     pub at_passed : IsAtPassed pairs t
@@ -48,7 +49,7 @@ module _ {I : Type 0} where
   pub record GivesStarter (can : I → Type 0) (gives : I → Option ℕ → I → Type 0) (left : I → Count)
       (s : Decomposition I) (c : ℕ) (t : Decomposition I) : Type 0 where
     pub steps : DecompositionSteps can gives left s (Some (Ok c)) t
-    pub starter : (pairs : List Pair) → IsStarter (composing_reading s.characters pairs) c
+    pub starter : (pairs : List Pair) → IsStarter (reading_by s.characters Dropped pairs) c
     pub fewer : items_left left t < items_left left s
 
   abbrev pub Passes : (I → Type 0) → (I → Option ℕ → I → Type 0) → (I → Count) → List Pair → Decomposition I

@@ -8,19 +8,21 @@ ghost use Rattle.normal_forms.specs.CompositionByStarters.{join};
 ghost use Rattle.normal_forms.specs.Reading.{Reading};
 ghost use Rattle.normal_forms.specs.ShortRuns.{places, HasShortRuns};
 ghost use Rattle.normalizer_tables.specs.declared.characters.IgnoredCharacters.{IgnoredCharacters};
-ghost use Rattle.normalizer_tables.specs.Characters.{Characters, class_of, has_class_form, list_of, own_reading};
+ghost use Rattle.normalizer_tables.specs.Characters.{Characters, class_of, has_class_form, list_of};
 ghost use Rattle.normalizer_tables.specs.Conditions.{Holds};
 ghost use Rattle.normalizer_tables.specs.Ignored.{ignored_list};
-ghost use Rattle.normalizer_tables.specs.PairConditions.{HasOrderedLists, composing_reading};
+ghost use Rattle.normalizer_tables.specs.PairConditions.{HasOrderedLists};
 ghost use Rattle.normalizer_tables.specs.declared.condition.Bounds.{Bounds};
 ghost use Rattle.normalizer_tables.specs.declared.condition.Condition.TheVariants as condition;
 ghost use Rattle.normalizer_tables.specs.Pairs.{pair_of};
+ghost use Rattle.normalizer_tables.specs.Readings.{reading_by};
+ghost use Rattle.normalizer_tables.specs.declared.characters.IgnoredCharacters.TheVariants.{Dropped};
 ghost use Rattle.normalizer_text.specs.Steps.{Spells};
 ghost use Rattle.normalizer_iterators.specs.declared.composition.Ahead.TheVariants.{Passed};
 ghost use Rattle.normalizer_iterators.specs.Decomposition.{CanDecompose};
 ghost use Rattle.normalizer_iterators.specs.LazyComposing.{SuitsLazyComposing};
 ghost use Rattle.normalizer_iterators.specs.Passing.{IsAtPassed};
-ghost use Rattle.normalizer_iterators.specs.LazyReading.{decomposing_reading, reading_by, SuitsLazyReading};
+ghost use Rattle.normalizer_iterators.specs.LazyReading.{SuitsLazyReading};
 ghost use Rattle.normalizer_iterators.specs.StayingMarks.{staying, used, BlocksBelow};
 ghost use Rattle.normalizer_iterators.specs.Composing.{ComposesStarter, GivesShort, HasVisited, IsBeforeStarter};
 
@@ -99,15 +101,15 @@ impl<'data, I: Iterator<Item = char> + Drop> Composition<'data, I> {
     ) -> Result<Self, NormalizeError>
         requires can { I.can_next delegate }
         requires ends { IsFinite (I.remaining delegate) }
-        requires reading { SuitsLazyReading (has_class_form characters) (decomposing_reading characters ignored) }
+        requires reading { SuitsLazyReading (has_class_form characters) (reading_by characters ignored []) }
         requires composing { SuitsLazyComposing characters bounds pairs.now }
         ensures text { IfOk result (λ it. (x : List ℕ) → Spells I.next_gives delegate x →
             WillGive I.next_gives it (nfc (reading_by characters.entry ignored pairs.now) x)) }
         ensures short { IfOk result (λ it. (x : List ℕ) → Spells I.next_gives delegate x →
-            HasShortRuns (has_class_form characters.entry) (decomposing_reading characters.entry ignored) x →
+            HasShortRuns (has_class_form characters.entry) (reading_by characters.entry ignored []) x →
             StaysShort I.next_gives it) }
         ensures succeeds { (x : List ℕ) → Spells I.next_gives delegate x →
-            HasShortRuns (has_class_form characters.entry) (decomposing_reading characters.entry ignored) x →
+            HasShortRuns (has_class_form characters.entry) (reading_by characters.entry ignored []) x →
             IsOk result }
         ensures ready { IfOk result (CanCompose I.can_next I.remaining) }
         ensures kept { IfOk result (λ it.
@@ -132,7 +134,7 @@ impl<'data, I: Iterator<Item = char> + Drop> Composition<'data, I> {
             Holds s b condition.Hangul →
             All (HasOrderedLists s (ignored_list ignored)) (pairs_of_composition self.now) →
             IfSome result (λ c. list_of s (ignored_list ignored) c ≡
-            order (own_reading s)
+            order (reading_by s Dropped [])
             (list_of s (ignored_list ignored) starter ++ list_of s (ignored_list ignored) second)) }
     {
         self.pairs.compose(starter, second)
@@ -208,7 +210,7 @@ fn compose_starter<I: Iterator<Item = char> + Drop>(
     ensures ready { CanDecompose I.can_next I.remaining decomposed.new }
     ensures kept { decomposed.new.characters ≡ decomposed.old.characters }
     ensures passed { IfOk result (λ r. r.1 ≡ Ahead.Passed → IsAtPassed pairs.now decomposed.new) }
-    ensures steps { let d = composing_reading decomposed.old.characters pairs.now in MatchResult result
+    ensures steps { let d = reading_by decomposed.old.characters Dropped pairs.now in MatchResult result
         (λ r. ComposesStarter I.next_gives I.remaining d starter decomposed.old r.0 (staying marks.new) r.1
         decomposed.new)
         (λ e. (e ≡ NormalizeError.Memory) × (¬ GivesShort I.next_gives d decomposed.old)) }
@@ -241,8 +243,8 @@ fn visit(
     given: Classed,
 ) -> Result<Visited, AllocError>
     ensures ok { IfOk result (λ v. (s : Characters) → given.class ≡ class_of s given.character →
-        BlocksBelow (composing_reading s pairs.now) marks.old →
-        HasVisited (composing_reading s pairs.now) starter given.character marks.old v marks.new) }
+        BlocksBelow (reading_by s Dropped pairs.now) marks.old →
+        HasVisited (reading_by s Dropped pairs.now) starter given.character marks.old v marks.new) }
     ensures err { OnErr result ((places ≤ used marks.old) × (0 < given.class)) }
 {
     if let Some(joined) = join(pairs, marks, starter, given) {

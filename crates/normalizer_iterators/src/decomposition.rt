@@ -5,12 +5,14 @@ ghost use Rattle.std.specs.Option.{ForSome};
 ghost use Rattle.std.specs.Iterator.{at_most, IsFinite, MakesProgress};
 ghost use Rattle.normal_forms.specs.Forms.{nfd};
 ghost use Rattle.normal_forms.specs.ShortRuns.{continues, HasShortRuns};
-ghost use Rattle.normalizer_tables.specs.Characters.{class_of, has_class_form, own_reading};
-ghost use Rattle.normalizer_tables.specs.NfdData.{IsSoundNfdData, nfd_characters};
+ghost use Rattle.normalizer_tables.specs.Characters.{class_of, has_class_form, characters_from};
+ghost use Rattle.normalizer_tables.specs.NfdData.{IsSoundNfdData};
+ghost use Rattle.normalizer_tables.specs.Readings.{reading_by};
+ghost use Rattle.normalizer_tables.specs.declared.characters.IgnoredCharacters.TheVariants.{Dropped};
 ghost use Rattle.normalizer_text.specs.Steps.{Spells};
 ghost use Rattle.normalizer_iterators.specs.Delegate.{HasRead, IsReadyBehind};
 ghost use Rattle.normalizer_iterators.specs.Items.{GivesForm};
-ghost use Rattle.normalizer_iterators.specs.LazyReading.{decomposing_reading, SuitsLazyReading};
+ghost use Rattle.normalizer_iterators.specs.LazyReading.{SuitsLazyReading};
 ghost use Rattle.normalizer_iterators.specs.WaitingList.{AgreesWith, ordered, unordered};
 ghost use Rattle.normalizer_iterators.specs.Waiting.{HasClassesOf};
 ghost use Rattle.normalizer_iterators.specs.Reads.{character_of, HasOwnWord, HasOwnWords};
@@ -37,12 +39,12 @@ pub struct Decomposition<'data, I> {
     delegate: I,
     pending: Option<ReadCharacter>,
     waiting: WaitingList,
-    ghost suits: { SuitsLazyReading (has_class_form characters) (decomposing_reading characters ignored) },
+    ghost suits: { SuitsLazyReading (has_class_form characters) (reading_by characters ignored []) },
     ghost anew: { ForSome (character_of pending) (λ c. continues (has_class_form characters)
-        (decomposing_reading characters ignored) c ≡ false) },
+        (reading_by characters ignored []) c ≡ false) },
     ghost word: { HasOwnWords characters pending },
     ghost settled: { unordered waiting ≡ [] },
-    ghost classes: { HasClassesOf (decomposing_reading characters ignored) waiting.entries.items },
+    ghost classes: { HasClassesOf (reading_by characters ignored []) waiting.entries.items },
 }
 
 impl<'data, I: Iterator<Item = char> + Drop> Decomposition<'data, I> {
@@ -66,8 +68,8 @@ impl<'data, I: Iterator<Item = char> + Drop> Decomposition<'data, I> {
         requires ends { IsFinite (I.remaining delegate) }
         requires sound { IsSoundNfdData decompositions.now tables.now }
         ensures form { GivesForm I.next_gives ⟦<Decomposition<'data, I> as Iterator>⟧.next_gives
-            (has_class_form (nfd_characters decompositions.now tables.now))
-            (own_reading (nfd_characters decompositions.now tables.now)) nfd delegate result }
+            (has_class_form (characters_from decompositions.now tables.now None))
+            (reading_by (characters_from decompositions.now tables.now None) Dropped []) nfd delegate result }
         ensures ready { IfOk result ⟦<Decomposition<'data, I> as Iterator>⟧.can_next }
     {
         let characters = CharacterData::new(decompositions, tables, None, false);
@@ -82,14 +84,14 @@ impl<'data, I: Iterator<Item = char> + Drop> Decomposition<'data, I> {
     ) -> Result<Self, NormalizeError>
         requires can { I.can_next delegate }
         requires ends { IsFinite (I.remaining delegate) }
-        requires suits { SuitsLazyReading (has_class_form characters) (decomposing_reading characters ignored) }
+        requires suits { SuitsLazyReading (has_class_form characters) (reading_by characters ignored []) }
         ensures text { IfOk result (λ it. (x : List ℕ) → Spells I.next_gives delegate x →
-            WillGive I.next_gives it (nfd (decomposing_reading characters.entry ignored) x)) }
+            WillGive I.next_gives it (nfd (reading_by characters.entry ignored []) x)) }
         ensures short { IfOk result (λ it. (x : List ℕ) → Spells I.next_gives delegate x →
-            HasShortRuns (has_class_form characters.entry) (decomposing_reading characters.entry ignored) x →
+            HasShortRuns (has_class_form characters.entry) (reading_by characters.entry ignored []) x →
             StaysShort I.next_gives it) }
         ensures succeeds { (x : List ℕ) → Spells I.next_gives delegate x →
-            HasShortRuns (has_class_form characters.entry) (decomposing_reading characters.entry ignored) x →
+            HasShortRuns (has_class_form characters.entry) (reading_by characters.entry ignored []) x →
             IsOk result }
         ensures ready { IfOk result (CanDecompose I.can_next I.remaining) }
         ensures kept { IfOk result (λ it. (it.characters ≡ characters.entry) × (it.ignored ≡ ignored)) }
@@ -118,7 +120,7 @@ impl<'data, I: Iterator<Item = char> + Drop> Decomposition<'data, I> {
         requires taken { self.old.pending ≡ None }
         requires empty { ordered self.old.waiting ≡ [] }
         requires anew { continues (has_class_form self.old.characters)
-            (decomposing_reading self.old.characters self.old.ignored) read.character ≡ false }
+            (reading_by self.old.characters self.old.ignored []) read.character ≡ false }
         requires word { HasOwnWord self.old.characters read }
         requires words { HasOwnWords self.old.characters following }
         requires ready { IsReadyBehind I.can_next I.remaining (character_of following) self.old.delegate }
@@ -127,12 +129,12 @@ impl<'data, I: Iterator<Item = char> + Drop> Decomposition<'data, I> {
         ensures ok { IfOk result (λ first. (before : I) →
             HasRead I.next_gives I.remaining before (character_of following) self.old.delegate →
             ReadsChunk I.can_next I.next_gives I.remaining (has_class_form self.old.characters)
-            (decomposing_reading self.old.characters self.old.ignored) read.character before
+            (reading_by self.old.characters self.old.ignored []) read.character before
             first (character_of self.new.pending) self.new.delegate self.new.waiting) }
         ensures err { IfErr result (λ e. (e ≡ NormalizeError.Memory) × IsEnded self.new ×
             ((before : I) → HasRead I.next_gives I.remaining before (character_of following) self.old.delegate →
             ChunkDidNotFit I.next_gives (has_class_form self.old.characters)
-            (decomposing_reading self.old.characters self.old.ignored) read.character before)) }
+            (reading_by self.old.characters self.old.ignored []) read.character before)) }
         ensures kept { (self.new.characters ≡ self.old.characters) × (self.new.ignored ≡ self.old.ignored) }
     {
         if stands_alone(&self.characters, self.ignored, read, following) {
@@ -190,10 +192,10 @@ pub fn decomposed<'data, I: Iterator<Item = char> + Drop>(
 ) -> Result<Decomposition<'data, I>, NormalizeError>
     requires can { I.can_next delegate }
     requires ends { IsFinite (I.remaining delegate) }
-    requires suits { SuitsLazyReading (has_class_form characters) (decomposing_reading characters ignored) }
+    requires suits { SuitsLazyReading (has_class_form characters) (reading_by characters ignored []) }
     ensures form { GivesForm I.next_gives ⟦<Decomposition<'data, I> as Iterator>⟧.next_gives
         (has_class_form characters.entry)
-        (decomposing_reading characters.entry ignored) nfd delegate result }
+        (reading_by characters.entry ignored []) nfd delegate result }
     ensures ready { IfOk result ⟦<Decomposition<'data, I> as Iterator>⟧.can_next }
 {
     Decomposition::over(characters, ignored, delegate)
@@ -209,7 +211,7 @@ fn stands_alone(
     requires word { HasOwnWord characters.now read }
     requires words { HasOwnWords characters.now following }
     ensures { IsTrue result → StandsAlone (has_class_form characters.now)
-        (decomposing_reading characters.now ignored) read.character (character_of following) }
+        (reading_by characters.now ignored []) read.character (character_of following) }
 {
     let word = read.word_by(characters);
     if characters.class_of_itself(read.character, word).is_none() {
@@ -235,17 +237,17 @@ fn read_chunk<I: Iterator<Item = char> + Drop>(
     requires word { HasOwnWord characters.now read }
     requires words { HasOwnWords characters.now following }
     requires anew { continues (has_class_form characters.now)
-        (decomposing_reading characters.now ignored) read.character ≡ false }
+        (reading_by characters.now ignored []) read.character ≡ false }
     ensures ok { IfOk result (λ r. (before : I) →
         HasRead I.next_gives I.remaining before (character_of following) delegate.old →
         ReadsChunk I.can_next I.next_gives I.remaining (has_class_form characters.now)
-        (decomposing_reading characters.now ignored) read.character before r.0 (character_of r.1) delegate.new
+        (reading_by characters.now ignored []) read.character before r.0 (character_of r.1) delegate.new
         waiting.new) }
     ensures words { IfOk result (λ r. HasOwnWords characters.now r.1) }
-    ensures classes { OnOk result (AgreesWith (decomposing_reading characters.now ignored) waiting.new) }
+    ensures classes { OnOk result (AgreesWith (reading_by characters.now ignored []) waiting.new) }
     ensures err { OnErr result ((before : I) →
         HasRead I.next_gives I.remaining before (character_of following) delegate.old →
-        ChunkDidNotFit I.next_gives (has_class_form characters.now) (decomposing_reading characters.now ignored)
+        ChunkDidNotFit I.next_gives (has_class_form characters.now) (reading_by characters.now ignored [])
         read.character before) }
 {
     let members = characters.members_by(read.character, read.word_by(characters), ignored);

@@ -1,8 +1,8 @@
 //! Characters that were read from a delegate, with their words.
-ghost use Rattle.std.specs.Prelude.{◌≡◌, ◌↔◌, false, IsTrue};
+ghost use Rattle.std.specs.Prelude.{◌≡◌, ◌↔◌, false, IsTrue, []};
 ghost use Rattle.normal_forms.specs.ShortRuns.{continues};
 ghost use Rattle.normalizer_tables.specs.Characters.{has_class_form, word_of};
-ghost use Rattle.normalizer_iterators.specs.LazyReading.{decomposing_reading};
+ghost use Rattle.normalizer_tables.specs.Readings.{reading_by};
 ghost use Rattle.normalizer_iterators.specs.Reads.{character_of, HasOwnWord, HasOwnWords};
 
 use normalizer_tables::characters::{CharacterData, IgnoredCharacters};
@@ -36,7 +36,7 @@ impl ReadCharacter {
     ) -> bool
         requires { HasOwnWord characters.now self }
         ensures { IsTrue result ↔ (continues (has_class_form characters.now)
-            (decomposing_reading characters.now ignored) self.character ≡ false) }
+            (reading_by characters.now ignored []) self.character ≡ false) }
     {
         let word = self.word_by(characters);
         !is_class_form(word) && characters.has_members(self.character, word, ignored)

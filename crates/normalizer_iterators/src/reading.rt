@@ -1,12 +1,13 @@
 //! Reading characters on, until one begins anew.
-ghost use Rattle.std.specs.Prelude.{◌≡◌, ◌+◌, ◌≤◌, ℕ, List, ◌++◌, length, drop, IsOk, IfOk, OnOk, OnErr};
+ghost use Rattle.std.specs.Prelude.{◌≡◌, ◌+◌, ◌≤◌, ℕ, List, ◌++◌, length, drop, IsOk, IfOk, OnOk, OnErr, []};
 ghost use Rattle.normal_forms.specs.Reading.{Reading};
 ghost use Rattle.normal_forms.specs.ShortRuns.{places};
 ghost use Rattle.normalizer_tables.specs.Characters.{has_class_form, list_of};
 ghost use Rattle.normalizer_tables.specs.Ignored.{ignored_list};
+ghost use Rattle.normalizer_tables.specs.Readings.{reading_by};
 ghost use Rattle.normalizer_iterators.specs.Delegate.{HasRead, IsReadyBehind};
 ghost use Rattle.normalizer_iterators.specs.WaitingList.{held, reordered, AgreesWith};
-ghost use Rattle.normalizer_iterators.specs.LazyReading.{decomposing_reading, HasClassesFrom};
+ghost use Rattle.normalizer_iterators.specs.LazyReading.{HasClassesFrom};
 ghost use Rattle.normalizer_iterators.specs.ReadingOn.{ReadsOn, DidNotFit};
 ghost use Rattle.normalizer_iterators.specs.Reads.{character_of, HasOwnWord, HasOwnWords};
 
@@ -27,17 +28,17 @@ pub(crate) fn read_on<I: Iterator<Item = char> + Drop>(
 ) -> Result<Option<ReadCharacter>, AllocError>
     requires ready { IsReadyBehind I.can_next I.remaining (character_of first) delegate.old }
     requires words { HasOwnWords characters.now first }
-    requires classes { AgreesWith (decomposing_reading characters.now ignored) waiting.old }
+    requires classes { AgreesWith (reading_by characters.now ignored []) waiting.old }
     ensures ok { IfOk result (λ pending. (before : I) →
         HasRead I.next_gives I.remaining before (character_of first) delegate.old →
         ReadsOn I.can_next I.next_gives I.remaining (has_class_form characters.now)
-        (decomposing_reading characters.now ignored) before waiting.old (character_of pending) delegate.new
+        (reading_by characters.now ignored []) before waiting.old (character_of pending) delegate.new
         waiting.new) }
     ensures words { IfOk result (HasOwnWords characters.now) }
-    ensures classes { OnOk result (AgreesWith (decomposing_reading characters.now ignored) waiting.new) }
+    ensures classes { OnOk result (AgreesWith (reading_by characters.now ignored []) waiting.new) }
     ensures err { OnErr result ((before : I) →
         HasRead I.next_gives I.remaining before (character_of first) delegate.old →
-        DidNotFit I.next_gives (has_class_form characters.now) (decomposing_reading characters.now ignored)
+        DidNotFit I.next_gives (has_class_form characters.now) (reading_by characters.now ignored [])
         before waiting.old) }
 {
     let mut next = first;

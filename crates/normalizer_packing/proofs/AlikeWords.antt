@@ -13,7 +13,7 @@ use Rattle.normalizer_tables.specs.SpecialLists.{FixedList, fixed, fixed_list_of
 use Rattle.normalizer_packing.specs.declared.entry.Kind.{Kind}
 use Rattle.normalizer_packing.specs.declared.spelling.Spelling.{Spelling}
 use Rattle.normalizer_packing.specs.declared.spelling.Spelling.TheVariants.{Final, Short}
-use Rattle.normalizer_packing.specs.Entries.{CharacterEntry, class_in, composing_reading, entry_of, kept_list, list_in}
+use Rattle.normalizer_packing.specs.Entries.{CharacterEntry, class_in, reading_of_entries, entry_of, kept_list, list_in}
 use Rattle.normalizer_packing.specs.Flags.{IsFlagged}
 use Rattle.normalizer_packing.specs.Packing.{HasFlags, IsPackedWord, IsSpelled}
 use Rattle.normalizer_packing.specs.Spelling.{final_word, has_fixed_list, have_classes, list_eq, spelling, spelling_by_list, spelling_or_ignored}
@@ -221,7 +221,7 @@ module _ (entries : List CharacterEntry) (pairs : List Pair) (told : List ℕ) (
           IsSpelled entries ((n + 1) ∷ []) (plain o) w × HasFlags kind entries pairs (n + 1) (plain o) w
       move (Some v) one two a b = (a, tt)
       move None one two a b =
-          (a, rw (kept-none entries kind (n + 1) two.entry) (flags_next entries pairs n one two (composing_reading entries pairs) w (rw (sym (kept-none entries kind n one.entry)) b)))
+          (a, rw (kept-none entries kind (n + 1) two.entry) (flags_next entries pairs n one two (reading_of_entries entries pairs) w (rw (sym (kept-none entries kind n one.entry)) b)))
 
   step-none : (n : ℕ) → entry_of entries n ≡ None → step_in entries n ≡ None
   unfolding step_in

@@ -18,7 +18,7 @@ use Rattle.normalizer_packing.specs.declared.spelling.Spelling.{Spelling}
 use Rattle.normalizer_packing.specs.declared.spelling.Spelling.TheVariants.{Final, Short, Listed}
 use Rattle.normalizer_packing.specs.declared.stores.Stores.{Stores}
 use Rattle.normalizer_packing.specs.Caps.{IsCap}
-use Rattle.normalizer_packing.specs.Entries.{CharacterEntry, class_in, composing_reading, kept_list, list_in}
+use Rattle.normalizer_packing.specs.Entries.{CharacterEntry, class_in, reading_of_entries, kept_list, list_in}
 use Rattle.normalizer_packing.specs.Flags.{BeginsUnpaired, IsFlagged, without_flags}
 use Rattle.normalizer_packing.specs.PackedWords.{CanPoint}
 use Rattle.normalizer_packing.specs.Packing.{HasFlags, IsPackedWord, IsSpelled, Packs, PacksKind}
@@ -85,8 +85,8 @@ module _ (entries : List CharacterEntry) (pairs : List Pair) where
       by : (s : Spelling) → IsSpelled entries (kept_list kind entries n) s w → IsSpelled entries (kept_list kind entries n) s v → HasFlags kind entries pairs n s w →
           HasFlags kind entries pairs n s v → w ≡ v
       by (Final word) a b f g = a ∙ sym b
-      by (Short word) a b f g = same_flagged (composing_reading entries pairs) pairs n (kept_list kind entries n) w v (a ∙ sym b) f g
-      by Listed a b f g = same_flagged (composing_reading entries pairs) pairs n (kept_list kind entries n) w v (a ∙ sym b) f g
+      by (Short word) a b f g = same_flagged (reading_of_entries entries pairs) pairs n (kept_list kind entries n) w v (a ∙ sym b) f g
+      by Listed a b f g = same_flagged (reading_of_entries entries pairs) pairs n (kept_list kind entries n) w v (a ∙ sym b) f g
 
   -- tables that have the same words
   one_table : (is_word : ℕ → ℕ → Type 0) → ((n w v : ℕ) → is_word n w → is_word n v → w ≡ v) → (t u : Table) → HasWords is_word t → HasWords is_word u → t ≡ u

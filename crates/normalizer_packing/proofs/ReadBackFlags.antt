@@ -17,7 +17,7 @@ use Rattle.normalizer_packing.specs.declared.Packed.{Packed}
 use Rattle.normalizer_packing.specs.declared.entry.Kind.{Kind}
 use Rattle.normalizer_packing.specs.declared.spelling.Spelling.{Spelling}
 use Rattle.normalizer_packing.specs.declared.spelling.Spelling.TheVariants.{Final, Short, Listed}
-use Rattle.normalizer_packing.specs.Entries.{CharacterEntry, class_in, composing_reading, kept_list, list_in}
+use Rattle.normalizer_packing.specs.Entries.{CharacterEntry, class_in, reading_of_entries, kept_list, list_in}
 use Rattle.normalizer_packing.specs.Flags.{BeginsUnpaired, IsFlagged, without_flags}
 use Rattle.normalizer_packing.specs.Packing.{HasFlags, IsSpelled, Packs}
 use Rattle.normalizer_packing.specs.ReadBack.{characters_of}
@@ -58,14 +58,14 @@ by_list_flagged class n x =
     (either_flagged (list_eq x (n ∷ [])) (Short (if class n == 0 then 0 else 0xD800 + class n)) (spelling_of_list class n x) tt (of_list_flagged class n x))
 
 flags_of_spelling : (kind : Kind) (entries : List CharacterEntry) (pairs : List Pair) (n : ℕ) (q : Spelling) (w : ℕ) → IsFlaggedSpelling q → HasFlags kind entries pairs n q w →
-    IsFlagged (composing_reading entries pairs) pairs n (kept_list kind entries n) w
+    IsFlagged (reading_of_entries entries pairs) pairs n (kept_list kind entries n) w
 flags_of_spelling kind entries pairs n (Final v) w h flags = absurd h
 flags_of_spelling kind entries pairs n (Short v) w h flags = flags
 flags_of_spelling kind entries pairs n Listed w h flags = flags
 
 -- what the flags say of n, which has the list x
 pub record TellsFlags (entries : List CharacterEntry) (pairs : List Pair) (s : Characters) (n : ℕ) (x : List ℕ) : Type 0 where
-  pub round_trip : (is_non_round_trip (word_of s n) ≡ false) ↔ (compose (composing_reading entries pairs) x ≡ n ∷ [])
+  pub round_trip : (is_non_round_trip (word_of s n) ≡ false) ↔ (compose (reading_of_entries entries pairs) x ≡ n ∷ [])
   pub backward : (is_backward_combining (word_of s n) ≡ false) ↔ ((has_class_form s n ≡ false) × BeginsUnpaired pairs x)
 
 module _ (kind : Kind) (entries : List CharacterEntry) (pairs : List Pair) (p : Packed) (packs : Packs entries pairs p) where
@@ -103,8 +103,8 @@ module _ (kind : Kind) (entries : List CharacterEntry) (pairs : List Pair) (p : 
         let kept : kept_list kind entries n ≡ x = rw list refl in
         let flags : HasFlags kind entries pairs n (spelling_by_list (class_in entries) n x) w =
         subst (λ (q : Spelling). HasFlags kind entries pairs n q w) (spelled_by (Some x) list) (packed_word entries pairs p packs kind n (scalar_below n is)).flags in
-        let flagged : IsFlagged (composing_reading entries pairs) pairs n x w =
-        subst (λ (y : List ℕ). IsFlagged (composing_reading entries pairs) pairs n y w) kept
+        let flagged : IsFlagged (reading_of_entries entries pairs) pairs n x w =
+        subst (λ (y : List ℕ). IsFlagged (reading_of_entries entries pairs) pairs n y w) kept
         (flags_of_spelling kind entries pairs n (spelling_by_list (class_in entries) n x) w (by_list_flagged (class_in entries) n x) flags) in
         record {
           round_trip = flagged.round_trip;

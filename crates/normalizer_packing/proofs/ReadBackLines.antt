@@ -20,7 +20,7 @@ use Rattle.normalizer_tables.proofs.TextLemmas.{as_text-scalars}
 use Rattle.normalizer_packing.specs.declared.entry.Kind.{Kind}
 use Rattle.normalizer_packing.specs.declared.spelling.Spelling.{Spelling}
 use Rattle.normalizer_packing.specs.declared.spelling.Spelling.TheVariants as by
-use Rattle.normalizer_packing.specs.Entries.{CharacterEntry, class_in, composing_reading, kept_list, list_in}
+use Rattle.normalizer_packing.specs.Entries.{CharacterEntry, class_in, reading_of_entries, kept_list, list_in}
 use Rattle.normalizer_packing.specs.Flags.{without_flags}
 use Rattle.normalizer_packing.specs.ReadBack.{AreReadable, IsTold, class_by, has_class_word, list_by, tells_class}
 use Rattle.normalizer_packing.specs.Spelling.{has_fixed_list, have_classes, list_eq, spelling, spells_two}
@@ -331,8 +331,8 @@ module _ (kind : Kind) (entries : List CharacterEntry) (s : Characters) (n : ℕ
       let small : a < 0x8000 = ltb-true _ _ one.0 in
       let also : b < 0x8000 = ltb-true _ _ two.0 in
       let mark : 0 < class_in entries b = ltb-true _ _ three.0 in
-      let begins : BeginsWithStarter (composing_reading entries []) (a ∷ b ∷ []) =
-      subst (λ (y : List ℕ). BeginsWithStarter (composing_reading entries []) y) kept (readable.first n is (untold kind entries n (a ∷ b ∷ []) kept free differs)) in
+      let begins : BeginsWithStarter (reading_of_entries entries []) (a ∷ b ∷ []) =
+      subst (λ (y : List ℕ). BeginsWithStarter (reading_of_entries entries []) y) kept (readable.first n is (untold kind entries n (a ∷ b ∷ []) kept free differs)) in
       let starter : class_in entries a ≡ 0 = begins in
       read_back kind entries s n (TwoCharacters a b) 0 false is
       (reads_two n (word_of s n) a b s.is_mapper small also (unset _ zeros.0) (unset _ zeros.1) (unmarked_pair small also starter mark) rest)

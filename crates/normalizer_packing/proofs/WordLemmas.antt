@@ -13,7 +13,7 @@ use Rattle.normalizer_tables.specs.Table.{code_points}
 use Rattle.normalizer_packing.specs.declared.entry.Kind.{Kind}
 use Rattle.normalizer_packing.specs.declared.spelling.Spelling.{Spelling}
 use Rattle.normalizer_packing.specs.declared.spelling.Spelling.TheVariants.{Final, Short, Listed}
-use Rattle.normalizer_packing.specs.Entries.{CharacterEntry, class_in, composing_reading, entry_of, kept_list, list_in, own_list}
+use Rattle.normalizer_packing.specs.Entries.{CharacterEntry, class_in, reading_of_entries, entry_of, kept_list, list_in, own_list}
 use Rattle.normalizer_packing.specs.Flags.{IsFlagged, without_flags}
 use Rattle.normalizer_packing.specs.Packing.{IsPackedWord}
 use Rattle.normalizer_packing.specs.Spelling.{final_word, has_fixed_list, list_eq, spelling, spelling_by_list, spelling_or_ignored}
@@ -25,11 +25,11 @@ module _ (kind : Kind) (entries : List CharacterEntry) (pairs : List Pair) (n : 
   final_packs w is = record { spelled = rw is refl; flags = rw is tt }
 
   pub short_packs : (word w : ℕ) → spelling (class_in entries) n (list_in kind entries n) ≡ Short word → without_flags w ≡ word →
-      IsFlagged (composing_reading entries pairs) pairs n (kept_list kind entries n) w → IsPackedWord kind entries pairs n w
+      IsFlagged (reading_of_entries entries pairs) pairs n (kept_list kind entries n) w → IsPackedWord kind entries pairs n w
   short_packs word w is same flags = record { spelled = rw is same; flags = rw is flags }
 
   pub listed_packs : (item w : ℕ) → spelling (class_in entries) n (list_in kind entries n) ≡ Listed → item ≡ item_of entries (kept_list kind entries n) →
-      without_flags w ≡ pointing_word (class_in entries) (kept_list kind entries n) item → IsFlagged (composing_reading entries pairs) pairs n (kept_list kind entries n) w →
+      without_flags w ≡ pointing_word (class_in entries) (kept_list kind entries n) item → IsFlagged (reading_of_entries entries pairs) pairs n (kept_list kind entries n) w →
       IsPackedWord kind entries pairs n w
   listed_packs item w is item_is same flags = record { spelled = rw is (same ∙ ap (pointing_word (class_in entries) (kept_list kind entries n)) item_is); flags = rw is flags }
 

@@ -4,7 +4,7 @@ use Rattle.normal_forms.specs.Composition.{compose}
 use Rattle.normalizer_tables.specs.Conditions.{cap_limit}
 use Rattle.normalizer_tables.specs.Pairs.{Pair, IsNeverSecond}
 use Rattle.normalizer_packing.specs.declared.entry.Kind.{Kind}
-use Rattle.normalizer_packing.specs.Entries.{CharacterEntry, class_in, list_in, composing_reading}
+use Rattle.normalizer_packing.specs.Entries.{CharacterEntry, class_in, list_in, reading_of_entries}
 
 -- the list begins with a starter that is second in no pair
 abbrev pub BeginsPassed : List CharacterEntry → List Pair → List ℕ → Type 0
@@ -15,7 +15,7 @@ BeginsPassed entries pairs (s ∷ x) = (class_in entries s ≡ 0) × IsNeverSeco
 -- itself, and everywhere its list composes to n alone and nothing composes with what is before it
 pub record MayPassWith (entries : List CharacterEntry) (pairs : List Pair) (n : ℕ) (x : List ℕ) : Type 0 where
   pub itself : n < 0xC0 → (x ≡ n ∷ []) × (class_in entries n ≡ 0)
-  pub round_trip : compose (composing_reading entries pairs) x ≡ n ∷ []
+  pub round_trip : compose (reading_of_entries entries pairs) x ≡ n ∷ []
   pub beginning : BeginsPassed entries pairs x
 
 -- an ignored character may not

@@ -40,5 +40,5 @@ unfoldable pub kept_list : Kind → List CharacterEntry → ℕ → List ℕ
 kept_list kind entries n = unwrap_or (list_in kind entries n) []
 
 -- the reading that entries and pairs make for composition, which looks at no lists
-abbrev pub composing_reading : List CharacterEntry → List Pair → Reading
-composing_reading entries pairs = record { list = λ n. n ∷ []; class = class_in entries; pair = pair_of pairs }
+abbrev pub reading_of_entries : List CharacterEntry → List Pair → Reading
+reading_of_entries entries pairs = record { list = λ n. n ∷ []; class = class_in entries; pair = pair_of pairs }

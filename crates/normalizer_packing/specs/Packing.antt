@@ -9,7 +9,8 @@ use Rattle.normalizer_packing.specs.declared.entry.Kind.TheVariants.{Canonical, 
 use Rattle.normalizer_packing.specs.declared.spelling.Spelling.{Spelling}
 use Rattle.normalizer_packing.specs.declared.spelling.Spelling.TheVariants.{Final, Short, Listed}
 use Rattle.normalizer_packing.specs.Caps.{IsCap}
-use Rattle.normalizer_packing.specs.Entries.{CharacterEntry, AreRising, class_in, list_in, kept_list, composing_reading}
+use Rattle.normalizer_packing.specs.Entries.{CharacterEntry, AreRising, class_in, list_in, kept_list}
+use Rattle.normalizer_packing.specs.Entries.{reading_of_entries}
 use Rattle.normalizer_packing.specs.Flags.{IsFlagged, without_flags}
 use Rattle.normalizer_packing.specs.Spelling.{spelling}
 use Rattle.normalizer_packing.specs.Steps.{PacksSteps}
@@ -26,7 +27,7 @@ IsSpelled entries x Listed w = without_flags w ≡ pointing_word (class_in entri
 -- what flags w has: a final word has its own
 abbrev pub HasFlags : Kind → List CharacterEntry → List Pair → ℕ → Spelling → ℕ → Type 0
 HasFlags kind entries pairs n (Final word) w = Unit {0}
-HasFlags kind entries pairs n _ w = IsFlagged (composing_reading entries pairs) pairs n (kept_list kind entries n) w
+HasFlags kind entries pairs n _ w = IsFlagged (reading_of_entries entries pairs) pairs n (kept_list kind entries n) w
 
 -- w is the word of n
 pub record IsPackedWord (kind : Kind) (entries : List CharacterEntry) (pairs : List Pair) (n w : ℕ) : Type 0 where

@@ -15,7 +15,7 @@ use Rattle.normalizer_tables.specs.SpecialLists.{fdfa_list}
 use Rattle.normalizer_packing.specs.declared.Packed.{Packed}
 use Rattle.normalizer_packing.specs.declared.entry.Kind.{Kind}
 use Rattle.normalizer_packing.specs.declared.entry.Kind.TheVariants.{Canonical, Compatibility, Mapper}
-use Rattle.normalizer_packing.specs.Entries.{CharacterEntry, class_in, composing_reading, kept_list, list_in}
+use Rattle.normalizer_packing.specs.Entries.{CharacterEntry, class_in, reading_of_entries, kept_list, list_in}
 use Rattle.normalizer_packing.specs.Spelling.{has_fixed_list, list_eq}
 use Rattle.normalizer_packing.specs.Stored.{has_marks_behind}
 
@@ -76,7 +76,7 @@ pub record AreReadable (kind : Kind) (entries : List CharacterEntry) : Type 0 wh
   pub zero : (n : ℕ) → IsScalar n → kept_list kind entries n ≡ 0 ∷ [] → n ≡ 0
   -- the list of a character begins with a starter, if it is neither the character alone nor its fixed one
   pub first : (n : ℕ) → IsScalar n → tells_class kind entries n ≡ false →
-      BeginsWithStarter (composing_reading entries []) (kept_list kind entries n)
+      BeginsWithStarter (reading_of_entries entries []) (kept_list kind entries n)
 
 -- what the reading of n's word says is so
 unfoldable pub IsTold : Kind → List CharacterEntry → ℕ → WordReading → Type 0

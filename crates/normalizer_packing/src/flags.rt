@@ -2,7 +2,7 @@
 ghost use Rattle.std.specs.Prelude.{◌≡◌, ◌↔◌, ◌<◌, ◌≤◌, if◌then◌else◌, ◌||◌, ◌^◌, [], ◌∷◌, IsTrue, not};
 ghost use Rattle.normal_forms.specs.Composition.{compose, is_blocked, joined};
 ghost use Rattle.normalizer_tables.specs.Words.{is_backward_combining, is_class_form, is_non_round_trip};
-ghost use Rattle.normalizer_packing.specs.Entries.{composing_reading};
+ghost use Rattle.normalizer_packing.specs.Entries.{reading_of_entries};
 ghost use Rattle.normalizer_packing.specs.Flags.{without_flags, BeginsUnpaired, IsFlagged};
 
 use crate::entries::Entries;
@@ -25,7 +25,7 @@ pub fn flagged(
 ) -> u32
     requires { word < 2 ^ 30 }
     ensures word { without_flags result ≡ word }
-    ensures flags { IsFlagged (composing_reading entries.now compositions.now)
+    ensures flags { IsFlagged (reading_of_entries entries.now compositions.now)
         compositions.now character list.now result }
 {
     let changes = !composes_to(entries, compositions, list, character);
@@ -70,7 +70,7 @@ pub fn composes_to(
     list: &[char],
     character: char,
 ) -> bool
-    ensures { IsTrue result ↔ (compose (composing_reading entries.now compositions.now) list.now ≡ character ∷ []) }
+    ensures { IsTrue result ↔ (compose (reading_of_entries entries.now compositions.now) list.now ≡ character ∷ []) }
 {
     let Some(&first) = list.first() else {
         return false;
@@ -93,7 +93,7 @@ fn joined(
     first: char,
     second: char,
 ) -> Option<char>
-    ensures { result ≡ joined (composing_reading entries.now compositions.now) first [] second }
+    ensures { result ≡ joined (reading_of_entries entries.now compositions.now) first [] second }
 {
     if entries.class_of(first) == 0 {
         compositions.compose(first, second)

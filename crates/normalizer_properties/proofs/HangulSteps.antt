@@ -6,7 +6,7 @@ use Rattle.std.proofs.lemmas.List.Elements.{All-nil}
 use Rattle.normal_forms.specs.Order.{order}
 use Rattle.normalizer_tables.specs.declared.condition.Condition.TheVariants.{Hangul}
 use Rattle.normalizer_tables.specs.declared.step.Step.TheVariants.{Expansion}
-use Rattle.normalizer_tables.specs.Characters.{Characters, as_text, list_of, own_reading}
+use Rattle.normalizer_tables.specs.Characters.{Characters, as_text, list_of}
 use Rattle.normalizer_tables.specs.Conditions.{Holds}
 use Rattle.normalizer_tables.specs.Data.{Supplement}
 use Rattle.normalizer_tables.specs.Hangul.{is_hangul_syllable, hangul_decomposition}
@@ -15,6 +15,8 @@ use Rattle.normalizer_tables.specs.PairConditions.{HasOrderedLists}
 use Rattle.normalizer_tables.specs.Pairs.{pair_of, is_vowel_or_trailing_jamo}
 use Rattle.normalizer_tables.specs.declared.condition.Bounds.{Bounds}
 use Rattle.normalizer_tables.specs.Steps.{hangul_mapping, step_by, step_of, step_to}
+use Rattle.normalizer_tables.specs.Readings.{reading_by}
+use Rattle.normalizer_tables.specs.declared.characters.IgnoredCharacters.TheVariants.{Dropped}
 use Rattle.normalizer_tables.proofs.HangulLemmas.{compose_hangul-lv, compose_hangul-lvt, hangul_decomposition-two}
 use Rattle.normalizer_tables.proofs.PairLaws.{HasFaithfulResults-reading_of, list_of-syllable, order-own}
 
@@ -96,7 +98,7 @@ unfolding pair_of
 pair_of-hangul a b n h = rw h.jamo h.composes
 
 pub list_of-hangul : (s : Characters) (b : Bounds) → Holds s b Hangul → (n first second : ℕ)
-    → IsHangulMapping n first second → list_of s [] n ≡ order (own_reading s) (list_of s [] first ++ list_of s [] second)
+    → IsHangulMapping n first second → list_of s [] n ≡ order (reading_by s Dropped []) (list_of s [] first ++ list_of s [] second)
 list_of-hangul s b hangul n first second h =
     (HasFaithfulResults-reading_of s b hangul [] [] (All-nil (HasOrderedLists s []))).results first second n (pair_of-hangul first second n h)
     ∙ sym (order-own s [] (pair_of []) _)

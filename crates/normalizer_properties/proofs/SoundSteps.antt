@@ -7,7 +7,7 @@ use Rattle.normal_forms.specs.Reading.{Reading}
 use Rattle.normalizer_tables.specs.declared.condition.Condition.TheVariants.{Hangul, Order, Steps}
 use Rattle.normalizer_tables.specs.declared.step.Step.{Step}
 use Rattle.normalizer_tables.specs.declared.step.Step.TheVariants.{Default, Singleton, Expansion}
-use Rattle.normalizer_tables.specs.Characters.{Characters, list_of, own_reading}
+use Rattle.normalizer_tables.specs.Characters.{Characters, list_of}
 use Rattle.normalizer_tables.specs.Conditions.{Holds, HoldsAt}
 use Rattle.normalizer_tables.specs.Data.{Supplement}
 use Rattle.normalizer_tables.specs.Hangul.{is_hangul_syllable}
@@ -15,6 +15,8 @@ use Rattle.normalizer_tables.specs.declared.condition.Bounds.{Bounds}
 use Rattle.normalizer_tables.specs.StepConditions.{HasSoundStep, HoldsOfSteps, IsInOrder, IsSoundStep, StepsHoldAt}
 use Rattle.normalizer_tables.specs.Loaded.{IsMet}
 use Rattle.normalizer_tables.specs.Steps.{step_of}
+use Rattle.normalizer_tables.specs.Readings.{reading_by}
+use Rattle.normalizer_tables.specs.declared.characters.IgnoredCharacters.TheVariants.{Dropped}
 use Rattle.normalizer_tables.proofs.CharacterLemmas.{list_of-default}
 use Rattle.normalizer_tables.proofs.HangulLemmas.{is_hangul_syllable-true}
 use Rattle.normalizer_tables.proofs.SoundLists.{list_read-elsewhere}
@@ -28,12 +30,12 @@ order-one d c = refl
 
 module _ (s : Characters) (t : Supplement) (b : Bounds) where
   module _ (in_order : Holds s b Order) where
-    by_kind : (n : ℕ) (is_scalar : Bool) → scalar n ≡ is_scalar → order (own_reading s) (list_of s [] n) ≡ list_of s [] n
+    by_kind : (n : ℕ) (is_scalar : Bool) → scalar n ≡ is_scalar → order (reading_by s Dropped []) (list_of s [] n) ≡ list_of s [] n
     unfolding Holds HoldsAt
     by_kind n true h = (in_order.1 n h).ordered
-    by_kind n false h = rw (list_of-default s [] n (list_read-elsewhere s [] n h)) (order-one (own_reading s) n)
+    by_kind n false h = rw (list_of-default s [] n (list_read-elsewhere s [] n h)) (order-one (reading_by s Dropped []) n)
 
-    ordered : (n : ℕ) → order (own_reading s) (list_of s [] n) ≡ list_of s [] n
+    ordered : (n : ℕ) → order (reading_by s Dropped []) (list_of s [] n) ≡ list_of s [] n
     ordered n = by_kind n (scalar n) refl
 
     -- what condition 16 says of a step

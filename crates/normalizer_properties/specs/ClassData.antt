@@ -4,18 +4,17 @@ use Rattle.std.specs.Char.{IsScalar}
 use Rattle.normalizer_tables.specs.declared.condition.Condition.{Condition}
 use Rattle.normalizer_tables.specs.declared.provider.DataError.{DataError}
 use Rattle.normalizer_tables.specs.declared.provider.DataMarkerInfo.{DataMarkerInfo}
-use Rattle.normalizer_tables.specs.Characters.{class_of}
+use Rattle.normalizer_tables.specs.Characters.{class_of, characters_from}
 use Rattle.normalizer_tables.specs.ClassConditions.{HoldsOfClasses, IsSoundClass, class_conditions}
 use Rattle.normalizer_tables.specs.Conditions.{IsFirstFailing, is_surrogate}
 use Rattle.normalizer_tables.specs.Data.{Decompositions, lists_or_none}
-use Rattle.normalizer_tables.specs.NfdData.{nfd_characters}
 use Rattle.normalizer_tables.specs.Refusals.{refusal_of}
 use Rattle.normalizer_tables.specs.Table.{word_at}
 use Rattle.normalizer_tables.specs.Words.{is_class_form}
 
 -- the class that data give a number, 0 where it is no scalar value; the tables have no part in it
 abbrev pub combining_class : Decompositions → ℕ → ℕ
-combining_class d n = class_of (nfd_characters d (lists_or_none None)) n
+combining_class d n = class_of (characters_from d (lists_or_none None) None) n
 
 -- data that meet the conditions on classes
 pub record SuitsClasses (d : Decompositions) : Type 0 where

@@ -4,10 +4,10 @@ use Rattle.normalizer_tables.specs.declared.provider.DataError.{DataError}
 use Rattle.normalizer_tables.specs.declared.provider.DataMarkerInfo.{DataMarkerInfo}
 use Rattle.normalizer_tables.specs.declared.provider.DataMarkerInfo.TheVariants as marker
 use Rattle.normalizer_tables.specs.AcceptedData.{step_conditions}
-use Rattle.normalizer_tables.specs.Characters.{Characters}
+use Rattle.normalizer_tables.specs.Characters.{Characters, characters_from}
 use Rattle.normalizer_tables.specs.Data.{Decompositions, Lists, Supplement}
 use Rattle.normalizer_tables.specs.Loaded.{IsMet, Loaded}
-use Rattle.normalizer_tables.specs.NfdData.{nfd_bounds, nfd_characters}
+use Rattle.normalizer_tables.specs.NfdData.{nfd_bounds}
 use Rattle.normalizer_tables.specs.Refusals.{RefusesFirstFailing}
 
 -- canonical data and the supplement
@@ -15,7 +15,7 @@ abbrev pub StepData : Type 0
 StepData = Characters × Supplement
 
 abbrev pub steps_from : Decompositions → Lists → Supplement → StepData
-steps_from decompositions tables supplement = (nfd_characters decompositions tables, supplement)
+steps_from decompositions tables supplement = (characters_from decompositions tables None, supplement)
 
 -- the data that are held, or the marker of the first load for which nothing is held
 abbrev pub step_data : Option Decompositions → Option Lists → Option Supplement → Result StepData DataMarkerInfo

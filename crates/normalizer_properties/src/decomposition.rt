@@ -1,8 +1,8 @@
 //! One step of canonical decomposition: the canonical mapping of a character.
-ghost use Rattle.std.specs.Prelude.{◌≡◌, IfErr, IfOk};
+ghost use Rattle.std.specs.Prelude.{◌≡◌, IfErr, IfOk, None};
 ghost use Rattle.normalizer_tables.specs.Held.{AnswersHeld};
-ghost use Rattle.normalizer_tables.specs.NfdData.{nfd_characters};
 ghost use Rattle.normalizer_tables.specs.Steps.{step_of};
+ghost use Rattle.normalizer_tables.specs.Characters.{characters_from};
 ghost use Rattle.normalizer_properties.specs.StepData.{
   step_data,
   steps_from,
@@ -29,7 +29,7 @@ pub struct CanonicalDecomposition {
     decompositions: DecompositionData,
     tables: DecompositionTables,
     supplement: NonRecursiveDecompositionSupplement,
-    ghost steps: { HasSteps (nfd_characters decompositions tables) supplement },
+    ghost steps: { HasSteps (characters_from decompositions tables None) supplement },
 }
 
 impl CanonicalDecomposition {

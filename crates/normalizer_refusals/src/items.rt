@@ -1,5 +1,5 @@
-//! Iterators whose items are asked one by one. A refused growth is answered once: where an iterator is made, and none is
-//! then, or in the place of its first item, with nothing behind it.
+//! Iterators whose items are asked one by one. A refused growth is answered once: where an iterator is made, and none
+//! is then, or in the place of its first item, with nothing behind it.
 ghost use Rattle.std.specs.Prelude.{IfOk};
 ghost use Rattle.std.specs.Iterator.{IsFinite};
 

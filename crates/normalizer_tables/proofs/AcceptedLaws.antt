@@ -12,14 +12,16 @@ use Rattle.normal_forms.specs.Hypotheses.{HasFullLists, HasStarterResults, HasFa
 use Rattle.normal_forms.proofs.OrderLemmas.{length-order}
 use Rattle.normalizer_tables.specs.declared.condition.Condition.TheVariants as condition
 use Rattle.normalizer_tables.specs.AcceptedData.{IsAccepted, AreAcceptedPairs, SuitsMapper, SuitsTexts, pair_conditions}
-use Rattle.normalizer_tables.specs.Characters.{Characters, list_of, own_reading, reading_of}
+use Rattle.normalizer_tables.specs.Characters.{Characters, list_of, characters_from}
 use Rattle.normalizer_tables.specs.Data.{Decompositions, Lists}
 use Rattle.normalizer_tables.specs.Ignored.{IgnoredCharacters, Dropped, ignored_list}
 use Rattle.normalizer_tables.specs.Loaded.{IsMet}
-use Rattle.normalizer_tables.specs.NfdData.{IsSoundNfdData, nfd_bounds, nfd_characters}
-use Rattle.normalizer_tables.specs.PairConditions.{HoldsOfPairs, PairsHoldOverall, composing_reading}
+use Rattle.normalizer_tables.specs.NfdData.{IsSoundNfdData, nfd_bounds}
+use Rattle.normalizer_tables.specs.PairConditions.{HoldsOfPairs, PairsHoldOverall}
 use Rattle.normalizer_tables.specs.Pairs.{Pair, pair_of}
 use Rattle.normalizer_tables.specs.SoundData.{Bounds, IsSoundData}
+use Rattle.normalizer_tables.specs.Readings.{reading_by, reading_of}
+use Rattle.std.proofs.lemmas.List.Elements.{All-nil}
 use Rattle.normalizer_tables.proofs.CharacterLemmas.{list_of-default}
 use Rattle.normalizer_tables.proofs.HangulLemmas.{compose_hangul-some}
 use Rattle.normalizer_tables.proofs.InhabitedLists.{HasInhabitedLists-reading_of}
@@ -37,7 +39,7 @@ IsSoundData-accepted s b accepted = record {
   order = accepted 8 condition.Order (omega arith);
 }
 
-pub IsSoundData-handed_in : (decompositions : Decompositions) (tables : Lists) → IsSoundNfdData decompositions tables → IsSoundData (nfd_characters decompositions tables) nfd_bounds
+pub IsSoundData-handed_in : (decompositions : Decompositions) (tables : Lists) → IsSoundNfdData decompositions tables → IsSoundData (characters_from decompositions tables None) nfd_bounds
 unfolding IsMet
 IsSoundData-handed_in decompositions tables accepted = record {
   replacement = (accepted 1 condition.ReplacementCharacter (omega arith)).0;
@@ -86,27 +88,28 @@ HasScalarResults-pairs s ignored pairs scalars = record {
 
 -- ---- accepted data
 
-SuitsTexts-sound : (s : Characters) (b : Bounds) → s.is_mapper ≡ false → IsSoundData s b → SuitsTexts (own_reading s) Decomposing
+SuitsTexts-sound : (s : Characters) (b : Bounds) → s.is_mapper ≡ false → IsSoundData s b → SuitsTexts (reading_by s Dropped []) Decomposing
 SuitsTexts-sound s b plain sound = record {
-  laws = HasFullLists-sound s b sound Dropped (λ x y. None);
-  inhabited = HasInhabitedLists-reading_of s Dropped (λ x y. None) (inl plain);
-  texts = HasTextLists-sound s b sound Dropped (λ x y. None);
-  scalars = record { scalars = λ a c r first second joins. cc };
+  laws = HasFullLists-sound s b sound Dropped (pair_of []);
+  inhabited = HasInhabitedLists-reading_of s Dropped (pair_of []) (inl plain);
+  texts = HasTextLists-sound s b sound Dropped (pair_of []);
+  scalars = HasScalarResults-pairs s [] [] (All-nil (λ (p : Pair). IsScalar p.2));
 }
 
-pub SuitsTexts-accepted : (s : Characters) (b : Bounds) → s.is_mapper ≡ false → IsAccepted s b → SuitsTexts (own_reading s) Decomposing
+pub SuitsTexts-accepted : (s : Characters) (b : Bounds) → s.is_mapper ≡ false → IsAccepted s b → SuitsTexts (reading_by s Dropped []) Decomposing
 SuitsTexts-accepted s b plain accepted = SuitsTexts-sound s b plain (IsSoundData-accepted s b accepted)
 
-pub SuitsTexts-handed_in : (decompositions : Decompositions) (tables : Lists) → IsSoundNfdData decompositions tables → SuitsTexts (own_reading (nfd_characters decompositions tables)) Decomposing
+pub SuitsTexts-handed_in : (decompositions : Decompositions) (tables : Lists) → IsSoundNfdData decompositions tables
+    → SuitsTexts (reading_by (characters_from decompositions tables None) Dropped []) Decomposing
 SuitsTexts-handed_in decompositions tables accepted =
-    SuitsTexts-sound (nfd_characters decompositions tables) nfd_bounds refl (IsSoundData-handed_in decompositions tables accepted)
+    SuitsTexts-sound (characters_from decompositions tables None) nfd_bounds refl (IsSoundData-handed_in decompositions tables accepted)
 
 module _ (s : Characters) (b : Bounds) (pairs : List Pair) (accepted : IsAccepted s b) where
   pub HasStarterResults-accepted : AreAcceptedPairs s b pairs → (ignored : List ℕ) → HasStarterResults (reading_of s ignored (pair_of pairs))
   HasStarterResults-accepted accepted_pairs ignored =
       HasStarterResults-reading_of s b (accepted 5 condition.Hangul (omega arith)) pairs (accepted_pairs 0 condition.Pairs (omega arith)) ignored
 
-  pub SuitsMapper-accepted : AreAcceptedPairs s b pairs → (i : IgnoredCharacters) → SuitsMapper (reading_of s (ignored_list i) (pair_of pairs))
+  pub SuitsMapper-accepted : AreAcceptedPairs s b pairs → (i : IgnoredCharacters) → SuitsMapper (reading_by s i pairs)
   SuitsMapper-accepted accepted_pairs i =
       let sound = IsSoundData-accepted s b accepted in
       record {
@@ -116,17 +119,17 @@ module _ (s : Characters) (b : Bounds) (pairs : List Pair) (accepted : IsAccepte
       }
 
   module _ (plain : s.is_mapper ≡ false) (accepted_pairs : AreAcceptedPairs s b pairs) where
-    HasFaithfulResults-accepted : HasFaithfulResults (composing_reading s pairs)
+    HasFaithfulResults-accepted : HasFaithfulResults (reading_by s Dropped pairs)
     unfolding HoldsOfPairs PairsHoldOverall
     HasFaithfulResults-accepted =
         let all : All (HoldsOfPairs s b pairs) (pair_conditions false) = subst (λ m. All (HoldsOfPairs s b pairs) (pair_conditions m)) plain accepted_pairs in
         HasFaithfulResults-reading_of s b (accepted 5 condition.Hangul (omega arith)) pairs [] (all 3 condition.Results (omega arith)).0
 
-    suits : (form : Form) → HasFullLists (composing_reading s pairs) → SuitsForm (composing_reading s pairs) form
+    suits : (form : Form) → HasFullLists (reading_by s Dropped pairs) → SuitsForm (reading_by s Dropped pairs) form
     suits Decomposing full = full
     suits Composing full = (full, HasStarterResults-accepted accepted_pairs [], HasFaithfulResults-accepted)
 
-    pub SuitsTexts-accepted_pairs : (form : Form) → SuitsTexts (composing_reading s pairs) form
+    pub SuitsTexts-accepted_pairs : (form : Form) → SuitsTexts (reading_by s Dropped pairs) form
     SuitsTexts-accepted_pairs form =
         let sound = IsSoundData-accepted s b accepted in
         let inhabited = HasInhabitedLists-reading_of s Dropped (pair_of pairs) (inl plain) in
@@ -134,5 +137,5 @@ module _ (s : Characters) (b : Bounds) (pairs : List Pair) (accepted : IsAccepte
           laws = suits form (HasFullLists-sound s b sound Dropped (pair_of pairs));
           inhabited = inhabited;
           texts = HasTextLists-sound s b sound Dropped (pair_of pairs);
-          scalars = HasScalarResults-faithful (composing_reading s pairs) HasFaithfulResults-accepted inhabited (list_of-elsewhere s []);
+          scalars = HasScalarResults-faithful (reading_by s Dropped pairs) HasFaithfulResults-accepted inhabited (list_of-elsewhere s []);
         }

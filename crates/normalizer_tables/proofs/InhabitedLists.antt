@@ -12,11 +12,12 @@ use Rattle.normalizer_tables.specs.Data.{Lists}
 use Rattle.normalizer_tables.specs.Hangul.{is_hangul_syllable, hangul_decomposition, l_base, v_base, t_base, s_base, n_count, t_count}
 use Rattle.normalizer_tables.specs.SpecialLists.{FixedList, fixed, fixed_list_of, fdfa_list}
 use Rattle.normalizer_tables.specs.Words.{is_plain, is_ordinary_class_form, is_special_class_form, low_byte, has_high_zeros, has_low_zeros, two_characters, listed, read_low, read}
-use Rattle.normalizer_tables.specs.Characters.{Characters, word_of, reading_of_word, as_text, items_at, narrow_at, wide_at, placed_in, listed_in, listed_at, named_list, list_read, list_of, reading_of}
+use Rattle.normalizer_tables.specs.Characters.{Characters, word_of, reading_of_word, as_text, items_at, narrow_at, wide_at, placed_in, listed_in, listed_at, named_list, list_read, list_of}
 use Rattle.normalizer_tables.specs.Ignored.{IgnoredCharacters, Replaced, ignored_list}
 use Rattle.normalizer_tables.proofs.CharacterLemmas.{list_read-scalar}
 use Rattle.normalizer_tables.proofs.WordLemmas.{if-second}
 use Rattle.normalizer_tables.proofs.SoundLists.{list_read-elsewhere}
+use Rattle.normalizer_tables.specs.Readings.{reading_of}
 
 as_text-inhabited : (c : ℕ) (x : List ℕ) → as_text (c ∷ x) ≢ Some []
 unfolding as_text

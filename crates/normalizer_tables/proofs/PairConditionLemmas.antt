@@ -6,9 +6,11 @@ use Rattle.normal_forms.specs.Order.{order}
 use Rattle.normal_forms.specs.Composition.{compose, compose_from, visit}
 use Rattle.normalizer_tables.specs.declared.condition.Bounds.{Bounds}
 use Rattle.normalizer_tables.specs.Words.{is_plain}
-use Rattle.normalizer_tables.specs.Characters.{Characters, word_of, list_of, class_of, own_reading}
+use Rattle.normalizer_tables.specs.Characters.{Characters, word_of, list_of, class_of}
 use Rattle.normalizer_tables.specs.Pairs.{Pair, IsNeverSecond}
-use Rattle.normalizer_tables.specs.PairConditions.{composing_reading, HasSafeBeginning, RoundTrips, KeepsRoundTrip, HasOrderedLists}
+use Rattle.normalizer_tables.specs.PairConditions.{HasSafeBeginning, RoundTrips, KeepsRoundTrip, HasOrderedLists}
+use Rattle.normalizer_tables.specs.Readings.{reading_by}
+use Rattle.normalizer_tables.specs.Ignored.{Dropped}
 use Rattle.normalizer_tables.proofs.CharacterLemmas.{list_of-reads}
 use Rattle.normalizer_tables.proofs.ConditionLemmas.{list_read-plain, class_of-plain}
 use Rattle.normalizer_tables.proofs.CompositionLemmas.{begins_safely_from_first, first_of_safe_beginning}
@@ -21,8 +23,8 @@ pub HasSafeBeginning-first : (s : Characters) (pairs : List Pair) (n first : ℕ
     IsTrue r ↔ IsNeverSecond pairs first → IsTrue r ↔ HasSafeBeginning s pairs n
 unfolding IsNeverSecond
 HasSafeBeginning-first s pairs n first r h starter never = (
-  λ yes. let begins = begins_safely_from_first (composing_reading s pairs) (list_of s [] n) first h starter (never.0 yes) in record { begins = begins.0; safely = begins.1 },
-  λ safe. never.1 (first_of_safe_beginning (composing_reading s pairs) (list_of s [] n) first h safe.safely).1,
+  λ yes. let begins = begins_safely_from_first (reading_by s Dropped pairs) (list_of s [] n) first h starter (never.0 yes) in record { begins = begins.0; safely = begins.1 },
+  λ safe. never.1 (first_of_safe_beginning (reading_by s Dropped pairs) (list_of s [] n) first h safe.safely).1,
 )
 
 pub HasSafeBeginning-plain : (s : Characters) (pairs : List Pair) (n : ℕ) (r : Bool) → scalar n ≡ true → is_plain (word_of s n) ≡ true → IsTrue r ↔ IsNeverSecond pairs n →
@@ -34,11 +36,11 @@ HasSafeBeginning-plain s pairs n r h plain never =
 pub IsNeverSecond-plain : (s : Characters) (pairs : List Pair) (n : ℕ) → scalar n ≡ true → is_plain (word_of s n) ≡ true → HasSafeBeginning s pairs n → IsNeverSecond pairs n
 unfolding IsNeverSecond
 IsNeverSecond-plain s pairs n h plain safe =
-    (first_of_safe_beginning (composing_reading s pairs) (list_of s [] n) n (ap (λ x. slice_get x 0) (list_of-plain s n h plain)) safe.safely).1
+    (first_of_safe_beginning (reading_by s Dropped pairs) (list_of s [] n) n (ap (λ x. slice_get x 0) (list_of-plain s n h plain)) safe.safely).1
 
 RoundTrips-plain : (s : Characters) (pairs : List Pair) (n : ℕ) → scalar n ≡ true → is_plain (word_of s n) ≡ true → RoundTrips s pairs n
 unfolding RoundTrips compose compose_from visit
-RoundTrips-plain s pairs n h plain = ap (compose (composing_reading s pairs)) (list_of-plain s n h plain)
+RoundTrips-plain s pairs n h plain = ap (compose (reading_by s Dropped pairs)) (list_of-plain s n h plain)
 
 -- scalar values lie below 0x110000
 pub scalar_below : (n : ℕ) → IsScalar n → n < 0x110000
@@ -51,8 +53,8 @@ KeepsRoundTrip-plain s b pairs n plain h taken = RoundTrips-plain s pairs n h pl
 
 -- the condition on results, of the lists of a pair
 pub HasOrderedLists-members : (s : Characters) (p : Pair) (first second result : List ℕ) (r : Bool) → first ≡ list_of s [] p.1 → second ≡ list_of s [] p.0 → result ≡ list_of s [] p.2 →
-    IsTrue r ↔ (result ≡ order (own_reading s) (first ++ second)) → IsTrue r ↔ HasOrderedLists s [] p
+    IsTrue r ↔ (result ≡ order (reading_by s Dropped []) (first ++ second)) → IsTrue r ↔ HasOrderedLists s [] p
 unfolding HasOrderedLists
 HasOrderedLists-members s p first second result r of_first of_second of_result h =
-    let joined = ap₂ (λ x y. order (own_reading s) (x ++ y)) of_first of_second in
+    let joined = ap₂ (λ x y. order (reading_by s Dropped []) (x ++ y)) of_first of_second in
     (λ yes. sym of_result ∙ h.0 yes ∙ joined, λ ordered. h.1 (of_result ∙ ordered ∙ sym joined))

@@ -20,12 +20,14 @@ use Rattle.normalizer_tables.specs.declared.condition.Condition.TheVariants.{Pai
 use Rattle.normalizer_tables.specs.declared.word.WordReading.TheVariants.{Ignored, HangulSyllable}
 use Rattle.normalizer_tables.specs.Hangul.{is_hangul_syllable, hangul_decomposition}
 use Rattle.normalizer_tables.specs.Words.{is_plain, is_class_form, is_ordinary_class_form, is_special_class_form, has_high_zeros, has_low_zeros, read, read_low}
-use Rattle.normalizer_tables.specs.Characters.{Characters, word_of, reading_of_word, as_text, named_list, list_of, class_of, has_class_form, reading_of, own_reading}
+use Rattle.normalizer_tables.specs.Characters.{Characters, word_of, reading_of_word, as_text, named_list, list_of, class_of, has_class_form}
 use Rattle.normalizer_tables.specs.Conditions.{Holds, HoldsAt, IsSoundHangul, IsPlainStarter, is_composing_jamo}
 use Rattle.normalizer_tables.specs.SoundData.{Bounds}
 use Rattle.normalizer_tables.specs.Pairs.{Pair, pair_of, listed_result, is_vowel_or_trailing_jamo}
 use Rattle.normalizer_tables.specs.HangulComposition.{compose_hangul}
-use Rattle.normalizer_tables.specs.PairConditions.{composing_reading, HoldsOfPairs, PairsHoldAt, PairsHoldOverall, IsComposable, RoundTrips, KeepsRoundTrip, KeepsBeginning, HasSafeBeginning, HasOrderedLists, is_passed, is_taken_to_round_trip, is_taken_to_begin_safely}
+use Rattle.normalizer_tables.specs.PairConditions.{HoldsOfPairs, PairsHoldAt, PairsHoldOverall, IsComposable, RoundTrips, KeepsRoundTrip, KeepsBeginning, HasSafeBeginning, HasOrderedLists, is_passed, is_taken_to_round_trip, is_taken_to_begin_safely}
+use Rattle.normalizer_tables.specs.Readings.{reading_by, reading_of}
+use Rattle.normalizer_tables.specs.Ignored.{Dropped}
 use Rattle.normalizer_tables.proofs.CharacterLemmas.{list_read-scalar, list_of-reads}
 use Rattle.normalizer_tables.proofs.SoundLists.{elsewhere, dropped, same, kind_of, reads_as_itself, class_of-no_class_form}
 use Rattle.normalizer_tables.proofs.PairLemmas.{All-listed_result}
@@ -39,7 +41,7 @@ pair_of-some pairs first second result joins =
     cond_both (is_vowel_or_trailing_jamo second) _ _ (λ o. o ≡ Some result → (compose_hangul first second ≡ Some result) ⊎ (listed_result pairs first second ≡ Some result)) (λ _ e. inl e) (λ _ e. inr e) joins
 
 -- only classes matter to the order, and classes and pairs to composition
-pub order-own : (s : Characters) (ignored : List ℕ) (pairing : ℕ → ℕ → Option ℕ) (x : List ℕ) → order (own_reading s) x ≡ order (reading_of s ignored pairing) x
+pub order-own : (s : Characters) (ignored : List ℕ) (pairing : ℕ → ℕ → Option ℕ) (x : List ℕ) → order (reading_by s Dropped []) x ≡ order (reading_of s ignored pairing) x
 unfolding order insert is_reorderable
 order-own s ignored pairing x = refl
 
@@ -203,7 +205,7 @@ module _ (s : Characters) (b : Bounds) (pairs : List Pair) where
     | same q e f ↦ f
   ]
 
-  round_trip : HoldsOfPairs s b pairs RoundTrip → (n : ℕ) → IsScalar n → is_passed s b n ≡ true → compose (composing_reading s pairs) (list_of s [] n) ≡ n ∷ []
+  round_trip : HoldsOfPairs s b pairs RoundTrip → (n : ℕ) → IsScalar n → is_passed s b n ≡ true → compose (reading_by s Dropped pairs) (list_of s [] n) ≡ n ∷ []
   unfolding HoldsOfPairs PairsHoldAt KeepsRoundTrip RoundTrips
   round_trip holds n h passed = holds.1 n h (taken_to_round_trip n passed)
 
@@ -211,11 +213,11 @@ module _ (s : Characters) (b : Bounds) (pairs : List Pair) where
   unfolding HoldsOfPairs PairsHoldAt KeepsBeginning
   beginning holds n h passed = holds.1 n h (taken_to_begin_safely n passed)
 
-  ordered : Holds s b Order → (n : ℕ) → IsScalar n → order (own_reading s) (list_of s [] n) ≡ list_of s [] n
+  ordered : Holds s b Order → (n : ℕ) → IsScalar n → order (reading_by s Dropped []) (list_of s [] n) ≡ list_of s [] n
   unfolding Holds HoldsAt
   ordered holds n h = (holds.1 n h).ordered
 
-  composes_to_some : (n : ℕ) (x : List ℕ) → compose (composing_reading s pairs) x ≡ n ∷ [] → x ≢ []
+  composes_to_some : (n : ℕ) (x : List ℕ) → compose (reading_by s Dropped pairs) x ≡ n ∷ [] → x ≢ []
   unfolding compose compose_from
   composes_to_some n [] h e = cc
   composes_to_some n (c ∷ x) h e = cc
@@ -231,7 +233,7 @@ module _ (s : Characters) (b : Bounds) (pairs : List Pair) where
       ∙ ap (compose d) (sym (order-own s ignored (pair_of pairs) (list_of s [] n)) ∙ ordered in_order n h)
       ∙ sym (compose-ignored s ignored (pair_of pairs) (list_of s [] n)) ∙ trip
 
-  same_beginning : (ignored : List ℕ) (x : List ℕ) → BeginsSafely (composing_reading s pairs) x → BeginsSafely (reading_of s ignored (pair_of pairs)) x
+  same_beginning : (ignored : List ℕ) (x : List ℕ) → BeginsSafely (reading_by s Dropped pairs) x → BeginsSafely (reading_of s ignored (pair_of pairs)) x
   same_beginning ignored [] h = tt
   same_beginning ignored (c ∷ x) h = h
 

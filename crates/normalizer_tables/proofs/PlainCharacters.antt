@@ -9,11 +9,12 @@ use Rattle.normal_forms.specs.declared.Form.{Form}
 use Rattle.normal_forms.specs.declared.Form.TheVariants.{Decomposing, Composing}
 use Rattle.normal_forms.specs.Forms.{nfd, nfc, normal_form, IsNormalized}
 use Rattle.normal_forms.specs.ShortRuns.{continues}
-use Rattle.normalizer_tables.specs.Characters.{Characters, word_of, list_of, has_class_form, reading_of}
+use Rattle.normalizer_tables.specs.Characters.{Characters, word_of, list_of, has_class_form}
 use Rattle.normalizer_tables.specs.Words.{is_plain}
 use Rattle.normalizer_tables.specs.Conditions.{ReadsToItself}
 use Rattle.normalizer_tables.proofs.ConditionLemmas.{list_read-plain, plain-no_class_form}
 use Rattle.normalizer_tables.proofs.SoundLists.{reads_as_itself}
+use Rattle.normalizer_tables.specs.Readings.{reading_of}
 
 pub list_of-plain_word : (s : Characters) (ignored : List ℕ) (n : ℕ) → scalar n ≡ true → is_plain (word_of s n) ≡ true → list_of s ignored n ≡ n ∷ []
 unfolding ReadsToItself

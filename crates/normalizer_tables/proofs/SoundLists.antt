@@ -9,10 +9,11 @@ use Rattle.normal_forms.specs.Reading.{Reading}
 use Rattle.normalizer_tables.specs.declared.word.WordReading.{WordReading}
 use Rattle.normalizer_tables.specs.declared.word.WordReading.TheVariants.{Ignored, Itself, ClassForm, SpecialForm, TwoCharacters, HangulSyllable, Fdfa, OneCharacter, Listed}
 use Rattle.normalizer_tables.specs.Words.{class_of_word, is_class_form, low_byte}
-use Rattle.normalizer_tables.specs.Characters.{Characters, word_of, reading_of_word, named_list, list_read, list_of, class_of, has_class_form, reading_of, own_reading}
+use Rattle.normalizer_tables.specs.Characters.{Characters, word_of, reading_of_word, named_list, list_read, list_of, class_of, has_class_form}
 use Rattle.normalizer_tables.specs.Conditions.{ReadsToItself, IsPlainStarter, IsFlaggedReplacement, IsOrderedList, Holds, HoldsAt, HoldsOverall}
 use Rattle.normalizer_tables.specs.Ignored.{IgnoredCharacters, Dropped, Replaced, ignored_list}
 use Rattle.normalizer_tables.specs.SoundData.{Bounds, IsSoundData}
+use Rattle.normalizer_tables.specs.Readings.{reading_by, reading_of}
 use Rattle.normalizer_tables.proofs.CharacterLemmas.{list_read-scalar, list_of-reads, list_of-default}
 use Rattle.normal_forms.proofs.OrderLemmas.{order-nil}
 use Rattle.normalizer_tables.proofs.OrderedLists.{rising-order, order-rising, order-one}
@@ -134,7 +135,7 @@ class_of-no_class_form s n h =
     ]
 
 -- only classes matter to where a list may begin
-same_beginning : (s : Characters) (ignored : List ℕ) (pairing : ℕ → ℕ → Option ℕ) (x : List ℕ) → BeginsWithStarter (own_reading s) x → BeginsWithStarter (reading_of s ignored pairing) x
+same_beginning : (s : Characters) (ignored : List ℕ) (pairing : ℕ → ℕ → Option ℕ) (x : List ℕ) → BeginsWithStarter (reading_by s Dropped []) x → BeginsWithStarter (reading_of s ignored pairing) x
 same_beginning s ignored pairing [] h = tt
 same_beginning s ignored pairing (c ∷ x) h = h
 
@@ -163,5 +164,5 @@ order-list_of s b sound i pairing c =
       | elsewhere q e ↦ subst (λ x. order (reading_of s (ignored_list i) pairing) x ≡ x) (sym e) (order-one (reading_of s (ignored_list i) pairing) c)
       | dropped q r e ↦ subst (λ x. order (reading_of s (ignored_list i) pairing) x ≡ x) (sym e) (order-ignored i (reading_of s (ignored_list i) pairing))
       | same q e f ↦ subst (λ x. order (reading_of s (ignored_list i) pairing) x ≡ x) (sym f)
-          (order-rising (reading_of s (ignored_list i) pairing) 0 (list_of s [] c) (rising-order (own_reading s) (list_of s [] c) (ordered_of s b sound c q).ordered))
+          (order-rising (reading_of s (ignored_list i) pairing) 0 (list_of s [] c) (rising-order (reading_by s Dropped []) (list_of s [] c) (ordered_of s b sound c q).ordered))
     ]

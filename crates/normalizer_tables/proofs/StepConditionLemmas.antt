@@ -7,9 +7,11 @@ use Rattle.normalizer_tables.specs.declared.word.WordReading.TheVariants.{Fdfa, 
 use Rattle.normalizer_tables.specs.Data.{Supplement}
 use Rattle.normalizer_tables.specs.Hangul.{is_hangul_syllable}
 use Rattle.normalizer_tables.specs.Words.{is_plain, read}
-use Rattle.normalizer_tables.specs.Characters.{Characters, word_of, reading_of_word, list_of, own_reading}
+use Rattle.normalizer_tables.specs.Characters.{Characters, word_of, reading_of_word, list_of}
 use Rattle.normalizer_tables.specs.Steps.{step_of, step_of_reading}
 use Rattle.normalizer_tables.specs.StepConditions.{IsInOrder, IsSoundStep, AvoidsFdfa, HasSoundStep}
+use Rattle.normalizer_tables.specs.Readings.{reading_by}
+use Rattle.normalizer_tables.specs.Ignored.{Dropped}
 use Rattle.normalizer_tables.proofs.ConditionLemmas.{read-plain}
 use Rattle.normalizer_tables.proofs.PairConditionLemmas.{list_of-plain}
 use Rattle.normalizer_tables.proofs.StepLemmas.{step_of-reading}
@@ -20,7 +22,7 @@ IsSoundStep-same s n step other r e h = subst (λ o. IsTrue r ↔ IsSoundStep s 
 
 -- a list that isn't the character alone
 pub IsInOrder-apart : (s : Characters) (n : ℕ) (x list : List ℕ) (is_alone r : Bool) → list ≡ list_of s [] n → IsTrue is_alone ↔ (list ≡ n ∷ []) → is_alone ≡ false →
-    IsTrue r ↔ (list_of s [] n ≡ order (own_reading s) x) → IsTrue r ↔ IsInOrder s n x
+    IsTrue r ↔ (list_of s [] n ≡ order (reading_by s Dropped []) x) → IsTrue r ↔ IsInOrder s n x
 unfolding IsInOrder
 IsInOrder-apart s n x list true r of_n alone apart h = cc
 IsInOrder-apart s n x list false r of_n alone apart h = (λ yes. (λ e. let f = alone.1 (of_n ∙ e) in cc, h.0 yes), λ ordered. h.1 ordered.1)

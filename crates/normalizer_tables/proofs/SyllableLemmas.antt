@@ -7,17 +7,19 @@ use Rattle.normalizer_tables.specs.declared.condition.Bounds.{Bounds}
 use Rattle.normalizer_tables.specs.declared.condition.Condition.{Condition}
 use Rattle.normalizer_tables.specs.declared.condition.Condition.TheVariants.{Surrogates, Hangul, Words, Members, Order, Passthrough, RoundTrip, SafeBeginning, FdfaForms, Steps}
 use Rattle.normalizer_tables.specs.declared.word.WordReading.TheVariants.{HangulSyllable}
-use Rattle.normalizer_tables.specs.Characters.{Characters, word_of, reading_of_word, as_text, named_list, list_read, list_of, class_of, has_class_form, own_reading}
+use Rattle.normalizer_tables.specs.Characters.{Characters, word_of, reading_of_word, as_text, named_list, list_read, list_of, class_of, has_class_form}
 use Rattle.normalizer_tables.specs.Conditions.{HoldsAt, IsOrderedList, IsPlainStarter, IsSoundHangul, IsSoundWord, KeepsPromise, ReadsToItself, is_composing_jamo}
 use Rattle.normalizer_tables.specs.Data.{Supplement}
 use Rattle.normalizer_tables.specs.Hangul.{is_hangul_syllable, hangul_decomposition}
 use Rattle.normalizer_tables.specs.HangulComposition.{compose_hangul, is_leading_consonant, is_vowel, is_trailing_consonant, is_lv_syllable}
 use Rattle.normalizer_tables.specs.Loaded.{Loaded, IsMetAt}
-use Rattle.normalizer_tables.specs.PairConditions.{composing_reading, HasSafeBeginning, KeepsBeginning, KeepsRoundTrip, PairsHoldAt, RoundTrips, is_taken_to_begin_safely}
+use Rattle.normalizer_tables.specs.PairConditions.{HasSafeBeginning, KeepsBeginning, KeepsRoundTrip, PairsHoldAt, RoundTrips, is_taken_to_begin_safely}
 use Rattle.normalizer_tables.specs.Pairs.{Pair, is_vowel_or_trailing_jamo, pair_of}
 use Rattle.normalizer_tables.specs.StepConditions.{AvoidsFdfa, StepsHoldAt}
 use Rattle.normalizer_tables.specs.Walk.{IsSyllableBehind}
 use Rattle.normalizer_tables.specs.Words.{is_backward_combining, is_class_form, is_ordinary_class_form, is_special_class_form}
+use Rattle.normalizer_tables.specs.Readings.{reading_by}
+use Rattle.normalizer_tables.specs.Ignored.{Dropped}
 use Rattle.normalizer_tables.proofs.CharacterLemmas.{list_of-reads, list_read-scalar}
 use Rattle.normalizer_tables.proofs.CompositionLemmas.{begins_safely_from_first, compose-first, compose_from-joined, compose_from-end, first_of_safe_beginning}
 use Rattle.normalizer_tables.proofs.ConditionLemmas.{IsSoundClassForm-none, no_surrogate, syllable-scalar}
@@ -55,7 +57,7 @@ IsJamo n = is_composing_jamo n ≡ true
 record HasJamo (s : Characters) (n second : ℕ) (rest : List ℕ) : Type 0 where
   reads : list_read s [] n ≡ Some ((0x1100 + (n - 0xAC00) / 588) ∷ second ∷ rest)
   members : All IsJamo ((0x1100 + (n - 0xAC00) / 588) ∷ second ∷ rest)
-  composes : (pairs : List Pair) → compose (composing_reading s pairs) ((0x1100 + (n - 0xAC00) / 588) ∷ second ∷ rest) ≡ n ∷ []
+  composes : (pairs : List Pair) → compose (reading_by s Dropped pairs) ((0x1100 + (n - 0xAC00) / 588) ∷ second ∷ rest) ≡ n ∷ []
 
 module _ (s : Characters) (sound : (n : ℕ) → IsSoundHangul s n) where
   jamo_starts : (n : ℕ) → is_composing_jamo n ≡ true → class_of s n ≡ 0
@@ -82,7 +84,7 @@ module _ (s : Characters) (sound : (n : ℕ) → IsSoundHangul s n) where
   syllable_read n x h is text = list_read-scalar s [] n HangulSyllable (syllable-scalar n h) (syllable_reading n h) ∙ ap as_text is ∙ text
 
   -- two that compose by the arithmetic of Hangul join
-  joined-hangul : (pairs : List Pair) (a c r : ℕ) → class_of s a ≡ 0 → is_vowel_or_trailing_jamo c ≡ true → compose_hangul a c ≡ Some r → joined (composing_reading s pairs) a [] c ≡ Some r
+  joined-hangul : (pairs : List Pair) (a c r : ℕ) → class_of s a ≡ 0 → is_vowel_or_trailing_jamo c ≡ true → compose_hangul a c ≡ Some r → joined (reading_by s Dropped pairs) a [] c ≡ Some r
   unfolding joined is_blocked pair_of
   joined-hangul pairs a c r starts behind composes = rw (starts, behind) composes
 
@@ -100,8 +102,8 @@ module _ (s : Characters) (sound : (n : ℕ) → IsSoundHangul s n) where
           composes = λ pairs.
               let joins = joined-hangul pairs l v n (jamo_starts l first) (is_vowel_or_trailing_jamo_in_range v (omega arith) (omega arith))
               (compose_hangul-lv l v (leading l (omega arith) (omega arith)) (vowel v (omega arith) (omega arith)) ∙ ap Some whole) in
-              sym (compose-first (composing_reading s pairs) (l ∷ v ∷ []) l refl) ∙ sym (compose_from-joined (composing_reading s pairs) (l ∷ v ∷ []) 1 l v n refl joins)
-              ∙ compose_from-end (composing_reading s pairs) (l ∷ v ∷ []) 2 n (omega arith);
+              sym (compose-first (reading_by s Dropped pairs) (l ∷ v ∷ []) l refl) ∙ sym (compose_from-joined (reading_by s Dropped pairs) (l ∷ v ∷ []) 1 l v n refl joins)
+              ∙ compose_from-end (reading_by s Dropped pairs) (l ∷ v ∷ []) 2 n (omega arith);
         }
 
     of_three : (n - 0xAC00) % 28 ≢ 0 → HasJamo s n (0x1161 + (n - 0xAC00) % 588 / 28) ((0x11A7 + (n - 0xAC00) % 28) ∷ [])
@@ -122,7 +124,7 @@ module _ (s : Characters) (sound : (n : ℕ) → IsSoundHangul s n) where
           reads = syllable_read n (l ∷ v ∷ t ∷ []) (syllable_in_range n low high) (hangul_decomposition-three n some) (three_jamo l v t (omega arith) (omega arith) (omega arith));
           members = All-cons IsJamo l (v ∷ t ∷ []) first (All-cons IsJamo v (t ∷ []) second (All-cons IsJamo t [] third (All-nil IsJamo)));
           composes = λ pairs.
-              let d = composing_reading s pairs in
+              let d = reading_by s Dropped pairs in
               let joins = joined-hangul pairs l v a (jamo_starts l first) (is_vowel_or_trailing_jamo_in_range v (omega arith) (omega arith))
               (compose_hangul-lv l v (leading l (omega arith) (omega arith)) (vowel v (omega arith) (omega arith)) ∙ ap Some part) in
               let joins_more = joined-hangul pairs a t n (syllable_starts a inside) (is_vowel_or_trailing_jamo_in_range t (omega arith) (omega arith))
@@ -163,7 +165,7 @@ module _ (s : Characters) (sound : (n : ℕ) → IsSoundHangul s n) where
     IsOrderedList-syllable : IsOrderedList s n
     unfolding KeepsPromise
     IsOrderedList-syllable = record {
-      ordered = order-starters (own_reading s) (list_of s [] n) starters-syllable;
+      ordered = order-starters (reading_by s Dropped []) (list_of s [] n) starters-syllable;
       first = λ q. rw jamo_list (jamo_starts _ (jamo.members 0 0 (omega arith)));
       promise = rw (syllable_reading n syllable) tt;
     }
@@ -174,18 +176,18 @@ module _ (s : Characters) (sound : (n : ℕ) → IsSoundHangul s n) where
 
     RoundTrips-syllable : (pairs : List Pair) → RoundTrips s pairs n
     unfolding RoundTrips
-    RoundTrips-syllable pairs = ap (compose (composing_reading s pairs)) jamo_list ∙ jamo.composes pairs
+    RoundTrips-syllable pairs = ap (compose (reading_by s Dropped pairs)) jamo_list ∙ jamo.composes pairs
 
     -- it begins safely where its leading consonant does
     HasSafeBeginning-syllable : (pairs : List Pair) → ((a : ℕ) → pair_of pairs a (0x1100 + (n - 0xAC00) / 588) ≡ None) → HasSafeBeginning s pairs n
     HasSafeBeginning-syllable pairs never =
         let starts = jamo_starts _ (jamo.members 0 0 (omega arith)) in
-        let safe = begins_safely_from_first (composing_reading s pairs) (list_of s [] n) (0x1100 + (n - 0xAC00) / 588) (ap (λ x. slice_get x 0) jamo_list) starts never in
+        let safe = begins_safely_from_first (reading_by s Dropped pairs) (list_of s [] n) (0x1100 + (n - 0xAC00) / 588) (ap (λ x. slice_get x 0) jamo_list) starts never in
         record { begins = safe.0; safely = safe.1 }
 
     leading_never_second : (pairs : List Pair) → HasSafeBeginning s pairs n → (a : ℕ) → pair_of pairs a (0x1100 + (n - 0xAC00) / 588) ≡ None
     leading_never_second pairs safe =
-        (first_of_safe_beginning (composing_reading s pairs) (list_of s [] n) (0x1100 + (n - 0xAC00) / 588) (ap (λ x. slice_get x 0) jamo_list) safe.safely).1
+        (first_of_safe_beginning (reading_by s Dropped pairs) (list_of s [] n) (0x1100 + (n - 0xAC00) / 588) (ap (λ x. slice_get x 0) jamo_list) safe.safely).1
 
   taken-syllable : (b : Bounds) (n : ℕ) → is_hangul_syllable n ≡ true → is_taken_to_begin_safely s b n ≡ true
   unfolding is_taken_to_begin_safely is_backward_combining

@@ -2,7 +2,8 @@
 use Rattle.std.specs.Prelude.{Bool, List, [], ◌∷◌, ◌++◌, All, if◌then◌else◌}
 use Rattle.normal_forms.specs.Reading.{Reading}
 use Rattle.normal_forms.specs.declared.Form.{Form}
-use Rattle.normal_forms.specs.Hypotheses.{HasFullLists, HasInhabitedLists, HasScalarResults, HasStarterResults, HasTextLists, SuitsForm}
+use Rattle.normal_forms.specs.Hypotheses.{HasFullLists, HasInhabitedLists, HasScalarResults, HasStarterResults}
+use Rattle.normal_forms.specs.Hypotheses.{HasTextLists, SuitsForm}
 use Rattle.normalizer_tables.specs.declared.condition.Bounds.{Bounds}
 use Rattle.normalizer_tables.specs.declared.condition.Condition.{Condition}
 use Rattle.normalizer_tables.specs.declared.condition.Condition.TheVariants as condition

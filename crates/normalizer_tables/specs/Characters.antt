@@ -1,13 +1,15 @@
 -- What the data say of each character: its list and its class.
-use Rattle.std.specs.Prelude.{ℕ, ◌+◌, ◌-◌, Bool, nat_lt, nat_le, List, [], ◌∷◌, length, take, drop, Option, Some, None, unwrap_or, option_and_then, if◌then◌else◌}
+use Rattle.std.specs.Prelude.{ℕ, ◌+◌, ◌-◌, Bool, nat_lt, nat_le, List, [], ◌∷◌, length, take, drop, Option, Some, None}
+use Rattle.std.specs.Prelude.{unwrap_or, option_and_then, if◌then◌else◌, false}
 use Rattle.std.specs.List.{list_all}
 use Rattle.std.specs.Option.{option_map}
 use lib.Utf8.{scalar}
-use Rattle.normal_forms.specs.Reading.{Reading}
 use Rattle.normalizer_tables.specs.declared.word.WordReading.{WordReading}
-use Rattle.normalizer_tables.specs.declared.word.WordReading.TheVariants.{Ignored, Itself, ClassForm, SpecialForm, TwoCharacters, HangulSyllable, Fdfa, OneCharacter, Listed}
+use Rattle.normalizer_tables.specs.declared.word.WordReading.TheVariants.{Ignored, Itself, ClassForm, SpecialForm}
+use Rattle.normalizer_tables.specs.declared.word.WordReading.TheVariants.{TwoCharacters, HangulSyllable, Fdfa}
+use Rattle.normalizer_tables.specs.declared.word.WordReading.TheVariants.{OneCharacter, Listed}
 use Rattle.normalizer_tables.specs.Table.{word_at}
-use Rattle.normalizer_tables.specs.Data.{Decompositions, Lists}
+use Rattle.normalizer_tables.specs.Data.{Decompositions, Lists, lists_or_none}
 use Rattle.normalizer_tables.specs.Hangul.{hangul_decomposition}
 use Rattle.normalizer_tables.specs.SpecialLists.{fixed_list_of, fdfa_list}
 use Rattle.normalizer_tables.specs.Words.{read, class_of_word, is_class_form}
@@ -88,10 +90,11 @@ class_of_itself _ = None
 unfoldable pub has_class_form : Characters → ℕ → Bool
 has_class_form s n = is_class_form (word_of s n)
 
--- the reading that data and pairs make
-abbrev pub reading_of : Characters → List ℕ → (ℕ → ℕ → Option ℕ) → Reading
-reading_of s ignored pairing = record { list = list_of s ignored; class = class_of s; pair = pairing }
-
--- the reading of data without pairs, in which an ignored character has the empty list
-abbrev pub own_reading : Characters → Reading
-own_reading s = reading_of s [] (λ a b. None)
+-- what data that are no mapper's say of characters, with the tables of compatibility data where there are some
+abbrev pub characters_from : Decompositions → Lists → Option Lists → Characters
+characters_from decompositions tables supplementary = record {
+  decompositions = decompositions;
+  tables = tables;
+  supplementary = lists_or_none supplementary;
+  is_mapper = false;
+}

@@ -1,5 +1,6 @@
 -- The written conditions on decomposition data, and the first of a list of them that fails.
-use Rattle.std.specs.Prelude.{◌≡◌, ◌≢◌, ℕ, ◌+◌, ◌<◌, ◌≤◌, Bool, true, false, ◌||◌, List, [], ◌∷◌, ◌++◌, length, drop, map, slice_get, All, Option, Some, None, IsSome}
+use Rattle.std.specs.Prelude.{◌≡◌, ◌≢◌, ℕ, ◌+◌, ◌<◌, ◌≤◌, Bool, true, false, ◌||◌, List, [], ◌∷◌, ◌++◌, length, drop}
+use Rattle.std.specs.Prelude.{map, slice_get, All, Option, Some, None, IsSome}
 use Rattle.std.specs.Char.{IsScalar}
 use Rattle.std.specs.Int.{is_in_range}
 use Rattle.std.specs.List.{AllWithin}
@@ -11,13 +12,21 @@ use Rattle.normalizer_tables.specs.declared.word.WordReading.{WordReading}
 use Rattle.normalizer_tables.specs.declared.word.WordReading.TheVariants.{SpecialForm, TwoCharacters, Fdfa, Listed}
 use Rattle.normalizer_tables.specs.declared.condition.Bounds.{Bounds}
 use Rattle.normalizer_tables.specs.declared.condition.Condition.{Condition}
-use Rattle.normalizer_tables.specs.declared.condition.Condition.TheVariants.{ItemLimit, CapLimit, ReplacementCharacter, Surrogates, PastTheEnd, Hangul, Words, Members, Order, Passthrough}
-use Rattle.normalizer_tables.specs.declared.condition.Condition.TheVariants.{Pairs, RoundTrip, SafeBeginning, Results, FdfaForms, Steps, SurrogateClasses, WordClasses, PairOrder}
+use Rattle.normalizer_tables.specs.declared.condition.Condition.TheVariants.{ItemLimit, CapLimit, ReplacementCharacter}
+use Rattle.normalizer_tables.specs.declared.condition.Condition.TheVariants.{Surrogates, PastTheEnd, Hangul, Words}
+use Rattle.normalizer_tables.specs.declared.condition.Condition.TheVariants.{Members, Order, Passthrough}
+use Rattle.normalizer_tables.specs.declared.condition.Condition.TheVariants.{Pairs, RoundTrip, SafeBeginning, Results}
+use Rattle.normalizer_tables.specs.declared.condition.Condition.TheVariants.{FdfaForms, Steps, SurrogateClasses}
+use Rattle.normalizer_tables.specs.declared.condition.Condition.TheVariants.{WordClasses, PairOrder}
 use Rattle.normalizer_tables.specs.Data.{Lists}
 use Rattle.normalizer_tables.specs.Hangul.{is_hangul_syllable}
 use Rattle.normalizer_tables.specs.SpecialLists.{fixed_list_of}
-use Rattle.normalizer_tables.specs.Words.{ignored_marker, is_class_form, is_ordinary_class_form, is_special_class_form, is_non_round_trip, is_backward_combining, low_byte}
-use Rattle.normalizer_tables.specs.Characters.{Characters, word_of, reading_of_word, list_read, list_of, class_of, has_class_form, own_reading}
+use Rattle.normalizer_tables.specs.Words.{ignored_marker, is_class_form, is_ordinary_class_form, is_special_class_form}
+use Rattle.normalizer_tables.specs.Words.{is_non_round_trip, is_backward_combining, low_byte}
+use Rattle.normalizer_tables.specs.Characters.{Characters, word_of, reading_of_word, list_read, list_of, class_of}
+use Rattle.normalizer_tables.specs.Characters.{has_class_form}
+use Rattle.normalizer_tables.specs.Readings.{reading_by}
+use Rattle.normalizer_tables.specs.Ignored.{Dropped}
 
 -- the most items that the tables may have together, and the greatest bound below which characters may pass unseen
 abbrev pub item_limit : ℕ
@@ -92,7 +101,7 @@ pub record IsSoundWord (s : Characters) (n : ℕ) : Type 0 where
 
 -- all members after the first are marks
 abbrev pub HasMarksBehind : Characters → List ℕ → Type 0
-HasMarksBehind s x = All (IsMark (own_reading s)) (drop 1 x)
+HasMarksBehind s x = All (IsMark (reading_by s Dropped [])) (drop 1 x)
 
 -- what the word of n promises of the classes of the list's members
 unfoldable pub KeepsPromise : Characters → ℕ → WordReading → Type 0
@@ -100,14 +109,14 @@ KeepsPromise s n (TwoCharacters a b) = HasMarksBehind s (list_of s [] n)
 KeepsPromise s n (Listed item low rest_are_marks) = rest_are_marks ≡ true → HasMarksBehind s (list_of s [] n)
 KeepsPromise s n (SpecialForm k) =
     option_map (λ f. f.member_classes) (fixed_list_of n) ≡ Some (map (class_of s) (list_of s [] n))
-KeepsPromise s n Fdfa = All (IsStarter (own_reading s)) (list_of s [] n)
+KeepsPromise s n Fdfa = All (IsStarter (reading_by s Dropped [])) (list_of s [] n)
 KeepsPromise s n _ = Unit {0}
 
 -- the list of n is in canonical order, begins with a starter where n has no class form, and keeps the promise of its
 -- word
 pub record IsOrderedList (s : Characters) (n : ℕ) : Type 0 where
-  pub ordered : order (own_reading s) (list_of s [] n) ≡ list_of s [] n
-  pub first : has_class_form s n ≡ false → BeginsWithStarter (own_reading s) (list_of s [] n)
+  pub ordered : order (reading_by s Dropped []) (list_of s [] n) ≡ list_of s [] n
+  pub first : has_class_form s n ≡ false → BeginsWithStarter (reading_by s Dropped []) (list_of s [] n)
   pub promise : KeepsPromise s n (reading_of_word s n)
 
 -- what a condition says of the data as a whole

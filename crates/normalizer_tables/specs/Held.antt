@@ -22,7 +22,8 @@ module _ {H : Type 0} where
 
   -- A constructor's answer by what is held, where `first` is loaded first: data that suit; or else the refusal of what
   -- is held, or want of memory. Where the first load holds nothing, just that is answered.
-  abbrev pub AnswersHeld : {A : Type 0} → (H → Type 0) → (DataMarkerInfo → H → DataError → Type 0) → DataMarkerInfo → (A → H)
+  abbrev pub AnswersHeld : {A : Type 0} → (H → Type 0) → (DataMarkerInfo → H → DataError → Type 0)
+      → DataMarkerInfo → (A → H)
       → Result H DataMarkerInfo → Result A DataError → Type 0
   AnswersHeld Suits Refuses first data_of held result =
       IfOk result (λ n. AcceptsHeld Suits held (data_of n))

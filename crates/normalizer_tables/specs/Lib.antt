@@ -15,6 +15,7 @@ pub mod NfdData
 pub mod PairConditions
 pub mod Pairs
 pub mod Ranges
+pub mod Readings
 pub mod Refusals
 pub mod SoundData
 pub mod SpecialLists

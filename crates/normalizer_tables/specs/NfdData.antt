@@ -1,20 +1,13 @@
 -- Canonical data that a caller may hand in unchecked.
-use Rattle.std.specs.Prelude.{List, [], ◌∷◌, None, All, false}
+use Rattle.std.specs.Prelude.{List, [], ◌∷◌, None, All}
 use Rattle.normalizer_tables.specs.declared.condition.Bounds.{Bounds}
 use Rattle.normalizer_tables.specs.declared.condition.Condition.{Condition}
-use Rattle.normalizer_tables.specs.declared.condition.Condition.TheVariants.{ItemLimit, ReplacementCharacter, Surrogates, PastTheEnd, Hangul, Words, Members, Order, Passthrough}
-use Rattle.normalizer_tables.specs.Characters.{Characters}
-use Rattle.normalizer_tables.specs.Data.{Decompositions, Lists, lists_or_none}
+use Rattle.normalizer_tables.specs.declared.condition.Condition.TheVariants.{ItemLimit, ReplacementCharacter}
+use Rattle.normalizer_tables.specs.declared.condition.Condition.TheVariants.{Surrogates, PastTheEnd, Hangul, Words}
+use Rattle.normalizer_tables.specs.declared.condition.Condition.TheVariants.{Members, Order, Passthrough}
+use Rattle.normalizer_tables.specs.Characters.{characters_from}
+use Rattle.normalizer_tables.specs.Data.{Decompositions, Lists}
 use Rattle.normalizer_tables.specs.Loaded.{IsMet, Loaded}
-
--- what canonical data say of characters, with the tables of canonical data alone
-abbrev pub nfd_characters : Decompositions → Lists → Characters
-nfd_characters decompositions tables = record {
-  decompositions = decompositions;
-  tables = tables;
-  supplementary = lists_or_none None;
-  is_mapper = false;
-}
 
 -- below which numbers characters pass unseen, whatever the cap of the data is
 abbrev pub nfd_bounds : Bounds
@@ -22,8 +15,12 @@ nfd_bounds = record { decomposition = 0xC0; composition = 0x0300 }
 
 -- they alone, with these bounds
 abbrev pub nfd_loaded : Decompositions → Lists → Loaded
-nfd_loaded decompositions tables =
-    record { characters = nfd_characters decompositions tables; bounds = nfd_bounds; pairs = None; supplement = None }
+nfd_loaded decompositions tables = record {
+  characters = characters_from decompositions tables None;
+  bounds = nfd_bounds;
+  pairs = None;
+  supplement = None;
+}
 
 -- what is asked of them: all conditions but the one on the cap
 abbrev pub nfd_conditions : List Condition

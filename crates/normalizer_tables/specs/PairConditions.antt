@@ -1,20 +1,18 @@
 -- The written conditions on composing pairs, and on decomposition data by the pairs.
 use Rattle.std.specs.Prelude.{◌≡◌, ◌≢◌, ℕ, ◌||◌, ◌&&◌, Bool, true, false, not, nat_lt, List, [], ◌∷◌, ◌++◌, All}
 use Rattle.std.specs.Char.{IsScalar}
-use Rattle.normal_forms.specs.Reading.{Reading}
 use Rattle.normal_forms.specs.Order.{order}
 use Rattle.normal_forms.specs.Composition.{compose}
 use Rattle.normal_forms.specs.Boundary.{BeginsSafely}
 use Rattle.normalizer_tables.specs.declared.condition.Bounds.{Bounds}
 use Rattle.normalizer_tables.specs.declared.condition.Condition.{Condition}
-use Rattle.normalizer_tables.specs.declared.condition.Condition.TheVariants.{Pairs, RoundTrip, SafeBeginning, Results, PairOrder}
+use Rattle.normalizer_tables.specs.declared.condition.Condition.TheVariants.{Pairs, RoundTrip, SafeBeginning, Results}
+use Rattle.normalizer_tables.specs.declared.condition.Condition.TheVariants.{PairOrder}
 use Rattle.normalizer_tables.specs.Words.{ignored_marker, is_non_round_trip, is_backward_combining}
-use Rattle.normalizer_tables.specs.Characters.{Characters, word_of, list_of, has_class_form, reading_of, own_reading}
-use Rattle.normalizer_tables.specs.Pairs.{Pair, AreRising, is_vowel_or_trailing_jamo, pair_of}
-
--- the reading of data and pairs, in which an ignored character has the empty list
-abbrev pub composing_reading : Characters → List Pair → Reading
-composing_reading s pairs = reading_of s [] (pair_of pairs)
+use Rattle.normalizer_tables.specs.Characters.{Characters, word_of, list_of, has_class_form}
+use Rattle.normalizer_tables.specs.Pairs.{Pair, AreRising, is_vowel_or_trailing_jamo}
+use Rattle.normalizer_tables.specs.Readings.{reading_by}
+use Rattle.normalizer_tables.specs.Ignored.{Dropped}
 
 -- pairs strictly rise, and the arithmetic of Hangul answers none of their seconds
 pub record AreSoundPairs (pairs : List Pair) : Type 0 where
@@ -42,12 +40,12 @@ is_passed s b n =
 
 -- the list of n composes to n alone
 unfoldable pub RoundTrips : Characters → List Pair → ℕ → Type 0
-RoundTrips s pairs n = let d = composing_reading s pairs in compose d (d.list n) ≡ n ∷ []
+RoundTrips s pairs n = let d = reading_by s Dropped pairs in compose d (d.list n) ≡ n ∷ []
 
 -- the list of n begins with a starter that is second in no pair
 pub record HasSafeBeginning (s : Characters) (pairs : List Pair) (n : ℕ) : Type 0 where
-  pub begins : (composing_reading s pairs).list n ≢ []
-  pub safely : BeginsSafely (composing_reading s pairs) ((composing_reading s pairs).list n)
+  pub begins : (reading_by s Dropped pairs).list n ≢ []
+  pub safely : BeginsSafely (reading_by s Dropped pairs) ((reading_by s Dropped pairs).list n)
 
 -- n keeps what a composing loop takes it for
 unfoldable pub KeepsRoundTrip : Characters → Bounds → List Pair → ℕ → Type 0
@@ -59,7 +57,7 @@ KeepsBeginning s b pairs n = IsScalar n → is_taken_to_begin_safely s b n ≡ t
 -- a result has the ordered lists of first and second, where `ignored` stands for an ignored character
 unfoldable pub HasOrderedLists : Characters → List ℕ → Pair → Type 0
 HasOrderedLists s ignored p =
-    list_of s ignored p.2 ≡ order (own_reading s) (list_of s ignored p.1 ++ list_of s ignored p.0)
+    list_of s ignored p.2 ≡ order (reading_by s Dropped []) (list_of s ignored p.1 ++ list_of s ignored p.0)
 
 -- what a condition says of the pairs as a whole
 unfoldable pub PairsHoldOverall : Characters → List Pair → Condition → Type 0

@@ -1,11 +1,14 @@
 -- How data that break a written condition are answered.
 use Rattle.std.specs.Prelude.{◌≡◌, List, Some}
 use Rattle.normalizer_tables.specs.declared.condition.Condition.{Condition}
-use Rattle.normalizer_tables.specs.declared.condition.Condition.TheVariants.{ItemLimit, Pairs, Results, FdfaForms, Steps, PairOrder}
+use Rattle.normalizer_tables.specs.declared.condition.Condition.TheVariants.{ItemLimit, Pairs, Results, FdfaForms}
+use Rattle.normalizer_tables.specs.declared.condition.Condition.TheVariants.{Steps, PairOrder}
 use Rattle.normalizer_tables.specs.declared.provider.DataError.{DataError}
 use Rattle.normalizer_tables.specs.declared.provider.DataError.TheVariants.{FutureExtension, Invalid}
 use Rattle.normalizer_tables.specs.declared.provider.DataMarkerInfo.{DataMarkerInfo}
-use Rattle.normalizer_tables.specs.declared.provider.DataMarkerInfo.TheVariants.{NormalizerNfdDataV1, NormalizerNfdTablesV1, NormalizerNfcV1, NormalizerNfdSupplementV1}
+use Rattle.normalizer_tables.specs.declared.provider.DataMarkerInfo.TheVariants.{NormalizerNfdDataV1}
+use Rattle.normalizer_tables.specs.declared.provider.DataMarkerInfo.TheVariants.{NormalizerNfdTablesV1, NormalizerNfcV1}
+use Rattle.normalizer_tables.specs.declared.provider.DataMarkerInfo.TheVariants.{NormalizerNfdSupplementV1}
 use Rattle.normalizer_tables.specs.Conditions.{IsFirstFailing, number_of}
 use Rattle.normalizer_tables.specs.Loaded.{IsMet, Loaded}
 

@@ -1,6 +1,7 @@
 -- Data of which the laws of the normal forms may be used.
 pub use Rattle.normalizer_tables.specs.declared.condition.Bounds.{Bounds}
-use Rattle.normalizer_tables.specs.declared.condition.Condition.TheVariants.{ReplacementCharacter, Words, Members, Order}
+use Rattle.normalizer_tables.specs.declared.condition.Condition.TheVariants.{ReplacementCharacter, Words, Members}
+use Rattle.normalizer_tables.specs.declared.condition.Condition.TheVariants.{Order}
 use Rattle.normalizer_tables.specs.Characters.{Characters}
 use Rattle.normalizer_tables.specs.Conditions.{Holds}
 

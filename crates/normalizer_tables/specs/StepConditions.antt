@@ -9,12 +9,14 @@ use Rattle.normalizer_tables.specs.declared.step.Step.TheVariants.{Default, Sing
 use Rattle.normalizer_tables.specs.declared.word.WordReading.TheVariants.{Fdfa}
 use Rattle.normalizer_tables.specs.Data.{Supplement}
 use Rattle.normalizer_tables.specs.Hangul.{is_hangul_syllable}
-use Rattle.normalizer_tables.specs.Characters.{Characters, reading_of_word, list_of, own_reading}
+use Rattle.normalizer_tables.specs.Characters.{Characters, reading_of_word, list_of}
 use Rattle.normalizer_tables.specs.Steps.{step_of}
+use Rattle.normalizer_tables.specs.Readings.{reading_by}
+use Rattle.normalizer_tables.specs.Ignored.{Dropped}
 
 -- the list of n is not n alone, but these characters in canonical order
 unfoldable pub IsInOrder : Characters → ℕ → List ℕ → Type 0
-IsInOrder s n x = (list_of s [] n ≢ n ∷ []) × (list_of s [] n ≡ order (own_reading s) x)
+IsInOrder s n x = (list_of s [] n ≢ n ∷ []) × (list_of s [] n ≡ order (reading_by s Dropped []) x)
 
 -- a step of n is `Default` exactly where the list of n is n alone, and else that list is the ordered lists of its parts
 unfoldable pub IsSoundStep : Characters → ℕ → Step → Type 0

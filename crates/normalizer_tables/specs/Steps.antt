@@ -1,11 +1,13 @@
 -- One step of canonical decomposition: the canonical mapping of a character, applied once (The Unicode Standard,
 -- section 3.7; D68 repeats it, and orders what comes of it).
-use Rattle.std.specs.Prelude.{ℕ, ◌+◌, ◌-◌, ◌/◌, ◌%◌, ◌^◌, Bool, not, ◌&&◌, ◌==◌, nat_le, bit_and, List, [], ◌∷◌, length, Option, Some, None, option_and_then, if◌then◌else◌}
+use Rattle.std.specs.Prelude.{ℕ, ◌+◌, ◌-◌, ◌/◌, ◌%◌, ◌^◌, Bool, not, ◌&&◌, ◌==◌, nat_le, bit_and, List, [], ◌∷◌, length}
+use Rattle.std.specs.Prelude.{Option, Some, None, option_and_then, if◌then◌else◌}
 use Rattle.std.specs.Int.{is_in_range}
 use Rattle.normalizer_tables.specs.declared.step.Step.{Step}
 use Rattle.normalizer_tables.specs.declared.step.Step.TheVariants.{Default, Singleton, Expansion}
 use Rattle.normalizer_tables.specs.declared.word.WordReading.{WordReading}
-use Rattle.normalizer_tables.specs.declared.word.WordReading.TheVariants.{Itself, ClassForm, SpecialForm, TwoCharacters, OneCharacter, Listed}
+use Rattle.normalizer_tables.specs.declared.word.WordReading.TheVariants.{Itself, ClassForm, SpecialForm, TwoCharacters}
+use Rattle.normalizer_tables.specs.declared.word.WordReading.TheVariants.{OneCharacter, Listed}
 use Rattle.normalizer_tables.specs.Table.{word_at}
 use Rattle.normalizer_tables.specs.Data.{Supplement}
 use Rattle.normalizer_tables.specs.Hangul.{s_base, t_base, t_count, is_hangul_syllable, hangul_decomposition}

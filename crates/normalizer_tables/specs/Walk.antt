@@ -2,7 +2,9 @@
 use Rattle.std.specs.Prelude.{◌≡◌, ℕ, ◌+◌, ◌-◌, ◌/◌, ◌<◌, ◌≤◌, Bool, true, false, List}
 use Rattle.normalizer_tables.specs.declared.condition.Bounds.{Bounds}
 use Rattle.normalizer_tables.specs.declared.condition.Condition.{Condition}
-use Rattle.normalizer_tables.specs.declared.condition.Condition.TheVariants.{Surrogates, Hangul, Words, Members, Order, Passthrough, RoundTrip, SafeBeginning, FdfaForms, Steps}
+use Rattle.normalizer_tables.specs.declared.condition.Condition.TheVariants.{Surrogates, Hangul, Words, Members, Order}
+use Rattle.normalizer_tables.specs.declared.condition.Condition.TheVariants.{Passthrough, RoundTrip, SafeBeginning}
+use Rattle.normalizer_tables.specs.declared.condition.Condition.TheVariants.{FdfaForms, Steps}
 use Rattle.normalizer_tables.specs.Characters.{Characters, word_of}
 use Rattle.normalizer_tables.specs.Hangul.{is_hangul_syllable, n_count, s_base}
 use Rattle.normalizer_tables.specs.Loaded.{Loaded, IsMetAt, IsMetOverall}

@@ -1,7 +1,9 @@
 -- The reading of a 32-bit word: the first line that fits decides.
 use Rattle.std.specs.Prelude.{ℕ, ◌-◌, ◌/◌, ◌^◌, Bool, not, ◌&&◌, ◌||◌, ◌==◌, bit_and, if◌then◌else◌}
 use Rattle.normalizer_tables.specs.declared.word.WordReading.{WordReading}
-use Rattle.normalizer_tables.specs.declared.word.WordReading.TheVariants.{Ignored, Itself, ClassForm, SpecialForm, TwoCharacters, HangulSyllable, Fdfa, OneCharacter, Listed}
+use Rattle.normalizer_tables.specs.declared.word.WordReading.TheVariants.{Ignored, Itself, ClassForm, SpecialForm}
+use Rattle.normalizer_tables.specs.declared.word.WordReading.TheVariants.{TwoCharacters, HangulSyllable, Fdfa}
+use Rattle.normalizer_tables.specs.declared.word.WordReading.TheVariants.{OneCharacter, Listed}
 use Rattle.normalizer_tables.specs.Hangul.{is_hangul_syllable}
 
 -- the word of a character that the mapper ignores (UTS #46, section 4)

@@ -1,7 +1,7 @@
 //! What decomposition data say of each character.
 ghost use Rattle.std.specs.Prelude.{◌≡◌, ◌≢◌, ◌↔◌, ◌≤◌, ◌∷◌, [], ℕ, List, IfSome, IsTrue};
 ghost use Rattle.std.specs.Option.{option_copied};
-ghost use Rattle.normalizer_tables.specs.Ignored.{ignored_list};
+ghost use Rattle.normalizer_tables.specs.Ignored.{ignored_list, Dropped};
 ghost use Rattle.normalizer_tables.specs.Characters.{
   class_of,
   class_of_itself,
@@ -19,6 +19,7 @@ ghost use Rattle.normalizer_tables.specs.Found.{IsFound};
 ghost use Rattle.normalizer_tables.specs.Ranges.{IsComplete};
 ghost use Rattle.normalizer_tables.specs.Table.{code_points};
 ghost use Rattle.normalizer_tables.specs.Walk.{IsNextWord};
+ghost use Rattle.normalizer_tables.specs.Readings.{reading_by};
 
 use crate::members::Members;
 use crate::provider::{DecompositionData, DecompositionTables};

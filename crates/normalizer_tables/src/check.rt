@@ -59,7 +59,9 @@ fn asks_hangul(conditions: &[Condition]) -> bool
 fn are_asked_of_words(conditions: &[Condition]) -> bool
     ensures { result ≡ list_any is_asked_of_words conditions.now }
 {
-    conditions.iter().any(|&condition| is_asked_of_words(condition))
+    conditions
+        .iter()
+        .any(|&condition| is_asked_of_words(condition))
 }
 
 #[tactic(auto, unfolding(crate::specs::Walk::is_asked_of_words))]

@@ -1,7 +1,14 @@
 //! Hangul syllables compose by arithmetic (The Unicode Standard, section 3.12).
 ghost use Rattle.std.specs.Prelude.{◌≡◌, ◌↔◌, ℕ, IsTrue};
 ghost use Rattle.normalizer_tables.specs.Hangul.{is_hangul_syllable};
-ghost use Rattle.normalizer_tables.specs.HangulComposition.{compose_hangul, is_leading_consonant, is_lv_syllable, is_trailing_consonant, is_vowel, lv_syllable};
+ghost use Rattle.normalizer_tables.specs.HangulComposition.{
+  compose_hangul,
+  is_leading_consonant,
+  is_lv_syllable,
+  is_trailing_consonant,
+  is_vowel,
+  lv_syllable,
+};
 
 pub(crate) const S_BASE: u32 = 0xAC00;
 

@@ -6,13 +6,9 @@ ghost use Rattle.normal_forms.specs.Boundary.{BeginsWithStarter};
 ghost use Rattle.normal_forms.specs.Hypotheses.{HasFullLists, HasInhabitedLists};
 ghost use Rattle.normal_forms.specs.Order.{order};
 ghost use Rattle.normal_forms.specs.Reading.{IsStarter, IsText};
-ghost use Rattle.normalizer_tables.specs.Characters.{
-  Characters,
-  has_class_form,
-  list_of,
-  reading_of,
-};
+ghost use Rattle.normalizer_tables.specs.Characters.{Characters, has_class_form, list_of};
 ghost use Rattle.normalizer_tables.specs.Ignored.{IgnoredCharacters, Replaced, ignored_list};
+ghost use Rattle.normalizer_tables.specs.Readings.{reading_of};
 ghost use Rattle.normalizer_tables.specs.SoundData.{Bounds, IsSoundData};
 
 pub mod accepted;

@@ -1,7 +1,17 @@
 //! The pairs of characters that compose.
-ghost use Rattle.std.specs.Prelude.{◌≡◌, ◌↔◌, ◌==◌, ◌<◌, [], length, slice_get, All, false, ℕ, IfOk, IsOkUnless, IsTrue, not};
+ghost use Rattle.std.specs.Prelude.{◌≡◌, ◌↔◌, ◌==◌, ◌<◌, [], length, slice_get, All, false, ℕ, IfOk, IsOkUnless};
+ghost use Rattle.std.specs.Prelude.{IsTrue, not};
 ghost use Rattle.std.specs.List.{list_all};
-ghost use Rattle.normalizer_tables.specs.Pairs.{is_before, is_of, is_vowel_or_trailing_jamo, listed_result, pair_of, AreRising, IsNeverSecond, IsPlaceOf};
+ghost use Rattle.normalizer_tables.specs.Pairs.{
+  is_before,
+  is_of,
+  is_vowel_or_trailing_jamo,
+  listed_result,
+  pair_of,
+  AreRising,
+  IsNeverSecond,
+  IsPlaceOf,
+};
 
 use crate::hangul::{compose_hangul, is_never_hangul_second};
 use crate::table::TableError;

@@ -1,7 +1,7 @@
 //! The complete check of canonical data and the supplement, by which characters are decomposed one step.
 ghost use Rattle.std.specs.Prelude.{◌≡◌, ◌≢◌, ◌↔◌, [], Bool, IsTrue};
 ghost use Rattle.normal_forms.specs.Order.{order};
-ghost use Rattle.normalizer_tables.specs.Characters.{list_of, own_reading, word_of};
+ghost use Rattle.normalizer_tables.specs.Characters.{list_of, word_of};
 ghost use Rattle.normalizer_tables.specs.StepConditions.{
   HasSoundStep,
   IsSoundStep,
@@ -9,6 +9,8 @@ ghost use Rattle.normalizer_tables.specs.StepConditions.{
 };
 ghost use Rattle.normalizer_tables.specs.Steps.{step_of};
 ghost use Rattle.normalizer_tables.specs.Words.{read};
+ghost use Rattle.normalizer_tables.specs.Readings.{reading_by};
+ghost use Rattle.normalizer_tables.specs.Ignored.{Dropped};
 ghost use Rattle.normalizer_tables.specs.declared.word.WordReading.TheVariants.{Fdfa};
 
 use crate::characters::{CharacterData, IgnoredCharacters};
@@ -89,7 +91,7 @@ fn is_sound_step(data: &CharacterData<'_>, character: char, step: Step) -> bool
 
 /// Whether a list is that of a character put in order.
 fn has_ordered_list(data: &CharacterData<'_>, list: &Members<'_>, character: char) -> bool
-    ensures { IsTrue result ↔ (list.now ≡ order (own_reading data.now) (list_of data.now [] character)) }
+    ensures { IsTrue result ↔ (list.now ≡ order (reading_by data.now Dropped []) (list_of data.now [] character)) }
 {
     let of_character = data.members(character, IgnoredCharacters::Dropped);
     let mut room = ['\0'; ROOM];

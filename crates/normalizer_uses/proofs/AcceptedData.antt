@@ -6,7 +6,7 @@ use Rattle.normalizer_tables.specs.declared.provider.DataError.{DataError}
 use Rattle.normalizer_tables.specs.declared.provider.DataError.TheVariants as error
 use Rattle.normalizer_tables.specs.declared.provider.DataMarkerInfo.{DataMarkerInfo}
 use Rattle.normalizer_tables.specs.AcceptedData.{composing_conditions, decomposing_conditions, pair_conditions, step_conditions}
-use Rattle.normalizer_tables.specs.Characters.{Characters}
+use Rattle.normalizer_tables.specs.Characters.{Characters, characters_from}
 use Rattle.normalizer_tables.specs.ClassConditions.{HoldsOfClasses, class_conditions}
 use Rattle.normalizer_tables.specs.Conditions.{Holds, HoldsAt}
 use Rattle.normalizer_tables.specs.Loaded.{IsMet, bounds_of_cap, characters_alone, characters_and_pairs}
@@ -14,7 +14,7 @@ use Rattle.normalizer_tables.specs.PairConditions.{AreSoundPairs, HoldsOfPairs, 
 use Rattle.normalizer_tables.proofs.FailingLemmas.{IsFirstFailing-not_all}
 use Rattle.normalizer_tables.proofs.LoadedLemmas.{All-front}
 use Rattle.normalizer_tables.proofs.PartsOfConditions.{class_conditions-met}
-use Rattle.normalizer_calls.specs.Acceptance.{data_from, RefusesToDecompose}
+use Rattle.normalizer_calls.specs.Acceptance.{RefusesToDecompose}
 use Rattle.normalizer_calls.specs.ComposingAcceptance.{RefusesToCompose}
 use Rattle.normalizer_properties.specs.ClassData.{RefusesClasses}
 use Rattle.normalizer_properties.specs.PairData.{RefusesPairs}
@@ -50,19 +50,19 @@ module _ (p : Packed) (fit : IsFirstUnfit p None) where
   alone s met = λ k c h. ((All-front (IsMet (characters_and_pairs s p.compositions)) decomposing_conditions (pair_conditions false) met k c h).0, tt, tt)
 
   module _ (marker : DataMarkerInfo) (e : DataError) where
-    pub memory_alone_nfd : (e ≡ error.Memory) ⊎ RefusesToDecompose marker (data_from p.canonical p.tables None) e → e ≡ error.Memory
+    pub memory_alone_nfd : (e ≡ error.Memory) ⊎ RefusesToDecompose marker (characters_from p.canonical p.tables None) e → e ≡ error.Memory
     memory_alone_nfd (inl h) = h
     memory_alone_nfd (inr refuses) = absurd (IsFirstFailing-not_all _ _ refuses.0 refuses.1 (alone (characters_of p Canonical) fit_pairs_canonical))
 
-    pub memory_alone_nfkd : (e ≡ error.Memory) ⊎ RefusesToDecompose marker (data_from p.compatibility p.tables (Some p.supplementary_tables)) e → e ≡ error.Memory
+    pub memory_alone_nfkd : (e ≡ error.Memory) ⊎ RefusesToDecompose marker (characters_from p.compatibility p.tables (Some p.supplementary_tables)) e → e ≡ error.Memory
     memory_alone_nfkd (inl h) = h
     memory_alone_nfkd (inr refuses) = absurd (IsFirstFailing-not_all _ _ refuses.0 refuses.1 (alone (characters_of p Compatibility) fit_pairs_compatibility))
 
-    pub memory_alone_nfc : (e ≡ error.Memory) ⊎ RefusesToCompose marker (data_from p.canonical p.tables None, p.compositions) e → e ≡ error.Memory
+    pub memory_alone_nfc : (e ≡ error.Memory) ⊎ RefusesToCompose marker (characters_from p.canonical p.tables None, p.compositions) e → e ≡ error.Memory
     memory_alone_nfc (inl h) = h
     memory_alone_nfc (inr refuses) = absurd (IsFirstFailing-not_all _ _ refuses.0 refuses.1 fit_pairs_canonical)
 
-    pub memory_alone_nfkc : (e ≡ error.Memory) ⊎ RefusesToCompose marker (data_from p.compatibility p.tables (Some p.supplementary_tables), p.compositions) e → e ≡ error.Memory
+    pub memory_alone_nfkc : (e ≡ error.Memory) ⊎ RefusesToCompose marker (characters_from p.compatibility p.tables (Some p.supplementary_tables), p.compositions) e → e ≡ error.Memory
     memory_alone_nfkc (inl h) = h
     memory_alone_nfkc (inr refuses) = absurd (IsFirstFailing-not_all _ _ refuses.0 refuses.1 fit_pairs_compatibility)
 

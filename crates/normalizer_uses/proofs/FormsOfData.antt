@@ -1,9 +1,7 @@
 -- The forms that normalizers give over built data are those of the records.
-use Rattle.std.proofs.Common.{◌≡◌, ℕ, List}
+use Rattle.std.proofs.Common.{◌≡◌, ℕ, List, []}
 use Rattle.normal_forms.specs.Forms.{normal_form}
 use Rattle.normal_forms.proofs.AlikeReadings.{nfc-alike, nfd-alike}
-use Rattle.normalizer_tables.specs.Characters.{own_reading}
-use Rattle.normalizer_tables.specs.PairConditions.{composing_reading}
 use Rattle.normalizer_packing.specs.declared.Packed.{Packed}
 use Rattle.normalizer_packing.specs.declared.entry.Kind.TheVariants as kind
 use Rattle.normalizer_packing.specs.ReadBack.{characters_of}
@@ -13,15 +11,17 @@ use Rattle.normalizer_builder.specs.Building.{MeansRecords}
 use Rattle.normalizer_uses.specs.declared.by_records.NormalForm.{NormalForm}
 use Rattle.normalizer_uses.specs.declared.by_records.NormalForm.TheVariants.{Nfd, Nfc, Nfkd, Nfkc}
 use Rattle.normalizer_uses.specs.RecordedForms.{form_of_data, recorded_form, recorded_reading}
+use Rattle.normalizer_tables.specs.Readings.{reading_by}
+use Rattle.normalizer_tables.specs.declared.characters.IgnoredCharacters.TheVariants.{Dropped}
 
 pub form_of_data-recorded : (records : List Entry) (uts46 : List MapperEntry) (p : Packed) → MeansRecords records uts46 p → (form : NormalForm) (x : List ℕ)
     → form_of_data p form x ≡ recorded_form records form x
 unfolding normal_form
 form_of_data-recorded records uts46 p means Nfd x =
-    nfd-alike (own_reading (characters_of p kind.Canonical)) (recorded_reading records Canonical) means.canonical means.canonical_classes x
+    nfd-alike (reading_by (characters_of p kind.Canonical) Dropped []) (recorded_reading records Canonical) means.canonical means.canonical_classes x
 form_of_data-recorded records uts46 p means Nfc x =
-    nfc-alike (composing_reading (characters_of p kind.Canonical) p.compositions) (recorded_reading records Canonical) means.canonical means.canonical_classes means.pairs x
+    nfc-alike (reading_by (characters_of p kind.Canonical) Dropped p.compositions) (recorded_reading records Canonical) means.canonical means.canonical_classes means.pairs x
 form_of_data-recorded records uts46 p means Nfkd x =
-    nfd-alike (own_reading (characters_of p kind.Compatibility)) (recorded_reading records All) means.compatibility means.compatibility_classes x
+    nfd-alike (reading_by (characters_of p kind.Compatibility) Dropped []) (recorded_reading records All) means.compatibility means.compatibility_classes x
 form_of_data-recorded records uts46 p means Nfkc x =
-    nfc-alike (composing_reading (characters_of p kind.Compatibility) p.compositions) (recorded_reading records All) means.compatibility means.compatibility_classes means.pairs x
+    nfc-alike (reading_by (characters_of p kind.Compatibility) Dropped p.compositions) (recorded_reading records All) means.compatibility means.compatibility_classes means.pairs x

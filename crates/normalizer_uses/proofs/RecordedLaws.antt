@@ -7,9 +7,9 @@ use Rattle.normal_forms.proofs.AlikeReadings.{HasInhabitedLists-alike, SuitsForm
 use Rattle.normalizer_tables.specs.AcceptedData.{composing_conditions}
 use Rattle.normalizer_tables.specs.Characters.{Characters}
 use Rattle.normalizer_tables.specs.declared.characters.IgnoredCharacters.TheVariants.{Dropped}
-use Rattle.normalizer_tables.specs.PairConditions.{composing_reading}
 use Rattle.normalizer_tables.specs.Pairs.{Pair, pair_of}
 use Rattle.normalizer_tables.specs.Loaded.{IsMet, bounds_of_cap, characters_and_pairs}
+use Rattle.normalizer_tables.specs.Readings.{reading_by}
 use Rattle.normalizer_tables.proofs.AcceptedLaws.{SuitsTexts-accepted_pairs}
 use Rattle.normalizer_tables.proofs.LoadedLemmas.{parts_met}
 use Rattle.normalizer_tables.proofs.InhabitedLists.{HasInhabitedLists-reading_of}
@@ -26,16 +26,16 @@ use Rattle.normalizer_uses.specs.RecordedForms.{recorded_reading}
 
 -- data that are no mapper's and meet the conditions with the pairs suit both forms
 suits : (s : Characters) (pairs : List Pair) → s.is_mapper ≡ false → All (IsMet (characters_and_pairs s pairs)) (composing_conditions s.is_mapper) → (form : Form) →
-    SuitsForm (composing_reading s pairs) form
+    SuitsForm (reading_by s Dropped pairs) form
 suits s pairs plain met form =
     let parts = parts_met s pairs met in
     (SuitsTexts-accepted_pairs s (bounds_of_cap s.decompositions.cap) pairs parts.0 plain parts.1 form).laws
 
 module _ (records : List Entry) (uts46 : List MapperEntry) (p : Packed) (built : Builds records uts46 p) where
-  alike_canonical : AreAlike (composing_reading (characters_of p kind.Canonical) p.compositions) (recorded_reading records mappings.Canonical)
+  alike_canonical : AreAlike (reading_by (characters_of p kind.Canonical) Dropped p.compositions) (recorded_reading records mappings.Canonical)
   alike_canonical = record { lists = built.means.canonical; classes = built.means.canonical_classes; pairs = built.means.pairs }
 
-  alike_compatibility : AreAlike (composing_reading (characters_of p kind.Compatibility) p.compositions) (recorded_reading records mappings.All)
+  alike_compatibility : AreAlike (reading_by (characters_of p kind.Compatibility) Dropped p.compositions) (recorded_reading records mappings.All)
   alike_compatibility = record { lists = built.means.compatibility; classes = built.means.compatibility_classes; pairs = built.means.pairs }
 
   pub SuitsForm-recorded : (m : Mappings) (form : Form) → SuitsForm (recorded_reading records m) form

@@ -3,15 +3,16 @@ use Rattle.std.specs.Prelude.{◌≡◌, ℕ, List}
 use Rattle.std.specs.List.{Contains}
 use Rattle.normal_forms.specs.Forms.{nfc}
 use Rattle.normalizer_tables.specs.declared.characters.IgnoredCharacters.TheVariants.{Dropped, Replaced}
-use Rattle.normalizer_calls.specs.Uts46.{MapperData, mapper_reading}
+use Rattle.normalizer_tables.specs.Readings.{reading_by}
+use Rattle.normalizer_calls.specs.Uts46.{MapperData}
 
 -- a text mapped: ignored characters are dropped
 abbrev pub mapped : MapperData → List ℕ → List ℕ
-mapped h x = nfc (mapper_reading h Dropped) x
+mapped h x = nfc (reading_by h.0 Dropped h.1) x
 
 -- a text validated: U+FFFD stands for each ignored character
 abbrev pub validated : MapperData → List ℕ → List ℕ
-validated h x = nfc (mapper_reading h Replaced) x
+validated h x = nfc (reading_by h.0 Replaced h.1) x
 
 -- mapped text that may stand as a label: it has no U+FFFD, and validation leaves it as it is
 pub record IsLabel (h : MapperData) (x : List ℕ) : Type 0 where

@@ -1,11 +1,11 @@
 -- The normal forms by plain records of characters, and by data.
-use Rattle.std.specs.Prelude.{ℕ, List}
+use Rattle.std.specs.Prelude.{ℕ, List, []}
 use Rattle.normal_forms.specs.declared.Form.TheVariants.{Decomposing, Composing}
 use Rattle.normal_forms.specs.Forms.{nfc, nfd, normal_form}
 use Rattle.normal_forms.specs.Reading.{Reading}
-use Rattle.normalizer_tables.specs.Characters.{own_reading}
-use Rattle.normalizer_tables.specs.PairConditions.{composing_reading}
 use Rattle.normalizer_tables.specs.Pairs.{pair_of}
+use Rattle.normalizer_tables.specs.Readings.{reading_by}
+use Rattle.normalizer_tables.specs.declared.characters.IgnoredCharacters.TheVariants.{Dropped}
 use Rattle.normalizer_packing.specs.declared.Packed.{Packed}
 use Rattle.normalizer_packing.specs.declared.entry.Kind.TheVariants as kind
 use Rattle.normalizer_packing.specs.ReadBack.{characters_of}
@@ -31,7 +31,7 @@ recorded_form records Nfkc x = normal_form (recorded_reading records All) Compos
 
 -- the forms that normalizers over packed data give
 abbrev pub form_of_data : Packed → NormalForm → List ℕ → List ℕ
-form_of_data p Nfd x = nfd (own_reading (characters_of p kind.Canonical)) x
-form_of_data p Nfc x = nfc (composing_reading (characters_of p kind.Canonical) p.compositions) x
-form_of_data p Nfkd x = nfd (own_reading (characters_of p kind.Compatibility)) x
-form_of_data p Nfkc x = nfc (composing_reading (characters_of p kind.Compatibility) p.compositions) x
+form_of_data p Nfd x = nfd (reading_by (characters_of p kind.Canonical) Dropped []) x
+form_of_data p Nfc x = nfc (reading_by (characters_of p kind.Canonical) Dropped p.compositions) x
+form_of_data p Nfkd x = nfd (reading_by (characters_of p kind.Compatibility) Dropped []) x
+form_of_data p Nfkc x = nfc (reading_by (characters_of p kind.Compatibility) Dropped p.compositions) x

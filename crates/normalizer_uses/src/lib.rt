@@ -1,16 +1,17 @@
 //! Uses of `icu_normalizer`, as a caller writes them.
 #![tactic(auto)]
 
-ghost use Rattle.std.specs.Prelude.{◌≡◌, ◌⊎◌, ℕ, List, IfOk, IfErr, IsOk, IsOkUnless, chars};
+ghost use Rattle.std.specs.Prelude.{◌≡◌, ◌⊎◌, ℕ, List, IfOk, IfErr, IsOk, IsOkUnless, chars, [], None};
 ghost use Rattle.std.specs.Iterator.{IsFinite};
 ghost use Rattle.normal_forms.specs.Forms.{nfc, nfd};
 ghost use Rattle.normal_forms.specs.ShortRuns.{HasShortRuns};
 ghost use Rattle.normalizer_tables.specs.declared.provider.DataMarkerInfo.TheVariants as marker;
-ghost use Rattle.normalizer_tables.specs.Characters.{has_class_form, own_reading, Characters};
-ghost use Rattle.normalizer_tables.specs.NfdData.{nfd_characters, nfd_conditions, nfd_loaded};
-ghost use Rattle.normalizer_tables.specs.PairConditions.{composing_reading};
+ghost use Rattle.normalizer_tables.specs.Characters.{has_class_form, Characters, characters_from};
+ghost use Rattle.normalizer_tables.specs.NfdData.{nfd_conditions, nfd_loaded};
 ghost use Rattle.normalizer_tables.specs.Pairs.{Pair};
 ghost use Rattle.normalizer_tables.specs.Refusals.{RefusesFirstFailing};
+ghost use Rattle.normalizer_tables.specs.Readings.{reading_by};
+ghost use Rattle.normalizer_tables.specs.declared.characters.IgnoredCharacters.TheVariants.{Dropped};
 ghost use Rattle.normalizer_text.specs.Utf8.{decoded_utf8};
 ghost use Rattle.normalizer_calls.specs.Acceptance.{nfkd_data, AcceptsHeld, RefusesHeld};
 ghost use Rattle.normalizer_calls.specs.ComposingAcceptance.{with_pairs, RefusesToCompose, SuitsComposing};
@@ -50,7 +51,7 @@ pub fn nfd_of_bytes(
     normalizer: &DecomposingNormalizerBorrowed<'_>,
     bytes: &[u8],
 ) -> Result<Vec<char>, NormalizeError>
-    ensures form { IfOk result (λ v. v.items ≡ nfd (own_reading (data_of_borrowed normalizer.now))
+    ensures form { IfOk result (λ v. v.items ≡ nfd (reading_by (data_of_borrowed normalizer.now) Dropped [])
         (decoded_utf8 bytes.now)) }
     ensures refused { IsOkUnless result NormalizeError.Memory }
 {
@@ -63,7 +64,8 @@ pub fn nfd_of_text(
     normalizer: &DecomposingNormalizerBorrowed<'_>,
     text: &str,
 ) -> Result<Vec<char>, NormalizeError>
-    ensures form { IfOk result (λ v. v.items ≡ nfd (own_reading (data_of_borrowed normalizer.now)) (chars text.now)) }
+    ensures form { IfOk result (λ v. v.items
+        ≡ nfd (reading_by (data_of_borrowed normalizer.now) Dropped []) (chars text.now)) }
     ensures refused { IsOkUnless result NormalizeError.Memory }
 {
     collected(alloc, normalizer.normalize_iter(text.chars())?)
@@ -76,7 +78,8 @@ pub fn nfd_by_data(
     tables: &DecompositionTables,
     bytes: &[u8],
 ) -> Result<Vec<char>, DataError>
-    ensures form { IfOk result (λ v. v.items ≡ nfd (own_reading (nfd_characters decompositions.now tables.now))
+    ensures form { IfOk result (λ v. v.items
+        ≡ nfd (reading_by (characters_from decompositions.now tables.now None) Dropped [])
         (decoded_utf8 bytes.now)) }
     ensures refused { IfErr result (λ e. (e ≡ DataError.Memory)
         ⊎ RefusesFirstFailing marker.NormalizerNfdDataV1 (nfd_loaded decompositions.now tables.now) nfd_conditions e) }
@@ -96,7 +99,7 @@ pub fn nfc_of_bytes(
     bytes: &[u8],
 ) -> Result<Vec<char>, NormalizeError>
     ensures form { IfOk result (λ v. v.items ≡ nfc
-        (composing_reading (composing_data_of_borrowed normalizer.now) (pairs_of_borrowed normalizer.now))
+        (reading_by (composing_data_of_borrowed normalizer.now) Dropped (pairs_of_borrowed normalizer.now))
         (decoded_utf8 bytes.now)) }
     ensures refused { IsOkUnless result NormalizeError.Memory }
 {
@@ -115,7 +118,7 @@ where
         (⟦<P as DataProvider<NormalizerNfdTablesV1>>⟧.held provider.now)
         (⟦<P as DataProvider<NormalizerNfkdTablesV1>>⟧.held provider.now))
         (⟦<P as DataProvider<NormalizerNfcV1>>⟧.held provider.now)) h
-        × (v.items ≡ nfc (composing_reading h.0 h.1) (decoded_utf8 bytes.now))) }
+        × (v.items ≡ nfc (reading_by h.0 Dropped h.1) (decoded_utf8 bytes.now))) }
     ensures refused { IfErr result (λ e. (e ≡ DataError.Memory) ⊎
         RefusesHeld (RefusesToCompose marker.NormalizerNfkdDataV1) (with_pairs
         (nfkd_data (⟦<P as DataProvider<NormalizerNfkdDataV1>>⟧.held provider.now)
@@ -162,9 +165,9 @@ pub fn last_of_nfd(
     bytes: &[u8],
 ) -> Result<Option<char>, NormalizeError>
     ensures last { IfOk result (λ c. c ≡ last_of
-        (nfd (own_reading (data_of_borrowed normalizer.now)) (decoded_utf8 bytes.now))) }
+        (nfd (reading_by (data_of_borrowed normalizer.now) Dropped []) (decoded_utf8 bytes.now))) }
     ensures succeeds { HasShortRuns (has_class_form (data_of_borrowed normalizer.now))
-        (own_reading (data_of_borrowed normalizer.now)) (decoded_utf8 bytes.now) → IsOk result }
+        (reading_by (data_of_borrowed normalizer.now) Dropped []) (decoded_utf8 bytes.now) → IsOk result }
     ensures refused { IsOkUnless result NormalizeError.Memory }
 {
     last_item(normalizer.normalize_iter(Utf8Chars::new(bytes))?)

@@ -1,9 +1,7 @@
 //! Normal forms written to sinks.
-ghost use Rattle.std.specs.Prelude.{◌≡◌, IfOk, IsOkUnless, chars, encode_utf8_all, string_bytes};
+ghost use Rattle.std.specs.Prelude.{◌≡◌, IfOk, IsOkUnless, chars, encode_utf8_all, string_bytes, []};
 ghost use Rattle.normal_forms.specs.declared.Form.TheVariants.{Composing, Decomposing};
 ghost use Rattle.normal_forms.specs.Forms.{normal_form};
-ghost use Rattle.normalizer_tables.specs.Characters.{own_reading};
-ghost use Rattle.normalizer_tables.specs.PairConditions.{composing_reading};
 ghost use Rattle.normalizer_text.specs.Utf8.{decoded_utf8};
 ghost use Rattle.normalizer_text.specs.Utf16.{decoded_utf16, encode_utf16_all};
 ghost use Rattle.normalizer_calls.specs.ComposingNormalizers.{
@@ -11,6 +9,8 @@ ghost use Rattle.normalizer_calls.specs.ComposingNormalizers.{
   pairs_of_borrowed,
 };
 ghost use Rattle.normalizer_calls.specs.Normalizers.{data_of_borrowed};
+ghost use Rattle.normalizer_tables.specs.Readings.{reading_by};
+ghost use Rattle.normalizer_tables.specs.declared.characters.IgnoredCharacters.TheVariants.{Dropped};
 
 use icu_normalizer::sink::Write;
 use icu_normalizer::{ComposingNormalizerBorrowed, DecomposingNormalizerBorrowed, NormalizeError};
@@ -22,7 +22,7 @@ pub fn nfc_string(
     normalizer: &ComposingNormalizerBorrowed<'_>,
     text: &str,
 ) -> Result<String, NormalizeError>
-    ensures { let d = composing_reading (composing_data_of_borrowed normalizer.now) (pairs_of_borrowed normalizer.now)
+    ensures { let d = reading_by (composing_data_of_borrowed normalizer.now) Dropped (pairs_of_borrowed normalizer.now)
         in IfOk result (λ form. string_bytes form ≡ encode_utf8_all (normal_form d Composing (chars text.now))) }
 {
     let mut form = String::new(alloc);
@@ -36,7 +36,7 @@ pub fn nfd_string_of_bytes(
     normalizer: &DecomposingNormalizerBorrowed<'_>,
     bytes: &[u8],
 ) -> Result<String, NormalizeError>
-    ensures { let d = own_reading (data_of_borrowed normalizer.now) in
+    ensures { let d = reading_by (data_of_borrowed normalizer.now) Dropped [] in
         IfOk result (λ form. string_bytes form ≡ encode_utf8_all (normal_form d Decomposing (decoded_utf8 bytes.now))) }
 {
     let mut form = String::new(alloc);
@@ -50,7 +50,7 @@ pub fn nfc_units(
     normalizer: &ComposingNormalizerBorrowed<'_>,
     units: &[u16],
 ) -> Result<Vec<u16>, NormalizeError>
-    ensures { let d = composing_reading (composing_data_of_borrowed normalizer.now) (pairs_of_borrowed normalizer.now)
+    ensures { let d = reading_by (composing_data_of_borrowed normalizer.now) Dropped (pairs_of_borrowed normalizer.now)
         in IfOk result (λ form. form.items ≡ encode_utf16_all (normal_form d Composing (decoded_utf16 units.now))) }
 {
     let mut form = Vec::new(alloc);

@@ -4,18 +4,19 @@ use Rattle.std.specs.Prelude.{List, [], ◌∷◌, ◌++◌, All, filter, flat_m
 use Rattle.std.specs.List.{list_any, slice_split}
 use Rattle.normal_forms.specs.Forms.{nfc}
 use Rattle.normalizer_tables.specs.declared.characters.IgnoredCharacters.TheVariants.{Dropped, Replaced}
-use Rattle.normalizer_calls.specs.Uts46.{MapperData, mapper_reading}
+use Rattle.normalizer_tables.specs.Readings.{reading_by}
+use Rattle.normalizer_calls.specs.Uts46.{MapperData}
 use Rattle.normtool.specs.declared.ending.Answer.{Answer}
 use Rattle.normtool.specs.declared.ending.Answer.TheVariants.{Done}
 use Rattle.normtool.specs.OffenceLines.{line_feed}
 
 -- what mapping makes of a text, where ignored characters are dropped
 abbrev pub mapped : MapperData → List ℕ → List ℕ
-mapped h x = nfc (mapper_reading h Dropped) x
+mapped h x = nfc (reading_by h.0 Dropped h.1) x
 
 -- what validation makes of it, where U+FFFD stands for each of them
 abbrev pub validated : MapperData → List ℕ → List ℕ
-validated h x = nfc (mapper_reading h Replaced) x
+validated h x = nfc (reading_by h.0 Replaced h.1) x
 
 -- what stands between the full stops of a text: one field more than there are full stops
 abbrev pub fields : List ℕ → List (List ℕ)

@@ -1,15 +1,16 @@
 -- The data that a command needs, and what it does by them.
-use Rattle.std.specs.Prelude.{◌≡◌, List, Option, Result}
+use Rattle.std.specs.Prelude.{◌≡◌, List, Option, Result, []}
 use Rattle.normal_forms.specs.declared.Form.{Form}
 use Rattle.normal_forms.specs.declared.Form.TheVariants.{Decomposing, Composing}
 use Rattle.normal_forms.specs.Reading.{Reading}
-use Rattle.normalizer_tables.specs.Characters.{Characters, own_reading}
+use Rattle.normalizer_tables.specs.Characters.{Characters}
 use Rattle.normalizer_tables.specs.Data.{Decompositions, Lists}
 use Rattle.normalizer_tables.specs.declared.provider.DataError.{DataError}
 use Rattle.normalizer_tables.specs.declared.provider.DataMarkerInfo.{DataMarkerInfo}
 use Rattle.normalizer_tables.specs.declared.provider.DataMarkerInfo.TheVariants as marker
-use Rattle.normalizer_tables.specs.PairConditions.{composing_reading}
 use Rattle.normalizer_tables.specs.Pairs.{Pair}
+use Rattle.normalizer_tables.specs.Readings.{reading_by}
+use Rattle.normalizer_tables.specs.declared.characters.IgnoredCharacters.TheVariants.{Dropped}
 use Rattle.normalizer_calls.specs.Acceptance.{nfd_data, nfkd_data, AcceptsHeld, RefusesHeld}
 use Rattle.normalizer_calls.specs.Acceptance.{SuitsDecomposing, RefusesToDecompose}
 use Rattle.normalizer_calls.specs.ComposingAcceptance.{SuitsComposing, RefusesToCompose, with_pairs}
@@ -57,11 +58,11 @@ kind_of Nfkc = Composing
 
 -- data are held and meet their conditions where text is decomposed, and this is their reading
 abbrev pub DecomposesBy : Result Characters DataMarkerInfo → Reading → Type 0
-DecomposesBy held d = (s : Characters) × AcceptsHeld SuitsDecomposing held s × (d ≡ own_reading s)
+DecomposesBy held d = (s : Characters) × AcceptsHeld SuitsDecomposing held s × (d ≡ reading_by s Dropped [])
 
 -- the same of data and pairs, where text is composed
 abbrev pub ComposesBy : Result (Characters × List Pair) DataMarkerInfo → Reading → Type 0
-ComposesBy held d = (h : Characters × List Pair) × AcceptsHeld SuitsComposing held h × (d ≡ composing_reading h.0 h.1)
+ComposesBy held d = (h : Characters × List Pair) × AcceptsHeld SuitsComposing held h × (d ≡ reading_by h.0 Dropped h.1)
 
 -- the data that the form needs are held and meet their conditions, and this is their reading
 abbrev pub IsReadBy : NormalForm → HeldForForms → Reading → Type 0

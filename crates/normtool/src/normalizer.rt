@@ -5,7 +5,7 @@ ghost use Rattle.normalizer_input.specs.EncodedForm.{encoded_form};
 ghost use Rattle.normalizer_input.specs.InputCut.{IsInputNormalized};
 ghost use Rattle.normalizer_input.specs.InputOffence.{IsInputOffenceOf};
 ghost use Rattle.normtool.specs.Needs.{held_for_forms, kind_of, FormLacksData, IsReadBy};
-ghost use Rattle.normtool.specs.Normalizers.{kind_by, reading_by};
+ghost use Rattle.normtool.specs.Normalizers.{kind_by, reading_of};
 
 use crate::ending::ToolFault;
 use crate::task::NormalForm;
@@ -36,7 +36,7 @@ impl Normalizer {
             (⟦<P as DataProvider<NormalizerNfdTablesV1>>⟧.held provider.now)
             (⟦<P as DataProvider<NormalizerNfkdDataV1>>⟧.held provider.now)
             (⟦<P as DataProvider<NormalizerNfkdTablesV1>>⟧.held provider.now)
-            (⟦<P as DataProvider<NormalizerNfcV1>>⟧.held provider.now)) (reading_by n)) }
+            (⟦<P as DataProvider<NormalizerNfcV1>>⟧.held provider.now)) (reading_of n)) }
         ensures kind { IfOk result (λ n. kind_by n ≡ kind_of form) }
         ensures data { IsErrOf result ToolFault.Data → FormLacksData form (held_for_forms
             (⟦<P as DataProvider<NormalizerNfdDataV1>>⟧.held provider.now)
@@ -69,7 +69,7 @@ impl Normalizer {
     /// The UTF-8 of the form of the text that the bytes decode to.
     pub(crate) fn form_of(&self, alloc: Global, bytes: &[u8]) -> Result<String, ToolFault>
         ensures form { IfOk result (λ text. string_bytes text
-            ≡ encoded_form Encoding.Utf8 (reading_by self.now) (kind_by self.now) bytes.now) }
+            ≡ encoded_form Encoding.Utf8 (reading_of self.now) (kind_by self.now) bytes.now) }
         ensures errors { IfErr result (λ fault. fault ≡ ToolFault.Memory) }
     {
         let mut text = String::new(alloc);
@@ -83,7 +83,7 @@ impl Normalizer {
     /// Whether the bytes are well-formed and their own form.
     pub(crate) fn is_own_form(&self, bytes: &[u8]) -> Result<bool, ToolFault>
         ensures own { IfOk result (λ own. IsTrue own
-            ↔ IsInputNormalized Encoding.Utf8 (reading_by self.now) (kind_by self.now) bytes.now) }
+            ↔ IsInputNormalized Encoding.Utf8 (reading_of self.now) (kind_by self.now) bytes.now) }
         ensures errors { IfErr result (λ fault. fault ≡ ToolFault.Memory) }
     {
         match self {
@@ -95,7 +95,7 @@ impl Normalizer {
     /// The first place at which the bytes are ill-formed or not their own form.
     pub(crate) fn first_offence(&self, bytes: &[u8]) -> Result<Option<Offence>, ToolFault>
         ensures offence { IfOk result (λ offence.
-            IsInputOffenceOf Encoding.Utf8 (reading_by self.now) (kind_by self.now) bytes.now offence) }
+            IsInputOffenceOf Encoding.Utf8 (reading_of self.now) (kind_by self.now) bytes.now offence) }
         ensures errors { IfErr result (λ fault. fault ≡ ToolFault.Memory) }
     {
         match self {

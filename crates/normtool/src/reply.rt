@@ -2,7 +2,7 @@
 ghost use Rattle.std.specs.Prelude.{◌≡◌, IfErr, IfOk, string_bytes};
 ghost use Rattle.normtool.specs.OffenceLines.{code_point_digits, offence_line, TellsOffence};
 ghost use Rattle.normtool.specs.Replies.{IsReplyOfForm};
-ghost use Rattle.normtool.specs.Normalizers.{kind_by, reading_by};
+ghost use Rattle.normtool.specs.Normalizers.{kind_by, reading_of};
 
 use crate::ending::{Answer, ToolFault};
 use crate::normalizer::Normalizer;
@@ -25,7 +25,7 @@ impl FormTask {
         normalizer: &Normalizer,
         input: &[u8],
     ) -> Result<Reply, ToolFault>
-        ensures reply { IfOk result (λ r. IsReplyOfForm self (kind_by normalizer.now) (reading_by normalizer.now)
+        ensures reply { IfOk result (λ r. IsReplyOfForm self (kind_by normalizer.now) (reading_of normalizer.now)
             input.now r.answer (string_bytes r.output)) }
         ensures errors { IfErr result (λ fault. fault ≡ ToolFault.Memory) }
     {

@@ -1,12 +1,13 @@
 //! Making a composition.
-ghost use Rattle.std.specs.Prelude.{◌≡◌, IfOk};
+ghost use Rattle.std.specs.Prelude.{◌≡◌, IfOk, []};
 ghost use Rattle.std.specs.Iterator.{IsFinite};
 ghost use Rattle.normal_forms.specs.Forms.{nfc};
 ghost use Rattle.normalizer_tables.specs.Characters.{has_class_form};
+ghost use Rattle.normalizer_tables.specs.Readings.{reading_by};
 ghost use Rattle.normalizer_iterators.specs.Composition.{data_of_composition, pairs_of_composition};
 ghost use Rattle.normalizer_iterators.specs.Items.{GivesForm};
 ghost use Rattle.normalizer_iterators.specs.LazyComposing.{SuitsLazyComposing};
-ghost use Rattle.normalizer_iterators.specs.LazyReading.{decomposing_reading, reading_by, SuitsLazyReading};
+ghost use Rattle.normalizer_iterators.specs.LazyReading.{SuitsLazyReading};
 
 use crate::composition::Composition;
 use crate::error::NormalizeError;
@@ -25,7 +26,7 @@ pub fn composed<'data, I: Iterator<Item = char> + Drop>(
 ) -> Result<Composition<'data, I>, NormalizeError>
     requires can { I.can_next delegate }
     requires ends { IsFinite (I.remaining delegate) }
-    requires reading { SuitsLazyReading (has_class_form characters) (decomposing_reading characters ignored) }
+    requires reading { SuitsLazyReading (has_class_form characters) (reading_by characters ignored []) }
     requires composing { SuitsLazyComposing characters bounds pairs.now }
     ensures form { GivesForm I.next_gives ⟦<Composition<'data, I> as Iterator>⟧.next_gives
         (has_class_form characters.entry)

@@ -4,13 +4,15 @@ ghost use Rattle.std.specs.Option.{option_map};
 ghost use Rattle.normal_forms.specs.Boundary.{BeginsWithStarter};
 ghost use Rattle.normal_forms.specs.Order.{order};
 ghost use Rattle.normal_forms.specs.Reading.{IsStarter};
-ghost use Rattle.normalizer_tables.specs.Characters.{class_of, own_reading, reading_of_word};
+ghost use Rattle.normalizer_tables.specs.Characters.{class_of, reading_of_word};
 ghost use Rattle.normalizer_tables.specs.Conditions.{
   HasMarksBehind,
   IsOrderedList,
   KeepsPromise,
 };
 ghost use Rattle.normalizer_tables.specs.SpecialLists.{FixedList, fixed_list_of};
+ghost use Rattle.normalizer_tables.specs.Readings.{reading_by};
+ghost use Rattle.normalizer_tables.specs.Ignored.{Dropped};
 
 use crate::characters::{CharacterData, IgnoredCharacters};
 use crate::members::Members;
@@ -30,7 +32,7 @@ pub fn is_ordered_list(data: &CharacterData<'_>, character: char) -> bool
 
 /// Whether a list is in canonical order.
 fn is_in_order(data: &CharacterData<'_>, list: &Members<'_>) -> bool
-    ensures { IsTrue result ↔ (order (own_reading data.now) list.now ≡ list.now) }
+    ensures { IsTrue result ↔ (order (reading_by data.now Dropped []) list.now ≡ list.now) }
 {
     let mut last = 0;
     for place in 0..list.len() {
@@ -45,7 +47,7 @@ fn is_in_order(data: &CharacterData<'_>, list: &Members<'_>) -> bool
 
 /// Whether a list is empty, or its first member a starter.
 fn begins_with_starter(data: &CharacterData<'_>, list: &Members<'_>) -> bool
-    ensures { IsTrue result ↔ BeginsWithStarter (own_reading data.now) list.now }
+    ensures { IsTrue result ↔ BeginsWithStarter (reading_by data.now Dropped []) list.now }
 {
     match list.get(0) {
         Some(first) => data.class_of(first) == 0,
@@ -84,7 +86,7 @@ fn has_marks_behind(data: &CharacterData<'_>, list: &Members<'_>) -> bool
 
 /// Whether all members are starters.
 fn are_starters(data: &CharacterData<'_>, list: &Members<'_>) -> bool
-    ensures { IsTrue result ↔ All (IsStarter (own_reading data.now)) list.now }
+    ensures { IsTrue result ↔ All (IsStarter (reading_by data.now Dropped [])) list.now }
 {
     for place in 0..list.len() {
         if data.class_of(list.at(place)) != 0 {

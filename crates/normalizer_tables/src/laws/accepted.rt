@@ -1,5 +1,5 @@
 //! What data that a constructor accepts are to the laws of the normal forms, and to those who ask less of them.
-ghost use Rattle.std.specs.Prelude.{◌≡◌, ℕ, List, false, true, All};
+ghost use Rattle.std.specs.Prelude.{◌≡◌, ℕ, List, false, true, All, [], None};
 ghost use Rattle.std.specs.Char.{IsScalar};
 ghost use Rattle.normal_forms.specs.declared.Form.{Form};
 ghost use Rattle.normal_forms.specs.declared.Form.TheVariants.{Decomposing};
@@ -10,43 +10,40 @@ ghost use Rattle.normalizer_tables.specs.AcceptedData.{
   SuitsMapper,
   SuitsTexts,
 };
-ghost use Rattle.normalizer_tables.specs.Characters.{Characters, own_reading, reading_of};
+ghost use Rattle.normalizer_tables.specs.Characters.{Characters, characters_from};
 ghost use Rattle.normalizer_tables.specs.ClassConditions.{HoldsOfClasses, class_conditions};
 ghost use Rattle.normalizer_tables.specs.Conditions.{Holds};
 ghost use Rattle.normalizer_tables.specs.Data.{Decompositions, Lists};
-ghost use Rattle.normalizer_tables.specs.Ignored.{IgnoredCharacters, ignored_list};
-ghost use Rattle.normalizer_tables.specs.NfdData.{IsSoundNfdData, nfd_bounds, nfd_characters};
-ghost use Rattle.normalizer_tables.specs.PairConditions.{
-  AreSoundPairs,
-  HoldsOfPairs,
-  composing_reading,
-};
+ghost use Rattle.normalizer_tables.specs.Ignored.{IgnoredCharacters, Dropped};
+ghost use Rattle.normalizer_tables.specs.NfdData.{IsSoundNfdData, nfd_bounds};
+ghost use Rattle.normalizer_tables.specs.PairConditions.{AreSoundPairs, HoldsOfPairs};
 ghost use Rattle.normalizer_tables.specs.Pairs.{Pair, pair_of};
 ghost use Rattle.normalizer_tables.specs.SoundData.{Bounds, IsSoundData};
+ghost use Rattle.normalizer_tables.specs.Readings.{reading_by, reading_of};
 ghost use Rattle.normalizer_tables.specs.declared.condition.Condition.TheVariants as condition;
 
 /// Accepted data that are no mapper's suit the laws of the decomposing form, and with accepted pairs those of both
 /// forms. Canonical data that are handed in unchecked suit them by their own conditions.
 pub fn accepted_data_suit_texts()
     ensures decomposing { (s : Characters) (b : Bounds) → s.is_mapper ≡ false → IsAccepted s b →
-        SuitsTexts (own_reading s) Decomposing }
+        SuitsTexts (reading_by s Dropped []) Decomposing }
     ensures composing { (s : Characters) (b : Bounds) (pairs : List Pair) → s.is_mapper ≡ false →
-        IsAccepted s b → AreAcceptedPairs s b pairs → (form : Form) → SuitsTexts (composing_reading s pairs) form }
+        IsAccepted s b → AreAcceptedPairs s b pairs → (form : Form) → SuitsTexts (reading_by s Dropped pairs) form }
     ensures handed_in { (decompositions : Decompositions) (tables : Lists) → IsSoundNfdData decompositions tables →
-        SuitsTexts (own_reading (nfd_characters decompositions tables)) Decomposing }
+        SuitsTexts (reading_by (characters_from decompositions tables None) Dropped []) Decomposing }
 {}
 
 /// Accepted data with accepted pairs suit a mapper, however it treats ignored characters.
 pub fn accepted_data_suit_mappers()
     ensures { (s : Characters) (b : Bounds) (pairs : List Pair) → IsAccepted s b → AreAcceptedPairs s b pairs →
-        (i : IgnoredCharacters) → SuitsMapper (reading_of s (ignored_list i) (pair_of pairs)) }
+        (i : IgnoredCharacters) → SuitsMapper (reading_by s i pairs) }
 {}
 
 /// Accepted data are sound: of their lists the laws of the normal forms may be used.
 pub fn accepted_data_are_sound()
     ensures accepted { (s : Characters) (b : Bounds) → IsAccepted s b → IsSoundData s b }
     ensures handed_in { (decompositions : Decompositions) (tables : Lists) → IsSoundNfdData decompositions tables →
-        IsSoundData (nfd_characters decompositions tables) nfd_bounds }
+        IsSoundData (characters_from decompositions tables None) nfd_bounds }
 {}
 
 /// What characters compose to are characters where the pairs hold characters alone; Hangul syllables are characters.

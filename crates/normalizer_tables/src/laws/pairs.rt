@@ -5,19 +5,20 @@ ghost use Rattle.normal_forms.specs.Boundary.{BeginsSafely};
 ghost use Rattle.normal_forms.specs.Forms.{IsNormalized, nfd};
 ghost use Rattle.normal_forms.specs.declared.Form.TheVariants as form;
 ghost use Rattle.normal_forms.specs.Hypotheses.{HasFaithfulResults, HasStarterResults};
-ghost use Rattle.normalizer_tables.specs.Characters.{Characters, list_of, own_reading, reading_of};
+ghost use Rattle.normalizer_tables.specs.Characters.{Characters, list_of};
 ghost use Rattle.normalizer_tables.specs.Conditions.{Holds};
-ghost use Rattle.normalizer_tables.specs.Ignored.{IgnoredCharacters, ignored_list};
-ghost use Rattle.normalizer_tables.specs.PairConditions.{HasOrderedLists, HoldsOfPairs, composing_reading, is_passed};
-ghost use Rattle.normalizer_tables.specs.Pairs.{Pair, pair_of};
+ghost use Rattle.normalizer_tables.specs.Ignored.{IgnoredCharacters, ignored_list, Dropped};
+ghost use Rattle.normalizer_tables.specs.PairConditions.{HasOrderedLists, HoldsOfPairs, is_passed};
+ghost use Rattle.normalizer_tables.specs.Pairs.{Pair};
 ghost use Rattle.normalizer_tables.specs.SoundData.{Bounds};
+ghost use Rattle.normalizer_tables.specs.Readings.{reading_by};
 ghost use Rattle.normalizer_tables.specs.declared.condition.Condition.TheVariants as condition;
 
 /// What a pair composes to is a starter: conditions 6 and 11.
 pub fn results_are_starters()
     ensures { (s : Characters) (b : Bounds) (pairs : List Pair) →
         Holds s b condition.Hangul → HoldsOfPairs s b pairs condition.Pairs →
-        (i : IgnoredCharacters) → HasStarterResults (reading_of s (ignored_list i) (pair_of pairs)) }
+        (i : IgnoredCharacters) → HasStarterResults (reading_by s i pairs) }
 {}
 
 /// What a pair composes to has the ordered lists of the pair: conditions 6 and 14, the latter of the lists that
@@ -25,10 +26,10 @@ pub fn results_are_starters()
 pub fn results_are_faithful()
     ensures of_lists { (s : Characters) (b : Bounds) (pairs : List Pair) (i : IgnoredCharacters) →
         Holds s b condition.Hangul → All (HasOrderedLists s (ignored_list i)) pairs →
-        HasFaithfulResults (reading_of s (ignored_list i) (pair_of pairs)) }
+        HasFaithfulResults (reading_by s i pairs) }
     ensures of_condition { (s : Characters) (b : Bounds) (pairs : List Pair) →
         Holds s b condition.Hangul → HoldsOfPairs s b pairs condition.Results →
-        HasFaithfulResults (composing_reading s pairs) }
+        HasFaithfulResults (reading_by s Dropped pairs) }
 {}
 
 /// A character that a composing loop passes is its own form, and nothing is reordered or composed across its
@@ -37,11 +38,11 @@ pub fn passed_characters_stand_apart()
     ensures form { (s : Characters) (b : Bounds) (pairs : List Pair) →
         Holds s b condition.Order → HoldsOfPairs s b pairs condition.RoundTrip →
         (i : IgnoredCharacters) (c : ℕ) → IsScalar c → is_passed s b c ≡ true →
-        IsNormalized (reading_of s (ignored_list i) (pair_of pairs)) form.Composing (c ∷ []) }
+        IsNormalized (reading_by s i pairs) form.Composing (c ∷ []) }
     ensures beginning { (s : Characters) (b : Bounds) (pairs : List Pair) →
         HoldsOfPairs s b pairs condition.SafeBeginning →
         (i : IgnoredCharacters) (c : ℕ) → IsScalar c → is_passed s b c ≡ true →
-        BeginsSafely (reading_of s (ignored_list i) (pair_of pairs)) (list_of s (ignored_list i) c) }
+        BeginsSafely (reading_by s i pairs) (list_of s (ignored_list i) c) }
     ensures inhabited { (s : Characters) (b : Bounds) (pairs : List Pair) →
         HoldsOfPairs s b pairs condition.SafeBeginning →
         (i : IgnoredCharacters) (c : ℕ) → IsScalar c → is_passed s b c ≡ true →
@@ -51,5 +52,5 @@ pub fn passed_characters_stand_apart()
 /// The decomposing form of data is the same with pairs and without.
 pub fn decomposing_form_looks_at_no_pairs()
     ensures { (s : Characters) (pairs : List Pair) (x : List ℕ) →
-        nfd (composing_reading s pairs) x ≡ nfd (own_reading s) x }
+        nfd (reading_by s Dropped pairs) x ≡ nfd (reading_by s Dropped []) x }
 {}

@@ -5,12 +5,8 @@ ghost use Rattle.normal_forms.specs.Forms.{IsNormalized};
 ghost use Rattle.normal_forms.specs.Reading.{IsStarter, ReadsAsItself};
 ghost use Rattle.normal_forms.specs.ShortRuns.{continues};
 ghost use Rattle.normal_forms.specs.declared.Form.{Form};
-ghost use Rattle.normalizer_tables.specs.Characters.{
-  Characters,
-  has_class_form,
-  reading_of,
-  word_of,
-};
+ghost use Rattle.normalizer_tables.specs.Characters.{Characters, has_class_form, word_of};
+ghost use Rattle.normalizer_tables.specs.Readings.{reading_of};
 ghost use Rattle.normalizer_tables.specs.Words.{is_plain};
 
 /// A character whose word is 0, flags aside, is a starter that reads as itself, is its own form, and begins anew: it

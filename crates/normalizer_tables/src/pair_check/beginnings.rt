@@ -9,12 +9,13 @@ ghost use Rattle.normalizer_tables.specs.PairConditions.{
   KeepsBeginning,
   KeepsRoundTrip,
   RoundTrips,
-  composing_reading,
   is_taken_to_begin_safely,
   is_taken_to_round_trip,
 };
 ghost use Rattle.normalizer_tables.specs.Pairs.{is_vowel_or_trailing_jamo};
 ghost use Rattle.normalizer_tables.specs.Walk.{KeepsPlainBeginning};
+ghost use Rattle.normalizer_tables.specs.Readings.{reading_by};
+ghost use Rattle.normalizer_tables.specs.Ignored.{Dropped};
 
 use crate::characters::{CharacterData, IgnoredCharacters};
 use crate::condition::Bounds;
@@ -175,7 +176,7 @@ fn composes_to(
     list: &Members<'_>,
     character: char,
 ) -> bool
-    ensures { IsTrue result ↔ (compose (composing_reading data.now compositions.now) list.now ≡ character ∷ []) }
+    ensures { IsTrue result ↔ (compose (reading_by data.now Dropped compositions.now) list.now ≡ character ∷ []) }
 {
     let Some(mut composite) = list.get(0) else {
         return false;
@@ -197,7 +198,7 @@ fn joined(
     first: char,
     second: char,
 ) -> Option<char>
-    ensures { result ≡ joined (composing_reading data.now compositions.now) first [] second }
+    ensures { result ≡ joined (reading_by data.now Dropped compositions.now) first [] second }
 {
     if data.class_of(first) == 0 {
         compositions.compose(first, second)

@@ -1,8 +1,9 @@
 //! The lists of what pairs compose to.
 ghost use Rattle.std.specs.Prelude.{◌≡◌, ◌↔◌, ◌<◌, ◌+◌, ◌++◌, [], IsTrue, length, drop, slice_index};
 ghost use Rattle.normal_forms.specs.Order.{insert, is_reorderable, order};
-ghost use Rattle.normalizer_tables.specs.Characters.{own_reading};
 ghost use Rattle.normalizer_tables.specs.PairConditions.{HasOrderedLists};
+ghost use Rattle.normalizer_tables.specs.Readings.{reading_by};
+ghost use Rattle.normalizer_tables.specs.Ignored.{Dropped};
 
 use crate::characters::{CharacterData, IgnoredCharacters};
 use crate::members::Members;
@@ -31,7 +32,7 @@ fn is_order_of(
     room: &mut [char],
 ) -> bool
     requires { length room.old ≡ length first.now + length second.now }
-    ensures { IsTrue result ↔ (list.now ≡ order (own_reading data.now) (first.now ++ second.now)) }
+    ensures { IsTrue result ↔ (list.now ≡ order (reading_by data.now Dropped []) (first.now ++ second.now)) }
 {
     write(first, &mut room[..first.len()]);
     write(second, &mut room[first.len()..]);
@@ -66,7 +67,7 @@ pub(crate) fn is_spelled(list: &Members<'_>, characters: &[char]) -> bool
 
 /// Puts characters in canonical order: from the last on, each is put before those behind it.
 pub(crate) fn put_in_order(data: &CharacterData<'_>, characters: &mut [char])
-    ensures { characters.new ≡ order (own_reading data.now) characters.old }
+    ensures { characters.new ≡ order (reading_by data.now Dropped []) characters.old }
 {
     if characters.len() > 1 {
         put_in_order(data, &mut characters[1..]);
@@ -77,7 +78,8 @@ pub(crate) fn put_in_order(data: &CharacterData<'_>, characters: &mut [char])
 /// The first character passes its neighbour as long as the two are a reorderable pair.
 fn insert_first(data: &CharacterData<'_>, characters: &mut [char])
     requires { 0 < length characters.old }
-    ensures { characters.new ≡ insert (own_reading data.now) (slice_index characters.old 0) (drop 1 characters.old) }
+    ensures { characters.new ≡ insert (reading_by data.now Dropped []) (slice_index characters.old 0)
+        (drop 1 characters.old) }
 {
     if characters.len() > 1 && is_reorderable(data, characters[0], characters[1]) {
         characters.swap(0, 1);
@@ -87,7 +89,7 @@ fn insert_first(data: &CharacterData<'_>, characters: &mut [char])
 
 #[tactic(auto, unfolding(normal_forms::specs::Order::is_reorderable))]
 fn is_reorderable(data: &CharacterData<'_>, first: char, second: char) -> bool
-    ensures { result ≡ is_reorderable (own_reading data.now) first second }
+    ensures { result ≡ is_reorderable (reading_by data.now Dropped []) first second }
 {
     let class = data.class_of(second);
     0 < class && class < data.class_of(first)

@@ -3,7 +3,7 @@ use Rattle.std.specs.Prelude.{min}
 use Rattle.normalizer_text.specs.Encodings.{first_in}
 use Rattle.normalizer_text.proofs.BoundaryLemmas.{boundary-start}
 use Rattle.normalizer_text.proofs.EncodingRules.{IsDecoding-first}
-use Rattle.normalizer_calls.specs.Passing.{replacement, step_passes}
+use Rattle.normalizer_calls.specs.inner.Passing.{replacement, step_passes}
 use Rattle.normalizer_calls.proofs.RunLemmas.{PassesTo-low, PassesTo-none, PassesTo-more, boundary-step, some_step, within_step}
 use Rattle.normalizer_calls.proofs.runs.run_end.Goals as goal
 

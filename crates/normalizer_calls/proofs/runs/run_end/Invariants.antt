@@ -1,5 +1,5 @@
 use Rattle.std.proofs.Common.{◌-◌, length}
-use Rattle.normalizer_calls.specs.Passing.{PassesTo}
+use Rattle.normalizer_calls.specs.inner.Passing.{PassesTo}
 use Rattle.normalizer_calls.proofs.runs.run_end.Given as goal
 
 abbrev pub invariant-loop-end : goal.invariant-loop-end

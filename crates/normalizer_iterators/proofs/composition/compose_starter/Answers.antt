@@ -1,9 +1,10 @@
 use Rattle.std.proofs.Common.{◌≡◌, refl, sym, ap, ◌∙◌, subst, arith}
 use Rattle.normal_forms.specs.Reading.{IsMark}
 use Rattle.normalizer_tables.specs.Characters.{Characters, class_of}
+use Rattle.normalizer_tables.specs.Readings.{reading_by}
+use Rattle.normalizer_tables.specs.declared.characters.IgnoredCharacters.TheVariants.{Dropped}
 use Rattle.normalizer_iterators.specs.declared.waiting.Classed.{Classed}
 use Rattle.normal_forms.specs.Boundary.{BeginsSafely}
-use Rattle.normalizer_tables.specs.PairConditions.{composing_reading}
 use Rattle.normalizer_iterators.specs.LazyComposing.{SuitsLazyComposing}
 use Rattle.normalizer_iterators.proofs.PassingLemmas.{IsAtPassed-stands, BeginsSafely-to_come}
 use Rattle.normalizer_iterators.proofs.StarterLemmas.{GivesShort-no_fault, ComposedSoFar-none, ComposedSoFar-joined, ComposedSoFar-stays, ComposedSoFar-no_room, ComposesStarter-starts}
@@ -57,7 +58,7 @@ returns-in-Err-visit-clause-steps g c =
     let step = rw c.in-Ok.is at c.in-Some.ensures.steps in
     let class = known_class c.args.decomposed.now.characters _ c.loop-bounds.invariant.kept c.in-Ok.given (rw c.in-Ok.is at c.in-Some.ensures.class) in
     let full = c.in-Err-visit.ensures.err in
-    let mark : IsMark (composing_reading c.args.decomposed.now.characters c.args.pairs.now) c.in-Ok.given.character = omega (arith, class, full.1) in
+    let mark : IsMark (reading_by c.args.decomposed.now.characters Dropped c.args.pairs.now) c.in-Ok.given.character = omega (arith, class, full.1) in
     (refl, ComposedSoFar-no_room g.I.Iterator.can_next g.I.Iterator.next_gives g.I.Iterator.remaining _ _ _ _ _ _ c.in-Ok.given.character _ c.loop-bounds.invariant step mark full.0)
 
 pub returns-in_default-clause-steps : goal.returns-in_default-clause-steps
@@ -71,7 +72,7 @@ returns-clause-steps g c =
     let suits = subst (λ k. SuitsLazyComposing k c.args.bounds c.args.pairs.now) (sym same) c.requires.suits in
     let here = IsAtPassed-stands c.args.bounds c.args.pairs.now c.loop-bounds.decomposed suits (c.is_at_passed.ensures.0 c.loop-bounds-test.false) in
     ComposesStarter-passes g.I.Iterator.can_next g.I.Iterator.next_gives g.I.Iterator.remaining _ _ _ _ c.loop-bounds.decomposed _ before
-    (λ y h. subst (λ k. BeginsSafely (composing_reading k c.args.pairs.now) y) same
+    (λ y h. subst (λ k. BeginsSafely (reading_by k Dropped c.args.pairs.now) y) same
     (BeginsSafely-to_come g.I.Iterator.can_next g.I.Iterator.next_gives g.I.Iterator.remaining c.args.pairs.now c.loop-bounds.decomposed here y h))
 
 pub returns-clause-passed : goal.returns-clause-passed

@@ -1,11 +1,12 @@
-use Rattle.normalizer_tables.specs.PairConditions.{composing_reading}
 use Rattle.normalizer_iterators.specs.Decomposition as decomposition
 use Rattle.normalizer_iterators.proofs.StarterLemmas.{ComposedSoFar}
+use Rattle.normalizer_tables.specs.Readings.{reading_by}
+use Rattle.normalizer_tables.specs.declared.characters.IgnoredCharacters.TheVariants.{Dropped}
 use Rattle.normalizer_iterators.proofs.composition.compose_starter.Given as goal
 
 abbrev pub invariant-loop-bounds : goal.invariant-loop-bounds
 invariant-loop-bounds g l =
-    ComposedSoFar g.I.Iterator.can_next g.I.Iterator.next_gives g.I.Iterator.remaining (composing_reading l.initial.decomposed.characters l.pairs)
+    ComposedSoFar g.I.Iterator.can_next g.I.Iterator.next_gives g.I.Iterator.remaining (reading_by l.initial.decomposed.characters Dropped l.pairs)
     l.fn.starter l.initial.decomposed l.composite l.decomposed l.marks
 
 abbrev pub decreases-loop-bounds : goal.decreases-loop-bounds

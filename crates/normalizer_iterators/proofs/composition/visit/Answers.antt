@@ -1,31 +1,32 @@
 use Rattle.std.proofs.Common.{◌+◌, sym, refl, ◌∙◌, arith}
 use Rattle.std.proofs.lemmas.Result.{err_from_is_err_and}
 use Rattle.normal_forms.specs.ShortRuns.{places}
-use Rattle.normalizer_tables.specs.PairConditions.{composing_reading}
+use Rattle.normalizer_tables.specs.declared.characters.IgnoredCharacters.TheVariants.{Dropped}
+use Rattle.normalizer_tables.specs.Readings.{reading_by}
 use Rattle.normalizer_iterators.specs.StayingMarks.{used}
-use Rattle.normalizer_iterators.proofs.ComposingLemmas.{class-composing_reading, pair-composing_reading}
-use Rattle.normalizer_iterators.proofs.LazyLemmas.{too_many}
+use Rattle.normalizer_iterators.proofs.LazyLemmas.{too_many, class-reading_by}
+use Rattle.normalizer_iterators.proofs.ComposingLemmas.{pair-reading_by}
 use Rattle.normalizer_iterators.proofs.composition.visit.Goals as goal
 
 pub returns-in-Some-clause-ok : goal.returns-in-Some-clause-ok
 returns-in-Some-clause-ok c = λ s known blocks.
-    let d = composing_reading s c.args.pairs.now in
-    let class = known ∙ sym (class-composing_reading s c.args.pairs.now c.args.given.character) in
-    let pair = sym (pair-composing_reading s c.args.pairs.now c.args.starter c.args.given.character) in
+    let d = reading_by s Dropped c.args.pairs.now in
+    let class = known ∙ sym (class-reading_by s Dropped c.args.pairs.now c.args.given.character) in
+    let pair = sym (pair-reading_by s Dropped c.args.pairs.now c.args.starter c.args.given.character) in
     (sym (c.join.ensures d blocks class pair) ∙ c.in-Some.is, refl)
 
 pub returns-then-given-eq0-clause-ok : goal.returns-then-given-eq0-clause-ok
 returns-then-given-eq0-clause-ok c = λ s known blocks.
-    let d = composing_reading s c.args.pairs.now in
-    let class = known ∙ sym (class-composing_reading s c.args.pairs.now c.args.given.character) in
-    let pair = sym (pair-composing_reading s c.args.pairs.now c.args.starter c.args.given.character) in
+    let d = reading_by s Dropped c.args.pairs.now in
+    let class = known ∙ sym (class-reading_by s Dropped c.args.pairs.now c.args.given.character) in
+    let pair = sym (pair-reading_by s Dropped c.args.pairs.now c.args.starter c.args.given.character) in
     (sym (c.join.ensures d blocks class pair) ∙ c.in_default.is, sym class ∙ c.if-given-eq0.true, refl)
 
 pub returns-clause-ok : goal.returns-clause-ok
 returns-clause-ok c = λ s known blocks.
-    let d = composing_reading s c.args.pairs.now in
-    let class = known ∙ sym (class-composing_reading s c.args.pairs.now c.args.given.character) in
-    let pair = sym (pair-composing_reading s c.args.pairs.now c.args.starter c.args.given.character) in (
+    let d = reading_by s Dropped c.args.pairs.now in
+    let class = known ∙ sym (class-reading_by s Dropped c.args.pairs.now c.args.given.character) in
+    let pair = sym (pair-reading_by s Dropped c.args.pairs.now c.args.starter c.args.given.character) in (
       sym (c.join.ensures d blocks class pair) ∙ c.in_default.is,
       omega (arith, class, c.if-given-eq0.false),
       c.in_ok-push.ensures.staying,

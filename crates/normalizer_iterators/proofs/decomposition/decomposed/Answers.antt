@@ -1,8 +1,9 @@
+use Rattle.std.proofs.Common.{[]}
 use Rattle.normal_forms.specs.Forms.{nfd}
 use Rattle.normal_forms.specs.ShortRuns.{HasShortRuns}
 use Rattle.normalizer_tables.specs.Characters.{has_class_form}
+use Rattle.normalizer_tables.specs.Readings.{reading_by}
 use Rattle.normalizer_iterators.specs.Decomposition.{WillGive, StaysShort, DecompositionSteps}
-use Rattle.normalizer_iterators.specs.LazyReading.{decomposing_reading}
 use Rattle.normalizer_iterators.proofs.ItemLemmas.{GivesForm-made, SpellsOk-decomposition, SpellsUnless-decomposition}
 use Rattle.normalizer_iterators.proofs.decomposition.decomposed.Goals as goal
 
@@ -13,6 +14,6 @@ returns-clause-form g c =
     let left = g.I.Iterator.remaining in
     let made = c.over.ensures in
     GivesForm-made gives (WillGive gives) (StaysShort gives) (DecompositionSteps can gives left) (SpellsUnless-decomposition can gives left) (SpellsOk-decomposition can gives left)
-    (has_class_form c.args.characters) (decomposing_reading c.args.characters c.args.ignored) nfd c.args.delegate
-    (HasShortRuns (has_class_form c.args.characters) (decomposing_reading c.args.characters c.args.ignored)) (λ x runs. runs)
+    (has_class_form c.args.characters) (reading_by c.args.characters c.args.ignored []) nfd c.args.delegate
+    (HasShortRuns (has_class_form c.args.characters) (reading_by c.args.characters c.args.ignored [])) (λ x runs. runs)
     c.over.result made.text made.short made.succeeds made.refused

@@ -1,39 +1,39 @@
-use Rattle.std.proofs.Common.{length, ◌+◌, sym, ap, ◌∙◌, arith}
+use Rattle.std.proofs.Common.{length, ◌+◌, sym, ap, ◌∙◌, arith, []}
 use Rattle.std.proofs.lemmas.Result.{err_from_is_err_and}
 use Rattle.normal_forms.specs.ShortRuns.{places}
 use Rattle.normalizer_tables.specs.Characters.{has_class_form}
-use Rattle.normalizer_iterators.specs.LazyReading.{decomposing_reading}
-use Rattle.normalizer_iterators.proofs.LazyLemmas.{class-decomposing_reading, list-decomposing_reading, anew-parts, too_many}
+use Rattle.normalizer_tables.specs.Readings.{reading_by}
+use Rattle.normalizer_iterators.proofs.LazyLemmas.{anew-parts, too_many, class-reading_by, list-reading_by}
 use Rattle.normalizer_iterators.proofs.ReadingLemmas.{no_member, ReadsChunk-from, ChunkDidNotFit-members, ChunkDidNotFit-behind}
 use Rattle.normalizer_iterators.proofs.decomposition.read_chunk.Goals as goal
 
 pub unreachable-requires : goal.unreachable-requires
 unreachable-requires g c =
     let f = has_class_form c.args.characters.now in
-    let d = decomposing_reading c.args.characters.now c.args.ignored in
+    let d = reading_by c.args.characters.now c.args.ignored [] in
     let some = anew-parts f d c.args.read.character c.requires.anew in
-    let is = c.members_by-members.ensures ∙ sym (list-decomposing_reading c.args.characters.now c.args.ignored c.args.read.character) ∙ some.3 in
+    let is = c.members_by-members.ensures ∙ sym (list-reading_by c.args.characters.now c.args.ignored [] c.args.read.character) ∙ some.3 in
     no_member _ 0 (omega (arith, ap length is)) (sym c.in_default.is ∙ c.get.ensures)
 
 pub push_from-requires : goal.push_from-requires
 push_from-requires g c =
     let f = has_class_form c.args.characters.now in
-    let d = decomposing_reading c.args.characters.now c.args.ignored in
+    let d = reading_by c.args.characters.now c.args.ignored [] in
     let some = anew-parts f d c.args.read.character c.requires.anew in
-    let is = c.members_by-members.ensures ∙ sym (list-decomposing_reading c.args.characters.now c.args.ignored c.args.read.character) ∙ some.3 in
+    let is = c.members_by-members.ensures ∙ sym (list-reading_by c.args.characters.now c.args.ignored [] c.args.read.character) ∙ some.3 in
     omega (arith, ap length is)
 
 pub read_on-requires : goal.read_on-requires
 read_on-requires g c =
-    let d = decomposing_reading c.args.characters.now c.args.ignored in
-    let same = class-decomposing_reading c.args.characters.now c.args.ignored in
+    let d = reading_by c.args.characters.now c.args.ignored [] in
+    let same = class-reading_by c.args.characters.now c.args.ignored [] in
     record { ready = c.requires.ready; words = c.requires.words; classes = c.in_ok-push_from.ensures.classes d same (c.clear.ensures.classes d) }
 
 pub returns-in_err-push_from-clause-err : goal.returns-in_err-push_from-clause-err
 returns-in_err-push_from-clause-err g c =
     let f = has_class_form c.args.characters.now in
-    let d = decomposing_reading c.args.characters.now c.args.ignored in
-    let is = c.members_by-members.ensures ∙ sym (list-decomposing_reading c.args.characters.now c.args.ignored c.args.read.character) in
+    let d = reading_by c.args.characters.now c.args.ignored [] in
+    let is = c.members_by-members.ensures ∙ sym (list-reading_by c.args.characters.now c.args.ignored [] c.args.read.character) in
     let long = too_many _ (places + 1) c.in_err-push_from.ensures.succeeds in
     let exit = err_from_is_err_and c.from_residual.result c.from_residual.ensures.1 in
     rw exit.1 (λ before read. ChunkDidNotFit-members g.I.Iterator.next_gives f d c.args.read.character _ before is (omega (arith, long, c.clear.ensures.held)))
@@ -41,8 +41,8 @@ returns-in_err-push_from-clause-err g c =
 pub returns-in_err-pending-clause-err : goal.returns-in_err-pending-clause-err
 returns-in_err-pending-clause-err g c =
     let f = has_class_form c.args.characters.now in
-    let d = decomposing_reading c.args.characters.now c.args.ignored in
-    let is = c.members_by-members.ensures ∙ sym (list-decomposing_reading c.args.characters.now c.args.ignored c.args.read.character) in
+    let d = reading_by c.args.characters.now c.args.ignored [] in
+    let is = c.members_by-members.ensures ∙ sym (list-reading_by c.args.characters.now c.args.ignored [] c.args.read.character) in
     let exit = err_from_is_err_and c.from_residual-in_err-pending.result c.from_residual-in_err-pending.ensures.1 in
     rw exit.1
     (λ before read.
@@ -52,9 +52,9 @@ returns-in_err-pending-clause-err g c =
 pub returns-clause-ok : goal.returns-clause-ok
 returns-clause-ok g c =
     let f = has_class_form c.args.characters.now in
-    let d = decomposing_reading c.args.characters.now c.args.ignored in
-    let same = class-decomposing_reading c.args.characters.now c.args.ignored in
-    let is = c.members_by-members.ensures ∙ sym (list-decomposing_reading c.args.characters.now c.args.ignored c.args.read.character) in
+    let d = reading_by c.args.characters.now c.args.ignored [] in
+    let same = class-reading_by c.args.characters.now c.args.ignored [] in
+    let is = c.members_by-members.ensures ∙ sym (list-reading_by c.args.characters.now c.args.ignored [] c.args.read.character) in
     λ before read.
     ReadsChunk-from g.I.Iterator.can_next g.I.Iterator.next_gives g.I.Iterator.remaining f d c.args.read.character c.in-Some.first _ before _ _ _ _ _ is c.in-Some.ensures
     c.clear.ensures.ordered c.clear.ensures.unordered

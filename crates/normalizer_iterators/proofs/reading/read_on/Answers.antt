@@ -1,9 +1,9 @@
-use Rattle.std.proofs.Common.{◌≡◌, length, sym, ap, ◌∙◌, arith, true}
+use Rattle.std.proofs.Common.{◌≡◌, length, sym, ap, ◌∙◌, arith, true, []}
 use Rattle.std.proofs.lemmas.Result.{err_from_is_err_and}
 use Rattle.normal_forms.specs.ShortRuns.{places, continues}
 use Rattle.normalizer_tables.specs.Characters.{has_class_form}
-use Rattle.normalizer_iterators.specs.LazyReading.{decomposing_reading}
-use Rattle.normalizer_iterators.proofs.LazyLemmas.{class-decomposing_reading, list-decomposing_reading, continues-else, too_many}
+use Rattle.normalizer_tables.specs.Readings.{reading_by}
+use Rattle.normalizer_iterators.proofs.LazyLemmas.{continues-else, too_many, class-reading_by, list-reading_by}
 use Rattle.normalizer_iterators.proofs.ReadingLemmas.{ReadsAhead-none, ReadsAhead-more, ReadsAhead-refused}
 use Rattle.normalizer_iterators.proofs.reading.read_on.Goals as goal
 
@@ -17,10 +17,10 @@ pub loop-next-preserved : goal.loop-next-preserved
 loop-next-preserved g c =
     let s = c.args.characters.now in
     let f = has_class_form s in
-    let d = decomposing_reading s c.args.ignored in
+    let d = reading_by s c.args.ignored [] in
     let ahead = rw c.in-Some.is at c.loop-next.invariant.ahead in
-    let same = class-decomposing_reading s c.args.ignored in
-    let members = list-decomposing_reading s c.args.ignored c.in-Some.read.character in
+    let same = class-reading_by s c.args.ignored [] in
+    let members = list-reading_by s c.args.ignored [] c.in-Some.read.character in
     let continuing : continues f d c.in-Some.read.character ≡ true = continues-else f d c.in-Some.read.character (λ anew. sym c.if-begins_anew.false ∙ c.begins_anew.ensures.1 anew) in
     let pushed = c.in_ok-push_list.ensures in
     record {
@@ -38,9 +38,9 @@ pub returns-in_err-push_list-clause-err : goal.returns-in_err-push_list-clause-e
 returns-in_err-push_list-clause-err g c =
     let s = c.args.characters.now in
     let f = has_class_form s in
-    let d = decomposing_reading s c.args.ignored in
+    let d = reading_by s c.args.ignored [] in
     let ahead = rw c.in-Some.is at c.loop-next.invariant.ahead in
-    let members = list-decomposing_reading s c.args.ignored c.in-Some.read.character in
+    let members = list-reading_by s c.args.ignored [] c.in-Some.read.character in
     let continuing : continues f d c.in-Some.read.character ≡ true = continues-else f d c.in-Some.read.character (λ anew. sym c.if-begins_anew.false ∙ c.begins_anew.ensures.1 anew) in
     let long = too_many _ places c.in_err-push_list.ensures.succeeds in
     let exit = err_from_is_err_and c.from_residual.result c.from_residual.ensures.1 in

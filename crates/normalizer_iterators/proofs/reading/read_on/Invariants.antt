@@ -1,6 +1,7 @@
+use Rattle.std.proofs.Common.{[]}
 use Rattle.std.specs.Iterator.{size}
 use Rattle.normalizer_tables.specs.Characters.{has_class_form}
-use Rattle.normalizer_iterators.specs.LazyReading.{decomposing_reading}
+use Rattle.normalizer_tables.specs.Readings.{reading_by}
 use Rattle.normalizer_iterators.specs.Reads.{character_of, HasOwnWords}
 use Rattle.normalizer_iterators.specs.ToCome.{reads_left}
 use Rattle.normalizer_iterators.proofs.ReadingLemmas.{ReadsAhead}
@@ -10,7 +11,7 @@ abbrev pub invariant-loop-next : goal.invariant-loop-next
 invariant-loop-next g l = record {
   ahead :
       ReadsAhead g.I.Iterator.can_next g.I.Iterator.next_gives g.I.Iterator.remaining (has_class_form l.characters)
-      (decomposing_reading l.characters l.ignored) (character_of l.fn.first) l.initial.delegate l.initial.waiting (character_of l.next) l.delegate l.waiting;
+      (reading_by l.characters l.ignored []) (character_of l.fn.first) l.initial.delegate l.initial.waiting (character_of l.next) l.delegate l.waiting;
   words : HasOwnWords l.characters l.next;
 }
 

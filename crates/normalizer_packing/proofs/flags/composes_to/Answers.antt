@@ -1,7 +1,7 @@
 use Rattle.std.proofs.Common.{◌≤◌, ◌∷◌, [], length, refl, sym, ap, ◌∙◌, arith, eqb-true, eq-eqb}
 use Rattle.std.proofs.lemmas.Option.{slice_get_read}
 use Rattle.normalizer_tables.proofs.CompositionLemmas.{compose-first, compose-empty, compose_from-joined, compose_from-kept, compose_from-end}
-use Rattle.normalizer_packing.specs.Entries.{composing_reading}
+use Rattle.normalizer_packing.specs.Entries.{reading_of_entries}
 use Rattle.normalizer_packing.proofs.flags.composes_to.Goals as goal
 
 pub returns-in_default : goal.returns-in_default
@@ -23,5 +23,5 @@ loop-place-preserved c =
 pub returns : goal.returns
 returns c =
     let past : length c.args.list.now ≤ c.loop-place.place = omega arith in
-    let whole = sym (compose_from-end (composing_reading c.args.entries.now c.args.compositions.now) c.args.list.now c.loop-place.place c.loop-place.composite past) ∙ c.loop-place.invariant in
+    let whole = sym (compose_from-end (reading_of_entries c.args.entries.now c.args.compositions.now) c.args.list.now c.loop-place.place c.loop-place.composite past) ∙ c.loop-place.invariant in
     (λ same. sym whole ∙ ap (λ m. m ∷ []) (eqb-true _ _ same), λ alone. let both = whole ∙ alone in eq-eqb _ _ (cc))

@@ -1,10 +1,10 @@
 use Rattle.std.proofs.Common.{◌≡◌, [], ◌∷◌, drop}
 use Rattle.normal_forms.specs.Composition.{compose, compose_from}
-use Rattle.normalizer_packing.specs.Entries.{composing_reading}
+use Rattle.normalizer_packing.specs.Entries.{reading_of_entries}
 use Rattle.normalizer_packing.proofs.flags.composes_to.Given as goal
 
 -- what is left composes behind the composite as the whole list does
 abbrev pub invariant-loop-place : goal.invariant-loop-place
 invariant-loop-place l =
-    let d = composing_reading l.entries l.compositions in
+    let d = reading_of_entries l.entries l.compositions in
     compose_from d (l.composite ∷ []) (drop l.place l.list) ≡ compose d l.list

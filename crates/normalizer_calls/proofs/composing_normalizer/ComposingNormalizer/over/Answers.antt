@@ -1,13 +1,13 @@
 use Rattle.std.proofs.Common.{refl}
 use Rattle.normalizer_tables.specs.Conditions.{IsFirstFailing}
-use Rattle.normalizer_calls.specs.Acceptance.{data_from}
+use Rattle.normalizer_tables.specs.Characters.{characters_from}
 use Rattle.normalizer_calls.specs.ComposingAcceptance.{SuitsComposing}
 use Rattle.normalizer_calls.proofs.AcceptedData.{ServesComposing-met}
 use Rattle.normalizer_calls.proofs.composing_normalizer.ComposingNormalizer.over.Goals as goal
 use Rattle.normalizer_calls.proofs.composing_normalizer.ComposingNormalizer.over.Goals.{In-None}
 
 -- the data and the pairs that were handed in meet the conditions
-met : (c : In-None) → SuitsComposing (data_from c.args.decompositions c.args.tables c.args.supplementary, c.args.pairs)
+met : (c : In-None) → SuitsComposing (characters_from c.args.decompositions c.args.tables c.args.supplementary, c.args.pairs)
 unfolding IsFirstFailing
 met c =
     let h = c.in-None.ensures in

@@ -1,12 +1,13 @@
 use Rattle.std.proofs.Common.{refl}
 use Rattle.normalizer_tables.specs.Conditions.{IsFirstFailing}
-use Rattle.normalizer_calls.specs.Acceptance.{data_from, SuitsDecomposing}
+use Rattle.normalizer_tables.specs.Characters.{characters_from}
+use Rattle.normalizer_calls.specs.Acceptance.{SuitsDecomposing}
 use Rattle.normalizer_calls.proofs.AcceptedData.{ServesDecomposing-met}
 use Rattle.normalizer_calls.proofs.normalizer.DecomposingNormalizer.over.Goals as goal
 use Rattle.normalizer_calls.proofs.normalizer.DecomposingNormalizer.over.Goals.{In-None}
 
 -- the data that were handed in meet the conditions
-met : (c : In-None) → SuitsDecomposing (data_from c.args.decompositions c.args.tables c.args.supplementary)
+met : (c : In-None) → SuitsDecomposing (characters_from c.args.decompositions c.args.tables c.args.supplementary)
 unfolding IsFirstFailing
 met c =
     let h = c.in-None.ensures in

@@ -1,10 +1,10 @@
-use Rattle.std.proofs.Common.{◌++◌, ap, sym, ◌∙◌}
+use Rattle.std.proofs.Common.{◌++◌, ap, sym, ◌∙◌, []}
 use Rattle.normal_forms.specs.Forms.{nfd}
 use Rattle.normal_forms.specs.CompositionByStarters.{compose_by_starters}
 use Rattle.normalizer_tables.specs.Characters.{has_class_form}
-use Rattle.normalizer_tables.specs.PairConditions.{composing_reading}
-use Rattle.normalizer_iterators.specs.LazyReading.{decomposing_reading}
-use Rattle.normalizer_iterators.proofs.ComposingLemmas.{nfc-reading_by, HasShortMarkRuns-composing_reading}
+use Rattle.normalizer_tables.specs.Readings.{reading_by}
+use Rattle.normalizer_tables.specs.declared.characters.IgnoredCharacters.TheVariants.{Dropped}
+use Rattle.normalizer_iterators.proofs.ComposingLemmas.{nfc-reading_by, HasShortMarkRuns-reading_by}
 use Rattle.normalizer_iterators.proofs.ShortChunkLemmas.{HasShortMarkRuns-nfd}
 use Rattle.normalizer_iterators.specs.declared.composition.Ahead.TheVariants.{NoStarter}
 use Rattle.normalizer_iterators.proofs.CompositionLemmas.{behind_by, short_by}
@@ -15,24 +15,24 @@ returns-clause-text g c = λ x spelled.
     let s = c.args.characters in
     let ignored = c.args.ignored in
     let pairs = c.args.pairs.now in
-    let y = nfd (decomposing_reading s ignored) x in
-    behind_by g.I.Iterator.can_next g.I.Iterator.next_gives g.I.Iterator.remaining _ (composing_reading s pairs) _ NoStarter _ _
-    (ap (λ k. composing_reading k pairs) c.in_ok-over.ensures.kept.0) (record {
+    let y = nfd (reading_by s ignored []) x in
+    behind_by g.I.Iterator.can_next g.I.Iterator.next_gives g.I.Iterator.remaining _ (reading_by s Dropped pairs) _ NoStarter _ _
+    (ap (λ k. reading_by k Dropped pairs) c.in_ok-over.ensures.kept.0) (record {
       unread = y;
       source = c.in_ok-over.ensures.text x spelled;
       text =
           nfc-reading_by s ignored pairs c.requires.composing.starters x
-          ∙ ap (λ l. l ++ compose_by_starters (composing_reading s pairs) y) (sym c.new-marks.ensures.staying);
+          ∙ ap (λ l. l ++ compose_by_starters (reading_by s Dropped pairs) y) (sym c.new-marks.ensures.staying);
     })
 
 pub returns-clause-short : goal.returns-clause-short
 returns-clause-short g c = λ x spelled runs.
     let s = c.args.characters in
     let ignored = c.args.ignored in
-    short_by g.I.Iterator.can_next g.I.Iterator.next_gives g.I.Iterator.remaining _ (composing_reading s c.args.pairs.now) NoStarter _
-    (ap (λ k. composing_reading k c.args.pairs.now) c.in_ok-over.ensures.kept.0) (record {
-      unread = nfd (decomposing_reading s ignored) x;
+    short_by g.I.Iterator.can_next g.I.Iterator.next_gives g.I.Iterator.remaining _ (reading_by s Dropped c.args.pairs.now) NoStarter _
+    (ap (λ k. reading_by k Dropped c.args.pairs.now) c.in_ok-over.ensures.kept.0) (record {
+      unread = nfd (reading_by s ignored []) x;
       source = c.in_ok-over.ensures.text x spelled;
       short = c.in_ok-over.ensures.short x spelled runs;
-      runs = HasShortMarkRuns-composing_reading s ignored c.args.pairs.now _ (HasShortMarkRuns-nfd (has_class_form s) (decomposing_reading s ignored) c.requires.reading x runs);
+      runs = HasShortMarkRuns-reading_by s ignored c.args.pairs.now _ (HasShortMarkRuns-nfd (has_class_form s) (reading_by s ignored []) c.requires.reading x runs);
     })

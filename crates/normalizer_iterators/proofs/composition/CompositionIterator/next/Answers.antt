@@ -1,8 +1,9 @@
 use Rattle.std.proofs.Common.{length, refl, sym, ap, ◌∙◌, arith, Ok}
-use Rattle.normalizer_iterators.proofs.ComposingLemmas.{class-composing_reading}
 use Rattle.normalizer_iterators.proofs.CompositionLemmas.{Steps-first_starter, Steps-leading_mark, Steps-end, Steps-fault, Steps-mark, Steps-ended, Steps-starter, Steps-marks}
 use Rattle.normalizer_iterators.proofs.CompositionLemmas.{Goes-item, Goes-marks, Goes-leading_mark, Goes-fault}
 use Rattle.normalizer_iterators.proofs.PassingLemmas.{IsAtPassed-stands}
+use Rattle.normalizer_iterators.proofs.LazyLemmas.{class-reading_by}
+use Rattle.normalizer_tables.specs.declared.characters.IgnoredCharacters.TheVariants.{Dropped}
 use Rattle.normalizer_iterators.proofs.composition.CompositionIterator.next.Goals as goal
 
 -- ---- a mark is given
@@ -81,7 +82,7 @@ pub returns-then-given-eq0-clause-steps : goal.returns-then-given-eq0-clause-ste
 returns-then-given-eq0-clause-steps g c =
     let s = c.args.self.now in
     let known = rw c.in-Some-Ok.field-0-is at c.in-Some-Ok.ensures.class in
-    let class = known ∙ sym (class-composing_reading s.decomposed.characters s.pairs.now c.in-Some-Ok.given.character) in
+    let class = known ∙ sym (class-reading_by s.decomposed.characters Dropped s.pairs.now c.in-Some-Ok.given.character) in
     let step = rw c.in-Some-Ok.field-0-is at c.in-Some-Ok.ensures.steps in
     Steps-first_starter g.I.Iterator.can_next g.I.Iterator.next_gives g.I.Iterator.remaining s (rw c.in-NoStarter.is tt) c.in_default.ensures.none.0 c.in-Some-Ok.given.character _ _ _ step
     (sym class ∙ c.if-given-eq0.true) c.compose_on-then-given-eq0.ensures
@@ -92,7 +93,7 @@ pub returns-else-given-eq0-clause-steps : goal.returns-else-given-eq0-clause-ste
 returns-else-given-eq0-clause-steps g c =
     let s = c.args.self.now in
     let known = rw c.in-Some-Ok.field-0-is at c.in-Some-Ok.ensures.class in
-    let class = known ∙ sym (class-composing_reading s.decomposed.characters s.pairs.now c.in-Some-Ok.given.character) in
+    let class = known ∙ sym (class-reading_by s.decomposed.characters Dropped s.pairs.now c.in-Some-Ok.given.character) in
     let step = rw c.in-Some-Ok.field-0-is at c.in-Some-Ok.ensures.steps in
     Steps-leading_mark g.I.Iterator.can_next g.I.Iterator.next_gives g.I.Iterator.remaining s (rw c.in-NoStarter.is tt) c.in_default.ensures.none.0 _ c.in-Some-Ok.given.character
     (record { kept = (step.kept.0, refl); marks = c.in_default.ensures.none.1; ahead = c.in-NoStarter.is }) step

@@ -1,8 +1,9 @@
+use Rattle.std.proofs.Common.{[]}
 use Rattle.normal_forms.specs.Forms.{nfc}
 use Rattle.normal_forms.specs.ShortRuns.{HasShortRuns}
 use Rattle.normalizer_tables.specs.Characters.{has_class_form}
+use Rattle.normalizer_tables.specs.Readings.{reading_by}
 use Rattle.normalizer_iterators.specs.Composition.{WillGive, StaysShort, CompositionSteps}
-use Rattle.normalizer_iterators.specs.LazyReading.{decomposing_reading, reading_by}
 use Rattle.normalizer_iterators.proofs.ComposingLemmas.{HasShortRuns-reading_by}
 use Rattle.normalizer_iterators.proofs.ItemLemmas.{GivesForm-made, SpellsOk-composition, SpellsUnless-composition}
 use Rattle.normalizer_iterators.proofs.composition.making.composed.Goals as goal
@@ -15,5 +16,5 @@ returns-clause-form g c =
     let s = c.args.characters in
     let made = c.over.ensures in
     GivesForm-made gives (WillGive gives) (StaysShort gives) (CompositionSteps can gives left) (SpellsUnless-composition can gives left) (SpellsOk-composition can gives left)
-    (has_class_form s) (reading_by s c.args.ignored c.args.pairs.now) nfc c.args.delegate (HasShortRuns (has_class_form s) (decomposing_reading s c.args.ignored))
+    (has_class_form s) (reading_by s c.args.ignored c.args.pairs.now) nfc c.args.delegate (HasShortRuns (has_class_form s) (reading_by s c.args.ignored []))
     (HasShortRuns-reading_by (has_class_form s) s c.args.ignored c.args.pairs.now) c.over.result made.text made.short made.succeeds made.refused

@@ -1,7 +1,7 @@
-use Rattle.std.proofs.Common.{◌≡◌, false, refl}
+use Rattle.std.proofs.Common.{◌≡◌, false, refl, []}
 use Rattle.normal_forms.specs.ShortRuns.{continues}
 use Rattle.normalizer_tables.specs.Characters.{has_class_form}
-use Rattle.normalizer_iterators.specs.LazyReading.{decomposing_reading}
+use Rattle.normalizer_tables.specs.Readings.{reading_by}
 use Rattle.normalizer_iterators.specs.Reads.{character_of}
 use Rattle.normalizer_iterators.specs.WaitingList.{AgreesWith}
 use Rattle.normalizer_iterators.proofs.DecompositionLemmas.{at_some}
@@ -11,7 +11,7 @@ use Rattle.normalizer_iterators.proofs.decomposition.Decomposition.next_chunk.Go
 pub returns-then-stands_alone-clause-ok : goal.returns-then-stands_alone-clause-ok
 returns-then-stands_alone-clause-ok g c = λ before read.
     let s = c.args.self.now in
-    ReadsChunk-alone g.I.Iterator.can_next g.I.Iterator.next_gives g.I.Iterator.remaining (has_class_form s.characters) (decomposing_reading s.characters s.ignored) c.args.read.character before
+    ReadsChunk-alone g.I.Iterator.can_next g.I.Iterator.next_gives g.I.Iterator.remaining (has_class_form s.characters) (reading_by s.characters s.ignored []) c.args.read.character before
     s.delegate (character_of c.args.following) s.waiting (c.stands_alone.ensures c.if-stands_alone.true) read c.requires.ready c.requires.empty s.settled
 
 pub invariant_of-self : goal.invariant_of-self
@@ -20,7 +20,7 @@ invariant_of-self g c =
     let alone = c.stands_alone.ensures c.if-stands_alone.true in
     record {
       suits = s.suits;
-      anew = at_some (character_of c.args.following) (λ b. continues (has_class_form s.characters) (decomposing_reading s.characters s.ignored) b ≡ false) alone.anew;
+      anew = at_some (character_of c.args.following) (λ b. continues (has_class_form s.characters) (reading_by s.characters s.ignored []) b ≡ false) alone.anew;
       word = c.requires.words;
       settled = s.settled;
       classes = s.classes;
@@ -36,7 +36,7 @@ invariant_of-self-in-Ok g c =
     let chunk = c.in-Ok.ensures.ok c.requires.read.0 c.requires.read.1 in
     record {
       suits = s.suits;
-      anew = at_some (character_of c.in-Ok.pending) (λ b. continues (has_class_form s.characters) (decomposing_reading s.characters s.ignored) b ≡ false) chunk.anew;
+      anew = at_some (character_of c.in-Ok.pending) (λ b. continues (has_class_form s.characters) (reading_by s.characters s.ignored []) b ≡ false) chunk.anew;
       word = c.in-Ok.ensures.words;
       settled = chunk.settled;
       classes = c.in-Ok.ensures.classes;
@@ -51,5 +51,5 @@ invariant_of-self-in-Err g c =
       anew = s.anew;
       word = s.word;
       settled = c.clear.ensures.unordered;
-      classes = c.clear.ensures.classes (decomposing_reading s.characters s.ignored);
+      classes = c.clear.ensures.classes (reading_by s.characters s.ignored []);
     }

@@ -1,9 +1,9 @@
-use Rattle.std.proofs.Common.{refl, sym, ap, ◌∙◌, Ok, Err}
-use Rattle.normalizer_iterators.specs.LazyReading.{decomposing_reading}
+use Rattle.std.proofs.Common.{refl, sym, ap, ◌∙◌, Ok, Err, []}
 use Rattle.normalizer_iterators.specs.Reads.{character_of}
 use Rattle.normalizer_iterators.specs.WaitingList.{AgreesWith}
 use Rattle.normalizer_iterators.proofs.DecompositionLemmas.{Steps-ended, Steps-read, Goes-read, class-first, nothing_read, ready_behind}
 use Rattle.normalizer_iterators.proofs.ReadingLemmas.{HasRead-as}
+use Rattle.normalizer_tables.specs.Readings.{reading_by}
 use Rattle.normalizer_iterators.proofs.decomposition.Decomposition.next_with_class.Goals as goal
 
 pub invariant_of-self : goal.invariant_of-self
@@ -15,12 +15,12 @@ invariant_of-self g c =
       anew = s.anew;
       word = s.word;
       settled = c.pop_front.ensures.unordered ∙ s.settled;
-      classes = c.pop_front.ensures.classes (decomposing_reading s.characters s.ignored) s.classes;
+      classes = c.pop_front.ensures.classes (reading_by s.characters s.ignored []) s.classes;
     }
 
 pub returns-in-Some-clause-class : goal.returns-in-Some-clause-class
 unfolding AgreesWith
-returns-in-Some-clause-class g c = let s = c.args.self.now in c.in-Some.ensures.class (decomposing_reading s.characters s.ignored) s.classes
+returns-in-Some-clause-class g c = let s = c.args.self.now in c.in-Some.ensures.class (reading_by s.characters s.ignored []) s.classes
 
 pub invariant_of-self-in-Break-1 : goal.invariant_of-self-in-Break-1
 unfolding AgreesWith
@@ -31,7 +31,7 @@ invariant_of-self-in-Break-1 g c =
       anew = λ x e. nothing_read _ c.take.ensures.after x e;
       word = λ r e. cc (e, c.take.ensures.after);
       settled = c.pop_front.ensures.unordered ∙ s.settled;
-      classes = c.pop_front.ensures.classes (decomposing_reading s.characters s.ignored) s.classes;
+      classes = c.pop_front.ensures.classes (reading_by s.characters s.ignored []) s.classes;
     }
 
 pub invariant_of-self-2 : goal.invariant_of-self-2
@@ -43,7 +43,7 @@ invariant_of-self-2 g c =
       anew = λ x e. nothing_read _ c.take.ensures.after x e;
       word = λ r e. cc (e, c.take.ensures.after);
       settled = c.pop_front.ensures.unordered ∙ s.settled;
-      classes = c.pop_front.ensures.classes (decomposing_reading s.characters s.ignored) s.classes;
+      classes = c.pop_front.ensures.classes (reading_by s.characters s.ignored []) s.classes;
     }
 
 pub returns-in_err-read-clause-steps : goal.returns-in_err-read-clause-steps

@@ -1,7 +1,7 @@
-use Rattle.std.proofs.Common.{◌≡◌, false}
+use Rattle.std.proofs.Common.{◌≡◌, false, []}
 use Rattle.normal_forms.specs.ShortRuns.{continues}
 use Rattle.normalizer_tables.specs.Characters.{has_class_form}
-use Rattle.normalizer_iterators.specs.LazyReading.{decomposing_reading}
+use Rattle.normalizer_tables.specs.Readings.{reading_by}
 use Rattle.normalizer_iterators.specs.Reads.{character_of}
 use Rattle.normalizer_iterators.specs.WaitingList.{AgreesWith}
 use Rattle.normalizer_iterators.proofs.DecompositionLemmas.{at_some}
@@ -54,7 +54,7 @@ invariant_of-result g c =
     let on = c.in-Ok.ensures.ok _ read in
     record {
       suits = c.requires.suits;
-      anew = at_some (character_of c.in-Ok.pending) (λ b. continues (has_class_form c.args.characters) (decomposing_reading c.args.characters c.args.ignored) b ≡ false) on.anew;
+      anew = at_some (character_of c.in-Ok.pending) (λ b. continues (has_class_form c.args.characters) (reading_by c.args.characters c.args.ignored []) b ≡ false) on.anew;
       word = c.in-Ok.ensures.words;
       settled = on.settled;
       classes = c.in-Ok.ensures.classes;

@@ -1,7 +1,7 @@
-use Rattle.std.proofs.Common.{◌≡◌, true, false, not, sym, ap, ◌∙◌, true≢false}
+use Rattle.std.proofs.Common.{◌≡◌, true, false, not, sym, ap, ◌∙◌, true≢false, []}
 use Rattle.normalizer_tables.specs.Characters.{has_class_form}
 use Rattle.normalizer_tables.specs.Words.{is_class_form}
-use Rattle.normalizer_iterators.specs.LazyReading.{decomposing_reading}
+use Rattle.normalizer_tables.specs.Readings.{reading_by}
 use Rattle.normalizer_iterators.proofs.LazyLemmas.{continues-anew, anew-parts}
 use Rattle.normalizer_iterators.proofs.read.ReadCharacter.begins_anew.Goals as goal
 
@@ -9,7 +9,7 @@ pub returns-then-not-is_class_form : goal.returns-then-not-is_class_form
 unfolding has_class_form
 returns-then-not-is_class_form c =
     let f = has_class_form c.args.characters.now in
-    let d = decomposing_reading c.args.characters.now c.args.ignored in
+    let d = reading_by c.args.characters.now c.args.ignored [] in
     let other : f c.args.self.character ≡ false = ap is_class_form (sym c.word_by-word.ensures) ∙ sym c.if-not-is_class_form.ensures in (
       λ some. continues-anew f d c.args.self.character other (c.has_members.ensures.0 some),
       λ anew. let parts = anew-parts f d c.args.self.character anew in c.has_members.ensures.1 (λ none. cc (sym none ∙ parts.3)),
@@ -19,7 +19,7 @@ pub returns-else-not-is_class_form : goal.returns-else-not-is_class_form
 unfolding has_class_form
 returns-else-not-is_class_form c =
     let f = has_class_form c.args.characters.now in
-    let d = decomposing_reading c.args.characters.now c.args.ignored in
+    let d = reading_by c.args.characters.now c.args.ignored [] in
     let form : f c.args.self.character ≡ true = ap is_class_form (sym c.word_by-word.ensures) ∙ sym c.is_class_form.ensures ∙ c.if-not-is_class_form.false in (
       λ some. absurd (true≢false (sym some ∙ ap not c.if-not-is_class_form.false)),
       λ anew. absurd (true≢false (sym form ∙ (anew-parts f d c.args.self.character anew).0)),

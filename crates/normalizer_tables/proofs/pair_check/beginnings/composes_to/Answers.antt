@@ -1,6 +1,7 @@
 use Rattle.std.proofs.Common.{◌≤◌, ◌∷◌, [], length, sym, ap, ◌∙◌, arith, eqb-true, eq-eqb}
-use Rattle.normalizer_tables.specs.PairConditions.{composing_reading}
 use Rattle.normalizer_tables.proofs.CompositionLemmas.{compose-first, compose-empty, compose_from-joined, compose_from-kept, compose_from-end}
+use Rattle.normalizer_tables.specs.Readings.{reading_by}
+use Rattle.normalizer_tables.specs.Ignored.{Dropped}
 use Rattle.normalizer_tables.proofs.pair_check.beginnings.composes_to.Goals as goal
 
 pub returns-in_default : goal.returns-in_default
@@ -18,5 +19,5 @@ loop-place-preserved c = compose_from-joined _ c.args.list.now _ _ _ _ c.at.ensu
 pub returns : goal.returns
 returns c =
     let past : length c.args.list.now ≤ c.loop-place.place = omega arith in
-    let whole = sym (compose_from-end (composing_reading c.args.data.now c.args.compositions.now) c.args.list.now c.loop-place.place c.loop-place.composite past) ∙ c.loop-place.invariant in
+    let whole = sym (compose_from-end (reading_by c.args.data.now Dropped c.args.compositions.now) c.args.list.now c.loop-place.place c.loop-place.composite past) ∙ c.loop-place.invariant in
     (λ same. sym whole ∙ ap (λ m. m ∷ []) (eqb-true _ _ same), λ alone. let both = whole ∙ alone in eq-eqb _ _ (cc))

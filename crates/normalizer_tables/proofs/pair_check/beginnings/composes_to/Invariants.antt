@@ -1,10 +1,11 @@
 use Rattle.std.proofs.Common.{◌≡◌, [], ◌∷◌, drop}
 use Rattle.normal_forms.specs.Composition.{compose, compose_from}
-use Rattle.normalizer_tables.specs.PairConditions.{composing_reading}
+use Rattle.normalizer_tables.specs.Readings.{reading_by}
+use Rattle.normalizer_tables.specs.Ignored.{Dropped}
 use Rattle.normalizer_tables.proofs.pair_check.beginnings.composes_to.Given as goal
 
 -- what is left composes behind the composite as the whole list does
 abbrev pub invariant-loop-place : goal.invariant-loop-place
 invariant-loop-place l =
-    let d = composing_reading l.data l.compositions in
+    let d = reading_by l.data Dropped l.compositions in
     compose_from d (l.composite ∷ []) (drop l.place l.list) ≡ compose d l.list

@@ -1,5 +1,4 @@
 -- Text whose form is made in parts: runs of characters that are handed on as they are, and what stands between them.
--- Private functions alone speak of it.
 use Rattle.std.specs.Prelude.{◌≡◌, ℕ, ◌+◌, ◌<◌, ◌⊎◌, Bool, true, false, not, ◌&&◌, ◌==◌, List, [], ◌∷◌, ◌++◌}
 use Rattle.std.specs.Prelude.{length, take, drop, All}
 use Rattle.normal_forms.specs.Reading.{Reading}

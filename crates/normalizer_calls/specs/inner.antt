@@ -1,0 +1,5 @@
+-- What the contracts of private functions alone cite.
+pub mod Offences
+pub mod Owned
+pub mod Passing
+pub mod Writing

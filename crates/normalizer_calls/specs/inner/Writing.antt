@@ -1,0 +1,34 @@
+-- What private functions tell that write a text to an output, or only a beginning of it.
+use Rattle.std.specs.Prelude.{◌≡◌, ℕ, ◌≤◌, ◌⊎◌, List, ◌++◌, length, Result, ⊤, OnOk, IsErrOf}
+use Rattle.normalizer_text.specs.Encodings.{Encoding, encoded_in}
+use Rattle.normalizer_iterators.specs.declared.error.NormalizeError.{NormalizeError}
+use Rattle.normalizer_iterators.specs.declared.error.NormalizeError.TheVariants.{Memory, Sink}
+use Rattle.normalizer_calls.specs.Writing.{TookBeginning}
+
+-- nothing is offered but characters, one by one
+abbrev pub NothingOffered : List ℕ → List ℕ → Type 0
+NothingOffered front piece = ⊥
+
+module _ {S : Type 0} (e : Encoding) (taken : S → List ℕ) where
+  -- a beginning of the text was taken, and then a piece that goes on with it was refused: at most one character, or
+  -- what was offered behind that beginning
+  pub record WasRefusedPiece (left : S → S → Type 0) (refuses : S → List ℕ → Type 0)
+      (offered : List ℕ → List ℕ → Type 0) (text : List ℕ) (old new : S) : Type 0 where
+    pub before : S
+    pub beginning : TookBeginning e taken text old before
+    pub piece : List ℕ
+    pub kind : (length piece ≤ 1) ⊎ offered beginning.front piece
+    pub rest : List ℕ
+    pub goes_on : beginning.rest ≡ piece ++ rest
+    pub known : refuses before (encoded_in e piece)
+    pub leaves : left before new
+
+  -- a text was written, or the output refused a piece, or memory was refused
+  pub record WritesText (refused left : S → S → Type 0) (refuses : S → List ℕ → Type 0)
+      (offered : List ℕ → List ℕ → Type 0) (text : List ℕ) (old : S) (answer : Result ⊤ NormalizeError) (new : S)
+      : Type 0 where
+    pub written : OnOk answer (taken new ≡ taken old ++ encoded_in e text)
+    pub ahead : OnOk answer ((later : S) → refused new later → refused old later)
+    pub fault : IsErrOf answer Sink → refused old new
+    pub refusal : IsErrOf answer Sink → WasRefusedPiece left refuses offered text old new
+    pub begun : IsErrOf answer Memory → TookBeginning e taken text old new
