@@ -1,48 +1,43 @@
 -- Data that a constructor accepts serve the calls.
-use Rattle.std.proofs.Common.{◌≡◌, ℕ, ◌<◌, List, [], arith, false, None}
+use Rattle.std.proofs.Common.{◌≡◌, ℕ, List, [], arith, false, None}
 use Rattle.std.specs.Prelude.{min}
 use Rattle.std.specs.Char.{IsScalar}
 use Rattle.normal_forms.specs.Order.{order}
-use Rattle.normal_forms.specs.Reading.{IsStarter, ReadsAsItself}
 use Rattle.normal_forms.specs.declared.Form.TheVariants.{Composing}
-use Rattle.normalizer_tables.specs.declared.condition.Condition.TheVariants.{Order, Passthrough}
+use Rattle.normalizer_tables.specs.declared.condition.Condition.TheVariants.{Order}
 use Rattle.normalizer_tables.specs.declared.condition.Bounds.{Bounds}
-use Rattle.normalizer_tables.specs.Conditions.{Holds, HoldsAt, IsPlainStarter}
+use Rattle.normalizer_tables.specs.Conditions.{Holds, HoldsAt}
 use Rattle.normalizer_tables.specs.Characters.{Characters, characters_from}
 use Rattle.normalizer_tables.specs.Data.{Decompositions, Lists}
 use Rattle.normalizer_tables.specs.Loaded.{IsMet}
 use Rattle.normalizer_tables.specs.NfdData.{IsSoundNfdData, nfd_bounds}
 use Rattle.normalizer_tables.specs.Pairs.{Pair}
 use Rattle.normalizer_tables.specs.Readings.{reading_by}
+use Rattle.normalizer_tables.specs.Unseen.{PassUnseenBelow}
 use Rattle.normalizer_tables.specs.declared.characters.IgnoredCharacters.TheVariants.{Dropped}
 use Rattle.normalizer_tables.proofs.LoadedLemmas.{IsAccepted-met, parts_met}
 use Rattle.normalizer_tables.proofs.AcceptedLaws.{SuitsTexts-accepted, SuitsTexts-accepted_pairs, SuitsTexts-handed_in}
-use Rattle.normalizer_tables.proofs.SoundLists.{reads_as_itself}
+use Rattle.normalizer_tables.proofs.UnseenLemmas.{PassUnseenBelow-accepted, PassUnseenBelow-handed_in}
 use Rattle.normalizer_calls.specs.Acceptance.{bounds_of, SuitsDecomposing}
 use Rattle.normalizer_calls.specs.ComposingAcceptance.{SuitsComposing}
 use Rattle.normalizer_calls.specs.Serving.{ServesDecomposing, ServesComposing}
 use Rattle.normalizer_calls.proofs.SoundPairs.{SuitsLazyComposing-met}
 use Rattle.normalizer_iterators.proofs.SoundData.{SuitsLazyReading-nfd, SuitsLazyReading-sound}
 
--- a character below the bound is a starter that reads as itself: condition 10
-below_bound : (s : Characters) (b : Bounds) → Holds s b Passthrough → (c : ℕ) → IsScalar c → c < b.decomposition → ReadsAsItself (reading_by s Dropped []) c × IsStarter (reading_by s Dropped []) c
-unfolding Holds HoldsAt IsPlainStarter
-below_bound s b holds c scalar below = let plain = holds.1 c scalar below in (reads_as_itself s [] c plain.0, plain.1)
-
 -- the list of a character is in canonical order: condition 9
 list_ordered : (s : Characters) (b : Bounds) → Holds s b Order → (c : ℕ) → IsScalar c → order (reading_by s Dropped []) ((reading_by s Dropped []).list c) ≡ (reading_by s Dropped []).list c
 unfolding Holds HoldsAt
 list_ordered s b holds c scalar = (holds.1 c scalar).ordered
 
-below_least : (cap limit c : ℕ) → c < min cap limit → c < limit
-below_least cap limit c below = omega arith
+below_least : (s : Characters) (cap limit : ℕ) → PassUnseenBelow s limit → PassUnseenBelow s (min cap limit)
+below_least s cap limit unseen = λ c scalar below. unseen c scalar (omega arith)
 
 pub ServesDecomposing-met : (s : Characters) → s.is_mapper ≡ false → SuitsDecomposing s → ServesDecomposing s
 ServesDecomposing-met s plain met =
     let accepted = IsAccepted-met s met in
     record {
       reading = SuitsLazyReading-sound s _ (accepted 8 Order (omega arith));
-      below = below_bound s (bounds_of s.decompositions) (accepted 9 Passthrough (omega arith));
+      unseen = PassUnseenBelow-accepted s (bounds_of s.decompositions) accepted;
       ordered = list_ordered s (bounds_of s.decompositions) (accepted 8 Order (omega arith));
       laws = SuitsTexts-accepted s (bounds_of s.decompositions) plain accepted;
     }
@@ -53,6 +48,7 @@ ServesComposing-met s pairs plain met =
     record {
       reading = SuitsLazyReading-sound s _ (parts.0 8 Order (omega arith));
       composing = SuitsLazyComposing-met s pairs parts.0 parts.1;
+      unseen = PassUnseenBelow-accepted s (bounds_of s.decompositions) parts.0;
       laws = SuitsTexts-accepted_pairs s (bounds_of s.decompositions) pairs parts.0 plain parts.1 Composing;
     }
 
@@ -61,7 +57,7 @@ pub ServesDecomposing-handed_in : (decompositions : Decompositions) (tables : Li
 unfolding IsMet
 ServesDecomposing-handed_in decompositions tables sound = record {
   reading = SuitsLazyReading-nfd decompositions tables sound;
-  below = λ c scalar below. below_bound (characters_from decompositions tables None) nfd_bounds (sound 8 Passthrough (omega arith)).0 c scalar (below_least decompositions.cap 0xC0 c below);
+  unseen = below_least (characters_from decompositions tables None) decompositions.cap 0xC0 (PassUnseenBelow-handed_in decompositions tables sound);
   ordered = list_ordered (characters_from decompositions tables None) nfd_bounds (sound 7 Order (omega arith)).0;
   laws = SuitsTexts-handed_in decompositions tables sound;
 }

@@ -14,6 +14,7 @@ use Rattle.normalizer_tables.proofs.AcceptedLaws.{IsSoundData-accepted, SuitsMap
 use Rattle.normalizer_tables.proofs.ListLengths.{length-list_of}
 use Rattle.normalizer_tables.proofs.LoadedLemmas.{parts_met}
 use Rattle.normalizer_tables.proofs.SoundLists.{BeginsWithStarter-list_of}
+use Rattle.normalizer_tables.proofs.UnseenLemmas.{PassUnseenBelow-accepted}
 use Rattle.normalizer_iterators.specs.LazyReading.{SuitsLazyReading}
 use Rattle.normalizer_calls.specs.Acceptance.{bounds_of}
 use Rattle.normalizer_calls.specs.ComposingAcceptance.{SuitsComposing}
@@ -42,5 +43,6 @@ ServesMapper-met s pairs met =
     record {
       reading = SuitsLazyReading-either s b (IsSoundData-accepted s b parts.0);
       composing = SuitsLazyComposing-met s pairs parts.0 parts.1;
+      unseen = PassUnseenBelow-accepted s b parts.0;
       laws = SuitsMapper-accepted s b pairs parts.0 parts.1;
     }

@@ -22,6 +22,7 @@ use Rattle.normalizer_tables.specs.PairConditions.{is_passed}
 use Rattle.normalizer_tables.specs.Pairs.{Pair}
 use Rattle.normalizer_tables.specs.Words.{is_backward_combining, is_non_round_trip, is_plain}
 use Rattle.normalizer_tables.specs.Readings.{reading_by}
+use Rattle.normalizer_tables.specs.Unseen.{PassUnseenBelow}
 use Rattle.normalizer_tables.proofs.ConditionLemmas.{class_of-plain}
 use Rattle.normalizer_tables.proofs.PlainCharacters.{list_of-plain_word}
 use Rattle.normalizer_calls.specs.Acceptance.{bounds_of}
@@ -41,10 +42,10 @@ MayPass-itself d c itself starter = record {
 }
 
 -- a character below the bound, or whose word is 0, flags aside, passes where text is decomposed
-pub MayPass-decomposed : (s : Characters) (bound : ℕ) → ((c : ℕ) → IsScalar c → c < bound → ReadsAsItself (reading_by s Dropped []) c × IsStarter (reading_by s Dropped []) c)
-    → (c : ℕ) → IsScalar c → (nat_lt c bound || is_plain (word_of s c)) ≡ true → MayPass (reading_by s Dropped []) Decomposing false c
-MayPass-decomposed s bound below c scalar passes = elim (cases_lt c bound) [
-  | inl low ↦ let starter = below c scalar low in MayPass-itself (reading_by s Dropped []) c starter.0 starter.1
+pub MayPass-decomposed : (s : Characters) (bound : ℕ) → PassUnseenBelow s bound → (c : ℕ) → IsScalar c → (nat_lt c bound || is_plain (word_of s c)) ≡ true
+    → MayPass (reading_by s Dropped []) Decomposing false c
+MayPass-decomposed s bound unseen c scalar passes = elim (cases_lt c bound) [
+  | inl low ↦ let low_starter = unseen c scalar low in MayPass-itself (reading_by s Dropped []) c (low_starter.itself []) low_starter.starter
   | inr high ↦
       let plain : is_plain (word_of s c) ≡ true = sym (ap (λ b. b || is_plain (word_of s c)) (le-ltb c bound high)) ∙ passes in
       MayPass-itself (reading_by s Dropped []) c (list_of-plain_word s [] c scalar plain) (class_of-plain s c scalar plain)
@@ -63,7 +64,7 @@ pub BeginsApart-decomposed : (s : Characters) → ServesDecomposing s → (c : �
     → (nat_lt c (bounds_of s.decompositions).decomposition || not (has_class_form s c)) ≡ true → BeginsApart (reading_by s Dropped []) Decomposing c
 unfolding normal_form
 BeginsApart-decomposed s serves c scalar begins = elim (cases_lt c (bounds_of s.decompositions).decomposition) [
-  | inl low ↦ let starter = serves.below c scalar low in (MayPass-itself (reading_by s Dropped []) c starter.0 starter.1).begins
+  | inl low ↦ let low_starter = serves.unseen c scalar low in (MayPass-itself (reading_by s Dropped []) c (low_starter.itself []) low_starter.starter).begins
   | inr high ↦
       let d = reading_by s Dropped [] in
       let other : not (has_class_form s c) ≡ true = sym (ap (λ b. b || not (has_class_form s c)) (le-ltb c (bounds_of s.decompositions).decomposition high)) ∙ begins in

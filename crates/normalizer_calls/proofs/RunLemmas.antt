@@ -13,7 +13,7 @@ use Rattle.normalizer_text.specs.declared.step.Step.{Step}
 use Rattle.normalizer_text.specs.Encodings.{Encoding, first_in, decoded_in}
 use Rattle.normalizer_text.specs.Steps.{read, replaced, steps, IsBoundary, IsLastStep}
 use Rattle.normalizer_text.specs.Utf16.{is_single, is_high, is_low, pair_value, unpaired, first_of_utf16}
-use Rattle.normalizer_text.specs.Scans.{EndsLowCharacters}
+use Rattle.normalizer_text.specs.Scans.{leading_below, EndsLowCharacters}
 use Rattle.normalizer_text.specs.Utf8.{first_of_utf8}
 use Rattle.normalizer_text.proofs.BoundaryLemmas.{boundary-between, boundary-le, boundary-more, steps-parts, steps-take-drop, width_of-append, width_of-steps}
 use Rattle.normalizer_text.proofs.EncodingRules.{IsDecoding-first}
@@ -44,7 +44,7 @@ module _ (passing : ℕ → Bool) (e : Encoding) (units : List ℕ) where
         (low_passes s (All-head (λ c. c < bound) s.character (map (λ t. t.character) ss) all))
         (all_low_pass ss (All-tail (λ c. c < bound) s.character (map (λ t. t.character) ss) all))
 
-    pub PassesTo-low : (end new : ℕ) → EndsLowCharacters e units end bound new → PassesTo passing e units end → PassesTo passing e units new
+    PassesTo-low : (end new : ℕ) → EndsLowCharacters e units end bound new → PassesTo passing e units end → PassesTo passing e units new
     PassesTo-low end new low so_far =
         let b = so_far.boundary in
         let rest = drop end units in
@@ -66,6 +66,13 @@ module _ (passing : ℕ → Bool) (e : Encoding) (units : List ℕ) where
           };
           pass = All-append (λ s. step_passes passing s ≡ true) b.before more so_far.pass (all_low_pass more low.low);
         }
+
+    -- so a run goes on with the units below that of the bound
+    module _ (low_unit : ℕ → ℕ) (low_end : (from below : ℕ) → IsBoundary (first_in e) units from → EndsLowCharacters e units from below (from + leading_below (low_unit below) (drop from units))) where
+      pub PassesTo-below : (limit end new : ℕ) → limit ≡ low_unit bound → new ≡ end + leading_below limit (drop end units) → PassesTo passing e units end → PassesTo passing e units new
+      PassesTo-below limit end new unit is so_far =
+          let ends = is ∙ ap (λ l. end + leading_below l (drop end units)) unit in
+          PassesTo-low end new (subst (EndsLowCharacters e units end bound) (sym ends) (low_end end bound so_far.boundary)) so_far
 
   pub PassesTo-le : (end : ℕ) → PassesTo passing e units end → end ≤ length units
   PassesTo-le end so_far = boundary-le (first_in e) (IsDecoding-first e) units end so_far.boundary

@@ -1,5 +1,5 @@
 -- What calls tell that hand out the form of an input.
-use Rattle.std.specs.Prelude.{◌≡◌, ◌↔◌, ℕ, List, ◌++◌, chars, Result, IfOk, IsOk, IsOkUnless}
+use Rattle.std.specs.Prelude.{◌≡◌, ◌↔◌, ℕ, List, chars, Result, IfOk, IsOk, IsOkUnless}
 use Rattle.std.specs.Cow.{cow_str_bytes, IsBorrowedStr}
 use Rattle.std.specs.declared.borrow.CowStr.{CowStr}
 use Rattle.std.specs.declared.alloc.Global.{Global}

@@ -1,5 +1,5 @@
 -- What is known where a text was written to a sink in an encoding, or only a beginning of it.
-use Rattle.std.specs.Prelude.{◌≡◌, ℕ, ◌≤◌, ◌⊎◌, Bool, List, ◌++◌, Result, ⊤, OnOk, OnErr, IsErrOf}
+use Rattle.std.specs.Prelude.{◌≡◌, ℕ, Bool, List, ◌++◌, Result, ⊤, OnOk, OnErr, IsErrOf}
 use Rattle.normal_forms.specs.declared.Form.{Form}
 use Rattle.normal_forms.specs.Forms.{normal_form}
 use Rattle.normal_forms.specs.Reading.{Reading}

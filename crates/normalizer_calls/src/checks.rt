@@ -73,7 +73,10 @@ impl<'a> DecomposingNormalizerBorrowed<'a> {
     pub fn is_normalized_utf8(&self, bytes: &[u8]) -> Result<bool, NormalizeError>
         ensures { ChecksForm (decomposed_by self.now) Encoding.Utf8 bytes.now result }
     {
-        is_own_form::<&[u8], Self>(self, bytes)
+        match str::from_utf8(bytes) {
+            Ok(text) => is_own_form::<&str, Self>(self, text),
+            Err(_) => is_own_form::<&[u8], Self>(self, bytes),
+        }
     }
 
     /// Whether 16-bit units are well-formed and their own decomposed form.
@@ -94,7 +97,10 @@ impl<'a> DecomposingNormalizerBorrowed<'a> {
     pub fn first_offence_utf8(&self, bytes: &[u8]) -> Result<Option<Offence>, NormalizeError>
         ensures { FindsOffence (decomposed_by self.now) Encoding.Utf8 bytes.now result }
     {
-        lasting_offence_of::<&[u8], Self>(self, bytes)
+        match str::from_utf8(bytes) {
+            Ok(text) => lasting_offence_of::<&str, Self>(self, text),
+            Err(_) => lasting_offence_of::<&[u8], Self>(self, bytes),
+        }
     }
 
     /// The first place at which 16-bit units are ill-formed or not their own decomposed form, in such units.
@@ -117,7 +123,10 @@ impl<'a> ComposingNormalizerBorrowed<'a> {
     pub fn is_normalized_utf8(&self, bytes: &[u8]) -> Result<bool, NormalizeError>
         ensures { ChecksForm (composed_by self.now) Encoding.Utf8 bytes.now result }
     {
-        is_own_form::<&[u8], Self>(self, bytes)
+        match str::from_utf8(bytes) {
+            Ok(text) => is_own_form::<&str, Self>(self, text),
+            Err(_) => is_own_form::<&[u8], Self>(self, bytes),
+        }
     }
 
     /// Whether 16-bit units are well-formed and their own composed form.
@@ -138,7 +147,10 @@ impl<'a> ComposingNormalizerBorrowed<'a> {
     pub fn first_offence_utf8(&self, bytes: &[u8]) -> Result<Option<Offence>, NormalizeError>
         ensures { FindsOffence (composed_by self.now) Encoding.Utf8 bytes.now result }
     {
-        lasting_offence_of::<&[u8], Self>(self, bytes)
+        match str::from_utf8(bytes) {
+            Ok(text) => lasting_offence_of::<&str, Self>(self, text),
+            Err(_) => lasting_offence_of::<&[u8], Self>(self, bytes),
+        }
     }
 
     /// The first place at which 16-bit units are ill-formed or not their own composed form, in such units.

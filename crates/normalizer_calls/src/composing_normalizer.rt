@@ -129,7 +129,7 @@ impl ComposingNormalizer {
         );
         let bounds = Bounds::of_cap(characters.cap());
         ComposingNormalizerBorrowed {
-            characters,
+            characters: characters.passing_unseen_below(bounds.decomposition),
             pairs: &self.pairs,
             bounds,
         }

@@ -159,11 +159,9 @@ impl<'a, I: Iterator<Item = char> + Drop> FormItems<I> for ComposingNormalizerBo
 
     #[tactic(auto, unfolding(normalizer_tables::specs::PairConditions::is_passed))]
     fn passes(&self, character: char) -> bool {
-        if (character as u32) < self.bounds.composition {
-            return true;
-        }
         let word = self.characters.word_of(character);
-        !is_non_round_trip(word) && !is_backward_combining(word)
+        (!is_non_round_trip(word) && !is_backward_combining(word))
+            || (character as u32) < self.bounds.composition
     }
 
     fn passing_bound(&self) -> u32 {

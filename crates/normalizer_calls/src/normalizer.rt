@@ -107,13 +107,15 @@ impl DecomposingNormalizer {
     pub fn as_borrowed(&self) -> DecomposingNormalizerBorrowed<'_>
         ensures { data_of_borrowed result ≡ data_of self.now }
     {
+        let characters = CharacterData::new(
+            &self.decompositions,
+            &self.tables,
+            self.supplementary.as_ref(),
+            false,
+        );
+        let bounds = Bounds::of_cap(characters.cap());
         DecomposingNormalizerBorrowed {
-            characters: CharacterData::new(
-                &self.decompositions,
-                &self.tables,
-                self.supplementary.as_ref(),
-                false,
-            ),
+            characters: characters.passing_unseen_below(bounds.decomposition),
         }
     }
 }

@@ -93,7 +93,24 @@ fn write_unless_own<U: Expected, N: LawfulItems<Chars<U>>, O: Growing<U>>(
     }
 }
 
-/// The form of a text.
+/// The form of a text, told by its bytes.
+fn form_of_utf8<'t, N: LawfulItems<Chars<&'t str>>>(
+    normalizer: &N,
+    alloc: Global,
+    text: &'t str,
+) -> Result<CowStr<'t, Global>, NormalizeError>
+    ensures { HandsOutForm cow_str_bytes IsBorrowedStr
+        (made_form (N.has_class_form normalizer.now) (N.reading normalizer.now) N.form) Encoding.Utf8 text.now result }
+{
+    let mut owned = String::new(alloc);
+    if write_unless_own::<&'t str, N, String>(normalizer, text, &mut owned)? {
+        Ok(CowStr::Borrowed(text))
+    } else {
+        Ok(CowStr::Owned(owned))
+    }
+}
+
+/// The form of a text, told by its characters.
 fn form_of_str<'t, N: LawfulItems<Chars<&'t str>>>(
     normalizer: &N,
     alloc: Global,
@@ -103,12 +120,7 @@ fn form_of_str<'t, N: LawfulItems<Chars<&'t str>>>(
         (chars text.now) result }
 {
     laws_hold::<&'t str, N>(normalizer);
-    let mut owned = String::new(alloc);
-    if write_unless_own::<&'t str, N, String>(normalizer, text, &mut owned)? {
-        Ok(CowStr::Borrowed(text))
-    } else {
-        Ok(CowStr::Owned(owned))
-    }
+    form_of_utf8(normalizer, alloc, text)
 }
 
 /// The form of what bytes decode to.
@@ -158,7 +170,11 @@ impl<'a> DecomposingNormalizerBorrowed<'a> {
     pub fn normalize_utf8<'t>(&self, bytes: &'t [u8]) -> Result<CowStr<'t, Global>, NormalizeError>
         ensures { HandsOutForm cow_str_bytes IsBorrowedStr (decomposed_by self.now) Encoding.Utf8 bytes.now result }
     {
-        form_of_bytes(self, self.characters.allocator(), bytes)
+        let alloc = self.characters.allocator();
+        match str::from_utf8(bytes) {
+            Ok(text) => form_of_utf8(self, alloc, text),
+            Err(_) => form_of_bytes(self, alloc, bytes),
+        }
     }
 
     /// The decomposed form of what 16-bit units decode to, borrowed exactly where they are well-formed and their own.
@@ -185,7 +201,11 @@ impl<'a> ComposingNormalizerBorrowed<'a> {
     pub fn normalize_utf8<'t>(&self, bytes: &'t [u8]) -> Result<CowStr<'t, Global>, NormalizeError>
         ensures { HandsOutForm cow_str_bytes IsBorrowedStr (composed_by self.now) Encoding.Utf8 bytes.now result }
     {
-        form_of_bytes(self, self.characters.allocator(), bytes)
+        let alloc = self.characters.allocator();
+        match str::from_utf8(bytes) {
+            Ok(text) => form_of_utf8(self, alloc, text),
+            Err(_) => form_of_bytes(self, alloc, bytes),
+        }
     }
 
     /// The composed form of what 16-bit units decode to, borrowed exactly where they are well-formed and their own.

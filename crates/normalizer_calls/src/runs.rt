@@ -21,14 +21,15 @@ fn run_end<U: Units, N: FormItems<Chars<U>>>(normalizer: &N, units: U) -> usize
     ensures { IsRunEnd (N.passing normalizer.now) U.encoding (U.units units) result }
 {
     normalizer.passed_characters_stand_apart();
-    let bound = normalizer.passing_bound().min(REPLACEMENT);
-    let mut end = units.end_of_low(0, bound);
+    units.low_units_are_of_low_characters();
+    let limit = units.low_unit(normalizer.passing_bound().min(REPLACEMENT));
+    let mut end = units.end_of_below(0, limit);
     while end < units.len() {
         let step = units.step_at(end);
         if !step_passes(normalizer, step) {
             return end;
         }
-        end = units.end_of_low(end + step.width, bound);
+        end = units.end_of_below(end + step.width, limit);
     }
     end
 }

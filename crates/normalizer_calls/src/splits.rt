@@ -74,8 +74,16 @@ impl<'a> DecomposingNormalizerBorrowed<'a> {
         ensures { AnswersOf (decomposed_by self.now) (decoded_utf8 bytes.now)
             (λ parts. IsSplitAtCut (decomposed_by self.now) Encoding.Utf8 bytes.now parts.0.now parts.1.now) result }
     {
-        let (prefix, rest) = split_at_cut::<&'t [u8], Self>(self, bytes)?;
-        Ok((text_of(prefix), rest))
+        match str::from_utf8(bytes) {
+            Ok(text) => {
+                let (prefix, rest) = split_at_cut::<&'t str, Self>(self, text)?;
+                Ok((prefix, rest.as_bytes()))
+            }
+            Err(_) => {
+                let (prefix, rest) = split_at_cut::<&'t [u8], Self>(self, bytes)?;
+                Ok((text_of(prefix), rest))
+            }
+        }
     }
 
     /// 16-bit units in two parts: the longest well-formed front that the decomposed form leaves as it is, and the rest.
@@ -108,8 +116,16 @@ impl<'a> ComposingNormalizerBorrowed<'a> {
         ensures { AnswersOf (composed_by self.now) (decoded_utf8 bytes.now)
             (λ parts. IsSplitAtCut (composed_by self.now) Encoding.Utf8 bytes.now parts.0.now parts.1.now) result }
     {
-        let (prefix, rest) = split_at_cut::<&'t [u8], Self>(self, bytes)?;
-        Ok((text_of(prefix), rest))
+        match str::from_utf8(bytes) {
+            Ok(text) => {
+                let (prefix, rest) = split_at_cut::<&'t str, Self>(self, text)?;
+                Ok((prefix, rest.as_bytes()))
+            }
+            Err(_) => {
+                let (prefix, rest) = split_at_cut::<&'t [u8], Self>(self, bytes)?;
+                Ok((text_of(prefix), rest))
+            }
+        }
     }
 
     /// 16-bit units in two parts: the longest well-formed front that the composed form leaves as it is, and the rest.

@@ -34,7 +34,10 @@ impl<'a> DecomposingNormalizerBorrowed<'a> {
         ensures { WritesDecomposed self.now Encoding.Utf8 W.taken W.refused W.left
             (decoded_utf8 bytes.now) sink.old result sink.new }
     {
-        form_to::<&[u8], Self, W>(self, bytes, sink)
+        match str::from_utf8(bytes) {
+            Ok(text) => form_to::<&str, Self, W>(self, text, sink),
+            Err(_) => form_to::<&[u8], Self, W>(self, bytes, sink),
+        }
     }
 
     /// Writes the decomposed form of the text that 16-bit units decode to, in UTF-16: U+FFFD stands for each unpaired
@@ -72,7 +75,10 @@ impl<'a> ComposingNormalizerBorrowed<'a> {
         ensures { WritesComposed self.now Encoding.Utf8 W.taken W.refused W.left
             (decoded_utf8 bytes.now) sink.old result sink.new }
     {
-        form_to::<&[u8], Self, W>(self, bytes, sink)
+        match str::from_utf8(bytes) {
+            Ok(text) => form_to::<&str, Self, W>(self, text, sink),
+            Err(_) => form_to::<&[u8], Self, W>(self, bytes, sink),
+        }
     }
 
     /// Writes the composed form of the text that 16-bit units decode to, in UTF-16: U+FFFD stands for each unpaired

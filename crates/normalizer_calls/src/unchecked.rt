@@ -6,6 +6,7 @@ ghost use Rattle.normalizer_tables.specs.Characters.{characters_from};
 
 use crate::normalizer::DecomposingNormalizerBorrowed;
 use normalizer_tables::characters::CharacterData;
+use normalizer_tables::condition::GREATEST_BOUNDS;
 use normalizer_tables::{DecompositionData, DecompositionTables};
 
 impl<'a> DecomposingNormalizerBorrowed<'a> {
@@ -19,8 +20,9 @@ impl<'a> DecomposingNormalizerBorrowed<'a> {
         requires { IsSoundNfdData decompositions.now tables.now }
         ensures { data_of_borrowed result ≡ characters_from decompositions.now tables.now None }
     {
+        let characters = CharacterData::new(decompositions, tables, None, false);
         DecomposingNormalizerBorrowed {
-            characters: CharacterData::new(decompositions, tables, None, false),
+            characters: characters.passing_unseen_below(GREATEST_BOUNDS.decomposition),
         }
     }
 }

@@ -99,7 +99,7 @@ impl Uts46Mapper {
         );
         let bounds = Bounds::of_cap(characters.cap());
         Uts46MapperBorrowed {
-            characters,
+            characters: characters.passing_unseen_below(bounds.decomposition),
             pairs: &self.pairs,
             bounds,
         }

@@ -11,8 +11,8 @@ use Rattle.normalizer_tables.specs.Pairs.{Pair}
 use Rattle.normalizer_tables.specs.Readings.{reading_by}
 use Rattle.normalizer_tables.specs.declared.characters.IgnoredCharacters.TheVariants.{Dropped}
 use Rattle.normalizer_iterators.specs.declared.decomposition.Decomposition.{Decomposition}
-use Rattle.normalizer_iterators.specs.declared.decomposition.passing.Given.{Given}
-use Rattle.normalizer_iterators.specs.declared.decomposition.passing.Given.TheVariants.{Itself, FirstMember}
+use Rattle.normalizer_iterators.specs.declared.composition.passing.Given.{Given}
+use Rattle.normalizer_iterators.specs.declared.composition.passing.Given.TheVariants.{Itself, FirstMember}
 use Rattle.normalizer_iterators.specs.declared.error.NormalizeError.{NormalizeError}
 use Rattle.normalizer_iterators.specs.Decomposition.{CanDecompose, DecompositionSteps, StaysShort, WillGive}
 use Rattle.normalizer_iterators.specs.Decomposition.{items_left, pending_of}

@@ -26,8 +26,8 @@ ghost use Rattle.normalizer_iterators.specs.LazyReading.{SuitsLazyReading};
 ghost use Rattle.normalizer_iterators.specs.StayingMarks.{staying, used, BlocksBelow};
 ghost use Rattle.normalizer_iterators.specs.Composing.{ComposesStarter, GivesShort, HasVisited, IsBeforeStarter};
 
+use crate::composition::passing::{Given, is_at_passed, pass_next};
 use crate::decomposition::Decomposition;
-use crate::decomposition::passing::Given;
 use crate::error::NormalizeError;
 use crate::marks::StayingMarks;
 use crate::waiting::Classed;
@@ -37,6 +37,7 @@ use normalizer_tables::condition::Bounds;
 use std::alloc::AllocError;
 
 mod making;
+mod passing;
 
 pub use making::composed;
 
@@ -175,7 +176,7 @@ impl<'data, I: Iterator<Item = char> + Drop> Composition<'data, I> {
         ensures goes { MakesProgress (CanCompose I.can_next I.remaining) (λ s. at_most (items_left I.remaining s))
             self.old result self.new }
     {
-        match self.decomposed.pass(self.bounds) {
+        match pass_next(&mut self.decomposed, self.bounds) {
             Some(Ok(Given::Itself(character))) => {
                 self.ahead = Ahead::Passed;
                 Some(Ok(character))
@@ -217,7 +218,7 @@ fn compose_starter<I: Iterator<Item = char> + Drop>(
 {
     let mut composite = starter;
     marks.clear();
-    while !decomposed.is_at_passed(bounds) {
+    while !is_at_passed(decomposed, bounds) {
         let Some(item) = decomposed.next_with_class() else {
             return Ok((composite, Ahead::Ended));
         };
@@ -295,7 +296,7 @@ impl<'data, I: Iterator<Item = char> + Drop> Iterator for Composition<'data, I> 
             Ahead::Starter(starter) => Some(self.compose_on(starter)),
             Ahead::Passed => self.pass(),
             Ahead::NoStarter => {
-                if self.decomposed.is_at_passed(self.bounds) {
+                if is_at_passed(&self.decomposed, self.bounds) {
                     return self.pass();
                 }
                 match self.decomposed.next_with_class() {

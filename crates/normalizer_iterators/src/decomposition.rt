@@ -23,10 +23,9 @@ use crate::read::{ReadCharacter, read_from};
 use crate::reading::{push_from, read_on};
 use crate::waiting::{Classed, WaitingList};
 use normalizer_tables::characters::{CharacterData, IgnoredCharacters};
+use normalizer_tables::condition::GREATEST_BOUNDS;
 use normalizer_tables::{DecompositionData, DecompositionTables};
 use std::alloc::AllocError;
-
-pub(crate) mod passing;
 
 /// The characters of a text, decomposed and in canonical order.
 ///
@@ -34,11 +33,11 @@ pub(crate) mod passing;
 /// ended, it gives `None` for good.
 #[derive(Drop)]
 pub struct Decomposition<'data, I> {
-    characters: CharacterData<'data>,
+    pub(crate) characters: CharacterData<'data>,
     ignored: IgnoredCharacters,
-    delegate: I,
-    pending: Option<ReadCharacter>,
-    waiting: WaitingList,
+    pub(crate) delegate: I,
+    pub(crate) pending: Option<ReadCharacter>,
+    pub(crate) waiting: WaitingList,
     ghost suits: { SuitsLazyReading (has_class_form characters) (reading_by characters ignored []) },
     ghost anew: { ForSome (character_of pending) (λ c. continues (has_class_form characters)
         (reading_by characters ignored []) c ≡ false) },
@@ -73,6 +72,7 @@ impl<'data, I: Iterator<Item = char> + Drop> Decomposition<'data, I> {
         ensures ready { IfOk result ⟦<Decomposition<'data, I> as Iterator>⟧.can_next }
     {
         let characters = CharacterData::new(decompositions, tables, None, false);
+        let characters = characters.passing_unseen_below(GREATEST_BOUNDS.decomposition);
         decomposed(characters, IgnoredCharacters::Dropped, delegate)
     }
 
@@ -112,7 +112,7 @@ impl<'data, I: Iterator<Item = char> + Drop> Decomposition<'data, I> {
     }
 
     /// The first member of the list of the character that was pending. The one behind it was read.
-    fn next_chunk(
+    pub(crate) fn next_chunk(
         &mut self,
         read: ReadCharacter,
         following: Option<ReadCharacter>,
@@ -213,8 +213,7 @@ fn stands_alone(
     ensures { IsTrue result → StandsAlone (has_class_form characters.now)
         (reading_by characters.now ignored []) read.character (character_of following) }
 {
-    let word = read.word_by(characters);
-    if characters.class_of_itself(read.character, word).is_none() {
+    if read.class_of_itself(characters).is_none() {
         return false;
     }
     match following {
@@ -250,7 +249,7 @@ fn read_chunk<I: Iterator<Item = char> + Drop>(
         ChunkDidNotFit I.next_gives (has_class_form characters.now) (reading_by characters.now ignored [])
         read.character before) }
 {
-    let members = characters.members_by(read.character, read.word_by(characters), ignored);
+    let members = read.members(characters, ignored);
     let Some(first) = members.get(0) else {
         unreachable!()
     };

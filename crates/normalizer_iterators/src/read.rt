@@ -1,11 +1,13 @@
 //! Characters that were read from a delegate, with their words.
-ghost use Rattle.std.specs.Prelude.{◌≡◌, ◌↔◌, false, IsTrue, []};
+ghost use Rattle.std.specs.Prelude.{◌≡◌, ◌↔◌, ◌∷◌, [], ℕ, List, false, IfSome, IsTrue};
 ghost use Rattle.normal_forms.specs.ShortRuns.{continues};
-ghost use Rattle.normalizer_tables.specs.Characters.{has_class_form, word_of};
+ghost use Rattle.normalizer_tables.specs.Characters.{class_of, has_class_form, list_of, word_of};
+ghost use Rattle.normalizer_tables.specs.Ignored.{ignored_list};
 ghost use Rattle.normalizer_tables.specs.Readings.{reading_by};
 ghost use Rattle.normalizer_iterators.specs.Reads.{character_of, HasOwnWord, HasOwnWords};
 
 use normalizer_tables::characters::{CharacterData, IgnoredCharacters};
+use normalizer_tables::members::Members;
 use normalizer_tables::word::is_class_form;
 
 /// A character that was read, with its word where that was looked up.
@@ -38,12 +40,43 @@ impl ReadCharacter {
         ensures { IsTrue result ↔ (continues (has_class_form characters.now)
             (reading_by characters.now ignored []) self.character ≡ false) }
     {
+        if characters.passes_unseen(self.character) {
+            return true;
+        }
         let word = self.word_by(characters);
         !is_class_form(word) && characters.has_members(self.character, word, ignored)
     }
+
+    /// The class of the character if it is its own list.
+    pub(crate) fn class_of_itself(self, characters: &CharacterData<'_>) -> Option<u8>
+        requires { HasOwnWord characters.now self }
+        ensures itself { (ignored : List ℕ) →
+            IfSome result (λ _. list_of characters.now ignored self.character ≡ self.character ∷ []) }
+        ensures class { IfSome result (λ class. class ≡ class_of characters.now self.character) }
+    {
+        if characters.passes_unseen(self.character) {
+            return Some(0);
+        }
+        characters.class_of_itself(self.character, self.word_by(characters))
+    }
+
+    /// The list of the character.
+    pub(crate) fn members<'a>(
+        self,
+        characters: &CharacterData<'a>,
+        ignored: IgnoredCharacters,
+    ) -> Members<'a>
+        requires { HasOwnWord characters.now self }
+        ensures { result ≡ list_of characters.now (ignored_list ignored) self.character }
+    {
+        if characters.passes_unseen(self.character) {
+            return Members::one(self.character);
+        }
+        characters.members_by(self.character, self.word_by(characters), ignored)
+    }
 }
 
-/// A character that was read, if one was. Its word is looked up from this number on.
+/// A character that was read, if one was. Its word is looked up from this number on, unless it passes unseen.
 pub(crate) fn read_from(
     characters: &CharacterData<'_>,
     bound: u32,
@@ -53,7 +86,7 @@ pub(crate) fn read_from(
     ensures word { HasOwnWords characters.now result }
 {
     let character = character?;
-    let word = if (character as u32) < bound {
+    let word = if (character as u32) < bound || characters.passes_unseen(character) {
         None
     } else {
         Some(characters.word_of(character))

@@ -72,11 +72,10 @@ fn push_list(
     ensures succeeds { held waiting.old + length (list_of characters.now (ignored_list ignored) read.character) ≤ places
         → IsOk result }
 {
-    let word = read.word_by(characters);
-    match characters.class_of_itself(read.character, word) {
+    match read.class_of_itself(characters) {
         Some(class) => waiting.push(read.character, class),
         None => {
-            let members = characters.members_by(read.character, word, ignored);
+            let members = read.members(characters, ignored);
             push_from(characters, &members, 0, waiting)
         }
     }

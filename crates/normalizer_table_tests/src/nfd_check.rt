@@ -1,6 +1,11 @@
 //! The check of canonical data that are handed in without a provider.
 use crate::edits::{Broken, Check, Edit, REFUSED, edited, wrong_first, wrong_row};
-use normalizer_tables::{DataError, DataMarkerInfo, check_nfd_data};
+use normalizer_tables::characters::CharacterData;
+use normalizer_tables::condition::GREATEST_BOUNDS;
+use normalizer_tables::laws::accepted::low_characters_pass_unseen;
+use normalizer_tables::{
+    DataError, DataMarkerInfo, DecompositionData, DecompositionTables, check_nfd_data,
+};
 use std::alloc::Global;
 
 struct NfdCheck;
@@ -66,4 +71,30 @@ fn two_edits_are_answered_by_the_smaller_condition(rt: HostRuntime) {
         wrong_first(&NfdCheck, alloc, &REFUSED[2..], &REFUSED),
         None
     );
+}
+
+/// Whether a character passes unseen by data that are checked, where those below the bound do.
+fn passes_unseen_by<'a>(
+    decompositions: &'a DecompositionData,
+    tables: &'a DecompositionTables,
+    character: char,
+) -> Result<bool, DataError> {
+    check_nfd_data(decompositions, tables)?;
+    low_characters_pass_unseen();
+    let characters = CharacterData::new(decompositions, tables, None, false);
+    let characters = characters.passing_unseen_below(GREATEST_BOUNDS.decomposition);
+    Ok(characters.passes_unseen(character))
+}
+
+/// The same by data that pass.
+fn passes_unseen(alloc: Global, character: char) -> Option<bool> {
+    let edited = edited(alloc, &[])?;
+    passes_unseen_by(&edited.data, &edited.tables, character).ok()
+}
+
+#[test]
+fn characters_below_the_bound_pass_unseen(rt: HostRuntime) {
+    let alloc = rt.alloc();
+    assert_eq!(rt; passes_unseen(alloc, '\u{BF}'), Some(true));
+    assert_eq!(rt; passes_unseen(alloc, '\u{C0}'), Some(false));
 }

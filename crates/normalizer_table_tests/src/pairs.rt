@@ -1,5 +1,5 @@
 //! The pairs of characters that compose.
-use normalizer_tables::CanonicalCompositions;
+use normalizer_tables::{CanonicalCompositions, row_count};
 use std::alloc::Global;
 
 /// Second, first and result.
@@ -212,4 +212,23 @@ fn holds_lists_that_fall(rt: HostRuntime) {
     assert!(rt; has_falling_pairs(&copy));
     assert!(rt; composes_falling_pairs(&copy));
     assert!(rt; tells_falling_seconds(&copy));
+}
+
+/// Pairs of three seconds, of which the first two have one.
+const OF_THREE_SECONDS: [Pair; 4] = [
+    ('\u{302}', 'e', 'ê'),
+    ('\u{302}', '\u{1EB9}', '\u{1EC7}'),
+    ('\u{308}', 'a', 'ä'),
+    ('\u{323}', 'e', '\u{1EB9}'),
+];
+
+fn rows_of(alloc: Global, pairs: &[Pair]) -> Option<usize> {
+    Some(row_count(&compositions(alloc, pairs)?))
+}
+
+#[test]
+fn equal_neighbouring_seconds_are_kept_once(rt: HostRuntime) {
+    assert_eq!(rt; rows_of(rt.alloc(), &[]), Some(0));
+    assert_eq!(rt; rows_of(rt.alloc(), &OF_THREE_SECONDS), Some(3));
+    assert_eq!(rt; rows_of(rt.alloc(), &FALLING), Some(3));
 }

@@ -1,7 +1,7 @@
 -- What the parts of the conditions say.
-use Rattle.std.proofs.Common.{◌≡◌, ◌≢◌, ℕ, zero, suc, ◌<◌, ◌≤◌, Bool, true, false, not, ◌&&◌, ◌||◌, ◌==◌, List, [], ◌∷◌, length, All, Option, Some, None, slice_get, bit_and, if◌then◌else◌, refl, ap, sym, ◌∙◌, subst, arith}
+use Rattle.std.proofs.Common.{◌≡◌, ◌≢◌, ℕ, zero, suc, ◌<◌, ◌≤◌, Bool, true, false, not, ◌&&◌, ◌||◌, ◌==◌, [], ◌∷◌, All, Some, bit_and, if◌then◌else◌, refl, ap, sym, ◌∙◌, subst, arith}
 use Rattle.std.specs.Char.{IsScalar}
-use Rattle.std.specs.Option.{option_map, option_eq}
+use Rattle.std.specs.Option.{option_map}
 use lib.Utf8.{scalar}
 use Rattle.std.proofs.lemmas.Bool.Decides.{nat_tests}
 use Rattle.std.proofs.lemmas.Nat.{and_assoc}
@@ -122,11 +122,14 @@ All-one : (P : ℕ → Type 0) (n : ℕ) → P n → All P (n ∷ [])
 All-one P n h zero d below = h
 All-one P n h (suc k) d below = absurd (omega arith)
 
+-- that reads to itself
+pub reads_in_full-itself : (s : Characters) (n : ℕ) → ReadsToItself s n → All (ReadsToItself s) (list_of s [] n)
+unfolding ReadsToItself
+reads_in_full-itself s n itself = rw (list_of-reads s [] n (n ∷ []) itself) (All-one (ReadsToItself s) n itself)
+
 reads_in_full-plain : (s : Characters) (n : ℕ) → scalar n ≡ true → is_plain (word_of s n) ≡ true → All (ReadsToItself s) (list_of s [] n)
 unfolding ReadsToItself
-reads_in_full-plain s n h plain =
-    let read_list = list_read-plain s n h plain in
-    rw (list_of-reads s [] n (n ∷ []) read_list) (All-one (ReadsToItself s) n read_list)
+reads_in_full-plain s n h plain = reads_in_full-itself s n (list_read-plain s n h plain)
 
 IsOrderedList-plain : (s : Characters) (n : ℕ) → scalar n ≡ true → is_plain (word_of s n) ≡ true → IsOrderedList s n
 unfolding KeepsPromise reading_of_word order insert
@@ -179,27 +182,28 @@ pub syllable-scalar : (n : ℕ) → is_hangul_syllable n ≡ true → scalar n �
 unfolding is_hangul_syllable
 syllable-scalar n h = grind (arith, nat_tests)
 
-jamo-scalar : (n : ℕ) → is_composing_jamo n ≡ true → scalar n ≡ true
+pub jamo-scalar : (n : ℕ) → is_composing_jamo n ≡ true → scalar n ≡ true
 unfolding is_composing_jamo
 jamo-scalar n h = grind (arith, nat_tests)
 
 pub IsSoundHangul-elsewhere : (s : Characters) (n : ℕ) → (IsScalar n → ⊥) → IsSoundHangul s n
 IsSoundHangul-elsewhere s n h = record { syllable = λ q. absurd (h (syllable-scalar n q)); jamo = λ q. absurd (h (jamo-scalar n q)) }
 
-jamo_range : (n : ℕ) → is_composing_jamo n ≡ true → (0x1100 ≤ n) × (n < 0x11C3)
+pub jamo_range : (n : ℕ) → is_composing_jamo n ≡ true → (0x1100 ≤ n) × (n < 0x11C3)
 unfolding is_composing_jamo
 jamo_range n h = (grind (arith, nat_tests), grind (arith, nat_tests))
 
-syllable_range : (n : ℕ) → is_hangul_syllable n ≡ true → (0xAC00 ≤ n) × (n < 0xD7A4)
+pub syllable_range : (n : ℕ) → is_hangul_syllable n ≡ true → (0xAC00 ≤ n) × (n < 0xD7A4)
 unfolding is_hangul_syllable
 syllable_range n h = (grind (arith, nat_tests), grind (arith, nat_tests))
 
+pub syllable_in_range : (n : ℕ) → 0xAC00 ≤ n → n < 0xD7A4 → is_hangul_syllable n ≡ true
+unfolding is_hangul_syllable
+syllable_in_range n low high = grind (arith, nat_tests)
+
 -- the jamo and the syllables are all of Hangul
-pub IsSoundHangul-all : (s : Characters) → ((n : ℕ) → 0x1100 ≤ n → n < 0x11C3 → IsSoundHangul s n) → ((n : ℕ) → 0xAC00 ≤ n → n < 0xD7A4 → IsSoundHangul s n) → (n : ℕ) → IsSoundHangul s n
-IsSoundHangul-all s jamo syllables n = record {
-  syllable = λ q. (let range = syllable_range n q in (syllables n range.0 range.1).syllable q);
-  jamo = λ q. (let range = jamo_range n q in (jamo n range.0 range.1).jamo q);
-}
+pub IsSoundHangul-all : (s : Characters) → ((n : ℕ) → is_composing_jamo n ≡ true → IsPlainStarter s n) → ((n : ℕ) → is_hangul_syllable n ≡ true → word_of s n ≡ 1) → (n : ℕ) → IsSoundHangul s n
+IsSoundHangul-all s jamo syllables n = record { syllable = syllables n; jamo = jamo n }
 
 -- a number that is no scalar value breaks no condition but the one on surrogates
 pub HoldsAt-elsewhere : (s : Characters) (b : Bounds) (c : Condition) (n : ℕ) → (IsScalar n → ⊥) → (c ≡ Surrogates → ⊥) → HoldsAt s b c n
@@ -223,26 +227,6 @@ HoldsAt-others s b Members n h h1 h2 h3 h4 h5 = absurd (h3 refl)
 HoldsAt-others s b Order n h h1 h2 h3 h4 h5 = absurd (h4 refl)
 HoldsAt-others s b Passthrough n h h1 h2 h3 h4 h5 = absurd (h5 refl)
 HoldsAt-others s b _ n h h1 h2 h3 h4 h5 = tt
-
--- the first and only member
-pub one_member : (x : List ℕ) (n : ℕ) → length x ≡ 1 → slice_get x 0 ≡ Some n → x ≡ n ∷ []
-one_member [] n h e = cc
-one_member (m ∷ []) n h e = cc
-one_member (m ∷ k ∷ x) n h e = absurd (omega arith)
-
-pub option_eq-refl : (o : Option ℕ) (n : ℕ) → option_eq (λ x y. x == y) o (Some n) ≡ true → o ≡ Some n
-option_eq-refl None n h = cc
-option_eq-refl (Some m) n h = (let same : m ≡ n = grind (arith, nat_tests) in ap Some same)
-
--- a list of one member has length 1
-pub length-alone : (x : List ℕ) (n : ℕ) → Some x ≡ Some (n ∷ []) → length x ≡ 1
-length-alone x n e = (let alone : x ≡ n ∷ [] = cc in ap length alone)
-
-pub read_alone : (x : List ℕ) (n : ℕ) (o : Option ℕ) → Some x ≡ Some (n ∷ []) → o ≡ slice_get x 0 → option_eq (λ a b. a == b) o (Some n) ≡ true
-read_alone x n o e h =
-    let alone : x ≡ n ∷ [] = cc in
-    let first : o ≡ Some n = h ∙ ap (λ y. slice_get y 0) alone in
-    rw first (grind (arith, nat_tests))
 
 -- with a plain word, the condition on Hangul syllables holds of all but these
 pub HoldsAt-hangul_plain : (s : Characters) (b : Bounds) (c : Condition) (n : ℕ) (r : Bool) → scalar n ≡ true → is_plain (word_of s n) ≡ true → c ≡ Hangul → r ≡ is_hangul_syllable n →

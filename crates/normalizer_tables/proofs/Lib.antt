@@ -3,6 +3,7 @@ pub mod BlockCounts
 pub mod BlockEquality
 pub mod BlockLemmas
 pub mod CharacterLemmas
+pub mod ClassLemmas
 pub mod CodePoints
 pub mod CompositionLemmas
 pub mod ConditionLemmas
@@ -21,11 +22,17 @@ pub mod OrderedLists
 pub mod PairConditionLemmas
 pub mod PairLaws
 pub mod PairLemmas
+pub mod PairPlaces
 pub mod PartsOfConditions
 pub mod PlainCharacters
 pub mod RangeLists
 pub mod RangeTables
+pub mod ReadLemmas
 pub mod ReadingsOfWords
+pub mod RowCounts
+pub mod RowEquality
+pub mod RowLemmas
+pub mod RowLookUps
 pub mod SoundLists
 pub mod StepConditionLemmas
 pub mod StepLemmas
@@ -33,6 +40,7 @@ pub mod SurrogateLemmas
 pub mod Tables
 pub mod SyllableLemmas
 pub mod TextLemmas
+pub mod UnseenLemmas
 pub mod WalkLemmas
 pub mod WordLemmas
 pub mod WordsInRanges

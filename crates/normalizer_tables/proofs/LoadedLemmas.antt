@@ -1,21 +1,22 @@
 -- What the conditions say of all that was loaded, part by part.
 use Rattle.std.proofs.Common.{◌≡◌, ◌↔◌, ℕ, ◌≤◌, ◌⊎◌, inl, inr, Bool, true, ◌+◌, List, ◌++◌, length, All, Option, Some, None, IfSome, IsTrue, refl, sym, subst, arith}
+use Rattle.std.specs.Char.{IsScalar}
 use Rattle.std.proofs.lemmas.Bool.{cases_lt}
 use Rattle.std.proofs.lemmas.List.{get_or_append_left, get_or-append-add, length-append}
 use Rattle.normalizer_tables.specs.declared.condition.Bounds.{Bounds}
 use Rattle.normalizer_tables.specs.declared.condition.Condition.{Condition}
-use Rattle.normalizer_tables.specs.declared.condition.Condition.TheVariants.{RoundTrip, SafeBeginning, FdfaForms, Steps}
+use Rattle.normalizer_tables.specs.declared.condition.Condition.TheVariants.{Surrogates, RoundTrip, SafeBeginning, FdfaForms, Steps}
 use Rattle.normalizer_tables.specs.AcceptedData.{AreAcceptedPairs, IsAccepted, composing_conditions, decomposing_conditions, pair_conditions}
-use Rattle.normalizer_tables.specs.Characters.{Characters}
-use Rattle.normalizer_tables.specs.Conditions.{Holds, HoldsAt, HoldsOverall}
+use Rattle.normalizer_tables.specs.Characters.{Characters, word_of}
+use Rattle.normalizer_tables.specs.Conditions.{Holds, HoldsAt, HoldsOverall, is_surrogate}
 use Rattle.normalizer_tables.specs.Data.{Supplement}
 use Rattle.normalizer_tables.specs.Loaded.{Loaded, IsMet, IsMetAt, IsMetOverall, bounds_of_cap, characters_alone, characters_and_pairs}
 use Rattle.normalizer_tables.specs.PairConditions.{HoldsOfPairs, KeepsBeginning, KeepsRoundTrip, PairsHoldAt, PairsHoldOverall}
 use Rattle.normalizer_tables.specs.Pairs.{Pair}
 use Rattle.normalizer_tables.specs.Ranges.{IsComplete}
-use Rattle.normalizer_tables.specs.StepConditions.{HasSoundStep, HoldsOfSteps, StepsHoldAt}
+use Rattle.normalizer_tables.specs.StepConditions.{AvoidsFdfa, HasSoundStep, HoldsOfSteps, StepsHoldAt}
 use Rattle.normalizer_tables.specs.Table.{code_points}
-use Rattle.normalizer_tables.proofs.ConditionLemmas.{HoldsAt-past, no_scalar_past}
+use Rattle.normalizer_tables.proofs.ConditionLemmas.{HoldsAt-elsewhere, HoldsAt-past, no_scalar_past}
 use Rattle.normalizer_tables.proofs.FdfaWords.{AvoidsFdfa-all}
 use Rattle.normalizer_tables.proofs.PairConditionLemmas.{scalar_below}
 
@@ -57,12 +58,18 @@ parts_met s pairs met = (
   λ k c h. (All-behind (IsMet (characters_and_pairs s pairs)) decomposing_conditions (pair_conditions s.is_mapper) met k c h).1,
 )
 
--- of numbers past the code points little is said
-PairsHoldAt-past : (s : Characters) (b : Bounds) (pairs : List Pair) (c : Condition) (n : ℕ) → code_points ≤ n → PairsHoldAt s b pairs c n
+-- of a number that no character has little is said
+PairsHoldAt-elsewhere : (s : Characters) (b : Bounds) (pairs : List Pair) (c : Condition) (n : ℕ) → (IsScalar n → ⊥) → PairsHoldAt s b pairs c n
 unfolding PairsHoldAt KeepsRoundTrip KeepsBeginning
-PairsHoldAt-past s b pairs RoundTrip n h = λ q. absurd (no_scalar_past n h q)
-PairsHoldAt-past s b pairs SafeBeginning n h = λ q. absurd (no_scalar_past n h q)
-PairsHoldAt-past s b pairs _ n h = tt
+PairsHoldAt-elsewhere s b pairs RoundTrip n h = λ q. absurd (h q)
+PairsHoldAt-elsewhere s b pairs SafeBeginning n h = λ q. absurd (h q)
+PairsHoldAt-elsewhere s b pairs _ n h = tt
+
+StepsHoldAt-elsewhere : (s : Characters) (t : Supplement) (c : Condition) (n : ℕ) → (IsScalar n → ⊥) → (c ≡ FdfaForms → ⊥) → StepsHoldAt s t c n
+unfolding StepsHoldAt HasSoundStep
+StepsHoldAt-elsewhere s t FdfaForms n h other = absurd (other refl)
+StepsHoldAt-elsewhere s t Steps n h other = λ q. absurd (h q)
+StepsHoldAt-elsewhere s t _ n h other = tt
 
 -- a condition that holds overall and of all numbers up to the first past the code points holds
 characters_within : (s : Characters) (b : Bounds) (c : Condition) → HoldsOverall s c → ((n : ℕ) → n ≤ 0x110000 → HoldsAt s b c n) → Holds s b c
@@ -73,7 +80,8 @@ pairs_within : (s : Characters) (b : Bounds) (o : Option (List Pair)) (c : Condi
     ((n : ℕ) → n ≤ 0x110000 → IfSome o (λ pairs. PairsHoldAt s b pairs c n)) → IfSome o (λ pairs. HoldsOfPairs s b pairs c)
 unfolding HoldsOfPairs code_points
 pairs_within s b None c overall each = tt
-pairs_within s b (Some pairs) c overall each = (overall, λ n. elim (cases_lt 0x110000 n) [ inl past ↦ PairsHoldAt-past s b pairs c n (omega arith) | inr within ↦ each n within ])
+pairs_within s b (Some pairs) c overall each =
+    (overall, λ n. elim (cases_lt 0x110000 n) [ inl past ↦ PairsHoldAt-elsewhere s b pairs c n (no_scalar_past n (omega arith)) | inr within ↦ each n within ])
 
 steps_within : (s : Characters) (t : Supplement) (c : Condition) → IsComplete s.decompositions.table → ((n : ℕ) → n ≤ 0x110000 → StepsHoldAt s t c n) → HoldsOfSteps s t c
 unfolding HoldsOfSteps StepsHoldAt HasSoundStep
@@ -127,6 +135,15 @@ pub IfSome-all : {A : Type 0} (P : A → Type 0) → ((a : A) → P a) → (o : 
 IfSome-all P f None = tt
 IfSome-all P f (Some a) = f a
 
+-- a number that no character has breaks but what is asked of surrogates and of the form of U+FDFA
+pub IsMetAt-elsewhere : (d : Loaded) (c : Condition) (n : ℕ) → (IsScalar n → ⊥) → (c ≡ Surrogates → ⊥) → (c ≡ FdfaForms → ⊥) → IsMetAt d c n
+unfolding IsMetAt
+IsMetAt-elsewhere d c n h no_surrogates no_form = (
+  HoldsAt-elsewhere d.characters d.bounds c n h no_surrogates,
+  IfSome-all _ (λ pairs. PairsHoldAt-elsewhere d.characters d.bounds pairs c n h) d.pairs,
+  IfSome-all _ (λ t. StepsHoldAt-elsewhere d.characters t c n h no_form) d.supplement,
+)
+
 module _ (d : Loaded) (c : Condition) (n : ℕ) (r : Bool) where
   pub IsMetAt-alone : (c ≡ RoundTrip → ⊥) → (c ≡ SafeBeginning → ⊥) → (c ≡ FdfaForms → ⊥) → (c ≡ Steps → ⊥) → IsTrue r ↔ HoldsAt d.characters d.bounds c n → IsTrue r ↔ IsMetAt d c n
   unfolding IsMetAt
@@ -162,3 +179,14 @@ module _ (d : Loaded) (c : Condition) (n : ℕ) (r : Bool) where
       of_pairs : (c ≡ FdfaForms) ⊎ (c ≡ Steps) → (pairs : List Pair) → PairsHoldAt d.characters d.bounds pairs c n
       of_pairs (inl e) pairs = subst (λ k. PairsHoldAt d.characters d.bounds pairs k n) (sym e) tt
       of_pairs (inr e) pairs = subst (λ k. PairsHoldAt d.characters d.bounds pairs k n) (sym e) tt
+
+  -- what is asked of surrogates, and of the form of U+FDFA
+  pub IsMetAt-surrogates : (w : ℕ) → c ≡ Surrogates → w ≡ word_of d.characters n → IsTrue r ↔ (is_surrogate n ≡ true → w ≡ 0xC000FFFD) → IsTrue r ↔ IsMetAt d c n
+  unfolding HoldsAt
+  IsMetAt-surrogates w is e h =
+      let of_word = subst (λ v. IsTrue r ↔ (is_surrogate n ≡ true → v ≡ 0xC000FFFD)) e h in
+      IsMetAt-alone (λ f. cc) (λ f. cc) (λ f. cc) (λ f. cc) (subst (λ k. IsTrue r ↔ HoldsAt d.characters d.bounds k n) (sym is) of_word)
+
+  pub IsMetAt-forms : c ≡ FdfaForms → IsTrue r ↔ IfSome d.supplement (λ _. AvoidsFdfa d.characters n) → IsTrue r ↔ IsMetAt d c n
+  unfolding StepsHoldAt
+  IsMetAt-forms is h = IsMetAt-by_step (inl is) (subst (λ k. IsTrue r ↔ IfSome d.supplement (λ t. StepsHoldAt d.characters t k n)) (sym is) h)

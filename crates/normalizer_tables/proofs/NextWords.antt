@@ -5,7 +5,7 @@ use Rattle.normalizer_tables.specs.Table.{IsNextWithWord, HaveNoWord, code_point
 use Rattle.normalizer_tables.specs.Walk.{IsNextWord}
 use Rattle.normalizer_tables.specs.Words.{is_plain}
 
-is_plain-true : (w : ℕ) → without_flags 0xC0000000 w ≡ 0 → is_plain w ≡ true
+pub is_plain-true : (w : ℕ) → without_flags 0xC0000000 w ≡ 0 → is_plain w ≡ true
 unfolding is_plain without_flags
 is_plain-true w h = eq-eqb _ _ h
 

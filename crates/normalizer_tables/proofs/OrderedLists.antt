@@ -87,3 +87,9 @@ rises_from-fall class k x place m j h e above below =
 pub rises_from-end : (class : ℕ → ℕ) (k : ℕ) (x : List ℕ) (place : ℕ) → length x ≤ place → rises_from class k (drop place x) ≡ true
 unfolding rises_from
 rises_from-end class k x place h = rw (drop_all place x h)
+
+-- a list of one member at most is in order
+pub order-short : (d : Reading) (x : List ℕ) → length x ≤ 1 → order d x ≡ x
+order-short d [] h = order-nil d
+order-short d (c ∷ []) h = order_of_ordered d (c ∷ []) (IsOrdered-cons d c [] (insert-nil d c) (IsOrdered-nil d))
+order-short d (c ∷ e ∷ x) h = absurd (omega arith)

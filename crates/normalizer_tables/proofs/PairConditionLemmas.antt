@@ -51,10 +51,15 @@ pub KeepsRoundTrip-plain : (s : Characters) (b : Bounds) (pairs : List Pair) (n 
 unfolding KeepsRoundTrip
 KeepsRoundTrip-plain s b pairs n plain h taken = RoundTrips-plain s pairs n h plain
 
--- the condition on results, of the lists of a pair
-pub HasOrderedLists-members : (s : Characters) (p : Pair) (first second result : List ℕ) (r : Bool) → first ≡ list_of s [] p.1 → second ≡ list_of s [] p.0 → result ≡ list_of s [] p.2 →
-    IsTrue r ↔ (result ≡ order (reading_by s Dropped []) (first ++ second)) → IsTrue r ↔ HasOrderedLists s [] p
-unfolding HasOrderedLists
-HasOrderedLists-members s p first second result r of_first of_second of_result h =
+-- a list is that of two others put in order, where these are the lists of two characters
+pub ordered_lists-members : (s : Characters) (a b : ℕ) (list first second : List ℕ) (r : Bool) → first ≡ list_of s [] a → second ≡ list_of s [] b →
+    IsTrue r ↔ (list ≡ order (reading_by s Dropped []) (first ++ second)) → IsTrue r ↔ (list ≡ order (reading_by s Dropped []) (list_of s [] a ++ list_of s [] b))
+ordered_lists-members s a b list first second r of_first of_second h =
     let joined = ap₂ (λ x y. order (reading_by s Dropped []) (x ++ y)) of_first of_second in
-    (λ yes. sym of_result ∙ h.0 yes ∙ joined, λ ordered. h.1 (of_result ∙ ordered ∙ sym joined))
+    (λ yes. h.0 yes ∙ joined, λ ordered. h.1 (ordered ∙ sym joined))
+
+-- the condition on results, of the list of a pair's result
+pub HasOrderedLists-result : (s : Characters) (p : Pair) (result : List ℕ) (r : Bool) → result ≡ list_of s [] p.2 →
+    IsTrue r ↔ (result ≡ order (reading_by s Dropped []) (list_of s [] p.1 ++ list_of s [] p.0)) → IsTrue r ↔ HasOrderedLists s [] p
+unfolding HasOrderedLists
+HasOrderedLists-result s p result r of_result h = (λ yes. sym of_result ∙ h.0 yes, λ ordered. h.1 (of_result ∙ ordered))

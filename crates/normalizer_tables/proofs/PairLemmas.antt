@@ -1,21 +1,16 @@
 -- Look-ups in a list of pairs.
-use Rattle.std.proofs.Common.{◌≡◌, not, ◌==◌, ◌&&◌, ◌≢◌, ℕ, ◌<◌, ◌≤◌, ◌+◌, ◌⊎◌, Bool, true, false, List, [], ◌∷◌, length, get_or, refl, Some, None, All, arith, ap, sym, subst, ◌∙◌, zero, suc, inl, inr, ◌-◌, ◌↔◌, IsTrue}
-use Rattle.std.proofs.lemmas.Bool.{cases_order, and_parts, eqb-true, eqb-false, not-true}
+use Rattle.std.proofs.Common.{◌≡◌, ◌≢◌, ℕ, ◌<◌, ◌≤◌, ◌+◌, ◌⊎◌, Bool, true, false, List, [], ◌∷◌, length, get_or, refl, Some}
+use Rattle.std.proofs.Common.{None, All, arith, ap, sym, subst, ◌∙◌, zero, suc, inl, inr, ◌-◌, ◌↔◌, IsTrue}
+use Rattle.std.proofs.lemmas.Bool.{cases_order}
 use Rattle.std.proofs.lemmas.Bool.Decides.{nat_tests}
 use Rattle.std.proofs.lemmas.List.Elements.{All-head, All-tail, All-nil, All-from_get_or}
-use Rattle.std.proofs.Math.Nat.{eq-or-lt_of_le}
-use Rattle.std.specs.List.Sorted.{IsPartitionedBy}
-use Rattle.std.specs.List.{list_all, AllAdjacentBelow, IsAllAdjacentAnswer}
+use Rattle.std.specs.List.{AllAdjacentBelow, IsAllAdjacentAnswer}
 use Rattle.normalizer_tables.specs.Pairs.{Pair, is_before, is_of, listed_result, AreRising, IsPlaceOf}
 
 -- what the test says, and what its denial says
 pub is_before-true : (p : Pair) (second first : ℕ) → is_before p second first ≡ true → (p.0 < second) ⊎ ((p.0 ≡ second) × (p.1 < first))
 unfolding is_before
 is_before-true p second first h = grind (arith, nat_tests)
-
-pub is_before-false : (p : Pair) (second first : ℕ) → is_before p second first ≡ false → (second < p.0) ⊎ ((p.0 ≡ second) × (first ≤ p.1))
-unfolding is_before
-is_before-false p second first h = grind (arith, nat_tests)
 
 pub is_before_from : (p : Pair) (second first : ℕ) → (p.0 < second) ⊎ ((p.0 ≡ second) × (p.1 < first)) → is_before p second first ≡ true
 unfolding is_before
@@ -28,6 +23,15 @@ is_of-true p first second h = grind (arith, nat_tests)
 pub is_of_from : (p : Pair) (first second : ℕ) → p.0 ≡ second → p.1 ≡ first → is_of p first second ≡ true
 unfolding is_of
 is_of_from p first second h k = grind (arith, nat_tests)
+
+pub not_before_from : (p : Pair) (second first : ℕ) → (second < p.0) ⊎ ((p.0 ≡ second) × (first ≤ p.1)) → is_before p second first ≡ false
+unfolding is_before
+not_before_from p second first h = grind (arith, nat_tests)
+
+-- another first
+pub is_of_other_first : (p : Pair) (first second : ℕ) → p.1 ≢ first → is_of p first second ≡ false
+unfolding is_of
+is_of_other_first p first second h = grind (arith, nat_tests)
 
 -- another second
 pub is_of_other : (p : Pair) (first second : ℕ) → p.0 ≢ second → is_of p first second ≡ false
@@ -48,16 +52,6 @@ pub is_of_after : (p q : Pair) (first second : ℕ) → is_before p second first
 unfolding is_before is_of
 is_of_after p q first second h k = grind (arith, nat_tests)
 
--- a triple before a second behind U+0000 has a lower second
-is_before_higher : (p : Pair) (second first : ℕ) → is_before p second 0 ≡ true → is_before p second first ≡ true
-unfolding is_before
-is_before_higher p second first h = grind (arith, nat_tests)
-
--- one after another with a higher second is not of this second
-is_of_later : (p q : Pair) (first second : ℕ) → p.0 ≢ second → is_before p second 0 ≡ false → is_before p q.0 q.1 ≡ true → is_of q first second ≡ false
-unfolding is_before is_of
-is_of_later p q first second other h k = grind (arith, nat_tests)
-
 -- a triple that is theirs decides
 listed_result-held : (p : Pair) (pairs : List Pair) (first second : ℕ) → is_of p first second ≡ true → listed_result (p ∷ pairs) first second ≡ Some p.2
 unfolding listed_result
@@ -68,7 +62,7 @@ listed_result-missed : (p : Pair) (pairs : List Pair) (first second : ℕ) → i
 unfolding listed_result
 listed_result-missed p pairs first second h = rw h refl
 
-listed_result-all_missed : (pairs : List Pair) (first second : ℕ) → All (λ p. is_of p first second ≡ false) pairs → listed_result pairs first second ≡ None
+pub listed_result-all_missed : (pairs : List Pair) (first second : ℕ) → All (λ p. is_of p first second ≡ false) pairs → listed_result pairs first second ≡ None
 unfolding listed_result
 listed_result-all_missed [] first second h = refl
 listed_result-all_missed (p ∷ pairs) first second h =
@@ -76,19 +70,13 @@ listed_result-all_missed (p ∷ pairs) first second h =
     ∙ listed_result-all_missed pairs first second (All-tail (λ q. is_of q first second ≡ false) p pairs h)
 
 -- the first that is theirs decides
-listed_result-at : (pairs : List Pair) (first second k : ℕ) (d : Pair) → k < length pairs → is_of (get_or pairs k d) first second ≡ true → ((j : ℕ) → j < k → is_of (get_or pairs j d) first second ≡ false) → listed_result pairs first second ≡ Some (get_or pairs k d).2
+pub listed_result-at : (pairs : List Pair) (first second k : ℕ) (d : Pair) → k < length pairs → is_of (get_or pairs k d) first second ≡ true
+    → ((j : ℕ) → j < k → is_of (get_or pairs j d) first second ≡ false) → listed_result pairs first second ≡ Some (get_or pairs k d).2
 listed_result-at [] first second k d within here before = absurd (omega arith)
 listed_result-at (p ∷ pairs) first second zero d within here before = listed_result-held p pairs first second here
 listed_result-at (p ∷ pairs) first second (suc k) d within here before =
     listed_result-missed p pairs first second (before 0 (omega arith))
     ∙ listed_result-at pairs first second k d (omega arith) here (λ j below. before (suc j) (omega arith))
-
--- triples that rise have those before two characters in front
-pub IsPartitionedBy-is_before : (pairs : List Pair) (second first : ℕ) → AreRising pairs → IsPartitionedBy (λ p. is_before p second first) pairs
-IsPartitionedBy-is_before pairs second first rising i j d le within later = elim (eq-or-lt_of_le le) as (λ _. is_before (get_or pairs i d) second first ≡ true) [
-  | inl same ↦ subst (λ (m : ℕ). is_before (get_or pairs m d) second first ≡ true) (sym same) later
-  | inr below ↦ is_before_trans (get_or pairs i d) (get_or pairs j d) second first (rising i j d below within) later
-]
 
 module _ (pairs : List Pair) (second first place : ℕ) (is : IsPlaceOf pairs second first place) where
   pub before_place : (k : ℕ) (d : Pair) → k < place → is_before (get_or pairs k d) second first ≡ true
@@ -102,7 +90,8 @@ module _ (pairs : List Pair) (second first place : ℕ) (is : IsPlaceOf pairs se
   -- the first triple of these two characters stands there
   pub listed_result-found : (p : Pair) → place < length pairs → p ≡ get_or pairs place p → is_of p first second ≡ true → listed_result pairs first second ≡ Some p.2
   listed_result-found p within here theirs =
-      listed_result-at pairs first second place p within (subst (λ (q : Pair). is_of q first second ≡ true) here theirs) (λ j below. is_of_before (get_or pairs j p) first second (before_place j p below))
+      listed_result-at pairs first second place p within (subst (λ (q : Pair). is_of q first second ≡ true) here theirs)
+      (λ j below. is_of_before (get_or pairs j p) first second (before_place j p below))
       ∙ ap (λ q. Some q.2) (sym here)
 
   -- another stands there
@@ -119,41 +108,6 @@ module _ (pairs : List Pair) (second first place : ℕ) (is : IsPlaceOf pairs se
   -- no triple stands there
   pub listed_result-above : length pairs ≤ place → listed_result pairs first second ≡ None
   listed_result-above above = listed_result-all_missed pairs first second (λ k d inside. is_of_before (get_or pairs k d) first second (before_place k d (omega arith)))
-
--- the place of a second behind U+0000 is the first with that second
-module _ (pairs : List Pair) (second place : ℕ) (is : IsPlaceOf pairs second 0 place) where
-  pub listed_result-second : (p : Pair) → place < length pairs → p ≡ get_or pairs place p → p.0 ≡ second → listed_result pairs p.1 second ≡ Some p.2
-  listed_result-second p within here same =
-      listed_result-at pairs p.1 second place p within (subst (λ (q : Pair). is_of q p.1 second ≡ true) here (is_of_from p p.1 second same refl)) (λ j below. is_of_before (get_or pairs j p) p.1 second (is_before_higher (get_or pairs j p) second p.1 (before_place pairs second 0 place is j p below)))
-      ∙ ap (λ q. Some q.2) (sym here)
-
-  pub listed_result-no_second : AreRising pairs → (p : Pair) → place < length pairs → p ≡ get_or pairs place p → p.0 ≢ second → (first : ℕ) → listed_result pairs first second ≡ None
-  listed_result-no_second rising p within here other first = listed_result-all_missed pairs first second (All-from_get_or (λ q. is_of q first second ≡ false) pairs p misses)
-    where
-      misses : (k : ℕ) → k < length pairs → is_of (get_or pairs k p) first second ≡ false
-      misses k inside = elim (cases_order k place) as (λ _. is_of (get_or pairs k p) first second ≡ false) [
-        | inl same ↦ is_of_other (get_or pairs k p) first second (subst (λ (q : Pair). q.0 ≢ second) (here ∙ ap (λ m. get_or pairs m p) (sym same)) other)
-        | inr (inl below) ↦ is_of_before (get_or pairs k p) first second (is_before_higher (get_or pairs k p) second first (before_place pairs second 0 place is k p below))
-        | inr (inr above) ↦ is_of_later (get_or pairs place p) (get_or pairs k p) first second (subst (λ (q : Pair). q.0 ≢ second) here other) (not_before_from_place pairs second 0 place is place p (omega arith) within) (rising place k p above inside)
-      ]
-
-  pub listed_result-no_second_above : length pairs ≤ place → (first : ℕ) → listed_result pairs first second ≡ None
-  listed_result-no_second_above above first = listed_result-all_missed pairs first second (λ k d inside. is_of_before (get_or pairs k d) first second (is_before_higher (get_or pairs k d) second first (before_place pairs second 0 place is k d (omega arith))))
-
--- a list without a second gives it no result, and no other list does
-list_all-no_second : (pairs : List Pair) (second : ℕ) → list_all (λ p. not (p.0 == second)) pairs ≡ true → (first : ℕ) → listed_result pairs first second ≡ None
-unfolding listed_result
-list_all-no_second [] second h first = refl
-list_all-no_second (p ∷ pairs) second h first =
-    let parts = and_parts _ _ h in
-    listed_result-missed p pairs first second (is_of_other p first second (eqb-false _ _ (not-true _ parts.0))) ∙ list_all-no_second pairs second parts.1 first
-
-no_second-list_all : (pairs : List Pair) (second : ℕ) → ((first : ℕ) → listed_result pairs first second ≡ None) → list_all (λ p. not (p.0 == second)) pairs ≡ true
-no_second-list_all [] second none = refl
-no_second-list_all (p ∷ pairs) second none = elim (p.0 == second) as (λ b. (p.0 == second) ≡ b → (not b && list_all (λ q. not (q.0 == second)) pairs) ≡ true) [
-  | true ↦ λ same. let found = listed_result-held p pairs p.1 second (is_of_from p p.1 second (eqb-true _ _ same) refl) in let missing = none p.1 in cc
-  | false ↦ λ other. no_second-list_all pairs second (λ first. sym (listed_result-missed p pairs first second (is_of_other p first second (eqb-false _ _ other))) ∙ none first)
-] refl
 
 -- triples, each before the next
 module _ (pairs : List Pair) (adjacent : AllAdjacentBelow (λ p q. true ≡ is_before p q.0 q.1) pairs (length pairs)) where
@@ -176,13 +130,6 @@ AreRising-decides pairs false h = (λ no. cc, λ rising. h.2 any ∙ rising h.0 
   where
     any : Pair
     any = (0, 0, 0)
-
--- the test of the seconds answers whether a character is never second
-pub never_second-decides : (pairs same : List Pair) (second : ℕ) (r : Bool) → pairs ≡ same → r ≡ list_all (λ p. not (p.0 == second)) pairs → IsTrue r ↔ ((first : ℕ) → listed_result same first second ≡ None)
-never_second-decides pairs same second r is answer = (
-  λ passed. list_all-no_second same second (ap (list_all (λ p. not (p.0 == second))) (sym is) ∙ sym answer ∙ passed),
-  λ none. answer ∙ ap (list_all (λ p. not (p.0 == second))) is ∙ no_second-list_all same second none,
-)
 
 -- what is true of each triple is true of the one that a look-up finds
 pub All-listed_result : (P : Pair → Type 0) (pairs : List Pair) (first second result : ℕ) → All P pairs → listed_result pairs first second ≡ Some result → P (second, first, result)

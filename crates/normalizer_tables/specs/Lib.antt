@@ -15,12 +15,15 @@ pub mod NfdData
 pub mod PairConditions
 pub mod Pairs
 pub mod Ranges
+pub mod Read
 pub mod Readings
 pub mod Refusals
+pub mod Rows
 pub mod SoundData
 pub mod SpecialLists
 pub mod StepConditions
 pub mod Steps
 pub mod Table
+pub mod Unseen
 pub mod Walk
 pub mod Words

@@ -18,11 +18,13 @@ ghost use Rattle.normalizer_tables.specs.Characters.{
 ghost use Rattle.normalizer_tables.specs.Found.{IsFound};
 ghost use Rattle.normalizer_tables.specs.Ranges.{IsComplete};
 ghost use Rattle.normalizer_tables.specs.Table.{code_points};
+ghost use Rattle.normalizer_tables.specs.Unseen.{PassUnseenBelow, PassesUnseen};
 ghost use Rattle.normalizer_tables.specs.Walk.{IsNextWord};
 ghost use Rattle.normalizer_tables.specs.Readings.{reading_by};
 
 use crate::members::Members;
 use crate::provider::{DecompositionData, DecompositionTables};
+use crate::scalars::Scalars16;
 use crate::special::fixed_list_of;
 use crate::word::{FLAGS, WordReading, class_of_word, is_class_form, read};
 use std::alloc::Global;
@@ -40,19 +42,21 @@ pub enum IgnoredCharacters {
 /// How many code points there are.
 pub const CODE_POINTS: u32 = 0x110000;
 
-/// Decomposition data with the tables that their words point into.
+/// Decomposition data with the tables that their words point into, and below which number characters pass unseen.
 #[derive(Drop)]
 pub struct CharacterData<'a> {
     decompositions: &'a DecompositionData,
     tables: &'a DecompositionTables,
     supplementary: Option<&'a DecompositionTables>,
     is_mapper: bool,
+    unseen_below: u32,
 }
 
 impl<'a> Model for CharacterData<'a> {
     ghost use Rattle.std.specs.Option.{option_copied};
     ghost use Rattle.normalizer_tables.specs.Data.{lists_or_none};
     ghost use Rattle.normalizer_tables.specs.Characters.{Characters};
+    ghost use Rattle.normalizer_tables.specs.Unseen.{PassUnseenBelow};
 
     ghost Value = { Characters };
 
@@ -62,6 +66,13 @@ impl<'a> Model for CharacterData<'a> {
       supplementary = lists_or_none (option_copied s.supplementary);
       is_mapper = s.is_mapper;
     } };
+
+    ghost invariant = { λ s. PassUnseenBelow (record {
+      decompositions = s.decompositions.now;
+      tables = s.tables.now;
+      supplementary = lists_or_none (option_copied s.supplementary);
+      is_mapper = s.is_mapper;
+    }) s.unseen_below };
 }
 
 impl<'a> CharacterData<'a> {
@@ -69,7 +80,7 @@ impl<'a> CharacterData<'a> {
     ghost use Rattle.normalizer_tables.specs.Data.{lists_or_none};
 
     /// Data, the tables that come first, the supplementary ones where the data have them, and whether the data are the
-    /// mapper's.
+    /// mapper's. No character passes unseen.
     pub fn new(
         decompositions: &'a DecompositionData,
         tables: &'a DecompositionTables,
@@ -88,6 +99,21 @@ impl<'a> CharacterData<'a> {
             tables,
             supplementary,
             is_mapper,
+            unseen_below: 0,
+        }
+    }
+
+    /// The same data, of which the characters below this number pass unseen.
+    pub fn passing_unseen_below(self, bound: u32) -> Self
+        requires { PassUnseenBelow self bound }
+        ensures { result ≡ self.entry }
+    {
+        CharacterData {
+            decompositions: self.decompositions,
+            tables: self.tables,
+            supplementary: self.supplementary,
+            is_mapper: self.is_mapper,
+            unseen_below: bound,
         }
     }
 
@@ -100,7 +126,16 @@ impl<'a> CharacterData<'a> {
             tables: self.tables,
             supplementary: self.supplementary,
             is_mapper: self.is_mapper,
+            unseen_below: self.unseen_below,
         }
+    }
+
+    /// Whether a character is known to pass unseen: it is its own list, with class 0 and no class form. Its word isn't
+    /// looked up.
+    pub fn passes_unseen(&self, character: char) -> bool
+        ensures { IsTrue result → PassesUnseen self.now character }
+    {
+        (character as u32) < self.unseen_below
     }
 
     /// The allocator of the tables.
@@ -178,6 +213,9 @@ impl<'a> CharacterData<'a> {
     pub fn class_of(&self, character: char) -> u8
         ensures { result ≡ class_of self.now character }
     {
+        if self.passes_unseen(character) {
+            return 0;
+        }
         class_of_word(self.word_of(character))
     }
 
@@ -234,14 +272,7 @@ impl<'a> CharacterData<'a> {
         }
     }
 
-    /// The list that the word of a character reads to, if it reads.
-    pub fn members_read(&self, character: char, ignored: IgnoredCharacters) -> Option<Members<'a>>
-        ensures { result ≡ list_read self.now (ignored_list ignored) character }
-    {
-        self.members_read_by(character, self.word_of(character), ignored)
-    }
-
-    fn members_read_by(
+    pub(crate) fn members_read_by(
         &self,
         character: char,
         word: u32,
@@ -263,14 +294,8 @@ impl<'a> CharacterData<'a> {
     }
 
     /// How the word of a character reads.
-    pub fn reading(&self, character: char) -> WordReading
-        ensures { result ≡ reading_of_word self.now character }
-    {
-        self.reading_by(character, self.word_of(character))
-    }
-
     #[tactic(auto, unfolding(crate::specs::Characters::reading_of_word))]
-    fn reading_by(&self, character: char, word: u32) -> WordReading
+    pub(crate) fn reading_by(&self, character: char, word: u32) -> WordReading
         requires { word ≡ word_of self.now character }
         ensures { result ≡ reading_of_word self.now character }
     {
@@ -300,7 +325,7 @@ enum Found<'a> {
 fn listed_in<'a>(tables: &'a DecompositionTables, item: usize, low: u8) -> Found<'a>
     ensures { IsFound tables.now low item result }
 {
-    let narrow = tables.scalars16.as_slice();
+    let narrow = &tables.scalars16;
     let Some(past_narrow) = item.checked_sub(narrow.len()) else {
         return Found::Here(narrow_at(narrow, low, item));
     };
@@ -312,10 +337,15 @@ fn listed_in<'a>(tables: &'a DecompositionTables, item: usize, low: u8) -> Found
 }
 
 #[tactic(auto, unfolding(crate::specs::Characters::narrow_at))]
-fn narrow_at(units: &[u16], low: u8, place: usize) -> Option<Members<'_>>
+fn narrow_at(units: &Scalars16, low: u8, place: usize) -> Option<Members<'_>>
     ensures { result ≡ narrow_at units.now low place }
 {
-    Members::of_units(items_at(units, place, low as usize + 2)?)
+    let list = items_at(units.as_slice(), place, low as usize + 2)?;
+    if units.are_characters() {
+        Some(Members::of_characters(list))
+    } else {
+        Members::of_units(list)
+    }
 }
 
 #[tactic(auto, unfolding(crate::specs::Characters::wide_at))]

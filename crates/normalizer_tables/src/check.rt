@@ -1,18 +1,22 @@
 //! The complete check of what was loaded: the first of the written conditions that it breaks.
 ghost use Rattle.std.specs.Prelude.{◌≡◌, ◌↔◌, ◌≤◌, IsTrue, slice_get};
+ghost use Rattle.std.specs.Char.{IsScalar};
 ghost use Rattle.std.specs.List.{Contains, list_any};
+ghost use Rattle.normalizer_tables.specs.Characters.{word_of};
 ghost use Rattle.normalizer_tables.specs.Conditions.{IsFirstFailing, IsPlaceOfFirstFailing};
 ghost use Rattle.normalizer_tables.specs.Loaded.{IsMet, IsMetAt};
 ghost use Rattle.normalizer_tables.specs.Ranges.{IsComplete};
+ghost use Rattle.normalizer_tables.specs.Read.{IsRead};
 ghost use Rattle.normalizer_tables.specs.Table.{code_points};
 ghost use Rattle.normalizer_tables.specs.declared.condition.Condition.TheVariants as condition;
 ghost use Rattle.normalizer_tables.specs.Walk.{IsEndOfAlike, IsMetApart, is_asked_of_words};
 
 use crate::characters::CODE_POINTS;
-use crate::check::parts::{is_met_apart, is_met_at};
+use crate::check::parts::{is_met_apart, is_met_at, is_met_elsewhere};
 use crate::condition::Condition;
 use crate::hangul::{N_COUNT, S_BASE};
 use crate::loaded::LoadedData;
+use crate::read::{ReadCharacter, read_by_word};
 use crate::word::is_hangul_syllable;
 
 mod lists;
@@ -111,9 +115,47 @@ fn first_failing_at(data: &LoadedData<'_>, conditions: &[Condition], number: u32
     ensures place { IsPlaceOfFirstFailing (λ c. IsMetAt data.now c number) conditions.now result }
     ensures complete { IsComplete data.now.characters.decompositions.table }
 {
-    let word = data.characters().word_of_number(number);
+    let characters = data.characters();
+    let word = characters.word_of_number(number);
+    match char::from_u32(number) {
+        // It is read here, once for all conditions.
+        Some(character) => {
+            first_failing_of(data, conditions, &read_by_word(characters, character, word))
+        }
+        None => first_failing_elsewhere(data, conditions, number, word),
+    }
+}
+
+/// The place of the first condition that fails of a character.
+fn first_failing_of(
+    data: &LoadedData<'_>,
+    conditions: &[Condition],
+    read: &ReadCharacter<'_>,
+) -> usize
+    requires { IsRead data.now.characters read.now }
+    ensures { IsPlaceOfFirstFailing (λ c. IsMetAt data.now c read.now.character) conditions.now result }
+{
     for (place, &condition) in conditions.iter().enumerate() {
-        if !is_met_at(data, condition, number, word) {
+        if !is_met_at(data, condition, read) {
+            return place;
+        }
+    }
+    conditions.len()
+}
+
+/// The place of the first condition that fails of a number that no character has and its word.
+fn first_failing_elsewhere(
+    data: &LoadedData<'_>,
+    conditions: &[Condition],
+    number: u32,
+    word: u32,
+) -> usize
+    requires no_character { IsScalar number → ⊥ }
+    requires word { word ≡ word_of data.now.characters number }
+    ensures { IsPlaceOfFirstFailing (λ c. IsMetAt data.now c number) conditions.now result }
+{
+    for (place, &condition) in conditions.iter().enumerate() {
+        if !is_met_elsewhere(data, condition, number, word) {
             return place;
         }
     }

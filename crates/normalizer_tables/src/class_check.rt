@@ -16,7 +16,7 @@ use crate::check::numbers::has_fixed_class;
 use crate::condition::Condition;
 use crate::provider::DecompositionData;
 use crate::table::CodePointTable;
-use crate::word::{is_class_form, is_ordinary_class_form, is_special_class_form, low_byte};
+use crate::word::{FLAGS, is_class_form, is_ordinary_class_form, is_special_class_form, low_byte};
 
 /// The first of the conditions on classes that data break. It takes no memory.
 pub fn first_failing_of_classes(data: &DecompositionData) -> Option<Condition>
@@ -57,10 +57,13 @@ fn has_no_class_past(table: &CodePointTable) -> bool
 fn have_sound_classes(table: &CodePointTable) -> bool
     ensures { IsTrue result ↔ HoldsOfClasses table.now condition.WordClasses }
 {
-    for number in 0..CODE_POINTS {
+    let mut from = 0;
+    // A word that is 0, flags aside, has no class form.
+    while let Some(number) = table.next_with_word(from, FLAGS) {
         if !has_sound_class(number, table.get32(number)) {
             return false;
         }
+        from = number + 1;
     }
     true
 }

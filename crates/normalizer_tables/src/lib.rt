@@ -14,6 +14,7 @@ pub mod nfd_check;
 pub mod pair_check;
 mod pairs;
 mod provider;
+mod read;
 pub mod refusal;
 mod scalars;
 pub mod special;
@@ -23,7 +24,7 @@ mod table;
 pub mod word;
 
 pub use nfd_check::check_nfd_data;
-pub use pairs::CanonicalCompositions;
+pub use pairs::{CanonicalCompositions, row_count};
 pub use provider::{
     DataError, DataMarker, DataMarkerInfo, DataProvider, DecompositionData, DecompositionTables,
     NonRecursiveDecompositionSupplement, NormalizerNfcV1, NormalizerNfdDataV1,

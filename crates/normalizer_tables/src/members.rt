@@ -7,6 +7,7 @@ ghost use Rattle.normalizer_tables.specs.Characters.{as_text};
 ghost use Rattle.normalizer_tables.specs.Hangul.{hangul_decomposition, is_hangul_syllable};
 ghost use Rattle.normalizer_tables.specs.SpecialLists.{fdfa_list};
 
+use crate::scalars::spell_characters;
 use std::marker::Model;
 
 /// A list of characters that stands elsewhere, or is short.
@@ -105,7 +106,7 @@ impl<'a> Members<'a> {
         }
     }
 
-    pub(crate) fn one(a: char) -> Self
+    pub fn one(a: char) -> Self
         ensures { result ≡ a ∷ [] }
     {
         Members {
@@ -137,17 +138,25 @@ impl<'a> Members<'a> {
         Some(Members::two(char::from_u32(a)?, char::from_u32(b)?))
     }
 
-    /// Characters up to U+FFFF.
+    /// Characters up to U+FFFF, where these numbers are all those of characters.
     #[tactic(auto, unfolding(crate::specs::Characters::as_text))]
     pub(crate) fn of_units(units: &'a [u16]) -> Option<Self>
         ensures { result ≡ as_text units.now }
     {
-        if are_characters(units) {
-            Some(Members {
-                shape: Shape::Narrow(units),
-            })
+        if spell_characters(units) {
+            Some(Members::of_characters(units))
         } else {
             None
+        }
+    }
+
+    /// Characters up to U+FFFF.
+    pub(crate) fn of_characters(units: &'a [u16]) -> Self
+        requires { list_all scalar units.now ≡ true }
+        ensures { result ≡ units.now }
+    {
+        Members {
+            shape: Shape::Narrow(units),
         }
     }
 
@@ -203,18 +212,4 @@ fn character_at(units: &[u16], place: usize) -> Option<char>
         Some(&unit) => char::from_u32(unit as u32),
         None => None,
     }
-}
-
-/// Whether all these numbers are those of characters.
-fn are_characters(units: &[u16]) -> bool
-    ensures { result ≡ list_all scalar units.now }
-{
-    units.iter().all(|&unit| is_character(unit))
-}
-
-/// Whether a number is that of a character, and no surrogate.
-fn is_character(unit: u16) -> bool
-    ensures { result ≡ scalar unit }
-{
-    char::from_u32(unit as u32).is_some()
 }

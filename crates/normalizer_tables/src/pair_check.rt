@@ -7,14 +7,15 @@ ghost use Rattle.normalizer_tables.specs.PairConditions.{
   PairsHoldAt,
   PairsHoldOverall,
 };
-ghost use Rattle.normalizer_tables.specs.Characters.{word_of};
+ghost use Rattle.normalizer_tables.specs.Read.{IsRead};
 
 use crate::characters::CharacterData;
 use crate::condition::{Bounds, Condition};
 use crate::pair_check::beginnings::{keeps_beginning, keeps_round_trip};
 use crate::pair_check::results::has_ordered_lists;
 use crate::pairs::CanonicalCompositions;
-use crate::word::IGNORED_MARKER;
+use crate::read::ReadCharacter;
+use crate::word::{IGNORED_MARKER, is_class_form};
 
 pub(crate) mod beginnings;
 pub(crate) mod results;
@@ -36,22 +37,21 @@ pub(crate) fn pairs_hold_overall(
     }
 }
 
-/// Whether a condition holds of a number by the pairs, where its word was looked up.
+/// Whether a condition holds of a character by the pairs.
 #[tactic(auto, unfolding(crate::specs::PairConditions::PairsHoldAt))]
 pub(crate) fn pairs_hold_at(
     data: &CharacterData<'_>,
     bounds: Bounds,
     compositions: &CanonicalCompositions,
     condition: Condition,
-    number: u32,
-    word: u32,
+    read: &ReadCharacter<'_>,
 ) -> bool
-    requires { word ≡ word_of data.now number }
-    ensures { IsTrue result ↔ PairsHoldAt data.now bounds compositions.now condition number }
+    requires { IsRead data.now read.now }
+    ensures { IsTrue result ↔ PairsHoldAt data.now bounds compositions.now condition read.now.character }
 {
     match condition {
-        Condition::RoundTrip => keeps_round_trip(data, bounds, compositions, number, word),
-        Condition::SafeBeginning => keeps_beginning(data, bounds, compositions, number, word),
+        Condition::RoundTrip => keeps_round_trip(data, bounds, compositions, read),
+        Condition::SafeBeginning => keeps_beginning(data, bounds, compositions, read),
         _ => true,
     }
 }
@@ -84,10 +84,12 @@ fn have_composable_members(data: &CharacterData<'_>, compositions: &CanonicalCom
     true
 }
 
+#[tactic(auto, unfolding(crate::specs::Characters::has_class_form))]
 fn is_composable(data: &CharacterData<'_>, character: char) -> bool
     ensures { IsTrue result ↔ IsComposable data.now character }
 {
-    !data.has_class_form(character) && data.word_of(character) != IGNORED_MARKER
+    let word = data.word_of(character);
+    !is_class_form(word) && word != IGNORED_MARKER
 }
 
 /// Whether each result has the ordered lists of first and second.

@@ -1,7 +1,5 @@
 //! The pairs of characters that compose.
-ghost use Rattle.std.specs.Prelude.{◌≡◌, ◌↔◌, ◌==◌, ◌<◌, [], length, slice_get, All, false, ℕ, IfOk, IsOkUnless};
-ghost use Rattle.std.specs.Prelude.{IsTrue, not};
-ghost use Rattle.std.specs.List.{list_all};
+ghost use Rattle.std.specs.Prelude.{◌≡◌, ◌↔◌, ◌<◌, [], length, slice_get, All, false, ℕ, IfOk, IsOkUnless, IsTrue};
 ghost use Rattle.normalizer_tables.specs.Pairs.{
   is_before,
   is_of,
@@ -10,19 +8,23 @@ ghost use Rattle.normalizer_tables.specs.Pairs.{
   pair_of,
   AreRising,
   IsNeverSecond,
-  IsPlaceOf,
 };
+ghost use Rattle.normalizer_tables.specs.Rows.{row_count};
+
+mod rows;
 
 use crate::hangul::{compose_hangul, is_never_hangul_second};
+use crate::pairs::rows::PairRows;
 use crate::table::TableError;
 use std::alloc::AllocError;
 use std::marker::Model;
 
-/// Composing pairs as triples of second character, first character and result. Look-ups halve a list that rises, and
-/// go through another one from its beginning.
+/// Composing pairs as triples of second character, first character and result, kept in rows of equal neighbouring
+/// seconds. Look-ups halve the rows of a list that rises, and then the firsts of one row; they go through another list
+/// from its beginning.
 #[derive(Drop)]
 pub struct CanonicalCompositions {
-    pairs: Vec<(char, char, char)>,
+    pairs: PairRows,
     is_rising: bool,
 }
 
@@ -32,9 +34,9 @@ impl Model for CanonicalCompositions {
 
     ghost Value = { List (ℕ × ℕ × ℕ) };
 
-    ghost view = { λ c. c.pairs.items };
+    ghost view = { λ c. c.pairs };
 
-    ghost invariant = { λ c. IsTrue c.is_rising ↔ AreRising c.pairs.items };
+    ghost invariant = { λ c. IsTrue c.is_rising ↔ AreRising c.pairs };
 }
 
 impl CanonicalCompositions {
@@ -44,6 +46,7 @@ impl CanonicalCompositions {
         ensures refused { IsOkUnless result TableError.Memory }
     {
         let is_rising = are_rising(&pairs);
+        let pairs = PairRows::from_pairs(*pairs.allocator(), &pairs)?;
         Ok(CanonicalCompositions { pairs, is_rising })
     }
 
@@ -64,7 +67,7 @@ impl CanonicalCompositions {
     pub fn is_empty(&self) -> bool
         ensures { IsTrue result ↔ (self.now ≡ []) }
     {
-        self.pairs.is_empty()
+        self.len() == 0
     }
 
     /// The pair at this place, counted from 0: second, first and result.
@@ -72,16 +75,19 @@ impl CanonicalCompositions {
         requires { place < length self.now }
         ensures { slice_get self.now place ≡ Some result }
     {
-        self.pairs[place]
+        self.pairs.at(place)
     }
 
     /// Whether the arithmetic of Hangul answers none of the seconds.
     pub fn has_no_jamo_second(&self) -> bool
         ensures { IsTrue result ↔ All (λ p. is_vowel_or_trailing_jamo p.0 ≡ false) self.now }
     {
-        self.pairs
-            .iter()
-            .all(|pair| !is_vowel_or_trailing_jamo(pair.0))
+        for place in 0..self.len() {
+            if is_vowel_or_trailing_jamo(self.at(place).0) {
+                return false;
+            }
+        }
+        true
     }
 
     /// What two characters compose to: by the arithmetic of Hangul alone where the second is a vowel or a trailing
@@ -102,7 +108,7 @@ impl CanonicalCompositions {
         ensures { result ≡ listed_result self.now first second }
     {
         if self.is_rising {
-            result_by_halving(&self.pairs, first, second)
+            self.pairs.result_by_halving(first, second)
         } else {
             first_result(&self.pairs, first, second)
         }
@@ -125,11 +131,18 @@ impl CanonicalCompositions {
         ensures { IsTrue result ↔ ((first : ℕ) → listed_result self.now first second ≡ None) }
     {
         if self.is_rising {
-            is_never_second_by_halving(&self.pairs, second)
+            self.pairs.is_never_second_by_halving(second)
         } else {
             has_no_second(&self.pairs, second)
         }
     }
+}
+
+/// How many rows of equal neighbouring seconds are kept.
+pub fn row_count(pairs: &CanonicalCompositions) -> usize
+    ensures { result ≡ row_count pairs.now }
+{
+    pairs.pairs.count()
 }
 
 /// Equal where the lists that were handed in are.
@@ -177,53 +190,28 @@ fn are_rising(pairs: &[(char, char, char)]) -> bool
 }
 
 /// The result of the first pair of two characters.
-#[tactic(auto, unfolding(crate::specs::Pairs::listed_result))]
-fn first_result(pairs: &[(char, char, char)], first: char, second: char) -> Option<char>
+fn first_result(pairs: &PairRows, first: char, second: char) -> Option<char>
     ensures { result ≡ listed_result pairs.now first second }
 {
-    pairs
-        .iter()
-        .find(|pair| is_of(pair, first, second))
-        .map(|pair| pair.2)
-}
-
-/// The same in a list that rises.
-fn result_by_halving(pairs: &[(char, char, char)], first: char, second: char) -> Option<char>
-    requires { AreRising pairs.now }
-    ensures { result ≡ listed_result pairs.now first second }
-{
-    let at = place_of(pairs, second, first);
-    match pairs.get(at) {
-        Some(pair) if is_of(pair, first, second) => Some(pair.2),
-        _ => None,
+    for place in 0..pairs.len() {
+        let pair = pairs.at(place);
+        if is_of(&pair, first, second) {
+            return Some(pair.2);
+        }
     }
+    None
 }
 
 /// Whether no pair has this second.
-fn has_no_second(pairs: &[(char, char, char)], second: char) -> bool
-    ensures { result ≡ list_all (λ p. not (p.0 == second)) pairs.now }
-{
-    pairs.iter().all(|pair| pair.0 != second)
-}
-
-/// The same in a list that rises.
-fn is_never_second_by_halving(pairs: &[(char, char, char)], second: char) -> bool
-    requires { AreRising pairs.now }
+fn has_no_second(pairs: &PairRows, second: char) -> bool
     ensures { IsTrue result ↔ ((first : ℕ) → listed_result pairs.now first second ≡ None) }
 {
-    let at = place_of(pairs, second, '\0');
-    match pairs.get(at) {
-        Some(pair) if pair.0 == second => false,
-        _ => true,
+    for place in 0..pairs.len() {
+        if pairs.at(place).0 == second {
+            return false;
+        }
     }
-}
-
-/// The place in a rising list of the first pair that doesn't stand before those of two characters, by halving.
-fn place_of(pairs: &[(char, char, char)], second: char, first: char) -> usize
-    requires { AreRising pairs.now }
-    ensures { IsPlaceOf pairs.now second first result }
-{
-    pairs.partition_point(|pair| is_before(pair, second, first))
+    true
 }
 
 #[tactic(auto, unfolding(crate::specs::Pairs::is_before))]

@@ -1,21 +1,29 @@
 //! Lists of characters that the words of a table point into.
 ghost use Rattle.std.specs.Prelude.{◌≡◌, ◌↔◌, [], length, IsTrue};
+ghost use Rattle.std.specs.List.{list_all};
+ghost use lib.Utf8.{scalar};
 
 use std::alloc::{AllocError, Global};
 use std::marker::Model;
 
-/// Characters up to U+FFFF, as 16-bit numbers.
+/// Characters up to U+FFFF, as 16-bit numbers. Whether each of these is that of a character is noted once, when they
+/// are handed in.
 #[derive(Drop)]
 pub struct Scalars16 {
     units: Vec<u16>,
+    are_characters: bool,
 }
 
 impl Model for Scalars16 {
-    ghost use Rattle.std.specs.Prelude.{ℕ, List};
+    ghost use Rattle.std.specs.Prelude.{◌≡◌, ℕ, List};
+    ghost use Rattle.std.specs.List.{list_all};
+    ghost use lib.Utf8.{scalar};
 
     ghost Value = { List ℕ };
 
     ghost view = { λ s. s.units.items };
+
+    ghost invariant = { λ s. s.are_characters ≡ list_all scalar s.units.items };
 }
 
 impl Scalars16 {
@@ -40,13 +48,24 @@ impl Scalars16 {
     {
         self.units.is_empty()
     }
+
+    /// Whether all these numbers are those of characters. None is looked at.
+    pub(crate) fn are_characters(&self) -> bool
+        ensures { result ≡ list_all scalar self.now }
+    {
+        self.are_characters
+    }
 }
 
 impl From<Vec<u16>> for Scalars16 {
     ghost from_gives = { λ v s. s ≡ v.items };
 
     fn from(units: Vec<u16>) -> Self {
-        Scalars16 { units }
+        let are_characters = spell_characters(units.as_slice());
+        Scalars16 {
+            units,
+            are_characters,
+        }
     }
 }
 
@@ -54,7 +73,7 @@ impl From<Scalars16> for Vec<u16> {
     ghost from_gives = { λ s v. v.items ≡ s };
 
     fn from(scalars: Scalars16) -> Self {
-        let Scalars16 { units } = scalars;
+        let Scalars16 { units, .. } = scalars;
         units
     }
 }
@@ -86,8 +105,23 @@ impl Clone for Scalars16 {
     fn clone(&self) -> Result<Self, AllocError> {
         Ok(Scalars16 {
             units: self.units.clone()?,
+            are_characters: self.are_characters,
         })
     }
+}
+
+/// Whether all these numbers are those of characters.
+pub(crate) fn spell_characters(units: &[u16]) -> bool
+    ensures { result ≡ list_all scalar units.now }
+{
+    units.iter().all(|&unit| is_character(unit))
+}
+
+/// Whether a number is that of a character, and no surrogate.
+fn is_character(unit: u16) -> bool
+    ensures { result ≡ scalar unit }
+{
+    char::from_u32(unit as u32).is_some()
 }
 
 /// Characters.

@@ -1,7 +1,8 @@
 //! One step of canonical decomposition.
-ghost use Rattle.std.specs.Prelude.{◌≡◌, [], true};
-ghost use Rattle.normalizer_tables.specs.Characters.{as_text, list_read};
+ghost use Rattle.std.specs.Prelude.{◌≡◌, [], true, false};
+ghost use Rattle.normalizer_tables.specs.Characters.{Characters, as_text, list_read};
 ghost use Rattle.normalizer_tables.specs.Hangul.{is_hangul_syllable};
+ghost use Rattle.normalizer_tables.specs.Read.{IsRead};
 ghost use Rattle.normalizer_tables.specs.Steps.{
   hangul_mapping,
   listed_step,
@@ -14,10 +15,11 @@ ghost use Rattle.normalizer_tables.specs.Steps.{
   supplementary_step,
 };
 
-use crate::characters::{CharacterData, IgnoredCharacters, items_at};
+use crate::characters::{CharacterData, items_at};
 use crate::hangul::{S_BASE, T_BASE, T_COUNT};
 use crate::members::Members;
 use crate::provider::NonRecursiveDecompositionSupplement;
+use crate::read::{ReadCharacter, read_character};
 use crate::word::{WordReading, is_hangul_syllable};
 
 /// What one step of canonical decomposition makes of a character.
@@ -43,33 +45,55 @@ pub fn step_of(
     if is_hangul_syllable(character as u32) {
         return step_by(hangul_mapping(character));
     }
-    match data.reading(character) {
+    step_by_reading(supplement, &read_character(data, character))
+}
+
+/// The canonical mapping of a character that is no Hangul syllable.
+pub(crate) fn step_by_reading(
+    supplement: &NonRecursiveDecompositionSupplement,
+    read: &ReadCharacter<'_>,
+) -> Option<Step>
+    requires { is_hangul_syllable read.now.character ≡ false }
+    ensures { (s : Characters) → IsRead s read.now → result ≡ step_of s supplement.now read.now.character }
+{
+    match read.reading {
         WordReading::Itself | WordReading::ClassForm(_) => Some(Step::Default),
-        WordReading::TwoCharacters(_, _) => two_characters_step(data, supplement, character),
-        WordReading::SpecialForm(_) | WordReading::OneCharacter(_) => {
-            step_by(data.members_read(character, IgnoredCharacters::Dropped))
-        }
+        WordReading::TwoCharacters(_, _) => two_characters_step(supplement, read),
+        WordReading::SpecialForm(_) | WordReading::OneCharacter(_) => step_by_list(read),
         WordReading::Listed(_, _, _) => {
-            let list = data.members_read(character, IgnoredCharacters::Dropped)?;
-            listed_step(supplement, character, &list)
+            if read.reads {
+                listed_step(supplement, read.character, &read.list)
+            } else {
+                None
+            }
         }
         WordReading::Ignored | WordReading::HangulSyllable | WordReading::Fdfa => None,
     }
 }
 
 /// The step of a character whose word spells two.
-#[tactic(auto, unfolding(crate::specs::Steps::two_characters_step))]
 fn two_characters_step(
-    data: &CharacterData<'_>,
     supplement: &NonRecursiveDecompositionSupplement,
-    character: char,
+    read: &ReadCharacter<'_>,
 ) -> Option<Step>
-    ensures { result ≡ two_characters_step data.now supplement.now character }
+    ensures { (s : Characters) → IsRead s read.now →
+        result ≡ two_characters_step s supplement.now read.now.character }
 {
-    if may_have_oxia(character) {
-        supplementary_step(supplement, character)
+    if may_have_oxia(read.character) {
+        supplementary_step(supplement, read.character)
     } else {
-        step_by(data.members_read(character, IgnoredCharacters::Dropped))
+        step_by_list(read)
+    }
+}
+
+/// The step to the list of a character, where its word reads.
+fn step_by_list(read: &ReadCharacter<'_>) -> Option<Step>
+    ensures { (s : Characters) → IsRead s read.now → result ≡ step_by (list_read s [] read.now.character) }
+{
+    if read.reads {
+        step_to(&read.list)
+    } else {
+        None
     }
 }
 

@@ -1,7 +1,7 @@
 //! The complete check of canonical data and the supplement, by which characters are decomposed one step.
 ghost use Rattle.std.specs.Prelude.{◌≡◌, ◌≢◌, ◌↔◌, [], Bool, IsTrue};
 ghost use Rattle.normal_forms.specs.Order.{order};
-ghost use Rattle.normalizer_tables.specs.Characters.{list_of, word_of};
+ghost use Rattle.normalizer_tables.specs.Characters.{list_of};
 ghost use Rattle.normalizer_tables.specs.StepConditions.{
   HasSoundStep,
   IsSoundStep,
@@ -9,6 +9,7 @@ ghost use Rattle.normalizer_tables.specs.StepConditions.{
 };
 ghost use Rattle.normalizer_tables.specs.Steps.{step_of};
 ghost use Rattle.normalizer_tables.specs.Words.{read};
+ghost use Rattle.normalizer_tables.specs.Read.{IsRead};
 ghost use Rattle.normalizer_tables.specs.Readings.{reading_by};
 ghost use Rattle.normalizer_tables.specs.Ignored.{Dropped};
 ghost use Rattle.normalizer_tables.specs.declared.word.WordReading.TheVariants.{Fdfa};
@@ -16,60 +17,56 @@ ghost use Rattle.normalizer_tables.specs.declared.word.WordReading.TheVariants.{
 use crate::characters::{CharacterData, IgnoredCharacters};
 use crate::condition::Condition;
 use crate::members::Members;
-use crate::pair_check::results::{has_ordered_lists, is_spelled, put_in_order, write};
+use crate::pair_check::results::{is_ordered_lists, is_spelled, put_in_order, write};
 use crate::provider::NonRecursiveDecompositionSupplement;
-use crate::step::{Step, step_of};
+use crate::read::ReadCharacter;
+use crate::step::{Step, step_by_reading};
 use crate::word::{is_hangul_syllable, is_plain};
 
 /// Room for a list, of at most 18 characters.
 const ROOM: usize = 18;
 
-/// Whether a condition holds of a number by its step, where its word was looked up.
+/// Whether a condition holds of a character by its step.
 #[tactic(auto, unfolding(crate::specs::StepConditions::StepsHoldAt))]
 pub(crate) fn steps_hold_at(
     data: &CharacterData<'_>,
     supplement: &NonRecursiveDecompositionSupplement,
     condition: Condition,
-    number: u32,
-    word: u32,
+    read: &ReadCharacter<'_>,
 ) -> bool
-    requires { word ≡ word_of data.now number }
-    ensures { IsTrue result ↔ StepsHoldAt data.now supplement.now condition number }
+    requires { IsRead data.now read.now }
+    ensures { IsTrue result ↔ StepsHoldAt data.now supplement.now condition read.now.character }
 {
     match condition {
-        Condition::FdfaForms => avoids_fdfa(number, word),
-        Condition::Steps => has_sound_step(data, supplement, number, word),
+        Condition::FdfaForms => avoids_fdfa(read.character as u32, read.word),
+        Condition::Steps => has_sound_step(data, supplement, read),
         _ => true,
     }
 }
 
 /// Whether the word of a number, flags aside, has not the form of U+FDFA: that of a Hangul syllable never has.
-fn avoids_fdfa(number: u32, word: u32) -> bool
+pub(crate) fn avoids_fdfa(number: u32, word: u32) -> bool
     ensures { (is_mapper : Bool) → IsTrue result ↔ (read number word is_mapper ≢ Fdfa) }
 {
     is_hangul_syllable(number) || word & 0x3FFF_FFFF != 1
 }
 
-/// Whether a character, whose word was looked up, has a sound step unless it is a Hangul syllable.
+/// Whether a character has a sound step unless it is a Hangul syllable.
 #[tactic(auto, unfolding(crate::specs::StepConditions::HasSoundStep))]
 fn has_sound_step(
     data: &CharacterData<'_>,
     supplement: &NonRecursiveDecompositionSupplement,
-    number: u32,
-    word: u32,
+    read: &ReadCharacter<'_>,
 ) -> bool
-    requires { word ≡ word_of data.now number }
-    ensures { IsTrue result ↔ HasSoundStep data.now supplement.now number }
+    requires { IsRead data.now read.now }
+    ensures { IsTrue result ↔ HasSoundStep data.now supplement.now read.now.character }
 {
-    let Some(character) = char::from_u32(number) else {
-        return true;
-    };
     // Most characters stand for themselves, and need no look at their lists.
-    if is_plain(word) || is_hangul_syllable(number) {
+    if is_plain(read.word) || is_hangul_syllable(read.character as u32) {
         return true;
     }
-    match step_of(data, supplement, character) {
-        Some(step) => is_sound_step(data, character, step),
+    match step_by_reading(supplement, read) {
+        Some(step) => is_sound_step(data, read, step),
         None => false,
     }
 }
@@ -77,15 +74,15 @@ fn has_sound_step(
 /// Whether a step of a character is `Default` exactly where the list is the character alone, and else the list is the
 /// ordered lists of its parts.
 #[tactic(auto, unfolding(crate::specs::StepConditions::IsSoundStep))]
-fn is_sound_step(data: &CharacterData<'_>, character: char, step: Step) -> bool
-    ensures { IsTrue result ↔ IsSoundStep data.now character step }
+fn is_sound_step(data: &CharacterData<'_>, read: &ReadCharacter<'_>, step: Step) -> bool
+    requires { IsRead data.now read.now }
+    ensures { IsTrue result ↔ IsSoundStep data.now read.now.character step }
 {
-    let list = data.members(character, IgnoredCharacters::Dropped);
-    let is_alone = is_spelled(&list, &[character]);
+    let is_alone = is_spelled(&read.list, &[read.character]);
     match step {
         Step::Default => is_alone,
-        Step::Singleton(a) => !is_alone && has_ordered_list(data, &list, a),
-        Step::Expansion(a, b) => !is_alone && has_ordered_lists(data, (b, a, character)),
+        Step::Singleton(a) => !is_alone && has_ordered_list(data, &read.list, a),
+        Step::Expansion(a, b) => !is_alone && is_ordered_lists(data, &read.list, a, b),
     }
 }
 

@@ -1,12 +1,14 @@
 -- Stretches of units below a bound.
-use Rattle.std.proofs.Common.{◌≡◌, ℕ, suc, ◌+◌, ◌-◌, ◌*◌, ◌%◌, ◌^◌, ◌<◌, ◌≤◌, Bool, false, not, cond, eqb, leb, ltb, replicate}
+use Rattle.std.proofs.Common.{◌≡◌, ℕ, suc, ◌+◌, ◌-◌, ◌*◌, ◌/◌, ◌%◌, ◌^◌, ◌<◌, ◌≤◌, ◌⊎◌, Bool, false, not, cond, eqb, leb, ltb, replicate}
 use Rattle.std.proofs.Common.{inl, inr, List, [], ◌∷◌, ◌++◌, length, take, drop, get_or, map, arith, refl, ap, sym, subst, ◌∙◌, ⊎_elim}
-use Rattle.std.specs.Prelude.{All}
+use Rattle.std.proofs.Math.Nat.{min-le_left, min-le_right, le-min, le-div_iff_mul-le}
+use Rattle.std.specs.Prelude.{All, min, nat_lt, true, if◌then◌else◌}
 use Rattle.std.specs.List.{prefix_len}
 use lib.Count.{count_trailing_zeros}
 use lib.Lanes.{chunk, zip2, mask_l, top}
 use mir.Syntax.{Width}
 use mir.Val.{Fits, bits, hbits}
+use Rattle.std.proofs.lemmas.Bool.Decides.{nat_tests}
 use Rattle.std.proofs.lemmas.Bool.{cases_lt, ne_eqb, eq-eqb, le-leb, lt-leb, cond-true, cond-false, lt-ltb, le-ltb, true≢false, false_from_ne_true}
 use Rattle.std.proofs.lemmas.List.{append-nil, length-map}
 use Rattle.std.proofs.lemmas.List.Folds.{prefix_len-append}
@@ -15,7 +17,7 @@ use Rattle.std.proofs.lemmas.List.Sums.{prefix_len-drop_yes, prefix_len-drop_no,
 use Rattle.std.proofs.lemmas.List.Elements.{All-nil, All-cons, All-head, All-tail, All-same, All-weaker}
 use Rattle.normalizer_text.specs.declared.step.Step.{Step}
 use Rattle.normalizer_text.specs.Encodings.{Encoding, first_in, decoded_in}
-use Rattle.normalizer_text.specs.Scans.{leading_below, EndsLowCharacters, IsLowByteBound}
+use Rattle.normalizer_text.specs.Scans.{leading_below, low_byte, EndsLowCharacters}
 use Rattle.normalizer_text.specs.Steps.{read, steps, IsWellFormed, IsBoundary}
 use Rattle.normalizer_text.specs.Utf8.{allows, continuation, first_of_utf8, decoded_utf8}
 use Rattle.normalizer_text.specs.Utf16.{first_of_utf16}
@@ -205,13 +207,34 @@ module _ (e : Encoding) (bound : ℕ) (units : List ℕ) (from : ℕ) (here : Is
           (All-cons (λ c. c < bound) u (decoded_in e low) (omega arith) (low_text low (All-tail (λ u. u < limit) u low all)))
 
 -- in what is well-formed
-pub EndsLowCharacters-text : (bound limit : ℕ) → IsLowByteBound bound limit → (bytes : List ℕ) → IsWellFormed first_of_utf8 bytes → (from : ℕ) → IsBoundary first_of_utf8 bytes from
+-- bytes below this one are of characters below the bound: of single bytes, or of single bytes and of pairs
+abbrev IsLowByteBound : ℕ → ℕ → Type 0
+IsLowByteBound bound byte = ((byte ≤ 0x80) × (byte ≤ bound)) ⊎ ((0xC2 ≤ byte) × (byte ≤ 0xE0) × ((byte - 0xC0) * 64 ≤ bound))
+
+EndsLowCharacters-within : (bound limit : ℕ) → IsLowByteBound bound limit → (bytes : List ℕ) → IsWellFormed first_of_utf8 bytes → (from : ℕ) → IsBoundary first_of_utf8 bytes from
     → (to : ℕ) → to ≡ from + leading_below limit (drop from bytes) → EndsLowCharacters Encoding.Utf8 bytes from bound to
-EndsLowCharacters-text bound limit (inl single) bytes w from here to is = EndsLowCharacters-single Encoding.Utf8 bound bytes from here limit single.1 (λ u us l. first-ascii u us (let k = single.0 in omega arith)) to is
-EndsLowCharacters-text bound limit (inr of_pairs) bytes w from here to is =
+EndsLowCharacters-within bound limit (inl single) bytes w from here to is =
+    EndsLowCharacters-single Encoding.Utf8 bound bytes from here limit single.1 (λ u us l. first-ascii u us (let k = single.0 in omega arith)) to is
+EndsLowCharacters-within bound limit (inr of_pairs) bytes w from here to is =
     let rest = drop from bytes in
     let n = leading_below limit rest in
     let low = text-low_bytes limit of_pairs.0 of_pairs.1 rest (well_formed-parts first_of_utf8 IsDecoding-utf8 bytes from here w).1 in
     subst (EndsLowCharacters Encoding.Utf8 bytes from bound) (sym is)
     (ends_low Encoding.Utf8 bound bytes from here n (boundary-low_bytes limit rest (let k = of_pairs.0 in omega arith))
     (All-weaker (λ c. c < (limit - 0xC0) * 64) (λ c. c < bound) (λ c l. let k = of_pairs.2 in omega arith) _ low))
+
+IsLowByteBound-low_byte : (bound : ℕ) → IsLowByteBound bound (low_byte bound)
+IsLowByteBound-low_byte bound = elim (nat_lt bound 0xC0) as (λ b. nat_lt bound 0xC0 ≡ b → IsLowByteBound bound (if b then min bound 0x80 else 0xC0 + min (bound / 64) 0x20)) [
+  | true ↦ λ below. inl (min-le_right bound 0x80, min-le_left bound 0x80)
+  | false ↦ λ above.
+      let most = min-le_right (bound / 64) 0x20 in
+      let rows = le-div_iff_mul-le {k = 64} {x = min (bound / 64) 0x20} {y = bound} (omega arith) in
+      let three : 3 ≤ bound / 64 = (le-div_iff_mul-le {k = 64} {x = 3} {y = bound} (omega arith)).1 (grind (arith, nat_tests)) in
+      let least : 3 ≤ min (bound / 64) 0x20 = le-min three (omega arith) in
+      let whole : min (bound / 64) 0x20 * 64 ≤ bound = rows.0 (min-le_left (bound / 64) 0x20) in
+      inr (omega arith, omega arith, omega arith)
+] refl
+
+pub EndsLowCharacters-text : (bytes : List ℕ) → IsWellFormed first_of_utf8 bytes → (from bound : ℕ) → IsBoundary first_of_utf8 bytes from
+    → EndsLowCharacters Encoding.Utf8 bytes from bound (from + leading_below (low_byte bound) (drop from bytes))
+EndsLowCharacters-text bytes w from bound here = EndsLowCharacters-within bound (low_byte bound) (IsLowByteBound-low_byte bound) bytes w from here _ refl

@@ -1,10 +1,10 @@
 //! The three encodings as one trait, over which every loop is written once.
-ghost use Rattle.std.specs.Prelude.{◌≡◌, ◌==◌, ℕ, ◌<◌, MatchOption};
+ghost use Rattle.std.specs.Prelude.{◌≡◌, ◌==◌, ℕ, ◌+◌, ◌<◌, ◌≤◌, min, MatchOption};
 ghost use Rattle.std.specs.Prelude.{List, [], length, take, drop, slice_index};
 ghost use Rattle.normalizer_text.specs.Steps.{IsBoundary, IsFirstStep, IsLastStep};
 ghost use Rattle.normalizer_text.specs.Backwards.{IsLastStart};
 ghost use Rattle.normalizer_text.specs.Encodings.{Encoding, first_in, trails_in};
-ghost use Rattle.normalizer_text.specs.Scans.{EndsLowCharacters};
+ghost use Rattle.normalizer_text.specs.Scans.{leading_below, low_byte, EndsLowCharacters};
 
 use crate::step::Step;
 use crate::{scan, utf8, utf16};
@@ -27,6 +27,9 @@ pub trait Units: Copy {
     // Their encoding.
     ghost encoding: { Encoding };
 
+    // The unit below which units are of characters below a bound, as far as each unit alone tells.
+    ghost low_unit: { ℕ → ℕ };
+
     fn len(self) -> usize
         ensures { result ≡ length (units self) };
 
@@ -40,10 +43,20 @@ pub trait Units: Copy {
         requires { position < length (units self) }
         ensures { result ≡ trails_in encoding (slice_index (units self) position) };
 
-    // How far it goes from a position on with characters below the bound, as far as their units alone tell.
-    fn end_of_low(self, position: usize, bound: u32) -> usize
-        requires { IsBoundary (first_in encoding) (units self) position }
-        ensures { EndsLowCharacters encoding (units self) position bound result };
+    // The unit below which units are of characters below the bound.
+    fn low_unit(self, bound: u32) -> u32
+        ensures { result ≡ low_unit bound };
+
+    // Where the units end that stand from a position on and are all below a limit.
+    fn end_of_below(self, position: usize, limit: u32) -> usize
+        requires { position ≤ length (units self) }
+        ensures { result ≡ position + leading_below limit (drop position (units self)) };
+
+    // Where they end, below such a unit, a step ends, and the characters up to there are below the bound.
+    fn low_units_are_of_low_characters(self)
+        ensures { (position bound : ℕ) → IsBoundary (first_in encoding) (units self) position →
+            EndsLowCharacters encoding (units self) position bound
+            (position + leading_below (low_unit bound) (drop position (units self))) };
 
     // The units before a position at which a step ends.
     fn before(self, position: usize) -> Self
@@ -107,10 +120,13 @@ impl<'a> Units for &'a str {
 
     ghost encoding = { Encoding.Utf8 };
 
+    ghost low_unit = { low_byte };
+
     fn len(self) -> usize {
         str::len(self)
     }
 
+    #[inline(always)]
     fn step_at(self, position: usize) -> Step {
         let bytes = &self.as_bytes()[position..];
         if utf8::is_continuation(bytes[0]) {
@@ -124,9 +140,17 @@ impl<'a> Units for &'a str {
         utf8::is_continuation(self.as_bytes()[position])
     }
 
-    fn end_of_low(self, position: usize, bound: u32) -> usize {
-        scan::end_of_below(self.as_bytes(), position, utf8::low_byte_bound(bound))
+    #[inline(always)]
+    fn low_unit(self, bound: u32) -> u32 {
+        utf8::low_byte_bound(bound)
     }
+
+    #[inline(always)]
+    fn end_of_below(self, position: usize, limit: u32) -> usize {
+        scan::end_of_below(self.as_bytes(), position, limit)
+    }
+
+    fn low_units_are_of_low_characters(self) {}
 
     fn before(self, position: usize) -> Self {
         &self[..position]
@@ -142,10 +166,13 @@ impl<'a> Units for &'a [u8] {
 
     ghost encoding = { Encoding.Utf8 };
 
+    ghost low_unit = { λ bound. min bound 0x80 };
+
     fn len(self) -> usize {
         <[u8]>::len(self)
     }
 
+    #[inline(always)]
     fn step_at(self, position: usize) -> Step {
         utf8::first_step(&self[position..])
     }
@@ -154,9 +181,17 @@ impl<'a> Units for &'a [u8] {
         utf8::is_continuation(self[position])
     }
 
-    fn end_of_low(self, position: usize, bound: u32) -> usize {
-        scan::end_of_below(self, position, bound.min(ASCII))
+    #[inline(always)]
+    fn low_unit(self, bound: u32) -> u32 {
+        bound.min(ASCII)
     }
+
+    #[inline(always)]
+    fn end_of_below(self, position: usize, limit: u32) -> usize {
+        scan::end_of_below(self, position, limit)
+    }
+
+    fn low_units_are_of_low_characters(self) {}
 
     fn before(self, position: usize) -> Self {
         &self[..position]
@@ -172,10 +207,13 @@ impl<'a> Units for &'a [u16] {
 
     ghost encoding = { Encoding.Utf16 };
 
+    ghost low_unit = { λ bound. min bound 0xD800 };
+
     fn len(self) -> usize {
         <[u16]>::len(self)
     }
 
+    #[inline(always)]
     fn step_at(self, position: usize) -> Step {
         utf16::first_step(&self[position..])
     }
@@ -184,9 +222,17 @@ impl<'a> Units for &'a [u16] {
         utf16::is_low_surrogate(self[position])
     }
 
-    fn end_of_low(self, position: usize, bound: u32) -> usize {
-        scan::end_of_below(self, position, bound.min(SURROGATES))
+    #[inline(always)]
+    fn low_unit(self, bound: u32) -> u32 {
+        bound.min(SURROGATES)
     }
+
+    #[inline(always)]
+    fn end_of_below(self, position: usize, limit: u32) -> usize {
+        scan::end_of_below(self, position, limit)
+    }
+
+    fn low_units_are_of_low_characters(self) {}
 
     fn before(self, position: usize) -> Self {
         &self[..position]

@@ -1,7 +1,7 @@
 //! Decoding bytes that may not be UTF-8, with U+FFFD for what is ill-formed (The Unicode Standard, section 3.9).
 ghost use Rattle.std.specs.Prelude.{◌≡◌, ◌+◌, ◌<◌, ◌≤◌, length, option_map, slice_index_or};
 ghost use Rattle.std.specs.Str.{continuation_len};
-ghost use Rattle.normalizer_text.specs.Scans.{IsLowByteBound};
+ghost use Rattle.normalizer_text.specs.Scans.{low_byte};
 ghost use Rattle.normalizer_text.specs.Steps.{IsWellFormed};
 ghost use Rattle.normalizer_text.specs.Utf8.{continuation, allows, row_of, matched, scalar_value, first_of_utf8};
 ghost use Rattle.normalizer_text.specs.MaximalSubparts.{IsWellFormedSequence};
@@ -111,7 +111,7 @@ fn length_of_sequence(lead: u8) -> usize
 // A byte below which the bytes of well-formed UTF-8 are of characters below the bound.
 #[inline(always)]
 pub(crate) fn low_byte_bound(bound: u32) -> u32
-    ensures { IsLowByteBound bound result }
+    ensures { result ≡ low_byte bound }
 {
     if bound < 0xC0 {
         bound.min(0x80)

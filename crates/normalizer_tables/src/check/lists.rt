@@ -11,29 +11,36 @@ ghost use Rattle.normalizer_tables.specs.Conditions.{
   KeepsPromise,
 };
 ghost use Rattle.normalizer_tables.specs.SpecialLists.{FixedList, fixed_list_of};
+ghost use Rattle.normalizer_tables.specs.Read.{IsRead};
 ghost use Rattle.normalizer_tables.specs.Readings.{reading_by};
 ghost use Rattle.normalizer_tables.specs.Ignored.{Dropped};
 
-use crate::characters::{CharacterData, IgnoredCharacters};
+use crate::characters::CharacterData;
 use crate::members::Members;
+use crate::read::ReadCharacter;
 use crate::special::fixed_list_of;
-use crate::word::WordReading;
+use crate::word::{WordReading, is_class_form};
 
 /// Whether the list of a character is in canonical order, begins with a starter unless the character has a class form,
 /// and keeps the promise of the character's word.
-pub fn is_ordered_list(data: &CharacterData<'_>, character: char) -> bool
-    ensures { IsTrue result ↔ IsOrderedList data.now character }
+#[tactic(auto, unfolding(crate::specs::Characters::has_class_form))]
+pub fn is_ordered_list(data: &CharacterData<'_>, read: &ReadCharacter<'_>) -> bool
+    requires { IsRead data.now read.now }
+    ensures { IsTrue result ↔ IsOrderedList data.now read.now.character }
 {
-    let list = data.members(character, IgnoredCharacters::Dropped);
-    is_in_order(data, &list)
-        && (data.has_class_form(character) || begins_with_starter(data, &list))
-        && keeps_promise(data, character)
+    is_in_order(data, &read.list)
+        && (is_class_form(read.word) || begins_with_starter(data, &read.list))
+        && keeps_promise(data, read)
 }
 
 /// Whether a list is in canonical order.
 fn is_in_order(data: &CharacterData<'_>, list: &Members<'_>) -> bool
     ensures { IsTrue result ↔ (order (reading_by data.now Dropped []) list.now ≡ list.now) }
 {
+    // One member alone is in order, whatever its class.
+    if list.len() <= 1 {
+        return true;
+    }
     let mut last = 0;
     for place in 0..list.len() {
         let class = data.class_of(list.at(place));
@@ -57,17 +64,18 @@ fn begins_with_starter(data: &CharacterData<'_>, list: &Members<'_>) -> bool
 
 /// Whether the members of the list of a character have the classes that its word promises.
 #[tactic(auto, unfolding(crate::specs::Conditions::KeepsPromise))]
-fn keeps_promise(data: &CharacterData<'_>, character: char) -> bool
-    ensures { IsTrue result ↔ KeepsPromise data.now character (reading_of_word data.now character) }
+fn keeps_promise(data: &CharacterData<'_>, read: &ReadCharacter<'_>) -> bool
+    requires { IsRead data.now read.now }
+    ensures { IsTrue result ↔
+        KeepsPromise data.now read.now.character (reading_of_word data.now read.now.character) }
 {
-    let list = data.members(character, IgnoredCharacters::Dropped);
-    match data.reading(character) {
-        WordReading::TwoCharacters(_, _) => has_marks_behind(data, &list),
+    match read.reading {
+        WordReading::TwoCharacters(_, _) => has_marks_behind(data, &read.list),
         WordReading::Listed(_, _, rest_are_marks) => {
-            !rest_are_marks || has_marks_behind(data, &list)
+            !rest_are_marks || has_marks_behind(data, &read.list)
         }
-        WordReading::SpecialForm(_) => has_fixed_classes(data, character, &list),
-        WordReading::Fdfa => are_starters(data, &list),
+        WordReading::SpecialForm(_) => has_fixed_classes(data, read.character, &read.list),
+        WordReading::Fdfa => are_starters(data, &read.list),
         _ => true,
     }
 }

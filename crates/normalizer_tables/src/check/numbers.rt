@@ -1,7 +1,7 @@
 //! What the conditions say of each number.
 ghost use Rattle.std.specs.Prelude.{◌≡◌, ◌↔◌, ◌<◌, ◌≤◌, ℕ, [], Some, true, IsTrue, All};
 ghost use Rattle.std.specs.Option.{option_map};
-ghost use Rattle.normalizer_tables.specs.Characters.{list_of, word_of};
+ghost use Rattle.normalizer_tables.specs.Characters.{Characters, list_of, word_of};
 ghost use Rattle.normalizer_tables.specs.Conditions.{
   HoldsAt,
   IsPlainStarter,
@@ -12,55 +12,58 @@ ghost use Rattle.normalizer_tables.specs.Conditions.{
   is_composing_jamo,
   is_surrogate,
 };
+ghost use Rattle.normalizer_tables.specs.Hangul.{is_hangul_syllable};
+ghost use Rattle.normalizer_tables.specs.Read.{IsRead};
 ghost use Rattle.normalizer_tables.specs.SpecialLists.{FixedList, fixed_list_of};
 
-use crate::characters::{CharacterData, IgnoredCharacters};
+use crate::characters::CharacterData;
 use crate::check::lists::is_ordered_list;
 use crate::condition::{Bounds, Condition};
+use crate::pair_check::results::is_spelled;
+use crate::read::{ReadCharacter, read_character};
 use crate::special::fixed_list_of;
 use crate::word::{
-    IGNORED_MARKER, is_backward_combining, is_class_form, is_hangul_syllable, is_plain,
-    is_special_class_form, low_byte,
+    IGNORED_MARKER, class_of_word, is_backward_combining, is_class_form, is_hangul_syllable,
+    is_plain, is_special_class_form, low_byte,
 };
 
 /// The word of every surrogate.
 const SURROGATE_WORD: u32 = 0xC000_FFFD;
 
-/// Whether a condition holds of a number, whose word was looked up.
+/// Whether a condition holds of a character.
 #[tactic(auto, unfolding(crate::specs::Conditions::HoldsAt))]
 pub fn holds_at(
     data: &CharacterData<'_>,
     bounds: Bounds,
     condition: Condition,
-    number: u32,
-    word: u32,
+    read: &ReadCharacter<'_>,
 ) -> bool
-    requires { word ≡ word_of data.now number }
-    ensures { IsTrue result ↔ HoldsAt data.now bounds condition number }
+    requires { IsRead data.now read.now }
+    ensures { IsTrue result ↔ HoldsAt data.now bounds condition read.now.character }
 {
-    let Some(character) = char::from_u32(number) else {
-        return match condition {
-            Condition::Surrogates => !is_surrogate(number) || word == SURROGATE_WORD,
-            _ => true,
-        };
-    };
+    let number = read.character as u32;
     // Most characters stand for themselves, and need no look at their lists.
-    if is_plain(word) {
+    if is_plain(read.word) {
         return match condition {
             Condition::Hangul => !is_hangul_syllable(number),
             _ => true,
         };
     }
     match condition {
-        Condition::Hangul => is_sound_hangul(data, character),
-        Condition::Words => is_sound_word(data, character),
-        Condition::Members => reads_in_full(data, character),
-        Condition::Order => is_ordered_list(data, character),
-        Condition::Passthrough => {
-            number >= bounds.decomposition || is_plain_starter(data, character)
-        }
+        Condition::Hangul => is_sound_hangul(read),
+        Condition::Words => is_sound_word(data, read),
+        Condition::Members => reads_in_full(data, read),
+        Condition::Order => is_ordered_list(data, read),
+        Condition::Passthrough => number >= bounds.decomposition || is_plain_starter(read),
         _ => true,
     }
+}
+
+/// Whether a number is no surrogate, or has the word of one.
+pub fn is_sound_surrogate(number: u32, word: u32) -> bool
+    ensures { IsTrue result ↔ (is_surrogate number ≡ true → word ≡ 0xC000FFFD) }
+{
+    !is_surrogate(number) || word == SURROGATE_WORD
 }
 
 /// Whether all surrogates have their word.
@@ -79,29 +82,43 @@ pub fn have_surrogate_words(data: &CharacterData<'_>) -> bool
 pub fn have_sound_hangul(data: &CharacterData<'_>) -> bool
     ensures { IsTrue result ↔ ((n : ℕ) → IsSoundHangul data.now n) }
 {
-    are_sound_hangul(data, 0x1100, 0x11C3) && are_sound_hangul(data, 0xAC00, 0xD7A4)
+    have_sound_jamo(data) && have_syllable_words(data)
 }
 
-/// Whether this is so from one number up to another.
-fn are_sound_hangul(data: &CharacterData<'_>, from: u32, end: u32) -> bool
-    ensures { IsTrue result ↔ ((n : ℕ) → from ≤ n → n < end → IsSoundHangul data.now n) }
+/// Whether all jamo of a syllable read to themselves with class 0.
+fn have_sound_jamo(data: &CharacterData<'_>) -> bool
+    ensures { IsTrue result ↔ ((n : ℕ) → is_composing_jamo n ≡ true → IsPlainStarter data.now n) }
 {
-    for number in from..end {
-        if !is_sound_hangul_number(data, number) {
+    for jamo in 0x1100..0x11C3 {
+        if !is_sound_jamo(data, jamo) {
             return false;
         }
     }
     true
 }
 
-/// Whether a number is no character, or one that is sound as a part of Hangul.
-fn is_sound_hangul_number(data: &CharacterData<'_>, number: u32) -> bool
-    ensures { IsTrue result ↔ IsSoundHangul data.now number }
+/// Whether a number is that of no such jamo, or of one that reads to itself with class 0.
+fn is_sound_jamo(data: &CharacterData<'_>, number: u32) -> bool
+    ensures { IsTrue result ↔ (is_composing_jamo number ≡ true → IsPlainStarter data.now number) }
 {
     match char::from_u32(number) {
-        Some(character) => is_sound_hangul(data, character),
+        Some(character) => {
+            !is_composing_jamo(character) || is_plain_starter(&read_character(data, character))
+        }
         None => true,
     }
+}
+
+/// Whether all Hangul syllables have the word 1. Their lists need no look.
+fn have_syllable_words(data: &CharacterData<'_>) -> bool
+    ensures { IsTrue result ↔ ((n : ℕ) → is_hangul_syllable n ≡ true → word_of data.now n ≡ 1) }
+{
+    for syllable in 0xAC00..0xD7A4 {
+        if data.word_of_number(syllable) != 1 {
+            return false;
+        }
+    }
+    true
 }
 
 #[tactic(auto, unfolding(crate::specs::Conditions::is_surrogate))]
@@ -120,43 +137,38 @@ fn is_composing_jamo(character: char) -> bool
 }
 
 /// Whether a Hangul syllable has the word 1, or a jamo reads to itself with class 0.
-fn is_sound_hangul(data: &CharacterData<'_>, character: char) -> bool
-    ensures { IsTrue result ↔ IsSoundHangul data.now character }
+fn is_sound_hangul(read: &ReadCharacter<'_>) -> bool
+    ensures { (s : Characters) → IsRead s read.now → IsTrue result ↔ IsSoundHangul s read.now.character }
 {
-    if is_hangul_syllable(character as u32) {
-        data.word_of(character) == 1
+    if is_hangul_syllable(read.character as u32) {
+        read.word == 1
     } else {
-        !is_composing_jamo(character) || is_plain_starter(data, character)
+        !is_composing_jamo(read.character) || is_plain_starter(read)
     }
 }
 
 /// Whether a character reads to itself with class 0.
-#[tactic(auto, unfolding(crate::specs::Conditions::IsPlainStarter))]
-pub fn is_plain_starter(data: &CharacterData<'_>, character: char) -> bool
-    ensures { IsTrue result ↔ IsPlainStarter data.now character }
+pub fn is_plain_starter(read: &ReadCharacter<'_>) -> bool
+    ensures { (s : Characters) → IsRead s read.now → IsTrue result ↔ IsPlainStarter s read.now.character }
 {
-    reads_to_itself(data, character) && data.class_of(character) == 0
+    reads_to_itself(read) && class_of_word(read.word) == 0
 }
 
 /// Whether the word of a character reads, and to the character alone.
-pub fn reads_to_itself(data: &CharacterData<'_>, character: char) -> bool
-    ensures { IsTrue result ↔ ReadsToItself data.now character }
+fn reads_to_itself(read: &ReadCharacter<'_>) -> bool
+    ensures { (s : Characters) → IsRead s read.now → IsTrue result ↔ ReadsToItself s read.now.character }
 {
-    match data.members_read(character, IgnoredCharacters::Dropped) {
-        Some(list) => list.len() == 1 && list.get(0) == Some(character),
-        None => false,
-    }
+    read.reads && is_spelled(&read.list, &[read.character])
 }
 
 /// Whether the word of a character reads, and keeps the rules of its form.
-fn is_sound_word(data: &CharacterData<'_>, character: char) -> bool
-    ensures { IsTrue result ↔ IsSoundWord data.now character }
+fn is_sound_word(data: &CharacterData<'_>, read: &ReadCharacter<'_>) -> bool
+    requires { IsRead data.now read.now }
+    ensures { IsTrue result ↔ IsSoundWord data.now read.now.character }
 {
-    let word = data.word_of(character);
-    data.members_read(character, IgnoredCharacters::Dropped)
-        .is_some()
-        && is_sound_class_form(character, word)
-        && (data.is_mapper() || word != IGNORED_MARKER)
+    read.reads
+        && is_sound_class_form(read.character, read.word)
+        && (data.is_mapper() || read.word != IGNORED_MARKER)
 }
 
 /// Whether a word is no class form, or has a class that its character may have and BACKWARD_COMBINING.
@@ -187,14 +199,24 @@ pub(crate) fn has_fixed_class(character: char, class: u8) -> bool
 }
 
 /// Whether every member of the list of a character reads to itself.
-fn reads_in_full(data: &CharacterData<'_>, character: char) -> bool
-    ensures { IsTrue result ↔ All (ReadsToItself data.now) (list_of data.now [] character) }
+fn reads_in_full(data: &CharacterData<'_>, read: &ReadCharacter<'_>) -> bool
+    requires { IsRead data.now read.now }
+    ensures { IsTrue result ↔ All (ReadsToItself data.now) (list_of data.now [] read.now.character) }
 {
-    let list = data.members(character, IgnoredCharacters::Dropped);
-    for place in 0..list.len() {
-        if !reads_to_itself(data, list.at(place)) {
+    // The only member of its own list was read.
+    if reads_to_itself(read) {
+        return true;
+    }
+    for place in 0..read.list.len() {
+        if !member_reads_to_itself(data, read.list.at(place)) {
             return false;
         }
     }
     true
+}
+
+fn member_reads_to_itself(data: &CharacterData<'_>, member: char) -> bool
+    ensures { IsTrue result ↔ ReadsToItself data.now member }
+{
+    reads_to_itself(&read_character(data, member))
 }

@@ -12,6 +12,7 @@ use crate::characters::CharacterData;
 use crate::check::numbers::is_plain_starter;
 use crate::condition::{CAP_LIMIT, Condition, ITEM_LIMIT};
 use crate::provider::DecompositionTables;
+use crate::read::read_character;
 use crate::word::{is_backward_combining, is_class_form, is_non_round_trip};
 
 #[tactic(auto, unfolding(crate::specs::Conditions::HoldsOverall))]
@@ -53,9 +54,9 @@ fn room_after(room: usize, tables: &DecompositionTables) -> Option<usize>
 fn is_flagged_replacement(data: &CharacterData<'_>) -> bool
     ensures { IsTrue result ↔ IsFlaggedReplacement data.now }
 {
-    let word = data.word_of(char::REPLACEMENT_CHARACTER);
-    if !is_plain_starter(data, char::REPLACEMENT_CHARACTER) {
+    let read = read_character(data, char::REPLACEMENT_CHARACTER);
+    if !is_plain_starter(&read) {
         return false;
     }
-    is_non_round_trip(word) && !is_backward_combining(word)
+    is_non_round_trip(read.word) && !is_backward_combining(read.word)
 }

@@ -1,18 +1,23 @@
 //! Each condition is one on the characters by themselves, by the pairs or by the supplement.
 ghost use Rattle.std.specs.Prelude.{◌≡◌, ◌↔◌, ℕ, IsTrue, IfSome};
+ghost use Rattle.std.specs.Char.{IsScalar};
 ghost use Rattle.normalizer_tables.specs.Characters.{word_of};
 ghost use Rattle.normalizer_tables.specs.Loaded.{IsMetAt, IsMetOverall};
 ghost use Rattle.normalizer_tables.specs.PairConditions.{PairsHoldAt, PairsHoldOverall};
-ghost use Rattle.normalizer_tables.specs.StepConditions.{StepsHoldAt};
+ghost use Rattle.normalizer_tables.specs.Read.{IsRead};
+ghost use Rattle.normalizer_tables.specs.StepConditions.{AvoidsFdfa, StepsHoldAt};
 ghost use Rattle.normalizer_tables.specs.Walk.{IsMetApart, IsMetApartAt, KeepsPlainBeginning};
 
-use crate::check::numbers::{have_sound_hangul, have_surrogate_words, holds_at};
+use crate::check::numbers::{
+    have_sound_hangul, have_surrogate_words, holds_at, is_sound_surrogate,
+};
 use crate::check::overall::holds_overall;
 use crate::condition::Condition;
 use crate::loaded::LoadedData;
 use crate::pair_check::beginnings::keep_plain_beginnings;
 use crate::pair_check::{pairs_hold_at, pairs_hold_overall};
-use crate::step_check::steps_hold_at;
+use crate::read::ReadCharacter;
+use crate::step_check::{avoids_fdfa, steps_hold_at};
 
 /// Whether a condition is met, as far as it is about the data as a whole, and about numbers apart from the walk.
 #[tactic(auto, unfolding(crate::specs::Walk::IsMetApart))]
@@ -62,47 +67,66 @@ fn is_met_by_pairs(data: &LoadedData<'_>, condition: Condition) -> bool
     }
 }
 
-/// Whether a condition is met, as far as it is about a number, whose word was looked up.
+/// Whether a condition is met, as far as it is about a character.
 #[tactic(auto, unfolding(crate::specs::Loaded::IsMetAt))]
-pub fn is_met_at(data: &LoadedData<'_>, condition: Condition, number: u32, word: u32) -> bool
-    requires { word ≡ word_of data.now.characters number }
-    ensures { IsTrue result ↔ IsMetAt data.now condition number }
+pub fn is_met_at(data: &LoadedData<'_>, condition: Condition, read: &ReadCharacter<'_>) -> bool
+    requires { IsRead data.now.characters read.now }
+    ensures { IsTrue result ↔ IsMetAt data.now condition read.now.character }
 {
     match condition {
         Condition::RoundTrip | Condition::SafeBeginning => {
-            is_met_by_pairs_at(data, condition, number, word)
+            is_met_by_pairs_at(data, condition, read)
         }
-        Condition::FdfaForms | Condition::Steps => {
-            is_met_by_steps_at(data, condition, number, word)
-        }
-        _ => holds_at(data.characters(), data.bounds(), condition, number, word),
+        Condition::FdfaForms | Condition::Steps => is_met_by_steps_at(data, condition, read),
+        _ => holds_at(data.characters(), data.bounds(), condition, read),
     }
 }
 
-fn is_met_by_pairs_at(data: &LoadedData<'_>, condition: Condition, number: u32, word: u32) -> bool
-    requires { word ≡ word_of data.now.characters number }
+fn is_met_by_pairs_at(data: &LoadedData<'_>, condition: Condition, read: &ReadCharacter<'_>) -> bool
+    requires { IsRead data.now.characters read.now }
     ensures { IsTrue result ↔ IfSome data.now.pairs
-        (λ pairs. PairsHoldAt data.now.characters data.now.bounds pairs condition number) }
+        (λ pairs. PairsHoldAt data.now.characters data.now.bounds pairs condition read.now.character) }
 {
     match data.pairs() {
         Some(pairs) => {
             let characters = data.characters();
-            pairs_hold_at(characters, data.bounds(), pairs, condition, number, word)
+            pairs_hold_at(characters, data.bounds(), pairs, condition, read)
         }
         None => true,
     }
 }
 
-fn is_met_by_steps_at(data: &LoadedData<'_>, condition: Condition, number: u32, word: u32) -> bool
-    requires { word ≡ word_of data.now.characters number }
+fn is_met_by_steps_at(data: &LoadedData<'_>, condition: Condition, read: &ReadCharacter<'_>) -> bool
+    requires { IsRead data.now.characters read.now }
     ensures { IsTrue result ↔ IfSome data.now.supplement
-        (λ t. StepsHoldAt data.now.characters t condition number) }
+        (λ t. StepsHoldAt data.now.characters t condition read.now.character) }
 {
     match data.supplement() {
-        Some(supplement) => {
-            let characters = data.characters();
-            steps_hold_at(characters, supplement, condition, number, word)
-        }
+        Some(supplement) => steps_hold_at(data.characters(), supplement, condition, read),
+        None => true,
+    }
+}
+
+/// Whether a condition is met, as far as it is about a number that no character has and its word.
+pub fn is_met_elsewhere(data: &LoadedData<'_>, condition: Condition, number: u32, word: u32) -> bool
+    requires no_character { IsScalar number → ⊥ }
+    requires word { word ≡ word_of data.now.characters number }
+    ensures { IsTrue result ↔ IsMetAt data.now condition number }
+{
+    match condition {
+        Condition::Surrogates => is_sound_surrogate(number, word),
+        Condition::FdfaForms => keeps_from_fdfa(data, number, word),
+        _ => true,
+    }
+}
+
+/// Whether no supplement was loaded, or a word hasn't the form of U+FDFA.
+fn keeps_from_fdfa(data: &LoadedData<'_>, number: u32, word: u32) -> bool
+    requires { word ≡ word_of data.now.characters number }
+    ensures { IsTrue result ↔ IfSome data.now.supplement (λ _. AvoidsFdfa data.now.characters number) }
+{
+    match data.supplement() {
+        Some(_) => avoids_fdfa(number, word),
         None => true,
     }
 }

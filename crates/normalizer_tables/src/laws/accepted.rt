@@ -20,6 +20,7 @@ ghost use Rattle.normalizer_tables.specs.PairConditions.{AreSoundPairs, HoldsOfP
 ghost use Rattle.normalizer_tables.specs.Pairs.{Pair, pair_of};
 ghost use Rattle.normalizer_tables.specs.SoundData.{Bounds, IsSoundData};
 ghost use Rattle.normalizer_tables.specs.Readings.{reading_by, reading_of};
+ghost use Rattle.normalizer_tables.specs.Unseen.{PassUnseenBelow};
 ghost use Rattle.normalizer_tables.specs.declared.condition.Condition.TheVariants as condition;
 
 /// Accepted data that are no mapper's suit the laws of the decomposing form, and with accepted pairs those of both
@@ -44,6 +45,13 @@ pub fn accepted_data_are_sound()
     ensures accepted { (s : Characters) (b : Bounds) → IsAccepted s b → IsSoundData s b }
     ensures handed_in { (decompositions : Decompositions) (tables : Lists) → IsSoundNfdData decompositions tables →
         IsSoundData (characters_from decompositions tables None) nfd_bounds }
+{}
+
+/// By accepted data the characters below the bound of decomposing pass unseen: conditions 7 and 10.
+pub fn low_characters_pass_unseen()
+    ensures accepted { (s : Characters) (b : Bounds) → IsAccepted s b → PassUnseenBelow s b.decomposition }
+    ensures handed_in { (decompositions : Decompositions) (tables : Lists) → IsSoundNfdData decompositions tables →
+        PassUnseenBelow (characters_from decompositions tables None) nfd_bounds.decomposition }
 {}
 
 /// What characters compose to are characters where the pairs hold characters alone; Hangul syllables are characters.

@@ -3,7 +3,7 @@ ghost use Rattle.std.specs.Prelude.{◌≡◌, ◌↔◌, ℕ, [], ◌∷◌, tr
 ghost use Rattle.std.specs.Char.{IsScalar};
 ghost use Rattle.normal_forms.specs.Boundary.{BeginsSafely};
 ghost use Rattle.normal_forms.specs.Composition.{compose, joined};
-ghost use Rattle.normalizer_tables.specs.Characters.{Characters, word_of};
+ghost use Rattle.normalizer_tables.specs.Characters.{Characters};
 ghost use Rattle.normalizer_tables.specs.PairConditions.{
   HasSafeBeginning,
   KeepsBeginning,
@@ -14,55 +14,50 @@ ghost use Rattle.normalizer_tables.specs.PairConditions.{
 };
 ghost use Rattle.normalizer_tables.specs.Pairs.{is_vowel_or_trailing_jamo};
 ghost use Rattle.normalizer_tables.specs.Walk.{KeepsPlainBeginning};
+ghost use Rattle.normalizer_tables.specs.Read.{IsRead};
 ghost use Rattle.normalizer_tables.specs.Readings.{reading_by};
 ghost use Rattle.normalizer_tables.specs.Ignored.{Dropped};
 
-use crate::characters::{CharacterData, IgnoredCharacters};
+use crate::characters::CharacterData;
 use crate::condition::Bounds;
 use crate::members::Members;
 use crate::pairs::CanonicalCompositions;
+use crate::read::{ReadCharacter, read_by_word};
 use crate::word::{is_backward_combining, is_non_round_trip, is_plain};
 
-/// Whether a character, whose word was looked up, composes to itself if a composing loop relies on it.
+/// Whether a character composes to itself if a composing loop relies on it.
 #[tactic(auto, unfolding(crate::specs::PairConditions::KeepsRoundTrip, crate::specs::PairConditions::is_taken_to_round_trip))]
 pub fn keeps_round_trip(
     data: &CharacterData<'_>,
     bounds: Bounds,
     compositions: &CanonicalCompositions,
-    number: u32,
-    word: u32,
+    read: &ReadCharacter<'_>,
 ) -> bool
-    requires { word ≡ word_of data.now number }
-    ensures { IsTrue result ↔ KeepsRoundTrip data.now bounds compositions.now number }
+    requires { IsRead data.now read.now }
+    ensures { IsTrue result ↔ KeepsRoundTrip data.now bounds compositions.now read.now.character }
 {
-    let Some(character) = char::from_u32(number) else {
-        return true;
-    };
     // Most characters stand for themselves, and need no look at their lists.
-    if is_plain(word) {
+    if is_plain(read.word) {
         return true;
     }
-    let is_taken = !is_non_round_trip(word) || number < bounds.composition;
-    !is_taken || round_trips(data, compositions, character)
+    let is_taken = !is_non_round_trip(read.word) || (read.character as u32) < bounds.composition;
+    !is_taken || round_trips(data, compositions, read)
 }
 
-/// Whether the list of a character, whose word was looked up, begins safely if a composing loop relies on it.
+/// Whether the list of a character begins safely if a composing loop relies on it.
 #[tactic(auto, unfolding(crate::specs::PairConditions::KeepsBeginning, crate::specs::PairConditions::is_taken_to_begin_safely))]
 pub fn keeps_beginning(
     data: &CharacterData<'_>,
     bounds: Bounds,
     compositions: &CanonicalCompositions,
-    number: u32,
-    word: u32,
+    read: &ReadCharacter<'_>,
 ) -> bool
-    requires { word ≡ word_of data.now number }
-    ensures { IsTrue result ↔ KeepsBeginning data.now bounds compositions.now number }
+    requires { IsRead data.now read.now }
+    ensures { IsTrue result ↔ KeepsBeginning data.now bounds compositions.now read.now.character }
 {
-    let Some(character) = char::from_u32(number) else {
-        return true;
-    };
-    let is_taken = !is_backward_combining(word) || number < bounds.composition;
-    !is_taken || begins_safely(data, compositions, character, word)
+    let is_taken = !is_backward_combining(read.word)
+        || (read.character as u32) < bounds.composition;
+    !is_taken || begins_safely(data, compositions, read)
 }
 
 /// Whether all characters whose word is 0, flags aside, keep their beginnings. Only the seconds of pairs may not,
@@ -120,24 +115,32 @@ fn keeps_plain_beginning(
 ) -> bool
     ensures { IsTrue result ↔ KeepsPlainBeginning data.now bounds compositions.now number }
 {
-    let word = data.word_of_number(number);
-    !is_plain(word) || keeps_beginning(data, bounds, compositions, number, word)
+    match char::from_u32(number) {
+        Some(character) => {
+            let word = data.word_of(character);
+            if !is_plain(word) {
+                return true;
+            }
+            let read = read_by_word(data, character, word);
+            keeps_beginning(data, bounds, compositions, &read)
+        }
+        None => true,
+    }
 }
 
-/// Whether the list of a character, whose word was looked up, begins safely.
+/// Whether the list of a character begins safely.
 fn begins_safely(
     data: &CharacterData<'_>,
     compositions: &CanonicalCompositions,
-    character: char,
-    word: u32,
+    read: &ReadCharacter<'_>,
 ) -> bool
-    requires { word ≡ word_of data.now character }
-    ensures { IsTrue result ↔ HasSafeBeginning data.now compositions.now character }
+    requires { IsRead data.now read.now }
+    ensures { IsTrue result ↔ HasSafeBeginning data.now compositions.now read.now.character }
 {
-    if is_plain(word) {
-        compositions.is_never_second(character)
+    if is_plain(read.word) {
+        compositions.is_never_second(read.character)
     } else {
-        has_safe_beginning(data, compositions, character)
+        has_safe_beginning(data, compositions, read)
     }
 }
 
@@ -146,24 +149,24 @@ fn begins_safely(
 fn round_trips(
     data: &CharacterData<'_>,
     compositions: &CanonicalCompositions,
-    character: char,
+    read: &ReadCharacter<'_>,
 ) -> bool
-    ensures { IsTrue result ↔ RoundTrips data.now compositions.now character }
+    requires { IsRead data.now read.now }
+    ensures { IsTrue result ↔ RoundTrips data.now compositions.now read.now.character }
 {
-    let list = data.members(character, IgnoredCharacters::Dropped);
-    composes_to(data, compositions, &list, character)
+    composes_to(data, compositions, &read.list, read.character)
 }
 
 /// Whether the list of a character begins with a starter that is second in no pair.
 fn has_safe_beginning(
     data: &CharacterData<'_>,
     compositions: &CanonicalCompositions,
-    character: char,
+    read: &ReadCharacter<'_>,
 ) -> bool
-    ensures { IsTrue result ↔ HasSafeBeginning data.now compositions.now character }
+    requires { IsRead data.now read.now }
+    ensures { IsTrue result ↔ HasSafeBeginning data.now compositions.now read.now.character }
 {
-    let list = data.members(character, IgnoredCharacters::Dropped);
-    match list.get(0) {
+    match read.list.get(0) {
         Some(first) => data.class_of(first) == 0 && compositions.is_never_second(first),
         None => false,
     }

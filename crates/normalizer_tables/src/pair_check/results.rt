@@ -1,6 +1,7 @@
 //! The lists of what pairs compose to.
 ghost use Rattle.std.specs.Prelude.{◌≡◌, ◌↔◌, ◌<◌, ◌+◌, ◌++◌, [], IsTrue, length, drop, slice_index};
 ghost use Rattle.normal_forms.specs.Order.{insert, is_reorderable, order};
+ghost use Rattle.normalizer_tables.specs.Characters.{list_of};
 ghost use Rattle.normalizer_tables.specs.PairConditions.{HasOrderedLists};
 ghost use Rattle.normalizer_tables.specs.Readings.{reading_by};
 ghost use Rattle.normalizer_tables.specs.Ignored.{Dropped};
@@ -15,12 +16,25 @@ const ROOM: usize = 36;
 pub fn has_ordered_lists(data: &CharacterData<'_>, pair: (char, char, char)) -> bool
     ensures { IsTrue result ↔ HasOrderedLists data.now [] pair }
 {
-    let of_second = data.members(pair.0, IgnoredCharacters::Dropped);
-    let of_first = data.members(pair.1, IgnoredCharacters::Dropped);
     let of_result = data.members(pair.2, IgnoredCharacters::Dropped);
+    is_ordered_lists(data, &of_result, pair.1, pair.0)
+}
+
+/// Whether a list is the ordered lists of two characters.
+pub(crate) fn is_ordered_lists(
+    data: &CharacterData<'_>,
+    list: &Members<'_>,
+    first: char,
+    second: char,
+) -> bool
+    ensures { IsTrue result ↔
+        (list.now ≡ order (reading_by data.now Dropped []) (list_of data.now [] first ++ list_of data.now [] second)) }
+{
+    let of_first = data.members(first, IgnoredCharacters::Dropped);
+    let of_second = data.members(second, IgnoredCharacters::Dropped);
     let mut room = ['\0'; ROOM];
     let end = of_first.len() + of_second.len();
-    is_order_of(data, &of_result, &of_first, &of_second, &mut room[..end])
+    is_order_of(data, list, &of_first, &of_second, &mut room[..end])
 }
 
 /// Whether a list is two others put in order, for which there just is room.

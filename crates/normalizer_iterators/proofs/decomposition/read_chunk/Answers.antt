@@ -12,7 +12,7 @@ unreachable-requires g c =
     let f = has_class_form c.args.characters.now in
     let d = reading_by c.args.characters.now c.args.ignored [] in
     let some = anew-parts f d c.args.read.character c.requires.anew in
-    let is = c.members_by-members.ensures ∙ sym (list-reading_by c.args.characters.now c.args.ignored [] c.args.read.character) ∙ some.3 in
+    let is = c.members-members.ensures ∙ sym (list-reading_by c.args.characters.now c.args.ignored [] c.args.read.character) ∙ some.3 in
     no_member _ 0 (omega (arith, ap length is)) (sym c.in_default.is ∙ c.get.ensures)
 
 pub push_from-requires : goal.push_from-requires
@@ -20,7 +20,7 @@ push_from-requires g c =
     let f = has_class_form c.args.characters.now in
     let d = reading_by c.args.characters.now c.args.ignored [] in
     let some = anew-parts f d c.args.read.character c.requires.anew in
-    let is = c.members_by-members.ensures ∙ sym (list-reading_by c.args.characters.now c.args.ignored [] c.args.read.character) ∙ some.3 in
+    let is = c.members-members.ensures ∙ sym (list-reading_by c.args.characters.now c.args.ignored [] c.args.read.character) ∙ some.3 in
     omega (arith, ap length is)
 
 pub read_on-requires : goal.read_on-requires
@@ -33,7 +33,7 @@ pub returns-in_err-push_from-clause-err : goal.returns-in_err-push_from-clause-e
 returns-in_err-push_from-clause-err g c =
     let f = has_class_form c.args.characters.now in
     let d = reading_by c.args.characters.now c.args.ignored [] in
-    let is = c.members_by-members.ensures ∙ sym (list-reading_by c.args.characters.now c.args.ignored [] c.args.read.character) in
+    let is = c.members-members.ensures ∙ sym (list-reading_by c.args.characters.now c.args.ignored [] c.args.read.character) in
     let long = too_many _ (places + 1) c.in_err-push_from.ensures.succeeds in
     let exit = err_from_is_err_and c.from_residual.result c.from_residual.ensures.1 in
     rw exit.1 (λ before read. ChunkDidNotFit-members g.I.Iterator.next_gives f d c.args.read.character _ before is (omega (arith, long, c.clear.ensures.held)))
@@ -42,7 +42,7 @@ pub returns-in_err-pending-clause-err : goal.returns-in_err-pending-clause-err
 returns-in_err-pending-clause-err g c =
     let f = has_class_form c.args.characters.now in
     let d = reading_by c.args.characters.now c.args.ignored [] in
-    let is = c.members_by-members.ensures ∙ sym (list-reading_by c.args.characters.now c.args.ignored [] c.args.read.character) in
+    let is = c.members-members.ensures ∙ sym (list-reading_by c.args.characters.now c.args.ignored [] c.args.read.character) in
     let exit = err_from_is_err_and c.from_residual-in_err-pending.result c.from_residual-in_err-pending.ensures.1 in
     rw exit.1
     (λ before read.
@@ -54,7 +54,7 @@ returns-clause-ok g c =
     let f = has_class_form c.args.characters.now in
     let d = reading_by c.args.characters.now c.args.ignored [] in
     let same = class-reading_by c.args.characters.now c.args.ignored [] in
-    let is = c.members_by-members.ensures ∙ sym (list-reading_by c.args.characters.now c.args.ignored [] c.args.read.character) in
+    let is = c.members-members.ensures ∙ sym (list-reading_by c.args.characters.now c.args.ignored [] c.args.read.character) in
     λ before read.
     ReadsChunk-from g.I.Iterator.can_next g.I.Iterator.next_gives g.I.Iterator.remaining f d c.args.read.character c.in-Some.first _ before _ _ _ _ _ is c.in-Some.ensures
     c.clear.ensures.ordered c.clear.ensures.unordered

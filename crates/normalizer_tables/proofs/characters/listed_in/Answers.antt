@@ -1,17 +1,16 @@
 use Rattle.std.proofs.Common.{◌≡◌, ℕ, ◌<◌, ◌-◌, List, length, ap, sym, ◌∙◌, arith}
-use Rattle.normalizer_tables.specs.Characters.{narrow_at, wide_at}
+use Rattle.normalizer_tables.specs.Characters.{wide_at}
 use Rattle.normalizer_tables.proofs.ListedLemmas.{listed_in-narrow, listed_in-wide, listed_in-past}
 use Rattle.normalizer_tables.proofs.characters.listed_in.Goals as goal
 
 pub returns-in_default : goal.returns-in_default
 returns-in_default c after =
-    let same = c.as_slice-narrow.ensures in
-    let within : c.args.item < length c.tables.inside.scalars16 = rw (← same) (omega (arith, c.in_default.ensures)) in
-    rw (← c.tables.view_is) (listed_in-narrow _ c.args.low c.args.item after within ∙ ap (λ (t : List ℕ). narrow_at t c.args.low c.args.item) (sym same) ∙ sym c.narrow_at.ensures)
+    let within : c.args.item < length c.tables.inside.scalars16 = rw (← c.len.ensures) (omega (arith, c.in_default.ensures)) in
+    rw (← c.tables.view_is) (listed_in-narrow _ c.args.low c.args.item after within ∙ sym c.narrow_at.ensures)
 
 pub returns-in-Some-checked_sub : goal.returns-in-Some-checked_sub
 returns-in-Some-checked_sub c after =
-    let narrow : length c.as_slice-narrow.result.now ≡ length c.tables.inside.scalars16 = ap length c.as_slice-narrow.ensures in
+    let narrow : c.len.result ≡ length c.tables.inside.scalars16 = c.len.ensures in
     let wide : length c.as_slice-wide.result.now ≡ length c.tables.inside.scalars24 = ap length c.as_slice-wide.ensures in
     let first = c.in-Some.ensures in
     let second = c.in-Some-checked_sub.ensures in
@@ -20,7 +19,7 @@ returns-in-Some-checked_sub c after =
 
 pub returns-in-None : goal.returns-in-None
 returns-in-None c after =
-    let narrow : length c.as_slice-narrow.result.now ≡ length c.tables.inside.scalars16 = ap length c.as_slice-narrow.ensures in
+    let narrow : c.len.result ≡ length c.tables.inside.scalars16 = c.len.ensures in
     let wide : length c.as_slice-wide.result.now ≡ length c.tables.inside.scalars24 = ap length c.as_slice-wide.ensures in
     let first = c.in-Some.ensures in
     let second = c.in-None.ensures in

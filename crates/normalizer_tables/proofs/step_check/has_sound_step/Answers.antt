@@ -7,8 +7,8 @@ use Rattle.normalizer_tables.proofs.step_check.has_sound_step.Goals.{then-is_pla
 pub returns-then-is_plain : goal.returns-then-is_plain
 returns-then-is_plain c = (
   λ yes. elim c.then-is_plain.branch [
-    | then-is_plain-via-then-is_plain w ↦ HasSoundStep-plain c.args.data.now c.args.supplement.now c.args.number (ap is_plain (sym c.requires) ∙ sym w.if-is_plain.ensures)
-    | then-is_plain-via-else-is_plain+then-is_hangul_syllable w ↦ HasSoundStep-hangul c.args.data.now c.args.supplement.now c.args.number (sym w.if-is_hangul_syllable.ensures)
+    | then-is_plain-via-then-is_plain w ↦ HasSoundStep-plain c.args.data.now c.args.supplement.now c.args.read.now.character (ap is_plain (sym c.requires.word) ∙ sym w.if-is_plain.ensures)
+    | then-is_plain-via-else-is_plain+then-is_hangul_syllable w ↦ HasSoundStep-hangul c.args.data.now c.args.supplement.now c.args.read.now.character (sym w.if-is_hangul_syllable.ensures)
   ],
   λ sound. refl,
 )

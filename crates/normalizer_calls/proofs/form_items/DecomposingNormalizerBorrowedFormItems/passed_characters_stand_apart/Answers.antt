@@ -2,7 +2,7 @@ use Rattle.normalizer_calls.proofs.PassingLemmas.{BeginsApart-decomposed, MayPas
 use Rattle.normalizer_calls.proofs.form_items.DecomposingNormalizerBorrowedFormItems.passed_characters_stand_apart.Goals as goal
 
 pub returns-clause-apart : goal.returns-clause-apart
-returns-clause-apart g c = MayPass-decomposed _ _ c.args.self.now.serves.below
+returns-clause-apart g c = MayPass-decomposed _ _ c.args.self.now.serves.unseen
 
 pub returns-clause-below : goal.returns-clause-below
 returns-clause-below g c = below_passes _ _

@@ -3,8 +3,8 @@ use Rattle.normalizer_iterators.proofs.CompositionLemmas.{Steps-fault, Steps-end
 use Rattle.normalizer_iterators.proofs.PassingLemmas.{begins_anew}
 use Rattle.normalizer_iterators.proofs.composition.Composition.pass.Goals as goal
 
-pub pass-requires : goal.pass-requires
-pass-requires g c =
+pub pass_next-requires : goal.pass_next-requires
+pass_next-requires g c =
     let s = c.args.self.now in
     record {
       can = c.requires.can;
@@ -58,7 +58,7 @@ returns-in-Some-Ok-FirstMember-clause-steps g c =
     let s = c.args.self.now in
     let reached = rw c.in-Some-Ok-FirstMember.field-0-is at c.in-Some-Ok-FirstMember.ensures s.pairs.now s.suits c.requires.at_passed in
     let given = rw c.in-Some-Ok-FirstMember.field-0-0-is at reached in
-    Steps-first_starter g.I.Iterator.can_next g.I.Iterator.next_gives g.I.Iterator.remaining s c.requires.ahead c.requires.marks c.in-Some-Ok-FirstMember.starter c.pass.new.self _ _
+    Steps-first_starter g.I.Iterator.can_next g.I.Iterator.next_gives g.I.Iterator.remaining s c.requires.ahead c.requires.marks c.in-Some-Ok-FirstMember.starter c.pass_next.new.decomposed _ _
     given.steps (given.starter s.pairs.now) c.compose_on.ensures
 
 pub returns-in-Some-Ok-FirstMember-clause-goes : goal.returns-in-Some-Ok-FirstMember-clause-goes
@@ -66,7 +66,7 @@ returns-in-Some-Ok-FirstMember-clause-goes g c =
     let s = c.args.self.now in
     let reached = rw c.in-Some-Ok-FirstMember.field-0-is at c.in-Some-Ok-FirstMember.ensures s.pairs.now s.suits c.requires.at_passed in
     let given = rw c.in-Some-Ok-FirstMember.field-0-0-is at reached in
-    Goes-first_starter g.I.Iterator.can_next g.I.Iterator.next_gives g.I.Iterator.remaining s c.requires.ahead c.requires.marks c.in-Some-Ok-FirstMember.starter c.pass.new.self _ _
+    Goes-first_starter g.I.Iterator.can_next g.I.Iterator.next_gives g.I.Iterator.remaining s c.requires.ahead c.requires.marks c.in-Some-Ok-FirstMember.starter c.pass_next.new.decomposed _ _
     given c.compose_on.ensures
 
 -- ---- a fault, or the end

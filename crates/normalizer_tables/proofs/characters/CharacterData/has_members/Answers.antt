@@ -1,6 +1,5 @@
 use Rattle.std.proofs.Common.{false, refl, sym, ap, ◌∙◌, IsTrue}
 use Rattle.normalizer_tables.specs.Ignored.{ignored_list}
-use Rattle.normalizer_tables.specs.Readings.{reading_by}
 use Rattle.normalizer_tables.proofs.ReadingsOfWords.{list_of-ignored, list_of-inhabited}
 use Rattle.normalizer_tables.proofs.characters.CharacterData.has_members.Goals as goal
 

@@ -3,7 +3,6 @@ use Rattle.std.specs.Option.{option_map}
 use Rattle.normalizer_tables.specs.Characters.{named_list, reading_of_word}
 use Rattle.normalizer_tables.specs.SpecialLists.{FixedList}
 use Rattle.normalizer_tables.specs.Ignored.{ignored_list}
-use Rattle.normalizer_tables.specs.Readings.{reading_by}
 use Rattle.normalizer_tables.proofs.CharacterLemmas.{list_read-scalar}
 use Rattle.normalizer_tables.proofs.WordLemmas.{read-hangul}
 use Rattle.normalizer_tables.proofs.characters.CharacterData.members_read_by.Goals as goal

@@ -4,9 +4,9 @@ use Rattle.normalizer_tables.proofs.ConditionLemmas.{IsSoundHangul-syllable}
 use Rattle.normalizer_tables.proofs.check.numbers.is_sound_hangul.Goals as goal
 
 pub returns-then-is_hangul_syllable : goal.returns-then-is_hangul_syllable
-returns-then-is_hangul_syllable c = (
-  λ h. (let one : c.word_of.result ≡ 1 = grind (arith, nat_tests) in
-      IsSoundHangul-syllable c.args.data.now c.args.character (sym c.if-is_hangul_syllable.ensures) (sym c.word_of.ensures ∙ one)),
-  λ h. (let one : c.word_of.result ≡ 1 = c.word_of.ensures ∙ h.syllable (sym c.if-is_hangul_syllable.ensures) in
+returns-then-is_hangul_syllable c = λ s is_read. (
+  λ yes. (let one : c.args.read.now.word ≡ 1 = grind (arith, nat_tests) in
+      IsSoundHangul-syllable s c.args.read.now.character (sym c.if-is_hangul_syllable.ensures) (sym is_read.word ∙ one)),
+  λ sound. (let one : c.args.read.now.word ≡ 1 = is_read.word ∙ sound.syllable (sym c.if-is_hangul_syllable.ensures) in
       grind (arith, nat_tests)),
 )

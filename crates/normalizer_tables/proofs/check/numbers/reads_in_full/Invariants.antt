@@ -3,4 +3,4 @@ use Rattle.normalizer_tables.specs.Conditions.{ReadsToItself}
 use Rattle.normalizer_tables.proofs.check.numbers.reads_in_full.Given as goal
 
 abbrev pub invariant-loop-place : goal.invariant-loop-place
-invariant-loop-place l = AllWithin (ReadsToItself l.data) l.list 0 l.place
+invariant-loop-place l = AllWithin (ReadsToItself l.data) l.read.list 0 l.place

@@ -5,5 +5,5 @@ use Rattle.normalizer_tables.proofs.pair_check.beginnings.begins_safely.Goals as
 
 pub returns-then-is_plain : goal.returns-then-is_plain
 returns-then-is_plain c =
-    HasSafeBeginning-plain c.args.data.now c.args.compositions.now c.args.character c.is_never_second.result c.ranges.character.0
-    (ap is_plain (sym c.requires) ∙ sym c.if-is_plain.ensures) c.is_never_second.ensures
+    HasSafeBeginning-plain c.args.data.now c.args.compositions.now c.args.read.now.character c.is_never_second.result c.requires.character
+    (ap is_plain (sym c.requires.word) ∙ sym c.if-is_plain.ensures) c.is_never_second.ensures

@@ -1,0 +1,91 @@
+//! Giving characters as they are, where a composing loop passes them.
+ghost use Rattle.std.specs.Prelude.{◌≡◌, ◌↔◌, [], List, IsTrue};
+ghost use Rattle.normalizer_tables.specs.Pairs.{Pair};
+ghost use Rattle.normalizer_iterators.specs.LazyComposing.{IsPassed, PassedBeginAnew, SuitsLazyComposing};
+ghost use Rattle.normalizer_iterators.specs.Passing.{Passes, IsAtPassed, StandsAtPassed, AllPassed};
+ghost use Rattle.normalizer_iterators.specs.Decomposition.{CanDecompose};
+ghost use Rattle.normalizer_iterators.specs.Reads.{character_of, HasOwnWord, HasOwnWords};
+ghost use Rattle.normalizer_iterators.specs.WaitingList.{ordered};
+
+use crate::decomposition::Decomposition;
+use crate::error::NormalizeError;
+use crate::read::{ReadCharacter, read_from};
+use normalizer_tables::characters::CharacterData;
+use normalizer_tables::condition::Bounds;
+use normalizer_tables::word::{is_backward_combining, is_non_round_trip};
+
+/// How a character was given.
+#[derive(Clone, Copy)]
+pub(crate) enum Given {
+    /// As it is: it is composed.
+    Itself(char),
+    /// By the first member of its list; the others wait.
+    FirstMember(char),
+}
+
+/// Whether nothing waits, and a composing loop passes the character that is read next.
+pub(crate) fn is_at_passed<I: Iterator<Item = char> + Drop>(
+    decomposed: &Decomposition<'_, I>,
+    bounds: Bounds,
+) -> bool
+    ensures { IsTrue result ↔ StandsAtPassed bounds decomposed.now }
+{
+    match decomposed.pending {
+        Some(read) => {
+            decomposed.waiting.is_empty() && is_passed(&decomposed.characters, bounds, read)
+        }
+        None => false,
+    }
+}
+
+/// The next character: as it is if the one behind it is passed too, or none is; else the first member of its list.
+pub(crate) fn pass_next<I: Iterator<Item = char> + Drop>(
+    decomposed: &mut Decomposition<'_, I>,
+    bounds: Bounds,
+) -> Option<Result<Given, NormalizeError>>
+    requires can { CanDecompose I.can_next I.remaining decomposed.old }
+    requires anew { PassedBeginAnew decomposed.old.characters bounds decomposed.old.ignored }
+    requires empty { ordered decomposed.old.waiting ≡ [] }
+    ensures { (pairs : List Pair) → SuitsLazyComposing decomposed.old.characters bounds pairs →
+        IsAtPassed pairs decomposed.old →
+        Passes I.can_next I.next_gives I.remaining pairs decomposed.old result decomposed.new }
+{
+    let read = decomposed.pending.take()?;
+    let following = read_from(
+        &decomposed.characters,
+        bounds.composition,
+        decomposed.delegate.next(),
+    );
+    if are_passed(&decomposed.characters, bounds, following) {
+        decomposed.pending = following;
+        return Some(Ok(Given::Itself(read.character)));
+    }
+    match decomposed.next_chunk(read, following) {
+        Ok(first) => Some(Ok(Given::FirstMember(first))),
+        Err(error) => Some(Err(error)),
+    }
+}
+
+/// Whether a composing loop passes a character, or there is none.
+fn are_passed(characters: &CharacterData<'_>, bounds: Bounds, read: Option<ReadCharacter>) -> bool
+    requires { HasOwnWords characters.now read }
+    ensures { IsTrue result ↔ AllPassed characters.now bounds (character_of read) }
+{
+    match read {
+        Some(read) => is_passed(characters, bounds, read),
+        None => true,
+    }
+}
+
+/// Whether a composing loop passes a character: it lies below the bound, or its word has neither flag.
+#[tactic(auto, unfolding(normalizer_tables::specs::PairConditions::is_passed))]
+fn is_passed(characters: &CharacterData<'_>, bounds: Bounds, read: ReadCharacter) -> bool
+    requires { HasOwnWord characters.now read }
+    ensures { IsTrue result ↔ IsPassed characters.now bounds read.character }
+{
+    if (read.character as u32) < bounds.composition {
+        return true;
+    }
+    let word = read.word_by(characters);
+    !is_non_round_trip(word) && !is_backward_combining(word)
+}

@@ -1,0 +1,29 @@
+use Rattle.std.proofs.Common.{refl, sym}
+use Rattle.std.proofs.lemmas.List.{map_more}
+use Rattle.normalizer_tables.specs.Rows.{pair_at, member_of}
+use Rattle.normalizer_tables.proofs.RowLemmas.{kept_pairs-same, AreKept-view, AreInRows-none, AreInRows-same, AreInRows-other, AreKept-at_end}
+use Rattle.normalizer_tables.proofs.pairs.rows.PairRows.from_pairs.Goals as goal
+use Rattle.normalizer_tables.proofs.pairs.rows.PairRows.from_pairs.Goals.{then-begins_row+in_ok-push, else-begins_row}
+
+pub loop-place-init : goal.loop-place-init
+loop-place-init c = record {
+  in_rows = rw c.new-rows.ensures.items (AreInRows-none _);
+  in_order = c.in_ok-members.ensures.items;
+}
+
+pub loop-place-preserved : goal.loop-place-preserved
+unfolding pair_at member_of
+loop-place-preserved c = record {
+  in_rows = elim c.if-begins_row.branch [
+    | then-begins_row+in_ok-push w ↦ rw (w.rows-is, w.in_ok-push.ensures.items) (AreInRows-other _ _ _ c.loop-place.invariant.in_rows _ refl refl (sym w.if-begins_row.ensures))
+    | else-begins_row w ↦ rw w.rows-is (AreInRows-same _ _ _ c.loop-place.invariant.in_rows (sym w.if-begins_row.ensures))
+  ];
+  in_order = rw (c.in_ok-push-2.ensures.items, c.loop-place.invariant.in_order) (sym (map_more member_of c.args.pairs.now c.loop-place.place (0, 0, 0) c.loop-place-test.true));
+}
+
+pub invariant_of-result : goal.invariant_of-result
+invariant_of-result c =
+    AreKept-view _ _ _ (AreKept-at_end _ _ _ _ c.loop-place.auto.place-end c.loop-place-test.false c.loop-place.invariant.in_rows c.loop-place.invariant.in_order)
+
+pub returns : goal.returns
+returns c = kept_pairs-same _ _ _ (AreKept-at_end _ _ _ _ c.loop-place.auto.place-end c.loop-place-test.false c.loop-place.invariant.in_rows c.loop-place.invariant.in_order)

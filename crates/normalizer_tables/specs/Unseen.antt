@@ -1,0 +1,14 @@
+-- Characters that pass unseen: of which as much is known without a look at their words.
+use Rattle.std.specs.Prelude.{◌≡◌, ℕ, ◌<◌, false, List, [], ◌∷◌}
+use Rattle.std.specs.Char.{IsScalar}
+use Rattle.normalizer_tables.specs.Characters.{Characters, class_of, has_class_form, list_of}
+
+-- c is its own list, whatever stands for ignored characters, and has class 0 and no class form
+pub record PassesUnseen (s : Characters) (c : ℕ) : Type 0 where
+  pub itself : (ignored : List ℕ) → list_of s ignored c ≡ c ∷ []
+  pub starter : class_of s c ≡ 0
+  pub no_class_form : has_class_form s c ≡ false
+
+-- each character below a number does
+abbrev pub PassUnseenBelow : Characters → ℕ → Type 0
+PassUnseenBelow s bound = (c : ℕ) → IsScalar c → c < bound → PassesUnseen s c

@@ -1,0 +1,169 @@
+//! How the pairs are kept: in rows of equal neighbouring seconds.
+ghost use Rattle.std.specs.Prelude.{◌≡◌, ◌↔◌, ◌<◌, ◌≤◌, IfOk, IsTrue, None, Some, ℕ, length, slice_get};
+ghost use Rattle.normalizer_tables.specs.Pairs.{listed_result, AreRising};
+ghost use Rattle.normalizer_tables.specs.Rows.{begins_row, row_count, start_of, IsRowOf};
+
+use std::alloc::{AllocError, Global};
+use std::marker::Model;
+
+/// Pairs of one second that follow one another.
+#[derive(Clone, Copy, PartialEq, Eq)]
+struct Row {
+    second: char,
+    /// The place of the first of them in the whole list.
+    start: usize,
+}
+
+/// A list of triples of second character, first character and result.
+#[derive(Drop)]
+pub(crate) struct PairRows {
+    /// The rows in the order of the list: each ends where the next one starts.
+    rows: Vec<Row>,
+    /// The first and the result of each pair.
+    members: Vec<(char, char)>,
+}
+
+impl Model for PairRows {
+    ghost use Rattle.std.specs.Prelude.{ℕ, List};
+
+    ghost Value = { List (ℕ × ℕ × ℕ) };
+
+    ghost use Rattle.normalizer_tables.specs.Rows.{kept_pairs, AreKept};
+
+    ghost view = { λ r. kept_pairs r.rows.items r.members.items };
+
+    ghost invariant = { λ r. AreKept r.rows.items r.members.items (kept_pairs r.rows.items r.members.items) };
+}
+
+impl PairRows {
+    /// The pairs of a list, in its order.
+    pub(crate) fn from_pairs(
+        alloc: Global,
+        pairs: &[(char, char, char)],
+    ) -> Result<Self, AllocError>
+        ensures { IfOk result (λ kept. kept ≡ pairs.now) }
+    {
+        let mut rows = Vec::new(alloc);
+        let mut members = Vec::with_capacity(alloc, pairs.len())?;
+        for place in 0..pairs.len() {
+            let (second, first, result) = pairs[place];
+            if begins_row(pairs, place) {
+                rows.push(Row {
+                    second,
+                    start: place,
+                })?;
+            }
+            members.push((first, result))?;
+        }
+        Ok(PairRows { rows, members })
+    }
+
+    /// How many pairs there are.
+    pub(crate) fn len(&self) -> usize
+        ensures { result ≡ length self.now }
+    {
+        self.members.len()
+    }
+
+    /// How many rows are kept.
+    pub(crate) fn count(&self) -> usize
+        ensures { result ≡ row_count self.now }
+    {
+        self.rows.len()
+    }
+
+    /// The pair at a place.
+    pub(crate) fn at(&self, place: usize) -> (char, char, char)
+        requires { place < length self.now }
+        ensures { slice_get self.now place ≡ Some result }
+    {
+        let behind = self.rows.partition_point(|row| row.start <= place);
+        let (first, result) = self.members[place];
+        (self.rows[behind - 1].second, first, result)
+    }
+
+    /// What a rising list gives for two characters, by halving the rows, and then the firsts of one.
+    pub(crate) fn result_by_halving(&self, first: char, second: char) -> Option<char>
+        requires { AreRising self.now }
+        ensures { result ≡ listed_result self.now first second }
+    {
+        let (start, end) = self.row_of(second);
+        let row = &self.members[start..end];
+        let at = row.partition_point(|member| member.0 < first);
+        match row.get(at) {
+            Some(member) if member.0 == first => Some(member.1),
+            _ => None,
+        }
+    }
+
+    /// Whether no pair of a rising list has this second.
+    pub(crate) fn is_never_second_by_halving(&self, second: char) -> bool
+        requires { AreRising self.now }
+        ensures { IsTrue result ↔ ((first : ℕ) → listed_result self.now first second ≡ None) }
+    {
+        let (start, end) = self.row_of(second);
+        start == end
+    }
+
+    /// From where to where the pairs of a second stand in a rising list.
+    fn row_of(&self, second: char) -> (usize, usize)
+        requires { AreRising self.now }
+        ensures { IsRowOf self.now second result.0 result.1 }
+    {
+        let number = self.rows.partition_point(|row| row.second < second);
+        let start = start_of(&self.rows, self.members.len(), number);
+        match self.rows.get(number) {
+            Some(row) if row.second == second => {
+                (start, start_of(&self.rows, self.members.len(), number + 1))
+            }
+            _ => (start, start),
+        }
+    }
+}
+
+impl Clone for PairRows {
+    ghost is_clone = { λ r s. s ≡ r };
+
+    fn clone(&self) -> Result<Self, AllocError> {
+        Ok(PairRows {
+            rows: Vec::from_slice(*self.rows.allocator(), &self.rows)?,
+            members: self.members.clone()?,
+        })
+    }
+}
+
+impl PartialEq for PairRows {
+    ghost use Rattle.std.specs.Cmp.{partial_equiv_from_equiv};
+    ghost use Rattle.std.specs.Cmp.Lexicographic.{pointwise};
+    ghost use Rattle.std.proofs.lemmas.Cmp.{and_equiv, lists_equiv, nat_eq_equiv, on_equiv};
+    ghost use Rattle.normalizer_tables.specs.Pairs.{same_pair, Pair};
+
+    ghost eq = { pointwise same_pair };
+
+    ghost laws = { partial_equiv_from_equiv (lists_equiv
+        (and_equiv (and_equiv (on_equiv (λ (p : Pair). p.0) nat_eq_equiv) (on_equiv (λ (p : Pair). p.1) nat_eq_equiv))
+        (on_equiv (λ (p : Pair). p.2) nat_eq_equiv))) };
+
+    fn eq(&self, other: &Self) -> bool {
+        self.rows == other.rows && self.members == other.members
+    }
+}
+
+/// Whether a pair has another second than the one before it.
+#[tactic(auto, unfolding(crate::specs::Rows::begins_row, crate::specs::Rows::pair_at))]
+fn begins_row(pairs: &[(char, char, char)], place: usize) -> bool
+    requires { place < length pairs.now }
+    ensures { result ≡ begins_row pairs.now place }
+{
+    place == 0 || pairs[place - 1].0 != pairs[place].0
+}
+
+/// Where a row starts: behind the last one, at the end.
+fn start_of(rows: &[Row], end: usize, number: usize) -> usize
+    ensures { result ≡ start_of rows.now end number }
+{
+    match rows.get(number) {
+        Some(row) => row.start,
+        None => end,
+    }
+}

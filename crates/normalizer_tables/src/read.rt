@@ -1,0 +1,53 @@
+//! A character with what was read of it, once for all that ask.
+ghost use Rattle.std.specs.Prelude.{◌≡◌};
+ghost use Rattle.normalizer_tables.specs.Characters.{word_of};
+ghost use Rattle.normalizer_tables.specs.Read.{IsRead};
+
+use crate::characters::{CharacterData, IgnoredCharacters};
+use crate::members::Members;
+use crate::word::WordReading;
+
+/// A character with its word, how the word reads, and its list.
+#[derive(Drop)]
+pub struct ReadCharacter<'a> {
+    pub character: char,
+    pub word: u32,
+    pub reading: WordReading,
+    /// Whether the word reads.
+    pub reads: bool,
+    /// The character itself where its word doesn't read.
+    pub list: Members<'a>,
+}
+
+/// Reads a character.
+pub fn read_character<'a>(data: &CharacterData<'a>, character: char) -> ReadCharacter<'a>
+    ensures read { IsRead data.now result }
+    ensures same { result.character ≡ character }
+{
+    read_by_word(data, character, data.word_of(character))
+}
+
+/// Reads a character whose word was looked up.
+pub fn read_by_word<'a>(data: &CharacterData<'a>, character: char, word: u32) -> ReadCharacter<'a>
+    requires { word ≡ word_of data.now character }
+    ensures read { IsRead data.now result }
+    ensures same { result.character ≡ character }
+{
+    let reading = data.reading_by(character, word);
+    match data.members_read_by(character, word, IgnoredCharacters::Dropped) {
+        Some(list) => ReadCharacter {
+            character,
+            word,
+            reading,
+            reads: true,
+            list,
+        },
+        None => ReadCharacter {
+            character,
+            word,
+            reading,
+            reads: false,
+            list: Members::one(character),
+        },
+    }
+}
