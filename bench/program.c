@@ -1,7 +1,8 @@
 /* Times the calls on text beside memcpy and a loop that only decodes and encodes: `program RECORDS ROUNDS FILE..`. It writes a
-   line for each file, form and call: their names, the median of the rounds in nanoseconds, the length and a digest of what was
+   line for each file, form and call: their names, the best of the rounds in nanoseconds, the length and a digest of what was
    written, and the millions of bytes of the file in a second, with a tab between each two. RECORDS has a character a line: its
-   number, class, the kind of its mapping (none, canonical, excluded, compatibility) and the numbers of that, in decimal. */
+   number, class, the kind of its mapping (none, canonical, excluded, compatibility) and the numbers of that, in decimal.
+   `program --row FORM CALL RECORDS TIMES FILE` lets one call go over one file so many times, for a profiler to look at. */
 #define _POSIX_C_SOURCE 199309L
 
 #include "normalizer_benchmark.h"
@@ -26,6 +27,8 @@ static const char *const CALL_NAMES[] = {
     "is_normalized",
     "is_normalized_utf8",
     "is_normalized_utf16",
+    "normalize",
+    "normalize_iter",
     "unicode_normalization to",
     "unicode_normalization is",
 };
@@ -148,19 +151,16 @@ static uint32_t digest_of(const uint8_t *at, size_t length) {
     return digest;
 }
 
-static int in_order(const void *a, const void *b) {
-    uint64_t x = *(const uint64_t *)a, y = *(const uint64_t *)b;
-    return x < y ? -1 : x > y;
+static uint64_t least(const uint64_t *times, size_t count) {
+    uint64_t best = times[0];
+    for (size_t i = 1; i < count; i++)
+        if (times[i] < best) best = times[i];
+    return best;
 }
 
-static uint64_t median(uint64_t *times, size_t count) {
-    qsort(times, count, sizeof *times, in_order);
-    return count % 2 ? times[count / 2] : (times[count / 2 - 1] + times[count / 2]) / 2;
-}
-
-static void say(const char *file, const char *form, const char *call, uint64_t *times, size_t rounds, size_t size, uint64_t length,
+static void say(const char *file, const char *form, const char *call, const uint64_t *times, size_t rounds, size_t size, uint64_t length,
                 uint32_t digest) {
-    uint64_t passed = median(times, rounds);
+    uint64_t passed = least(times, rounds);
     double rate = passed ? (double)size * 1e3 / (double)passed : 0;
     printf("%s\t%s\t%s\t%llu\t%llu\t%u\t%.2f\n", file, form, call, (unsigned long long)passed, (unsigned long long)length,
            (unsigned)digest, rate);
@@ -232,10 +232,42 @@ static void run_start(struct records records, size_t rounds) {
     free(times);
 }
 
+/* The place of a name in a list of so many, or how many there are. */
+static size_t place_of(const char *name, const char *const *names, size_t count) {
+    size_t place = 0;
+    while (place < count && strcmp(name, names[place])) place++;
+    return place;
+}
+
+/* One call, over one text, again and again. */
+static int run_row(char **arguments) {
+    size_t form = place_of(arguments[0], FORM_NAMES, NORMALIZER_FORMS), call = place_of(arguments[1], CALL_NAMES, NORMALIZER_CALLS);
+    size_t times = (size_t)strtoul(arguments[3], NULL, 10);
+    if (form == NORMALIZER_FORMS || call == NORMALIZER_CALLS || !times) stop("no such form, call or number", "--row");
+    struct records records = records_of(arguments[2]);
+    struct bytes text = bytes_of(arguments[4]);
+    struct units units = units_of(text);
+    struct normalizer_start start;
+    struct normalizer_step *steps = room(times * sizeof *steps);
+    uint64_t *passed = room(times * sizeof *passed);
+    for (size_t i = 0; i < times; i++) steps[i] = (struct normalizer_step){.form = (uint8_t)form, .call = (uint8_t)call};
+    if (normalizer_benchmark(records.at, records.length, text.at, text.length, units.at, units.length, &start, steps, times))
+        stop("a call of the library failed", arguments[4]);
+    for (size_t i = 0; i < times; i++) passed[i] = steps[i].nanoseconds;
+    say(arguments[4], arguments[0], arguments[1], passed, times, text.length, steps[0].length, steps[0].digest);
+    free(passed);
+    free(steps);
+    free(units.at);
+    free(text.at);
+    free(records.at);
+    return 0;
+}
+
 int main(int count, char **arguments) {
+    if (count == 7 && !strcmp(arguments[1], "--row")) return run_row(arguments + 2);
     size_t rounds = count < 3 ? 0 : (size_t)strtoul(arguments[2], NULL, 10);
     if (!rounds) {
-        fprintf(stderr, "usage: program RECORDS ROUNDS FILE..\n");
+        fprintf(stderr, "usage: program RECORDS ROUNDS FILE.. | program --row FORM CALL RECORDS TIMES FILE\n");
         return 2;
     }
     struct records records = records_of(arguments[1]);
