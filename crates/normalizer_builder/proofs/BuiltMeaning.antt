@@ -19,7 +19,7 @@ use Rattle.normalizer_records.specs.Faults.{IsFirstRefusal}
 use Rattle.normalizer_records.specs.Meaning.{class_of as recorded_class_of, mapped_list, mapper_list, pairs_of}
 use Rattle.normalizer_records.proofs.SyllableLemmas.{syllable-range}
 use Rattle.normalizer_builder.specs.Building.{Builds, IsFirstUnfitOfRecords, IsMadeOfRecords, KeepsMapping, MeansRecords, MeetsRecords, OfMappings, PacksRecords}
-use Rattle.normalizer_builder.specs.Parts.{IsOfCharacters}
+use Rattle.normalizer_builder.specs.inner.Parts.{IsOfCharacters}
 use Rattle.normalizer_builder.specs.Ranks.{IsFirstUnmet}
 use Rattle.normalizer_builder.specs.Recorded.{mapper_class_of, recorded_characters}
 use Rattle.normalizer_builder.proofs.EntriesOfRecords.{AreEntriesOf, AreEntriesOf-made, list_alone, mapper_alone, no_entry, no_status}

@@ -16,7 +16,7 @@ use Rattle.normalizer_records.specs.Faults.{AreRising, AreMapperRising, HasFault
 use Rattle.normalizer_records.specs.Faults.{HasPairFault, IsAsked, IsFirstRefusal, IsOnLongChain, IsTooLong, has_mapping_fault, is_bad_mapping, is_bad_status, mapped_to}
 use Rattle.normalizer_records.specs.Meaning.{canonical_list, compatibility_list, mapper_list, mapped_list, list_of_status, status_of, expansion, expand_all, full_list, replacement, replace_by}
 use Rattle.normalizer_records.specs.Meaning.{recorded_classes, levels}
-use Rattle.normalizer_builder.specs.Parts.{HasRoom}
+use Rattle.normalizer_builder.specs.inner.Parts.{HasRoom}
 
 stable : (a b : ℕ) → (¬ (a < b) → ⊥) → a < b
 stable a b h = elim (cases_lt a b) [ inl l ↦ l | inr g ↦ absurd (h (λ l. omega arith)) ]

@@ -20,7 +20,7 @@ use Rattle.normalizer_records.specs.Entry.{Entry, MapperEntry}
 use Rattle.normalizer_records.specs.Faults.{HasWrongClass, IsFirstRefusal, IsFixedForm, IsFreeForm, IsWrong, begins_with_mark, is_mark}
 use Rattle.normalizer_records.specs.Meaning.{canonical_list, class_of, compatibility_list, list_of_status, mapped_list, mapper_list}
 use Rattle.normalizer_packing.proofs.EntryLemmas.{find-missing}
-use Rattle.normalizer_builder.specs.Parts.{IsOfCharacters}
+use Rattle.normalizer_builder.specs.inner.Parts.{IsOfCharacters}
 use Rattle.normalizer_builder.specs.Recorded.{AreMadeOf, entry_for, recorded_characters}
 use Rattle.normalizer_builder.proofs.EntriesOfRecords.{AreEntriesOf, AreEntriesOf-made, class_of_found, list_alone, list_of_found, mapper_alone, no_entry}
 use Rattle.normalizer_builder.proofs.NoRefusal.{no_wrong_class}

@@ -1,6 +1,6 @@
 pub mod Building
 pub mod Demands
 pub mod Fitness
-pub mod Parts
 pub mod Ranks
 pub mod Recorded
+pub mod inner

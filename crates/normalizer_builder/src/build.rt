@@ -2,7 +2,7 @@
 ghost use Rattle.std.specs.Prelude.{◌≡◌, None, IfOk, MatchResult};
 ghost use Rattle.normalizer_records.specs.Faults.{IsFirstRefusal};
 ghost use Rattle.normalizer_builder.specs.Building.{Builds, IsSmallest, error_of};
-ghost use Rattle.normalizer_builder.specs.Parts.{AreParts, PacksCharacters};
+ghost use Rattle.normalizer_builder.specs.inner.Parts.{AreParts, PacksCharacters};
 
 use crate::built::Built;
 use crate::entries::entries;

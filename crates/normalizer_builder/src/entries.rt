@@ -1,7 +1,7 @@
 //! What records say of each character, as it is packed.
 ghost use Rattle.std.specs.Prelude.{◌≡◌, ℕ, IfOk};
 ghost use Rattle.normalizer_records.specs.Faults.{AreRising, AreMapperRising};
-ghost use Rattle.normalizer_builder.specs.Parts.{HasRoom};
+ghost use Rattle.normalizer_builder.specs.inner.Parts.{HasRoom};
 ghost use Rattle.normalizer_builder.specs.Recorded.{AreMadeOf, entry_for, step_to};
 
 use crate::characters::sorted_characters;

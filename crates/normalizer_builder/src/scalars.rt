@@ -3,7 +3,7 @@
 ghost use Rattle.std.specs.Prelude.{◌<◌, All};
 ghost use Rattle.std.specs.Char.{IsScalar};
 ghost use Rattle.normal_forms.specs.Reading.{IsText};
-ghost use Rattle.normalizer_builder.specs.Parts.{IsOfCharacters};
+ghost use Rattle.normalizer_builder.specs.inner.Parts.{IsOfCharacters};
 
 use normalizer_packing::entry::Entry;
 

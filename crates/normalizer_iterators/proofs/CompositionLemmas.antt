@@ -14,7 +14,7 @@ use Rattle.normalizer_iterators.specs.Decomposition as decomposition
 use Rattle.normalizer_iterators.specs.NextItem.{GaveFirst}
 use Rattle.normalizer_iterators.specs.StayingMarks.{staying}
 use Rattle.normalizer_iterators.specs.MarkRuns.{HasShortMarkRuns}
-use Rattle.normalizer_iterators.specs.Passing.{PassesOn, GivesStarter}
+use Rattle.normalizer_iterators.specs.inner.Passing.{PassesOn, GivesStarter}
 use Rattle.normalizer_iterators.specs.Composing.{composed_ahead, ahead_left, UnlessEnded, IsBeforeStarter, WillGiveBehind, GivesShort, ComposesStarter}
 use Rattle.normalizer_iterators.specs.Composition.{CanCompose, ComposesOn, CompositionSteps, StaysShort, WillGive, items_left, pairing_by}
 use Rattle.normalizer_iterators.proofs.MarkRunLemmas.{HasShortMarkRuns-rest}

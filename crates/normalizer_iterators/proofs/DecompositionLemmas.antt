@@ -13,7 +13,7 @@ use Rattle.normalizer_iterators.specs.declared.error.NormalizeError.TheVariants.
 use Rattle.normalizer_iterators.specs.Decomposition.{CanDecompose, DecompositionSteps, IsEnded, StaysShort, WillGive, items_left, pending_of, reading_of}
 use Rattle.normalizer_iterators.specs.Delegate.{HasRead, IsReadyBehind}
 use Rattle.normalizer_iterators.specs.LazyReading.{longest_list}
-use Rattle.normalizer_iterators.specs.ReadingOn.{ReadsChunk, ChunkDidNotFit}
+use Rattle.normalizer_iterators.specs.inner.ReadingOn.{ReadsChunk, ChunkDidNotFit}
 use Rattle.normalizer_iterators.specs.ToCome.{IsToCome, AreShortToCome, reads_left}
 use Rattle.normalizer_iterators.specs.WaitingList.{ordered}
 use Rattle.normalizer_iterators.proofs.ToComeLemmas.{nfd-nil, IsToCome-none, IsToCome-ended, AreShortToCome-ended, IsToCome-chunk, AreShortToCome-chunk, short_chunk_fits, chunk_size}

@@ -26,8 +26,8 @@ use Rattle.normalizer_iterators.specs.Delegate.{SpellsBehind, IsReadyBehind}
 use Rattle.normalizer_iterators.specs.Decomposition.{StaysShort, WillGive, pending_of, reading_of}
 use Rattle.normalizer_iterators.specs.LazyComposing.{IsPassed, StandsApart, StandsApartIn, PassedBeginAnew, SuitsLazyComposing}
 use Rattle.normalizer_iterators.specs.LazyReading.{longest_list}
-use Rattle.normalizer_iterators.specs.Passing.{AllPassed, StandsAtPassed, IsAtPassed, PassesOn, GivesStarter}
-use Rattle.normalizer_iterators.specs.ReadingOn.{ReadsChunk}
+use Rattle.normalizer_iterators.specs.inner.Passing.{AllPassed, StandsAtPassed, IsAtPassed, PassesOn, GivesStarter}
+use Rattle.normalizer_iterators.specs.inner.ReadingOn.{ReadsChunk}
 use Rattle.normalizer_iterators.specs.ToCome.{reads_left}
 use Rattle.normalizer_iterators.specs.WaitingList.{ordered}
 use Rattle.normalizer_iterators.proofs.ComposingLemmas.{nfd-reading_by, nfc-reading_by}

@@ -11,7 +11,7 @@ use Rattle.normal_forms.specs.ShortRuns.{places, continues}
 use Rattle.normal_forms.proofs.ExpandLemmas.{expand-append}
 use Rattle.normal_forms.proofs.OrderLemmas.{order-nil}
 use Rattle.normalizer_iterators.specs.Delegate.{HasRead, IsReadyBehind}
-use Rattle.normalizer_iterators.specs.ReadingOn.{ReadsOn, DidNotFit, ReadsChunk, StandsAlone, ChunkDidNotFit}
+use Rattle.normalizer_iterators.specs.inner.ReadingOn.{ReadsOn, DidNotFit, ReadsChunk, StandsAlone, ChunkDidNotFit}
 use Rattle.normalizer_iterators.proofs.LazyLemmas.{Yields-one_more}
 use Rattle.std.proofs.lemmas.Option.{slice_get_cases}
 use Rattle.normal_forms.specs.Reading.{Reading}

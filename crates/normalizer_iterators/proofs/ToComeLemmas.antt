@@ -13,7 +13,7 @@ use Rattle.normalizer_text.specs.Steps.{Spells}
 use Rattle.normalizer_iterators.specs.declared.waiting.WaitingList.{WaitingList}
 use Rattle.normalizer_iterators.specs.Delegate.{SpellsBehind}
 use Rattle.normalizer_iterators.specs.LazyReading.{SuitsLazyReading, longest_list}
-use Rattle.normalizer_iterators.specs.ReadingOn.{ReadsOn, DidNotFit, ReadsChunk, ChunkDidNotFit}
+use Rattle.normalizer_iterators.specs.inner.ReadingOn.{ReadsOn, DidNotFit, ReadsChunk, ChunkDidNotFit}
 use Rattle.normalizer_iterators.specs.ToCome.{IsToCome, AreShortToCome, reads_left}
 use Rattle.normalizer_iterators.specs.WaitingList.{ordered, unordered, held}
 use Rattle.normalizer_iterators.proofs.LazyLemmas.{anew-parts, spelled_behind, spelled_then}

@@ -7,10 +7,9 @@ pub mod LazyComposing
 pub mod LazyReading
 pub mod MarkRuns
 pub mod NextItem
-pub mod Passing
-pub mod ReadingOn
 pub mod Reads
 pub mod StayingMarks
 pub mod ToCome
 pub mod Waiting
 pub mod WaitingList
+pub mod inner

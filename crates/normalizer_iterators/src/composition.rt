@@ -21,7 +21,7 @@ ghost use Rattle.normalizer_text.specs.Steps.{Spells};
 ghost use Rattle.normalizer_iterators.specs.declared.composition.Ahead.TheVariants.{Passed};
 ghost use Rattle.normalizer_iterators.specs.Decomposition.{CanDecompose};
 ghost use Rattle.normalizer_iterators.specs.LazyComposing.{SuitsLazyComposing};
-ghost use Rattle.normalizer_iterators.specs.Passing.{IsAtPassed};
+ghost use Rattle.normalizer_iterators.specs.inner.Passing.{IsAtPassed};
 ghost use Rattle.normalizer_iterators.specs.LazyReading.{SuitsLazyReading};
 ghost use Rattle.normalizer_iterators.specs.StayingMarks.{staying, used, BlocksBelow};
 ghost use Rattle.normalizer_iterators.specs.Composing.{ComposesStarter, GivesShort, HasVisited, IsBeforeStarter};

@@ -16,7 +16,7 @@ ghost use Rattle.normalizer_iterators.specs.LazyReading.{SuitsLazyReading};
 ghost use Rattle.normalizer_iterators.specs.WaitingList.{AgreesWith, ordered, unordered};
 ghost use Rattle.normalizer_iterators.specs.Waiting.{HasClassesOf};
 ghost use Rattle.normalizer_iterators.specs.Reads.{character_of, HasOwnWord, HasOwnWords};
-ghost use Rattle.normalizer_iterators.specs.ReadingOn.{ReadsChunk, ChunkDidNotFit, StandsAlone};
+ghost use Rattle.normalizer_iterators.specs.inner.ReadingOn.{ReadsChunk, ChunkDidNotFit, StandsAlone};
 
 use crate::error::NormalizeError;
 use crate::read::{ReadCharacter, read_from};

@@ -8,7 +8,7 @@ ghost use Rattle.normalizer_tables.specs.Readings.{reading_by};
 ghost use Rattle.normalizer_iterators.specs.Delegate.{HasRead, IsReadyBehind};
 ghost use Rattle.normalizer_iterators.specs.WaitingList.{held, reordered, AgreesWith};
 ghost use Rattle.normalizer_iterators.specs.LazyReading.{HasClassesFrom};
-ghost use Rattle.normalizer_iterators.specs.ReadingOn.{ReadsOn, DidNotFit};
+ghost use Rattle.normalizer_iterators.specs.inner.ReadingOn.{ReadsOn, DidNotFit};
 ghost use Rattle.normalizer_iterators.specs.Reads.{character_of, HasOwnWord, HasOwnWords};
 
 use crate::read::{ReadCharacter, read_from};

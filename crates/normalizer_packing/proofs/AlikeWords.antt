@@ -18,7 +18,7 @@ use Rattle.normalizer_packing.specs.Flags.{IsFlagged}
 use Rattle.normalizer_packing.specs.Packing.{HasFlags, IsPackedWord, IsSpelled}
 use Rattle.normalizer_packing.specs.Spelling.{final_word, has_fixed_list, have_classes, list_eq, spelling, spelling_by_list, spelling_or_ignored}
 use Rattle.normalizer_packing.specs.Steps.{step_in, step_lists, word_of_step}
-use Rattle.normalizer_packing.specs.Stretches.{AreAlike, ListsTold, edges, told_numbers}
+use Rattle.normalizer_packing.specs.inner.Stretches.{AreAlike, ListsTold, edges, told_numbers}
 use Rattle.normalizer_packing.proofs.EntryLemmas.{Contains-cons, Contains-head, find-missing}
 use Rattle.normalizer_packing.proofs.TableLemmas.{eq_list}
 

@@ -6,7 +6,7 @@ use Rattle.std.proofs.lemmas.Bool.{le-leb, leb-true, lt-ltb, ltb-true, and_parts
 use Rattle.std.proofs.lemmas.List.Elements.{All-cons, All-head, All-tail}
 use Rattle.normalizer_packing.specs.declared.entry.Kind.{Kind}
 use Rattle.normalizer_packing.specs.Entries.{AreRising, CharacterEntry, class_in}
-use Rattle.normalizer_packing.specs.Packable.{has_length_if_any, has_length_of_word}
+use Rattle.normalizer_packing.specs.inner.Packable.{has_length_if_any, has_length_of_word}
 use Rattle.normalizer_packing.specs.Stored.{HasLengthOfWord, is_narrow, listed_in, listed_of}
 use Rattle.std.specs.List.{IsAllAdjacentAnswer}
 

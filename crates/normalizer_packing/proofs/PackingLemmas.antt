@@ -20,11 +20,11 @@ use Rattle.normalizer_packing.specs.declared.stores.Stores.{Stores}
 use Rattle.normalizer_packing.specs.Caps.{IsCap}
 use Rattle.normalizer_packing.specs.Entries.{CharacterEntry, class_in, reading_of_entries, kept_list, list_in}
 use Rattle.normalizer_packing.specs.Flags.{BeginsUnpaired, IsFlagged, without_flags}
-use Rattle.normalizer_packing.specs.PackedWords.{CanPoint}
+use Rattle.normalizer_packing.specs.inner.PackedWords.{CanPoint}
 use Rattle.normalizer_packing.specs.Packing.{HasFlags, IsPackedWord, IsSpelled, Packs, PacksKind}
 use Rattle.normalizer_packing.specs.Spelling.{spelling}
 use Rattle.normalizer_packing.specs.Steps.{PacksSteps}
-use Rattle.normalizer_packing.specs.Stores.{tables_in}
+use Rattle.normalizer_packing.specs.inner.Stores.{tables_in}
 use Rattle.normalizer_packing.specs.Words.{HasWords}
 
 -- the data put together

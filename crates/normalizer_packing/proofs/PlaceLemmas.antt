@@ -9,11 +9,11 @@ use Rattle.normalizer_packing.specs.declared.entry.Kind.{Kind}
 use Rattle.normalizer_packing.specs.declared.entry.Kind.TheVariants.{Canonical, Compatibility, Mapper}
 use Rattle.normalizer_packing.specs.declared.stores.Stores.{Stores}
 use Rattle.normalizer_packing.specs.Entries.{CharacterEntry}
-use Rattle.normalizer_packing.specs.PackedWords.{CanPoint}
+use Rattle.normalizer_packing.specs.inner.PackedWords.{CanPoint}
 use Rattle.normalizer_packing.specs.Spelling.{list_eq}
 use Rattle.normalizer_packing.specs.Stored.{HasLengthOfWord, canonical_lists, is_among, is_narrow, item_at, item_in, item_of, items_of, listed_in, needed_items, place_of}
 use Rattle.normalizer_packing.specs.Stored.{supplementary_lists, tables_of}
-use Rattle.normalizer_packing.specs.Stores.{StandsAt, place_in, tables_in}
+use Rattle.normalizer_packing.specs.inner.Stores.{StandsAt, place_in, tables_in}
 use Rattle.normalizer_packing.proofs.StoreLemmas.{chosen, narrow_length, not_among_if_nowhere, place_if_some, placed}
 use Rattle.normalizer_packing.proofs.TableLemmas.{is_among-append, is_among-apart, is_among-first_come, same_list, stands_at_place}
 

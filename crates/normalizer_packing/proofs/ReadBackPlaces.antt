@@ -8,7 +8,7 @@ use Rattle.normalizer_packing.specs.declared.entry.Kind.{Kind}
 use Rattle.normalizer_packing.specs.declared.entry.Kind.TheVariants.{Canonical}
 use Rattle.normalizer_packing.specs.Entries.{CharacterEntry}
 use Rattle.normalizer_packing.specs.Stored.{canonical_lists, is_among, is_narrow, item_at, item_of, listed_in as packed_in, low_length, place_of, supplementary_lists, tables_of}
-use Rattle.normalizer_packing.specs.Stores.{StandsAt}
+use Rattle.normalizer_packing.specs.inner.Stores.{StandsAt}
 use Rattle.normalizer_packing.proofs.PlaceLemmas.{among_supplementary, canonical_kind, item_of-canonical, item_of-supplementary, item_within, place_within, stands_among}
 use Rattle.normalizer_packing.proofs.StoreLemmas.{narrow_length}
 

@@ -12,7 +12,7 @@ use Rattle.normalizer_packing.specs.Entries.{CharacterEntry, class_in, entry_of}
 use Rattle.normalizer_packing.specs.Spelling.{spelling}
 use Rattle.normalizer_packing.specs.Steps.{are_narrow, asked_step, asks_supplement, step_in, step_lists, stored_step, stored_steps, word_of_place, word_of_step}
 use Rattle.normalizer_packing.specs.Stored.{first_come, is_among}
-use Rattle.normalizer_packing.specs.Stores.{Holds, HoldsMore}
+use Rattle.normalizer_packing.specs.inner.Stores.{Holds, HoldsMore}
 use Rattle.normalizer_packing.proofs.TableLemmas.{first_come-append, is_among-first_come}
 use Rattle.normalizer_packing.proofs.WordLemmas.{below_all, found_among, found_passes, surrogate_spelled}
 

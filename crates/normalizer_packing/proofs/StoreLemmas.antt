@@ -11,7 +11,7 @@ use Rattle.normalizer_packing.specs.declared.entry.Kind.{Kind}
 use Rattle.normalizer_packing.specs.Entries.{CharacterEntry, class_in}
 use Rattle.normalizer_packing.specs.Spelling.{list_eq}
 use Rattle.normalizer_packing.specs.Stored.{apart_from, canonical_lists, first_come, listed_in, listed_of, is_among, is_narrow, items_of, needed_items, place_of, supplementary_lists, tables_of}
-use Rattle.normalizer_packing.specs.Stores.{AreStored, Holds, HoldsMore, place_in, tables_in, with_list}
+use Rattle.normalizer_packing.specs.inner.Stores.{AreStored, Holds, HoldsMore, place_in, tables_in, with_list}
 use Rattle.normalizer_packing.specs.declared.stored.Store.{Store}
 use Rattle.std.specs.BTreeMap.{UpdatesBy, get_by}
 use Rattle.std.specs.Cmp.Lexicographic.{slice_cmp}

@@ -12,7 +12,7 @@ use Rattle.std.proofs.Math.Seq.{drop-append-add, take-length}
 use Rattle.normalizer_tables.specs.Characters.{items_at}
 use Rattle.normalizer_packing.specs.Spelling.{list_eq}
 use Rattle.normalizer_packing.specs.Stored.{apart_from, first_come, is_among, is_narrow, items_of, place_of, stands_in}
-use Rattle.normalizer_packing.specs.Stores.{with_list}
+use Rattle.normalizer_packing.specs.inner.Stores.{with_list}
 
 pub same_list : (x y : List ℕ) → list_eq x y ≡ true → x ≡ y
 same_list x y h = (bytes_eq-Decides x y).0 h

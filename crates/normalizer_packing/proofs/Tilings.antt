@@ -9,7 +9,7 @@ use Rattle.normalizer_tables.specs.Ranges.{WordRange, word_in}
 use Rattle.normalizer_tables.specs.Table.{code_points}
 use Rattle.normalizer_tables.proofs.RangeLists.{rises_from, rises_from-decides}
 use Rattle.normalizer_tables.proofs.WordsInRanges.{word_in-held, word_in-missed}
-use Rattle.normalizer_packing.specs.Stretches.{AreAlike, CoverUpTo, IsStretch, Tiles}
+use Rattle.normalizer_packing.specs.inner.Stretches.{AreAlike, CoverUpTo, IsStretch, Tiles}
 use Rattle.normalizer_packing.specs.Words.{CoverWords}
 
 Tiles-le : (rs : List WordRange) (a b : ℕ) → Tiles rs a b → a ≤ b

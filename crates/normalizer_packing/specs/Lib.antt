@@ -1,13 +1,10 @@
 pub mod Caps
 pub mod Entries
 pub mod Flags
-pub mod Packable
-pub mod PackedWords
 pub mod Packing
 pub mod ReadBack
 pub mod Spelling
 pub mod Steps
 pub mod Stored
-pub mod Stores
-pub mod Stretches
 pub mod Words
+pub mod inner

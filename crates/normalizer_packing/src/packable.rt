@@ -2,7 +2,7 @@
 ghost use Rattle.std.specs.Prelude.{◌≡◌, ◌↔◌, All, IsTrue};
 ghost use Rattle.std.specs.List.{list_all};
 ghost use Rattle.normalizer_packing.specs.Entries.{AreRising, class_in};
-ghost use Rattle.normalizer_packing.specs.Packable.{has_length_if_any, has_length_of_word};
+ghost use Rattle.normalizer_packing.specs.inner.Packable.{has_length_if_any, has_length_of_word};
 ghost use Rattle.normalizer_packing.specs.Packing.{ArePackable};
 ghost use Rattle.normalizer_packing.specs.Stored.{HasLengthOfWord, listed_in, listed_of};
 
@@ -44,7 +44,7 @@ fn all_have_lengths(entries: &Entries<'_>, kind: Kind, items: &[Entry]) -> bool
 }
 
 /// Whether a word can tell the length of an entry's list, where it stands in a table.
-#[tactic(auto, unfolding(crate::specs::Packable::has_length_if_any))]
+#[tactic(auto, unfolding(crate::specs::inner::Packable::has_length_if_any))]
 fn has_length(entries: &Entries<'_>, kind: Kind, entry: &Entry) -> bool
     ensures { result ≡ has_length_if_any (listed_of (class_in entries.now) kind entry.now) }
 {
@@ -55,7 +55,7 @@ fn has_length(entries: &Entries<'_>, kind: Kind, entry: &Entry) -> bool
 }
 
 /// Whether a word can tell the length of a list in a table.
-#[tactic(auto, unfolding(crate::specs::Packable::has_length_of_word))]
+#[tactic(auto, unfolding(crate::specs::inner::Packable::has_length_of_word))]
 fn has_length_of_word(list: &[char]) -> bool
     ensures { result ≡ has_length_of_word list.now }
 {

@@ -1,10 +1,10 @@
 //! Packs entries and pairs into normalization data.
 ghost use Rattle.std.specs.Prelude.{◌≡◌, ◌<◌, IfOk, IsErrOf};
 ghost use Rattle.normalizer_tables.specs.Conditions.{item_limit};
-ghost use Rattle.normalizer_packing.specs.PackedWords.{CanPoint};
+ghost use Rattle.normalizer_packing.specs.inner.PackedWords.{CanPoint};
 ghost use Rattle.normalizer_packing.specs.Packing.{ArePackable, Packs, PacksKind};
 ghost use Rattle.normalizer_packing.specs.Stored.{needed_items};
-ghost use Rattle.normalizer_packing.specs.Stretches.{ListsTold};
+ghost use Rattle.normalizer_packing.specs.inner.Stretches.{ListsTold};
 
 use crate::Packed;
 use crate::cap::cap_of;

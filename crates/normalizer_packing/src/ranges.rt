@@ -1,6 +1,6 @@
 //! Tables of words that are computed stretch by stretch.
 ghost use Rattle.std.specs.Prelude.{IfOk, ◌+◌, ◌<◌, ◌≤◌};
-ghost use Rattle.normalizer_packing.specs.Stretches.{AreAlike, CoverUpTo, IsStretch};
+ghost use Rattle.normalizer_packing.specs.inner.Stretches.{AreAlike, CoverUpTo, IsStretch};
 ghost use Rattle.normalizer_packing.specs.Words.{CoverWords, HasWords};
 ghost use Rattle.normalizer_tables.specs.Table.{code_points};
 ghost use Rattle.std.specs.List.Sorted.{IsStrictlyIncreasing};

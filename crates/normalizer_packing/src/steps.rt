@@ -3,9 +3,9 @@ ghost use Rattle.std.specs.Prelude.{◌≡◌, true, false, [], ◌∷◌, List,
 ghost use Rattle.normalizer_packing.specs.Entries.{class_in, entry_of};
 ghost use Rattle.normalizer_tables.specs.Pairs.{Pair};
 ghost use Rattle.normalizer_packing.specs.Stored.{first_come, is_among, place_of};
-ghost use Rattle.normalizer_packing.specs.Stores.{Holds};
+ghost use Rattle.normalizer_packing.specs.inner.Stores.{Holds};
 ghost use Rattle.normalizer_packing.specs.Steps.{are_narrow, asked_step, asks_supplement, step_in, step_lists};
-ghost use Rattle.normalizer_packing.specs.Stretches.{ListsTold};
+ghost use Rattle.normalizer_packing.specs.inner.Stretches.{ListsTold};
 ghost use Rattle.normalizer_packing.specs.Steps.{stored_step, stored_steps, word_of_place, word_of_step, PacksSteps};
 
 use crate::entries::Entries;

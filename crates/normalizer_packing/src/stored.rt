@@ -4,7 +4,7 @@ ghost use Rattle.std.specs.List.{list_all};
 ghost use Rattle.normalizer_tables.specs.Conditions.{item_count};
 ghost use Rattle.normalizer_packing.specs.Entries.{class_in};
 ghost use Rattle.normalizer_packing.specs.Stored.{is_narrow, item_at, listed_in, listed_of};
-ghost use Rattle.normalizer_packing.specs.Stores.{place_in, tables_in, Holds, HoldsLists, HoldsMore, StandsAt};
+ghost use Rattle.normalizer_packing.specs.inner.Stores.{place_in, tables_in, Holds, HoldsLists, HoldsMore, StandsAt};
 
 use crate::entries::Entries;
 use crate::entry::{Entry, Kind};
@@ -33,7 +33,7 @@ impl<'a> Store<'a> {
     }
 
     /// Where a list stands in its table.
-    #[tactic(auto, unfolding(crate::specs::Stores::place_in))]
+    #[tactic(auto, unfolding(crate::specs::inner::Stores::place_in))]
     pub fn place_of(&self, list: &[char]) -> Option<usize>
         ensures { result ≡ place_in self.now list.now }
     {

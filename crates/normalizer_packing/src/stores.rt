@@ -2,7 +2,7 @@
 ghost use Rattle.std.specs.Prelude.{◌≡◌, ◌↔◌, ◌+◌, ◌<◌, ◌≤◌, IfOk, OnOk, IsErrOf, IsTrue};
 ghost use Rattle.normalizer_tables.specs.Conditions.{item_count, item_limit};
 ghost use Rattle.normalizer_packing.specs.Stored.{needed_items};
-ghost use Rattle.normalizer_packing.specs.Stores.{tables_in, AreStored};
+ghost use Rattle.normalizer_packing.specs.inner.Stores.{tables_in, AreStored};
 
 use crate::entries::Entries;
 use crate::entry::Kind;

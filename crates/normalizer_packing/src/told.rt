@@ -1,6 +1,6 @@
 //! The characters of which something is told: all numbers between two of them have one word.
 ghost use Rattle.std.specs.Prelude.{◌≡◌, IfOk, map};
-ghost use Rattle.normalizer_packing.specs.Stretches.{ListsTold, told_numbers};
+ghost use Rattle.normalizer_packing.specs.inner.Stretches.{ListsTold, told_numbers};
 
 use crate::entry::Entry;
 use std::alloc::{AllocError, Global};

@@ -1,7 +1,7 @@
 //! The words of one kind of data.
 ghost use Rattle.std.specs.Prelude.{◌≡◌, ◌<◌, ◌≤◌, true, IsSome};
 ghost use Rattle.normalizer_tables.specs.Conditions.{item_limit};
-ghost use Rattle.normalizer_packing.specs.PackedWords.{CanPoint};
+ghost use Rattle.normalizer_packing.specs.inner.PackedWords.{CanPoint};
 ghost use Rattle.normalizer_packing.specs.Packing.{IsPackedWord};
 ghost use Rattle.normalizer_packing.specs.Stored.{is_among, item_of, listed_in};
 

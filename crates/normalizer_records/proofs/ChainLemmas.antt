@@ -11,8 +11,8 @@ use Rattle.normalizer_records.specs.declared.chains.Direction.TheVariants.{Down,
 use Rattle.normalizer_records.specs.Entry.{Entry}
 use Rattle.normalizer_records.specs.Meaning.{entry_of, mapping_of}
 use Rattle.normalizer_records.specs.Faults.{AreRising, IsRecorded}
-use Rattle.normalizer_records.specs.Lookup.{IsMissing, Stands}
-use Rattle.normalizer_records.specs.ChainLengths.{entry_at, no_entry, character_at, IsLinked, IsLinkedByAny, IsLinkedBelow, IsRaised}
+use Rattle.normalizer_records.specs.inner.Lookup.{IsMissing, Stands}
+use Rattle.normalizer_records.specs.inner.ChainLengths.{entry_at, no_entry, character_at, IsLinked, IsLinkedByAny, IsLinkedBelow, IsRaised}
 use Rattle.normalizer_records.proofs.LookupLemmas.{find-none, find-at}
 
 -- nothing is raised

@@ -10,7 +10,7 @@ use Rattle.normalizer_tables.specs.SpecialLists.{FixedList, fixed, fixed_list_of
 use Rattle.normalizer_records.specs.Entry.{Entry}
 use Rattle.normalizer_records.specs.Meaning.{class_of, recorded_classes}
 use Rattle.normalizer_records.specs.Faults.{begins_with_mark, IsFixedForm, IsFreeForm, IsTooLong, IsWrong}
-use Rattle.normalizer_records.specs.Cut.{StandsFor, MayStandFor}
+use Rattle.normalizer_records.specs.inner.Cut.{StandsFor, MayStandFor}
 
 module _ (records : List Entry) where
   begins-insert : (c : ℕ) (y : List ℕ) → begins_with_mark records (insert (recorded_classes records) c y) ≡ nat_lt 0 (class_of records c)

@@ -2,7 +2,7 @@
 use Rattle.std.proofs.Common.{◌≡◌, ℕ, ◌↔◌, ◌⊎◌, ◌||◌, ◌==◌, nat_lt, Bool, false, List, Option, IsSomeAnd, IsTrue, sym, subst}
 use Rattle.normalizer_records.specs.Entry.{Entry, MapperEntry}
 use Rattle.normalizer_records.specs.Meaning.{class_of, canonical_list, compatibility_list, mapper_list}
-use Rattle.normalizer_records.specs.Cut.{StandsFor, MayStandFor}
+use Rattle.normalizer_records.specs.inner.Cut.{StandsFor, MayStandFor}
 use Rattle.normalizer_records.specs.Faults.{IsWrong, is_mark, IsTooLong, HasWrongClass, HasLongList}
 use Rattle.normalizer_records.proofs.CutLemmas.{IsWrong-StandsFor, IsTooLong-StandsFor}
 use Rattle.normalizer_records.proofs.OrLemmas.{or_decides, iff_trans, eqb_decides, MayStandFor-some}

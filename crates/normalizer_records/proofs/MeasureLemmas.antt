@@ -4,7 +4,7 @@ use Rattle.std.proofs.lemmas.List.{get_or-replicate, length-replicate}
 use Rattle.normalizer_records.specs.declared.chains.Direction.{Direction}
 use Rattle.normalizer_records.specs.Entry.{Entry}
 use Rattle.normalizer_records.specs.Faults.{AreRising, IsRecorded}
-use Rattle.normalizer_records.specs.ChainLengths.{character_at, Follows, GoesOn, IsWalk, IsStep, Measures}
+use Rattle.normalizer_records.specs.inner.ChainLengths.{character_at, Follows, GoesOn, IsWalk, IsStep, Measures}
 use Rattle.normalizer_records.proofs.ChainLemmas.{IsRecorded-at, place_of_recorded}
 
 module _ (records : List Entry) (direction : Direction) where

@@ -5,7 +5,7 @@ use Rattle.std.proofs.lemmas.Bool.{true≢false}
 use Rattle.std.proofs.lemmas.Bool.Decides.{nat_tests}
 use Rattle.std.proofs.lemmas.List.{take_more}
 use Rattle.std.proofs.lemmas.List.Elements.{Contains-push, Contains-push_cases, Contains-append_left}
-use Rattle.normalizer_records.specs.Cut.{IsOfSome, StandsFor, MayStandFor}
+use Rattle.normalizer_records.specs.inner.Cut.{IsOfSome, StandsFor, MayStandFor}
 use Rattle.normalizer_records.specs.Entry.{Entry}
 
 -- one test or the other

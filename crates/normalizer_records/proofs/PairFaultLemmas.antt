@@ -16,7 +16,7 @@ use Rattle.normalizer_tables.proofs.PairLemmas.{AreRising_from_adjacent}
 use Rattle.normalizer_records.specs.Entry.{Entry}
 use Rattle.normalizer_records.specs.Meaning.{pairs_of, pair_of_record}
 use Rattle.normalizer_records.specs.Faults.{HasPairFault}
-use Rattle.normalizer_records.specs.SortedPairs.{by_second_and_first, FallsSomewhere}
+use Rattle.normalizer_records.specs.inner.SortedPairs.{by_second_and_first, FallsSomewhere}
 
 -- the two are the same pair
 abbrev same_as : ℕ → ℕ → Pair → Bool

@@ -8,7 +8,7 @@ use Rattle.normalizer_records.specs.declared.chains.Direction.TheVariants.{Down}
 use Rattle.normalizer_records.specs.declared.refusal.Refusal.{Refusal}
 use Rattle.normalizer_records.specs.declared.refusal.Refusal.TheVariants.{Order, Fixed, Class, Mapping, Chain, Length, Pair}
 use Rattle.normalizer_records.specs.Entry.{Entry, MapperEntry}
-use Rattle.normalizer_records.specs.ChainLengths.{Measures, chain_rounds}
+use Rattle.normalizer_records.specs.inner.ChainLengths.{Measures, chain_rounds}
 use Rattle.normalizer_records.specs.Faults.{HasFault, has_fixed_fault, has_mapping_fault, HasClassFault, HasLengthFault, HasPairFault, first_among, rank_of, IsFirstRefusal, HasOrderFault}
 use Rattle.normalizer_records.specs.Faults.{HasChainFault, AreRising, AreMapperRising}
 use Rattle.normalizer_records.proofs.WalkLemmas.{HasChainFault-from_length, length_from_HasChainFault}

@@ -11,7 +11,7 @@ use Rattle.normalizer_records.specs.declared.records.Mappings.TheVariants.{Canon
 use Rattle.normalizer_records.specs.declared.chains.Direction.TheVariants.{Down, Up}
 use Rattle.normalizer_records.specs.Entry.{Entry, MapperEntry}
 use Rattle.normalizer_records.specs.Meaning.{entry_of, mapping_of, mapping_among, replacement, expansion, ExpandsTo, done, stays, replaced, levels}
-use Rattle.normalizer_records.specs.ChainLengths.{GoesOn, IsWalk}
+use Rattle.normalizer_records.specs.inner.ChainLengths.{GoesOn, IsWalk}
 use Rattle.normalizer_records.specs.Faults.{IsRecorded, HasChainFault, has_fixed_fault}
 use Rattle.normalizer_records.proofs.ExpansionLemmas.{expansion-alone, expansion-replaced}
 use Rattle.normalizer_records.proofs.MeasureLemmas.{IsWalk-one, IsWalk-more, IsWalk-first}

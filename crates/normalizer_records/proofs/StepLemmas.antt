@@ -6,7 +6,7 @@ use Rattle.normalizer_records.specs.declared.chains.Direction.TheVariants.{Down,
 use Rattle.normalizer_records.specs.Entry.{Entry}
 use Rattle.normalizer_records.specs.Meaning.{mapping_of}
 use Rattle.normalizer_records.specs.Faults.{AreRising}
-use Rattle.normalizer_records.specs.ChainLengths.{entry_at, character_at, Follows, IsLinkedByAny, IsLinkedBelow, IsLinked, IsRaised, IsStep}
+use Rattle.normalizer_records.specs.inner.ChainLengths.{entry_at, character_at, Follows, IsLinkedByAny, IsLinkedBelow, IsLinked, IsRaised, IsStep}
 use Rattle.normalizer_records.proofs.ChainLemmas.{mapping_of-at}
 
 module _ (records : List Entry) (rising : AreRising records) where

@@ -12,7 +12,7 @@ use Rattle.normalizer_records.specs.declared.records.Mappings.{Mappings}
 use Rattle.normalizer_records.specs.declared.records.Mappings.TheVariants.{Canonical, All as AllMappings}
 use Rattle.normalizer_records.specs.Entry.{Entry, MapperEntry}
 use Rattle.normalizer_records.specs.Meaning.{entry_of, class_of, replacement, expansion, full_list, recorded_classes, canonical_list, status_of, mapper_list, mapped_list, levels}
-use Rattle.normalizer_records.specs.Cut.{IsOfSome}
+use Rattle.normalizer_records.specs.inner.Cut.{IsOfSome}
 use Rattle.normalizer_records.specs.Faults.{is_fixed, has_fixed_fault, begins_with_mark, IsWrong, HasWrongClass, HasLongList, IsTooLong, IsAsked, HasClassFault, HasLengthFault}
 use Rattle.normalizer_records.proofs.CutLemmas.{begins-order}
 use Rattle.normalizer_records.proofs.ExpansionLemmas.{expansion-alone, expansion-replaced}

@@ -3,7 +3,7 @@ use Rattle.std.proofs.Common.{◌≡◌, ℕ, ◌+◌, ◌<◌, List, [], ◌∷
 use Rattle.normalizer_records.specs.declared.chains.Direction.TheVariants.{Down, Up}
 use Rattle.normalizer_records.specs.Entry.{Entry}
 use Rattle.normalizer_records.specs.Faults.{IsRecorded, IsChain, HasChainFault, IsOnLongChain}
-use Rattle.normalizer_records.specs.ChainLengths.{character_at, IsWalk, Measures, chain_rounds}
+use Rattle.normalizer_records.specs.inner.ChainLengths.{character_at, IsWalk, Measures, chain_rounds}
 use Rattle.normalizer_records.proofs.ChainLemmas.{place_of_recorded}
 use Rattle.normalizer_records.proofs.MeasureLemmas.{IsWalk-one, IsWalk-more, IsWalk-first, IsWalk-goes, IsWalk-rest}
 

@@ -1,10 +1,7 @@
-pub mod ChainLengths
-pub mod Cut
 pub mod Entry
 pub mod Equal
 pub mod EqualLaws
 pub mod Faults
-pub mod Lookup
 pub mod Meaning
-pub mod SortedPairs
 pub mod Statuses
+pub mod inner

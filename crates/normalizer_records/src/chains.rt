@@ -1,7 +1,7 @@
 //! How many records lead from one to the next.
 ghost use Rattle.std.specs.Prelude.{◌≡◌, ◌<◌, ◌↔◌, ℕ, length, slice_index, IfOk, IsTrue, nat_lt};
 ghost use Rattle.std.specs.List.{list_any};
-ghost use Rattle.normalizer_records.specs.ChainLengths.{
+ghost use Rattle.normalizer_records.specs.inner.ChainLengths.{
   chain_rounds,
   entry_at,
   IsLinked,

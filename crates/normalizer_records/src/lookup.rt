@@ -3,7 +3,7 @@ ghost use Rattle.std.specs.Prelude.{◌≡◌, MatchOption};
 ghost use Rattle.std.specs.Option.{option_map};
 ghost use Rattle.normalizer_records.specs.declared.records.Mappings.TheVariants.{Canonical};
 ghost use Rattle.normalizer_records.specs.Faults.{AreRising, AreMapperRising};
-ghost use Rattle.normalizer_records.specs.Lookup.{IsMissing, Stands, IsPlaceOf, IsMapperPlaceOf};
+ghost use Rattle.normalizer_records.specs.inner.Lookup.{IsMissing, Stands, IsPlaceOf, IsMapperPlaceOf};
 ghost use Rattle.normalizer_records.specs.Meaning.{canonical_mapping_of, class_of, entry_of, mapping_among, status_of};
 
 use crate::records::{Record, Uts46Record};

@@ -5,7 +5,7 @@ ghost use Rattle.std.specs.List.Sorted.{IsPermutation, IsSorted};
 ghost use Rattle.normalizer_tables.specs.Pairs.{is_before, AreRising as ArePairsRising};
 ghost use Rattle.normalizer_records.specs.Faults.{HasPairFault};
 ghost use Rattle.normalizer_records.specs.Meaning.{pair_of_mapping, pair_of_record, pairs_of};
-ghost use Rattle.normalizer_records.specs.SortedPairs.{by_second_and_first, FallsSomewhere};
+ghost use Rattle.normalizer_records.specs.inner.SortedPairs.{by_second_and_first, FallsSomewhere};
 
 use crate::records::Record;
 use normalizer_tables::special::fixed_list_of;

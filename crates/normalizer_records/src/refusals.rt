@@ -1,7 +1,7 @@
 //! The first refusal that records alone decide.
 ghost use Rattle.std.specs.Prelude.{◌≡◌, ◌↔◌, ◌++◌, All, false, map, IfOk, IsTrue};
-ghost use Rattle.normalizer_records.specs.ChainLengths.{MeasuresChains};
-ghost use Rattle.normalizer_records.specs.Cut.{IsOfSome};
+ghost use Rattle.normalizer_records.specs.inner.ChainLengths.{MeasuresChains};
+ghost use Rattle.normalizer_records.specs.inner.Cut.{IsOfSome};
 ghost use Rattle.normalizer_records.specs.Faults.{
   AreMapperRising,
   AreRising,

@@ -8,7 +8,8 @@ use Rattle.std.proofs.lemmas.Cmp.{nat_list_eq_equiv}
 use Rattle.std.proofs.lemmas.List.{ext_get_or, get_or_default}
 use Rattle.std.proofs.lemmas.List.FromFn.{get_or-map-range_with_len, length-map-range_with_len}
 use Rattle.std.proofs.lemmas.Map.Made.{is_member-Decides, length-from_keys, IsDistinct-from_AllPairs}
-use Rattle.normalizer_tables.specs.Blocks.{Block, block_at, block_places, stored_words, blocks_of, block_count, IsStored}
+use Rattle.normalizer_tables.specs.Table.{Block, block_places, blocks_of, block_count}
+use Rattle.normalizer_tables.specs.inner.Blocks.{block_at, stored_words, IsStored}
 use Rattle.normalizer_tables.proofs.BlockLemmas.{get_or-block_at}
 
 -- the test of two blocks says whether they are equal

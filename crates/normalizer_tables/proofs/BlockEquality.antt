@@ -6,7 +6,8 @@ use Rattle.std.proofs.lemmas.Bool.Decides.{same_from_decides}
 use Rattle.std.proofs.lemmas.Cmp.{nat_list_eq_equiv}
 use Rattle.std.proofs.lemmas.List.{ext_get_or}
 use lib.Pointwise.{pointwise_decides}
-use Rattle.normalizer_tables.specs.Blocks.{Block, block_at, block_places, stored_words, IsStored}
+use Rattle.normalizer_tables.specs.Table.{Block, block_places}
+use Rattle.normalizer_tables.specs.inner.Blocks.{block_at, stored_words, IsStored}
 use Rattle.normalizer_tables.proofs.BlockLemmas.{get_or-block_at}
 
 -- blocks that are apart are equal at one place alone

@@ -8,7 +8,8 @@ use Rattle.std.proofs.lemmas.List.FromFn.{get_or-map-range_with_len, length-map-
 use Rattle.std.proofs.lemmas.List.Quantifiers.{all_pairs_push}
 use Rattle.std.proofs.lemmas.Bool.{cases_order}
 use Rattle.std.proofs.Math.Nat.{eq-or-lt_of_le}
-use Rattle.normalizer_tables.specs.Blocks.{Block, block_at, block_places, stored_word, stored_words, range_block, IsFirstFrom, IsFirstUse, IsStored, IsJoined}
+use Rattle.normalizer_tables.specs.Table.{Block, block_places}
+use Rattle.normalizer_tables.specs.inner.Blocks.{block_at, stored_word, stored_words, range_block, IsFirstFrom, IsFirstUse, IsStored, IsJoined}
 use Rattle.normalizer_tables.specs.Ranges.{WordRange, IsRangeList, word_in, words_of}
 use Rattle.normalizer_tables.proofs.WordsInRanges.{word_in-point, word_in-gap, word_in-above}
 use Rattle.normalizer_tables.specs.Table.{code_points}

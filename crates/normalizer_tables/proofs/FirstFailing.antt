@@ -13,7 +13,7 @@ use Rattle.normalizer_tables.specs.Loaded.{Loaded, IsMet, IsMetAt, IsMetOverall}
 use Rattle.normalizer_tables.specs.Ranges.{IsComplete}
 use Rattle.normalizer_tables.specs.declared.condition.Condition.TheVariants.{Hangul}
 use Rattle.normalizer_tables.specs.Conditions.{HoldsAt, IsFirstFailing, IsPlaceOfFirstFailing, IsSoundHangul}
-use Rattle.normalizer_tables.specs.Walk.{IsMetApart, IsMetApartAt, is_asked_apart, is_asked_of_words}
+use Rattle.normalizer_tables.specs.inner.Walk.{IsMetApart, IsMetApartAt, is_asked_apart, is_asked_of_words}
 use Rattle.normalizer_tables.proofs.LoadedLemmas.{IsMet-at, IsMet-everywhere, IsMet-within}
 use Rattle.normalizer_tables.proofs.WalkLemmas.{IsMet-apart, IsMetAt-apart}
 

@@ -3,7 +3,8 @@ use Rattle.std.proofs.Common.{◌≡◌, ℕ, ◌+◌, ◌-◌, ◌*◌, ◌<◌
 use Rattle.std.proofs.lemmas.List.{get_or_default, get_or_read}
 use Rattle.std.proofs.lemmas.Bool.{cases_order, eqb-true}
 use Rattle.std.specs.Option.{option_eq, IfSome}
-use Rattle.normalizer_tables.specs.Blocks.{Block, block_at, block_places, stored_words, IsStored, IsNextInBlock}
+use Rattle.normalizer_tables.specs.Table.{Block, block_places}
+use Rattle.normalizer_tables.specs.inner.Blocks.{block_at, stored_words, IsStored, IsNextInBlock}
 use Rattle.normalizer_tables.specs.Table.{word_at, code_points, without_flags, HaveNoWord, IsNextWithWord}
 use Rattle.normalizer_tables.proofs.BlockLemmas.{get_or-block_at, length-stored_words, stored_number-within}
 

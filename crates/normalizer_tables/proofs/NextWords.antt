@@ -2,7 +2,7 @@
 use Rattle.std.proofs.Common.{◌≡◌, ◌≢◌, ℕ, ◌≤◌, true, false, Some, None, eq-eqb, ne_eqb, arith}
 use Rattle.normalizer_tables.specs.Characters.{Characters, word_of}
 use Rattle.normalizer_tables.specs.Table.{IsNextWithWord, HaveNoWord, code_points, without_flags}
-use Rattle.normalizer_tables.specs.Walk.{IsNextWord}
+use Rattle.normalizer_tables.specs.Characters.{IsNextWord}
 use Rattle.normalizer_tables.specs.Words.{is_plain}
 
 pub is_plain-true : (w : ℕ) → without_flags 0xC0000000 w ≡ 0 → is_plain w ≡ true

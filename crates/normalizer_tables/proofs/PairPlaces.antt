@@ -5,7 +5,7 @@ use Rattle.std.proofs.lemmas.List.Elements.{All-from_get_or, All-get_or}
 use Rattle.std.proofs.lemmas.Option.{slice_get-get_or, slice_get_within}
 use Rattle.std.specs.List.{slice_get}
 use Rattle.normalizer_tables.specs.Pairs.{Pair, is_of, listed_result}
-use Rattle.normalizer_tables.specs.Rows.{pair_at}
+use Rattle.normalizer_tables.specs.Pairs.{pair_at}
 use Rattle.normalizer_tables.proofs.PairLemmas.{listed_result-at, listed_result-all_missed}
 
 pub pair_at-read : (pairs : List Pair) (k : ℕ) → k < length pairs → pair_at pairs k ≡ get_or pairs k (pair_at pairs k)

@@ -7,7 +7,8 @@ use Rattle.std.proofs.lemmas.List.Sums.{sum_by_push}
 use Rattle.std.specs.List.{count_by, range_with_len}
 use Rattle.normalizer_tables.specs.Pairs.{Pair}
 use Rattle.normalizer_tables.specs.declared.pairs.rows.Row.{Row}
-use Rattle.normalizer_tables.specs.Rows.{pair_at, start_of, second_of, AreInRows, begins_row, row_count}
+use Rattle.normalizer_tables.specs.Pairs.{pair_at, begins_row, row_count}
+use Rattle.normalizer_tables.specs.inner.Rows.{start_of, second_of, AreInRows}
 use Rattle.normalizer_tables.proofs.RowLemmas.{start_of-past}
 
 begins-first : (pairs : List Pair) → begins_row pairs 0 ≡ true

@@ -7,7 +7,8 @@ use Rattle.std.proofs.lemmas.List.{ext_get_or}
 use lib.Pointwise.{pointwise_decides}
 use Rattle.normalizer_tables.specs.Pairs.{Pair, same_pair}
 use Rattle.normalizer_tables.specs.declared.pairs.rows.Row.{Row}
-use Rattle.normalizer_tables.specs.Rows.{Member, member_of, pair_at, start_of, second_of, AreInRows, AreKept, kept_pairs}
+use Rattle.normalizer_tables.specs.inner.Rows.{Member, member_of, start_of, second_of, AreInRows, AreKept, kept_pairs}
+use Rattle.normalizer_tables.specs.Pairs.{pair_at}
 use Rattle.normalizer_tables.proofs.RowLemmas.{start_of-row, start_of-past, second_of-row, start_within}
 
 -- of two lists of rows that start alike, the next row doesn't start earlier in the first

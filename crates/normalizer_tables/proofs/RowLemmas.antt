@@ -12,7 +12,8 @@ use Rattle.std.specs.List.{count_by, slice_get}
 use Rattle.std.specs.List.Sorted.{IsPartitionPoint, IsPartitionedBy}
 use Rattle.normalizer_tables.specs.Pairs.{Pair}
 use Rattle.normalizer_tables.specs.declared.pairs.rows.Row.{Row}
-use Rattle.normalizer_tables.specs.Rows.{Member, member_of, pair_at, start_of, second_of, AreInRows, AreKept, second_at, kept_pair, kept_pairs, begins_row}
+use Rattle.normalizer_tables.specs.inner.Rows.{Member, member_of, start_of, second_of, AreInRows, AreKept, second_at, kept_pair, kept_pairs}
+use Rattle.normalizer_tables.specs.Pairs.{pair_at, begins_row}
 
 -- a row starts at its own start, wherever the list ends
 pub start_of-row : (rows : List Row) (end i : ℕ) (d : Row) → i < length rows → start_of rows end i ≡ (get_or rows i d).start

@@ -10,7 +10,8 @@ use Rattle.std.specs.List.{slice_range}
 use Rattle.std.specs.List.Sorted.{IsPartitionPoint, IsPartitionedBy}
 use Rattle.normalizer_tables.specs.Pairs.{Pair, is_before, is_of, listed_result, AreRising, IsPlaceOf}
 use Rattle.normalizer_tables.specs.declared.pairs.rows.Row.{Row}
-use Rattle.normalizer_tables.specs.Rows.{Member, member_of, pair_at, start_of, second_of, AreInRows, AreKept, IsRowOf}
+use Rattle.normalizer_tables.specs.inner.Rows.{Member, member_of, start_of, second_of, AreInRows, AreKept, IsRowOf}
+use Rattle.normalizer_tables.specs.Pairs.{pair_at}
 use Rattle.normalizer_tables.proofs.PairLemmas.{is_before-true, is_of_other, is_of_other_first, is_of_from, is_before_from, not_before_from}
 use Rattle.normalizer_tables.proofs.PairLemmas.{listed_result-at, listed_result-all_missed, listed_result-found, listed_result-gap, listed_result-above}
 use Rattle.normalizer_tables.proofs.PairPlaces.{pair_at-read}

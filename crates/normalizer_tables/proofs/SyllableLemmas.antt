@@ -16,7 +16,7 @@ use Rattle.normalizer_tables.specs.Loaded.{Loaded, IsMetAt}
 use Rattle.normalizer_tables.specs.PairConditions.{HasSafeBeginning, KeepsBeginning, KeepsRoundTrip, PairsHoldAt, RoundTrips, is_taken_to_begin_safely}
 use Rattle.normalizer_tables.specs.Pairs.{Pair, is_vowel_or_trailing_jamo, pair_of}
 use Rattle.normalizer_tables.specs.StepConditions.{AvoidsFdfa, StepsHoldAt}
-use Rattle.normalizer_tables.specs.Walk.{IsSyllableBehind}
+use Rattle.normalizer_tables.specs.inner.Walk.{IsSyllableBehind}
 use Rattle.normalizer_tables.specs.Words.{is_backward_combining, is_class_form, is_ordinary_class_form, is_special_class_form}
 use Rattle.normalizer_tables.specs.Readings.{reading_by}
 use Rattle.normalizer_tables.specs.Ignored.{Dropped}

@@ -15,7 +15,8 @@ use Rattle.normalizer_tables.specs.PairConditions.{KeepsBeginning, PairsHoldAt, 
 use Rattle.normalizer_tables.specs.Pairs.{Pair, IsNeverSecond, is_vowel_or_trailing_jamo, listed_result, pair_of}
 use Rattle.normalizer_tables.specs.StepConditions.{AvoidsFdfa, StepsHoldAt}
 use Rattle.normalizer_tables.specs.Table.{code_points}
-use Rattle.normalizer_tables.specs.Walk.{IsEndOfAlike, IsNextWord, IsMetApart, IsMetApartAt, KeepsPlainBeginning, is_asked_apart, is_asked_of_words}
+use Rattle.normalizer_tables.specs.inner.Walk.{IsEndOfAlike, IsMetApart, IsMetApartAt, KeepsPlainBeginning, is_asked_apart, is_asked_of_words}
+use Rattle.normalizer_tables.specs.Characters.{IsNextWord}
 use Rattle.normalizer_tables.specs.Words.{is_plain}
 use Rattle.normalizer_tables.proofs.ConditionLemmas.{HoldsAt-elsewhere, HoldsAt-plain, read-plain}
 use Rattle.normalizer_tables.proofs.HangulLemmas.{is_hangul_syllable-true}

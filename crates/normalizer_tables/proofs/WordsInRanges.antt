@@ -3,7 +3,7 @@ use Rattle.std.proofs.Common.{◌≡◌, ℕ, ◌<◌, ◌≤◌, ◌&&◌, ◌�
 use Rattle.std.proofs.lemmas.Bool.{le-leb, lt-leb, cases_order}
 use Rattle.std.proofs.lemmas.List.Elements.{All-head, All-tail, All-from_get_or}
 use Rattle.std.proofs.lemmas.List.{get_or_read}
-use Rattle.normalizer_tables.specs.Blocks.{IsFirstFrom}
+use Rattle.normalizer_tables.specs.inner.Blocks.{IsFirstFrom}
 use Rattle.normalizer_tables.specs.Ranges.{WordRange, IsRangeList, word_in}
 
 -- the number lies before the range or after it

@@ -1,6 +1,6 @@
 -- What the data say of each character: its list and its class.
 use Rattle.std.specs.Prelude.{ℕ, ◌+◌, ◌-◌, Bool, nat_lt, nat_le, List, [], ◌∷◌, length, take, drop, Option, Some, None}
-use Rattle.std.specs.Prelude.{unwrap_or, option_and_then, if◌then◌else◌, false}
+use Rattle.std.specs.Prelude.{unwrap_or, option_and_then, if◌then◌else◌, true, false, ◌≡◌, ◌<◌, ◌≤◌}
 use Rattle.std.specs.List.{list_all}
 use Rattle.std.specs.Option.{option_map}
 use lib.Utf8.{scalar}
@@ -8,11 +8,11 @@ use Rattle.normalizer_tables.specs.declared.word.WordReading.{WordReading}
 use Rattle.normalizer_tables.specs.declared.word.WordReading.TheVariants.{Ignored, Itself, ClassForm, SpecialForm}
 use Rattle.normalizer_tables.specs.declared.word.WordReading.TheVariants.{TwoCharacters, HangulSyllable, Fdfa}
 use Rattle.normalizer_tables.specs.declared.word.WordReading.TheVariants.{OneCharacter, Listed}
-use Rattle.normalizer_tables.specs.Table.{word_at}
+use Rattle.normalizer_tables.specs.Table.{word_at, code_points}
 use Rattle.normalizer_tables.specs.Data.{Decompositions, Lists, lists_or_none}
 use Rattle.normalizer_tables.specs.Hangul.{hangul_decomposition}
 use Rattle.normalizer_tables.specs.SpecialLists.{fixed_list_of, fdfa_list}
-use Rattle.normalizer_tables.specs.Words.{read, class_of_word, is_class_form}
+use Rattle.normalizer_tables.specs.Words.{read, class_of_word, is_class_form, is_plain}
 
 -- decomposition data, the tables that their words point into, one after another, and whether they are the mapper's
 pub record Characters : Type 0 where
@@ -98,3 +98,10 @@ characters_from decompositions tables supplementary = record {
   supplementary = lists_or_none supplementary;
   is_mapper = false;
 }
+
+-- n is the first number from `from` on whose word isn't 0, flags aside, or the first past the code points
+pub record IsNextWord (s : Characters) (from n : ℕ) : Type 0 where
+  pub least : from ≤ n
+  pub within : n ≤ code_points
+  pub between : (m : ℕ) → from ≤ m → m < n → is_plain (word_of s m) ≡ true
+  pub found : n < code_points → is_plain (word_of s n) ≡ false

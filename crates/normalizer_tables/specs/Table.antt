@@ -1,6 +1,10 @@
 -- A code point table: a word for every number.
 use Rattle.std.specs.Prelude.{◌≡◌, ◌≢◌, ℕ, ◌<◌, ◌≤◌, List, Option, Some, None, slice_index_or, bit_and}
+use Rattle.std.specs.Prelude.{◌*◌, map, nat_eq, slice_index}
+use Rattle.std.specs.Cmp.Lexicographic.{pointwise}
 use Rattle.std.specs.Int.{w32, bit_not}
+use Rattle.std.specs.List.{range_with_len}
+use Rattle.std.specs.Set.{distinct_count}
 
 -- `words` are those of the numbers 0 to 0x10FFFF, `past` that of every number above
 pub record Table : Type 0 where
@@ -27,3 +31,19 @@ unfoldable pub IsNextWithWord : Table → ℕ → ℕ → Option ℕ → Type 0
 IsNextWithWord t flags from (Some n) =
     (from ≤ n) × (n < code_points) × (without_flags flags (word_at t n) ≢ 0) × HaveNoWord t flags from n
 IsNextWithWord t flags from None = HaveNoWord t flags from code_points
+
+-- the words of 64 code points
+abbrev pub Block : Type 0
+Block = List ℕ
+
+-- how many blocks the code points have
+abbrev pub block_places : ℕ
+block_places = 17408
+
+-- the blocks of a table, in their order
+unfoldable pub blocks_of : Table → List Block
+blocks_of t = map (λ place. map (slice_index t.words) (range_with_len (64 * place) 64)) (range_with_len 0 block_places)
+
+-- how many blocks a table has, equal ones counted once
+unfoldable pub block_count : Table → ℕ
+block_count t = distinct_count (pointwise nat_eq) (blocks_of t)

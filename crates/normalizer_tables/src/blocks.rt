@@ -1,7 +1,8 @@
 //! How the words of a table are stored: in blocks of 64 code points each, equal blocks once.
 ghost use Rattle.std.specs.Prelude.{◌≡◌, ◌+◌, ◌≤◌, ◌<◌, IfOk, ℕ, length, position, nat_eq, slice_index};
 ghost use Rattle.std.specs.Cmp.Lexicographic.{pointwise};
-ghost use Rattle.normalizer_tables.specs.Blocks.{block_count, range_block, IsFirstFrom, IsJoined, IsNextInBlock};
+ghost use Rattle.normalizer_tables.specs.Table.{block_count};
+ghost use Rattle.normalizer_tables.specs.inner.Blocks.{range_block, IsFirstFrom, IsJoined, IsNextInBlock};
 ghost use Rattle.normalizer_tables.specs.Ranges.{word_in, words_of, IsRangeList};
 ghost use Rattle.normalizer_tables.specs.Table.{code_points, IsNextWithWord};
 
@@ -25,7 +26,8 @@ pub(crate) struct Blocks {
 
 impl Model for Blocks {
     ghost use Rattle.std.specs.Prelude.{ℕ, List};
-    ghost use Rattle.normalizer_tables.specs.Blocks.{block_places, stored_words, IsStored};
+    ghost use Rattle.normalizer_tables.specs.Table.{block_places};
+    ghost use Rattle.normalizer_tables.specs.inner.Blocks.{stored_words, IsStored};
 
     ghost Value = { List ℕ };
 

@@ -15,11 +15,11 @@ ghost use Rattle.normalizer_tables.specs.Characters.{
   wide_at,
   word_of,
 };
-ghost use Rattle.normalizer_tables.specs.Found.{IsFound};
+ghost use Rattle.normalizer_tables.specs.inner.Found.{IsFound};
 ghost use Rattle.normalizer_tables.specs.Ranges.{IsComplete};
 ghost use Rattle.normalizer_tables.specs.Table.{code_points};
 ghost use Rattle.normalizer_tables.specs.Unseen.{PassUnseenBelow, PassesUnseen};
-ghost use Rattle.normalizer_tables.specs.Walk.{IsNextWord};
+ghost use Rattle.normalizer_tables.specs.Characters.{IsNextWord};
 ghost use Rattle.normalizer_tables.specs.Readings.{reading_by};
 
 use crate::members::Members;

@@ -6,10 +6,10 @@ ghost use Rattle.normalizer_tables.specs.Characters.{word_of};
 ghost use Rattle.normalizer_tables.specs.Conditions.{IsFirstFailing, IsPlaceOfFirstFailing};
 ghost use Rattle.normalizer_tables.specs.Loaded.{IsMet, IsMetAt};
 ghost use Rattle.normalizer_tables.specs.Ranges.{IsComplete};
-ghost use Rattle.normalizer_tables.specs.Read.{IsRead};
+ghost use Rattle.normalizer_tables.specs.inner.Read.{IsRead};
 ghost use Rattle.normalizer_tables.specs.Table.{code_points};
 ghost use Rattle.normalizer_tables.specs.declared.condition.Condition.TheVariants as condition;
-ghost use Rattle.normalizer_tables.specs.Walk.{IsEndOfAlike, IsMetApart, is_asked_of_words};
+ghost use Rattle.normalizer_tables.specs.inner.Walk.{IsEndOfAlike, IsMetApart, is_asked_of_words};
 
 use crate::characters::CODE_POINTS;
 use crate::check::parts::{is_met_apart, is_met_at, is_met_elsewhere};
@@ -68,7 +68,7 @@ fn are_asked_of_words(conditions: &[Condition]) -> bool
         .any(|&condition| is_asked_of_words(condition))
 }
 
-#[tactic(auto, unfolding(crate::specs::Walk::is_asked_of_words))]
+#[tactic(auto, unfolding(crate::specs::inner::Walk::is_asked_of_words))]
 fn is_asked_of_words(condition: Condition) -> bool
     ensures { result ≡ is_asked_of_words condition }
 {

@@ -29,7 +29,7 @@ enum Shape<'a> {
 
 impl<'a> Model for Members<'a> {
     ghost use Rattle.std.specs.Prelude.{◌≡◌, ℕ, List, true};
-    ghost use Rattle.normalizer_tables.specs.Members.{members_of, spells_characters};
+    ghost use Rattle.normalizer_tables.specs.inner.Members.{members_of, spells_characters};
 
     ghost Value = { List ℕ };
 

@@ -7,7 +7,7 @@ ghost use Rattle.normalizer_tables.specs.PairConditions.{
   PairsHoldAt,
   PairsHoldOverall,
 };
-ghost use Rattle.normalizer_tables.specs.Read.{IsRead};
+ghost use Rattle.normalizer_tables.specs.inner.Read.{IsRead};
 
 use crate::characters::CharacterData;
 use crate::condition::{Bounds, Condition};

@@ -9,7 +9,7 @@ ghost use Rattle.normalizer_tables.specs.Pairs.{
   AreRising,
   IsNeverSecond,
 };
-ghost use Rattle.normalizer_tables.specs.Rows.{row_count};
+ghost use Rattle.normalizer_tables.specs.Pairs.{row_count};
 
 mod rows;
 

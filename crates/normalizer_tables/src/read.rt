@@ -1,7 +1,7 @@
 //! A character with what was read of it, once for all that ask.
 ghost use Rattle.std.specs.Prelude.{◌≡◌};
 ghost use Rattle.normalizer_tables.specs.Characters.{word_of};
-ghost use Rattle.normalizer_tables.specs.Read.{IsRead};
+ghost use Rattle.normalizer_tables.specs.inner.Read.{IsRead};
 
 use crate::characters::{CharacterData, IgnoredCharacters};
 use crate::members::Members;

@@ -2,7 +2,7 @@
 ghost use Rattle.std.specs.Prelude.{◌≡◌, [], true, false};
 ghost use Rattle.normalizer_tables.specs.Characters.{Characters, as_text, list_read};
 ghost use Rattle.normalizer_tables.specs.Hangul.{is_hangul_syllable};
-ghost use Rattle.normalizer_tables.specs.Read.{IsRead};
+ghost use Rattle.normalizer_tables.specs.inner.Read.{IsRead};
 ghost use Rattle.normalizer_tables.specs.Steps.{
   hangul_mapping,
   listed_step,

@@ -9,7 +9,7 @@ ghost use Rattle.normalizer_tables.specs.StepConditions.{
 };
 ghost use Rattle.normalizer_tables.specs.Steps.{step_of};
 ghost use Rattle.normalizer_tables.specs.Words.{read};
-ghost use Rattle.normalizer_tables.specs.Read.{IsRead};
+ghost use Rattle.normalizer_tables.specs.inner.Read.{IsRead};
 ghost use Rattle.normalizer_tables.specs.Readings.{reading_by};
 ghost use Rattle.normalizer_tables.specs.Ignored.{Dropped};
 ghost use Rattle.normalizer_tables.specs.declared.word.WordReading.TheVariants.{Fdfa};

@@ -1,6 +1,6 @@
 //! The code point table: a 32-bit word for every number.
 ghost use Rattle.std.specs.Prelude.{◌≡◌, ◌↔◌, ◌≤◌, IfOk, IsErrOf, IsTrue};
-ghost use Rattle.normalizer_tables.specs.Blocks.{block_count};
+ghost use Rattle.normalizer_tables.specs.Table.{block_count};
 ghost use Rattle.normalizer_tables.specs.Ranges.{IsComplete, IsRangeList, IsTableOf};
 ghost use Rattle.normalizer_tables.specs.Table.{word_at, code_points, IsNextWithWord};
 

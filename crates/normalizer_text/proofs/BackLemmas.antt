@@ -7,7 +7,7 @@ use Rattle.std.proofs.lemmas.Bool.{false_from_ne_true, cases_lt, cases_eq, trueâ
 use Rattle.normalizer_text.specs.declared.step.Step.{Step}
 use Rattle.normalizer_text.specs.Steps.{steps, decoded, replaced, IsBoundary, IsLastStep, TakesLast, TakenFrom, Spells}
 use Rattle.normalizer_text.specs.Encodings.{longest_step}
-use Rattle.normalizer_text.specs.Backwards.{IsLastStart}
+use Rattle.normalizer_text.specs.inner.Backwards.{IsLastStart}
 use Rattle.normalizer_text.proofs.Decoding.{IsDecoding, HasTrails}
 use Rattle.normalizer_text.proofs.BoundaryLemmas.{width_of-steps}
 use Rattle.normalizer_text.proofs.StepLemmas.{steps-nil, decoded-nil, decoded-some, steps-some, steps-take}

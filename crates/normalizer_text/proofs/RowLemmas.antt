@@ -8,7 +8,7 @@ use Rattle.normalizer_text.specs.declared.utf8.Trail.{Trail}
 use Rattle.normalizer_text.specs.Steps.{read, replaced}
 use Rattle.normalizer_text.specs.Utf8.{ByteRange, Row, well_formed_sequences, row_of, allows, matched, scalar_value, first_by_row, first_of_utf8}
 use Rattle.normalizer_text.specs.MaximalSubparts.{IsWithin, AreWithin}
-use Rattle.normalizer_text.specs.Trails.{places}
+use Rattle.normalizer_text.specs.inner.Trails.{places}
 use Rattle.normalizer_text.proofs.Sequences.{IsSequence}
 use Rattle.normalizer_text.proofs.MatchLemmas.{allows-true, AreWithin-matched, matched-le}
 

@@ -1,4 +1,3 @@
-pub mod Backwards
 pub mod CheckSinks
 pub mod Encodings
 pub mod MaximalSubparts
@@ -6,6 +5,6 @@ pub mod Outputs
 pub mod Scans
 pub mod Sinks
 pub mod Steps
-pub mod Trails
 pub mod Utf16
 pub mod Utf8
+pub mod inner

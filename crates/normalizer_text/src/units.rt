@@ -2,7 +2,7 @@
 ghost use Rattle.std.specs.Prelude.{◌≡◌, ◌==◌, ℕ, ◌+◌, ◌<◌, ◌≤◌, min, MatchOption};
 ghost use Rattle.std.specs.Prelude.{List, [], length, take, drop, slice_index};
 ghost use Rattle.normalizer_text.specs.Steps.{IsBoundary, IsFirstStep, IsLastStep};
-ghost use Rattle.normalizer_text.specs.Backwards.{IsLastStart};
+ghost use Rattle.normalizer_text.specs.inner.Backwards.{IsLastStart};
 ghost use Rattle.normalizer_text.specs.Encodings.{Encoding, first_in, trails_in};
 ghost use Rattle.normalizer_text.specs.Scans.{leading_below, low_byte, EndsLowCharacters};
 

@@ -25,7 +25,7 @@ struct Trail {
 }
 
 impl Trail {
-    ghost use Rattle.normalizer_text.specs.Trails.{places};
+    ghost use Rattle.normalizer_text.specs.inner.Trails.{places};
 
     // The byte may stand at place n.
     fn allows(self, n: usize, byte: u8) -> bool

@@ -2,7 +2,7 @@
 ghost use Rattle.std.specs.Prelude.{◌≡◌, ◌↔◌, [], List, IsTrue};
 ghost use Rattle.normalizer_tables.specs.Pairs.{Pair};
 ghost use Rattle.normalizer_iterators.specs.LazyComposing.{IsPassed, PassedBeginAnew, SuitsLazyComposing};
-ghost use Rattle.normalizer_iterators.specs.Passing.{Passes, IsAtPassed, StandsAtPassed, AllPassed};
+ghost use Rattle.normalizer_iterators.specs.inner.Passing.{Passes, IsAtPassed, StandsAtPassed, AllPassed};
 ghost use Rattle.normalizer_iterators.specs.Decomposition.{CanDecompose};
 ghost use Rattle.normalizer_iterators.specs.Reads.{character_of, HasOwnWord, HasOwnWords};
 ghost use Rattle.normalizer_iterators.specs.WaitingList.{ordered};

@@ -13,7 +13,7 @@ ghost use Rattle.normalizer_tables.specs.Conditions.{
   is_surrogate,
 };
 ghost use Rattle.normalizer_tables.specs.Hangul.{is_hangul_syllable};
-ghost use Rattle.normalizer_tables.specs.Read.{IsRead};
+ghost use Rattle.normalizer_tables.specs.inner.Read.{IsRead};
 ghost use Rattle.normalizer_tables.specs.SpecialLists.{FixedList, fixed_list_of};
 
 use crate::characters::CharacterData;

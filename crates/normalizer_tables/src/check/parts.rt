@@ -4,9 +4,9 @@ ghost use Rattle.std.specs.Char.{IsScalar};
 ghost use Rattle.normalizer_tables.specs.Characters.{word_of};
 ghost use Rattle.normalizer_tables.specs.Loaded.{IsMetAt, IsMetOverall};
 ghost use Rattle.normalizer_tables.specs.PairConditions.{PairsHoldAt, PairsHoldOverall};
-ghost use Rattle.normalizer_tables.specs.Read.{IsRead};
+ghost use Rattle.normalizer_tables.specs.inner.Read.{IsRead};
 ghost use Rattle.normalizer_tables.specs.StepConditions.{AvoidsFdfa, StepsHoldAt};
-ghost use Rattle.normalizer_tables.specs.Walk.{IsMetApart, IsMetApartAt, KeepsPlainBeginning};
+ghost use Rattle.normalizer_tables.specs.inner.Walk.{IsMetApart, IsMetApartAt, KeepsPlainBeginning};
 
 use crate::check::numbers::{
     have_sound_hangul, have_surrogate_words, holds_at, is_sound_surrogate,
@@ -20,7 +20,7 @@ use crate::read::ReadCharacter;
 use crate::step_check::{avoids_fdfa, steps_hold_at};
 
 /// Whether a condition is met, as far as it is about the data as a whole, and about numbers apart from the walk.
-#[tactic(auto, unfolding(crate::specs::Walk::IsMetApart))]
+#[tactic(auto, unfolding(crate::specs::inner::Walk::IsMetApart))]
 pub fn is_met_apart(data: &LoadedData<'_>, condition: Condition) -> bool
     ensures { IsTrue result ↔ IsMetApart data.now condition }
 {

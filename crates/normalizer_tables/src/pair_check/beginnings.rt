@@ -13,8 +13,8 @@ ghost use Rattle.normalizer_tables.specs.PairConditions.{
   is_taken_to_round_trip,
 };
 ghost use Rattle.normalizer_tables.specs.Pairs.{is_vowel_or_trailing_jamo};
-ghost use Rattle.normalizer_tables.specs.Walk.{KeepsPlainBeginning};
-ghost use Rattle.normalizer_tables.specs.Read.{IsRead};
+ghost use Rattle.normalizer_tables.specs.inner.Walk.{KeepsPlainBeginning};
+ghost use Rattle.normalizer_tables.specs.inner.Read.{IsRead};
 ghost use Rattle.normalizer_tables.specs.Readings.{reading_by};
 ghost use Rattle.normalizer_tables.specs.Ignored.{Dropped};
 
@@ -106,7 +106,7 @@ fn jamo_keep_beginnings(
 }
 
 /// Whether a number has another word than 0, flags aside, or keeps its beginning.
-#[tactic(auto, unfolding(crate::specs::Walk::KeepsPlainBeginning))]
+#[tactic(auto, unfolding(crate::specs::inner::Walk::KeepsPlainBeginning))]
 fn keeps_plain_beginning(
     data: &CharacterData<'_>,
     bounds: Bounds,

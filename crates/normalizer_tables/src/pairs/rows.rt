@@ -1,7 +1,8 @@
 //! How the pairs are kept: in rows of equal neighbouring seconds.
 ghost use Rattle.std.specs.Prelude.{◌≡◌, ◌↔◌, ◌<◌, ◌≤◌, IfOk, IsTrue, None, Some, ℕ, length, slice_get};
 ghost use Rattle.normalizer_tables.specs.Pairs.{listed_result, AreRising};
-ghost use Rattle.normalizer_tables.specs.Rows.{begins_row, row_count, start_of, IsRowOf};
+ghost use Rattle.normalizer_tables.specs.Pairs.{begins_row, row_count};
+ghost use Rattle.normalizer_tables.specs.inner.Rows.{start_of, IsRowOf};
 
 use std::alloc::{AllocError, Global};
 use std::marker::Model;
@@ -28,7 +29,7 @@ impl Model for PairRows {
 
     ghost Value = { List (ℕ × ℕ × ℕ) };
 
-    ghost use Rattle.normalizer_tables.specs.Rows.{kept_pairs, AreKept};
+    ghost use Rattle.normalizer_tables.specs.inner.Rows.{kept_pairs, AreKept};
 
     ghost view = { λ r. kept_pairs r.rows.items r.members.items };
 
@@ -150,7 +151,7 @@ impl PartialEq for PairRows {
 }
 
 /// Whether a pair has another second than the one before it.
-#[tactic(auto, unfolding(crate::specs::Rows::begins_row, crate::specs::Rows::pair_at))]
+#[tactic(auto, unfolding(crate::specs::Pairs::begins_row, crate::specs::Pairs::pair_at))]
 fn begins_row(pairs: &[(char, char, char)], place: usize) -> bool
     requires { place < length pairs.now }
     ensures { result ≡ begins_row pairs.now place }

@@ -1,5 +1,5 @@
 use Rattle.std.proofs.Common.{All, subst}
-use Rattle.normalizer_builder.specs.Parts.{IsOfCharacters}
+use Rattle.normalizer_builder.specs.inner.Parts.{IsOfCharacters}
 use Rattle.normalizer_builder.proofs.NoRefusal.{rising, mapper_rising, no_pair_fault, room}
 use Rattle.normalizer_builder.proofs.build.parts_of.Goals as goal
 

@@ -1,6 +1,6 @@
 use Rattle.std.proofs.Common.{All, subst, take_all}
 use Rattle.std.proofs.lemmas.List.Elements.{All-more}
-use Rattle.normalizer_builder.specs.Parts.{IsOfCharacters}
+use Rattle.normalizer_builder.specs.inner.Parts.{IsOfCharacters}
 use Rattle.normalizer_builder.proofs.scalars.are_of_characters.Goals as goal
 
 pub loop-entry-preserved : goal.loop-entry-preserved

@@ -1,5 +1,5 @@
 use Rattle.std.proofs.Common.{take, All}
-use Rattle.normalizer_builder.specs.Parts.{IsOfCharacters}
+use Rattle.normalizer_builder.specs.inner.Parts.{IsOfCharacters}
 use Rattle.normalizer_builder.proofs.scalars.are_of_characters.Given as goal
 
 -- the entries so far

@@ -1,6 +1,6 @@
 use Rattle.std.proofs.Common.{◌≤◌}
 use Rattle.normalizer_tables.specs.Table.{code_points}
-use Rattle.normalizer_packing.specs.Stretches.{CoverUpTo}
+use Rattle.normalizer_packing.specs.inner.Stretches.{CoverUpTo}
 use Rattle.normalizer_packing.proofs.Tilings.{HasPassed}
 use Rattle.normalizer_packing.proofs.ranges.ranges_of.Given as goal
 

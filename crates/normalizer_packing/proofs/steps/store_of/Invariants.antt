@@ -1,6 +1,6 @@
 use Rattle.std.proofs.Common.{take}
 use Rattle.normalizer_packing.specs.Stored.{first_come}
-use Rattle.normalizer_packing.specs.Stores.{Holds}
+use Rattle.normalizer_packing.specs.inner.Stores.{Holds}
 use Rattle.normalizer_packing.proofs.steps.store_of.Given as goal
 
 -- the lists so far are held

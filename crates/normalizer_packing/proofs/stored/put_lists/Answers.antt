@@ -1,7 +1,7 @@
 use Rattle.std.proofs.Common.{◌++◌, List, ℕ, subst, sym, append_assoc}
 use Rattle.std.proofs.lemmas.List.{append-nil}
 use Rattle.normalizer_packing.specs.Stored.{apart_from, first_come}
-use Rattle.normalizer_packing.specs.Stores.{Holds}
+use Rattle.normalizer_packing.specs.inner.Stores.{Holds}
 use Rattle.normalizer_packing.proofs.StoreLemmas.{listed_so_far, listed_so_far-none, listed_so_far-some, listed_so_far-other, listed_so_far-all}
 use Rattle.normalizer_packing.proofs.stored.put_lists.Goals as goal
 use Rattle.normalizer_packing.proofs.stored.put_lists.Goals.{in-Some+in_ok-put_behind, in_default}

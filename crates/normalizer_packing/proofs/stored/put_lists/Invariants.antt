@@ -1,4 +1,4 @@
-use Rattle.normalizer_packing.specs.Stores.{HoldsLists}
+use Rattle.normalizer_packing.specs.inner.Stores.{HoldsLists}
 use Rattle.normalizer_packing.proofs.StoreLemmas.{listed_so_far}
 use Rattle.normalizer_packing.proofs.stored.put_lists.Given as goal
 

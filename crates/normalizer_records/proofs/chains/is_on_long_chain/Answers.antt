@@ -2,7 +2,7 @@ use Rattle.std.proofs.Common.{◌≡◌, ◌<◌, length, get_or, sym, subst, ar
 use Rattle.std.proofs.lemmas.Bool.Decides.{nat_tests}
 use Rattle.std.proofs.lemmas.List.{get_or_read}
 use Rattle.normalizer_records.specs.Faults.{IsOnLongChain}
-use Rattle.normalizer_records.specs.ChainLengths.{character_at, no_entry}
+use Rattle.normalizer_records.specs.inner.ChainLengths.{character_at, no_entry}
 use Rattle.normalizer_records.proofs.ChainLemmas.{not_recorded}
 use Rattle.normalizer_records.proofs.WalkLemmas.{IsRecorded-on_chain, IsOnLongChain-from_lengths, lengths_from_IsOnLongChain}
 use Rattle.normalizer_records.proofs.chains.is_on_long_chain.Goals as goal

@@ -1,4 +1,4 @@
-use Rattle.normalizer_records.specs.ChainLengths.{Measures}
+use Rattle.normalizer_records.specs.inner.ChainLengths.{Measures}
 use Rattle.normalizer_records.proofs.chains.lengths_of.Given as goal
 
 -- as long as there were rounds

@@ -1,5 +1,5 @@
 use Rattle.std.proofs.Common.{◌≡◌, ◌+◌, ℕ, length, replicate, subst, arith}
-use Rattle.normalizer_records.specs.ChainLengths.{entry_at, IsLinkedByAny, IsLinkedBelow, IsRaised}
+use Rattle.normalizer_records.specs.inner.ChainLengths.{entry_at, IsLinkedByAny, IsLinkedBelow, IsRaised}
 use Rattle.normalizer_records.proofs.ChainLemmas.{whole, IsRaised-none, IsRaised-both, below_none, below_more, below_before, below_last}
 use Rattle.normalizer_records.proofs.StepLemmas.{IsStep-from_raised}
 use Rattle.normalizer_records.proofs.chains.next_lengths.Goals as goal

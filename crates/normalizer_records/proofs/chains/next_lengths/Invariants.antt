@@ -1,5 +1,5 @@
 use Rattle.std.proofs.Common.{replicate, length}
-use Rattle.normalizer_records.specs.ChainLengths.{IsLinkedBelow, IsRaised}
+use Rattle.normalizer_records.specs.inner.ChainLengths.{IsLinkedBelow, IsRaised}
 use Rattle.normalizer_records.proofs.chains.next_lengths.Given as goal
 
 -- raised along the records so far

@@ -1,5 +1,5 @@
 use Rattle.normalizer_records.specs.declared.chains.Direction.TheVariants.{Down, Up}
-use Rattle.normalizer_records.specs.ChainLengths.{IsLinked}
+use Rattle.normalizer_records.specs.inner.ChainLengths.{IsLinked}
 use Rattle.std.proofs.Common.{◌≡◌}
 use Rattle.normalizer_records.proofs.ChainLemmas.{IsRaised-none, IsRaised-same, IsLinked-missing, IsLinked-down, IsLinked-from_down, IsLinked-up, IsLinked-from_up}
 use Rattle.normalizer_records.proofs.chains.raise_by_member.Goals as goal

@@ -1,6 +1,6 @@
 use Rattle.std.proofs.Common.{◌<◌, ◌+◌, [], length, take, arith}
 use Rattle.std.proofs.lemmas.List.{get_or_read}
-use Rattle.normalizer_records.specs.ChainLengths.{IsLinked, IsLinkedByAny}
+use Rattle.normalizer_records.specs.inner.ChainLengths.{IsLinked, IsLinkedByAny}
 use Rattle.normalizer_records.proofs.ChainLemmas.{IsRaised-none, IsRaised-both, linked_none, linked_more, linked_before, linked_last}
 use Rattle.normalizer_records.proofs.chains.raise_by_record.Goals as goal
 

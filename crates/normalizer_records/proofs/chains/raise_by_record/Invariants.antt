@@ -1,5 +1,5 @@
 use Rattle.std.proofs.Common.{take}
-use Rattle.normalizer_records.specs.ChainLengths.{IsLinkedByAny, IsRaised}
+use Rattle.normalizer_records.specs.inner.ChainLengths.{IsLinkedByAny, IsRaised}
 use Rattle.normalizer_records.proofs.chains.raise_by_record.Given as goal
 
 -- raised along the members so far

@@ -1,6 +1,6 @@
 use Rattle.std.proofs.Common.{rules, nat_lt}
 use Rattle.std.proofs.lemmas.List.Sorted.{IsPartitionPoint-from_clause}
-use Rattle.normalizer_records.specs.Lookup.{IsMapperPlaceOf}
+use Rattle.normalizer_records.specs.inner.Lookup.{IsMapperPlaceOf}
 use Rattle.normalizer_records.proofs.LookupLemmas.{IsPartitionedBy-below}
 use Rattle.normalizer_records.proofs.lookup.first_mapper_place.Goals as goal
 

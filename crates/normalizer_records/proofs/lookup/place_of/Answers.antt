@@ -1,6 +1,6 @@
 use Rattle.std.proofs.Common.{◌≢◌, ap}
 use Rattle.normalizer_records.specs.Entry.{Entry}
-use Rattle.normalizer_records.specs.Lookup.{IsPlaceOf}
+use Rattle.normalizer_records.specs.inner.Lookup.{IsPlaceOf}
 use Rattle.normalizer_records.proofs.LookupLemmas.{misses_all, misses_above}
 use Rattle.normalizer_records.proofs.lookup.place_of.Goals as goal
 

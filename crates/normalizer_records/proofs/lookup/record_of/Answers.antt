@@ -1,6 +1,6 @@
 use Rattle.std.proofs.Common.{◌≡◌, ◌≢◌, ap, sym}
 use Rattle.normalizer_records.specs.Entry.{Entry}
-use Rattle.normalizer_records.specs.Lookup.{IsPlaceOf}
+use Rattle.normalizer_records.specs.inner.Lookup.{IsPlaceOf}
 use Rattle.normalizer_records.specs.Meaning.{entry_of}
 use Rattle.normalizer_records.proofs.LookupLemmas.{find-none, find-found, misses_all, misses_above}
 use Rattle.normalizer_records.proofs.lookup.record_of.Goals as goal

@@ -1,7 +1,7 @@
 use Rattle.std.proofs.Common.{◌≡◌, ◌≢◌, ap, sym}
 use Rattle.std.specs.Option.{option_map}
 use Rattle.normalizer_records.specs.Entry.{MapperEntry}
-use Rattle.normalizer_records.specs.Lookup.{IsMapperPlaceOf}
+use Rattle.normalizer_records.specs.inner.Lookup.{IsMapperPlaceOf}
 use Rattle.normalizer_records.specs.Meaning.{status_of}
 use Rattle.normalizer_records.proofs.LookupLemmas.{find-none, find-found, misses_all, misses_above}
 use Rattle.normalizer_records.proofs.lookup.uts46_record_of.Goals as goal

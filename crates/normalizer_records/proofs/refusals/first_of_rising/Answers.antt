@@ -1,5 +1,5 @@
 use Rattle.std.proofs.Common.{◌↔◌, ℕ, List, IsTrue, sym, subst, ◌∙◌}
-use Rattle.normalizer_records.specs.Cut.{IsOfSome}
+use Rattle.normalizer_records.specs.inner.Cut.{IsOfSome}
 use Rattle.normalizer_records.specs.Faults.{IsAsked, HasWrongClass, HasLongList, HasClassFault, HasLengthFault}
 use Rattle.normalizer_records.proofs.OrLemmas.{iff_trans}
 use Rattle.normalizer_records.proofs.RefusalLemmas.{first_among-is, HasChainFault-any, any-HasChainFault}

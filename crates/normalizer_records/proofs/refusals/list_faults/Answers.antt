@@ -1,6 +1,6 @@
 use Rattle.std.proofs.Common.{◌<◌, ◌↔◌, ℕ, List, length, IsTrue, subst, arith}
 use Rattle.std.proofs.lemmas.List.{get_or_read, take_all}
-use Rattle.normalizer_records.specs.Cut.{IsOfSome}
+use Rattle.normalizer_records.specs.inner.Cut.{IsOfSome}
 use Rattle.normalizer_records.specs.Faults.{IsAsked, HasWrongClass, HasLongList}
 use Rattle.normalizer_records.proofs.OrLemmas.{or_decides, iff_trans, IsOfSome-more}
 use Rattle.normalizer_records.proofs.refusals.list_faults.Goals as goal

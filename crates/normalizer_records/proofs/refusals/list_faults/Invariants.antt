@@ -1,5 +1,5 @@
 use Rattle.std.proofs.Common.{take, IsTrue, ◌↔◌}
-use Rattle.normalizer_records.specs.Cut.{IsOfSome}
+use Rattle.normalizer_records.specs.inner.Cut.{IsOfSome}
 use Rattle.normalizer_records.specs.Faults.{IsAsked, HasWrongClass, HasLongList}
 use Rattle.normalizer_records.proofs.refusals.list_faults.Given as goal
 

@@ -1,7 +1,7 @@
 use Rattle.std.proofs.Common.{arith, inl, inr, refl, sym, [], nat_eq}
 use Rattle.std.specs.Cmp.Lexicographic.{pointwise, same_text, other_text}
 use Rattle.std.proofs.lemmas.List.Quantifiers.{position-Some}
-use Rattle.normalizer_tables.specs.Blocks.{IsJoined}
+use Rattle.normalizer_tables.specs.inner.Blocks.{IsJoined}
 use Rattle.normalizer_tables.proofs.BlockLemmas.{position-None}
 use Rattle.normalizer_tables.proofs.blocks.joined.Goals as goal
 

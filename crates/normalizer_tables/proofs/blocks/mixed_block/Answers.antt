@@ -1,7 +1,7 @@
 use Rattle.std.proofs.Common.{◌≡◌, ◌+◌, arith, subst, ◌∙◌}
 use Rattle.std.proofs.Math.ListN.{length-set}
 use Rattle.std.proofs.lemmas.List.Edits.{fill_by_more}
-use Rattle.normalizer_tables.specs.Blocks.{IsFirstFrom}
+use Rattle.normalizer_tables.specs.inner.Blocks.{IsFirstFrom}
 use Rattle.normalizer_tables.specs.Ranges.{word_in}
 use Rattle.normalizer_tables.proofs.BlockLemmas.{range_block-from_words}
 use Rattle.normalizer_tables.proofs.blocks.mixed_block.Goals as goal

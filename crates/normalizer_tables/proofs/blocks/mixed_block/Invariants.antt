@@ -1,5 +1,5 @@
 use Rattle.std.proofs.Common.{◌≡◌, ◌+◌, ◌<◌, ℕ, get_or, length}
-use Rattle.normalizer_tables.specs.Blocks.{IsFirstFrom}
+use Rattle.normalizer_tables.specs.inner.Blocks.{IsFirstFrom}
 use Rattle.normalizer_tables.specs.Ranges.{word_in}
 use Rattle.normalizer_tables.proofs.blocks.mixed_block.Given as goal
 

@@ -1,6 +1,6 @@
 use Rattle.std.proofs.Common.{◌≡◌, ◌≤◌, get_or, arith}
 use borrow.Author.Count.{below_more}
-use Rattle.normalizer_tables.specs.Blocks.{IsNextInBlock}
+use Rattle.normalizer_tables.specs.inner.Blocks.{IsNextInBlock}
 use Rattle.normalizer_tables.specs.Table.{without_flags}
 use Rattle.normalizer_tables.proofs.blocks.next_in_block.Goals as goal
 

@@ -1,7 +1,7 @@
 use Rattle.std.proofs.Common.{◌≡◌, ◌∙◌, false, arith, ap, sym}
 use borrow.Author.Count.{below_more}
 use Rattle.normalizer_tables.specs.Pairs.{is_of}
-use Rattle.normalizer_tables.specs.Rows.{pair_at}
+use Rattle.normalizer_tables.specs.Pairs.{pair_at}
 use Rattle.normalizer_tables.proofs.PairPlaces.{pair_at-got, listed_result-first, listed_result-none}
 use Rattle.normalizer_tables.proofs.pairs.first_result.Goals as goal
 

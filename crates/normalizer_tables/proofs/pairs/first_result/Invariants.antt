@@ -1,6 +1,6 @@
 use Rattle.std.proofs.Common.{◌≡◌, ◌<◌, ℕ, false}
 use Rattle.normalizer_tables.specs.Pairs.{is_of}
-use Rattle.normalizer_tables.specs.Rows.{pair_at}
+use Rattle.normalizer_tables.specs.Pairs.{pair_at}
 use Rattle.normalizer_tables.proofs.pairs.first_result.Given as goal
 
 abbrev pub invariant-loop-place : goal.invariant-loop-place

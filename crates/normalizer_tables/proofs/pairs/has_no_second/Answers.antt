@@ -1,6 +1,6 @@
 use Rattle.std.proofs.Common.{◌≢◌, ◌∙◌, arith, ap, sym, refl}
 use borrow.Author.Count.{below_more}
-use Rattle.normalizer_tables.specs.Rows.{pair_at}
+use Rattle.normalizer_tables.specs.Pairs.{pair_at}
 use Rattle.normalizer_tables.proofs.PairLemmas.{is_of_other, is_of_from}
 use Rattle.normalizer_tables.proofs.PairPlaces.{pair_at-got, listed_result-first, listed_result-none}
 use Rattle.normalizer_tables.proofs.pairs.has_no_second.Goals as goal

@@ -1,5 +1,5 @@
 use Rattle.std.proofs.Common.{◌≢◌, ◌<◌, ℕ}
-use Rattle.normalizer_tables.specs.Rows.{pair_at}
+use Rattle.normalizer_tables.specs.Pairs.{pair_at}
 use Rattle.normalizer_tables.proofs.pairs.has_no_second.Given as goal
 
 abbrev pub invariant-loop-place : goal.invariant-loop-place

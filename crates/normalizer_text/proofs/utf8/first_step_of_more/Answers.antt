@@ -2,7 +2,7 @@ use Rattle.std.proofs.Common.{◌+◌, drop, arith, length-drop, length-take-le,
 use Rattle.std.specs.Prelude.{option_map}
 use Rattle.std.proofs.lemmas.List.{take_rest}
 use Rattle.normalizer_text.specs.Utf8.{matched}
-use Rattle.normalizer_text.specs.Trails.{places}
+use Rattle.normalizer_text.specs.inner.Trails.{places}
 use Rattle.normalizer_text.specs.Steps.{read}
 use Rattle.normalizer_text.proofs.MatchLemmas.{matched-le}
 use Rattle.normalizer_text.proofs.RowLemmas.{first-whole}

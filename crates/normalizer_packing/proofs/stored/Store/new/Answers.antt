@@ -1,5 +1,5 @@
 use Rattle.std.proofs.Common.{refl}
-use Rattle.normalizer_packing.specs.Stores.{place_in}
+use Rattle.normalizer_packing.specs.inner.Stores.{place_in}
 use Rattle.normalizer_packing.proofs.StoreLemmas.{holds_nothing}
 use Rattle.normalizer_packing.proofs.stored.Store.new.Goals as goal
 

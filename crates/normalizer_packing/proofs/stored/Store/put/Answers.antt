@@ -3,7 +3,7 @@ use Rattle.std.proofs.lemmas.List.{append-nil}
 use Rattle.normalizer_tables.specs.Data.{Lists}
 use Rattle.normalizer_packing.specs.declared.stored.Store.{Store}
 use Rattle.normalizer_packing.specs.Stored.{is_narrow, items_of}
-use Rattle.normalizer_packing.specs.Stores.{tables_in}
+use Rattle.normalizer_packing.specs.inner.Stores.{tables_in}
 use Rattle.normalizer_packing.proofs.StoreLemmas.{Holds-put, Holds-there, nowhere_if_not_some, place_if_some, place_updated, placed_if_some, tables_put}
 use Rattle.normalizer_packing.proofs.stored.Store.put.Goals as goal
 use Rattle.normalizer_packing.proofs.stored.Store.put.Goals.{then-is_narrow+in_ok-place, else-is_narrow+in_ok-place-2}

@@ -1,6 +1,6 @@
 use Rattle.std.proofs.Common.{◌≡◌, ◌+◌, ◌*◌, ◌++◌, ◌∷◌, [], arith, subst, ◌∙◌}
 use borrow.Author.Count.{below_more}
-use Rattle.normalizer_tables.specs.Blocks.{block_at, range_block, IsFirstFrom}
+use Rattle.normalizer_tables.specs.inner.Blocks.{block_at, range_block, IsFirstFrom}
 use Rattle.normalizer_tables.proofs.BlockLemmas.{stored_words-words_of, IsStored-joined, block_at-joined, block_at-earlier, joined-few, length-range_block}
 use Rattle.normalizer_tables.proofs.blocks.Blocks.from_ranges.Goals as goal
 

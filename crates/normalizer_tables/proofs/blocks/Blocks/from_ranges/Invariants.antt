@@ -1,5 +1,5 @@
 use Rattle.std.proofs.Common.{◌≡◌, ◌*◌, ◌<◌, ℕ}
-use Rattle.normalizer_tables.specs.Blocks.{block_at, range_block, IsFirstFrom, IsStored}
+use Rattle.normalizer_tables.specs.inner.Blocks.{block_at, range_block, IsFirstFrom, IsStored}
 use Rattle.normalizer_tables.proofs.blocks.Blocks.from_ranges.Given as goal
 
 abbrev pub invariant-loop-place : goal.invariant-loop-place

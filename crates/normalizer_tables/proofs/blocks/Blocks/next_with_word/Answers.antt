@@ -1,6 +1,6 @@
 use Rattle.std.proofs.Common.{[], get_or, arith}
 use Rattle.std.proofs.lemmas.List.{get_or_read}
-use Rattle.normalizer_tables.specs.Blocks.{IsNextInBlock}
+use Rattle.normalizer_tables.specs.inner.Blocks.{IsNextInBlock}
 use Rattle.normalizer_tables.proofs.BlockLemmas.{stored_number-within}
 use Rattle.normalizer_tables.proofs.NextInBlocks.{HasNoWord, passed-at, block_at-number, block_at-looked_up, HasNoWordTo-more, next-found, next-none}
 use Rattle.normalizer_tables.proofs.blocks.Blocks.next_with_word.Goals as goal

@@ -1,5 +1,5 @@
 use Rattle.std.proofs.Common.{ℕ, ◌<◌, ◌≤◌}
-use Rattle.normalizer_tables.specs.Walk.{KeepsPlainBeginning}
+use Rattle.normalizer_tables.specs.inner.Walk.{KeepsPlainBeginning}
 use Rattle.normalizer_tables.proofs.pair_check.beginnings.jamo_keep_beginnings.Given as goal
 
 abbrev pub invariant-loop-jamo : goal.invariant-loop-jamo

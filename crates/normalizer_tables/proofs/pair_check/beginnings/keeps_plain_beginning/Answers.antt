@@ -1,6 +1,6 @@
 use Rattle.std.proofs.Common.{refl}
 use Rattle.normalizer_tables.specs.PairConditions.{KeepsBeginning}
-use Rattle.normalizer_tables.specs.Walk.{KeepsPlainBeginning}
+use Rattle.normalizer_tables.specs.inner.Walk.{KeepsPlainBeginning}
 use Rattle.normalizer_tables.proofs.pair_check.beginnings.keeps_plain_beginning.Goals as goal
 
 pub returns-in-None : goal.returns-in-None

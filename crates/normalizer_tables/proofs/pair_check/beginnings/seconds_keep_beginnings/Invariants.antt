@@ -1,5 +1,5 @@
 use Rattle.std.specs.List.{AllWithin}
-use Rattle.normalizer_tables.specs.Walk.{KeepsPlainBeginning}
+use Rattle.normalizer_tables.specs.inner.Walk.{KeepsPlainBeginning}
 use Rattle.normalizer_tables.proofs.pair_check.beginnings.seconds_keep_beginnings.Given as goal
 
 abbrev pub invariant-loop-place : goal.invariant-loop-place

@@ -1,7 +1,7 @@
 use Rattle.std.proofs.Common.{◌≡◌, ◌∙◌, false, arith, ap, sym, refl}
 use borrow.Author.Count.{below_more}
 use Rattle.normalizer_tables.specs.Pairs.{is_vowel_or_trailing_jamo}
-use Rattle.normalizer_tables.specs.Rows.{pair_at}
+use Rattle.normalizer_tables.specs.Pairs.{pair_at}
 use Rattle.normalizer_tables.proofs.PairPlaces.{pair_at-got, All-from_pair_at, pair_at-All}
 use Rattle.normalizer_tables.proofs.pairs.CanonicalCompositions.has_no_jamo_second.Goals as goal
 

@@ -1,5 +1,5 @@
 use Rattle.std.proofs.Common.{arith, sym, ◌∙◌}
-use Rattle.normalizer_text.specs.Trails.{places}
+use Rattle.normalizer_text.specs.inner.Trails.{places}
 use Rattle.normalizer_text.proofs.MatchLemmas.{matched_more, matched_stop}
 use Rattle.normalizer_text.proofs.RowLemmas.{length-places}
 use Rattle.normalizer_text.proofs.utf8.Trail.matched.Goals as goal

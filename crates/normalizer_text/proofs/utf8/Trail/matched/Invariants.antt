@@ -1,6 +1,6 @@
 use Rattle.std.proofs.Common.{◌-◌, ◌≤◌}
 use Rattle.normalizer_text.specs.Utf8.{matched}
-use Rattle.normalizer_text.specs.Trails.{places}
+use Rattle.normalizer_text.specs.inner.Trails.{places}
 use Rattle.normalizer_text.proofs.utf8.Trail.matched.Given as goal
 
 abbrev pub invariant-loop-n : goal.invariant-loop-n

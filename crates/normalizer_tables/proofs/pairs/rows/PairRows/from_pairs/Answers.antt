@@ -1,6 +1,7 @@
 use Rattle.std.proofs.Common.{refl, sym}
 use Rattle.std.proofs.lemmas.List.{map_more}
-use Rattle.normalizer_tables.specs.Rows.{pair_at, member_of}
+use Rattle.normalizer_tables.specs.Pairs.{pair_at}
+use Rattle.normalizer_tables.specs.inner.Rows.{member_of}
 use Rattle.normalizer_tables.proofs.RowLemmas.{kept_pairs-same, AreKept-view, AreInRows-none, AreInRows-same, AreInRows-other, AreKept-at_end}
 use Rattle.normalizer_tables.proofs.pairs.rows.PairRows.from_pairs.Goals as goal
 use Rattle.normalizer_tables.proofs.pairs.rows.PairRows.from_pairs.Goals.{then-begins_row+in_ok-push, else-begins_row}

@@ -1,5 +1,5 @@
 use Rattle.std.proofs.Common.{◌≡◌, map, take}
-use Rattle.normalizer_tables.specs.Rows.{member_of, AreInRows}
+use Rattle.normalizer_tables.specs.inner.Rows.{member_of, AreInRows}
 use Rattle.normalizer_tables.proofs.pairs.rows.PairRows.from_pairs.Given as goal
 
 abbrev pub invariant-loop-place : goal.invariant-loop-place

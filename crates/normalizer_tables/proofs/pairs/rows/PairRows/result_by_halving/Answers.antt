@@ -2,7 +2,7 @@ use Rattle.std.proofs.Common.{ltb, rules, ap, sym, subst}
 use Rattle.std.proofs.lemmas.List.Sorted.{IsPartitionPoint-from_clause}
 use Rattle.std.specs.List.{slice_range}
 use Rattle.normalizer_tables.specs.Pairs.{AreRising}
-use Rattle.normalizer_tables.specs.Rows.{Member, IsRowOf}
+use Rattle.normalizer_tables.specs.inner.Rows.{Member, IsRowOf}
 use Rattle.normalizer_tables.proofs.RowLookUps.{firsts_part, listed_result-in_row, listed_result-not_in_row, listed_result-past_row}
 use Rattle.normalizer_tables.proofs.pairs.rows.PairRows.result_by_halving.Goals as goal
 

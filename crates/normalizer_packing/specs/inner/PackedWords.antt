@@ -5,7 +5,7 @@ use Rattle.normalizer_packing.specs.declared.stores.Stores.{Stores}
 use Rattle.normalizer_packing.specs.Entries.{CharacterEntry}
 use Rattle.normalizer_packing.specs.Packing.{ArePackable}
 use Rattle.normalizer_packing.specs.Stored.{needed_items}
-use Rattle.normalizer_packing.specs.Stores.{AreStored}
+use Rattle.normalizer_packing.specs.inner.Stores.{AreStored}
 
 -- a word can point to each list that none spells
 pub record CanPoint (entries : List CharacterEntry) (s : Stores) : Type 0 where

@@ -1,8 +1,7 @@
--- How pairs are kept: in rows of equal neighbouring seconds. No public clause but that of a count speaks of it.
-use Rattle.std.specs.Prelude.{◌≡◌, ◌≢◌, ℕ, ◌+◌, ◌-◌, ◌<◌, ◌≤◌, ◌==◌, ◌||◌, Bool, not, nat_le, List, length, map}
-use Rattle.std.specs.Prelude.{count_by, slice_index_or}
+-- How pairs are kept: in rows of equal neighbouring seconds.
+use Rattle.std.specs.Prelude.{◌≡◌, ◌≢◌, ℕ, ◌+◌, ◌-◌, ◌<◌, ◌≤◌, nat_le, List, length, map, count_by, slice_index_or}
 use Rattle.std.specs.List.{range_with_len}
-use Rattle.normalizer_tables.specs.Pairs.{Pair}
+use Rattle.normalizer_tables.specs.Pairs.{Pair, pair_at}
 use Rattle.normalizer_tables.specs.declared.pairs.rows.Row.{Row}
 
 -- the first character of a pair and what they compose to
@@ -11,9 +10,6 @@ Member = ℕ × ℕ
 
 unfoldable pub member_of : Pair → Member
 member_of p = (p.1, p.2)
-
-unfoldable pub pair_at : List Pair → ℕ → Pair
-pair_at pairs place = slice_index_or pairs place (0, 0, 0)
 
 -- where a row starts; there is none behind the last one, and `end` stands for its start
 unfoldable pub start_of : List Row → ℕ → ℕ → ℕ
@@ -57,11 +53,3 @@ pub record IsRowOf (pairs : List Pair) (second start end : ℕ) : Type 0 where
   pub before : (k : ℕ) → k < start → (pair_at pairs k).0 < second
   pub within : (k : ℕ) → start ≤ k → k < end → (pair_at pairs k).0 ≡ second
   pub behind : (k : ℕ) → end ≤ k → k < length pairs → second < (pair_at pairs k).0
-
--- the first pair begins a row, and so does one with another second than the pair before it
-unfoldable pub begins_row : List Pair → ℕ → Bool
-begins_row pairs place = (place == 0) || not ((pair_at pairs (place - 1)).0 == (pair_at pairs place).0)
-
--- how many rows there are: runs of equal neighbouring seconds
-unfoldable pub row_count : List Pair → ℕ
-row_count pairs = count_by (begins_row pairs) (range_with_len 0 (length pairs))

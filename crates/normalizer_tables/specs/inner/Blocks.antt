@@ -1,20 +1,9 @@
--- How the words of a table are stored: in blocks of 64 code points each, equal blocks once. No public clause but that
--- of a count speaks of it.
-use Rattle.std.specs.Prelude.{◌≡◌, ◌≢◌, ℕ, ◌*◌, ◌/◌, ◌%◌, ◌<◌, ◌≤◌, ◌⊎◌, List, [], ◌∷◌, ◌++◌, AllPairs, length, map}
-use Rattle.std.specs.Prelude.{nat_eq, Option, Some, None, slice_index, slice_index_or}
-use Rattle.std.specs.Cmp.Lexicographic.{pointwise}
+-- How the words of a table are stored: in blocks of 64 code points each, equal blocks once.
+use Rattle.std.specs.Prelude.{◌≡◌, ◌≢◌, ℕ, ◌/◌, ◌%◌, ◌<◌, ◌≤◌, ◌⊎◌, List, [], ◌∷◌, ◌++◌, AllPairs, length, map}
+use Rattle.std.specs.Prelude.{Option, Some, None, slice_index, slice_index_or}
 use Rattle.std.specs.List.{range_with_len}
-use Rattle.std.specs.Set.{distinct_count}
 use Rattle.normalizer_tables.specs.Ranges.{WordRange, word_in}
-use Rattle.normalizer_tables.specs.Table.{Table, code_points, without_flags}
-
--- the words of 64 code points
-abbrev pub Block : Type 0
-Block = List ℕ
-
--- how many blocks the code points have
-abbrev pub block_places : ℕ
-block_places = 17408
+use Rattle.normalizer_tables.specs.Table.{Block, code_points, without_flags}
 
 -- the block at a place
 unfoldable pub block_at : List Block → List ℕ → ℕ → Block
@@ -64,11 +53,3 @@ IsNextInBlock block flags from None = (k : ℕ) → from ≤ k → k < 64 → wi
 -- the words that ranges give the 64 code points from `start` on
 unfoldable pub range_block : List WordRange → ℕ → Block
 range_block ranges start = map (word_in ranges) (range_with_len start 64)
-
--- the blocks of a table, in their order
-unfoldable pub blocks_of : Table → List Block
-blocks_of t = map (λ place. map (slice_index t.words) (range_with_len (64 * place) 64)) (range_with_len 0 block_places)
-
--- how many blocks a table has, equal ones counted once
-unfoldable pub block_count : Table → ℕ
-block_count t = distinct_count (pointwise nat_eq) (blocks_of t)

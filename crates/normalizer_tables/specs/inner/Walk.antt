@@ -13,13 +13,6 @@ use Rattle.normalizer_tables.specs.Pairs.{Pair}
 use Rattle.normalizer_tables.specs.Table.{code_points}
 use Rattle.normalizer_tables.specs.Words.{is_plain}
 
--- n is the first number from `from` on whose word isn't 0, flags aside, or the first past the code points
-pub record IsNextWord (s : Characters) (from n : ℕ) : Type 0 where
-  pub least : from ≤ n
-  pub within : n ≤ code_points
-  pub between : (m : ℕ) → from ≤ m → m < n → is_plain (word_of s m) ≡ true
-  pub found : n < code_points → is_plain (word_of s n) ≡ false
-
 -- two syllables, the second not before the first, with the same leading consonant
 pub record IsSyllableBehind (m n : ℕ) : Type 0 where
   pub first : is_hangul_syllable m ≡ true

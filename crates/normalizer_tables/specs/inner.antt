@@ -1,0 +1,7 @@
+-- What the contracts of private functions alone cite.
+pub mod Blocks
+pub mod Found
+pub mod Members
+pub mod Read
+pub mod Rows
+pub mod Walk

@@ -1,0 +1,3 @@
+-- What the contracts of private functions alone cite.
+pub mod Backwards
+pub mod Trails
