@@ -1,6 +1,6 @@
 -- The pairs of characters that have a primary composite (The Unicode Standard, D114), Hangul ones included.
 use Rattle.std.specs.Prelude.{◌≡◌, ℕ, Bool, true, false, ◌&&◌, ◌||◌, ◌==◌, nat_eq, nat_lt, List, AllPairs, find, Option}
-use Rattle.std.specs.Prelude.{None, if◌then◌else◌, ◌-◌, not, count_by, slice_index_or}
+use Rattle.std.specs.Prelude.{None, if◌then◌else◌, ◌-◌, not, length, count_by, slice_index_or}
 use Rattle.std.specs.Option.{option_map}
 use Rattle.std.specs.List.{range_with_len}
 use Rattle.std.specs.List.Sorted.{IsPartitionPoint}
