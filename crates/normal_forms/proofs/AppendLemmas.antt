@@ -1,5 +1,6 @@
 -- One more character: what a text has in common with the form of a longer text it has with its own form.
-use Rattle.std.proofs.Common.{◌≡◌, ◌≢◌, ℕ, ◌<◌, ◌⊎◌, ◌&&◌, nat_lt, List, [], ◌∷◌, ◌++◌, length, None, if◌then◌else◌, refl, sym, ap, subst, ◌∙◌, arith, inl, inr, lt-ltb, eq-eqb, ne_eqb, append_assoc, append-nil, length-append}
+use Rattle.std.proofs.Common.{◌≡◌, ◌≢◌, ℕ, ◌<◌, ◌⊎◌, ◌&&◌, nat_lt, List, [], ◌∷◌, ◌++◌, length, None, if◌then◌else◌, refl, sym, ap, subst, ◌∙◌, arith}
+use Rattle.std.proofs.Common.{inl, inr, lt-ltb, eq-eqb, ne_eqb, append_assoc, append-nil, length-append}
 use Rattle.std.proofs.Math.Nat.{eq-zero-or-pos}
 use Rattle.std.proofs.lemmas.Bool.{cond-true, cond-false}
 use Rattle.std.specs.List.{AllByRecursion}
@@ -13,7 +14,9 @@ use Rattle.normal_forms.specs.Hypotheses.{HasFullLists, HasFaithfulResults}
 use Rattle.normal_forms.proofs.ListLemmas.{split_append, AllByRecursion-append, AllByRecursion-front, AllByRecursion-rest}
 use Rattle.normal_forms.proofs.OrderLemmas.{AreMarks, AreMarksBelow, AreAbove, IsOrdered, IsOrdered-order, order-push, order-append_cancel, order-order, order-absorb, of_class-order, of_class-append}
 use Rattle.normal_forms.proofs.ExpandLemmas.{AreSelf, expand-append, expand_of_self, AreSelf-expand, AreSelf-order, AreSelf-nfd, nfd-append}
-use Rattle.normal_forms.proofs.ComposeLemmas.{composed_form, join-some, compose_after-nil, compose_after-join, compose_after-starter, compose_after-mark, compose_by_starters-nil, compose_by_starters-starter, compose_by_starters-mark, compose_by_starters-marks, order-expand-compose, composed_form-composed_form, cases_Option}
+use Rattle.normal_forms.proofs.ComposeLemmas.{composed_form, join-some, compose_after-nil, compose_after-join, compose_after-starter}
+use Rattle.normal_forms.proofs.ComposeLemmas.{compose_after-mark, compose_by_starters-nil, compose_by_starters-starter, compose_by_starters-mark}
+use Rattle.normal_forms.proofs.ComposeLemmas.{compose_by_starters-marks, order-expand-compose, composed_form-composed_form, cases_Option}
 use Rattle.normal_forms.proofs.CutLemmas.{front_of_form}
 
 -- what holds of a member because two things hold of it
@@ -110,7 +113,8 @@ SharesFront-behind d k u x y longer shorter e f shares = record {
 }
 
 -- k comes next behind the starter a and the marks p that wait
-compose_after-put_first : (d : Reading) (k a : ℕ) (p y : List ℕ) → AreMarks d p → AreSelf d p → AllByRecursion (IsLater d k) y → (IsStarter d k → y ≡ []) → SharesFront d k (compose_after d a p (k ∷ y)) (compose_after d a p y)
+compose_after-put_first : (d : Reading) (k a : ℕ) (p y : List ℕ) → AreMarks d p → AreSelf d p → AllByRecursion (IsLater d k) y → (IsStarter d k → y ≡ [])
+    → SharesFront d k (compose_after d a p (k ∷ y)) (compose_after d a p y)
 unfolding AreMarksBelow AreSelf
 compose_after-put_first d k a p y marks p_self later last =
     elim (cases_Option (join d a p k)) [
@@ -153,7 +157,8 @@ compose_after-put_first d k a p y marks p_self later last =
     ]
 
 -- k comes behind x
-compose_after-put : (d : Reading) (k a : ℕ) (p x y : List ℕ) → AreMarks d p → AreSelf d p → AreSelf d x → AllByRecursion (IsLater d k) y → (IsStarter d k → y ≡ []) → SharesFront d k (compose_after d a p (x ++ k ∷ y)) (compose_after d a p (x ++ y))
+compose_after-put : (d : Reading) (k a : ℕ) (p x y : List ℕ) → AreMarks d p → AreSelf d p → AreSelf d x → AllByRecursion (IsLater d k) y → (IsStarter d k → y ≡ [])
+    → SharesFront d k (compose_after d a p (x ++ k ∷ y)) (compose_after d a p (x ++ y))
 unfolding AreMarks AreSelf
 compose_after-put d k a p [] y marks p_self self later last = compose_after-put_first d k a p y marks p_self later last
 compose_after-put d k a p (c ∷ x) y marks p_self self later last =
@@ -174,7 +179,8 @@ compose_after-put d k a p (c ∷ x) y marks p_self self later last =
           (compose_after-put d k some.0 p x y marks p_self self.1 later last)
     ]
 
-compose_by_starters-put : (d : Reading) (k : ℕ) (x y : List ℕ) → AreSelf d x → AllByRecursion (IsLater d k) y → (IsStarter d k → y ≡ []) → SharesFront d k (compose_by_starters d (x ++ k ∷ y)) (compose_by_starters d (x ++ y))
+compose_by_starters-put : (d : Reading) (k : ℕ) (x y : List ℕ) → AreSelf d x → AllByRecursion (IsLater d k) y → (IsStarter d k → y ≡ [])
+    → SharesFront d k (compose_by_starters d (x ++ k ∷ y)) (compose_by_starters d (x ++ y))
 unfolding AreMarks AreSelf
 compose_by_starters-put d k [] y self later last =
     let marks = AllByRecursion-both _ _ (IsMark d) (λ m a b. omega arith) y later later in
@@ -235,7 +241,8 @@ unfolding of_class
 of_class-one d k = cond-true _ _ _ (eq-eqb (d.class k) (d.class k) refl)
 
 -- behind q, what q with w and k composes to has not only others: in canonical order they would be w and k
-not_only_others : (d : Reading) → HasFullLists d → HasFaithfulResults d → (q w s : List ℕ) (k : ℕ) → AreSelf d w → ReadsAsItself d k → AllByRecursion (IsOther d k) s → compose_by_starters d (order d (nfd d q ++ (w ++ k ∷ []))) ≢ q ++ s
+not_only_others : (d : Reading) → HasFullLists d → HasFaithfulResults d → (q w s : List ℕ) (k : ℕ) → AreSelf d w → ReadsAsItself d k → AllByRecursion (IsOther d k) s
+    → compose_by_starters d (order d (nfd d q ++ (w ++ k ∷ []))) ≢ q ++ s
 unfolding AreSelf nfd
 not_only_others d full faithful q w s k w_self k_self others e =
     let more = w ++ k ∷ [] in
@@ -249,7 +256,8 @@ not_only_others d full faithful q w s k w_self k_self others e =
     cc (of_class-others d k s others, of_class-order d (d.class k) s, of_class-order d (d.class k) more, of_class-append d (d.class k) w (k ∷ []), of_class-one d k) in
     omega (arith, ap length none, length-append (of_class d (d.class k) w) (k ∷ []))
 
-pub front_without_last : (d : Reading) → HasFullLists d → HasFaithfulResults d → (q w : List ℕ) (k : ℕ) → AreSelf d w → ReadsAsItself d k → IsFront q (compose_by_starters d (order d (nfd d q ++ (w ++ k ∷ [])))) → IsFront q (compose_by_starters d (order d (nfd d q ++ w)))
+pub front_without_last : (d : Reading) → HasFullLists d → HasFaithfulResults d → (q w : List ℕ) (k : ℕ) → AreSelf d w → ReadsAsItself d k
+    → IsFront q (compose_by_starters d (order d (nfd d q ++ (w ++ k ∷ [])))) → IsFront q (compose_by_starters d (order d (nfd d q ++ w)))
 unfolding AreSelf
 front_without_last d full faithful q w k w_self k_self front =
     let x = nfd d q ++ w in

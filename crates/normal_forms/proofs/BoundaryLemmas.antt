@@ -67,7 +67,8 @@ module _ (d : Reading) (Begins : List ℕ → Type 0) (same_first : (s : ℕ) (x
   begins-expand_run P (c ∷ run) v all begins = begins-append (d.list c) (expand d (run ++ v)) all.0.1 (begins-expand_run P run v all.1 begins)
 
   -- f divides before each character of the run, which is its own f
-  run_stays : (f : List ℕ → List ℕ) → ((u v : List ℕ) → Begins (expand d v) → f (u ++ v) ≡ f u ++ f v) → (u run v : List ℕ) → AllByRecursion (λ c. (f (c ∷ []) ≡ c ∷ []) × Begins (d.list c)) run → Begins (expand d v) → f (u ++ (run ++ v)) ≡ f u ++ (run ++ f v)
+  run_stays : (f : List ℕ → List ℕ) → ((u v : List ℕ) → Begins (expand d v) → f (u ++ v) ≡ f u ++ f v) → (u run v : List ℕ)
+      → AllByRecursion (λ c. (f (c ∷ []) ≡ c ∷ []) × Begins (d.list c)) run → Begins (expand d v) → f (u ++ (run ++ v)) ≡ f u ++ (run ++ f v)
   run_stays f boundary u run v all begins =
       boundary u (run ++ v) (begins-expand_run (λ c. f (c ∷ []) ≡ c ∷ []) run v all begins) ∙ ap (λ l. f u ++ l) (stays run all)
     where
@@ -85,8 +86,10 @@ pub BeginsSafely-expand : (d : Reading) (c : ℕ) (x : List ℕ) → d.list c �
 BeginsSafely-expand d = begins-expand_cons d (BeginsSafely d) (λ s x y h. h)
 
 -- a run of characters that are their own forms, each with a safe beginning, stays as it is
-pub nfd-run : (d : Reading) (u run v : List ℕ) → AllByRecursion (λ c. (nfd d (c ∷ []) ≡ c ∷ []) × BeginsWithStarter d (d.list c)) run → BeginsWithStarter d (expand d v) → nfd d (u ++ (run ++ v)) ≡ nfd d u ++ (run ++ nfd d v)
+pub nfd-run : (d : Reading) (u run v : List ℕ) → AllByRecursion (λ c. (nfd d (c ∷ []) ≡ c ∷ []) × BeginsWithStarter d (d.list c)) run
+    → BeginsWithStarter d (expand d v) → nfd d (u ++ (run ++ v)) ≡ nfd d u ++ (run ++ nfd d v)
 nfd-run d = run_stays d (BeginsWithStarter d) (λ s x y h. h) (nfd d) (nfd-boundary d)
 
-pub composed_form-run : (d : Reading) (u run v : List ℕ) → AllByRecursion (λ c. (composed_form d (c ∷ []) ≡ c ∷ []) × BeginsSafely d (d.list c)) run → BeginsSafely d (expand d v) → composed_form d (u ++ (run ++ v)) ≡ composed_form d u ++ (run ++ composed_form d v)
+pub composed_form-run : (d : Reading) (u run v : List ℕ) → AllByRecursion (λ c. (composed_form d (c ∷ []) ≡ c ∷ []) × BeginsSafely d (d.list c)) run
+    → BeginsSafely d (expand d v) → composed_form d (u ++ (run ++ v)) ≡ composed_form d u ++ (run ++ composed_form d v)
 composed_form-run d = run_stays d (BeginsSafely d) (λ s x y h. h) (composed_form d) (composed_form-boundary d)

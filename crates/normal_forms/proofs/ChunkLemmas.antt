@@ -84,6 +84,7 @@ pub leading_fits : (f : ℕ → Bool) (d : Reading) (l rest : List ℕ) → HasS
 leading_fits f d l rest h all = omega (arith, h.leading, leading_length-append f d l rest all)
 
 -- what waits behind the starter of a chunk fits, all of it or what was read so far
-pub chunk_fits : (f : ℕ → Bool) (d : Reading) (c s : ℕ) (t l rest : List ℕ) → HasShortRuns f d (c ∷ (l ++ rest)) → continues f d c ≡ false → d.list c ≡ s ∷ t → AllPass (continues f d) l → length (t ++ expand d l) ≤ places
+pub chunk_fits : (f : ℕ → Bool) (d : Reading) (c s : ℕ) (t l rest : List ℕ) → HasShortRuns f d (c ∷ (l ++ rest)) → continues f d c ≡ false → d.list c ≡ s ∷ t
+    → AllPass (continues f d) l → length (t ++ expand d l) ≤ places
 chunk_fits f d c s t l rest h anew e all =
     omega (arith, chunk_bound f d c (l ++ rest) h anew, leading_length-append f d l rest all, ap length e, length-append t (expand d l))

@@ -79,7 +79,8 @@ pub join-cases : (d : Reading) (a : ℕ) (p : List ℕ) (c : ℕ) → (join d a 
 join-cases d a p c = cases_Option (join d a p c)
 
 -- the three ways in which a step of composition goes
-pub step_cases : (d : Reading) (a : ℕ) (p : List ℕ) (c : ℕ) (Q : Type 0) → ((r : ℕ) → join d a p c ≡ Some r → Q) → (join d a p c ≡ None → IsStarter d c → Q) → (join d a p c ≡ None → IsMark d c → Q) → Q
+pub step_cases : (d : Reading) (a : ℕ) (p : List ℕ) (c : ℕ) (Q : Type 0) → ((r : ℕ) → join d a p c ≡ Some r → Q) → (join d a p c ≡ None → IsStarter d c → Q)
+    → (join d a p c ≡ None → IsMark d c → Q) → Q
 step_cases d a p c Q joins starts stays =
     elim (join-cases d a p c) [
       | inl none ↦ elim (starter_or_mark d c) [ inl starter ↦ starts none starter | inr mark ↦ stays none mark ]
@@ -87,7 +88,8 @@ step_cases d a p c Q joins starts stays =
     ]
 
 -- the same, of what the step gives
-pub compose_after-cases : (d : Reading) (a : ℕ) (p : List ℕ) (c : ℕ) (y : List ℕ) (Q : List ℕ → Type 0) → ((r : ℕ) → join d a p c ≡ Some r → Q (compose_after d r p y)) → (join d a p c ≡ None → IsStarter d c → Q ((a ∷ p) ++ compose_after d c [] y)) → (join d a p c ≡ None → IsMark d c → Q (compose_after d a (p ++ c ∷ []) y)) → Q (compose_after d a p (c ∷ y))
+pub compose_after-cases : (d : Reading) (a : ℕ) (p : List ℕ) (c : ℕ) (y : List ℕ) (Q : List ℕ → Type 0) → ((r : ℕ) → join d a p c ≡ Some r → Q (compose_after d r p y))
+    → (join d a p c ≡ None → IsStarter d c → Q ((a ∷ p) ++ compose_after d c [] y)) → (join d a p c ≡ None → IsMark d c → Q (compose_after d a (p ++ c ∷ []) y)) → Q (compose_after d a p (c ∷ y))
 compose_after-cases d a p c y Q joins starts stays =
     step_cases d a p c (Q (compose_after d a p (c ∷ y)))
     (λ r some. subst Q (sym (compose_after-join d a p c r y some)) (joins r some))
@@ -106,7 +108,8 @@ pub compose_by_starters-mark : (d : Reading) (c : ℕ) (y : List ℕ) → IsMark
 unfolding compose_by_starters
 compose_by_starters-mark d c y h = cond-false _ _ _ (is_starter-false d c h)
 
-compose_after-at_starter : (d : Reading) (a : ℕ) (p u : List ℕ) (s : ℕ) (v : List ℕ) → IsStarter d s → IsSecondInNoPair d s → compose_after d a p (u ++ s ∷ v) ≡ compose_after d a p u ++ compose_after d s [] v
+compose_after-at_starter : (d : Reading) (a : ℕ) (p u : List ℕ) (s : ℕ) (v : List ℕ) → IsStarter d s → IsSecondInNoPair d s
+    → compose_after d a p (u ++ s ∷ v) ≡ compose_after d a p u ++ compose_after d s [] v
 compose_after-at_starter d a p [] s v h second =
     compose_after-starter d a p s v (join-none d a p s (second a)) h ∙ ap (λ l. l ++ compose_after d s [] v) (sym (compose_after-nil d a p))
 compose_after-at_starter d a p (c ∷ u) s v h second =
@@ -118,7 +121,8 @@ compose_after-at_starter d a p (c ∷ u) s v h second =
     (λ none mark. compose_after-mark d a p c _ none mark ∙ compose_after-at_starter d a (p ++ c ∷ []) u s v h second)
 
 -- nothing is joined across a starter that is second in no pair
-pub compose_by_starters-at_starter : (d : Reading) (u : List ℕ) (s : ℕ) (v : List ℕ) → IsStarter d s → IsSecondInNoPair d s → compose_by_starters d (u ++ s ∷ v) ≡ compose_by_starters d u ++ compose_by_starters d (s ∷ v)
+pub compose_by_starters-at_starter : (d : Reading) (u : List ℕ) (s : ℕ) (v : List ℕ) → IsStarter d s → IsSecondInNoPair d s
+    → compose_by_starters d (u ++ s ∷ v) ≡ compose_by_starters d u ++ compose_by_starters d (s ∷ v)
 compose_by_starters-at_starter d [] s v h second = ap (λ l. l ++ compose_by_starters d (s ∷ v)) (sym (compose_by_starters-nil d))
 compose_by_starters-at_starter d (c ∷ u) s v h second =
     elim (starter_or_mark d c) [
@@ -138,7 +142,8 @@ compose_by_starters-marks d (m ∷ p) w marks =
     compose_by_starters-mark d m (p ++ w) marks.0 ∙ ap (λ l. m ∷ l) (compose_by_starters-marks d p w marks.1)
 
 -- composition keeps the ordered expansion
-pub order-expand-compose_after : (d : Reading) → HasFaithfulResults d → (a : ℕ) (p y : List ℕ) → AreMarks d p → AreSelf d p → AreSelf d y → order d (expand d (compose_after d a p y)) ≡ order d (d.list a ++ (p ++ y))
+pub order-expand-compose_after : (d : Reading) → HasFaithfulResults d → (a : ℕ) (p y : List ℕ) → AreMarks d p → AreSelf d p → AreSelf d y
+    → order d (expand d (compose_after d a p y)) ≡ order d (d.list a ++ (p ++ y))
 unfolding expand AreMarks AreSelf
 order-expand-compose_after d faithful a p [] marks p_self y_self =
     ap (λ l. order d (expand d l)) (compose_after-nil d a p)

@@ -9,9 +9,13 @@ use Rattle.normal_forms.specs.Forms.{nfd}
 use Rattle.normal_forms.specs.CompositionByStarters.{compose_after, compose_by_starters}
 use Rattle.normal_forms.specs.Hypotheses.{HasFullLists, HasFaithfulResults, HasInhabitedLists}
 use Rattle.normal_forms.proofs.ListLemmas.{split_append, AllByRecursion-append, AllByRecursion-front, AllByRecursion-rest}
-use Rattle.normal_forms.proofs.OrderLemmas.{AreMarks, IsOrdered, order-nil, order_of_ordered, order-append_same, order-append_cancel, IsOrdered-order, IsOrdered-rest, IsOrdered-tail, IsOrdered-remove, length-order}
+use Rattle.normal_forms.proofs.OrderLemmas.{AreMarks, IsOrdered, order-nil, order_of_ordered, order-append_same, order-append_cancel, IsOrdered-order}
+use Rattle.normal_forms.proofs.OrderLemmas.{IsOrdered-rest, IsOrdered-tail, IsOrdered-remove, length-order}
 use Rattle.normal_forms.proofs.ExpandLemmas.{AreSelf, expand-append, expand_of_self, AreSelf-nfd, nfd-append}
-use Rattle.normal_forms.proofs.ComposeLemmas.{composed_form, join-some, compose_after-nil, compose_after-join, compose_after-starter, compose_after-mark, compose_by_starters-nil, compose_by_starters-starter, compose_by_starters-mark, compose_by_starters-marks, order-expand-compose, nfd-composed_form, composed_form-nil, AreMarks-push, step_cases}
+use Rattle.normal_forms.proofs.ComposeLemmas.{composed_form, join-some, compose_after-nil, compose_after-join, compose_after-starter}
+use Rattle.normal_forms.proofs.ComposeLemmas.{compose_after-mark, compose_by_starters-nil, compose_by_starters-starter, compose_by_starters-mark}
+use Rattle.normal_forms.proofs.ComposeLemmas.{compose_by_starters-marks, order-expand-compose, nfd-composed_form, composed_form-nil, AreMarks-push}
+use Rattle.normal_forms.proofs.ComposeLemmas.{step_cases}
 
 -- ---- parts of a text of marks, and of one that reads as itself
 
@@ -83,7 +87,8 @@ expand-empty d inhabited (c ∷ x) e =
 -- ---- suffixes
 
 -- what a text in order composes to, behind marks that stood before it, is its own form
-marks_before_composed : (d : Reading) (t y z : List ℕ) → AreMarks d t → AreSelf d (t ++ y) → IsOrdered d (t ++ y) → order d (expand d z) ≡ order d y → compose_by_starters d y ≡ z → composed_form d (t ++ z) ≡ t ++ z
+marks_before_composed : (d : Reading) (t y z : List ℕ) → AreMarks d t → AreSelf d (t ++ y) → IsOrdered d (t ++ y) → order d (expand d z) ≡ order d y
+    → compose_by_starters d y ≡ z → composed_form d (t ++ z) ≡ t ++ z
 unfolding composed_form nfd
 marks_before_composed d t y z marks self ordered expands composes =
     let expanded : expand d (t ++ z) ≡ t ++ expand d z =
@@ -102,7 +107,8 @@ composed_form_of_marks d s marks self ordered =
     subst (λ l. composed_form d l ≡ l) whole form
 
 -- what a starter and the rest compose to, behind marks that stood before it, is its own form
-marks_before_starter : (d : Reading) → HasFaithfulResults d → (t : List ℕ) (c : ℕ) (y : List ℕ) → AreMarks d t → IsStarter d c → AreSelf d (t ++ c ∷ y) → IsOrdered d (t ++ c ∷ y) → composed_form d (t ++ compose_after d c [] y) ≡ t ++ compose_after d c [] y
+marks_before_starter : (d : Reading) → HasFaithfulResults d → (t : List ℕ) (c : ℕ) (y : List ℕ) → AreMarks d t → IsStarter d c → AreSelf d (t ++ c ∷ y)
+    → IsOrdered d (t ++ c ∷ y) → composed_form d (t ++ compose_after d c [] y) ≡ t ++ compose_after d c [] y
 marks_before_starter d faithful t c y marks starter self ordered =
     let rest : AreSelf d (c ∷ y) = AreSelf-rest d t (c ∷ y) self in
     let composes = compose_by_starters-starter d c y starter in
@@ -110,7 +116,8 @@ marks_before_starter d faithful t c y marks starter self ordered =
     (ap (λ l. order d (expand d l)) (sym composes) ∙ order-expand-compose d faithful (c ∷ y) rest) composes
 
 -- every suffix of what a starter, its marks and the rest compose to is its own form
-pub suffix_of_compose_after : (d : Reading) → HasFaithfulResults d → (a : ℕ) (p y : List ℕ) → AreMarks d p → AreSelf d (p ++ y) → IsOrdered d (p ++ y) → (q s : List ℕ) → compose_after d a p y ≡ q ++ s → q ≢ [] → composed_form d s ≡ s
+pub suffix_of_compose_after : (d : Reading) → HasFaithfulResults d → (a : ℕ) (p y : List ℕ) → AreMarks d p → AreSelf d (p ++ y) → IsOrdered d (p ++ y)
+    → (q s : List ℕ) → compose_after d a p y ≡ q ++ s → q ≢ [] → composed_form d s ≡ s
 suffix_of_compose_after d faithful a p y marks self ordered [] s e inhabited = absurd (inhabited refl)
 suffix_of_compose_after d faithful a p [] marks self ordered (x ∷ q) s e inhabited =
     let parts : p ≡ q ++ s = (let whole = sym (compose_after-nil d a p) ∙ e in cc) in

@@ -45,11 +45,13 @@ nfc-boundary d starters u v safe =
     nfc-composed_form d starters (u ++ v) ∙ composed_form-boundary d u v safe
     ∙ sym (ap (λ front. front ++ nfc d v) (nfc-composed_form d starters u) ∙ ap (λ rest. composed_form d u ++ rest) (nfc-composed_form d starters v))
 
-pub nfd_run-passes : (d : Reading) (u run v : List ℕ) → All (λ c. (nfd d (c ∷ []) ≡ c ∷ []) × BeginsWithStarter d (d.list c)) run → BeginsWithStarter d (expand d v) → nfd d (u ++ (run ++ v)) ≡ nfd d u ++ (run ++ nfd d v)
+pub nfd_run-passes : (d : Reading) (u run v : List ℕ) → All (λ c. (nfd d (c ∷ []) ≡ c ∷ []) × BeginsWithStarter d (d.list c)) run → BeginsWithStarter d (expand d v)
+    → nfd d (u ++ (run ++ v)) ≡ nfd d u ++ (run ++ nfd d v)
 nfd_run-passes d u run v passing safe =
     nfd-run d u run v (recursion_from_All (λ c. (nfd d (c ∷ []) ≡ c ∷ []) × BeginsWithStarter d (d.list c)) run passing) safe
 
-pub nfc_run-passes : (d : Reading) → HasStarterResults d → (u run v : List ℕ) → All (λ c. (nfc d (c ∷ []) ≡ c ∷ []) × BeginsSafely d (d.list c)) run → BeginsSafely d (expand d v) → nfc d (u ++ (run ++ v)) ≡ nfc d u ++ (run ++ nfc d v)
+pub nfc_run-passes : (d : Reading) → HasStarterResults d → (u run v : List ℕ) → All (λ c. (nfc d (c ∷ []) ≡ c ∷ []) × BeginsSafely d (d.list c)) run
+    → BeginsSafely d (expand d v) → nfc d (u ++ (run ++ v)) ≡ nfc d u ++ (run ++ nfc d v)
 nfc_run-passes d starters u run v passing safe =
     let composed : All (λ c. (composed_form d (c ∷ []) ≡ c ∷ []) × BeginsSafely d (d.list c)) run =
     λ k c below. let here = passing k c below in (sym (nfc-composed_form d starters _) ∙ here.0, here.1) in
@@ -57,7 +59,8 @@ nfc_run-passes d starters u run v passing safe =
     ∙ composed_form-run d u run v (recursion_from_All (λ c. (composed_form d (c ∷ []) ≡ c ∷ []) × BeginsSafely d (d.list c)) run composed) safe
     ∙ sym (ap (λ front. front ++ (run ++ nfc d v)) (nfc-composed_form d starters u) ∙ ap (λ rest. composed_form d u ++ (run ++ rest)) (nfc-composed_form d starters v))
 
-pub compose_over_marks : (d : Reading) (a : ℕ) (waiting marks rest : List ℕ) → All (IsMark d) marks → compose_after d a waiting (marks ++ rest) ≡ compose_after d (compose_marks d a waiting marks).0 (compose_marks d a waiting marks).1 rest
+pub compose_over_marks : (d : Reading) (a : ℕ) (waiting marks rest : List ℕ) → All (IsMark d) marks
+    → compose_after d a waiting (marks ++ rest) ≡ compose_after d (compose_marks d a waiting marks).0 (compose_marks d a waiting marks).1 rest
 unfolding AreMarks
 compose_over_marks d a waiting marks rest are = compose_after-marks d a waiting marks rest (recursion_from_All (IsMark d) marks are)
 

@@ -1,5 +1,6 @@
 -- The cut and the first offence of a text, and of the text with a continuation.
-use Rattle.std.proofs.Common.{◌≡◌, ◌≢◌, ℕ, zero, suc, ◌≤◌, ◌↔◌, List, [], ◌∷◌, ◌++◌, length, take, drop, inl, inr, refl, sym, ap, subst, ◌∙◌, arith, append_assoc, append-nil, length-append, take-append-drop, length-take-le, take-take, take_at}
+use Rattle.std.proofs.Common.{◌≡◌, ◌≢◌, ℕ, zero, suc, ◌≤◌, ◌↔◌, List, [], ◌∷◌, ◌++◌, length, take, drop, inl, inr, refl, sym, ap, subst, ◌∙◌, arith}
+use Rattle.std.proofs.Common.{append_assoc, append-nil, length-append, take-append-drop, length-take-le, take-take, take_at}
 use Rattle.std.proofs.lemmas.Bool.{cases_eq, cases_lt}
 use Rattle.std.proofs.lemmas.List.{take-append-le}
 use Rattle.normal_forms.specs.Reading.{Reading}
@@ -106,7 +107,8 @@ is_normalized_iff_front d form suits x = (
 )
 
 -- what stands at the front of the form of a longer text stands at the front of its own
-pub normal_form_front_without_continuation : (d : Reading) (form : Form) → SuitsForm d form → (q r t : List ℕ) → IsFront q (normal_form d form (q ++ (r ++ t))) → IsFront q (normal_form d form (q ++ r))
+pub normal_form_front_without_continuation : (d : Reading) (form : Form) → SuitsForm d form → (q r t : List ℕ) → IsFront q (normal_form d form (q ++ (r ++ t)))
+    → IsFront q (normal_form d form (q ++ r))
 normal_form_front_without_continuation d form suits q r t front =
     let without =
     front_without_continuation (pairs_for d form) (pairs_for-full d form suits) (pairs_for-faithful d form suits) q r t
@@ -155,7 +157,8 @@ pub qualifies_iff : (d : Reading) (form : Form) → SuitsForm d form → (x : Li
 qualifies_iff d form suits x n cut m = (λ q. cut.greatest m q, λ le. smaller_qualifies d form suits x m n le cut.qualifies)
 
 -- the cut is the length of the longest common front of the text and its form
-pub cut_iff_longest : (d : Reading) (form : Form) → SuitsForm d form → (x : List ℕ) (n : ℕ) → IsCut d form x n ↔ (IsCommonFront x (normal_form d form x) n × ((m : ℕ) → IsCommonFront x (normal_form d form x) m → m ≤ n))
+pub cut_iff_longest : (d : Reading) (form : Form) → SuitsForm d form → (x : List ℕ) (n : ℕ)
+    → IsCut d form x n ↔ (IsCommonFront x (normal_form d form x) n × ((m : ℕ) → IsCommonFront x (normal_form d form x) m → m ≤ n))
 cut_iff_longest d form suits x n = (
   λ cut. ((cut_iff d form suits x n).0 cut.qualifies, λ m front. cut.greatest m ((cut_iff d form suits x m).1 front)),
   λ longest. record {
@@ -189,7 +192,8 @@ found_differs d form suits x place found wanted offence same =
 -- ---- continuations
 
 -- a common front of a longer text and its form is one of the text, as far as that goes
-common_front_without_continuation : (d : Reading) (form : Form) → SuitsForm d form → (x y : List ℕ) (n : ℕ) → n ≤ length x → IsCommonFront (x ++ y) (normal_form d form (x ++ y)) n → IsFront (take n x) (normal_form d form x)
+common_front_without_continuation : (d : Reading) (form : Form) → SuitsForm d form → (x y : List ℕ) (n : ℕ) → n ≤ length x
+    → IsCommonFront (x ++ y) (normal_form d form (x ++ y)) n → IsFront (take n x) (normal_form d form x)
 common_front_without_continuation d form suits x y n within front =
     let text : x ++ y ≡ take n x ++ (drop n x ++ y) =
     ap (λ l. l ++ y) (sym (take-append-drop n x)) ∙ append_assoc (take n x) (drop n x) y in
@@ -226,7 +230,8 @@ continued_cut d form suits x y n m differs cut longer =
     ]
 
 -- where a text has a first offence, it has one no later with every continuation
-pub continued_offence : (d : Reading) (form : Form) → SuitsForm d form → HasInhabitedLists d → (x y : List ℕ) (place found wanted : ℕ) → IsFirstOffence d form x place found wanted → (place' : ℕ) × (found' : ℕ) × (wanted' : ℕ) × IsFirstOffence d form (x ++ y) place' found' wanted' × (place' ≤ place)
+pub continued_offence : (d : Reading) (form : Form) → SuitsForm d form → HasInhabitedLists d → (x y : List ℕ) (place found wanted : ℕ)
+    → IsFirstOffence d form x place found wanted → (place' : ℕ) × (found' : ℕ) × (wanted' : ℕ) × IsFirstOffence d form (x ++ y) place' found' wanted' × (place' ≤ place)
 continued_offence d form suits inhabited x y place found wanted offence =
     let longer = offence_of d form inhabited (x ++ y) (continued_differs d form suits x y offence.differs) in
     (longer.0, longer.1, longer.2, longer.3, continued_cut d form suits x y place longer.0 offence.differs offence.cut longer.3.cut)

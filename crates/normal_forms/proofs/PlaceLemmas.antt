@@ -1,5 +1,6 @@
 -- The cut and the first offence of a text over any reading: what asks nothing of it, or inhabited lists alone.
-use Rattle.std.proofs.Common.{◌≡◌, ◌≢◌, ℕ, zero, suc, ◌<◌, ◌≤◌, ◌⊎◌, ◌↔◌, List, [], ◌∷◌, ◌++◌, length, take, drop, Option, Some, None, slice_get, inl, inr, refl, sym, ap, subst, ◌∙◌, arith, append-nil, take-append-drop, length-take-le, drop_of_length-le}
+use Rattle.std.proofs.Common.{◌≡◌, ◌≢◌, ℕ, zero, suc, ◌<◌, ◌≤◌, ◌⊎◌, ◌↔◌, List, [], ◌∷◌, ◌++◌, length, take, drop, Option, Some, None, slice_get, inl}
+use Rattle.std.proofs.Common.{inr, refl, sym, ap, subst, ◌∙◌, arith, append-nil, take-append-drop, length-take-le, drop_of_length-le}
 use Rattle.std.proofs.lemmas.Bool.{cases_eq, cases_lt}
 use Rattle.std.proofs.Math.Seq.{drop-length, take-length}
 use Rattle.normal_forms.specs.Reading.{Reading}
@@ -165,7 +166,8 @@ offence_of d form inhabited x differs =
 first_unique : (x : List ℕ) (a b : ℕ) → IsFirst x a → IsFirst x b → a ≡ b
 first_unique x a b first second = let same = sym first.1 ∙ second.1 in cc
 
-pub offence_unique : (d : Reading) (form : Form) (x : List ℕ) (place found wanted place' found' wanted' : ℕ) → IsFirstOffence d form x place found wanted → IsFirstOffence d form x place' found' wanted' → (place ≡ place') × (found ≡ found') × (wanted ≡ wanted')
+pub offence_unique : (d : Reading) (form : Form) (x : List ℕ) (place found wanted place' found' wanted' : ℕ) → IsFirstOffence d form x place found wanted
+    → IsFirstOffence d form x place' found' wanted' → (place ≡ place') × (found ≡ found') × (wanted ≡ wanted')
 offence_unique d form x place found wanted place' found' wanted' a b =
     let same : place ≡ place' = cut_unique d form x place place' a.cut b.cut in (
       same,

@@ -35,7 +35,8 @@ module _ (d : Reading) (P : ℕ → Type 0) where
         let rest = All-tail P a between all in
         either (joined d a between c) (λ r joins. kept a c r first one (joined_is_pair a between c r joins)) first rest (All-visit between c rest one)
       where
-        either : (o : Option ℕ) → ((r : ℕ) → o ≡ Some r → P r) → P a → All P between → All P (visit d between c) → All P (elim o as (λ _. List ℕ) [ Some composite ↦ composite ∷ between | None ↦ a ∷ visit d between c ])
+        either : (o : Option ℕ) → ((r : ℕ) → o ≡ Some r → P r) → P a → All P between → All P (visit d between c)
+            → All P (elim o as (λ _. List ℕ) [ Some composite ↦ composite ∷ between | None ↦ a ∷ visit d between c ])
         either (Some r) result first rest further = All-cons P r between (result r refl) rest
         either None result first rest further = All-cons P a (visit d between c) first further
 

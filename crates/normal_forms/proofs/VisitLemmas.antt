@@ -9,7 +9,9 @@ use Rattle.normal_forms.specs.CompositionByStarters.{is_above, join, compose_aft
 use Rattle.normal_forms.specs.Forms.{Form, Decomposing, Composing, nfd, nfc, normal_form}
 use Rattle.normal_forms.specs.Hypotheses.{HasStarterResults, HasFullLists, HasFaithfulResults, HasInhabitedLists, SuitsForm}
 use Rattle.normal_forms.proofs.OrderLemmas.{AreMarks}
-use Rattle.normal_forms.proofs.ComposeLemmas.{composed_form, IsSecondInNoPair, starter_or_mark, is_starter-true, is_starter-false, AreMarks-push, join-some, join-none, compose_after-nil, compose_after-cases, compose_after-starter, compose_after-mark, compose_by_starters-nil, compose_by_starters-starter, compose_by_starters-mark}
+use Rattle.normal_forms.proofs.ComposeLemmas.{composed_form, IsSecondInNoPair, starter_or_mark, is_starter-true, is_starter-false, AreMarks-push}
+use Rattle.normal_forms.proofs.ComposeLemmas.{join-some, join-none, compose_after-nil, compose_after-cases, compose_after-starter, compose_after-mark}
+use Rattle.normal_forms.proofs.ComposeLemmas.{compose_by_starters-nil, compose_by_starters-starter, compose_by_starters-mark}
 
 is_blocked_by_starter : (d : Reading) (out : List ℕ) (a : ℕ) (p : List ℕ) (c : ℕ) → IsStarter d a → is_blocked d (out ++ a ∷ p) c ≡ true
 unfolding is_blocked

@@ -169,7 +169,8 @@ module _ (e : Encoding) (d : Reading) (form : Form) (units : List ℕ) where
 
     -- the step in front has the first character
     pub found_at : (rest : List ℕ) (s : Step) → IsFirstStep (first_in e) rest s → IsFirst (decoded_in e rest) s.character
-    found_at rest s first = (decoded_in e (drop (first_in e rest).width rest), decoded-some (first_in e) (IsDecoding-first e) rest first.some ∙ ap (λ t. t.character ∷ decoded_in e (drop (first_in e rest).width rest)) (sym first.is))
+    found_at rest s first = (decoded_in e (drop (first_in e rest).width rest), decoded-some (first_in e) (IsDecoding-first e) rest first.some
+        ∙ ap (λ t. t.character ∷ decoded_in e (drop (first_in e rest).width rest)) (sym first.is))
 
 -- nothing is answered exactly where the units are well-formed and their own form
 pub is_none_iff_normalized : (e : Encoding) (d : Reading) (form : Form) (units : List ℕ) (cut : Option ℕ) (r : Bool) → is_some cut ≡ not r → IsCutUnlessNormalized e d form units cut
@@ -180,7 +181,8 @@ is_none_iff_normalized e d form units (Some place) true is h = absurd (cc)
 is_none_iff_normalized e d form units (Some place) false is h = (λ k. (let no : false ≡ true = k in cc), λ own. absurd (h.0 own))
 
 -- an offence lasts
-pub IsLastingOffence-found : (m : MadeForm) (e : Encoding) (units : List ℕ) → SuitsTexts m.reading m.form → (answer : Option Offence) → IsInputOffenceOf e m.reading m.form units answer → IsLastingOffence m e units answer
+pub IsLastingOffence-found : (m : MadeForm) (e : Encoding) (units : List ℕ) → SuitsTexts m.reading m.form → (answer : Option Offence)
+    → IsInputOffenceOf e m.reading m.form units answer → IsLastingOffence m e units answer
 IsLastingOffence-found m e units suits answer h = record {
   offence = h;
   differ = λ o is. input_found_differs e m.reading m.form suits.laws units o.place o.found o.wanted (subst (IsInputOffenceOf e m.reading m.form units) is h);

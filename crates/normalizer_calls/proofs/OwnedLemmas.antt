@@ -48,7 +48,8 @@ decomposed_form d Decomposing suits x = normal_form-normal_form d Decomposing su
 decomposed_form d Composing suits x = nfd-nfc d suits.laws x
 
 -- the form, encoded, is the form of the units
-pub IsEncodedFormOf-encoded : (m : MadeForm) (e : Encoding) (units : List ℕ) → SuitsTexts m.reading m.form → (content : List ℕ) → content ≡ encoded_form e m.reading m.form units → IsEncodedFormOf m e units content
+pub IsEncodedFormOf-encoded : (m : MadeForm) (e : Encoding) (units : List ℕ) → SuitsTexts m.reading m.form → (content : List ℕ)
+    → content ≡ encoded_form e m.reading m.form units → IsEncodedFormOf m e units content
 IsEncodedFormOf-encoded m e units suits content is =
     let d = m.reading in
     let x : List ℕ = decoded_in e units in
@@ -90,7 +91,8 @@ module _ {S : Type 0} (taken : S → List ℕ) (m : MadeForm) (e : Encoding) (un
   }
 
 -- what was handed out
-module _ {S A : Type 0} (content : A → List ℕ) (IsBorrowed : A → Type 0) (taken : S → List ℕ) (m : MadeForm) (e : Encoding) (units : List ℕ) (old new : S) (own : Bool) (wrote : WroteUnlessOwn taken m e units old own new) (z : A) where
+module _ {S A : Type 0} (content : A → List ℕ) (IsBorrowed : A → Type 0) (taken : S → List ℕ) (m : MadeForm) (e : Encoding) (units : List ℕ) (old new : S)
+    (own : Bool) (wrote : WroteUnlessOwn taken m e units old own new) (z : A) where
   pub HandsOutForm-borrowed : IsTrue own → content z ≡ units → IsBorrowed z → HandsOutForm content IsBorrowed m e units (Ok z)
   HandsOutForm-borrowed is same borrowed = record {
     form = subst (IsEncodedFormOf m e units) (sym same) (wrote.kept is);

@@ -112,14 +112,16 @@ module _ (m : MadeForm) (text : List ℕ) (utf8 : IsUtf8 text) where
     form_is_text = IsText-normal_form m.reading m.form texts.texts texts.scalars (decoded_utf8 text) (decoded-IsText first_of_utf8 (IsDecoding-first Encoding.Utf8) text)
 
     content_utf8 : IsUtf8 (cow_str_bytes z)
-    content_utf8 = IsUtf8-IsWellFormed (cow_str_bytes z) (subst (IsWellFormed first_of_utf8) (sym h.encoded) (DecodesBack-in Encoding.Utf8 (normal_form m.reading m.form (decoded_utf8 text)) form_is_text).well_formed)
+    content_utf8 = IsUtf8-IsWellFormed (cow_str_bytes z) (subst (IsWellFormed first_of_utf8) (sym h.encoded)
+        (DecodesBack-in Encoding.Utf8 (normal_form m.reading m.form (decoded_utf8 text)) form_is_text).well_formed)
 
     form_of_text : IsFormOf m (chars text) (chars (cow_str_bytes z))
     form_of_text =
         subst (λ y. IsFormOf m y (chars (cow_str_bytes z))) (decoded-chars text utf8)
         (subst (IsFormOf m (decoded_utf8 text)) (decoded-chars (cow_str_bytes z) content_utf8) h.text)
 
-  pub HandsOutFormOfText-bytes : SuitsTexts m.reading m.form → (answer : Result (CowStr Global) NormalizeError) → HandsOutForm cow_str_bytes IsBorrowedStr m Encoding.Utf8 text answer → HandsOutFormOfText m (chars text) answer
+  pub HandsOutFormOfText-bytes : SuitsTexts m.reading m.form → (answer : Result (CowStr Global) NormalizeError) → HandsOutForm cow_str_bytes IsBorrowedStr m Encoding.Utf8 text answer
+      → HandsOutFormOfText m (chars text) answer
   HandsOutFormOfText-bytes suits answer h =
       let is = decoded-chars text utf8 in
       record {

@@ -19,7 +19,8 @@ use Rattle.normalizer_calls.specs.Writing.{TellsLengthFirst, TookBeginning, Writ
 use Rattle.normalizer_calls.specs.inner.Writing.{WritesText}
 
 -- a beginning was written of what an iterator gives from `start`, and it has come to `items`
-pub record WroteSoFar {S I : Type 0} (e : Encoding) (taken : S → List ℕ) (refused : S → S → Type 0) (gives : I → Option (Result ℕ NormalizeError) → I → Type 0) (start : I) (old : S) (items : I) (now : S) : Type 0 where
+pub record WroteSoFar {S I : Type 0} (e : Encoding) (taken : S → List ℕ) (refused : S → S → Type 0) (gives : I → Option (Result ℕ NormalizeError) → I → Type 0)
+    (start : I) (old : S) (items : I) (now : S) : Type 0 where
   pub text : (x : List ℕ) → SpellsUnless gives Memory start x → (b : TookBeginning e taken x old now) × SpellsUnless gives Memory items b.rest
   pub ahead : (later : S) → refused now later → refused old later
   pub room : (x : List ℕ) → SpellsOk gives start x → (rest : List ℕ) × SpellsOk gives items rest
@@ -34,7 +35,8 @@ module _ {S I : Type 0} (e : Encoding) (taken : S → List ℕ) (refused left : 
 
   module _ (start : I) (old : S) (items next : I) (now new : S) (before : WroteSoFar e taken refused gives start old items now) where
     -- one more character was written
-    pub WroteSoFar-more : (c : ℕ) → gives items (Some (Ok c)) next → AnswersUnits taken refused left refuses now (encoded_in e (c ∷ [])) (Ok tt) new → WroteSoFar e taken refused gives start old next new
+    pub WroteSoFar-more : (c : ℕ) → gives items (Some (Ok c)) next → AnswersUnits taken refused left refuses now (encoded_in e (c ∷ [])) (Ok tt) new
+        → WroteSoFar e taken refused gives start old next new
     WroteSoFar-more c step answer = record {
       text = λ x h.
           let so_far = before.text x h in
@@ -56,7 +58,8 @@ module _ {S I : Type 0} (e : Encoding) (taken : S → List ℕ) (refused left : 
     }
 
     -- a character was refused
-    pub WritesText-refused : {offered : List ℕ → List ℕ → Type 0} → (c : ℕ) (refusal : SinkError) → gives items (Some (Ok c)) next → AnswersUnits taken refused left refuses now (encoded_in e (c ∷ [])) (Err refusal) new
+    pub WritesText-refused : {offered : List ℕ → List ℕ → Type 0} → (c : ℕ) (refusal : SinkError) → gives items (Some (Ok c)) next
+        → AnswersUnits taken refused left refuses now (encoded_in e (c ∷ [])) (Err refusal) new
         → (x : List ℕ) → SpellsUnless gives Memory start x → WritesText e taken refused left refuses offered x old (Err Sink) new
     WritesText-refused c refusal step answer x h =
         let so_far = before.text x h in
@@ -79,7 +82,8 @@ module _ {S I : Type 0} (e : Encoding) (taken : S → List ℕ) (refused left : 
 
   module _ (start : I) (old : S) (items next : I) (now : S) (before : WroteSoFar e taken refused gives start old items now) where
     -- the iterator gave an error
-    pub WritesText-fault : {offered : List ℕ → List ℕ → Type 0} → (fault : NormalizeError) → gives items (Some (Err fault)) next → (x : List ℕ) → SpellsUnless gives Memory start x → WritesText e taken refused left refuses offered x old (Err fault) now
+    pub WritesText-fault : {offered : List ℕ → List ℕ → Type 0} → (fault : NormalizeError) → gives items (Some (Err fault)) next → (x : List ℕ)
+        → SpellsUnless gives Memory start x → WritesText e taken refused left refuses offered x old (Err fault) now
     WritesText-fault fault step x h =
         let so_far = before.text x h in
         let memory = (SpellsUnless-fault gives Memory items next fault so_far.0.rest step so_far.1).0 in
@@ -90,7 +94,8 @@ module _ {S I : Type 0} (e : Encoding) (taken : S → List ℕ) (refused left : 
     WroteSoFar-room fault step x h = let so_far = before.room x h in SpellsOk-no_fault gives items next fault so_far.0 step so_far.1
 
     -- no character was left
-    pub WritesText-all : {offered : List ℕ → List ℕ → Type 0} → gives items None next → (x : List ℕ) → SpellsUnless gives Memory start x → WritesText e taken refused left refuses offered x old (Ok tt) now
+    pub WritesText-all : {offered : List ℕ → List ℕ → Type 0} → gives items None next → (x : List ℕ) → SpellsUnless gives Memory start x
+        → WritesText e taken refused left refuses offered x old (Ok tt) now
     WritesText-all step x h =
         let so_far = before.text x h in
         let b = so_far.0 in
@@ -103,14 +108,16 @@ module _ {S I : Type 0} (e : Encoding) (taken : S → List ℕ) (refused left : 
         }
 
 -- the same text was written
-pub WritesText-same : {S : Type 0} {offered : List ℕ → List ℕ → Type 0} (e : Encoding) (taken : S → List ℕ) (refused left : S → S → Type 0) (refuses : S → List ℕ → Type 0) (x y : List ℕ) (old : S) (answer : Result ⊤ NormalizeError) (new : S)
+pub WritesText-same : {S : Type 0} {offered : List ℕ → List ℕ → Type 0} (e : Encoding) (taken : S → List ℕ) (refused left : S → S → Type 0)
+    (refuses : S → List ℕ → Type 0) (x y : List ℕ) (old : S) (answer : Result ⊤ NormalizeError) (new : S)
     → x ≡ y → WritesText e taken refused left refuses offered x old answer new → WritesText e taken refused left refuses offered y old answer new
 WritesText-same {offered = offered} e taken refused left refuses x y old answer new same h = subst (λ z. WritesText e taken refused left refuses offered z old answer new) same h
 
 -- what comes behind a hint
 module _ {S : Type 0} (e : Encoding) (taken : S → List ℕ) (refused left : S → S → Type 0) (refuses : S → List ℕ → Type 0) (hinted : S → ℕ → Result ⊤ SinkError → S → Type 0) (old : S) (n : ℕ) where
   -- where it was refused, nothing was written
-  pub WritesText-untold : {offered : List ℕ → List ℕ → Type 0} → (refusal : SinkError) (new : S) → AnswersHint taken refused left refuses hinted old n (Err refusal) new → (text : List ℕ) → WritesText e taken refused left refuses offered text old (Err Sink) new
+  pub WritesText-untold : {offered : List ℕ → List ℕ → Type 0} → (refusal : SinkError) (new : S) → AnswersHint taken refused left refuses hinted old n (Err refusal) new
+      → (text : List ℕ) → WritesText e taken refused left refuses offered text old (Err Sink) new
   WritesText-untold refusal new told text =
       let nothing = encoded_in-nil e in record {
         written = tt;
@@ -129,7 +136,8 @@ module _ {S : Type 0} (e : Encoding) (taken : S → List ℕ) (refused left : S 
         begun = λ k. absurd (cc);
       }
 
-  pub TellsLengthFirst-untold : (len : ℕ) → n ≡ len → (refusal : SinkError) (new : S) → AnswersHint taken refused left refuses hinted old n (Err refusal) new → TellsLengthFirst taken hinted len old (Err Sink) new
+  pub TellsLengthFirst-untold : (len : ℕ) → n ≡ len → (refusal : SinkError) (new : S) → AnswersHint taken refused left refuses hinted old n (Err refusal) new
+      → TellsLengthFirst taken hinted len old (Err Sink) new
   TellsLengthFirst-untold len is refusal new told = record { hint = Err refusal; state = new; first = subst (λ k. hinted old k (Err refusal) new) is told.hint; stops = (refl, refl, told.none) }
 
   -- where it was taken, the rest is as if nothing had come before
@@ -137,14 +145,16 @@ module _ {S : Type 0} (e : Encoding) (taken : S → List ℕ) (refused left : S 
     TookBeginning-told : (text : List ℕ) (to : S) → TookBeginning e taken text mid to → TookBeginning e taken text old to
     TookBeginning-told text to b = record { front = b.front; rest = b.rest; parts = b.parts; took = b.took ∙ ap (λ units. units ++ encoded_in e b.front) told.none }
 
-    pub WritesText-told : {offered : List ℕ → List ℕ → Type 0} → (text : List ℕ) → WritesText e taken refused left refuses offered text mid answer new → WritesText e taken refused left refuses offered text old answer new
+    pub WritesText-told : {offered : List ℕ → List ℕ → Type 0} → (text : List ℕ) → WritesText e taken refused left refuses offered text mid answer new
+        → WritesText e taken refused left refuses offered text old answer new
     unfolding TookBeginning-told
     WritesText-told text h = record {
       written = IfOk-weaker answer _ _ (λ _ w. w ∙ ap (λ units. units ++ encoded_in e text) told.none) h.written;
       ahead = IfOk-weaker answer _ _ (λ _ ahead later r. told.units.written.ahead later (ahead later r)) h.ahead;
       fault = λ is. told.units.written.ahead new (h.fault is);
       refusal = λ is. let r = h.refusal is in
-          record { before = r.before; beginning = TookBeginning-told text r.before r.beginning; piece = r.piece; kind = r.kind; rest = r.rest; goes_on = r.goes_on; known = r.known; leaves = r.leaves };
+          record { before = r.before; beginning = TookBeginning-told text r.before r.beginning; piece = r.piece; kind = r.kind; rest = r.rest; goes_on
+              = r.goes_on; known = r.known; leaves = r.leaves };
       begun = λ is. TookBeginning-told text new (h.begun is);
     }
 
@@ -152,12 +162,15 @@ module _ {S : Type 0} (e : Encoding) (taken : S → List ℕ) (refused left : S 
     TellsLengthFirst-told len is = record { hint = Ok tt; state = mid; first = subst (λ k. hinted old k (Ok tt) mid) is told.hint; stops = tt }
 
 -- the form was written, whose text is the form of x
-pub WritesForm-text : {S : Type 0} {offered : List ℕ → List ℕ → Type 0} (e : Encoding) (taken : S → List ℕ) (refused left : S → S → Type 0) (refuses : S → List ℕ → Type 0) (has_class_form : ℕ → Bool) (d : Reading) (form : Form) (x y : List ℕ) (old : S) (answer : Result ⊤ NormalizeError) (new : S)
-    → x ≡ y → WritesText e taken refused left refuses offered (normal_form d form x) old answer new → (HasShortRuns has_class_form d x → ¬ IsErrOf answer Memory) → WritesForm e taken refused left has_class_form d form y old answer new
+pub WritesForm-text : {S : Type 0} {offered : List ℕ → List ℕ → Type 0} (e : Encoding) (taken : S → List ℕ) (refused left : S → S → Type 0)
+    (refuses : S → List ℕ → Type 0) (has_class_form : ℕ → Bool) (d : Reading) (form : Form) (x y : List ℕ) (old : S) (answer : Result ⊤ NormalizeError) (new : S)
+    → x ≡ y → WritesText e taken refused left refuses offered (normal_form d form x) old answer new → (HasShortRuns has_class_form d x → ¬ IsErrOf answer Memory)
+        → WritesForm e taken refused left has_class_form d form y old answer new
 WritesForm-text {S = S} {offered = offered} e taken refused left refuses has_class_form d form x y old answer new same h room =
     subst (λ z. WritesForm e taken refused left has_class_form d form z old answer new) same (record { written = h.written; fault = h.fault; room = room; begun = begun answer h })
   where
-    begun : (answer : Result ⊤ NormalizeError) → WritesText e taken refused left refuses offered (normal_form d form x) old answer new → OnErr answer (((s t : S) → left s t → TakesNothing taken s t) → TookBeginning e taken (normal_form d form x) old new)
+    begun : (answer : Result ⊤ NormalizeError) → WritesText e taken refused left refuses offered (normal_form d form x) old answer new
+        → OnErr answer (((s t : S) → left s t → TakesNothing taken s t) → TookBeginning e taken (normal_form d form x) old new)
     begun (Ok done) h = tt
     begun (Err Memory) h = λ _. h.begun refl
     begun (Err Sink) h = λ keeps.

@@ -27,7 +27,8 @@ use Rattle.normalizer_packing.specs.ReadBack.{characters_of}
 use Rattle.normalizer_builder.proofs.FitData.{fit_kind}
 
 -- a constructor that can't refuse what is held refuses nothing but memory
-pub IsOkUnless-memory : {A : Type 0} (Refuses : DataError → Type 0) → ((e : DataError) → ¬ Refuses e) → (r : Result A DataError) → IfErr r (λ e. (e ≡ error.Memory) ⊎ Refuses e) → IsOkUnless r error.Memory
+pub IsOkUnless-memory : {A : Type 0} (Refuses : DataError → Type 0) → ((e : DataError) → ¬ Refuses e) → (r : Result A DataError)
+    → IfErr r (λ e. (e ≡ error.Memory) ⊎ Refuses e) → IsOkUnless r error.Memory
 IsOkUnless-memory Refuses never (Ok a) h = tt
 IsOkUnless-memory Refuses never (Err e) (inl h) = h
 IsOkUnless-memory Refuses never (Err e) (inr refuses) = absurd (never e refuses)

@@ -7,4 +7,5 @@ pub returns-then-branch : goal.returns-then-branch
 returns-then-branch g c = HandsOutForm-borrowed cow_slice_items IsBorrowedSlice (λ v. v.items) _ _ _ _ _ _ c.in_ok-write_unless_own.ensures.wrote _ c.if-branch.true refl tt
 
 pub returns : goal.returns
-returns g c = HandsOutForm-owned cow_slice_items IsBorrowedSlice (λ v. v.items) _ _ _ _ _ _ c.in_ok-write_unless_own.ensures.wrote _ c.if-branch.false c.new-owned.ensures.items refl (λ borrowed. borrowed)
+returns g c = HandsOutForm-owned cow_slice_items IsBorrowedSlice (λ v. v.items) _ _ _ _ _ _ c.in_ok-write_unless_own.ensures.wrote _ c.if-branch.false
+    c.new-owned.ensures.items refl (λ borrowed. borrowed)

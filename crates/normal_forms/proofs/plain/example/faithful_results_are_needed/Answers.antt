@@ -1,4 +1,5 @@
-use Rattle.normal_forms.proofs.UnfaithfulExample.{HasFullLists-unfaithful, HasStarterResults-unfaithful, HasInhabitedLists-unfaithful, IsFront-unfaithful, apart-unfaithful, whole-unfaithful, first-unfaithful}
+use Rattle.normal_forms.proofs.UnfaithfulExample.{HasFullLists-unfaithful, HasStarterResults-unfaithful, HasInhabitedLists-unfaithful}
+use Rattle.normal_forms.proofs.UnfaithfulExample.{IsFront-unfaithful, apart-unfaithful, whole-unfaithful, first-unfaithful}
 use Rattle.normal_forms.proofs.plain.example.faithful_results_are_needed.Goals as goal
 
 pub returns : goal.returns
