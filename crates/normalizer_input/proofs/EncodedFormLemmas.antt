@@ -12,15 +12,14 @@ use Rattle.normal_forms.specs.Forms.{normal_form, IsNormalized}
 use Rattle.normal_forms.specs.Hypotheses.{HasInhabitedLists, SuitsForm}
 use Rattle.normal_forms.specs.Cut.{IsCommonFront, IsFront}
 use Rattle.normal_forms.proofs.OffenceLemmas.{common_front_from, offered_front_is_normalized}
-use Rattle.normalizer_text.specs.declared.step.Step.{Step}
-use Rattle.normalizer_text.specs.Steps.{steps, width_of, IsWellFormed, IsBoundary}
+use Rattle.normalizer_text.specs.Steps.{IsWellFormed, IsBoundary}
 use Rattle.normalizer_text.specs.Encodings.{Encoding, first_in, encoded_in, decoded_in}
 use Rattle.normalizer_text.proofs.EncodingRules.{IsDecoding-first, DecodesBack-in, encoded-decoded, encoded-append}
-use Rattle.normalizer_text.proofs.StepLemmas.{decoded-IsText, steps-append, decoded-append}
-use Rattle.normalizer_text.proofs.BoundaryLemmas.{width_of-steps, boundary-le, boundary-end, steps-take-drop, decoded-take-drop}
+use Rattle.normalizer_text.proofs.StepLemmas.{decoded-IsText}
+use Rattle.normalizer_text.proofs.BoundaryLemmas.{boundary-end, decoded-take-drop}
 use Rattle.normalizer_input.specs.InputCut.{IsInputNormalized, IsInputCut, characters_before, IsErrorFreeBoundary}
 use Rattle.normalizer_input.specs.EncodedForm.{encoded_form, IsEncodedFront}
-use Rattle.normalizer_input.proofs.InputBoundaryLemmas.{length-decoded, decoded-parts, boundary_of_front, front_of_boundary}
+use Rattle.normalizer_input.proofs.InputBoundaryLemmas.{decoded-parts, boundary_of_front, front_of_boundary}
 use Rattle.normalizer_input.proofs.InputCutLemmas.{take-characters_before, boundary-fewer, qualifies_iff_front}
 
 -- the form of each text is a text
@@ -48,7 +47,8 @@ module _ (e : Encoding) (d : Reading) (form : Form) (units : List ℕ) where
 
   -- ---- fronts
 
-  boundary_of_encoded : HasTextForms d form → (n k : ℕ) → IsEncodedFront e d form units n k → IsErrorFreeBoundary e units n × (characters_before e units n ≡ k) × IsCommonFront text form_of_text k
+  -- a front of the form stands at the front of the units exactly where a common front ends at a boundary
+  pub boundary_of_encoded : HasTextForms d form → (n k : ℕ) → IsEncodedFront e d form units n k → IsErrorFreeBoundary e units n × (characters_before e units n ≡ k) × IsCommonFront text form_of_text k
   boundary_of_encoded texts n k f =
       let front : List ℕ = take k form_of_text in
       let back = DecodesBack-in e front (All-take IsScalar k form_of_text (IsText-form texts)) in
@@ -62,7 +62,7 @@ module _ (e : Encoding) (d : Reading) (form : Form) (units : List ℕ) where
             (take-append-drop k form_of_text),
       )
 
-  encoded_of_boundary : (n k : ℕ) → IsErrorFreeBoundary e units n → characters_before e units n ≡ k → IsCommonFront text form_of_text k → IsEncodedFront e d form units n k
+  pub encoded_of_boundary : (n k : ℕ) → IsErrorFreeBoundary e units n → characters_before e units n ≡ k → IsCommonFront text form_of_text k → IsEncodedFront e d form units n k
   encoded_of_boundary n k b count front =
       let at = front_of_boundary e units n b in
       record {
@@ -70,11 +70,6 @@ module _ (e : Encoding) (d : Reading) (form : Form) (units : List ℕ) where
         characters = front.within_second;
         same = ap (encoded_in e) (sym front.same ∙ ap (λ m. take m text) (sym count) ∙ take-characters_before e units n at.1) ∙ encoded-decoded e (take n units) at.1;
       }
-
-  -- a front of the form stands at the front of the units exactly where a common front ends at a boundary
-  pub encoded_iff_boundary : HasTextForms d form → (n k : ℕ)
-      → IsEncodedFront e d form units n k ↔ (IsErrorFreeBoundary e units n × (characters_before e units n ≡ k) × IsCommonFront text form_of_text k)
-  encoded_iff_boundary texts n k = (boundary_of_encoded texts n k, λ b. encoded_of_boundary n k b.0 b.1 b.2)
 
   -- it is a front of the units, and ends where its own units do
   pub encoded_iff_front : (n k : ℕ)
@@ -134,49 +129,32 @@ module _ (e : Encoding) (d : Reading) (form : Form) (units : List ℕ) where
                   let longer = encoded_of_boundary m (characters_before e units m) there.0 refl there.1 in
                   let next = encoded-fewer m (characters_before e units m) (suc k) longer (omega arith) in
                   absurd (stops next.0 next.1)
-              | inr at_most ↦ boundary-fewer e units m n there.0 here.0 (omega (arith, here.1))
+              | inr at_most ↦ boundary-fewer e units m n there.0.boundary here.0.boundary (omega (arith, here.1))
             ];
       }
 
-  pub encoded_at_cut : SuitsForm d form → (n : ℕ) → IsInputCut e d form units n → IsEncodedFront e d form units n (characters_before e units n)
-  encoded_at_cut suits n cut =
-      let here = (qualifies_iff_front e d form suits units n).0 cut.qualifies in
-      encoded_of_boundary n (characters_before e units n) here.0 refl here.1
-
 -- ---- input that is offered piece by piece
-
--- fronts of the same steps with as many steps are the same
-same_front : (p r q t : List Step) → p ++ r ≡ q ++ t → length p ≡ length q → p ≡ q
-same_front p r q t same count = sym (take_at p r (length p) refl) ∙ ap (take (length p)) same ∙ take_at q t (length p) (sym count)
 
 module _ (e : Encoding) (d : Reading) (form : Form) (suits : SuitsForm d form) (inhabited : HasInhabitedLists d) (texts : HasTextForms d form) where
   pub offered_is_normalized : (units : List ℕ) (n : ℕ) → IsBoundary (first_in e) units n → IsFront (encoded_form e d form (take n units)) units → IsInputNormalized e d form (take n units)
   offered_is_normalized units n b offered =
       let x : List ℕ = decoded_in e (take n units) in
       let y : List ℕ = normal_form d form x in
-      let rest : List ℕ = offered.0 in
+      let m = length (encoded_in e y) in
       let back = DecodesBack-in e y (texts x (decoded-IsText (first_in e) (IsDecoding-first e) (take n units))) in
-      let parts : decoded_in e units ≡ y ++ decoded_in e rest =
-      ap (decoded_in e) offered.1 ∙ decoded-append (first_in e) (IsDecoding-first e) (encoded_in e y) rest back.well_formed
-      ∙ ap (λ l. l ++ decoded_in e rest) back.text in
+      let front : take m units ≡ encoded_in e y = ap (take m) offered.1 ∙ take-append_seam (encoded_in e y) offered.0 in
+      let w : IsWellFormed (first_in e) (take m units) = subst (IsWellFormed (first_in e)) (sym front) back.well_formed in
+      let text : decoded_in e (take m units) ≡ y = ap (decoded_in e) front ∙ back.text in
       let own : IsNormalized d form x =
       offered_front_is_normalized d form suits inhabited x (decoded_in e (drop n units))
-      (decoded_in e rest, sym (decoded-take-drop (first_in e) (IsDecoding-first e) units n b) ∙ parts) in
-      -- the front has the steps of the encoded form, and so its units
-      let mine : List Step = steps (first_in e) (take n units) in
-      let its : List Step = steps (first_in e) (encoded_in e y) in
-      let both : mine ++ steps (first_in e) (drop n units) ≡ its ++ steps (first_in e) rest =
-      sym (steps-take-drop (first_in e) (IsDecoding-first e) units n b) ∙ ap (steps (first_in e)) offered.1
-      ∙ steps-append (first_in e) (IsDecoding-first e) (encoded_in e y) rest back.well_formed in
-      let count : length mine ≡ length its =
-      sym (length-decoded e (take n units)) ∙ ap length (sym own ∙ sym back.text) ∙ length-decoded e (encoded_in e y) in
-      let width : length (encoded_in e y) ≡ n =
-      sym (width_of-steps (first_in e) (IsDecoding-first e) (encoded_in e y))
-      ∙ ap width_of (sym (same_front mine (steps (first_in e) (drop n units)) its (steps (first_in e) rest) both count))
-      ∙ width_of-steps (first_in e) (IsDecoding-first e) (take n units)
-      ∙ length-take-le n units (boundary-le (first_in e) (IsDecoding-first e) units n b) in
-      let same : take n units ≡ encoded_in e y = ap (take n) offered.1 ∙ take_at (encoded_in e y) rest n width in
-      record { well_formed = subst (IsWellFormed (first_in e)) (sym same) back.well_formed; own = own }
+      (decoded_in e (drop m units), sym (decoded-take-drop (first_in e) (IsDecoding-first e) units n b) ∙ decoded-parts e units m w ∙ ap (λ l. l ++ decoded_in e (drop m units)) text) in
+      -- as many characters stand before the two boundaries
+      let there = (boundary_of_front e units m (omega (arith, ap length offered.1, length-append (encoded_in e y) offered.0)) w).boundary in
+      let count : characters_before e units m ≡ characters_before e units n = ap length (text ∙ own) in
+      let low = boundary-fewer e units m n there b (omega arith) in
+      let high = boundary-fewer e units n m b there (omega arith) in
+      let same : m ≡ n = omega arith in
+      record { well_formed = subst (λ k. IsWellFormed (first_in e) (take k units)) same w; own = own }
 
   -- the form of the whole does not end before the units do
   pub form_ends_with_units : (units : List ℕ) → IsFront (encoded_form e d form units) units → encoded_form e d form units ≡ units

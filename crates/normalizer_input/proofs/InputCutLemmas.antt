@@ -1,8 +1,9 @@
 -- The cut of an input of units: by characters it is a cut of the text that the units decode to, or the first error.
-use Rattle.std.proofs.Common.{◌≡◌, ℕ, ◌<◌, ◌≤◌, ◌⊎◌, ◌↔◌, false, List, [], ◌++◌, length}
-use Rattle.std.proofs.Common.{take, drop, inl, inr, refl, sym, ap, subst, ◌∙◌, arith, append-nil, length-append, take-append-drop, drop_of_length-le}
-use Rattle.std.proofs.lemmas.Bool.{cases_lt, true≢false}
-use Rattle.std.proofs.lemmas.List.Elements.{All-head, All-same}
+use Rattle.std.proofs.Common.{◌≡◌, ℕ, ◌+◌, ◌<◌, ◌≤◌, ◌⊎◌, ◌↔◌, false, List, [], ◌∷◌, ◌++◌, length, length-drop, length-take-le}
+use Rattle.std.proofs.Common.{take, drop, inl, inr, refl, sym, ap, subst, ◌∙◌, arith, append_assoc, append-nil, length-append, take-append-drop, drop_of_length-le}
+use Rattle.std.proofs.lemmas.Bool.{cases_Bool, cases_eq, cases_lt}
+use Rattle.std.proofs.lemmas.List.{take_all}
+use Rattle.std.proofs.lemmas.List.Elements.{All-nil, All-cons, All-take, All-append}
 use Rattle.std.proofs.Math.Seq.{take-append_seam, drop-append_seam, take-length, drop-length}
 use Rattle.normal_forms.specs.Reading.{Reading}
 use Rattle.normal_forms.specs.declared.Form.{Form}
@@ -10,58 +11,40 @@ use Rattle.normal_forms.specs.Forms.{normal_form}
 use Rattle.normal_forms.specs.Hypotheses.{SuitsForm}
 use Rattle.normal_forms.specs.Cut.{QualifiesForCut, IsCut, IsCommonFront}
 use Rattle.normal_forms.proofs.OffenceLemmas.{parts_of_form, cut_iff, smaller_qualifies}
-use Rattle.normalizer_text.specs.Steps.{steps, IsWellFormed, width_of}
+use Rattle.normalizer_text.specs.Steps.{steps, IsBoundary, IsWellFormed, width_of}
 use Rattle.normalizer_text.specs.Encodings.{Encoding, first_in, decoded_in}
 use Rattle.normalizer_text.proofs.EncodingRules.{IsDecoding-first}
-use Rattle.normalizer_text.proofs.BoundaryLemmas.{width_of-fewer}
-use Rattle.normalizer_text.proofs.StepLemmas.{decoded-nil, steps-apart}
+use Rattle.normalizer_text.proofs.BoundaryLemmas.{steps-parts, width_of-fewer}
+use Rattle.normalizer_text.proofs.StepLemmas.{decoded-nil, steps-some}
 use Rattle.normal_forms.proofs.PlaceLemmas.{form_of_nothing, same_or_not, greatest_up_to}
 use Rattle.normalizer_input.specs.InputCut.{IsInputNormalized, QualifiesForInputCut, IsInputCut, characters_before, IsErrorFreeBoundary, IsErrorAt}
-use Rattle.normalizer_input.proofs.InputBoundaryLemmas.{AreErrorFree, ErrorFreeFront, AreErrorFree-rest, cases_error_free, longest_error_free, error_free-fewer}
-use Rattle.normalizer_input.proofs.InputBoundaryLemmas.{length-decoded, IsWellFormed-nil, IsWellFormed-append, decoded-parts, boundary_of_front, front_of_boundary, IsErrorAt-steps}
-
-module _ (e : Encoding) (d : Reading) (form : Form) where
-  pub zero_input_qualifies : (units : List ℕ) → QualifiesForInputCut e d form units 0
-  zero_input_qualifies units = record {
-    within = omega arith;
-    well_formed = IsWellFormed-nil e;
-    keeps = ap (λ l. l ++ normal_form d form (decoded_in e units)) (decoded-nil (first_in e));
-  }
-
-  pub input_cut_unique : (units : List ℕ) (m n : ℕ) → IsInputCut e d form units m → IsInputCut e d form units n → m ≡ n
-  input_cut_unique units m n a b =
-      let up = b.greatest m a.qualifies in let down = a.greatest n b.qualifies in omega arith
+use Rattle.normalizer_input.proofs.InputBoundaryLemmas.{cases_error_free}
+use Rattle.normalizer_input.proofs.InputBoundaryLemmas.{length-decoded, IsWellFormed-nil, IsWellFormed-append, decoded-parts, boundary_of_front, front_of_boundary}
 
 module _ (e : Encoding) where
   -- ---- characters before a boundary
 
   -- as many characters stand before a boundary as steps
-  pub characters_before-steps : (units : List ℕ) (n : ℕ) (b : IsErrorFreeBoundary e units n) → characters_before e units n ≡ length b.boundary.before
+  pub characters_before-steps : (units : List ℕ) (n : ℕ) (b : IsBoundary (first_in e) units n) → characters_before e units n ≡ length b.before
   characters_before-steps units n b =
-      let before = b.boundary.before in
-      let same : steps (first_in e) (take (width_of before) units) ≡ before = (steps-apart (first_in e) (IsDecoding-first e) before b.boundary.after units b.boundary.apart).0 in
-      length-decoded e (take n units)
-      ∙ ap (λ k. length (steps (first_in e) (take k units))) (sym b.boundary.taken)
-      ∙ ap length same
+      length-decoded e (take n units) ∙ ap length (steps-parts (first_in e) (IsDecoding-first e) units n b).0
 
   -- of two boundaries the one with fewer characters before it comes first
-  pub boundary-fewer : (units : List ℕ) (m n : ℕ) → IsErrorFreeBoundary e units m → IsErrorFreeBoundary e units n → characters_before e units m ≤ characters_before e units n → m ≤ n
+  pub boundary-fewer : (units : List ℕ) (m n : ℕ) → IsBoundary (first_in e) units m → IsBoundary (first_in e) units n → characters_before e units m ≤ characters_before e units n → m ≤ n
   boundary-fewer units m n a b fewer =
       let ea = characters_before-steps units m a in
       let eb = characters_before-steps units n b in
-      let le =
-      width_of-fewer a.boundary.before a.boundary.after b.boundary.before b.boundary.after
-      (sym a.boundary.apart ∙ b.boundary.apart) (omega arith) in
-      let ta = a.boundary.taken in
-      let tb = b.boundary.taken in
+      let le = width_of-fewer a.before a.after b.before b.after (sym a.apart ∙ b.apart) (omega arith) in
+      let ta = a.taken in
+      let tb = b.taken in
       omega arith
 
   -- no fewer characters stand before the one that comes later
-  pub characters-fewer : (units : List ℕ) (m n : ℕ) → m ≤ n → IsErrorFreeBoundary e units m → IsErrorFreeBoundary e units n → characters_before e units m ≤ characters_before e units n
+  characters-fewer : (units : List ℕ) (m n : ℕ) → m ≤ n → IsErrorFreeBoundary e units m → IsErrorFreeBoundary e units n → characters_before e units m ≤ characters_before e units n
   characters-fewer units m n le a b =
       elim (cases_lt (characters_before e units n) (characters_before e units m)) [
         | inl more ↦
-            let back = boundary-fewer units n m b a (omega arith) in
+            let back = boundary-fewer units n m b.boundary a.boundary (omega arith) in
             let same : m ≡ n = omega arith in
             omega (arith, ap (characters_before e units) same)
         | inr at_most ↦ at_most
@@ -78,34 +61,52 @@ module _ (e : Encoding) where
       let p = decoded_in e (take n units) in
       ap (drop (length p)) (decoded-parts e units n w) ∙ drop-append_seam p (decoded_in e (drop n units))
 
-  characters_before-within : (units : List ℕ) (n : ℕ) → IsWellFormed (first_in e) (take n units) → characters_before e units n ≤ length (decoded_in e units)
-  characters_before-within units n w =
-      let p = decoded_in e (take n units) in
-      let r = decoded_in e (drop n units) in
-      omega (arith, ap length (decoded-parts e units n w), length-append p r)
-
   -- in well-formed units a boundary stands behind each number of characters
-  pub boundary_of_characters : (units : List ℕ) (k : ℕ) → IsWellFormed (first_in e) units → k ≤ length (decoded_in e units)
+  boundary_of_characters : (units : List ℕ) (k : ℕ) → IsWellFormed (first_in e) units → k ≤ length (decoded_in e units)
       → (n : ℕ) × IsErrorFreeBoundary e units n × (characters_before e units n ≡ k)
   boundary_of_characters units k w within =
-      let front = longest_error_free (steps (first_in e) units) k (omega (arith, length-decoded e units)) in
-      let b : IsErrorFreeBoundary e units (width_of front.before) = record {
-        boundary = record { before = front.before; after = front.after; apart = front.apart; taken = refl };
-        error_free = front.error_free;
-      } in (
-        width_of front.before,
-        b,
-        characters_before-steps units (width_of front.before) b
-            ∙ elim front.ends [
-              | inl all ↦ all
-              | inr wrong ↦
-                  let free : AreErrorFree front.after = AreErrorFree-rest front.before front.after (All-same (λ s. s.is_error ≡ false) _ _ (sym front.apart) w) in
-                  absurd (true≢false (sym wrong.is_error ∙ All-head (λ s. s.is_error ≡ false) wrong.error wrong.rest (All-same (λ s. s.is_error ≡ false) _ _ (sym wrong.parts) free)))
-            ],
-      )
+      let ss = steps (first_in e) units in
+      let b : IsErrorFreeBoundary e units (width_of (take k ss)) = record {
+        boundary = record { before = take k ss; after = drop k ss; apart = sym (take-append-drop k ss); taken = refl };
+        error_free = All-take (λ s. s.is_error ≡ false) k ss w;
+      } in
+      (width_of (take k ss), b, characters_before-steps units (width_of (take k ss)) b.boundary ∙ length-take-le k ss (omega (arith, length-decoded e units)))
+
+  -- behind a boundary that no error comes before stands an error, or a further such boundary with one character more before it
+  goes_on : (units : List ℕ) (n : ℕ) → n < length units → IsErrorFreeBoundary e units n
+      → ((m : ℕ) × IsErrorFreeBoundary e units m × (characters_before e units m ≡ characters_before e units n + 1)) ⊎ IsErrorAt e units n
+  goes_on units n inside b =
+      let s = first_in e (drop n units) in
+      elim (cases_Bool s.is_error) [
+        | inl error ↦ inr (record { within = inside; error = error })
+        | inr fine ↦
+            let before = b.boundary.before ++ s ∷ [] in
+            let after = steps (first_in e) (drop s.width (drop n units)) in
+            let behind : b.boundary.after ≡ s ∷ after =
+            sym (steps-parts (first_in e) (IsDecoding-first e) units n b.boundary).1 ∙ steps-some (first_in e) (IsDecoding-first e) (drop n units) (omega (arith, length-drop n units)) in
+            let next : IsErrorFreeBoundary e units (width_of before) = record {
+              boundary = record {
+                before = before;
+                after = after;
+                apart = b.boundary.apart ∙ ap (λ l. b.boundary.before ++ l) behind ∙ sym (append_assoc b.boundary.before (s ∷ []) after);
+                taken = refl;
+              };
+              error_free = All-append (λ s. s.is_error ≡ false) b.boundary.before (s ∷ []) b.error_free (All-cons (λ s. s.is_error ≡ false) s [] fine (All-nil (λ s. s.is_error ≡ false)));
+            } in
+            let count = characters_before-steps units n b.boundary in
+            let count_next = characters_before-steps units (width_of before) next.boundary in
+            inl (width_of before, next, omega (arith, length-append b.boundary.before (s ∷ [])))
+      ]
 
   module _ (d : Reading) (form : Form) where
     -- ---- which numbers qualify
+
+    pub zero_input_qualifies : (units : List ℕ) → QualifiesForInputCut e d form units 0
+    zero_input_qualifies units = record {
+      within = omega arith;
+      well_formed = IsWellFormed-nil e;
+      keeps = ap (λ l. l ++ normal_form d form (decoded_in e units)) (decoded-nil (first_in e));
+    }
 
     -- a number qualifies where it is a boundary at or before the first error, and so many characters as stand before it
     -- qualify for the cut of the decoded text
@@ -115,7 +116,7 @@ module _ (e : Encoding) where
       λ q. (
         boundary_of_front e units n q.within q.well_formed,
         record {
-          within = characters_before-within units n q.well_formed;
+          within = omega (arith, ap length (decoded-parts e units n q.well_formed), length-append (decoded_in e (take n units)) (decoded_in e (drop n units)));
           keeps = rw (take-characters_before units n q.well_formed, drop-characters_before units n q.well_formed) q.keeps;
         },
       ),
@@ -148,6 +149,10 @@ module _ (e : Encoding) where
 
     -- ---- the cut
 
+    pub input_cut_unique : (units : List ℕ) (m n : ℕ) → IsInputCut e d form units m → IsInputCut e d form units n → m ≡ n
+    input_cut_unique units m n a b =
+        let up = b.greatest m a.qualifies in let down = a.greatest n b.qualifies in omega arith
+
     cases_qualifies : (units : List ℕ) (n : ℕ) → QualifiesForInputCut e d form units n ⊎ ¬ QualifiesForInputCut e d form units n
     cases_qualifies units n =
         elim (cases_lt (length units) n) [
@@ -165,64 +170,34 @@ module _ (e : Encoding) where
 
     pub input_cut_exists : (units : List ℕ) → (n : ℕ) × IsInputCut e d form units n
     input_cut_exists units =
-        let found = greatest_up_to (QualifiesForInputCut e d form units) (zero_input_qualifies e d form units) (cases_qualifies units) (length units) in
+        let found = greatest_up_to (QualifiesForInputCut e d form units) (zero_input_qualifies units) (cases_qualifies units) (length units) in
         (found.0, record { qualifies = found.1; greatest = λ m q. found.2 m q.within q })
-
-    -- where the longest error-free front of as many steps as the cut of the text has characters ends, the input is cut
-    cut_at_front : SuitsForm d form → (units : List ℕ) (k : ℕ) → IsCut d form (decoded_in e units) k
-        → (front : ErrorFreeFront (steps (first_in e) units) k)
-        → IsInputCut e d form units (width_of front.before) × ((characters_before e units (width_of front.before) ≡ k) ⊎ IsErrorAt e units (width_of front.before))
-    cut_at_front suits units k cut front =
-        let n = width_of front.before in
-        let b : IsErrorFreeBoundary e units n = record {
-          boundary = record { before = front.before; after = front.after; apart = front.apart; taken = refl };
-          error_free = front.error_free;
-        } in
-        let count = characters_before-steps units n b in
-        let at_most = front.at_most in
-        let q = (qualifies_iff_characters units n).1 (b, smaller_qualifies d form suits (decoded_in e units) (characters_before e units n) k (omega arith) cut.qualifies) in (
-          record {
-            qualifies = q;
-            greatest = λ m other.
-                let o = (qualifies_iff_characters units m).0 other in
-                let low = cut.greatest (characters_before e units m) o.1 in
-                let count_m = characters_before-steps units m o.0 in
-                boundary-fewer units m n o.0 b
-                (elim front.ends [
-                  | inl all ↦ omega arith
-                  | inr wrong ↦
-                      let le =
-                      error_free-fewer front.before wrong.error wrong.rest o.0.boundary.before o.0.boundary.after wrong.is_error
-                      (ap (λ l. front.before ++ l) (sym wrong.parts) ∙ sym front.apart ∙ o.0.boundary.apart) o.0.error_free in
-                      omega arith
-                ]);
-          },
-          elim front.ends [
-            | inl all ↦ inl (omega arith)
-            | inr wrong ↦
-                let rest : steps (first_in e) (drop n units) ≡ front.after = (steps-apart (first_in e) (IsDecoding-first e) front.before front.after units front.apart).1 in
-                inr (IsErrorAt-steps e units n (record { error = wrong.error; rest = wrong.rest; parts = rest ∙ wrong.parts; is_error = wrong.is_error }))
-          ],
-        )
-
-    -- the cut comes at or after the end of each such front
-    pub longest_front : SuitsForm d form → (units : List ℕ) (n : ℕ) → IsInputCut e d form units n → (m : ℕ) → IsErrorFreeBoundary e units m
-        → IsCommonFront (decoded_in e units) (normal_form d form (decoded_in e units)) (characters_before e units m) → m ≤ n
-    longest_front suits units n cut m b front = cut.greatest m ((qualifies_iff_front suits units m).1 (b, front))
-
-    front_to_cut : (units : List ℕ) (k : ℕ) → IsCut d form (decoded_in e units) k → ErrorFreeFront (steps (first_in e) units) k
-    front_to_cut units k cut =
-        longest_error_free (steps (first_in e) units) k (let le = cut.qualifies.within in omega (arith, length-decoded e units))
 
     -- before the cut stand as many characters as before that of the text, or fewer and an error stands at it
     pub cut_ends : SuitsForm d form → (units : List ℕ) (n k : ℕ) → IsInputCut e d form units n → IsCut d form (decoded_in e units) k
         → (characters_before e units n ≤ k) × ((characters_before e units n ≡ k) ⊎ IsErrorAt e units n)
     cut_ends suits units n k input text =
-        let front = front_to_cut units k text in
-        let found = cut_at_front suits units k text front in
-        let same : width_of front.before ≡ n = input_cut_unique e d form units (width_of front.before) n found.0 input in (
-          text.greatest (characters_before e units n) ((qualifies_iff_characters units n).0 input.qualifies).1,
-          subst (λ m. (characters_before e units m ≡ k) ⊎ IsErrorAt e units m) same found.1,
+        let here = (qualifies_iff_characters units n).0 input.qualifies in
+        let at_most = text.greatest (characters_before e units n) here.1 in (
+          at_most,
+          elim (cases_lt (characters_before e units n) k) [
+            | inr enough ↦ inl (omega arith)
+            | inl fewer ↦
+                elim (cases_lt n (length units)) [
+                  | inr all ↦
+                      let most = text.qualifies.within in
+                      absurd (omega (arith, ap (λ u. length (decoded_in e u)) (take_all n units all)))
+                  | inl inside ↦
+                      elim (goes_on units n inside here.0) [
+                        | inr wrong ↦ inr wrong
+                        | inl next ↦
+                            let count = next.2 in
+                            let q = smaller_qualifies d form suits (decoded_in e units) (characters_before e units next.0) k (omega arith) text.qualifies in
+                            let before = input.greatest next.0 ((qualifies_iff_characters units next.0).1 (next.1, q)) in
+                            absurd (omega (arith, characters-fewer units next.0 n before next.1 here.0))
+                      ]
+                ]
+          ],
         )
 
     -- ---- the parts at the cut
@@ -242,12 +217,6 @@ module _ (e : Encoding) where
           own = sym q.keeps ∙ ap (λ l. decoded_in e (take n units) ++ l) rest.own ∙ sym parts;
         }
 
-    IsInputNormalized-nil : IsInputNormalized e d form []
-    IsInputNormalized-nil = record {
-      well_formed = IsWellFormed-nil e;
-      own = ap (normal_form d form) (decoded-nil (first_in e)) ∙ form_of_nothing d form ∙ sym (decoded-nil (first_in e));
-    }
-
     -- an input is its own form exactly where its cut is its length
     pub is_normalized_iff_input_cut : (units : List ℕ) → IsInputNormalized e d form units ↔ IsInputCut e d form units (length units)
     is_normalized_iff_input_cut units = (
@@ -259,25 +228,24 @@ module _ (e : Encoding) where
         };
         greatest = λ m q. q.within;
       },
-      λ cut. normalized_from_rest units (length units) cut.qualifies (subst (IsInputNormalized e d form) (sym (drop-length units)) (IsInputNormalized-nil)),
+      λ cut.
+          let keeps = rw (take-length units, drop-length units, decoded-nil (first_in e), form_of_nothing d form) at cut.qualifies.keeps in
+          record { well_formed = subst (IsWellFormed (first_in e)) (take-length units) cut.qualifies.well_formed; own = sym keeps ∙ append-nil (decoded_in e units) },
     )
 
     -- the rest at the cut is empty or not its own form
     pub rest_at_input_cut : (units : List ℕ) (n : ℕ) → IsInputCut e d form units n → IsInputNormalized e d form (drop n units) → drop n units ≡ []
     rest_at_input_cut units n cut own =
         let whole = (is_normalized_iff_input_cut units).0 (normalized_from_rest units n cut.qualifies own) in
-        let same = input_cut_unique e d form units n (length units) cut whole in
+        let same = input_cut_unique units n (length units) cut whole in
         drop_of_length-le units (omega arith)
 
     -- the cut of an input that is not its own form is below its length
     pub input_cut_below : (units : List ℕ) (n : ℕ) → (IsInputNormalized e d form units → ⊥) → IsInputCut e d form units n → n < length units
     input_cut_below units n differs cut =
-        elim (cases_lt n (length units)) [
-          | inl within ↦ within
-          | inr past ↦
-              let le = cut.qualifies.within in
-              let same : n ≡ length units = omega arith in
-              absurd (differs ((is_normalized_iff_input_cut units).1 (subst (IsInputCut e d form units) same cut)))
+        elim (cases_eq n (length units)) [
+          | inl same ↦ absurd (differs ((is_normalized_iff_input_cut units).1 (subst (IsInputCut e d form units) same cut)))
+          | inr other ↦ let le = cut.qualifies.within in omega arith
         ]
 
     -- ---- well-formed units

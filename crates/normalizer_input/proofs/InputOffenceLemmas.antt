@@ -1,8 +1,8 @@
 -- The first offence of an input of units, and of the input with a continuation.
-use Rattle.std.proofs.Common.{◌≡◌, ◌≢◌, ℕ, ◌<◌, ◌≤◌, ◌⊎◌, ◌↔◌, List, [], ◌∷◌, ◌++◌, length, take, drop}
-use Rattle.std.proofs.Common.{Option, Some, None, slice_get, inl, inr, refl, sym, ap, subst, ◌∙◌, arith, append_assoc, append-nil, length-drop}
-use Rattle.std.proofs.Math.Seq.{take-length, drop-length}
+use Rattle.std.proofs.Common.{◌≡◌, ◌≢◌, ℕ, ◌≤◌, ◌⊎◌, ◌↔◌, List, [], ◌∷◌, ◌++◌, length, take, drop}
+use Rattle.std.proofs.Common.{Option, Some, None, slice_get, inl, inr, refl, sym, ap, subst, ◌∙◌, arith, length-append, length-drop}
 use Rattle.std.proofs.lemmas.Bool.{cases_eq}
+use Rattle.std.proofs.lemmas.List.{take-append-le}
 use Rattle.normal_forms.specs.Reading.{Reading}
 use Rattle.normal_forms.specs.declared.Form.{Form}
 use Rattle.normal_forms.specs.Forms.{normal_form}
@@ -10,21 +10,23 @@ use Rattle.normal_forms.specs.Hypotheses.{HasInhabitedLists, SuitsForm}
 use Rattle.normal_forms.specs.Cut.{QualifiesForCut, IsCut}
 use Rattle.normal_forms.specs.Offence.{IsFirst, IsFirstOffence}
 use Rattle.normal_forms.proofs.OffenceLemmas.{found_differs, parts_of_form, continued_cut}
-use Rattle.normalizer_text.specs.Steps.{steps, IsWellFormed}
+use Rattle.normalizer_text.specs.Steps.{IsWellFormed}
 use Rattle.normalizer_text.specs.Encodings.{Encoding, first_in, decoded_in}
 use Rattle.normalizer_text.proofs.EncodingRules.{IsDecoding-first}
-use Rattle.normalizer_text.proofs.BoundaryLemmas.{width_of-fewer}
-use Rattle.normalizer_text.proofs.StepLemmas.{decoded-some, steps-append, decoded-append}
-use Rattle.normal_forms.proofs.PlaceLemmas.{cut_of, form_of_nothing, form_is_nothing, at_seam}
+use Rattle.normalizer_text.proofs.StepLemmas.{decoded-some, decoded-append}
+use Rattle.normal_forms.proofs.PlaceLemmas.{cut_of, cut_unique, form_is_nothing, normalized_iff_cut, at_seam}
 use Rattle.normalizer_input.specs.InputCut.{IsInputNormalized, IsInputCut, characters_before, IsErrorAt}
 use Rattle.normalizer_input.specs.InputOffence.{IsInputOffence, IsInputOffenceOf}
 use Rattle.normalizer_input.specs.declared.offence.Offence.{Offence}
 use Rattle.normalizer_input.proofs.InputBoundaryLemmas.{IsWellFormed-rest, decoded-parts, boundary_of_front}
-use Rattle.normalizer_input.proofs.InputCutLemmas.{characters_before-steps, drop-characters_before, qualifies_iff_characters, input_cut_exists}
+use Rattle.normalizer_input.proofs.InputCutLemmas.{boundary-fewer, drop-characters_before, qualifies_iff_characters, input_cut_exists}
 use Rattle.normalizer_input.proofs.InputCutLemmas.{input_cut_unique, cut_ends, input_cut_below, is_normalized_iff_input_cut, cut_of_well_formed}
 
 first_unique : (x : List ℕ) (a b : ℕ) → IsFirst x a → IsFirst x b → a ≡ b
 first_unique x a b one two = let same = sym one.1 ∙ two.1 in cc
+
+first_behind : (front rest whole : List ℕ) (c : ℕ) → whole ≡ front ++ rest → IsFirst rest c → slice_get whole (length front) ≡ Some c
+first_behind front rest whole c parts first = ap (λ l. slice_get l (length front)) (parts ∙ ap (λ l. front ++ l) first.1) ∙ at_seam front first.0 (length front) c refl
 
 cases_first : (x : List ℕ) → (x ≡ []) ⊎ ((c : ℕ) × IsFirst x c)
 cases_first [] = inl refl
@@ -41,37 +43,27 @@ module _ (e : Encoding) (d : Reading) (form : Form) where
             (subst (λ n. IsFirst (normal_form d form (decoded_in e (drop n units))) wanted) same a.is_wanted) b.is_wanted,
       )
 
-module _ (e : Encoding) (d : Reading) (form : Form) where
   -- ---- the first offence
-
-  -- units of which there are some decode to some characters
-  decoded-nonempty : (units : List ℕ) → 0 < length units → decoded_in e units ≢ []
-  decoded-nonempty units some none =
-      let parts : (first_in e units).character ∷ decoded_in e (drop (first_in e units).width units) ≡ [] = sym (decoded-some (first_in e) (IsDecoding-first e) units some) ∙ none in cc
 
   pub input_offence_exists : HasInhabitedLists d → (units : List ℕ) → (IsInputNormalized e d form units → ⊥)
       → (place : ℕ) × (found : ℕ) × (wanted : ℕ) × IsInputOffence e d form units place found wanted
   input_offence_exists inhabited units differs =
       let at = input_cut_exists e d form units in
       let below = input_cut_below e d form units at.0 differs at.1 in
-      let rest : List ℕ = decoded_in e (drop at.0 units) in
-      let nonempty : rest ≢ [] = decoded-nonempty (drop at.0 units) (omega (arith, length-drop at.0 units)) in
-      elim (cases_first rest) [
-        | inl none ↦ absurd (nonempty none)
-        | inr found ↦
-            elim (cases_first (normal_form d form rest)) [
-              | inl none ↦ absurd (nonempty (form_is_nothing d form inhabited rest none))
-              | inr wanted ↦
-                  (at.0, found.0, wanted.0, record { differs = differs; cut = at.1; is_found = found.1; is_wanted = wanted.1 })
-            ]
+      let rest : List ℕ = drop at.0 units in
+      let s = first_in e rest in
+      let found : decoded_in e rest ≡ s.character ∷ decoded_in e (drop s.width rest) = decoded-some (first_in e) (IsDecoding-first e) rest (omega (arith, length-drop at.0 units)) in
+      elim (cases_first (normal_form d form (decoded_in e rest))) [
+        | inl none ↦ let nothing = form_is_nothing d form inhabited (decoded_in e rest) none in absurd cc
+        | inr wanted ↦ (
+          at.0,
+          s.character,
+          wanted.0,
+          record { differs = differs; cut = at.1; is_found = (decoded_in e (drop s.width rest), found); is_wanted = wanted.1 },
+        )
       ]
 
   -- ---- the first offence of the decoded text
-
-  -- where a text is its own form, all of its characters qualify for the cut
-  whole_qualifies : {x : List ℕ} → normal_form d form x ≡ x → QualifiesForCut d form x (length x)
-  whole_qualifies {x = x} own =
-      record { within = omega arith; keeps = rw (take-length x, drop-length x, form_of_nothing d form) (append-nil x ∙ sym own) }
 
   -- where as many characters stand before an input offence as before the cut of the text, it is the text's
   text_offence : (units : List ℕ) (place found wanted : ℕ) → IsInputOffence e d form units place found wanted
@@ -83,7 +75,7 @@ module _ (e : Encoding) (d : Reading) (form : Form) where
       let is_found : IsFirst (drop k x) found = subst (λ l. IsFirst l found) (sym rest) offence.is_found in
       record {
         differs = λ own.
-            let most = cut.greatest (length x) (whole_qualifies own) in
+            let whole = cut_unique d form x (length x) k ((normalized_iff_cut d form x).0 own) cut in
             let some : length (drop k x) ≡ length (found ∷ is_found.0) = ap length is_found.1 in
             omega (arith, length-drop k x);
         cut = cut;
@@ -137,21 +129,13 @@ module _ (e : Encoding) (d : Reading) (form : Form) where
       let apart : decoded_in e (units ++ more) ≡ x ++ y = decoded-append (first_in e) (IsDecoding-first e) units more w in
       let text = cut_of_well_formed e d form units n w cut in
       let text_longer = cut_of d form (x ++ y) in
-      let here = boundary_of_front e units n cut.qualifies.within cut.qualifies.well_formed in
+      let same : take n (units ++ more) ≡ take n units = take-append-le n units more cut.qualifies.within in
+      let within = cut.qualifies.within in
+      let here = boundary_of_front e (units ++ more) n (omega (arith, length-append units more)) (subst (IsWellFormed (first_in e)) (sym same) cut.qualifies.well_formed) in
       let there = (qualifies_iff_characters e d form (units ++ more) m).0 longer.qualifies in
-      let within = text_longer.1.greatest (characters_before e (units ++ more) m) (subst (λ l. QualifiesForCut d form l (characters_before e (units ++ more) m)) apart there.1) in
+      let most = text_longer.1.greatest (characters_before e (units ++ more) m) (subst (λ l. QualifiesForCut d form l (characters_before e (units ++ more) m)) apart there.1) in
       let fewer = continued_cut d form suits x y (characters_before e units n) text_longer.0 (λ own. differs (record { well_formed = w; own = own })) text text_longer.1 in
-      let count = characters_before-steps e units n here in
-      let count_longer = characters_before-steps e (units ++ more) m there.0 in
-      let whole : steps (first_in e) (units ++ more) ≡ here.boundary.before ++ (here.boundary.after ++ steps (first_in e) more) =
-      steps-append (first_in e) (IsDecoding-first e) units more w ∙ ap (λ l. l ++ steps (first_in e) more) here.boundary.apart
-      ∙ append_assoc here.boundary.before here.boundary.after (steps (first_in e) more) in
-      let le =
-      width_of-fewer there.0.boundary.before there.0.boundary.after here.boundary.before (here.boundary.after ++ steps (first_in e) more)
-      (sym there.0.boundary.apart ∙ whole) (omega arith) in
-      let taken = here.boundary.taken in
-      let taken_longer = there.0.boundary.taken in
-      omega arith
+      boundary-fewer e (units ++ more) m n there.0.boundary here.boundary (omega (arith, ap (λ u. length (decoded_in e u)) same))
 
   -- where a well-formed input has a first offence, it has one no later with every continuation
   pub continued_input_offence : SuitsForm d form → HasInhabitedLists d → (units more : List ℕ) (place found wanted : ℕ)
@@ -161,9 +145,8 @@ module _ (e : Encoding) (d : Reading) (form : Form) where
       let longer = input_offence_exists inhabited (units ++ more) (continued_input_differs suits units more w offence.differs) in
       (longer.0, longer.1, longer.2, longer.3, continued_input_cut suits units more place longer.0 w offence.differs offence.cut longer.3.cut)
 
--- ---- the answer of a search
+  -- ---- the answer of a search
 
-module _ (e : Encoding) (d : Reading) (form : Form) where
   pub offence_of_exists : HasInhabitedLists d → (units : List ℕ) → (answer : Option Offence) × IsInputOffenceOf e d form units answer
   offence_of_exists inhabited units =
       let at = input_cut_exists e d form units in
@@ -171,7 +154,7 @@ module _ (e : Encoding) (d : Reading) (form : Form) where
         | inl same ↦ (None, (is_normalized_iff_input_cut e d form units).1 (subst (IsInputCut e d form units) same at.1))
         | inr other ↦
             let found =
-            input_offence_exists e d form inhabited units
+            input_offence_exists inhabited units
             (λ own. other (input_cut_unique e d form units at.0 (length units) at.1 ((is_normalized_iff_input_cut e d form units).0 own))) in
             (Some (record { place = found.0; found = found.1; wanted = found.2 }), found.3)
       ]
@@ -181,7 +164,7 @@ module _ (e : Encoding) (d : Reading) (form : Form) where
   offence_of_unique units None (Some o) a b = absurd (b.differs a)
   offence_of_unique units (Some o) None a b = absurd (a.differs b)
   offence_of_unique units (Some o) (Some p) a b =
-      let same = input_offence_unique e d form units o.place o.found o.wanted p.place p.found p.wanted a b in
+      let same = input_offence_unique units o.place o.found o.wanted p.place p.found p.wanted a b in
       ap (λ n. Some (record { place = n; found = o.found; wanted = o.wanted })) same.0
       ∙ ap (λ c. Some (record { place = p.place; found = c; wanted = o.wanted })) same.1
       ∙ ap (λ c. Some (record { place = p.place; found = p.found; wanted = c })) same.2
@@ -194,13 +177,9 @@ module _ (e : Encoding) (d : Reading) (form : Form) where
   pub found_in_text : (units : List ℕ) (place found wanted : ℕ) → IsInputOffence e d form units place found wanted
       → slice_get (decoded_in e units) (characters_before e units place) ≡ Some found
   found_in_text units place found wanted o =
-      let front : List ℕ = decoded_in e (take place units) in
-      ap (λ l. slice_get l (length front)) (decoded-parts e units place o.cut.qualifies.well_formed ∙ ap (λ l. front ++ l) o.is_found.1)
-      ∙ at_seam front o.is_found.0 (length front) found refl
+      first_behind (decoded_in e (take place units)) (decoded_in e (drop place units)) (decoded_in e units) found (decoded-parts e units place o.cut.qualifies.well_formed) o.is_found
 
   pub wanted_in_form : (units : List ℕ) (place found wanted : ℕ) → IsInputOffence e d form units place found wanted
       → slice_get (normal_form d form (decoded_in e units)) (characters_before e units place) ≡ Some wanted
   wanted_in_form units place found wanted o =
-      let front : List ℕ = decoded_in e (take place units) in
-      ap (λ l. slice_get l (length front)) (sym o.cut.qualifies.keeps ∙ ap (λ l. front ++ l) o.is_wanted.1)
-      ∙ at_seam front o.is_wanted.0 (length front) wanted refl
+      first_behind (decoded_in e (take place units)) (normal_form d form (decoded_in e (drop place units))) (normal_form d form (decoded_in e units)) wanted (sym o.cut.qualifies.keeps) o.is_wanted

@@ -1,8 +1,8 @@
 -- Expansions, as far as there is room.
 use Rattle.std.proofs.Common.{◌≡◌, ◌≢◌, ℕ, zero, suc, ◌+◌, ◌-◌, ◌<◌, ◌≤◌, List, [], ◌∷◌, ◌++◌, length, get_or, take, drop, refl, Some, sym, ap, ◌∙◌, arith}
-use Rattle.std.proofs.Common.{slice_get, flat_map}
+use Rattle.std.proofs.Common.{slice_get, flat_map, take-append-drop, append_assoc}
 use Rattle.std.proofs.lemmas.Grind.{flat_map-append}
-use Rattle.std.proofs.lemmas.List.{append-nil, append_assoc, take_all, take_more, take-append-le, take-append-drop, flat_map_more, length-take, length-append}
+use Rattle.std.proofs.lemmas.List.{take_all, take_more, take-append-le, flat_map_more, length-take}
 use Rattle.std.proofs.lemmas.Option.{slice_get_within, get_or_from_slice_get}
 use Rattle.normalizer_records.specs.declared.records.Mappings.{Mappings}
 use Rattle.normalizer_records.specs.Entry.{Entry}
@@ -16,19 +16,6 @@ take-again zero (a ∷ x) (b ∷ y) = refl
 take-again (suc n) [] y = refl
 take-again (suc n) (a ∷ x) y = ap (λ z. a ∷ z) (take-again n x y)
 
-pub length-cut : (n : ℕ) (x y : List ℕ) → y ≡ take n x → length y ≤ n
-length-cut n x y e = let same = ap length e ∙ length-take n x in omega arith
-
--- no room for more
-pub take-no_room : (n : ℕ) (x y : List ℕ) → length x ≤ n → n ≤ length x → x ≡ take n (x ++ y)
-take-no_room n x y within full = sym (take-append-le n x y full ∙ take_all n x within)
-
--- one more, for which there is room
-pub take-room : (n : ℕ) (x y : List ℕ) (c : ℕ) → length x < n → y ≡ x ++ c ∷ [] → y ≡ take n (x ++ c ∷ [])
-take-room n x y c room e =
-    let len : length (x ++ c ∷ []) ≤ n = simp length-append (omega arith) in
-    e ∙ sym (take_all n (x ++ c ∷ []) len)
-
 module _ (f : ℕ → List ℕ) (room : ℕ) (start xs : List ℕ) where
   -- one member more
   pub flat_map-cut_more : (before after : List ℕ) (i m : ℕ) → slice_get xs i ≡ Some m → before ≡ take room (start ++ flat_map f (take i xs)) → after ≡ take room (before ++ f m) →
@@ -39,13 +26,6 @@ module _ (f : ℕ → List ℕ) (room : ℕ) (start xs : List ℕ) where
       let grown : take (i + 1) xs ≡ take i xs ++ m ∷ [] = take_more xs i 0 within ∙ ap (λ y. take i xs ++ y ∷ []) here in
       now ∙ ap (λ y. take room (y ++ f m)) was ∙ take-again room (start ++ flat_map f (take i xs)) (f m)
       ∙ ap (take room) (flat_map_more f start (take i xs) m) ∙ ap (λ y. take room (start ++ flat_map f y)) (sym grown)
-
-  pub flat_map-cut_none : length start ≤ room → start ≡ take room (start ++ flat_map f (take 0 xs))
-  flat_map-cut_none h = sym (ap (λ y. take room (start ++ y)) (none xs) ∙ ap (take room) (append-nil start) ∙ take_all room start h)
-    where
-      none : (ys : List ℕ) → flat_map f (take 0 ys) ≡ []
-      none [] = refl
-      none (y ∷ ys) = refl
 
   pub flat_map-cut_all : (out : List ℕ) (i : ℕ) → length xs ≤ i → out ≡ take room (start ++ flat_map f (take i xs)) → out ≡ take room (start ++ flat_map f xs)
   flat_map-cut_all out i past was = was ∙ ap (λ y. take room (start ++ flat_map f y)) (take_all i xs past)
@@ -78,13 +58,10 @@ module _ (records : List Entry) (mappings : Mappings) where
   unfolding expansion
   expansion-replaced n c h = replace_by-some (expansion records mappings n) (replacement records mappings c) c h
 
-  pub expansion-deeper : (depth n c : ℕ) → depth ≡ n + 1 → replacement records mappings c ≢ [] →
-      expansion records mappings depth c ≡ flat_map (expansion records mappings n) (replacement records mappings c)
-  expansion-deeper depth n c e h = let more : depth ≡ suc n = omega arith in ap (λ d. expansion records mappings d c) more ∙ expansion-replaced n c h
-
   -- what the lists of the members give, as far as there is room, is what the expansion gives
   pub expansion-by_members : (depth c room : ℕ) (start members out : List ℕ) → 0 < depth → members ≡ replacement records mappings c → members ≢ [] →
       out ≡ take room (start ++ flat_map (expansion records mappings (depth - 1)) members) → out ≡ take room (start ++ expansion records mappings depth c)
   expansion-by_members depth c room start members out deep are some is =
-      let e = expansion-deeper depth (depth - 1) c (omega arith) (λ none. some (are ∙ none)) in
+      let more : depth ≡ suc (depth - 1) = omega arith in
+      let e = ap (λ d. expansion records mappings d c) more ∙ expansion-replaced (depth - 1) c (λ none. some (are ∙ none)) in
       is ∙ ap (λ (m : List ℕ). take room (start ++ flat_map (expansion records mappings (depth - 1)) m)) are ∙ ap (λ (y : List ℕ). take room (start ++ y)) (sym e)

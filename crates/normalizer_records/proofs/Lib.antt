@@ -1,7 +1,6 @@
 pub mod ChainLemmas
 pub mod CutLemmas
 pub mod ExpansionLemmas
-pub mod FaultLemmas
 pub mod LookupLemmas
 pub mod MeasureLemmas
 pub mod OrLemmas

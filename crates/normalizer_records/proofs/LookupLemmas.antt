@@ -1,68 +1,74 @@
 -- Look-ups in a list that rises.
-use Rattle.std.proofs.Common.{◌≡◌, ◌≢◌, ℕ, zero, suc, ◌+◌, ◌-◌, ◌<◌, ◌≤◌, ◌==◌, ◌↔◌, nat_lt, Bool, true, false, List, [], ◌∷◌, length, get_or, refl, Some, None, All, AllPairs, find, inl, inr, subst}
-use Rattle.std.proofs.Common.{sym, ap, ◌∙◌, arith, IsTrue}
-use Rattle.std.proofs.lemmas.Bool.{cases_order}
+use Rattle.std.proofs.Common.{◌≡◌, ◌≢◌, ℕ, zero, suc, ◌+◌, ◌<◌, ◌≤◌, ◌⊎◌, ◌==◌, ◌↔◌, nat_lt, Bool, true, false, List, [], ◌∷◌, length, get_or, refl, Some, None, AllPairs, find, inl, inr}
+use Rattle.std.proofs.Common.{sym, ap, ◌∙◌, arith, IsTrue, Result, Ok, Err, MatchOption}
+use Rattle.std.specs.Result.{result_ok}
+use Rattle.normalizer_records.specs.inner.Lookup.{Stands}
+use Rattle.std.proofs.lemmas.Bool.{cases_eq, cases_lt}
 use Rattle.std.proofs.lemmas.Bool.Decides.{nat_tests}
-use Rattle.std.proofs.lemmas.List.Elements.{All-head, All-tail, All-from_get_or}
+use Rattle.std.proofs.lemmas.Cmp.{ranked}
+use Rattle.std.proofs.lemmas.List.Sorted.{IsNonDecreasingBy-from_all_adjacent}
 use Rattle.std.specs.List.{AllAdjacentBelow, IsAllAdjacentAnswer}
-use Rattle.std.specs.List.Sorted.{IsPartitionedBy, IsPartitionPoint}
+use Rattle.std.specs.List.Sorted.{IsBinarySearchResult, IsNonDecreasingBy, IsSearchInRange}
+use Rattle.std.specs.Ordering.{nat_cmp, ordering_index}
 
-pub find-none : {X : Type 0} (p : X → Bool) → (xs : List X) → All (λ x. p x ≡ false) xs → find p xs ≡ None
-find-none p [] h = refl
-find-none p (x ∷ xs) h = let e = All-head (λ y. p y ≡ false) x xs h in rw e (find-none p xs (All-tail (λ y. p y ≡ false) x xs h))
+module _ {X : Type 0} (key : X → ℕ) where
+  find-none : (xs : List X) (c : ℕ) → ((k : ℕ) (d : X) → k < length xs → key (get_or xs k d) ≢ c) → find (λ y. key y == c) xs ≡ None
+  find-none [] c others = refl
+  find-none (x ∷ xs) c others =
+      let other = others 0 x (omega arith) in
+      let off : (key x == c) ≡ false = grind (arith, nat_tests) in
+      rw off (find-none xs c (λ k d inside. others (suc k) d (omega arith)))
 
--- the first element that passes
-pub find-at : {X : Type 0} (p : X → Bool) → (xs : List X) (i : ℕ) (x : X) → i < length xs → p (get_or xs i x) ≡ true → ((j : ℕ) → j < i → p (get_or xs j x) ≡ false) → find p xs ≡ Some (get_or xs i x)
-find-at p [] i x h passes before = absurd (omega arith)
-find-at p (y ∷ ys) zero x h passes before = rw passes refl
-find-at p (y ∷ ys) (suc i) x h passes before = let e = before 0 (omega arith) in rw e (find-at p ys i x (omega arith) passes (λ j b. before (suc j) (omega arith)))
+  -- the element of this key is found
+  find-at : (xs : List X) → AllPairs (λ r s. key r < key s) xs → (c i : ℕ) (d : X) → i < length xs → key (get_or xs i d) ≡ c → find (λ y. key y == c) xs ≡ Some (get_or xs i d)
+  find-at [] rising c i d inside same = absurd (omega arith)
+  find-at (x ∷ xs) rising c zero d inside same = let on : (key x == c) ≡ true = grind (arith, nat_tests) in rw on refl
+  find-at (x ∷ xs) rising c (suc i) d inside same =
+      let below = rising 0 (suc i) d (omega arith) inside in
+      let off : (key x == c) ≡ false = grind (arith, nat_tests) in
+      rw off (find-at xs (λ k j e less within. rising (suc k) (suc j) e (omega arith) (omega arith)) c i d (omega arith) same)
 
-module _ {X : Type 0} (key : X → ℕ) (xs : List X) (rising : AllPairs (λ r s. key r < key s) xs) where
-  pub IsPartitionedBy-below : (c : ℕ) → IsPartitionedBy (λ r. nat_lt (key r) c) xs
-  IsPartitionedBy-below c i j d le within later = elim (cases_order i j) as (λ _. nat_lt (key (get_or xs i d)) c ≡ true) [
-    | inl same ↦ subst (λ (m : ℕ). nat_lt (key (get_or xs m d)) c ≡ true) (sym same) later
-    | inr (inl below) ↦ let lt = rising i j d below within in grind (arith, nat_tests)
-    | inr (inr above) ↦ absurd (omega arith)
+  pub find-found : (xs : List X) → AllPairs (λ r s. key r < key s) xs → (c i : ℕ) (x : X) → Stands key xs c i → x ≡ get_or xs i x → find (λ y. key y == c) xs ≡ Some x
+  find-found xs rising c i x at is = find-at xs rising c i x at.within (at.there x) ∙ ap (λ y. Some y) (sym is)
+
+  -- the key stands somewhere, or is not found
+  pub stands_or_none : (xs : List X) (c : ℕ) → ((place : ℕ) × Stands key xs c place) ⊎ (find (λ y. key y == c) xs ≡ None)
+  stands_or_none [] c = inr refl
+  stands_or_none (x ∷ xs) c = elim (cases_eq (key x) c) [
+    | inl same ↦ inl (0, record { within = omega arith; there = λ d. same })
+    | inr other ↦
+        let off : (key x == c) ≡ false = grind (arith, nat_tests) in
+        elim (stands_or_none xs c) [
+          | inl further ↦ let inside = further.1.within in inl (suc further.0, record { within = omega arith; there = further.1.there })
+          | inr none ↦ inr (rw off none)
+        ]
   ]
 
-  module _ (c place : ℕ) (is : IsPartitionPoint (λ r. nat_lt (key r) c ≡ true) (λ r. nat_lt (key r) c ≡ false) xs place) where
-    other_before : (k : ℕ) (d : X) → k < place → k < length xs → (key (get_or xs k d) == c) ≡ false
-    other_before k d below within = let lt : nat_lt (key (get_or xs k d)) c ≡ true = is.0 k d (omega arith) below in grind (arith, nat_tests)
+  -- what a search by halving answers
+  pub searched : (xs : List X) → AllPairs (λ r s. key r < key s) xs → (c : ℕ) (r : Result ℕ ℕ) → IsSearchInRange r (length xs) → IsBinarySearchResult (λ y. nat_cmp (key y) c) xs r →
+      MatchOption (result_ok r) (find (λ y. key y == c) xs ≡ None) (Stands key xs c)
+  searched xs rising c (Ok i) inside equal = record { within = inside; there = λ d. ranked _ c _ (sym (equal d)) }
+  searched xs rising c (Err i) inside parted = find-none xs c others
+    where
+      rise : IsNonDecreasingBy (λ y. ordering_index (nat_cmp (key y) c)) xs
+      rise k j d le within =
+          let keys : key (get_or xs k d) ≤ key (get_or xs j d) = grind (arith, rising k j d, λ (same : k ≡ j). ap (λ n. key (get_or xs n d)) same) in
+          grind (arith, nat_tests)
 
-    pub find-found : (r : X) → place < length xs → r ≡ get_or xs place r → key r ≡ c → find (λ y. key y == c) xs ≡ Some r
-    find-found r within here same =
-        let theirs : key (get_or xs place r) ≡ c = sym (ap key here) ∙ same in
-        find-at (λ y. key y == c) xs place r within (grind (arith, nat_tests)) (λ j b. other_before j r b (omega arith)) ∙ ap (λ y. Some y) (sym here)
-
-    pub misses_all : (r : X) → place < length xs → r ≡ get_or xs place r → key r ≢ c → All (λ y. (key y == c) ≡ false) xs
-    misses_all r within here other = All-from_get_or (λ y. (key y == c) ≡ false) xs r misses
-      where
-        misses : (k : ℕ) → k < length xs → (key (get_or xs k r) == c) ≡ false
-        misses k inside = elim (cases_order k place) as (λ _. (key (get_or xs k r) == c) ≡ false) [
-          | inl same ↦ let e : key r ≡ key (get_or xs k r) = ap key (here ∙ ap (λ m. get_or xs m r) (sym same)) in grind (arith, nat_tests)
-          | inr (inl below) ↦ other_before k r below inside
-          | inr (inr above) ↦ let lt = rising place k r above inside in let from : nat_lt (key (get_or xs place r)) c ≡ false = is.1 place r (omega arith) within in grind (arith, nat_tests)
-        ]
-
-    pub misses_above : length xs ≤ place → All (λ y. (key y == c) ≡ false) xs
-    misses_above above k d inside = other_before k d (omega arith) inside
+      others : (k : ℕ) (d : X) → k < length xs → key (get_or xs k d) ≢ c
+      others k d inside same = elim (cases_lt k i) as (λ _. ⊥) [
+        | inl below ↦ let less = ranked _ c _ (sym ((parted rise).0 k d (omega arith) below)) in omega arith
+        | inr above ↦ let more = ranked _ c _ (sym ((parted rise).1 k d above inside)) in omega arith
+      ]
 
 -- each element before the next
-module _ {X : Type 0} (key : X → ℕ) (xs : List X) (adjacent : AllAdjacentBelow (λ p q. true ≡ nat_lt (key p) (key q)) xs (length xs)) where
-  rising_by : (i k : ℕ) (d : X) → i + suc k < length xs → key (get_or xs i d) < key (get_or xs (i + suc k) d)
-  rising_by i zero d within = let lt : true ≡ nat_lt (key (get_or xs i d)) (key (get_or xs (i + 1) d)) = adjacent i d (omega arith) in grind (arith, nat_tests)
-  rising_by i (suc k) d within =
-      let next : i + suc k + 1 ≡ i + suc (suc k) = omega arith in
-      let last : true ≡ nat_lt (key (get_or xs (i + suc k) d)) (key (get_or xs (i + suc (suc k)) d)) =
-      subst (λ (m : ℕ). true ≡ nat_lt (key (get_or xs (i + suc k) d)) (key (get_or xs m d))) next (adjacent (i + suc k) d (omega arith)) in
-      let before = rising_by i k d (omega arith) in
-      grind (arith, nat_tests)
+rising_from_adjacent : {X : Type 0} (key : X → ℕ) (xs : List X) → AllAdjacentBelow (λ p q. true ≡ nat_lt (key p) (key q)) xs (length xs) → AllPairs (λ r s. key r < key s) xs
+rising_from_adjacent key xs adjacent i j d below within =
+    let next = adjacent i d (omega arith) in
+    let further = IsNonDecreasingBy-from_all_adjacent key xs (λ k e inside. let lt = adjacent k e inside in grind (arith, nat_tests)) (i + 1) j d (omega arith) within in
+    grind (arith, nat_tests)
 
-  pub rising_from_adjacent : AllPairs (λ r s. key r < key s) xs
-  rising_from_adjacent i j d below within =
-      let same : i + suc (j - i - 1) ≡ j = omega arith in
-      subst (λ (m : ℕ). key (get_or xs i d) < key (get_or xs m d)) same (rising_by i (j - i - 1) d (omega arith))
-
-pub rising-decides : {X : Type 0} (key : X → ℕ) → X → (xs : List X) (r : Bool) → IsAllAdjacentAnswer (λ p q b. b ≡ nat_lt (key p) (key q)) xs r → IsTrue r ↔ AllPairs (λ p q. key p < key q) xs
-rising-decides key any xs true h = (λ _. rising_from_adjacent key xs h, λ _. refl)
-rising-decides key any xs false h = (λ fails. cc, λ rising. let lt = rising h.0 (h.0 + 1) any (omega arith) h.1 in let falls = h.2 any in absurd (grind (arith, nat_tests)))
+pub rising-decides : {X : Type 0} (key : X → ℕ) (xs : List X) (r : Bool) → IsAllAdjacentAnswer (λ p q b. b ≡ nat_lt (key p) (key q)) xs r → IsTrue r ↔ AllPairs (λ p q. key p < key q) xs
+rising-decides key xs true h = (λ _. rising_from_adjacent key xs h, λ _. refl)
+rising-decides key [] false h = (λ fails. cc, λ rising. let within = h.1 in absurd (omega arith))
+rising-decides key (x ∷ xs) false h = (λ fails. cc, λ rising. let lt = rising h.0 (h.0 + 1) x (omega arith) h.1 in let falls = h.2 x in absurd (grind (arith, nat_tests)))

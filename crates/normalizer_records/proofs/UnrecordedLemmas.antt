@@ -1,38 +1,32 @@
 -- The lists of characters of which nothing is recorded show no fault.
-use Rattle.std.proofs.Common.{◌≡◌, ℕ, suc, ◌<◌, ◌≤◌, ◌⊎◌, ◌↔◌, ◌==◌, Bool, true, false, List, [], ◌∷◌, ◌++◌, length, map, refl, Option, Some, None, is_some, IsSomeAnd}
-use Rattle.std.proofs.Common.{inl, inr, sym, ap, subst, ◌∙◌, arith, Contains, find, if◌then◌else◌, nat_lt, flat_map}
+use Rattle.std.proofs.Common.{◌≡◌, ℕ, ◌<◌, ◌≤◌, ◌⊎◌, ◌↔◌, ◌==◌, Bool, true, false, List, [], ◌∷◌, ◌++◌, length, map, refl, Option, Some, None, IsSomeAnd}
+use Rattle.std.proofs.Common.{inl, inr, sym, ap, subst, ◌∙◌, arith, Contains, find, nat_lt, flat_map}
 use Rattle.std.specs.Option.{option_map, option_map_or}
-use Rattle.std.specs.List.{list_any}
-use Rattle.std.proofs.lemmas.Bool.{or_left, or_parts, true≢false}
+use Rattle.std.proofs.lemmas.Bool.{or_parts, true≢false}
 use Rattle.std.proofs.lemmas.Bool.Decides.{nat_tests}
+use Rattle.std.proofs.lemmas.List.{get_or-map, length-map}
 use Rattle.std.proofs.lemmas.List.Elements.{Contains-append_left, Contains-append_right}
+use Rattle.std.proofs.lemmas.List.Folds.{list_any_at}
 use Rattle.normal_forms.proofs.OrderLemmas.{length-order}
 use Rattle.normalizer_tables.specs.Hangul.{is_hangul_syllable, hangul_decomposition}
 use Rattle.normalizer_records.specs.declared.records.Mappings.{Mappings}
 use Rattle.normalizer_records.specs.declared.records.Mappings.TheVariants.{Canonical, All as AllMappings}
-use Rattle.normalizer_records.specs.Entry.{Entry, MapperEntry}
+use Rattle.normalizer_records.specs.Entry.{Entry, IsIgnored, MapperEntry}
 use Rattle.normalizer_records.specs.Meaning.{entry_of, class_of, replacement, expansion, full_list, recorded_classes, canonical_list, status_of, mapper_list, mapped_list, levels}
+use Rattle.normalizer_records.specs.inner.ChainLengths.{no_entry}
 use Rattle.normalizer_records.specs.inner.Cut.{IsOfSome}
 use Rattle.normalizer_records.specs.Faults.{is_fixed, has_fixed_fault, begins_with_mark, IsWrong, HasWrongClass, HasLongList, IsTooLong, IsAsked, HasClassFault, HasLengthFault}
 use Rattle.normalizer_records.proofs.CutLemmas.{begins-order}
 use Rattle.normalizer_records.proofs.ExpansionLemmas.{expansion-alone, expansion-replaced}
+use Rattle.normalizer_records.proofs.LookupLemmas.{stands_or_none}
 use Rattle.normalizer_records.proofs.SyllableLemmas.{by_jamo, jamo_some, replacement-syllable}
 
--- a character that a look-up finds is among the characters
-contains_key : {X : Type 0} (key : X → ℕ) → (xs : List X) (c : ℕ) → is_some (find (λ r. key r == c) xs) ≡ true → Contains (map key xs) c
-contains_key key [] c h = absurd cc
-contains_key {X} key (x ∷ xs) c h = elim (key x == c) as (λ b. (key x == c) ≡ b → is_some (if b then Some x else find (λ r. key r == c) xs) ≡ true → Contains (map key (x ∷ xs)) c) [
-  | true ↦ λ same found. let e : key x ≡ c = grind (arith, nat_tests) in (0, omega arith, e)
-  | false ↦ λ other found. let further = contains_key key xs c found in let inside = further.1 in (suc further.0, omega arith, further.2)
-] refl h
-
--- a fixed character is not recorded
-none_fixed : (c : ℕ) (xs : List Entry) → is_fixed c ≡ true → list_any (λ r. is_fixed r.c) xs ≡ false → find (λ r. r.c == c) xs ≡ None
-none_fixed c [] fixed h = refl
-none_fixed c (x ∷ xs) fixed h = elim (x.c == c) as (λ b. (x.c == c) ≡ b → (if b then Some x else find (λ r. r.c == c) xs) ≡ None) [
-  | true ↦ λ same. let e : x.c ≡ c = grind (arith, nat_tests) in let bad : is_fixed x.c ≡ true = ap is_fixed e ∙ fixed in absurd (true≢false (sym (or_left _ _ bad) ∙ h))
-  | false ↦ λ other. none_fixed c xs fixed (or_parts _ _ h).1
-] refl
+-- a character is among those of the elements, or is not found
+contains_or_none : {X : Type 0} (key : X → ℕ) → X → (xs : List X) (c : ℕ) → Contains (map key xs) c ⊎ (find (λ r. key r == c) xs ≡ None)
+contains_or_none key any xs c = elim (stands_or_none key xs c) [
+  | inl at ↦ let inside = at.1.within in inl (at.0, omega (arith, length-map xs key), get_or-map key xs at.0 any c inside ∙ at.1.there any)
+  | inr none ↦ inr none
+]
 
 pub jamo_fixed : (c : ℕ) → 0x1100 ≤ c → c ≤ 0x11FF → is_fixed c ≡ true
 unfolding is_fixed
@@ -45,7 +39,12 @@ low_no_syllable c low = grind (arith, nat_tests)
 module _ (records : List Entry) (uts46 : List MapperEntry) (fixed : has_fixed_fault records uts46 ≡ false) where
   unrecorded_jamo : (c : ℕ) → 0x1100 ≤ c → c ≤ 0x11FF → entry_of records c ≡ None
   unfolding entry_of has_fixed_fault
-  unrecorded_jamo c low high = none_fixed c records (jamo_fixed c low high) (or_parts _ _ fixed).0
+  unrecorded_jamo c low high = elim (stands_or_none (λ (r : Entry). r.c) records c) [
+    | inl at ↦
+        let bad = list_any_at (λ (r : Entry). is_fixed r.c) records at.0 no_entry at.1.within (ap is_fixed (at.1.there no_entry) ∙ jamo_fixed c low high) in
+        absurd (true≢false (sym bad ∙ (or_parts _ _ fixed).0))
+    | inr none ↦ none
+  ]
 
   class_of-unrecorded : (c : ℕ) → entry_of records c ≡ None → class_of records c ≡ 0
   unfolding class_of
@@ -63,18 +62,13 @@ module _ (records : List Entry) (uts46 : List MapperEntry) (fixed : has_fixed_fa
     jamo_alone n c low high = expansion-alone records mappings n c (jamo_stays c low high)
 
     -- what begins with a starter and has at most three members
-    IsBare : List ℕ → Type 0
+    abbrev IsBare : List ℕ → Type 0
     IsBare x = (begins_with_mark records x ≡ false) × (length x ≤ 3)
 
     starter : (c : ℕ) → entry_of records c ≡ None → nat_lt 0 (class_of records c) ≡ false
     starter c h = let none = class_of-unrecorded c h in grind (arith, nat_tests)
 
-    IsBare-one : (c : ℕ) → entry_of records c ≡ None → IsBare (c ∷ [])
-    unfolding IsBare
-    IsBare-one c h = (starter c h, omega arith)
-
     IsBare-jamo : (n c : ℕ) → is_hangul_syllable c ≡ true → IsBare (flat_map (expansion records mappings n) (hangul_decomposition c))
-    unfolding IsBare
     IsBare-jamo n c h = by_jamo (λ x. IsBare (flat_map (expansion records mappings n) x)) c h
         (λ l v first second. rw (jamo_alone n l first.0 first.1, jamo_alone n v second.0 second.1) (starter l (unrecorded_jamo l first.0 first.1), omega arith))
         (λ l v t first second third. rw (jamo_alone n l first.0 first.1, jamo_alone n v second.0 second.1, jamo_alone n t third.0 third.1)
@@ -88,16 +82,16 @@ module _ (records : List Entry) (uts46 : List MapperEntry) (fixed : has_fixed_fa
           expansion-replaced records mappings 16 c (λ none. jamo_some c syllable (sym same ∙ none))
           ∙ ap (flat_map (expansion records mappings 16)) same in
           subst IsBare (sym e) (IsBare-jamo 16 c syllable)
-      | false ↦ λ other. subst IsBare (sym (expansion-alone records mappings 17 c (replacement-unrecorded c other h))) (IsBare-one c h)
+      | false ↦ λ other. subst IsBare (sym (expansion-alone records mappings 17 c (replacement-unrecorded c other h))) (starter c h, omega arith)
     ] refl
 
-    full_list-begins : (c : ℕ) → entry_of records c ≡ None → begins_with_mark records (full_list records mappings c) ≡ false
-    unfolding full_list IsBare
-    full_list-begins c h = begins-order records (expansion records mappings levels c) ∙ (IsBare-expansion c h).0
-
-    full_list-short : (c : ℕ) → entry_of records c ≡ None → length (full_list records mappings c) ≤ 3
-    unfolding full_list IsBare
-    full_list-short c h = let same = length-order (recorded_classes records) (expansion records mappings levels c) in let few = (IsBare-expansion c h).1 in omega arith
+    full_list-bare : (c : ℕ) → entry_of records c ≡ None → IsBare (full_list records mappings c)
+    unfolding full_list
+    full_list-bare c h =
+        let same = length-order (recorded_classes records) (expansion records mappings levels c) in
+        let bare = IsBare-expansion c h in
+        let few = bare.1 in
+        (begins-order records (expansion records mappings levels c) ∙ bare.0, omega arith)
 
   not_wrong : (c : ℕ) (b : Bool) (list : List ℕ) → b ≡ false → begins_with_mark records list ≡ false → IsWrong records c b list → ⊥
   not_wrong c b list starts bare (inl marked, form) = true≢false (sym marked ∙ starts)
@@ -113,52 +107,47 @@ module _ (records : List Entry) (uts46 : List MapperEntry) (fixed : has_fixed_fa
   HasWrongClass-unrecorded : (c : ℕ) → entry_of records c ≡ None → status_of uts46 c ≡ None → HasWrongClass records uts46 c → ⊥
   unfolding HasWrongClass
   HasWrongClass-unrecorded c h k (inl highest) = let none = class_of-unrecorded c h in omega arith
-  HasWrongClass-unrecorded c h k (inr (inl wrong)) = not_wrong c _ _ (starter Canonical c h) (full_list-begins Canonical c h) wrong
-  HasWrongClass-unrecorded c h k (inr (inr (inl wrong))) = not_wrong c _ _ (starter AllMappings c h) (full_list-begins AllMappings c h) wrong
+  HasWrongClass-unrecorded c h k (inr (inl wrong)) = not_wrong c _ _ (starter Canonical c h) (full_list-bare Canonical c h).0 wrong
+  HasWrongClass-unrecorded c h k (inr (inr (inl wrong))) = not_wrong c _ _ (starter AllMappings c h) (full_list-bare AllMappings c h).0 wrong
   HasWrongClass-unrecorded c h k (inr (inr (inr wrong))) =
-      not_wrong c false _ refl (full_list-begins Canonical c h) (subst (λ (o : Option (List ℕ)). IsSomeAnd o (IsWrong records c false)) (mapper_list-unrecorded c k) wrong)
+      not_wrong c false _ refl (full_list-bare Canonical c h).0 (subst (λ (o : Option (List ℕ)). IsSomeAnd o (IsWrong records c false)) (mapper_list-unrecorded c k) wrong)
 
   HasLongList-unrecorded : (c : ℕ) → entry_of records c ≡ None → status_of uts46 c ≡ None → HasLongList records uts46 c → ⊥
   unfolding HasLongList
-  HasLongList-unrecorded c h k (inl long) = not_long _ (full_list-short Canonical c h) long
-  HasLongList-unrecorded c h k (inr (inl long)) = not_long _ (full_list-short AllMappings c h) long
-  HasLongList-unrecorded c h k (inr (inr long)) = not_long _ (full_list-short Canonical c h) (subst (λ (o : Option (List ℕ)). IsSomeAnd o IsTooLong) (mapper_list-unrecorded c k) long)
+  HasLongList-unrecorded c h k (inl long) = not_long _ (full_list-bare Canonical c h).1 long
+  HasLongList-unrecorded c h k (inr (inl long)) = not_long _ (full_list-bare AllMappings c h).1 long
+  HasLongList-unrecorded c h k (inr (inr long)) = not_long _ (full_list-bare Canonical c h).1 (subst (λ (o : Option (List ℕ)). IsSomeAnd o IsTooLong) (mapper_list-unrecorded c k) long)
 
   -- every character is recorded in one way or the other, or in none
   abbrev characters : List ℕ
   characters = map (λ (r : Entry). r.c) records ++ map (λ (r : MapperEntry). r.c) uts46
 
-  nothing : Option Entry
-  nothing = None
+  recorded_or_not : (c : ℕ) → Contains characters c ⊎ ((entry_of records c ≡ None) × (status_of uts46 c ≡ None))
+  unfolding entry_of status_of
+  recorded_or_not c = elim (contains_or_none (λ (r : Entry). r.c) no_entry records c) [
+    | inl there ↦ inl (Contains-append_left _ _ c there)
+    | inr none ↦
+        elim (contains_or_none (λ (r : MapperEntry). r.c) (record { c = 0; status = IsIgnored }) uts46 c) [
+          | inl there ↦ inl (Contains-append_right _ _ c there)
+          | inr gone ↦ inr (none, ap (option_map (λ (r : MapperEntry). r.status)) gone)
+        ]
+  ]
 
-  is_recorded : (c : ℕ) → Contains characters c ⊎ ((entry_of records c ≡ None) × (status_of uts46 c ≡ None))
-  unfolding entry_of status_of nothing
-  is_recorded c = elim (find (λ (r : Entry). r.c == c) records) as (λ o. find (λ (r : Entry). r.c == c) records ≡ o →
-      Contains characters c ⊎ ((o ≡ None) × (option_map (λ (r : MapperEntry). r.status) (find (λ r. r.c == c) uts46) ≡ None))) [
-        | Some r ↦ λ found. inl (Contains-append_left _ _ c (contains_key (λ (r : Entry). r.c) records c (ap is_some found)))
-        | None ↦ λ missing. elim (find (λ (r : MapperEntry). r.c == c) uts46) as (λ o. find (λ (r : MapperEntry). r.c == c) uts46 ≡ o →
-            Contains characters c ⊎ ((nothing ≡ None) × (option_map (λ (r : MapperEntry). r.status) o ≡ None))) [
-              | Some r ↦ λ found. inl (Contains-append_right _ _ c (contains_key (λ (r : MapperEntry). r.c) uts46 c (ap is_some found)))
-              | None ↦ λ gone. inr (refl, refl)
-            ] refl
-      ] refl
+  -- what no other character shows is shown by a recorded one, or by none
+  recorded_alone : (P : ℕ → Type 0) → ((c : ℕ) → entry_of records c ≡ None → status_of uts46 c ≡ None → P c → ⊥) →
+      IsOfSome (λ c. IsAsked records uts46 c × P c) characters ↔ ((c : ℕ) × IsAsked records uts46 c × P c)
+  recorded_alone P never = (
+    λ h. (h.0, h.2.0, h.2.1),
+    λ h. elim (recorded_or_not h.0) [
+      | inl there ↦ (h.0, there, (h.1, h.2))
+      | inr nowhere ↦ absurd (never h.0 nowhere.0 nowhere.1 h.2)
+    ],
+  )
 
   pub HasClassFault-recorded : IsOfSome (λ c. IsAsked records uts46 c × HasWrongClass records uts46 c) characters ↔ HasClassFault records uts46
   unfolding HasClassFault
-  HasClassFault-recorded = (
-    λ h. (h.0, h.2.0, h.2.1),
-    λ h. elim (is_recorded h.0) as (λ _. IsOfSome (λ c. IsAsked records uts46 c × HasWrongClass records uts46 c) characters) [
-      | inl there ↦ (h.0, there, (h.1, h.2))
-      | inr nowhere ↦ absurd (HasWrongClass-unrecorded h.0 nowhere.0 nowhere.1 h.2)
-    ],
-  )
+  HasClassFault-recorded = recorded_alone (HasWrongClass records uts46) HasWrongClass-unrecorded
 
   pub HasLengthFault-recorded : IsOfSome (λ c. IsAsked records uts46 c × HasLongList records uts46 c) characters ↔ HasLengthFault records uts46
   unfolding HasLengthFault
-  HasLengthFault-recorded = (
-    λ h. (h.0, h.2.0, h.2.1),
-    λ h. elim (is_recorded h.0) as (λ _. IsOfSome (λ c. IsAsked records uts46 c × HasLongList records uts46 c) characters) [
-      | inl there ↦ (h.0, there, (h.1, h.2))
-      | inr nowhere ↦ absurd (HasLongList-unrecorded h.0 nowhere.0 nowhere.1 h.2)
-    ],
-  )
+  HasLengthFault-recorded = recorded_alone (HasLongList records uts46) HasLongList-unrecorded

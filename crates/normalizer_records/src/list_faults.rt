@@ -20,15 +20,12 @@ ghost use Rattle.normalizer_records.specs.Faults.{
 ghost use Rattle.normalizer_records.specs.Meaning.{class_of, full_list, list_of_status, mapper_list};
 ghost use Rattle.normalizer_records.specs.Statuses.{status_of as status_value};
 
-use crate::expansion::{list_within, text_within};
+use crate::expansion::cut_text;
 use crate::lookup::{class_of, uts46_record_of};
 use crate::records::{Mappings, Record, Uts46Record, Uts46Status};
 use normalizer_tables::members::Members;
 use normalizer_tables::special::fixed_list_of;
 use std::alloc::{AllocError, Global};
-
-/// Room for a list that is too long in any case.
-pub(crate) const ROOM: usize = 19;
 
 /// Whether there is a fault of classes, and one of lengths.
 #[derive(Clone, Copy)]
@@ -37,8 +34,8 @@ pub(crate) struct ListFaults {
     pub(crate) length: bool,
 }
 
-/// A list, or what stands for it where it is too long.
-fn cut_list(
+/// The full decomposition of a character, or what stands for it where it is too long.
+pub(crate) fn cut_list(
     alloc: Global,
     records: &[Record],
     mappings: Mappings,
@@ -47,7 +44,7 @@ fn cut_list(
     requires { AreRising records.now }
     ensures { IfOk result (λ v. StandsFor records.now (full_list records.now mappings c) v.items) }
 {
-    let list = list_within(alloc, records, mappings, c, ROOM)?;
+    let list = cut_text(alloc, records, mappings, &[c])?;
     Ok(list)
 }
 
@@ -82,7 +79,7 @@ fn cut_mapped_list(
         Uts46Status::Ignored => Ok(None),
         Uts46Status::Disallowed => Ok(Some(vec![in alloc; '\u{FFFD}']?)),
         Uts46Status::Mapped(mapping) => {
-            let list = text_within(alloc, records, Mappings::Canonical, mapping, ROOM)?;
+            let list = cut_text(alloc, records, Mappings::Canonical, mapping)?;
             Ok(Some(list))
         }
     }

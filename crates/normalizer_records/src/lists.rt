@@ -9,8 +9,7 @@ ghost use Rattle.normalizer_records.specs.Meaning.{
   mapper_list,
 };
 
-use crate::expansion::list_within;
-use crate::list_faults::{ROOM, cut_mapper_list};
+use crate::list_faults::{cut_list, cut_mapper_list};
 use crate::records::{Mappings, Record, Uts46Record};
 use std::alloc::{AllocError, Global};
 
@@ -24,7 +23,7 @@ fn full_list(
     requires fits { length (full_list records.now mappings c) ≤ 18 }
     ensures { IfOk result (λ v. v.items ≡ full_list records.now mappings c) }
 {
-    let list = list_within(alloc, records, mappings, c, ROOM)?;
+    let list = cut_list(alloc, records, mappings, c)?;
     Ok(list)
 }
 

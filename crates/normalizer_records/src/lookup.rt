@@ -1,9 +1,9 @@
 //! The record of a character.
-ghost use Rattle.std.specs.Prelude.{◌≡◌, MatchOption};
+ghost use Rattle.std.specs.Prelude.{◌≡◌, None, MatchOption};
 ghost use Rattle.std.specs.Option.{option_map};
 ghost use Rattle.normalizer_records.specs.declared.records.Mappings.TheVariants.{Canonical};
 ghost use Rattle.normalizer_records.specs.Faults.{AreRising, AreMapperRising};
-ghost use Rattle.normalizer_records.specs.inner.Lookup.{IsMissing, Stands, IsPlaceOf, IsMapperPlaceOf};
+ghost use Rattle.normalizer_records.specs.inner.Lookup.{Stands};
 ghost use Rattle.normalizer_records.specs.Meaning.{canonical_mapping_of, class_of, entry_of, mapping_among, status_of};
 
 use crate::records::{Record, Uts46Record};
@@ -11,21 +11,9 @@ use crate::records::{Record, Uts46Record};
 /// The place where a character is recorded, by halving.
 pub(crate) fn place_of(records: &[Record], c: char) -> Option<usize>
     requires { AreRising records.now }
-    ensures { MatchOption result (IsMissing records.now c) (Stands records.now c) }
+    ensures { MatchOption result (entry_of records.now c ≡ None) (Stands (λ r. r.c) records.now c) }
 {
-    let at = first_place(records, c);
-    match records.get(at) {
-        None => None,
-        Some(record) => { if record.c == c { Some(at) } else { None } }
-    }
-}
-
-/// The place of the first record that doesn't stand before a character.
-fn first_place(records: &[Record], c: char) -> usize
-    requires { AreRising records.now }
-    ensures { IsPlaceOf records.now c result }
-{
-    records.partition_point(|record| record.c < c)
+    records.binary_search_by_key(&c, |record| record.c).ok()
 }
 
 /// The record of a character.
@@ -33,11 +21,8 @@ pub(crate) fn record_of(records: &[Record], c: char) -> Option<&Record>
     requires { AreRising records.now }
     ensures { option_map (λ r. r.now) result ≡ entry_of records.now c }
 {
-    let at = first_place(records, c);
-    match records.get(at) {
-        None => None,
-        Some(record) => { if record.c == c { Some(record) } else { None } }
-    }
+    let place = place_of(records, c)?;
+    Some(&records[place])
 }
 
 /// The recorded class of a character.
@@ -80,16 +65,8 @@ pub(crate) fn uts46_record_of(uts46: &[Uts46Record], c: char) -> Option<&Uts46Re
     requires { AreMapperRising uts46.now }
     ensures { option_map (λ r. r.now.status) result ≡ status_of uts46.now c }
 {
-    let at = first_mapper_place(uts46, c);
-    match uts46.get(at) {
-        None => None,
-        Some(record) => { if record.c == c { Some(record) } else { None } }
+    match uts46.binary_search_by_key(&c, |record| record.c) {
+        Ok(place) => Some(&uts46[place]),
+        Err(_) => None,
     }
-}
-
-fn first_mapper_place(uts46: &[Uts46Record], c: char) -> usize
-    requires { AreMapperRising uts46.now }
-    ensures { IsMapperPlaceOf uts46.now c result }
-{
-    uts46.partition_point(|record| record.c < c)
 }

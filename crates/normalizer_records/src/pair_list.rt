@@ -1,6 +1,5 @@
 //! The pairs that records give.
-ghost use Rattle.std.specs.Prelude.{◌≡◌, ◌↔◌, ◌++◌, [], false, IfOk, OnOk, IsTrue};
-ghost use Rattle.std.specs.List.{cons_option};
+ghost use Rattle.std.specs.Prelude.{◌≡◌, ◌↔◌, false, IfOk, IsTrue};
 ghost use Rattle.std.specs.List.Sorted.{IsPermutation, IsSorted};
 ghost use Rattle.normalizer_tables.specs.Pairs.{is_before, AreRising as ArePairsRising};
 ghost use Rattle.normalizer_records.specs.Faults.{HasPairFault};
@@ -32,27 +31,14 @@ fn pair_of_mapping(c: char, mapping: &[char]) -> Option<(char, char, char)>
     }
 }
 
-/// Adds a pair, if there is one.
-fn push_pair(
-    pairs: &mut Vec<(char, char, char)>,
-    pair: Option<(char, char, char)>,
-) -> Result<(), AllocError>
-    ensures { OnOk result (pairs.new.items ≡ pairs.old.items ++ cons_option pair []) }
-{
-    if let Some(pair) = pair {
-        pairs.push(pair)?;
-    }
-    Ok(())
-}
-
+#[tactic(auto, unfolding(crate::specs::Meaning::pairs_of))]
 fn unsorted_pairs(alloc: Global, records: &[Record]) -> Result<Vec<(char, char, char)>, AllocError>
     ensures { IfOk result (λ v. v.items ≡ pairs_of records.now) }
 {
-    let mut pairs = Vec::new(alloc);
-    for place in 0..records.len() {
-        push_pair(&mut pairs, pair_of_record(&records[place]))?;
-    }
-    Ok(pairs)
+    records
+        .iter()
+        .filter_map(|record| pair_of_record(record))
+        .collect(alloc)
 }
 
 /// The pairs of records, sorted by second, then by first. They strictly rise unless two records give the same pair.
@@ -62,16 +48,8 @@ pub fn pairs(alloc: Global, records: &[Record]) -> Result<Vec<(char, char, char)
     ensures rising { IfOk result (λ v. (¬ HasPairFault records.now) → ArePairsRising v.items) }
 {
     let mut pairs = unsorted_pairs(alloc, records)?;
-    sort_pairs(&mut pairs)?;
-    Ok(pairs)
-}
-
-fn sort_pairs(pairs: &mut Vec<(char, char, char)>) -> Result<(), AllocError>
-    ensures same { OnOk result (IsPermutation pairs.old.items pairs.new.items) }
-    ensures sorted { OnOk result (IsSorted by_second_and_first pairs.new.items) }
-{
     pairs.sort_by_key(|pair| (pair.0, pair.1))?;
-    Ok(())
+    Ok(pairs)
 }
 
 #[tactic(auto, unfolding(normalizer_tables::specs::Pairs::is_before))]

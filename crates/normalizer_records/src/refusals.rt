@@ -53,8 +53,7 @@ fn is_mapped_off_chains(
         None => true,
         Some(record) => match &record.status {
             Uts46Status::Mapped(mapping) => are_off_chains(records, lengths, mapping),
-            Uts46Status::Ignored => true,
-            Uts46Status::Disallowed => true,
+            _ => true,
         },
     }
 }
@@ -126,22 +125,10 @@ pub fn recorded_characters(
 ) -> Result<Vec<char>, AllocError>
     ensures { IfOk result (λ v. v.items ≡ map (λ r. r.c) records.now ++ map (λ r. r.c) uts46.now) }
 {
-    let mut characters = characters_of_records(alloc, records)?;
-    let mapped = characters_of_mapper(alloc, uts46)?;
+    let mut characters: Vec<char> = records.iter().map(|record| record.c).collect(alloc)?;
+    let mapped: Vec<char> = uts46.iter().map(|record| record.c).collect(alloc)?;
     characters.extend_from_slice(&mapped)?;
     Ok(characters)
-}
-
-fn characters_of_records(alloc: Global, records: &[Record]) -> Result<Vec<char>, AllocError>
-    ensures { IfOk result (λ v. v.items ≡ map (λ r. r.c) records.now) }
-{
-    records.iter().map(|record| record.c).collect(alloc)
-}
-
-fn characters_of_mapper(alloc: Global, uts46: &[Uts46Record]) -> Result<Vec<char>, AllocError>
-    ensures { IfOk result (λ v. v.items ≡ map (λ r. r.c) uts46.now) }
-{
-    uts46.iter().map(|record| record.c).collect(alloc)
 }
 
 /// The first refusal of records that rise and have no fixed character.

@@ -1,12 +1,13 @@
 -- How long chains of records are, for the record at each place.
 use Rattle.std.specs.Prelude.{◌≡◌, ℕ, ◌+◌, ◌<◌, ◌≤◌, ◌⊎◌, min, false, List, [], ◌∷◌, length, slice_index}
-use Rattle.std.specs.Prelude.{slice_index_or, Contains}
+use Rattle.std.specs.Prelude.{slice_index_or, replicate, Contains}
 use Rattle.normalizer_records.specs.declared.chains.ChainLengths.{ChainLengths}
 use Rattle.normalizer_records.specs.declared.chains.Direction.{Direction}
 use Rattle.normalizer_records.specs.declared.chains.Direction.TheVariants.{Down, Up}
 use Rattle.normalizer_records.specs.Entry.{Entry}
 use Rattle.normalizer_records.specs.Meaning.{chain_limit, mapping_of}
 use Rattle.normalizer_records.specs.Faults.{AreRising, IsRecorded}
+use Rattle.normalizer_records.specs.inner.Cut.{IsOfSome}
 
 -- what stands past the end of the records
 abbrev pub no_entry : Entry
@@ -26,7 +27,7 @@ GoesOn records direction c [] = Unit {0}
 GoesOn records direction c (d ∷ rest) = Follows records direction c d
 
 -- recorded characters, each followed by the next
-unfoldable pub IsWalk : List Entry → Direction → List ℕ → Type 0
+abbrev pub IsWalk : List Entry → Direction → List ℕ → Type 0
 IsWalk records direction [] = Unit {0}
 IsWalk records direction (c ∷ rest) =
     IsRecorded records c × GoesOn records direction c rest × IsWalk records direction rest
@@ -41,9 +42,9 @@ unfoldable pub IsLinked : List Entry → Direction → ℕ → ℕ → ℕ → �
 IsLinked records direction place member k l =
     (other : ℕ) × (other < length records) × ((entry_at records other).c ≡ member) × AreEnds direction place other k l
 
-unfoldable pub IsLinkedByAny : List Entry → Direction → ℕ → List ℕ → ℕ → ℕ → Type 0
+abbrev pub IsLinkedByAny : List Entry → Direction → ℕ → List ℕ → ℕ → ℕ → Type 0
 IsLinkedByAny records direction place members k l =
-    (member : ℕ) × Contains members member × IsLinked records direction place member k l
+    IsOfSome (λ member. IsLinked records direction place member k l) members
 
 unfoldable pub IsLinkedBelow : List Entry → Direction → ℕ → ℕ → ℕ → Type 0
 IsLinkedBelow records direction end k l =
@@ -62,16 +63,9 @@ abbrev pub character_at : List Entry → ℕ → ℕ
 character_at records place = (entry_at records place).c
 
 -- the lengths of chains by those of chains that are one record shorter
-pub record IsStep (records : List Entry) (direction : Direction) (old new : List ℕ) : Type 0 where
-  pub as_long : length new ≡ length records
-  pub positive : (k : ℕ) → k < length records → 0 < slice_index new k
-  pub reached : (k l : ℕ) → k < length records → l < length records →
-      Follows records direction (character_at records k) (character_at records l) →
-      slice_index old l < slice_index new k
-  pub attained : (k : ℕ) → k < length records →
-      (slice_index new k ≡ 1) ⊎ ((l : ℕ) × (l < length records)
-      × Follows records direction (character_at records k) (character_at records l)
-      × (slice_index new k ≡ slice_index old l + 1))
+abbrev pub IsStep : List Entry → Direction → List ℕ → List ℕ → Type 0
+IsStep records direction old new =
+    IsRaised (IsLinkedBelow records direction (length records)) old (replicate (length records) 1) new
 
 -- the length at each place is that of the longest walk from there, or the limit where there is a longer one
 pub record Measures (records : List Entry) (direction : Direction) (limit : ℕ) (lengths : List ℕ) : Type 0 where

@@ -1,13 +1,13 @@
 -- Lists that are cut where they are too long anyway.
-use Rattle.std.specs.Prelude.{◌≡◌, ℕ, ◌<◌, ◌⊎◌, List, length, Option, Some, None, Contains}
+use Rattle.std.specs.Prelude.{◌≡◌, ◌↔◌, ℕ, ◌≤◌, Bool, List, length, Option, Some, None, Contains}
 use Rattle.normalizer_records.specs.Entry.{Entry}
-use Rattle.normalizer_records.specs.Faults.{begins_with_mark}
+use Rattle.normalizer_records.specs.Faults.{IsTooLong, IsWrong}
 
--- a list, or one that like it is longer than 18, and begins with a mark exactly where it does
-abbrev pub StandsFor : List Entry → List ℕ → List ℕ → Type 0
-StandsFor records list cut =
-    (cut ≡ list)
-    ⊎ ((18 < length list) × (18 < length cut) × (begins_with_mark records cut ≡ begins_with_mark records list))
+-- a list of at most 18, or one of which the same is true as of the list
+pub record StandsFor (records : List Entry) (list cut : List ℕ) : Type 0 where
+  pub short : length list ≤ 18 → cut ≡ list
+  pub wrong : (c : ℕ) (is_mark : Bool) → IsWrong records c is_mark cut ↔ IsWrong records c is_mark list
+  pub long : IsTooLong cut ↔ IsTooLong list
 
 -- the mapper has the same list, or none as well
 abbrev pub MayStandFor : List Entry → Option (List ℕ) → Option (List ℕ) → Type 0

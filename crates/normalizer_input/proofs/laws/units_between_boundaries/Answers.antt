@@ -4,8 +4,8 @@ use Rattle.normalizer_text.proofs.BoundaryLemmas.{decoded-between}
 use Rattle.normalizer_input.proofs.InputBoundaryLemmas.{well_formed-between}
 use Rattle.normalizer_input.proofs.laws.units_between_boundaries.Goals as goal
 
-pub returns-clause-well_formed : goal.returns-clause-well_formed
-returns-clause-well_formed c = well_formed-between
-
-pub returns-clause-text : goal.returns-clause-text
-returns-clause-text c = λ e units n m a b. decoded-between (first_in e) (IsDecoding-first e) units n m a.boundary b.boundary
+pub returns : goal.returns
+returns c = record {
+  well_formed = well_formed-between;
+  text = λ e units n m a b. decoded-between (first_in e) (IsDecoding-first e) units n m a.boundary b.boundary;
+}

@@ -1,14 +1,14 @@
-use Rattle.std.proofs.Common.{◌≡◌, ◌<◌, length, get_or, sym, subst, arith}
+use Rattle.std.proofs.Common.{◌≡◌, ◌<◌, length, get_or, is_some, ap, sym, subst, ◌∙◌, arith}
+use Rattle.std.proofs.lemmas.Bool.{true≢false}
 use Rattle.std.proofs.lemmas.Bool.Decides.{nat_tests}
 use Rattle.std.proofs.lemmas.List.{get_or_read}
 use Rattle.normalizer_records.specs.Faults.{IsOnLongChain}
 use Rattle.normalizer_records.specs.inner.ChainLengths.{character_at, no_entry}
-use Rattle.normalizer_records.proofs.ChainLemmas.{not_recorded}
 use Rattle.normalizer_records.proofs.WalkLemmas.{IsRecorded-on_chain, IsOnLongChain-from_lengths, lengths_from_IsOnLongChain}
 use Rattle.normalizer_records.proofs.chains.is_on_long_chain.Goals as goal
 
 pub returns-in-None : goal.returns-in-None
-returns-in-None c = (λ fails. absurd cc, λ on. absurd (not_recorded c.args.records.now c.args.c c.in-None.ensures (IsRecorded-on_chain c.args.records.now c.args.c on)))
+returns-in-None c = (λ fails. absurd cc, λ on. absurd (true≢false (sym (IsRecorded-on_chain c.args.records.now c.args.c on) ∙ ap is_some c.in-None.ensures)))
 
 pub returns-in-Some : goal.returns-in-Some
 returns-in-Some c =

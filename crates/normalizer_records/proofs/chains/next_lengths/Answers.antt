@@ -1,7 +1,6 @@
 use Rattle.std.proofs.Common.{◌≡◌, ◌+◌, ℕ, length, replicate, subst, arith}
 use Rattle.normalizer_records.specs.inner.ChainLengths.{entry_at, IsLinkedByAny, IsLinkedBelow, IsRaised}
-use Rattle.normalizer_records.proofs.ChainLemmas.{whole, IsRaised-none, IsRaised-both, below_none, below_more, below_before, below_last}
-use Rattle.normalizer_records.proofs.StepLemmas.{IsStep-from_raised}
+use Rattle.normalizer_records.proofs.ChainLemmas.{whole, IsRaised-none, IsRaised-both, below_none, below_more}
 use Rattle.normalizer_records.proofs.chains.next_lengths.Goals as goal
 
 pub loop-place-init : goal.loop-place-init
@@ -17,13 +16,9 @@ loop-place-preserved c =
     let raised = rw c.as_mut_slice.ensures.value at c.raise_by_record.ensures in
     let same = whole c.loop-place.lengths.len new c.loop-place.lengths.items raised.as_long (omega (arith, c.as_mut_slice.ensures.len, c.as_mut_slice.ensures.value)) in
     rw same (IsRaised-both (IsLinkedBelow records c.args.direction place) (IsLinkedByAny records c.args.direction place (entry_at records place).mapping)
-    (IsLinkedBelow records c.args.direction (place + 1)) _ _ _ _
-    (below_more records c.args.direction place) (below_before records c.args.direction place) (below_last records c.args.direction place)
-    c.loop-place.invariant raised)
+    (IsLinkedBelow records c.args.direction (place + 1)) _ _ _ _ (below_more records c.args.direction place) c.loop-place.invariant raised)
 
 pub returns : goal.returns
 returns c =
-    let records = c.args.records.now in
-    let all : c.loop-place.place ≡ length records = omega arith in
-    IsStep-from_raised records c.requires.rising c.args.direction c.args.old.now c.loop-place.lengths.items
-    (subst (λ (n : ℕ). IsRaised (IsLinkedBelow records c.args.direction n) c.args.old.now (replicate (length records) 1) c.loop-place.lengths.items) all c.loop-place.invariant)
+    let all : c.loop-place.place ≡ length c.args.records.now = omega arith in
+    subst (λ (n : ℕ). IsRaised (IsLinkedBelow c.args.records.now c.args.direction n) c.args.old.now (replicate (length c.args.records.now) 1) c.loop-place.lengths.items) all c.loop-place.invariant

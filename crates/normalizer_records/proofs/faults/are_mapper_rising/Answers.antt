@@ -1,11 +1,7 @@
 use Rattle.std.proofs.Common.{rules, nat_lt}
 use Rattle.std.proofs.lemmas.List.Sorted.{answers_always}
 use Rattle.normalizer_records.proofs.LookupLemmas.{rising-decides}
-use Rattle.normalizer_records.specs.Entry.{MapperEntry, IsIgnored}
 use Rattle.normalizer_records.proofs.faults.are_mapper_rising.Goals as goal
 
-any : MapperEntry
-any = record { c = 0; status = IsIgnored }
-
 pub returns : goal.returns
-returns c = rising-decides (λ r. r.c) any _ _ (c.is_sorted_by.ensures.cases (λ p q. nat_lt p.c q.c) (answers_always _ _ _ (λ f a r f' k. search rules)))
+returns c = rising-decides (λ r. r.c) _ _ (c.is_sorted_by.ensures.cases (λ p q. nat_lt p.c q.c) (answers_always _ _ _ (λ f a r f' k. search rules)))

@@ -1,7 +1,7 @@
-use Rattle.normalizer_records.specs.Meaning.{full_list, expansion, levels}
-use Rattle.normalizer_records.proofs.CutLemmas.{StandsFor-cut}
+use Rattle.std.proofs.Common.{append-nil}
+use Rattle.normalizer_records.specs.Meaning.{full_list, expand_all, expansion, levels}
 use Rattle.normalizer_records.proofs.list_faults.cut_list.Goals as goal
 
 pub returns : goal.returns
-unfolding full_list
-returns c = rw c.in_ok-list.ensures (StandsFor-cut c.args.records.now (expansion c.args.records.now c.args.mappings levels c.args.c))
+unfolding full_list expand_all
+returns c = rw (append-nil (expansion c.args.records.now c.args.mappings levels c.args.c)) at c.in_ok-list.ensures

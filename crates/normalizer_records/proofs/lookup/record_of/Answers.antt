@@ -1,24 +1,8 @@
-use Rattle.std.proofs.Common.{◌≡◌, ◌≢◌, ap, sym}
-use Rattle.normalizer_records.specs.Entry.{Entry}
-use Rattle.normalizer_records.specs.inner.Lookup.{IsPlaceOf}
+use Rattle.std.proofs.Common.{sym}
 use Rattle.normalizer_records.specs.Meaning.{entry_of}
-use Rattle.normalizer_records.proofs.LookupLemmas.{find-none, find-found, misses_all, misses_above}
+use Rattle.normalizer_records.proofs.LookupLemmas.{find-found}
 use Rattle.normalizer_records.proofs.lookup.record_of.Goals as goal
 
-pub returns-in-None : goal.returns-in-None
-unfolding IsPlaceOf entry_of
-returns-in-None c = sym (find-none _ _ (misses_above (λ r. r.c) _ c.requires _ _ c.first_place-at.ensures c.in-None.ensures.lookup.3))
-
-pub returns-then-record-c : goal.returns-then-record-c
-unfolding IsPlaceOf entry_of
-returns-then-record-c c =
-    let seen = ap (λ (e : Entry). e.c) c.record.view_is in
-    let same : c.in-Some.record.now.c ≡ c.args.c = cc in
-    sym (find-found (λ r. r.c) _ c.requires _ _ c.first_place-at.ensures c.in-Some.record.now c.in-Some.ensures.lookup.3.0 c.in-Some.ensures.lookup.1 same)
-
-pub returns-else-record-c : goal.returns-else-record-c
-unfolding IsPlaceOf entry_of
-returns-else-record-c c =
-    let seen = ap (λ (e : Entry). e.c) c.record.view_is in
-    let other : c.in-Some.record.now.c ≢ c.args.c = λ same. c.if-record-c.false cc in
-    sym (find-none _ _ (misses_all (λ r. r.c) _ c.requires _ _ c.first_place-at.ensures c.in-Some.record.now c.in-Some.ensures.lookup.3.0 c.in-Some.ensures.lookup.1 other))
+pub returns : goal.returns
+unfolding entry_of
+returns c = sym (find-found (λ r. r.c) _ c.requires c.args.c _ _ c.in_ok-place.ensures c.index-records-place.is)

@@ -1,26 +1,20 @@
-use Rattle.std.proofs.Common.{◌≡◌, ◌≢◌, ap, sym}
+use Rattle.std.proofs.Common.{Ok, Err, rules, sym, ap}
+use Rattle.std.proofs.lemmas.List.Sorted.{answers_always}
 use Rattle.std.specs.Option.{option_map}
-use Rattle.normalizer_records.specs.Entry.{MapperEntry}
-use Rattle.normalizer_records.specs.inner.Lookup.{IsMapperPlaceOf}
 use Rattle.normalizer_records.specs.Meaning.{status_of}
-use Rattle.normalizer_records.proofs.LookupLemmas.{find-none, find-found, misses_all, misses_above}
+use Rattle.normalizer_records.proofs.LookupLemmas.{find-found, searched}
 use Rattle.normalizer_records.proofs.lookup.uts46_record_of.Goals as goal
 
-pub returns-in-None : goal.returns-in-None
-unfolding IsMapperPlaceOf status_of
-returns-in-None c = ap (option_map (λ r. r.status)) (sym (find-none _ _ (misses_above (λ r. r.c) _ c.requires _ _ c.first_mapper_place-at.ensures c.in-None.ensures.lookup.3)))
+pub returns-in-Ok : goal.returns-in-Ok
+unfolding status_of
+returns-in-Ok c =
+    let found = c.in-Ok.ensures in
+    let at = searched (λ r. r.c) _ c.requires c.args.c (Ok c.in-Ok.place) found.bound (found.position (λ r. r.c) (answers_always _ _ _ (λ f a r g called. search rules))) in
+    ap (option_map (λ r. r.status)) (sym (find-found (λ r. r.c) _ c.requires c.args.c _ _ at c.index-uts46-place.is))
 
-pub returns-then-record-c : goal.returns-then-record-c
-unfolding IsMapperPlaceOf status_of
-returns-then-record-c c =
-    let seen = ap (λ (e : MapperEntry). e.c) c.record.view_is in
-    let same : c.in-Some.record.now.c ≡ c.args.c = cc in
-    ap (option_map (λ r. r.status)) (sym (find-found (λ r. r.c) _ c.requires _ _ c.first_mapper_place-at.ensures c.in-Some.record.now c.in-Some.ensures.lookup.3.0 c.in-Some.ensures.lookup.1 same))
-
-pub returns-else-record-c : goal.returns-else-record-c
-unfolding IsMapperPlaceOf status_of
-returns-else-record-c c =
-    let seen = ap (λ (e : MapperEntry). e.c) c.record.view_is in
-    let other : c.in-Some.record.now.c ≢ c.args.c = λ same. c.if-record-c.false cc in
-    ap (option_map (λ r. r.status))
-    (sym (find-none _ _ (misses_all (λ r. r.c) _ c.requires _ _ c.first_mapper_place-at.ensures c.in-Some.record.now c.in-Some.ensures.lookup.3.0 c.in-Some.ensures.lookup.1 other)))
+pub returns-in-Err : goal.returns-in-Err
+unfolding status_of
+returns-in-Err c =
+    let found = c.in-Err.ensures in
+    let none = searched (λ r. r.c) _ c.requires c.args.c (Err c.in-Err.field-0) found.bound (found.position (λ r. r.c) (answers_always _ _ _ (λ f a r g called. search rules))) in
+    ap (option_map (λ r. r.status)) (sym none)
