@@ -1,17 +1,19 @@
 -- The words of a table in blocks.
-use Rattle.std.proofs.Common.{◌≡◌, ◌≢◌, ℕ, ◌+◌, ◌*◌, ◌/◌, ◌%◌, ◌<◌, ◌≤◌, List, [], ◌∷◌, ◌++◌, length, get_or, map, replicate, Bool, false, None, refl, inl, inr, arith, ap, sym, subst, ◌∙◌, zero, suc, zero-add}
+use Rattle.std.proofs.Common.{add-one, All, AllPairs, ltb, nat_eq, ◌≡◌, ◌≢◌, ℕ, ◌+◌, ◌*◌, ◌/◌, ◌%◌, ◌<◌, ◌≤◌, List, [], ◌∷◌, ◌++◌, length, get_or, map, replicate, Bool, None, refl, inl, inr, arith, ap, sym, subst, ◌∙◌, zero, suc, zero-add}
 use Rattle.std.specs.List.{range_with_len, position, position_or_len}
 use Rattle.std.proofs.lemmas.Grind.{common_steps}
-use Rattle.std.proofs.lemmas.List.Sums.{fails_before_first}
-use Rattle.std.proofs.lemmas.List.{ext_get_or, get_or_default, get_or_read, get_or_push, get_or_append_left, length_push}
-use Rattle.std.proofs.lemmas.List.FromFn.{get_or-map-range_with_len, length-map-range_with_len}
+use Rattle.std.proofs.lemmas.List.Sums.{fails_before_first, passes_at_first, prefix_len-le-length}
+use Rattle.std.proofs.lemmas.List.Elements.{All-push}
+use Rattle.std.specs.Cmp.Lexicographic.{pointwise, bytes_decides}
+use Rattle.std.proofs.lemmas.List.{ext_get_or, get_or_read, get_or_push, get_or_append_left, length_push}
+use Rattle.std.proofs.lemmas.List.FromFn.{get_or-map-range_with_len, length-map-range_with_len, map-range_with_len_more}
 use Rattle.std.proofs.lemmas.List.Quantifiers.{all_pairs_push}
-use Rattle.std.proofs.lemmas.Bool.{cases_order}
+use Rattle.std.proofs.lemmas.Bool.{cases_lt, cond_both, ltb-true, ltb-false}
 use Rattle.std.proofs.Math.Nat.{eq-or-lt_of_le}
 use Rattle.normalizer_tables.specs.Table.{Block, block_places}
-use Rattle.normalizer_tables.specs.inner.Blocks.{block_at, stored_word, stored_words, range_block, IsFirstFrom, IsFirstUse, IsStored, IsJoined}
+use Rattle.normalizer_tables.specs.inner.Blocks.{block_at, stored_word, stored_words, range_block, IsFirstFrom, block_of, number_in, joined, blocks_to, numbers_to, IsStored}
 use Rattle.normalizer_tables.specs.Ranges.{WordRange, IsRangeList, word_in, words_of}
-use Rattle.normalizer_tables.proofs.WordsInRanges.{word_in-point, word_in-gap, word_in-above}
+use Rattle.normalizer_tables.proofs.WordsInRanges.{word_in-point, word_in-gap}
 use Rattle.normalizer_tables.specs.Table.{code_points}
 
 -- numbers that all have one word
@@ -24,13 +26,9 @@ constant_words f start (suc n) w same =
 
 -- the words of a block that no range reaches, or one range covers
 module _ (rs : List WordRange) (start at : ℕ) (first : IsFirstFrom rs start at) where
-  pub range_block-above : length rs ≤ at → replicate 64 0 ≡ range_block rs start
+  pub range_block-gap : IsRangeList rs → (at < length rs → start + 64 ≤ (get_or rs at (0, 0, 0)).0) → replicate 64 0 ≡ range_block rs start
   unfolding range_block
-  range_block-above above = constant_words (word_in rs) start 64 0 (λ m low high. word_in-above rs start at first m low above)
-
-  pub range_block-gap : (r : WordRange) → IsRangeList rs → at < length rs → r ≡ get_or rs at r → start + 64 ≤ r.0 → replicate 64 0 ≡ range_block rs start
-  unfolding range_block
-  range_block-gap r h within is gap = constant_words (word_in rs) start 64 0 (λ m low high. word_in-gap rs start at first m low r h within is (omega arith))
+  range_block-gap h gap = constant_words (word_in rs) start 64 0 (λ m low high. word_in-gap rs start at first m low h (λ within. omega (arith, gap within)))
 
   pub range_block-covered : (r : WordRange) → at < length rs → r ≡ get_or rs at r → r.0 ≤ start → start + 63 ≤ r.1 → replicate 64 r.2 ≡ range_block rs start
   unfolding range_block
@@ -59,10 +57,6 @@ unfolding range_block
 range_block-from_words rs start block long words =
     ext_get_or 0 block _ (long ∙ sym (length-map-range_with_len (word_in rs) start 64)) (λ k below. words k (omega arith) ∙ sym (get_or-map-range_with_len (word_in rs) start 64 k (start + k) 0 (omega arith) refl))
 
-pub length-range_block : (rs : List WordRange) (start : ℕ) → length (range_block rs start) ≡ 64
-unfolding range_block
-length-range_block rs start = length-map-range_with_len (word_in rs) start 64
-
 pub length-stored_words : (blocks : List Block) (numbers : List ℕ) → length (stored_words blocks numbers) ≡ code_points
 unfolding stored_words
 length-stored_words blocks numbers = length-map-range_with_len (stored_word blocks numbers) 0 code_points
@@ -80,127 +74,122 @@ pub place-reaches : (place : ℕ) → place < block_places → 64 * place + 64 �
 unfolding code_points
 place-reaches place low = omega arith
 
--- blocks that have the words of ranges store them
-pub stored_words-words_of : (rs : List WordRange) (blocks : List Block) (numbers : List ℕ) → ((place : ℕ) → place < block_places → block_at blocks numbers place ≡ range_block rs (place * 64)) → stored_words blocks numbers ≡ words_of rs
-unfolding words_of range_block
-stored_words-words_of rs blocks numbers same =
-    ext_get_or 0 (stored_words blocks numbers) (map (word_in rs) (range_with_len 0 code_points)) (length-stored_words blocks numbers ∙ sym (length-map-range_with_len (word_in rs) 0 code_points)) (λ n below. by n (subst (λ (k : ℕ). n < k) (length-stored_words blocks numbers) below))
-  where
-    by : (n : ℕ) → n < code_points → get_or (stored_words blocks numbers) n 0 ≡ get_or (map (word_in rs) (range_with_len 0 code_points)) n 0
-    by n low =
-        get_or-stored_words blocks numbers n low
-        ∙ ap (λ b. get_or b (n % 64) 0) (same (n / 64) (place-within n low))
-        ∙ get_or-map-range_with_len (word_in rs) (n / 64 * 64) 64 (n % 64) n 0 (omega arith) (omega arith)
-        ∙ sym (get_or-map-range_with_len (word_in rs) 0 code_points n n 0 low (zero-add n))
+-- the block of ranges is that of their words
+pub range_block-of : (rs : List WordRange) (place : ℕ) → place < block_places → range_block rs (place * 64) ≡ block_of (words_of rs) place
+unfolding range_block words_of
+range_block-of rs place low = ext_get_or 0 _ _ (length-map-range_with_len (word_in rs) (place * 64) 64 ∙ sym (length-map-range_with_len (λ n. get_or (words_of rs) n 0) (64 * place) 64)) (λ j below.
+    let inside : j < 64 = omega (arith, length-map-range_with_len (word_in rs) (place * 64) 64) in
+    get_or-map-range_with_len (word_in rs) (place * 64) 64 j (place * 64 + j) 0 inside refl
+    ∙ sym (get_or-map-range_with_len (word_in rs) 0 code_points (place * 64 + j) (place * 64 + j) 0 (omega (arith, place-reaches place low)) (zero-add (place * 64 + j)))
+    ∙ sym (get_or-map-range_with_len (λ n. get_or (words_of rs) n 0) (64 * place) 64 j (place * 64 + j) 0 inside (omega arith)))
 
--- the word of a code point by the place of its block and its own in the block
-pub get_or-block_at : (blocks : List Block) (numbers : List ℕ) (place j : ℕ) → place < block_places → j < 64 → get_or (stored_words blocks numbers) (place * 64 + j) 0 ≡ get_or (block_at blocks numbers place) j 0
-unfolding code_points
-get_or-block_at blocks numbers place j low below =
-    let at : (place * 64 + j) / 64 ≡ place = omega arith in
-    let offset : (place * 64 + j) % 64 ≡ j = omega arith in
-    get_or-stored_words blocks numbers (place * 64 + j) (omega arith) ∙ ap (λ k. get_or (block_at blocks numbers k) ((place * 64 + j) % 64) 0) at ∙ ap (λ k. get_or (block_at blocks numbers place) k 0) offset
+module _ (bs : List Block) (b : Block) where
+  pub number_in-le : number_in bs b ≤ length bs
+  number_in-le = prefix_len-le-length _ bs
 
--- nothing is stored at first
-pub IsStored-none : IsStored 0 [] []
-IsStored-none = record {
-  complete = refl;
-  few = omega arith;
-  full = λ j below. absurd (omega arith);
-  within = λ k below. absurd (omega arith);
-  apart = λ i j d lt within. absurd (omega arith);
-  used = λ j below. absurd (omega arith);
-}
+  -- a block stands at its number, and the others where they stood
+  joined-here : (number_in bs b < length (joined bs b)) × (get_or (joined bs b) (number_in bs b) [] ≡ b)
+  joined-here = cond_both (ltb (number_in bs b) (length bs)) bs (bs ++ b ∷ []) (λ cs. (number_in bs b < length cs) × (get_or cs (number_in bs b) [] ≡ b))
+      (λ kept. (ltb-true _ _ kept, (bytes_decides _ _).0 (passes_at_first (λ c. pointwise nat_eq c b) bs [] (ltb-true _ _ kept))))
+      (λ new.
+      let last : length bs ≡ number_in bs b = omega (arith, ltb-false _ _ new, number_in-le) in
+      (omega (arith, length_push bs b), get_or_push bs b [] _ last))
+
+  joined-earlier : (j : ℕ) → j < length bs → (j < length (joined bs b)) × (get_or (joined bs b) j [] ≡ get_or bs j [])
+  joined-earlier j below = cond_both (ltb (number_in bs b) (length bs)) bs (bs ++ b ∷ []) (λ cs. (j < length cs) × (get_or cs j [] ≡ get_or bs j []))
+      (λ _. (below, refl)) (λ _. (omega (arith, length_push bs b), get_or_append_left bs (b ∷ []) [] j below))
+
+  pub joined-apart : AllPairs (λ c d. c ≢ d) bs → AllPairs (λ c d. c ≢ d) (joined bs b)
+  joined-apart apart = cond_both (ltb (number_in bs b) (length bs)) bs (bs ++ b ∷ []) (AllPairs (λ c d. c ≢ d))
+      (λ _. apart) (λ new. all_pairs_push (λ c d. c ≢ d) bs b apart (λ k d below same.
+      let passed = fails_before_first (λ c. pointwise nat_eq c b) bs k d (omega (arith, ltb-false _ _ new)) in
+      let equal = (bytes_decides (get_or bs k d) b).1 same in
+      cc))
+
+  pub joined-each : (P : Block → Type 0) → All P bs → P b → All P (joined bs b)
+  joined-each P all it = cond_both (ltb (number_in bs b) (length bs)) bs (bs ++ b ∷ []) (All P) (λ _. all) (λ _. All-push P bs b all it)
+
+  joined-length : length (joined bs b) ≤ length bs + 1
+  joined-length = cond_both (ltb (number_in bs b) (length bs)) bs (bs ++ b ∷ []) (λ cs. length cs ≤ length bs + 1) (λ _. omega arith) (λ _. omega (arith, length_push bs b))
 
 -- one more place
-module _ (places : ℕ) (blocks : List Block) (numbers : List ℕ) (stored : IsStored places blocks numbers) (block : Block) (new : List Block) (number : ℕ) where
-  earlier_number : (k : ℕ) → k < places → get_or (numbers ++ number ∷ []) k 0 ≡ get_or numbers k 0
-  earlier_number k below = get_or_append_left numbers (number ∷ []) 0 k (omega (arith, stored.complete))
+pub blocks_to-more : (words : List ℕ) (n : ℕ) → blocks_to words (n + 1) ≡ joined (blocks_to words n) (block_of words n)
+unfolding blocks_to
+blocks_to-more words n = ap (blocks_to words) (add-one n)
 
-  last_number : get_or (numbers ++ number ∷ []) places 0 ≡ number
-  last_number = get_or_push numbers number 0 places stored.complete
+pub numbers_to-more : (words : List ℕ) (n : ℕ) → numbers_to words (n + 1) ≡ numbers_to words n ++ number_in (blocks_to words n) (block_of words n) ∷ []
+unfolding numbers_to
+numbers_to-more words n = map-range_with_len_more (λ place. number_in (blocks_to words place) (block_of words place)) 0 n n (zero-add n)
 
-  still_used : (j k : ℕ) → IsFirstUse numbers j k → IsFirstUse (numbers ++ number ∷ []) j k
-  still_used j k h = record {
-    within = omega (arith, h.within, length_push numbers number);
-    here = earlier_number k (omega (arith, h.within, stored.complete)) ∙ h.here;
-    before = λ i below. rw (earlier_number i (omega (arith, h.within, stored.complete))) (h.before i below);
-  }
+pub length-blocks_to : (words : List ℕ) (n : ℕ) → length (blocks_to words n) ≤ n
+unfolding blocks_to
+length-blocks_to words zero = omega arith
+length-blocks_to words (suc n) = omega (arith, joined-length (blocks_to words n) (block_of words n), length-blocks_to words n)
 
-  pub IsStored-joined : length block ≡ 64 → IsJoined blocks block new number → IsStored (places + 1) new (numbers ++ number ∷ [])
-  unfolding IsJoined
-  IsStored-joined long (inl kept) = subst (λ (bs : List Block). IsStored (places + 1) bs (numbers ++ number ∷ [])) (sym kept.0) (record {
-    complete = length_push numbers number ∙ ap (λ n. n + 1) stored.complete;
-    few = omega (arith, stored.few);
-    full = stored.full;
-    within = λ k below. elim (cases_order k places) as (λ _. get_or (numbers ++ number ∷ []) k 0 < length blocks) [
-      | inl same ↦ rw same (rw last_number kept.1)
-      | inr (inl low) ↦ rw (earlier_number k low) (stored.within k low)
-      | inr (inr high) ↦ absurd (omega arith)
-    ];
-    apart = stored.apart;
-    used = λ j below. let h = stored.used j below in (h.0, still_used j h.0 h.1);
-  })
-  IsStored-joined long (inr more) = subst (λ (bs : List Block). IsStored (places + 1) bs (numbers ++ number ∷ [])) (sym more.0) (record {
-    complete = length_push numbers number ∙ ap (λ n. n + 1) stored.complete;
-    few = omega (arith, stored.few, length_push blocks block);
-    full = λ j below. elim (cases_order j (length blocks)) as (λ _. length (get_or (blocks ++ block ∷ []) j []) ≡ 64) [
-      | inl same ↦ rw (get_or_push blocks block [] j (sym same)) long
-      | inr (inl low) ↦ rw (get_or_append_left blocks (block ∷ []) [] j low) (stored.full j low)
-      | inr (inr high) ↦ absurd (omega (arith, length_push blocks block))
-    ];
-    within = λ k below. elim (cases_order k places) as (λ _. get_or (numbers ++ number ∷ []) k 0 < length (blocks ++ block ∷ [])) [
-      | inl same ↦ rw same (rw last_number (omega (arith, more.1, length_push blocks block)))
-      | inr (inl low) ↦ rw (earlier_number k low) (omega (arith, stored.within k low, length_push blocks block))
-      | inr (inr high) ↦ absurd (omega arith)
-    ];
-    apart = all_pairs_push (λ b c. b ≢ c) blocks block stored.apart (λ k d below same. more.2 k below (get_or_default blocks k [] d below ∙ same));
-    used = λ j below. elim (cases_order j (length blocks)) as (λ _. (k : ℕ) × IsFirstUse (numbers ++ number ∷ []) j k) [
-      | inl same ↦ (
-        places,
-        record {
-          within = omega (arith, length_push numbers number, stored.complete);
-          here = last_number ∙ more.1 ∙ sym same;
-          before = λ i low. rw (earlier_number i low) (omega (arith, stored.within i low));
-        },
-      )
-      | inr (inl low) ↦ let h = stored.used j low in (h.0, still_used j h.0 h.1)
-      | inr (inr high) ↦ absurd (omega (arith, length_push blocks block))
-    ];
-  })
+-- the number of each place is that of its block
+block_numbered : (words : List ℕ) (n k : ℕ) → k < n
+    → (number_in (blocks_to words k) (block_of words k) < length (blocks_to words n)) × (get_or (blocks_to words n) (number_in (blocks_to words k) (block_of words k)) [] ≡ block_of words k)
+unfolding blocks_to
+block_numbered words zero k below = absurd (omega arith)
+block_numbered words (suc n) k below = elim (cases_lt k n) [
+  | inl earlier ↦
+      let before = block_numbered words n k earlier in
+      let still = joined-earlier (blocks_to words n) (block_of words n) _ before.0 in
+      (still.0, still.1 ∙ before.1)
+  | inr last ↦
+      let same : n ≡ k = omega arith in
+      subst (λ m. (number_in (blocks_to words m) (block_of words m) < length (blocks_to words (suc n)))
+      × (get_or (blocks_to words (suc n)) (number_in (blocks_to words m) (block_of words m)) [] ≡ block_of words m))
+      same (joined-here (blocks_to words n) (block_of words n))
+]
 
-  pub joined-few : IsJoined blocks block new number → number ≤ places
-  unfolding IsJoined
-  joined-few (inl kept) = omega (arith, kept.1, stored.few)
-  joined-few (inr more) = omega (arith, more.1, stored.few)
+pub block_at-to : (words : List ℕ) (n k : ℕ) → k < n → (get_or (numbers_to words n) k 0 < length (blocks_to words n)) × (block_at (blocks_to words n) (numbers_to words n) k ≡ block_of words k)
+unfolding numbers_to block_at
+block_at-to words n k below =
+    rw (get_or-map-range_with_len (λ place. number_in (blocks_to words place) (block_of words place)) 0 n k k 0 below (zero-add k)) (block_numbered words n k below)
 
-  -- the block stands at the new place, and the others stay where they were
-  pub block_at-joined : IsJoined blocks block new number → block_at new (numbers ++ number ∷ []) places ≡ block
-  unfolding IsJoined block_at
-  block_at-joined (inl kept) = rw (last_number, kept.0) kept.2
-  block_at-joined (inr more) = rw (last_number, more.0, more.1) (get_or_push blocks block [] (length blocks) refl)
+module _ (blocks : List Block) (numbers words : List ℕ) (s : IsStored blocks numbers words) where
+  pub length-numbers : length numbers ≡ block_places
+  unfolding numbers_to
+  length-numbers = ap length s.in_order ∙ length-map-range_with_len (λ place. number_in (blocks_to words place) (block_of words place)) 0 block_places
 
-  pub block_at-earlier : IsJoined blocks block new number → (place : ℕ) → place < places → block_at new (numbers ++ number ∷ []) place ≡ block_at blocks numbers place
-  unfolding IsJoined block_at
-  block_at-earlier (inl kept) place low = rw (earlier_number place low, kept.0) refl
-  block_at-earlier (inr more) place low = rw (earlier_number place low, more.0) (get_or_append_left blocks (block ∷ []) [] _ (stored.within place low))
+  pub block_at-stored : (k : ℕ) → k < block_places → (get_or numbers k 0 < length blocks) × (block_at blocks numbers k ≡ block_of words k)
+  block_at-stored k low = rw (s.in_blocks, s.in_order) (block_at-to words block_places k low)
 
--- what two look-ups give is the word of the code point
-pub stored_word-looked_up : (blocks : List Block) (numbers : List ℕ) (n number : ℕ) (block : Block) → n < code_points → n / 64 < length numbers → number ≡ get_or numbers (n / 64) number → number < length blocks → block ≡ get_or blocks number block → get_or block (n % 64) 0 ≡ get_or (stored_words blocks numbers) n 0
-unfolding block_at
-stored_word-looked_up blocks numbers n number block low place is within found =
-    let here : number ≡ get_or numbers (n / 64) 0 = get_or_read numbers (n / 64) number place is 0 in
-    let there : block ≡ get_or blocks number [] = get_or_read blocks number block within found [] in
-    ap (λ b. get_or b (n % 64) 0) (there ∙ ap (λ k. get_or blocks k []) here) ∙ sym (get_or-stored_words blocks numbers n low)
+  -- blocks and numbers give the words back
+  pub stored_words-same : length words ≡ code_points → stored_words blocks numbers ≡ words
+  stored_words-same long = ext_get_or 0 _ words (length-stored_words blocks numbers ∙ sym long) (λ n below.
+      let low : n < code_points = omega (arith, length-stored_words blocks numbers) in
+      get_or-stored_words blocks numbers n low
+      ∙ ap (λ b. get_or b (n % 64) 0) (block_at-stored (n / 64) (place-within n low)).1
+      ∙ get_or-map-range_with_len (λ m. get_or words m 0) (64 * (n / 64)) 64 (n % 64) n 0 (omega arith) (omega arith))
 
--- the number at a place is that of a block
-pub stored_number-within : (places : ℕ) (blocks : List Block) (numbers : List ℕ) (k number : ℕ) → IsStored places blocks numbers → k < places → number ≡ get_or numbers k number → number < length blocks
-stored_number-within places blocks numbers k number stored low is =
-    let here : number ≡ get_or numbers k 0 = get_or_read numbers k number (omega (arith, stored.complete)) is 0 in
-    omega (arith, stored.within k low)
+  -- the number at a place is that of a block
+  pub stored_number-within : (k number : ℕ) → k < block_places → number ≡ get_or numbers k number → number < length blocks
+  stored_number-within k number low is =
+      let here : number ≡ get_or numbers k 0 = get_or_read numbers k number (omega (arith, length-numbers)) is 0 in
+      omega (arith, (block_at-stored k low).0)
 
--- no element passes where there is no first that does
-pub position-None : {X : Type 0} (p : X → Bool) (xs : List X) (d : X) → position p xs ≡ None → (k : ℕ) → k < length xs → p (get_or xs k d) ≡ false
-position-None p xs d none k below =
-    let all : length xs ≤ position_or_len p xs = grind (arith, common_steps) in
-    fails_before_first p xs k d (omega arith)
+-- after all places they store the words of the ranges
+pub IsStored-words_of : (rs : List WordRange) (blocks : List Block) (numbers : List ℕ) (n : ℕ) → n ≤ block_places → block_places ≤ n → blocks ≡ blocks_to (words_of rs) n
+    → numbers ≡ numbers_to (words_of rs) n → (stored_words blocks numbers ≡ words_of rs) × IsStored blocks numbers (stored_words blocks numbers)
+unfolding words_of
+IsStored-words_of rs blocks numbers n within all in_blocks in_order =
+    let whole : n ≡ block_places = omega arith in
+    let stored : IsStored blocks numbers (words_of rs) = record { in_blocks = in_blocks ∙ ap (blocks_to (words_of rs)) whole; in_order = in_order ∙ ap (numbers_to (words_of rs)) whole } in
+    let same : stored_words blocks numbers ≡ words_of rs = stored_words-same blocks numbers (words_of rs) stored (length-map-range_with_len (word_in rs) 0 code_points) in
+    (same, subst (IsStored blocks numbers) (sym same) stored)
+
+module _ (blocks : List Block) (numbers words : List ℕ) (stored : IsStored blocks numbers words) (place number : ℕ) (low : place < block_places) (is : number ≡ get_or numbers place number) where
+  -- the number at a place is that of its block
+  pub block_at-number : get_or blocks number [] ≡ block_at blocks numbers place
+  unfolding block_at
+  block_at-number = ap (λ k. get_or blocks k []) (get_or_read numbers place number (omega (arith, length-numbers blocks numbers words stored)) is 0)
+
+  -- what two look-ups at a place give is its block
+  pub block_at-looked_up : (block : Block) → block ≡ get_or blocks number block → block ≡ block_at blocks numbers place
+  block_at-looked_up block found = get_or_read blocks number block (stored_number-within _ _ _ stored _ _ low is) found [] ∙ block_at-number
+
+-- where there is no first that passes, none is met before the end
+pub position-None : {X : Type 0} (p : X → Bool) (xs : List X) → position p xs ≡ None → length xs ≤ position_or_len p xs
+position-None p xs none = grind (arith, common_steps)

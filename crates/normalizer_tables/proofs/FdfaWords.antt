@@ -1,52 +1,26 @@
 -- Which words have the form of U+FDFA.
-use Rattle.std.proofs.Common.{◌≡◌, ◌≢◌, ◌↔◌, ℕ, ◌/◌, ◌%◌, ◌*◌, ◌^◌, ◌≤◌, Bool, true, false, not, ◌&&◌, ◌==◌, IsTrue, inl, inr, bit_and, if◌then◌else◌, refl, sym, ap, subst, ◌∙◌, arith}
-use Rattle.std.proofs.lemmas.Bool.{cases_Bool, cases_lt, cond-true, cond-false}
+use Rattle.std.proofs.Common.{◌≡◌, ◌≢◌, ◌↔◌, ℕ, ◌/◌, ◌%◌, ◌*◌, ◌^◌, ◌≤◌, Bool, true, false, not, ◌==◌, IsTrue, inl, inr, bit_and, refl, sym, ap, subst, ◌∙◌, arith}
+use Rattle.std.proofs.lemmas.Bool.{cases_Bool, cases_lt}
 use Rattle.std.proofs.lemmas.Bool.Decides.{nat_tests}
 use Rattle.std.proofs.lemmas.Nat.{and_assoc, and_mask}
 use Rattle.std.proofs.lemmas.Nat.Bits.{and_high}
-use Rattle.normalizer_tables.specs.declared.word.WordReading.TheVariants.{Ignored, Itself, ClassForm, SpecialForm, HangulSyllable, Fdfa, OneCharacter}
+use Rattle.normalizer_tables.specs.declared.word.WordReading.TheVariants.{Fdfa}
 use Rattle.normalizer_tables.specs.Hangul.{is_hangul_syllable}
 use Rattle.normalizer_tables.specs.Ranges.{IsComplete}
 use Rattle.normalizer_tables.specs.StepConditions.{AvoidsFdfa}
 use Rattle.normalizer_tables.specs.Table.{code_points, word_at}
 use Rattle.normalizer_tables.specs.Characters.{Characters, word_of, reading_of_word}
-use Rattle.normalizer_tables.specs.Words.{ignored_marker, is_plain, is_ordinary_class_form, is_special_class_form, low_byte, has_high_zeros, has_low_zeros, read, read_low, two_characters, listed}
+use Rattle.normalizer_tables.specs.Words.{ignored_marker, is_plain, is_ordinary_class_form, is_special_class_form, has_high_zeros, read, read_low, two_characters, listed}
 use Rattle.normalizer_tables.proofs.Tables.{word_at-past}
-use Rattle.normalizer_tables.proofs.WordLemmas.{if-second}
 
 record IsFdfaForm (c w : ℕ) : Type 0 where
   other : is_hangul_syllable c ≡ false
   high : has_high_zeros w ≡ true
   low : bit_and w 0xFFFF ≡ 1
 
-fdfa_low : (c w : ℕ) → read_low c w ≡ Fdfa → (is_hangul_syllable c ≡ false) × (bit_and w 0xFFFF ≡ 1)
-unfolding read_low
-fdfa_low c w e =
-    elim (is_hangul_syllable c) as (λ b. (if b then HangulSyllable else if bit_and w 0xFFFF == 1 then Fdfa else OneCharacter (bit_and w 0xFFFF)) ≡ Fdfa → (b ≡ false) × (bit_and w 0xFFFF ≡ 1)) [
-      | true ↦ λ h. cc
-      | false ↦ λ h. (refl, one h)
-    ] e
-  where
-    one : (if bit_and w 0xFFFF == 1 then Fdfa else OneCharacter (bit_and w 0xFFFF)) ≡ Fdfa → bit_and w 0xFFFF ≡ 1
-    one h = elim (cases_Bool (bit_and w 0xFFFF == 1)) [
-      | inl is ↦ grind (arith, nat_tests)
-      | inr isnt ↦ (let none : OneCharacter (bit_and w 0xFFFF) ≡ Fdfa = sym (cond-false _ _ _ isnt) ∙ h in cc)
-    ]
-
 IsFdfaForm-read : (c w : ℕ) (is_mapper : Bool) → read c w is_mapper ≡ Fdfa → IsFdfaForm c w
-unfolding read two_characters listed
-IsFdfaForm-read c w is_mapper e =
-    let unmarked = if-second (is_mapper && (w == ignored_marker)) Ignored _ Fdfa (λ q. cc) e in
-    let unread = if-second (is_plain w) Itself _ Fdfa (λ q. cc) unmarked in
-    let ordinary = if-second (is_ordinary_class_form w) (ClassForm (low_byte w)) _ Fdfa (λ q. cc) unread in
-    let special = if-second (is_special_class_form w) (SpecialForm (low_byte w)) _ Fdfa (λ q. cc) ordinary in
-    let last = if-second (not (has_high_zeros w) && not (has_low_zeros w)) (two_characters w) _ Fdfa (λ q. cc) special in
-    elim (cases_Bool (has_high_zeros w)) [
-      | inl zeros ↦
-          let low = fdfa_low c w (sym (cond-true _ _ _ zeros) ∙ last) in
-          record { other = low.0; high = zeros; low = low.1 }
-      | inr some ↦ (let points : listed w ≡ Fdfa = sym (cond-false _ _ _ some) ∙ last in cc)
-    ]
+unfolding read read_low two_characters listed
+IsFdfaForm-read c w is_mapper e = record { other = grind arith; high = grind arith; low = grind (arith, nat_tests) }
 
 -- flags aside, such a word is 1
 flagless : (w : ℕ) → has_high_zeros w ≡ true → bit_and w 0xFFFF ≡ 1 → bit_and w 0x3FFFFFFF ≡ 1
@@ -68,18 +42,8 @@ read-one c w is_mapper other one =
     let forms : bit_and w 0x3FFFFF00 ≡ 0 = masked w 0x3FFFFF00 one refl in
     let high : bit_and w 0x3FFF0000 ≡ 0 = masked w 0x3FFF0000 one refl in
     let low : bit_and w 0xFFFF ≡ 1 = masked w 0xFFFF one refl in
-    let unmarked : (w == ignored_marker) ≡ false = not_marked in
-    rw (unmarked, one, forms, high, low, other) (apart is_mapper)
-  where
-    not_marked : (w == ignored_marker) ≡ false
-    not_marked = elim (cases_Bool (w == ignored_marker)) [
-      | inl is ↦ (let same : w ≡ ignored_marker = grind (arith, nat_tests) in let marked : bit_and ignored_marker 0x3FFFFFFF ≡ 1 = subst (λ v. bit_and v 0x3FFFFFFF ≡ 1) same one in cc)
-      | inr isnt ↦ isnt
-    ]
-
-    apart : (b : Bool) → (if b && false then Ignored else Fdfa) ≡ Fdfa
-    apart true = refl
-    apart false = refl
+    let unmarked : w ≢ ignored_marker = λ same. (let marked : bit_and ignored_marker 0x3FFFFFFF ≡ 1 = subst (λ v. bit_and v 0x3FFFFFFF ≡ 1) same one in cc) in
+    grind (arith, nat_tests)
 
 -- the word of a Hangul syllable never has the form
 pub syllable_avoids : (c w : ℕ) (is_mapper : Bool) → is_hangul_syllable c ≡ true → read c w is_mapper ≢ Fdfa

@@ -1,15 +1,12 @@
 -- The next word besides flags, in blocks.
-use Rattle.std.proofs.Common.{◌≡◌, ℕ, ◌+◌, ◌-◌, ◌*◌, ◌<◌, ◌≤◌, ◌⊎◌, List, [], get_or, Option, Some, None, true, nat_eq, inl, inr, arith, ap, sym, subst, ◌∙◌}
-use Rattle.std.proofs.lemmas.List.{get_or_default, get_or_read}
-use Rattle.std.proofs.lemmas.Bool.{cases_order, eqb-true}
+use Rattle.std.proofs.Common.{ap₂, ◌/◌, ◌%◌, ◌≡◌, ℕ, ◌+◌, ◌-◌, ◌*◌, ◌<◌, ◌≤◌, List, get_or, Option, Some, None, true, nat_eq, inl, inr, arith, ap, sym, subst, ◌∙◌}
+use Rattle.std.proofs.lemmas.List.{get_or_default}
+use Rattle.std.proofs.lemmas.Bool.{cases_lt, eqb-true}
 use Rattle.std.specs.Option.{option_eq, IfSome}
 use Rattle.normalizer_tables.specs.Table.{Block, block_places}
-use Rattle.normalizer_tables.specs.inner.Blocks.{block_at, stored_words, IsStored, IsNextInBlock}
+use Rattle.normalizer_tables.specs.inner.Blocks.{block_at, stored_words, IsNextInBlock}
 use Rattle.normalizer_tables.specs.Table.{word_at, code_points, without_flags, HaveNoWord, IsNextWithWord}
-use Rattle.normalizer_tables.proofs.BlockLemmas.{get_or-block_at, length-stored_words, stored_number-within}
-
-lt-or-le : (a b : ℕ) → (a < b) ⊎ (b ≤ a)
-lt-or-le a b = elim (cases_order a b) as (λ _. (a < b) ⊎ (b ≤ a)) [ inl same ↦ inr (omega arith) | inr (inl below) ↦ inl below | inr (inr above) ↦ inr (omega arith) ]
+use Rattle.normalizer_tables.proofs.BlockLemmas.{get_or-stored_words, length-stored_words}
 
 -- no word of the block has more than flags
 abbrev pub HasNoWord : ℕ → Block → Type 0
@@ -32,26 +29,16 @@ pub passed-at : (P : ℕ → Type 0) (passed : Option ℕ) (number : ℕ) → tr
 passed-at P None number h p = cc
 passed-at P (Some k) number h p = subst P (eqb-true k number (sym h)) p
 
--- the number at a place is that of its block
-pub block_at-number : (blocks : List Block) (numbers : List ℕ) (place number : ℕ) → IsStored block_places blocks numbers → place < block_places → number ≡ get_or numbers place number → get_or blocks number [] ≡ block_at blocks numbers place
-unfolding block_at
-block_at-number blocks numbers place number stored low is =
-    ap (λ k. get_or blocks k []) (get_or_read numbers place number (omega (arith, stored.complete)) is 0)
-
--- what two look-ups at a place give is its block
-pub block_at-looked_up : (blocks : List Block) (numbers : List ℕ) (place number : ℕ) (block : Block) → IsStored block_places blocks numbers → place < block_places → number ≡ get_or numbers place number → block ≡ get_or blocks number block → block ≡ block_at blocks numbers place
-block_at-looked_up blocks numbers place number block stored low is found =
-    get_or_read blocks number block (stored_number-within _ _ _ _ _ stored low is) found [] ∙ block_at-number blocks numbers place number stored low is
-
 module _ (blocks : List Block) (numbers : List ℕ) (flags from place : ℕ) (low : place < block_places) (block : Block) (is : block ≡ block_at blocks numbers place) where
   word-in_place : (n : ℕ) → place * 64 ≤ n → n < place * 64 + 64 → get_or (stored_words blocks numbers) n 0 ≡ get_or block (n - place * 64) 0
   word-in_place n from_on below =
-      let at : place * 64 + (n - place * 64) ≡ n = omega arith in
-      ap (λ k. get_or (stored_words blocks numbers) k 0) (sym at) ∙ get_or-block_at blocks numbers place (n - place * 64) low (omega arith) ∙ ap (λ b. get_or b (n - place * 64) 0) (sym is)
+      let at : n / 64 ≡ place = omega arith in
+      let offset : n % 64 ≡ n - place * 64 = omega arith in
+      get_or-stored_words blocks numbers n (within-code_points place n low below) ∙ ap₂ (λ p j. get_or (block_at blocks numbers p) j 0) at offset ∙ ap (λ b. get_or b (n - place * 64) 0) (sym is)
 
   -- a place whose block has none is passed
   pub HasNoWordTo-more : HasNoWordTo blocks numbers flags from (place * 64) → ((j : ℕ) → from - place * 64 ≤ j → j < 64 → without_flags flags (get_or block j 0) ≡ 0) → HasNoWordTo blocks numbers flags from ((place + 1) * 64)
-  HasNoWordTo-more none here n on below = elim (lt-or-le n (place * 64)) as (λ _. without_flags flags (get_or (stored_words blocks numbers) n 0) ≡ 0) [
+  HasNoWordTo-more none here n on below = elim (cases_lt n (place * 64)) [
     | inl before ↦ none n on before
     | inr after ↦ ap (without_flags flags) (word-in_place n after (omega arith)) ∙ here (n - place * 64) (omega arith) (omega arith)
   ]
@@ -67,7 +54,7 @@ module _ (blocks : List Block) (numbers : List ℕ) (flags from place : ℕ) (lo
         omega (arith, found.0),
         within,
         λ zero. found.2 (ap (λ k. without_flags flags (get_or block k 0)) (sym offset) ∙ sym (ap (without_flags flags) (same _ within ∙ word-in_place (place * 64 + j) (omega arith) (omega (arith, found.1)))) ∙ zero),
-        λ m on below. ap (without_flags flags) (same m (omega arith)) ∙ elim (lt-or-le m (place * 64)) as (λ _. without_flags flags (get_or words m 0) ≡ 0) [
+        λ m on below. ap (without_flags flags) (same m (omega arith)) ∙ elim (cases_lt m (place * 64)) [
           | inl before ↦ none m on before
           | inr after ↦ ap (without_flags flags) (word-in_place m after (omega (arith, found.1))) ∙ found.3 (m - place * 64) (omega arith) (omega arith)
         ],

@@ -1,6 +1,7 @@
 -- When a list of triples is a list of ranges: one pass decides it.
-use Rattle.std.proofs.Common.{◌≡◌, ℕ, ◌<◌, ◌≤◌, ◌+◌, ◌&&◌, ◌↔◌, Bool, true, false, List, [], ◌∷◌, length, get_or, refl, nat_le, nat_lt, All, arith, ap, add-one, drop, drop-cons, inl, inr, suc, ◌⊎◌}
-use Rattle.std.proofs.lemmas.Bool.{le-leb, lt-leb, lt-ltb, le-ltb, leb-true, ltb-true, and_parts, and_left, and_right}
+use Rattle.std.proofs.Common.{◌≡◌, ℕ, ◌<◌, ◌≤◌, ◌+◌, ◌&&◌, ◌↔◌, Bool, true, false, List, [], ◌∷◌, length, get_or, refl, nat_le, nat_lt, All, arith, ap, add-one, drop, drop-cons, suc, ◌⊎◌}
+use Rattle.std.proofs.lemmas.Bool.{le-leb, lt-ltb}
+use Rattle.std.proofs.lemmas.Bool.Decides.{nat_tests}
 use Rattle.std.proofs.lemmas.List.Elements.{All-head, All-tail, All-cons, All-nil, All-weaker}
 use Rattle.std.proofs.lemmas.List.Kept.{AllPairs-cons}
 use Rattle.normalizer_tables.specs.Ranges.{WordRange, IsRange, IsRangeList}
@@ -32,13 +33,10 @@ rises_from-IsRangeList free (r ∷ rs) h later =
 pub IsRangeList-from_rises : (free : ℕ) (rs : List WordRange) → rises_from free rs ≡ true → IsRangeList rs × All (λ r. free ≤ r.0) rs
 IsRangeList-from_rises free [] h = (record { ranges = All-nil IsRange; rising = λ i j d below within. absurd (omega arith) }, All-nil (λ r. free ≤ r.0))
 IsRangeList-from_rises free (r ∷ rs) h =
-    let low : (nat_le free r.0 ≡ true) × ((nat_le r.0 r.1 && (nat_lt r.1 code_points && rises_from (r.1 + 1) rs)) ≡ true) = and_parts _ _ h in
-    let middle : (nat_le r.0 r.1 ≡ true) × ((nat_lt r.1 code_points && rises_from (r.1 + 1) rs) ≡ true) = and_parts _ _ low.1 in
-    let high : (nat_lt r.1 code_points ≡ true) × (rises_from (r.1 + 1) rs ≡ true) = and_parts _ _ middle.1 in
-    let rest : IsRangeList rs × All (λ s. r.1 + 1 ≤ s.0) rs = IsRangeList-from_rises (r.1 + 1) rs high.1 in
-    let first : free ≤ r.0 = leb-true _ _ low.0 in
-    let ordered : r.0 ≤ r.1 = leb-true _ _ middle.0 in
-    let within : r.1 < code_points = ltb-true _ _ high.0 in
+    let first : free ≤ r.0 = grind (arith, nat_tests) in
+    let ordered : r.0 ≤ r.1 = grind (arith, nat_tests) in
+    let within : r.1 < code_points = grind (arith, nat_tests) in
+    let rest : IsRangeList rs × All (λ s. r.1 + 1 ≤ s.0) rs = IsRangeList-from_rises (r.1 + 1) rs (grind arith) in
     let after : All (λ s. r.1 < s.0) rs = All-weaker (λ s. r.1 + 1 ≤ s.0) (λ s. r.1 < s.0) (λ s below. omega arith) rs rest.1 in (
       record { ranges = All-cons IsRange r rs (ordered, within) rest.0.ranges; rising = AllPairs-cons (λ q s. q.1 < s.0) r rs after rest.0.rising },
       All-cons (λ s. free ≤ s.0) r rs first (All-weaker (λ s. r.1 < s.0) (λ s. free ≤ s.0) (λ s below. omega arith) rs after),
@@ -55,6 +53,4 @@ rises_from-passed rs k free d within first ordered ends =
 
 -- a range that doesn't, or is none, ends the pass
 pub rises_from-stopped : (rs : List WordRange) (k free : ℕ) (d : WordRange) → k < length rs → ((get_or rs k d).0 < free) ⊎ (((get_or rs k d).1 < (get_or rs k d).0) ⊎ (code_points ≤ (get_or rs k d).1)) → rises_from free (drop k rs) ≡ false
-rises_from-stopped rs k free d within (inl early) = rw (drop-cons rs k d) (and_left _ _ (lt-leb _ _ early))
-rises_from-stopped rs k free d within (inr (inl empty)) = rw (drop-cons rs k d) (and_right _ _ (and_left _ _ (lt-leb _ _ empty)))
-rises_from-stopped rs k free d within (inr (inr past)) = rw (drop-cons rs k d) (and_right _ _ (and_right _ _ (and_left _ _ (le-ltb _ _ past))))
+rises_from-stopped rs k free d within ends = rw (drop-cons rs k d) (grind (arith, nat_tests))

@@ -1,291 +1,230 @@
 -- Look-ups in the rows of pairs that rise.
-use Rattle.std.proofs.Common.{◌≡◌, ◌==◌, ◌≢◌, ℕ, ◌<◌, ◌≤◌, ◌+◌, ◌-◌, ◌⊎◌, true, false, List, length, get_or, drop, ltb}
-use Rattle.std.proofs.Common.{Some, None, refl, arith, ap, sym, subst, ◌∙◌, zero, suc, inl, inr, ◌↔◌, IsTrue}
-use Rattle.std.proofs.lemmas.Bool.{cases_order, eqb-true, eq-eqb}
+use Rattle.std.proofs.Common.{◌≡◌, ◌==◌, ◌≢◌, ℕ, ◌<◌, ◌≤◌, ◌+◌, ◌-◌, true, false, List, length, get_or, drop, ltb}
+use Rattle.std.proofs.Common.{Some, None, refl, arith, ap, sym, ◌∙◌, inl, inr, ◌↔◌, IsTrue}
+use Rattle.std.proofs.lemmas.Bool.{cases_lt, eqb-true, eq-eqb, false_from_ne_true, ltb-true, ltb-false}
 use Rattle.std.proofs.lemmas.Bool.Decides.{nat_tests}
 use Rattle.std.proofs.lemmas.List.{length-take-le, length-drop, get_or_default, get_or-take, get_or-drop}
-use Rattle.std.proofs.lemmas.List.Elements.{All-from_get_or}
 use Rattle.std.proofs.lemmas.List.Sorted.{IsPartitionedBy-ltb}
 use Rattle.std.specs.List.{slice_range}
 use Rattle.std.specs.List.Sorted.{IsPartitionPoint, IsPartitionedBy}
-use Rattle.normalizer_tables.specs.Pairs.{Pair, is_before, is_of, listed_result, AreRising, IsPlaceOf}
+use Rattle.normalizer_tables.specs.Pairs.{Pair, pair_at, begins_row, is_before, is_of, listed_result, AreRising}
 use Rattle.normalizer_tables.specs.declared.pairs.rows.Row.{Row}
-use Rattle.normalizer_tables.specs.inner.Rows.{Member, member_of, start_of, second_of, AreInRows, AreKept, IsRowOf}
-use Rattle.normalizer_tables.specs.Pairs.{pair_at}
-use Rattle.normalizer_tables.proofs.PairLemmas.{is_before-true, is_of_other, is_of_other_first, is_of_from, is_before_from, not_before_from}
-use Rattle.normalizer_tables.proofs.PairLemmas.{listed_result-at, listed_result-all_missed, listed_result-found, listed_result-gap, listed_result-above}
-use Rattle.normalizer_tables.proofs.PairPlaces.{pair_at-read}
-use Rattle.normalizer_tables.proofs.RowLemmas.{second_of-row, start_not_below, start_within, row_at, as_many, member_at}
+use Rattle.normalizer_tables.specs.inner.Rows.{Member, member_of, count_begun, no_row, row_in, start_of, rows_to, AreKept, IsRowOf}
+use Rattle.normalizer_tables.proofs.PairLemmas.{is_of-true, is_of_from, listed_result-at, listed_result-none}
+use Rattle.normalizer_tables.proofs.RowLemmas.{IsRowAt, start_of-row, start_of-past, start_not_below, starts_rise, row_is, row_at, as_many, member_at}
 
-length-slice : (members : List Member) (start end : ℕ) → start ≤ end → end ≤ length members → length (slice_range members start end) ≡ end - start
-length-slice members start end order bound = length-take-le (end - start) (drop start members) (omega (arith, length-drop start members))
-
-module _ (rows : List Row) (pairs : List Pair) (s : AreInRows rows pairs (length pairs)) (rising : AreRising pairs) where
-  -- the first pair of a row has its second
-  first_of_row : (i : ℕ) → i < length rows → (start_of rows (length pairs) i < length pairs) × ((pair_at pairs (start_of rows (length pairs) i)).0 ≡ second_of rows i)
-  first_of_row i below = (
-    omega (arith, s.rising i below, start_within rows pairs (length pairs) s (i + 1) (omega arith)),
-    s.seconds i (start_of rows (length pairs) i) below (omega arith)
-        (s.rising i below),
-  )
-
-  -- so the seconds of rows rise
-  next_second_higher : (i : ℕ) → i + 1 < length rows → second_of rows i < second_of rows (i + 1)
-  unfolding pair_at
-  next_second_higher i below =
-      let here = first_of_row i (omega arith) in
-      let there = first_of_row (i + 1) below in
-      let order = is_before-true _ _ _ (rising (start_of rows (length pairs) i) (start_of rows (length pairs) (i + 1)) (0, 0, 0) (s.rising i (omega arith)) there.0) in
-      let other : second_of rows i ≢ second_of rows (i + 1) = s.apart i below in
-      elim order as (λ _. second_of rows i < second_of rows (i + 1)) [
-        | inl lower ↦ omega (arith, here.1, there.1)
-        | inr same ↦ absurd (other (sym here.1 ∙ same.0 ∙ there.1))
-      ]
-
-  pub second_higher : (i j : ℕ) → i < j → j < length rows → second_of rows i < second_of rows j
-  second_higher i zero below within = absurd (omega arith)
-  second_higher i (suc j) below within =
-      let next : second_of rows j < second_of rows (suc j) = subst (λ m. second_of rows j < second_of rows m) (omega arith) (next_second_higher j (omega arith)) in
-      elim (cases_order i j) as (λ _. second_of rows i < second_of rows (suc j)) [
-        | inl same ↦ subst (λ m. second_of rows m < second_of rows (suc j)) (sym same) next
-        | inr (inl earlier) ↦ omega (arith, second_higher i j earlier (omega arith))
-        | inr (inr later) ↦ absurd (omega arith)
-      ]
-
-  second_not_lower : (i j : ℕ) → i ≤ j → j < length rows → second_of rows i ≤ second_of rows j
-  second_not_lower i j le within = elim (cases_order i j) as (λ _. second_of rows i ≤ second_of rows j) [
-    | inl same ↦ omega (arith, ap (second_of rows) same)
-    | inr (inl earlier) ↦ omega (arith, second_higher i j earlier within)
-    | inr (inr later) ↦ absurd (omega arith)
+module _ (pairs : List Pair) (rising : AreRising pairs) where
+  -- seconds rise, and firsts of one second
+  seconds_rise : (i j : ℕ) → i ≤ j → j < length pairs → (pair_at pairs i).0 ≤ (pair_at pairs j).0
+  unfolding pair_at is_before
+  seconds_rise i j le within = elim (cases_lt i j) [
+    | inl below ↦ (let order = rising i j (0, 0, 0) below within in grind (arith, nat_tests))
+    | inr above ↦ (let same : i ≡ j = omega arith in omega (arith, ap (λ k. (pair_at pairs k).0) same))
   ]
 
+  firsts_rise : (i j : ℕ) → i ≤ j → j < length pairs → (pair_at pairs i).0 ≡ (pair_at pairs j).0 → (pair_at pairs i).1 ≤ (pair_at pairs j).1
+  unfolding pair_at is_before
+  firsts_rise i j le within its = elim (cases_lt i j) [
+    | inl below ↦ (let order = rising i j (0, 0, 0) below within in grind (arith, nat_tests))
+    | inr above ↦ (let same : i ≡ j = omega arith in omega (arith, ap (λ k. (pair_at pairs k).1) same))
+  ]
+
+changes : (pairs : List Pair) (k : ℕ) → 0 < k → begins_row pairs k ≡ true → (pair_at pairs (k - 1)).0 ≢ (pair_at pairs k).0
+unfolding begins_row
+changes pairs k some begins same = grind (arith, nat_tests)
+
+module _ (rows : List Row) (pairs : List Pair) (is : rows ≡ rows_to pairs (length pairs)) (rising : AreRising pairs) where
   -- rows of lower seconds stand in front of the others
-  pub seconds_part : (xs : List Row) → xs ≡ rows → (second : ℕ) → IsPartitionedBy (λ row. ltb row.second second) xs
-  seconds_part xs same second =
-      subst (λ ys. IsPartitionedBy (λ (row : Row). ltb row.second second) ys) (sym same)
-      (IsPartitionedBy-ltb (λ (row : Row). row.second) rows second
-      (λ i j d le below. omega (arith, second_of-row rows i d (omega arith), second_of-row rows j d below, second_not_lower i j le below)))
+  pub seconds_part : (second : ℕ) → IsPartitionedBy (λ (row : Row). ltb row.second second) rows
+  seconds_part second = IsPartitionedBy-ltb (λ (row : Row). row.second) rows second (λ i j d le below.
+      let higher = seconds_rise pairs rising (row_in rows i).start (row_in rows j).start (start_not_below rows pairs _ is i j le below) (row_is rows pairs _ is j below).0.1 in
+      omega (
+        arith,
+        higher,
+        (row_is rows pairs _ is i (omega arith)).0.0,
+        (row_is rows pairs _ is j below).0.0,
+        ap (λ (r : Row). r.second) (get_or_default rows i d no_row (omega arith)),
+        ap (λ (r : Row). r.second) (get_or_default rows j d no_row below),
+      ))
 
-  -- what was read of the rows
-  pub start_read : (ys : List Row) (end i a : ℕ) → ys ≡ rows → end ≡ length pairs → a ≡ start_of ys end i → a ≡ start_of rows (length pairs) i
-  start_read ys end i a same long is = is ∙ ap (λ zs. start_of zs end i) same ∙ ap (λ e. start_of rows e i) long
+  second_higher : (i j : ℕ) → i < j → j < length rows → (row_in rows i).second < (row_in rows j).second
+  second_higher i j below within =
+      let here = row_is rows pairs _ is i (omega arith) in
+      let there = row_is rows pairs _ is j within in
+      let behind : (row_in rows i).start < (row_in rows j).start = starts_rise rows pairs _ is i j _ below within in
+      let change = changes pairs _ (omega arith) there.1 in
+      omega (
+        arith,
+        here.0.0,
+        there.0.0,
+        change,
+        seconds_rise pairs rising (row_in rows i).start ((row_in rows j).start - 1) (omega arith) (omega (arith, there.0.1)),
+        seconds_rise pairs rising ((row_in rows j).start - 1) (row_in rows j).start (omega arith) there.0.1,
+      )
 
-  pub second_read : (ys : List Row) (i : ℕ) (row : Row) → ys ≡ rows → i < length ys → row ≡ get_or ys i row → row.second ≡ second_of rows i
-  second_read ys i row same within is = ap (λ (r : Row). r.second) (is ∙ ap (λ zs. get_or zs i row) same) ∙ sym (second_of-row rows i row (omega (arith, ap length same)))
+  start_bound : (m : ℕ) → m ≤ length rows → start_of rows (length pairs) m ≤ length pairs
+  start_bound m within = elim (cases_lt m (length rows)) [
+    | inl inside ↦ omega (arith, start_of-row rows (length pairs) m inside, (row_is rows pairs _ is m inside).0.1)
+    | inr past ↦ omega (arith, start_of-past rows (length pairs) m past)
+  ]
 
-  -- what the number of rows with lower seconds says of rows
-  module _ (xs : List Row) (same : xs ≡ rows) (second n : ℕ) (bound : n ≤ length xs)
-      (point : IsPartitionPoint (λ (row : Row). ltb row.second second ≡ true) (λ row. ltb row.second second ≡ false) xs n) where
-    any : Row
-    any = record { second = 0; start = 0 }
+  start_next : (m : ℕ) → m < length rows → start_of rows (length pairs) m ≤ start_of rows (length pairs) (m + 1)
+  start_next m within = elim (cases_lt (m + 1) (length rows)) [
+    | inl inside ↦ omega (arith, start_of-row rows (length pairs) m within, start_of-row rows (length pairs) (m + 1) inside, start_not_below rows pairs _ is m (m + 1) (omega arith) inside)
+    | inr past ↦ omega (arith, start_bound m (omega arith), start_of-past rows (length pairs) (m + 1) past)
+  ]
 
-    in_rows : n ≤ length rows
-    in_rows = omega (arith, ap length same)
+  -- a pair in front of the start of a row is in one before it, and another in it or behind it
+  not_behind : (m k n : ℕ) → k < start_of rows (length pairs) m → IsRowAt rows pairs k n → n ≤ m
+  not_behind m k n below at = elim (cases_lt m n) [
+    | inl more ↦ absurd (omega (arith, at.front m more, at.bound, start_of-row rows (length pairs) m (omega (arith, at.bound))))
+    | inr le ↦ le
+  ]
 
-    lower_row : (i : ℕ) → i < n → second_of rows i < second
-    lower_row i below =
-        let low : ltb (get_or xs i any).second second ≡ true = point.0 i any (omega arith) below in
-        let is : (get_or xs i any).second ≡ second_of rows i = ap (λ ys. (get_or ys i any).second) same ∙ sym (second_of-row rows i any (omega (arith, in_rows))) in
-        grind (arith, nat_tests)
+  not_before : (m k n : ℕ) → m ≤ length rows → start_of rows (length pairs) m ≤ k → k < length pairs → IsRowAt rows pairs k n → m < n
+  not_before m k n bound from below at = elim (cases_lt m n) [
+    | inl more ↦ more
+    | inr le ↦ elim (cases_lt m (length rows)) [
+      | inl inside ↦ absurd (omega (arith, at.behind (omega arith), start_of-row rows (length pairs) m inside, start_not_below rows pairs _ is n m le inside))
+      | inr past ↦ absurd (omega (arith, start_of-past rows (length pairs) m past))
+    ]
+  ]
 
-    higher_row : (i : ℕ) → n ≤ i → i < length rows → second ≤ second_of rows i
-    higher_row i from below =
-        let high : ltb (get_or xs i any).second second ≡ false = point.1 i any from (omega (arith, ap length same)) in
-        let is : (get_or xs i any).second ≡ second_of rows i = ap (λ ys. (get_or ys i any).second) same ∙ sym (second_of-row rows i any below) in
-        grind (arith, nat_tests)
+  -- what the number of rows with lower seconds says of pairs
+  module _ (second n : ℕ) (bound : n ≤ length rows) (point : IsPartitionPoint (λ (row : Row). ltb row.second second ≡ true) (λ row. ltb row.second second ≡ false) rows n) where
+    lower_row : (i : ℕ) → i < n → (row_in rows i).second < second
+    lower_row i below = ltb-true _ _ (point.0 i _ (omega arith) below)
 
     lower_before : (k : ℕ) → k < start_of rows (length pairs) n → (pair_at pairs k).0 < second
     lower_before k below =
-        let found = row_at rows pairs (length pairs) s k (omega (arith, start_within rows pairs (length pairs) s n in_rows)) in
-        let front : found.0 < n = elim (cases_order found.0 n) as (λ _. found.0 < n) [
-          | inl equal ↦ absurd (omega (arith, ap (start_of rows (length pairs)) equal, found.2))
-          | inr (inl lower) ↦ lower
-          | inr (inr higher) ↦ absurd (omega (arith, start_not_below rows pairs (length pairs) s n found.0 (omega arith) (omega (arith, found.1)), found.2))
-        ] in
-        omega (arith, s.seconds found.0 k found.1 found.2 found.3, lower_row found.0 front)
+        let at = row_at rows pairs _ is k (omega (arith, start_bound n bound)) in
+        omega (arith, at.its, lower_row (count_begun rows k - 1) (omega (arith, at.some, not_behind n k _ below at)))
 
-    -- from the start of a row on, seconds are at least its own
-    higher_from : (m : ℕ) → m ≤ length rows → (k : ℕ) → start_of rows (length pairs) m ≤ k → k < length pairs
-        → (i : ℕ) × (m ≤ i) × (i < length rows) × ((pair_at pairs k).0 ≡ second_of rows i)
+    -- from the start of a row on, pairs are in rows behind it
+    higher_from : (m : ℕ) → m ≤ length rows → (k : ℕ) → start_of rows (length pairs) m ≤ k → k < length pairs → (i : ℕ) × (m ≤ i) × (i < length rows) × ((pair_at pairs k).0 ≡ (row_in rows i).second)
     higher_from m within k from below =
-        let found = row_at rows pairs (length pairs) s k below in
-        let behind : m ≤ found.0 = elim (cases_order found.0 m) as (λ _. m ≤ found.0) [
-          | inl equal ↦ omega arith
-          | inr (inl lower) ↦ absurd (omega (arith, start_not_below rows pairs (length pairs) s (found.0 + 1) m (omega arith) within, found.3))
-          | inr (inr higher) ↦ omega arith
-        ] in
-        (found.0, behind, found.1, s.seconds found.0 k found.1 found.2 found.3)
+        let at = row_at rows pairs _ is k below in
+        let behind = not_before m k _ within from below at in
+        (count_begun rows k - 1, omega arith, omega (arith, at.bound), at.its)
 
     -- the row there has this second
-    pub IsRowOf-found : n < length rows → second_of rows n ≡ second → IsRowOf pairs second (start_of rows (length pairs) n) (start_of rows (length pairs) (n + 1))
+    pub IsRowOf-found : n < length rows → (row_in rows n).second ≡ second → IsRowOf pairs second (start_of rows (length pairs) n) (start_of rows (length pairs) (n + 1))
     IsRowOf-found below its = record {
-      order = omega (arith, s.rising n below);
-      bound = start_within rows pairs (length pairs) s (n + 1) (omega arith);
+      order = start_next n below;
+      bound = start_bound (n + 1) (omega arith);
       before = lower_before;
-      within = λ k from to. s.seconds n k below from to ∙ its;
+      within = λ k from to.
+          let at = row_at rows pairs _ is k (omega (arith, start_bound (n + 1) (omega arith))) in
+          let here : count_begun rows k - 1 ≡ n = omega (arith, not_behind (n + 1) k _ to at, not_before n k _ bound from (omega (arith, start_bound (n + 1) (omega arith))) at) in
+          at.its ∙ ap (λ i. (row_in rows i).second) here ∙ its;
       behind = λ k from inside.
           let found = higher_from (n + 1) (omega arith) k from inside in
           omega (arith, second_higher n found.0 (omega (arith, found.1)) found.2, found.3, its);
     }
 
     -- no row has it
-    pub IsRowOf-gap : (n < length rows → second_of rows n ≢ second) → IsRowOf pairs second (start_of rows (length pairs) n) (start_of rows (length pairs) n)
+    pub IsRowOf-gap : (n < length rows → (row_in rows n).second ≢ second) → IsRowOf pairs second (start_of rows (length pairs) n) (start_of rows (length pairs) n)
     IsRowOf-gap other = record {
       order = omega arith;
-      bound = start_within rows pairs (length pairs) s n in_rows;
+      bound = start_bound n bound;
       before = lower_before;
       within = λ k from to. absurd (omega arith);
       behind = λ k from inside.
-          let found = higher_from n in_rows k from inside in
+          let found = higher_from n bound k from inside in
           let here : n < length rows = omega (arith, found.1, found.2) in
-          let apart : second_of rows n ≢ second = other here in
-          omega (arith, higher_row n (omega arith) here, second_not_lower n found.0 found.1 found.2, found.3, apart);
+          let higher : second ≤ (row_in rows found.0).second = ltb-false _ _ (point.1 found.0 _ found.1 found.2) in
+          let least : second ≤ (row_in rows n).second = ltb-false _ _ (point.1 n _ (omega arith) here) in
+          elim (cases_lt n found.0) [
+            | inl later ↦ omega (arith, second_higher n found.0 later found.2, found.3)
+            | inr same ↦ (let equal : n ≡ found.0 = omega (arith, found.1) in omega (arith, ap (λ i. (row_in rows i).second) equal, found.3, other here))
+          ];
     }
 
 module _ (pairs : List Pair) (second start end : ℕ) (s : IsRowOf pairs second start end) where
   -- pairs of a second are between their bounds
-  other_outside : (first k : ℕ) → k < length pairs → (k < start) ⊎ (end ≤ k) → is_of (pair_at pairs k) first second ≡ false
-  other_outside first k inside outside = elim outside as (λ _. is_of (pair_at pairs k) first second ≡ false) [
-    | inl before ↦ is_of_other (pair_at pairs k) first second (λ same. omega (arith, s.before k before))
-    | inr behind ↦ is_of_other (pair_at pairs k) first second (λ same. omega (arith, s.behind k behind inside))
-  ]
+  theirs_within : (first k : ℕ) → k < length pairs → is_of (pair_at pairs k) first second ≡ true → (start ≤ k) × (k < end) × ((pair_at pairs k).1 ≡ first)
+  theirs_within first k inside theirs =
+      let is = is_of-true (pair_at pairs k) first second theirs in (
+        elim (cases_lt k start) [ inl lower ↦ absurd (omega (arith, s.before k lower, is.0)) | inr from ↦ from ],
+        elim (cases_lt k end) [ inl to ↦ to | inr above ↦ absurd (omega (arith, s.behind k above inside, is.0)) ],
+        is.1,
+      )
 
-  -- the first pair of a row is found
-  second_found : start < end → listed_result pairs (pair_at pairs start).1 second ≡ Some (pair_at pairs start).2
+  first_found : start < end → listed_result pairs (pair_at pairs start).1 second ≡ Some (pair_at pairs start).2
   unfolding pair_at
-  second_found some = listed_result-at pairs (pair_at pairs start).1 second start (0, 0, 0) (omega (arith, s.bound))
+  first_found some = listed_result-at pairs (pair_at pairs start).1 second start (0, 0, 0) (omega (arith, s.bound))
       (is_of_from (pair_at pairs start) (pair_at pairs start).1 second (s.within start (omega arith) some) refl)
-      (λ j below. other_outside (pair_at pairs start).1 j (omega (arith, s.bound)) (inl below))
+      (λ j below. false_from_ne_true _ (λ theirs. omega (arith, (theirs_within (pair_at pairs start).1 j (omega (arith, s.bound)) theirs).0)))
 
-  -- a second with no pairs isn't
-  never_found : start ≡ end → (first : ℕ) → listed_result pairs first second ≡ None
-  unfolding pair_at
-  never_found none first =
-      listed_result-all_missed pairs first second
-      (All-from_get_or (λ q. is_of q first second ≡ false) pairs (0, 0, 0) (λ k inside. other_outside first k inside (elim (cases_order k start) as (λ _. (k < start) ⊎ (end ≤ k)) [
-        | inl same ↦ inr (omega arith)
-        | inr (inl lower) ↦ inl lower
-        | inr (inr higher) ↦ inr (omega arith)
-      ])))
-
+  -- a second with no pairs isn't found
   pub never_second-by_row : IsTrue (start == end) ↔ ((first : ℕ) → listed_result pairs first second ≡ None)
-  never_second-by_row = elim (cases_order start end) as (λ _. IsTrue (start == end) ↔ ((first : ℕ) → listed_result pairs first second ≡ None)) [
-    | inl same ↦ (λ _. never_found same, λ _. eq-eqb start end same)
-    | inr (inl below) ↦ (λ test. absurd (omega (arith, eqb-true start end test)), λ none. let found = second_found below in let missing = none (pair_at pairs start).1 in cc)
-    | inr (inr above) ↦ absurd (omega (arith, s.order))
-  ]
+  never_second-by_row = (
+    λ none first. listed_result-none pairs first second (λ k inside. false_from_ne_true _ (λ theirs.
+        let at = theirs_within first k inside theirs in omega (arith, at.0, at.1, eqb-true start end none))),
+    λ none. elim (cases_lt start end) [
+      | inl some ↦ (let found = first_found some in let missing = none (pair_at pairs start).1 in cc)
+      | inr all ↦ eq-eqb start end (omega (arith, s.order))
+    ],
+  )
 
 module _ (rows : List Row) (members : List Member) (pairs : List Pair) (kept : AreKept rows members pairs) (rising : AreRising pairs) (second start end : ℕ)
-    (s : IsRowOf pairs second start end) (xs : List Member) (part : xs ≡ slice_range members start end) (first : ℕ) where
-  part_long : length xs ≡ end - start
-  part_long = ap length part ∙ length-slice members start end s.order (omega (arith, s.bound, as_many rows members pairs kept))
+    (s : IsRowOf pairs second start end) (first : ℕ) where
+  -- the members of the row
+  abbrev part : List Member
+  part = slice_range members start end
 
-  -- the members of a row, one by one
-  member_in_part : (k : ℕ) → k < end - start → (d : Member) → get_or xs k d ≡ member_of (pair_at pairs (start + k))
-  member_in_part k below d =
-      let inside : start + k < length pairs = omega (arith, s.bound) in
-      ap (λ ms. get_or ms k d) part
-      ∙ get_or-take (end - start) (drop start members) k d below
+  part_long : length part ≡ end - start
+  part_long = length-take-le (end - start) (drop start members) (omega (arith, length-drop start members, s.order, s.bound, as_many rows members pairs kept))
+
+  -- one by one
+  member_in_part : (k : ℕ) (d : Member) → k < end - start → get_or part k d ≡ member_of (pair_at pairs (start + k))
+  member_in_part k d below =
+      get_or-take (end - start) (drop start members) k d below
       ∙ get_or-drop start members k d
-      ∙ get_or_default members (start + k) d (0, 0) (omega (arith, as_many rows members pairs kept))
-      ∙ member_at rows members pairs kept (start + k) inside
+      ∙ get_or_default members (start + k) d (0, 0) (omega (arith, as_many rows members pairs kept, s.bound))
+      ∙ member_at rows members pairs kept (start + k) (omega (arith, s.bound))
 
-  first_in_part : (k : ℕ) → k < end - start → (d : Member) → (get_or xs k d).0 ≡ (pair_at pairs (start + k)).1
-  unfolding member_of
-  first_in_part k below d = ap (λ (m : Member). m.0) (member_in_part k below d)
+  first_in_part : (k : ℕ) (d : Member) → k < end - start → (get_or part k d).0 ≡ (pair_at pairs (start + k)).1
+  first_in_part k d below = ap (λ (m : Member). m.0) (member_in_part k d below)
 
-  -- firsts rise within a row
-  firsts_rise : (i j : ℕ) → i < j → j < end - start → (pair_at pairs (start + i)).1 < (pair_at pairs (start + j)).1
-  unfolding pair_at
-  firsts_rise i j below within =
-      let order = is_before-true _ _ _ (rising (start + i) (start + j) (0, 0, 0) (omega arith) (omega (arith, s.bound))) in
-      elim order as (λ _. (pair_at pairs (start + i)).1 < (pair_at pairs (start + j)).1) [
-        | inl lower ↦ absurd (omega (arith, s.within (start + i) (omega arith) (omega arith), s.within (start + j) (omega arith) (omega arith)))
-        | inr same ↦ same.1
-      ]
+  firsts_not_below : (i j : ℕ) (d : Member) → i ≤ j → j < length part → (get_or part i d).0 ≤ (get_or part j d).0
+  firsts_not_below i j d le below =
+      let inside : j < end - start = omega (arith, part_long) in
+      let same : (pair_at pairs (start + i)).0 ≡ (pair_at pairs (start + j)).0 = s.within (start + i) (omega arith) (omega arith) ∙ sym (s.within (start + j) (omega arith) (omega arith)) in
+      omega (arith, first_in_part i d (omega arith), first_in_part j d inside, firsts_rise pairs rising (start + i) (start + j) (omega arith) (omega (arith, s.bound)) same)
 
-  pub firsts_part : IsPartitionedBy (λ m. ltb m.0 first) xs
-  firsts_part = IsPartitionedBy-ltb (λ (m : Member). m.0) xs first (λ i j d le below. elim (cases_order i j) as (λ _. (get_or xs i d).0 ≤ (get_or xs j d).0) [
-    | inl same ↦ omega (arith, ap (λ n. (get_or xs n d).0) same)
-    | inr (inl lower) ↦ omega (arith, first_in_part i (omega (arith, part_long)) d, first_in_part j (omega (arith, part_long)) d, firsts_rise i j lower (omega (arith, part_long)))
-    | inr (inr higher) ↦ absurd (omega arith)
-  ])
+  pub firsts_part : IsPartitionedBy (λ m. ltb m.0 first) part
+  firsts_part = IsPartitionedBy-ltb (λ (m : Member). m.0) part first firsts_not_below
 
-  module _ (n : ℕ) (bound : n ≤ length xs) (point : IsPartitionPoint (λ (m : Member). ltb m.0 first ≡ true) (λ m. ltb m.0 first ≡ false) xs n) where
-    lower_first : (k : ℕ) → k < n → (pair_at pairs (start + k)).1 < first
-    lower_first k below =
-        let low : ltb (get_or xs k (0, 0)).0 first ≡ true = point.0 k (0, 0) (omega arith) below in
-        let is = first_in_part k (omega (arith, part_long)) (0, 0) in
-        grind (arith, nat_tests)
+  -- a pair of the two is a member with this first
+  their_member : (k : ℕ) → k < length pairs → is_of (pair_at pairs k) first second ≡ true → (start ≤ k) × (k < end) × ((get_or part (k - start) (0, 0)).0 ≡ first)
+  their_member k inside theirs =
+      let at = theirs_within pairs second start end s first k inside theirs in
+      let there : start + (k - start) ≡ k = omega (arith, at.0) in
+      (at.0, at.1, first_in_part (k - start) (0, 0) (omega (arith, at.0, at.1)) ∙ ap (λ m. (pair_at pairs m).1) there ∙ at.2)
 
-    higher_first : (k : ℕ) → n ≤ k → k < end - start → first ≤ (pair_at pairs (start + k)).1
-    higher_first k from below =
-        let high : ltb (get_or xs k (0, 0)).0 first ≡ false = point.1 k (0, 0) from (omega (arith, part_long)) in
-        let is = first_in_part k below (0, 0) in
-        grind (arith, nat_tests)
+  module _ (n : ℕ) (bound : n ≤ length part) (point : IsPartitionPoint (λ (m : Member). ltb m.0 first ≡ true) (λ m. ltb m.0 first ≡ false) part n) where
+    from_point : (k : ℕ) → k < length pairs → is_of (pair_at pairs k) first second ≡ true → start + n ≤ k
+    from_point k inside theirs =
+        let at = their_member k inside theirs in
+        elim (cases_lt (k - start) n) [
+          | inl lower ↦ absurd (omega (arith, ltb-true _ _ (point.0 (k - start) (0, 0) (omega arith) lower), at.2))
+          | inr from ↦ omega (arith, at.0)
+        ]
 
-    before_them : (k : ℕ) → k < start + n → is_before (pair_at pairs k) second first ≡ true
-    before_them k below = elim (cases_order k start) as (λ _. is_before (pair_at pairs k) second first ≡ true) [
-      | inl same ↦ in_row (omega arith)
-      | inr (inl lower) ↦ is_before_from (pair_at pairs k) second first (inl (s.before k lower))
-      | inr (inr higher) ↦ in_row (omega arith)
-    ]
-      where
-        in_row : start ≤ k → is_before (pair_at pairs k) second first ≡ true
-        in_row from =
-            let there : start + (k - start) ≡ k = omega arith in
-            is_before_from (pair_at pairs k) second first
-            (inr (s.within k from (omega (arith, part_long)), omega (arith, lower_first (k - start) (omega arith), ap (λ m. (pair_at pairs m).1) there)))
-
-    not_before_them : (k : ℕ) → start + n ≤ k → k < length pairs → is_before (pair_at pairs k) second first ≡ false
-    not_before_them k from inside = elim (cases_order k end) as (λ _. is_before (pair_at pairs k) second first ≡ false) [
-      | inl same ↦ not_before_from (pair_at pairs k) second first (inl (s.behind k (omega arith) inside))
-      | inr (inl lower) ↦
-          let there : start + (k - start) ≡ k = omega arith in
-          not_before_from (pair_at pairs k) second first
-          (inr (s.within k (omega arith) lower, omega (arith, higher_first (k - start) (omega arith) (omega arith), ap (λ m. (pair_at pairs m).1) there)))
-      | inr (inr higher) ↦ not_before_from (pair_at pairs k) second first (inl (s.behind k (omega arith) inside))
-    ]
-
-    -- the place in the whole list
-    is_place : IsPlaceOf pairs second first (start + n)
-    unfolding IsPlaceOf pair_at
-    is_place = (
-      λ k d from below. subst (λ (p : Pair). is_before p second first ≡ true) (get_or_default pairs k (0, 0, 0) d (omega (arith, part_long, s.bound))) (before_them k below),
-      λ k d from below. subst (λ (p : Pair). is_before p second first ≡ false) (get_or_default pairs k (0, 0, 0) d below) (not_before_them k from below),
-    )
-
-    inside_row : n < length xs → start + n < length pairs
-    inside_row within = omega (arith, part_long, s.bound)
-
-    at_place : n < length xs → pair_at pairs (start + n) ≡ get_or pairs (start + n) (pair_at pairs (start + n))
-    at_place within = pair_at-read pairs (start + n) (inside_row within)
-
-    member_read : (m : Member) → n < length xs → m ≡ get_or xs n m → m ≡ member_of (pair_at pairs (start + n))
-    member_read m within read = read ∙ member_in_part n (omega (arith, part_long)) m
-
-    pub listed_result-in_row : (m : Member) → n < length xs → m ≡ get_or xs n m → m.0 ≡ first → listed_result pairs first second ≡ Some m.1
-    unfolding member_of
+    pub listed_result-in_row : (m : Member) → n < length part → m ≡ get_or part n m → m.0 ≡ first → listed_result pairs first second ≡ Some m.1
+    unfolding pair_at
     listed_result-in_row m within read its =
-        let is : m ≡ ((pair_at pairs (start + n)).1, (pair_at pairs (start + n)).2) = member_read m within read in
-        let theirs = is_of_from (pair_at pairs (start + n)) first second (s.within (start + n) (omega arith) (omega (arith, part_long)))
-        (sym (ap (λ (q : Member). q.0) is) ∙ its) in
-        listed_result-found pairs second first (start + n) is_place (pair_at pairs (start + n)) (inside_row within) (at_place within) theirs
+        let is : m ≡ member_of (pair_at pairs (start + n)) = read ∙ member_in_part n m (omega (arith, part_long)) in
+        listed_result-at pairs first second (start + n) (0, 0, 0) (omega (arith, part_long, s.bound))
+        (is_of_from (pair_at pairs (start + n)) first second (s.within (start + n) (omega arith) (omega (arith, part_long))) (sym (ap (λ (q : Member). q.0) is) ∙ its))
+        (λ j below. false_from_ne_true _ (λ theirs. omega (arith, from_point j (omega (arith, part_long, s.bound)) theirs)))
         ∙ ap (λ (q : Member). Some q.1) (sym is)
 
-    pub listed_result-not_in_row : (m : Member) → n < length xs → m ≡ get_or xs n m → m.0 ≢ first → listed_result pairs first second ≡ None
-    unfolding member_of
-    listed_result-not_in_row m within read other =
-        let is : m ≡ ((pair_at pairs (start + n)).1, (pair_at pairs (start + n)).2) = member_read m within read in
-        listed_result-gap pairs second first (start + n) is_place rising (pair_at pairs (start + n)) (inside_row within) (at_place within)
-        (is_of_other_first (pair_at pairs (start + n)) first second (λ same. other (ap (λ (q : Member). q.0) is ∙ same)))
-
-    pub listed_result-past_row : length xs ≤ n → listed_result pairs first second ≡ None
-    listed_result-past_row past = elim (cases_order (start + n) (length pairs)) as (λ _. listed_result pairs first second ≡ None) [
-      | inl last ↦ listed_result-above pairs second first (start + n) is_place (omega arith)
-      | inr (inl inside) ↦
-          let here : pair_at pairs (start + n) ≡ get_or pairs (start + n) (pair_at pairs (start + n)) = pair_at-read pairs (start + n) inside in
-          listed_result-gap pairs second first (start + n) is_place rising (pair_at pairs (start + n)) inside here
-          (other_outside pairs second start end s first (start + n) inside (inr (omega (arith, part_long))))
-      | inr (inr above) ↦ listed_result-above pairs second first (start + n) is_place (omega arith)
-    ]
+    pub listed_result-not_in_row : (n < length part → (get_or part n (0, 0)).0 ≢ first) → listed_result pairs first second ≡ None
+    listed_result-not_in_row other = listed_result-none pairs first second (λ k inside. false_from_ne_true _ (λ theirs.
+        let at = their_member k inside theirs in
+        let from = from_point k inside theirs in
+        let within : n < length part = omega (arith, part_long, at.1) in
+        let high : first ≤ (get_or part n (0, 0)).0 = ltb-false _ _ (point.1 n (0, 0) (omega arith) within) in
+        omega (arith, firsts_not_below n (k - start) (0, 0) (omega arith) (omega (arith, part_long, at.1)), at.2, other within)))

@@ -1,8 +1,7 @@
 -- A table as a function of all numbers.
-use Rattle.std.proofs.Common.{◌≡◌, ◌↔◌, ℕ, ◌≤◌, ◌&&◌, true, nat_eq, get_or, arith, ap, sym, subst, ◌∙◌}
-use Rattle.std.specs.Cmp.Lexicographic.{pointwise, same_text}
-use Rattle.std.proofs.lemmas.Bool.{and_parts, eqb-true}
-use Rattle.std.proofs.lemmas.Cmp.{nat_eq_equiv, nat_list_eq_equiv}
+use Rattle.std.proofs.Common.{◌≡◌, ◌↔◌, ℕ, ◌≤◌, ◌&&◌, true, nat_eq, get_or, arith, ap, sym, ◌∙◌}
+use Rattle.std.specs.Cmp.Lexicographic.{pointwise, bytes_decides}
+use Rattle.std.proofs.lemmas.Bool.Decides.{Decides-and, Decides-eqb, Decides-like}
 use Rattle.std.proofs.lemmas.List.{ext_get_or}
 use Rattle.std.proofs.Math.ListN.{get_or-eq_default}
 use Rattle.normalizer_tables.specs.Ranges.{IsComplete}
@@ -27,11 +26,6 @@ same_from_word_at t u t_complete u_complete agree =
 
 -- the test of the words and of the word past the end says whether two tables are equal
 pub same_table-decides : (t u : Table) → ((pointwise nat_eq t.words u.words && nat_eq t.past u.past) ≡ true) ↔ (t ≡ u)
-same_table-decides t u = (
-  λ h.
-      let parts = and_parts (pointwise nat_eq t.words u.words) (nat_eq t.past u.past) h in
-      let same_words : t.words ≡ u.words = same_text t.words u.words (sym parts.0) in
-      let same_past : t.past ≡ u.past = eqb-true t.past u.past parts.1 in
-      λ i. record { words = same_words i; past = same_past i },
-  λ e. subst (λ (x : Table). (pointwise nat_eq t.words x.words && nat_eq t.past x.past) ≡ true) e (ap (λ b. b && nat_eq t.past t.past) (nat_list_eq_equiv.refl t.words) ∙ nat_eq_equiv.refl t.past),
-)
+same_table-decides t u =
+    Decides-like _ (λ p i. record { words = p.0 i; past = p.1 i }) (λ e. (ap (λ (x : Table). x.words) e, ap (λ (x : Table). x.past) e))
+    (Decides-and _ _ (bytes_decides t.words u.words) (Decides-eqb t.past u.past))

@@ -1,8 +1,9 @@
 -- The word of a number in a list of ranges.
 use Rattle.std.proofs.Common.{◌≡◌, ℕ, ◌<◌, ◌≤◌, ◌&&◌, ◌⊎◌, true, false, List, [], ◌∷◌, length, get_or, refl, inl, inr, nat_le, if◌then◌else◌, All, arith, ap, sym, subst, ◌∙◌, zero, suc}
-use Rattle.std.proofs.lemmas.Bool.{le-leb, lt-leb, cases_order}
+use Rattle.std.proofs.lemmas.Bool.{le-leb, lt-leb, cases_lt}
 use Rattle.std.proofs.lemmas.List.Elements.{All-head, All-tail, All-from_get_or}
 use Rattle.std.proofs.lemmas.List.{get_or_read}
+use Rattle.std.proofs.Math.Nat.{eq-or-lt_of_le}
 use Rattle.normalizer_tables.specs.inner.Blocks.{IsFirstFrom}
 use Rattle.normalizer_tables.specs.Ranges.{WordRange, IsRangeList, word_in}
 
@@ -44,22 +45,15 @@ module _ (rs : List WordRange) (n at : ℕ) (first : IsFirstFrom rs n at) (m : �
       word_in-at rs m at (0, 0, 0) within (subst (λ (q : WordRange). q.0 ≤ m) here low) (subst (λ (q : WordRange). m ≤ q.1) here high) (λ j below. inl (omega (arith, first.before j below)))
       ∙ ap (λ q. q.2) (sym here)
 
-  -- where it begins after the number, none holds it
-  pub word_in-gap : (r : WordRange) → IsRangeList rs → at < length rs → r ≡ get_or rs at r → m < r.0 → word_in rs m ≡ 0
-  word_in-gap r h within is high = word_in-all_missed rs m (All-from_get_or (Misses m) rs (0, 0, 0) (λ k below. misses k below))
-    where
-      misses : (k : ℕ) → k < length rs → Misses m (get_or rs k (0, 0, 0))
-      misses k below = elim (cases_order k at) as (λ _. Misses m (get_or rs k (0, 0, 0))) [
-        | inl same ↦ inr (subst (λ (q : WordRange). m < q.0) (get_or_read rs at r within is (0, 0, 0) ∙ ap (λ j. get_or rs j (0, 0, 0)) (sym same)) high)
-        | inr (inl before) ↦ inl (omega (arith, first.before k before))
-        | inr (inr after) ↦
-            let here : r ≡ get_or rs at (0, 0, 0) = get_or_read rs at r within is (0, 0, 0) in
-            inr (omega (arith, ap (λ q. q.0) here, h.rising at k (0, 0, 0) after below, (h.ranges at (0, 0, 0) within).0))
-      ]
-
-  -- where no range is left, none holds it
-  pub word_in-above : length rs ≤ at → word_in rs m ≡ 0
-  word_in-above above = word_in-all_missed rs m (All-from_get_or (Misses m) rs (0, 0, 0) (λ k below. inl (omega (arith, first.before k (omega arith)))))
+  -- where it begins after the number, or there is none, none holds it
+  pub word_in-gap : IsRangeList rs → (at < length rs → m < (get_or rs at (0, 0, 0)).0) → word_in rs m ≡ 0
+  word_in-gap h high = word_in-all_missed rs m (All-from_get_or (Misses m) rs (0, 0, 0) (λ k below. elim (cases_lt k at) [
+    | inl before ↦ inl (omega (arith, first.before k before))
+    | inr from_at ↦ inr (elim (eq-or-lt_of_le from_at) [
+      | inl same ↦ subst (λ j. m < (get_or rs j (0, 0, 0)).0) same (high (omega arith))
+      | inr after ↦ omega (arith, high (omega arith), h.rising at k (0, 0, 0) after below, (h.ranges at (0, 0, 0) (omega arith)).0)
+    ])
+  ]))
 
 -- the first range that doesn't end before a number reaches it
 pub first-reaches : (rs : List WordRange) (n at : ℕ) → IsFirstFrom rs n at → (r : WordRange) → at < length rs → r ≡ get_or rs at r → n ≤ r.1

@@ -26,14 +26,13 @@ pub(crate) struct Blocks {
 
 impl Model for Blocks {
     ghost use Rattle.std.specs.Prelude.{ℕ, List};
-    ghost use Rattle.normalizer_tables.specs.Table.{block_places};
     ghost use Rattle.normalizer_tables.specs.inner.Blocks.{stored_words, IsStored};
 
     ghost Value = { List ℕ };
 
     ghost view = { λ b. stored_words b.blocks.items b.numbers.items };
 
-    ghost invariant = { λ b. IsStored block_places b.blocks.items b.numbers.items };
+    ghost invariant = { λ b. IsStored b.blocks.items b.numbers.items (stored_words b.blocks.items b.numbers.items) };
 }
 
 impl Blocks {
@@ -95,6 +94,7 @@ impl Blocks {
 }
 
 /// The least place in a block, from one on, whose word isn't 0 once the bits of `flags` are taken away.
+#[tactic(auto, unfolding(crate::specs::inner::Blocks::IsNextInBlock, crate::specs::Table::without_flags))]
 fn next_in_block(block: &[u32; 64], from: u32, flags: u32) -> Option<u32>
     ensures { IsNextInBlock block.now flags from result }
 {
@@ -131,6 +131,7 @@ impl PartialEq for Blocks {
 
     ghost laws = { partial_equiv_from_equiv nat_list_eq_equiv };
 
+    #[tactic(auto, using(crate::proofs::BlockEquality::stored_alike))]
     fn eq(&self, other: &Self) -> bool {
         self.numbers == other.numbers && self.blocks == other.blocks
     }

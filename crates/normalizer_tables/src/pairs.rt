@@ -79,6 +79,7 @@ impl CanonicalCompositions {
     }
 
     /// Whether the arithmetic of Hangul answers none of the seconds.
+    #[tactic(auto, unfolding(crate::specs::Pairs::pair_at))]
     pub fn has_no_jamo_second(&self) -> bool
         ensures { IsTrue result ↔ All (λ p. is_vowel_or_trailing_jamo p.0 ≡ false) self.now }
     {
@@ -149,14 +150,12 @@ pub fn row_count(pairs: &CanonicalCompositions) -> usize
 impl PartialEq for CanonicalCompositions {
     ghost use Rattle.std.specs.Cmp.{partial_equiv_from_equiv};
     ghost use Rattle.std.specs.Cmp.Lexicographic.{pointwise};
-    ghost use Rattle.std.proofs.lemmas.Cmp.{and_equiv, lists_equiv, nat_eq_equiv, on_equiv};
-    ghost use Rattle.normalizer_tables.specs.Pairs.{same_pair, Pair};
+    ghost use Rattle.normalizer_tables.specs.Pairs.{same_pair};
+    ghost use Rattle.normalizer_tables.specs.inner.Rows.{same_pairs_equiv};
 
     ghost eq = { pointwise same_pair };
 
-    ghost laws = { partial_equiv_from_equiv (lists_equiv
-        (and_equiv (and_equiv (on_equiv (λ (p : Pair). p.0) nat_eq_equiv) (on_equiv (λ (p : Pair). p.1) nat_eq_equiv))
-        (on_equiv (λ (p : Pair). p.2) nat_eq_equiv))) };
+    ghost laws = { partial_equiv_from_equiv same_pairs_equiv };
 
     fn eq(&self, other: &Self) -> bool {
         self.pairs == other.pairs
@@ -164,12 +163,9 @@ impl PartialEq for CanonicalCompositions {
 }
 
 impl Eq for CanonicalCompositions {
-    ghost use Rattle.std.proofs.lemmas.Cmp.{and_equiv, lists_equiv, nat_eq_equiv, on_equiv};
-    ghost use Rattle.normalizer_tables.specs.Pairs.{Pair};
+    ghost use Rattle.normalizer_tables.specs.inner.Rows.{same_pairs_equiv};
 
-    ghost laws = { lists_equiv
-        (and_equiv (and_equiv (on_equiv (λ (p : Pair). p.0) nat_eq_equiv) (on_equiv (λ (p : Pair). p.1) nat_eq_equiv))
-        (on_equiv (λ (p : Pair). p.2) nat_eq_equiv)) };
+    ghost laws = { same_pairs_equiv };
 }
 
 impl Clone for CanonicalCompositions {
@@ -190,6 +186,7 @@ fn are_rising(pairs: &[(char, char, char)]) -> bool
 }
 
 /// The result of the first pair of two characters.
+#[tactic(auto, using(std::proofs::lemmas::Option::get_or_from_slice_get), unfolding(crate::specs::Pairs::pair_at))]
 fn first_result(pairs: &PairRows, first: char, second: char) -> Option<char>
     ensures { result ≡ listed_result pairs.now first second }
 {
@@ -203,6 +200,7 @@ fn first_result(pairs: &PairRows, first: char, second: char) -> Option<char>
 }
 
 /// Whether no pair has this second.
+#[tactic(auto, using(std::proofs::lemmas::Option::get_or_from_slice_get), unfolding(crate::specs::Pairs::pair_at))]
 fn has_no_second(pairs: &PairRows, second: char) -> bool
     ensures { IsTrue result ↔ ((first : ℕ) → listed_result pairs.now first second ≡ None) }
 {

@@ -1,5 +1,6 @@
 //! The data that normalisation works on, and the trait by which they are handed in.
 ghost use Rattle.std.specs.Prelude.{◌≡◌, ◌↔◌, ◌⊎◌, IfOk, IfErr, IsErrOf, IsNone};
+ghost use Rattle.normalizer_tables.specs.declared.provider.DataMarkerInfo.TheVariants as marker;
 
 use crate::pairs::CanonicalCompositions;
 use crate::scalars::{Scalars16, Scalars24};
@@ -137,8 +138,6 @@ pub struct NormalizerNfdSupplementV1;
 impl DataMarker for NormalizerNfdDataV1 {
     type Data = DecompositionData;
 
-    ghost use Rattle.normalizer_tables.specs.declared.provider.DataMarkerInfo.TheVariants as marker;
-
     ghost INFO = { marker.NormalizerNfdDataV1 };
 
     const INFO: DataMarkerInfo = DataMarkerInfo::NormalizerNfdDataV1;
@@ -146,8 +145,6 @@ impl DataMarker for NormalizerNfdDataV1 {
 
 impl DataMarker for NormalizerNfkdDataV1 {
     type Data = DecompositionData;
-
-    ghost use Rattle.normalizer_tables.specs.declared.provider.DataMarkerInfo.TheVariants as marker;
 
     ghost INFO = { marker.NormalizerNfkdDataV1 };
 
@@ -157,8 +154,6 @@ impl DataMarker for NormalizerNfkdDataV1 {
 impl DataMarker for NormalizerUts46DataV1 {
     type Data = DecompositionData;
 
-    ghost use Rattle.normalizer_tables.specs.declared.provider.DataMarkerInfo.TheVariants as marker;
-
     ghost INFO = { marker.NormalizerUts46DataV1 };
 
     const INFO: DataMarkerInfo = DataMarkerInfo::NormalizerUts46DataV1;
@@ -166,8 +161,6 @@ impl DataMarker for NormalizerUts46DataV1 {
 
 impl DataMarker for NormalizerNfdTablesV1 {
     type Data = DecompositionTables;
-
-    ghost use Rattle.normalizer_tables.specs.declared.provider.DataMarkerInfo.TheVariants as marker;
 
     ghost INFO = { marker.NormalizerNfdTablesV1 };
 
@@ -177,8 +170,6 @@ impl DataMarker for NormalizerNfdTablesV1 {
 impl DataMarker for NormalizerNfkdTablesV1 {
     type Data = DecompositionTables;
 
-    ghost use Rattle.normalizer_tables.specs.declared.provider.DataMarkerInfo.TheVariants as marker;
-
     ghost INFO = { marker.NormalizerNfkdTablesV1 };
 
     const INFO: DataMarkerInfo = DataMarkerInfo::NormalizerNfkdTablesV1;
@@ -187,8 +178,6 @@ impl DataMarker for NormalizerNfkdTablesV1 {
 impl DataMarker for NormalizerNfcV1 {
     type Data = CanonicalCompositions;
 
-    ghost use Rattle.normalizer_tables.specs.declared.provider.DataMarkerInfo.TheVariants as marker;
-
     ghost INFO = { marker.NormalizerNfcV1 };
 
     const INFO: DataMarkerInfo = DataMarkerInfo::NormalizerNfcV1;
@@ -196,8 +185,6 @@ impl DataMarker for NormalizerNfcV1 {
 
 impl DataMarker for NormalizerNfdSupplementV1 {
     type Data = NonRecursiveDecompositionSupplement;
-
-    ghost use Rattle.normalizer_tables.specs.declared.provider.DataMarkerInfo.TheVariants as marker;
 
     ghost INFO = { marker.NormalizerNfdSupplementV1 };
 

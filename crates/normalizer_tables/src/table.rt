@@ -80,6 +80,7 @@ impl CodePointTable {
     }
 
     /// The word of any number.
+    #[tactic(auto, unfolding(crate::specs::Table::code_points, crate::specs::Table::word_at, crate::specs::Ranges::IsComplete))]
     pub fn get32(&self, number: u32) -> u32
         ensures word { result ≡ word_at self.now number }
         ensures past { code_points ≤ number → result ≡ self.now.past }

@@ -180,7 +180,7 @@ fn read_low(character: char, word: u32) -> WordReading
 }
 
 /// The reading of a word that points into the tables.
-#[tactic(auto, unfolding(crate::specs::Words::listed))]
+#[tactic(auto, using(crate::proofs::WordLemmas::item_above_zero), unfolding(crate::specs::Words::listed))]
 fn listed(word: u32) -> WordReading
     requires { has_high_zeros word ≡ false }
     ensures { result ≡ listed word }

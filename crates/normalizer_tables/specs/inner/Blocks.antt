@@ -1,9 +1,10 @@
 -- How the words of a table are stored: in blocks of 64 code points each, equal blocks once.
-use Rattle.std.specs.Prelude.{◌≡◌, ◌≢◌, ℕ, ◌/◌, ◌%◌, ◌<◌, ◌≤◌, ◌⊎◌, List, [], ◌∷◌, ◌++◌, AllPairs, length, map}
-use Rattle.std.specs.Prelude.{Option, Some, None, slice_index, slice_index_or}
-use Rattle.std.specs.List.{range_with_len}
+use Rattle.std.specs.Prelude.{◌≡◌, ◌≢◌, ℕ, zero, suc, ◌*◌, ◌/◌, ◌%◌, ◌<◌, ◌≤◌, List, [], ◌∷◌, ◌++◌, cond, length, map}
+use Rattle.std.specs.Prelude.{Option, Some, None, nat_eq, nat_lt, slice_index, slice_index_or}
+use Rattle.std.specs.Cmp.Lexicographic.{pointwise}
+use Rattle.std.specs.List.{position_or_len, range_with_len}
 use Rattle.normalizer_tables.specs.Ranges.{WordRange, word_in}
-use Rattle.normalizer_tables.specs.Table.{Block, code_points, without_flags}
+use Rattle.normalizer_tables.specs.Table.{Block, block_places, code_points, without_flags}
 
 -- the block at a place
 unfoldable pub block_at : List Block → List ℕ → ℕ → Block
@@ -17,26 +18,35 @@ stored_word blocks numbers n = slice_index (block_at blocks numbers (n / 64)) (n
 unfoldable pub stored_words : List Block → List ℕ → List ℕ
 stored_words blocks numbers = map (stored_word blocks numbers) (range_with_len 0 code_points)
 
--- the number stands at this place, and only lower ones before it
-pub record IsFirstUse (numbers : List ℕ) (number place : ℕ) : Type 0 where
-  pub within : place < length numbers
-  pub here : slice_index numbers place ≡ number
-  pub before : (k : ℕ) → k < place → slice_index numbers k < number
+-- the words of the 64 code points of a place
+abbrev pub block_of : List ℕ → ℕ → Block
+block_of words place = map (slice_index words) (range_with_len (64 * place) 64)
 
--- each place has the number of its block, and each block is kept once, in the order of first use
-pub record IsStored (places : ℕ) (blocks : List Block) (numbers : List ℕ) : Type 0 where
-  pub complete : length numbers ≡ places
-  pub few : length blocks ≤ places
-  pub full : (j : ℕ) → j < length blocks → length (slice_index_or blocks j []) ≡ 64
-  pub within : (k : ℕ) → k < places → slice_index numbers k < length blocks
-  pub apart : AllPairs (λ b c. b ≢ c) blocks
-  pub used : (j : ℕ) → j < length blocks → (k : ℕ) × IsFirstUse numbers j k
+-- the place of a block among those kept, or behind them
+abbrev pub number_in : List Block → Block → ℕ
+number_in blocks block = position_or_len (λ kept. pointwise nat_eq kept block) blocks
+
+-- the blocks, and this one behind them where it is none of them
+abbrev pub joined : List Block → Block → List Block
+joined blocks block = cond (nat_lt (number_in blocks block) (length blocks)) blocks (blocks ++ block ∷ [])
 
 -- the number of the block among those kept, which it joins where it is none of them
-unfoldable pub IsJoined : List Block → Block → List Block → ℕ → Type 0
-IsJoined old block new number =
-    ((new ≡ old) × (number < length old) × (slice_index_or old number [] ≡ block))
-    ⊎ ((new ≡ old ++ block ∷ []) × (number ≡ length old) × ((j : ℕ) → j < length old → slice_index_or old j [] ≢ block))
+abbrev pub IsJoined : List Block → Block → List Block → ℕ → Type 0
+IsJoined old block new number = (new ≡ joined old block) × (number ≡ number_in old block)
+
+-- the blocks of the first places, each once, in the order of their first use
+unfoldable pub blocks_to : List ℕ → ℕ → List Block
+blocks_to words zero = []
+blocks_to words (suc n) = joined (blocks_to words n) (block_of words n)
+
+-- the numbers of the blocks of the first places
+unfoldable pub numbers_to : List ℕ → ℕ → List ℕ
+numbers_to words n = map (λ place. number_in (blocks_to words place) (block_of words place)) (range_with_len 0 n)
+
+-- the words are stored in these blocks and these numbers
+pub record IsStored (blocks : List Block) (numbers words : List ℕ) : Type 0 where
+  pub in_blocks : blocks ≡ blocks_to words block_places
+  pub in_order : numbers ≡ numbers_to words block_places
 
 -- the ranges before this one end before the number, and it and the later ones don't
 pub record IsFirstFrom (ranges : List WordRange) (n at : ℕ) : Type 0 where

@@ -1,46 +1,58 @@
 -- How pairs are kept: in rows of equal neighbouring seconds.
-use Rattle.std.specs.Prelude.{◌≡◌, ◌≢◌, ℕ, ◌+◌, ◌-◌, ◌<◌, ◌≤◌, nat_le, List, length, map, count_by, slice_index_or}
-use Rattle.std.specs.List.{range_with_len}
-use Rattle.normalizer_tables.specs.Pairs.{Pair, pair_at}
+use Rattle.std.specs.Prelude.{◌≡◌, ℕ, ◌-◌, ◌<◌, ◌≤◌, nat_lt, List, length, map, slice_index_or}
+use Rattle.std.specs.Cmp.{IsEquivalence}
+use Rattle.std.specs.Cmp.Lexicographic.{pointwise}
+use Rattle.std.specs.List.{filter, position_or_len, range_with_len}
+use Rattle.normalizer_tables.specs.Pairs.{Pair, same_pair, pair_at, begins_row}
+use Rattle.std.proofs.lemmas.Cmp.{and_equiv, lists_equiv, nat_eq_equiv, on_equiv}
 use Rattle.normalizer_tables.specs.declared.pairs.rows.Row.{Row}
+
+-- the test of two lists of pairs is an equivalence
+pub same_pairs_equiv : IsEquivalence (pointwise same_pair)
+same_pairs_equiv = lists_equiv
+    (and_equiv (and_equiv (on_equiv (λ (p : Pair). p.0) nat_eq_equiv) (on_equiv (λ (p : Pair). p.1) nat_eq_equiv))
+    (on_equiv (λ (p : Pair). p.2) nat_eq_equiv))
 
 -- the first character of a pair and what they compose to
 abbrev pub Member : Type 0
 Member = ℕ × ℕ
 
-unfoldable pub member_of : Pair → Member
+abbrev pub member_of : Pair → Member
 member_of p = (p.1, p.2)
+
+-- what is read where there is no row
+abbrev pub no_row : Row
+no_row = record { second = 0; start = 0 }
+
+abbrev pub row_in : List Row → ℕ → Row
+row_in rows i = slice_index_or rows i no_row
 
 -- where a row starts; there is none behind the last one, and `end` stands for its start
 unfoldable pub start_of : List Row → ℕ → ℕ → ℕ
 start_of rows end i = (slice_index_or rows i (record { second = 0; start = end })).start
 
--- the second of a row
-unfoldable pub second_of : List Row → ℕ → ℕ
-second_of rows i = (slice_index_or rows i (record { second = 0; start = 0 })).second
+-- the row that a place begins
+abbrev pub row_from : List Pair → ℕ → Row
+row_from pairs place = record { second = (pair_at pairs place).0; start = place }
 
--- the pairs in front of `end` stand in these rows: the first row starts at the first pair, each at the end of the one
--- before it, the pairs of a row have its second, and neighbouring rows have other seconds
-pub record AreInRows (rows : List Row) (pairs : List Pair) (end : ℕ) : Type 0 where
-  pub front : start_of rows end 0 ≡ 0
-  pub rising : (i : ℕ) → i < length rows → start_of rows end i < start_of rows end (i + 1)
-  pub seconds : (i k : ℕ) → i < length rows → start_of rows end i ≤ k → k < start_of rows end (i + 1)
-      → (pair_at pairs k).0 ≡ second_of rows i
-  pub apart : (i : ℕ) → i + 1 < length rows → second_of rows i ≢ second_of rows (i + 1)
+-- the rows of the pairs in front of `end`
+unfoldable pub rows_to : List Pair → ℕ → List Row
+rows_to pairs end = filter (λ row. begins_row pairs row.start) (map (row_from pairs) (range_with_len 0 end))
 
 -- the pairs are kept as these rows and these members
 pub record AreKept (rows : List Row) (members : List Member) (pairs : List Pair) : Type 0 where
-  pub in_rows : AreInRows rows pairs (length pairs)
+  pub in_rows : rows ≡ rows_to pairs (length pairs)
   pub in_order : members ≡ map member_of pairs
 
--- the second of the last row that starts at a place or in front of it
-unfoldable pub second_at : List Row → ℕ → ℕ
-second_at rows place = second_of rows (count_by (λ row. nat_le row.start place) rows - 1)
+-- how many rows start at a place or in front of it
+abbrev pub count_begun : List Row → ℕ → ℕ
+count_begun rows place = position_or_len (λ row. nat_lt place row.start) rows
 
--- the pair at a place
+-- the pair at a place has the second of the last row that has begun
 unfoldable pub kept_pair : List Row → List Member → ℕ → Pair
 kept_pair rows members place =
-    (second_at rows place, (slice_index_or members place (0, 0)).0, (slice_index_or members place (0, 0)).1)
+    let member = slice_index_or members place (0, 0) in
+    ((row_in rows (count_begun rows place - 1)).second, member.0, member.1)
 
 -- the pairs that rows and members keep
 unfoldable pub kept_pairs : List Row → List Member → List Pair

@@ -67,6 +67,7 @@ impl PairRows {
     }
 
     /// How many rows are kept.
+    #[tactic(auto, using(crate::proofs::RowLemmas::rows_counted))]
     pub(crate) fn count(&self) -> usize
         ensures { result ≡ row_count self.now }
     {
@@ -136,14 +137,12 @@ impl Clone for PairRows {
 impl PartialEq for PairRows {
     ghost use Rattle.std.specs.Cmp.{partial_equiv_from_equiv};
     ghost use Rattle.std.specs.Cmp.Lexicographic.{pointwise};
-    ghost use Rattle.std.proofs.lemmas.Cmp.{and_equiv, lists_equiv, nat_eq_equiv, on_equiv};
-    ghost use Rattle.normalizer_tables.specs.Pairs.{same_pair, Pair};
+    ghost use Rattle.normalizer_tables.specs.Pairs.{same_pair};
+    ghost use Rattle.normalizer_tables.specs.inner.Rows.{same_pairs_equiv};
 
     ghost eq = { pointwise same_pair };
 
-    ghost laws = { partial_equiv_from_equiv (lists_equiv
-        (and_equiv (and_equiv (on_equiv (λ (p : Pair). p.0) nat_eq_equiv) (on_equiv (λ (p : Pair). p.1) nat_eq_equiv))
-        (on_equiv (λ (p : Pair). p.2) nat_eq_equiv))) };
+    ghost laws = { partial_equiv_from_equiv same_pairs_equiv };
 
     fn eq(&self, other: &Self) -> bool {
         self.rows == other.rows && self.members == other.members
@@ -160,6 +159,7 @@ fn begins_row(pairs: &[(char, char, char)], place: usize) -> bool
 }
 
 /// Where a row starts: behind the last one, at the end.
+#[tactic(auto, unfolding(crate::specs::inner::Rows::start_of))]
 fn start_of(rows: &[Row], end: usize, number: usize) -> usize
     ensures { result ≡ start_of rows.now end number }
 {

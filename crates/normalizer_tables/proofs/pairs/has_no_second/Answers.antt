@@ -1,8 +1,5 @@
-use Rattle.std.proofs.Common.{◌≢◌, ◌∙◌, arith, ap, sym, refl}
-use borrow.Author.Count.{below_more}
-use Rattle.normalizer_tables.specs.Pairs.{pair_at}
-use Rattle.normalizer_tables.proofs.PairLemmas.{is_of_other, is_of_from}
-use Rattle.normalizer_tables.proofs.PairPlaces.{pair_at-got, listed_result-first, listed_result-none}
+use Rattle.std.proofs.Common.{arith, refl}
+use Rattle.normalizer_tables.proofs.PairLemmas.{is_of_other, is_of_from, listed_result-first, listed_result-none}
 use Rattle.normalizer_tables.proofs.pairs.has_no_second.Goals as goal
 
 pub returns-then-at-second : goal.returns-then-at-second
@@ -10,11 +7,6 @@ returns-then-at-second c =
     let found = listed_result-first _ _ _ _ _ c.at.ensures (is_of_from c.at.result c.at.result.1 c.args.second c.if-at-second.true refl)
     (λ k below. is_of_other _ c.at.result.1 c.args.second (c.loop-place.invariant k below)) in
     (λ no. cc, λ none. let missing = none c.at.result.1 in cc)
-
-pub loop-place-preserved : goal.loop-place-preserved
-loop-place-preserved c =
-    below_more (λ k. (pair_at c.args.pairs.now k).0 ≢ c.args.second) _ c.loop-place.invariant
-    (λ same. c.if-at-second.false (sym (ap (λ p. p.0) (pair_at-got _ _ _ c.at.ensures)) ∙ same))
 
 pub returns : goal.returns
 returns c =

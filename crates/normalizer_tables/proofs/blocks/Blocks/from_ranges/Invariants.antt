@@ -1,10 +1,11 @@
-use Rattle.std.proofs.Common.{◌≡◌, ◌*◌, ◌<◌, ℕ}
-use Rattle.normalizer_tables.specs.inner.Blocks.{block_at, range_block, IsFirstFrom, IsStored}
+use Rattle.std.proofs.Common.{◌≡◌, ◌*◌}
+use Rattle.normalizer_tables.specs.inner.Blocks.{blocks_to, numbers_to, IsFirstFrom}
+use Rattle.normalizer_tables.specs.Ranges.{words_of}
 use Rattle.normalizer_tables.proofs.blocks.Blocks.from_ranges.Given as goal
 
 abbrev pub invariant-loop-place : goal.invariant-loop-place
 invariant-loop-place l = record {
   first : IsFirstFrom l.ranges (l.place * 64) l.at;
-  stored : IsStored l.place l.blocks.items l.numbers.items;
-  words : (k : ℕ) → k < l.place → block_at l.blocks.items l.numbers.items k ≡ range_block l.ranges (k * 64);
+  in_blocks : l.blocks.items ≡ blocks_to (words_of l.ranges) l.place;
+  in_order : l.numbers.items ≡ numbers_to (words_of l.ranges) l.place;
 }
