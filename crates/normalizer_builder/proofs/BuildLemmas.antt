@@ -9,9 +9,4 @@ use Rattle.normalizer_builder.specs.Building.{IsSmallest, error_of}
 pub IsSmallest-refusal : (records : List Entry) (uts46 : List MapperEntry) (r : Refusal) → IsFirstRefusal records uts46 (Some r) → IsSmallest records uts46 (error_of r)
 unfolding IsSmallest
 IsSmallest-refusal records uts46 refusal.Order h = h
-IsSmallest-refusal records uts46 refusal.Fixed h = h
-IsSmallest-refusal records uts46 refusal.Class h = h
-IsSmallest-refusal records uts46 refusal.Mapping h = h
-IsSmallest-refusal records uts46 refusal.Chain h = h
-IsSmallest-refusal records uts46 refusal.Length h = h
-IsSmallest-refusal records uts46 refusal.Pair h = h
+IsSmallest-refusal records uts46 _ h = h

@@ -1,18 +1,16 @@
 -- Entries for the recorded characters say of every character what the records say.
-use Rattle.std.proofs.Common.{suc, ◌≡◌, ◌∙◌, ◌⊎◌, inl, inr, ℕ, ◌<◌, false, cond, ◌==◌, List, [], ◌∷◌, length, map, get_or, Option, Some, None, ap, subst, sym, refl, arith}
-use Rattle.std.specs.List.{Contains, find}
+use Rattle.std.proofs.Common.{◌≡◌, ◌∙◌, inl, inr, ℕ, false, ◌==◌, List, [], ◌∷◌, map, Option, Some, None, ap, subst, sym, refl, eq-eqb, eqb-true}
+use Rattle.std.specs.List.{Contains}
 use Rattle.std.specs.List.Sorted.{IsStrictlyIncreasing}
 use Rattle.std.specs.Option.{option_map, option_map_or}
-use Rattle.std.proofs.lemmas.Bool.Decides.{eqb_tells}
-use Rattle.std.proofs.lemmas.List.{get_or-map, length-map}
-use Rattle.std.proofs.lemmas.List.Kept.{AllPairs-from_increasing}
-use Rattle.std.proofs.lemmas.List.Elements.{Contains-append_left, Contains-append_right, Contains-append_cases}
+use Rattle.std.proofs.lemmas.Bool.{true≢false}
+use Rattle.std.proofs.lemmas.List.Elements.{All-contains, All-map, Contains-append_left, Contains-append_right}
 use Rattle.normal_forms.specs.Order.{order, insert}
 use Rattle.normalizer_tables.specs.Hangul.{is_hangul_syllable}
 use Rattle.normalizer_packing.specs.declared.entry.Kind.{Kind}
 use Rattle.normalizer_packing.specs.declared.entry.Kind.TheVariants as kind
 use Rattle.normalizer_packing.specs.Entries.{CharacterEntry, AreRising, own_list, class_in, list_in, entry_of as packed_entry_of}
-use Rattle.normalizer_packing.proofs.EntryLemmas.{find-missing}
+use Rattle.normalizer_packing.proofs.EntryLemmas.{Contains-map, find-missing, find-tells, rising_characters}
 use Rattle.normalizer_records.specs.declared.records.Mappings.{Mappings}
 use Rattle.normalizer_records.specs.declared.records.Mappings.TheVariants.{Canonical, All as AllMappings}
 use Rattle.normalizer_records.specs.Entry.{Entry, MapperEntry, Status}
@@ -20,41 +18,16 @@ use Rattle.normalizer_records.specs.Meaning.{class_of, entry_of, canonical_list,
 use Rattle.normalizer_records.specs.Meaning.{mapped_list, mapping_among, recorded_classes}
 use Rattle.normalizer_builder.specs.Recorded.{AreMadeOf, ListsCharacters, entry_for, recorded_characters}
 
--- an element has this number, or none is found by it
-pub find-recorded : {X : Type 0} (number : X → ℕ) (xs : List X) (n : ℕ) → ((k : ℕ) × (k < length xs) × ((d : X) → number (get_or xs k d) ≡ n)) ⊎ (find (λ x. number x == n) xs ≡ None)
-find-recorded number [] n = inr refl
-find-recorded number (x ∷ xs) n = elim (eqb_tells (number x) n) [
-  | inl h ↦ inl (0, omega arith, λ d. h.1)
-  | inr h ↦ elim (find-recorded number xs n) [
-    | inl k ↦ inl (suc k.0, omega (arith, k.1), λ d. k.2 d)
-    | inr k ↦ inr (ap (λ b. cond b (Some x) (find (λ y. number y == n) xs)) h.0 ∙ k)
-  ]
-]
+-- the list of n in one kind of data, if records don't ignore n
+abbrev pub recorded_list : List Entry → List MapperEntry → Kind → ℕ → Option (List ℕ)
+recorded_list records uts46 kind.Canonical n = Some (canonical_list records n)
+recorded_list records uts46 kind.Compatibility n = Some (compatibility_list records n)
+recorded_list records uts46 kind.Mapper n = mapper_list records uts46 n
 
-alone : (c n : ℕ) → Contains (c ∷ []) n → c ≡ n
-alone c n h =
-    let first : h.0 ≡ 0 = omega (arith, h.1) in
-    ap (λ k. get_or (c ∷ []) k n) (sym first) ∙ h.2
-
-behind : (c : ℕ) (cs : List ℕ) (n : ℕ) → (c ≡ n → ⊥) → Contains (c ∷ cs) n → Contains cs n
-behind c cs n differs h = elim (Contains-append_cases (c ∷ []) cs n h) [
-  | inl k ↦ absurd (differs (alone c n k))
-  | inr k ↦ k
-]
-
--- what is made of a number is found by it, or the number is missing
-pub find-made : {X : Type 0} (make : ℕ → X) (number : X → ℕ) → ((c : ℕ) → number (make c) ≡ c) → (cs : List ℕ) (n : ℕ) →
-    (find (λ x. number x == n) (map make cs) ≡ Some (make n)) ⊎ ((find (λ x. number x == n) (map make cs) ≡ None) × (Contains cs n → ⊥))
-find-made make number same [] n = inr (refl, λ h. omega (arith, h.1))
-find-made make number same (c ∷ cs) n = elim (eqb_tells (number (make c)) n) [
-  | inl h ↦ inl (ap (λ b. cond b (Some (make c)) (find (λ x. number x == n) (map make cs))) h.0 ∙ ap (λ m. Some (make m)) (sym (same c) ∙ h.1))
-  | inr h ↦ (
-      let skip : find (λ x. number x == n) (map make (c ∷ cs)) ≡ find (λ x. number x == n) (map make cs) = ap (λ b. cond b (Some (make c)) (find (λ x. number x == n) (map make cs))) h.0 in
-      elim (find-made make number same cs n) [
-        | inl k ↦ inl (skip ∙ k)
-        | inr k ↦ inr (skip ∙ k.0, λ there. k.1 (behind c cs n (λ e. h.1 (same c ∙ e)) there))
-      ])
-]
+pub own_recorded : (records : List Entry) (uts46 : List MapperEntry) (k : Kind) (n : ℕ) → own_list k (entry_for records uts46 n) ≡ recorded_list records uts46 k n
+unfolding entry_for
+own_recorded records uts46 kind.Canonical n = refl
+own_recorded records uts46 _ n = refl
 
 abbrev pub class_of_found : Option CharacterEntry → ℕ
 class_of_found o = elim o [ Some e ↦ e.class | None ↦ 0 ]
@@ -86,71 +59,59 @@ module _ (records : List Entry) (uts46 : List MapperEntry) (n : ℕ) where
   list_alone mappings other none =
       ap (λ x. order (recorded_classes records) (replace_by (expansion records mappings 16) x n)) (no_replacement mappings other none)
 
-  pub mapper_alone : is_hangul_syllable n ≡ false → entry_of records n ≡ None → status_of uts46 n ≡ None → mapper_list records uts46 n ≡ Some (n ∷ [])
+  pub recorded_list-alone : (k : Kind) → is_hangul_syllable n ≡ false → entry_of records n ≡ None → status_of uts46 n ≡ None → recorded_list records uts46 k n ≡ Some (n ∷ [])
   unfolding mapper_list mapped_list
-  mapper_alone other none unmapped = ap (mapped_list records n) unmapped ∙ ap Some (list_alone Canonical other none)
+  recorded_list-alone kind.Canonical other none unmapped = ap Some (list_alone Canonical other none)
+  recorded_list-alone kind.Compatibility other none unmapped = ap Some (list_alone AllMappings other none)
+  recorded_list-alone kind.Mapper other none unmapped = ap (mapped_list records n) unmapped ∙ ap Some (list_alone Canonical other none)
 
   -- what the entries say of n
-  abbrev SaysSame : List CharacterEntry → Type 0
-  SaysSame entries = (class_in entries n ≡ class_of records n)
-      × (is_hangul_syllable n ≡ false →
-      (list_in kind.Canonical entries n ≡ Some (canonical_list records n)) × (list_in kind.Compatibility entries n ≡ Some (compatibility_list records n)) ×
-      (list_in kind.Mapper entries n ≡ mapper_list records uts46 n))
+  record SaysSame (entries : List CharacterEntry) : Type 0 where
+    class : class_in entries n ≡ class_of records n
+    lists : (k : Kind) → is_hangul_syllable n ≡ false → list_in k entries n ≡ recorded_list records uts46 k n
 
   recorded_says : (entries : List CharacterEntry) → packed_entry_of entries n ≡ Some (entry_for records uts46 n) → SaysSame entries
   unfolding class_in list_in entry_for
-  recorded_says entries e = (
-    ap class_of_found e,
-    λ other. (
-      ap (list_of_found kind.Canonical n) e,
-      ap (list_of_found kind.Compatibility n) e,
-      ap (list_of_found kind.Mapper n) e,
-    ),
-  )
+  recorded_says entries e = record { class = ap class_of_found e; lists = λ k other. ap (list_of_found k n) e ∙ own_recorded records uts46 k n }
 
   missing_says : (entries : List CharacterEntry) → packed_entry_of entries n ≡ None → (Contains (recorded_characters records uts46) n → ⊥) → SaysSame entries
   unfolding class_in list_in class_of
   missing_says entries e missing =
-      let none : entry_of records n ≡ None = no_entry missing in (
-        ap class_of_found e ∙ ap class_of_record (sym none),
-        λ other. (
-          ap (list_of_found kind.Canonical n) e ∙ ap Some (sym (list_alone Canonical other none)),
-          ap (list_of_found kind.Compatibility n) e ∙ ap Some (sym (list_alone AllMappings other none)),
-          ap (list_of_found kind.Mapper n) e ∙ sym (mapper_alone other none (no_status missing)),
-        ),
-      )
+      let none : entry_of records n ≡ None = no_entry missing in
+      record { class = ap class_of_found e ∙ ap class_of_record (sym none); lists = λ k other. ap (list_of_found k n) e ∙ sym (recorded_list-alone k other none (no_status missing)) }
 
-  pub entries_say : (cs : List ℕ) → ListsCharacters records uts46 cs → SaysSame (map (entry_for records uts46) cs)
+  -- what is made of a character is found by it, or it isn't recorded
+  entries_say : (cs : List ℕ) → ListsCharacters records uts46 cs → SaysSame (map (entry_for records uts46) cs)
   unfolding packed_entry_of entry_for
-  entries_say cs h = elim (find-made {X = CharacterEntry} (entry_for records uts46) (λ e. e.character) (λ c. refl) cs n) [
-    | inl found ↦ recorded_says (map (entry_for records uts46) cs) found
-    | inr missing ↦ missing_says (map (entry_for records uts46) cs) missing.0 (λ k. missing.1 (subst (Contains cs) k.2 (h.all k.0 n k.1)))
-  ]
+  entries_say cs h =
+      let entries : List CharacterEntry = map (entry_for records uts46) cs in
+      elim (find-tells {X = CharacterEntry} (λ e. e.character == n) entries) [
+        | inl none ↦ missing_says entries none.0 (λ k.
+            let there : Contains cs n = All-contains (Contains cs) (recorded_characters records uts46) n h.all k in
+            let other = All-contains (λ (e : CharacterEntry). (e.character == n) ≡ false) entries (entry_for records uts46 n) none.1 (Contains-map (entry_for records uts46) cs n there) in
+            true≢false (sym (eq-eqb n n refl) ∙ other))
+        | inr some ↦ recorded_says entries (some.1 ∙ ap Some
+            (All-contains (λ (e : CharacterEntry). e ≡ entry_for records uts46 e.character) entries some.0
+            (All-map (λ (e : CharacterEntry). e ≡ entry_for records uts46 e.character) (entry_for records uts46) cs (λ k d within. refl)) some.2
+            ∙ ap (entry_for records uts46) (eqb-true _ _ some.3)))
+      ]
 
-entries_rise : (records : List Entry) (uts46 : List MapperEntry) (cs : List ℕ) → IsStrictlyIncreasing cs → AreRising (map (entry_for records uts46) cs)
+pub characters_made : (records : List Entry) (uts46 : List MapperEntry) (cs : List ℕ) → map (λ e. e.character) (map (entry_for records uts46) cs) ≡ cs
 unfolding entry_for
-entries_rise records uts46 cs h i j d ij within =
-    let f : ℕ → CharacterEntry = entry_for records uts46 in
-    let below : j < length cs = subst (λ k. j < k) (length-map cs f) within in
-    let first : (get_or (map f cs) i d).character ≡ get_or cs i 0 = ap (λ e. e.character) (get_or-map f cs i 0 d (omega (arith, ij, below))) in
-    let second : (get_or (map f cs) j d).character ≡ get_or cs j 0 = ap (λ e. e.character) (get_or-map f cs j 0 d below) in
-    rw first (rw second (AllPairs-from_increasing cs h i j 0 ij below))
+characters_made records uts46 [] = refl
+characters_made records uts46 (c ∷ cs) = ap (λ x. c ∷ x) (characters_made records uts46 cs)
 
 -- the entries say of every character, but Hangul syllables, what the records say
 pub record AreEntriesOf (records : List Entry) (uts46 : List MapperEntry) (entries : List CharacterEntry) : Type 0 where
   pub rising : AreRising entries
   pub classes : (n : ℕ) → class_in entries n ≡ class_of records n
-  pub canonical : (n : ℕ) → is_hangul_syllable n ≡ false → list_in kind.Canonical entries n ≡ Some (canonical_list records n)
-  pub compatibility : (n : ℕ) → is_hangul_syllable n ≡ false → list_in kind.Compatibility entries n ≡ Some (compatibility_list records n)
-  pub mapper : (n : ℕ) → is_hangul_syllable n ≡ false → list_in kind.Mapper entries n ≡ mapper_list records uts46 n
+  pub lists : (k : Kind) (n : ℕ) → is_hangul_syllable n ≡ false → list_in k entries n ≡ recorded_list records uts46 k n
 
 pub AreEntriesOf-made : (records : List Entry) (uts46 : List MapperEntry) (entries : List CharacterEntry) → AreMadeOf records uts46 entries → AreEntriesOf records uts46 entries
 AreEntriesOf-made records uts46 entries h =
     let say : (n : ℕ) → SaysSame records uts46 n (map (entry_for records uts46) h.characters) = λ n. entries_say records uts46 n h.characters h.listed in
     subst (AreEntriesOf records uts46) (sym h.made) (record {
-      rising = entries_rise records uts46 h.characters h.listed.rising;
-      classes = λ n. (say n).0;
-      canonical = λ n other. ((say n).1 other).0;
-      compatibility = λ n other. ((say n).1 other).1;
-      mapper = λ n other. ((say n).1 other).2;
+      rising = rising_characters _ (subst IsStrictlyIncreasing (sym (characters_made records uts46 h.characters)) h.listed.rising);
+      classes = λ n. (say n).class;
+      lists = λ k n. (say n).lists k;
     })

@@ -1,32 +1,16 @@
 -- The lesser of the answers to two sets of demands is the answer to all of them.
-use Rattle.std.proofs.Common.{◌⊎◌, inl, inr, ℕ, ◌<◌, ◌≤◌, Option, Some, None, subst, sym, arith}
-use Rattle.std.proofs.lemmas.Bool.{cases_lt}
-use Rattle.std.proofs.Math.Nat.{eq-or-lt_of_le}
+use Rattle.std.proofs.Common.{◌⊎◌, inl, inr, Option, Some, None, subst, sym, arith}
 use Rattle.normalizer_builder.specs.declared.rank.Unfit.{Unfit}
-use Rattle.normalizer_builder.specs.Ranks.{place_of, IsBefore, IsLeast, IsLeastUnmet, IsFirstUnmet}
+use Rattle.normalizer_builder.specs.Ranks.{IsBefore, IsLeast, IsLeastUnmet, IsFirstUnmet}
 
 pub IsBefore-trans : (a b c : Unfit) → IsBefore a b → IsBefore b c → IsBefore a c
 unfolding IsBefore
-IsBefore-trans a b c (inl h) (inl k) = inl (omega arith)
-IsBefore-trans a b c (inl h) (inr k) = inl (omega (arith, k.0))
-IsBefore-trans a b c (inr h) (inl k) = inl (omega (arith, h.0))
-IsBefore-trans a b c (inr h) (inr k) = inr (omega (arith, h.0, k.0), omega (arith, h.1, k.1))
-
-at_most : (m n : ℕ) → ¬ (m < n) → n ≤ m
-at_most m n other = elim (cases_lt m n) [ inl h ↦ absurd (other h) | inr h ↦ h ]
+IsBefore-trans a b c h k = grind arith
 
 -- what stands before a, which c doesn't, stands before c
 pub IsBefore-other : (a b c : Unfit) → IsBefore a b → ¬ IsBefore c b → IsBefore a c
 unfolding IsBefore
-IsBefore-other a b c h other =
-    let above : b.condition ≤ c.condition = at_most c.condition b.condition (λ l. other (inl l)) in
-    elim h [
-      | inl less ↦ inl (omega (arith, less, above))
-      | inr same ↦ elim (eq-or-lt_of_le above) [
-        | inl e ↦ (let places = at_most (place_of c.marker) (place_of b.marker) (λ l. other (inr (sym e, l))) in inr (omega (arith, same.0, e), omega (arith, same.1, places)))
-        | inr less ↦ inl (omega (arith, same.0, less))
-      ]
-    ]
+IsBefore-other a b c h other = grind arith
 
 module _ {D : Type 0} (answer : D → Unfit) (meets : D → Type 0) (A B : D → Type 0) where
   with_right : (b : Unfit) → ((d : D) → A d → IsBefore (answer d) b → meets d) → IsLeastUnmet B answer meets b → IsLeastUnmet (λ d. A d ⊎ B d) answer meets b

@@ -1,5 +1,5 @@
 -- What is demanded of data that pack records, in its two parts.
-use Rattle.std.proofs.Common.{◌≡◌, ◌⊎◌, inl, inr, ℕ, List, [], Option, Some, None, All, refl, subst, sym, arith, false, get_or}
+use Rattle.std.proofs.Common.{◌≡◌, ◌⊎◌, inl, inr, ℕ, List, Option, Some, None, All, refl, subst, sym, arith, get_or, eqb-true, ◌==◌}
 use Rattle.normalizer_packing.specs.declared.Packed.{Packed}
 use Rattle.normalizer_records.specs.Entry.{Entry}
 use Rattle.normalizer_records.specs.Meaning.{entry_of, canonical_mapping_of}
@@ -10,14 +10,14 @@ use Rattle.normalizer_builder.specs.Demands.{Demand, IsMade}
 use Rattle.normalizer_builder.specs.Fitness.{IsFirstUnfit}
 use Rattle.normalizer_builder.specs.Ranks.{IsBefore, IsLeast, IsFirstUnmet}
 use Rattle.normalizer_builder.specs.Recorded.{recorded_step}
-use Rattle.normalizer_builder.proofs.EntriesOfRecords.{find-recorded}
+use Rattle.std.proofs.lemmas.List.Elements.{All-contains}
+use Rattle.normalizer_packing.proofs.EntryLemmas.{find-tells}
 use Rattle.normalizer_builder.proofs.LeastOfTwo.{IsFirstUnmet-least, IsFirstUnmet-same}
 
 -- nothing stands before itself
 IsBefore-itself : (u : Unfit) → IsBefore u u → ⊥
 unfolding IsBefore
-IsBefore-itself u (inl h) = omega (arith, h)
-IsBefore-itself u (inr h) = omega (arith, h.1)
+IsBefore-itself u h = absurd (grind arith)
 
 module _ (records : List Entry) (p : Packed) where
   unrecorded_keeps : (n : ℕ) → entry_of records n ≡ None → KeepsMapping records p n
@@ -27,13 +27,10 @@ module _ (records : List Entry) (p : Packed) where
   -- what holds of the recorded characters holds of all
   keeps_all : All (λ r. KeepsMapping records p r.c) records → (n : ℕ) → KeepsMapping records p n
   unfolding entry_of
-  keeps_all kept n = elim (find-recorded (λ (r : Entry). r.c) records n) [
-    | inl there ↦ subst (KeepsMapping records p) (there.2 unrecorded) (kept there.0 unrecorded there.1)
-    | inr missing ↦ unrecorded_keeps n missing
+  keeps_all kept n = elim (find-tells (λ (r : Entry). r.c == n) records) [
+    | inl missing ↦ unrecorded_keeps n missing.0
+    | inr there ↦ subst (KeepsMapping records p) (eqb-true _ _ there.3) (All-contains (λ (r : Entry). KeepsMapping records p r.c) records there.0 kept there.2)
   ]
-    where
-      unrecorded : Entry
-      unrecorded = record { c = 0; class = 0; mapping = []; compatibility = false; excluded = false }
 
   pub mappings-kept : All (λ r. KeepsMapping records p r.c) records → IsFirstUnfitOfMappings records p None
   unfolding IsFirstUnmet MeetsRecords

@@ -1,9 +1,9 @@
 -- What records are of which none of their own refusals holds.
-use Rattle.std.proofs.Common.{◌≡◌, inl, inr, ℕ, zero, suc, ◌<◌, ◌≤◌, true, false, List, [], ◌∷◌, ◌++◌, length, get_or, Option, Some, None, IfSome, IsSomeAnd, refl, ap, ◌∙◌}
+use Rattle.std.proofs.Common.{◌≡◌, inl, inr, Bool, ℕ, zero, suc, ◌<◌, ◌≤◌, true, false, List, [], ◌∷◌, ◌++◌, length, get_or, Option, Some, None, IfSome, IsSomeAnd, refl, ap, ◌∙◌}
 use Rattle.std.proofs.Common.{arith, find, ◌==◌, length-append, if◌then◌else◌}
 use Rattle.std.specs.List.{list_any}
 use Rattle.std.specs.Option.{option_map}
-use Rattle.std.proofs.lemmas.Bool.{cases_Bool, cases_lt, or_left, or_right}
+use Rattle.std.proofs.lemmas.Bool.{cases_lt, or_left, or_right}
 use Rattle.std.proofs.lemmas.Bool.Decides.{nat_tests}
 use Rattle.normal_forms.proofs.OrderLemmas.{length-order}
 use Rattle.normalizer_tables.specs.SpecialLists.{fdfa_list}
@@ -16,10 +16,17 @@ use Rattle.normalizer_records.specs.Faults.{AreRising, AreMapperRising, HasFault
 use Rattle.normalizer_records.specs.Faults.{HasPairFault, IsAsked, IsFirstRefusal, IsOnLongChain, IsTooLong, has_mapping_fault, is_bad_mapping, is_bad_status, mapped_to}
 use Rattle.normalizer_records.specs.Meaning.{canonical_list, compatibility_list, mapper_list, mapped_list, list_of_status, status_of, expansion, expand_all, full_list, replacement, replace_by}
 use Rattle.normalizer_records.specs.Meaning.{recorded_classes, levels}
+use Rattle.normalizer_packing.specs.declared.entry.Kind.{Kind}
+use Rattle.normalizer_packing.specs.declared.entry.Kind.TheVariants as kind
 use Rattle.normalizer_builder.specs.inner.Parts.{HasRoom}
+use Rattle.normalizer_builder.proofs.EntriesOfRecords.{recorded_list}
+
+pub not_so : (b : Bool) → (b ≡ true → ⊥) → b ≡ false
+not_so true h = absurd (h refl)
+not_so false h = refl
 
 stable : (a b : ℕ) → (¬ (a < b) → ⊥) → a < b
-stable a b h = elim (cases_lt a b) [ inl l ↦ l | inr g ↦ absurd (h (λ l. omega arith)) ]
+stable a b h = grind arith
 
 fdfa_length : length fdfa_list ≡ 18
 unfolding fdfa_list
@@ -80,10 +87,7 @@ module _ (records : List Entry) (uts46 : List MapperEntry) (none : IsFirstRefusa
 
   pub no_fixed_fault : has_fixed_fault records uts46 ≡ false
   unfolding HasFault
-  no_fixed_fault = elim (cases_Bool (has_fixed_fault records uts46)) [
-    | inl e ↦ absurd (no_fault refusal.Fixed e)
-    | inr e ↦ e
-  ]
+  no_fixed_fault = not_so _ (no_fault refusal.Fixed)
 
   off_chain : (c : ℕ) → ¬ IsOnLongChain records c
   unfolding HasFault HasChainFault IsOnLongChain
@@ -102,17 +106,11 @@ module _ (records : List Entry) (uts46 : List MapperEntry) (none : IsFirstRefusa
   no_long_list c h = no_fault refusal.Length (c, asked c, h)
 
   -- no list is too long
-  pub canonical_fits : (c : ℕ) → ¬ IsTooLong (canonical_list records c)
+  pub recorded_fits : (k : Kind) (c : ℕ) → IfSome (recorded_list records uts46 k c) (λ x. ¬ IsTooLong x)
   unfolding HasLongList
-  canonical_fits c h = no_long_list c (inl h)
-
-  pub compatibility_fits : (c : ℕ) → ¬ IsTooLong (compatibility_list records c)
-  unfolding HasLongList
-  compatibility_fits c h = no_long_list c (inr (inl h))
-
-  pub mapper_fits : (c : ℕ) → IfSome (mapper_list records uts46 c) (λ x. ¬ IsTooLong x)
-  unfolding HasLongList
-  mapper_fits c = elim (mapper_list records uts46 c) as (λ o. ¬ IsSomeAnd o IsTooLong → IfSome o (λ x. ¬ IsTooLong x)) [
+  recorded_fits kind.Canonical c = λ h. no_long_list c (inl h)
+  recorded_fits kind.Compatibility c = λ h. no_long_list c (inr (inl h))
+  recorded_fits kind.Mapper c = elim (mapper_list records uts46 c) as (λ o. ¬ IsSomeAnd o IsTooLong → IfSome o (λ x. ¬ IsTooLong x)) [
     | None ↦ λ h. tt
     | Some x ↦ λ h. h
   ] (λ h. no_long_list c (inr (inr h)))
@@ -123,17 +121,10 @@ module _ (records : List Entry) (uts46 : List MapperEntry) (none : IsFirstRefusa
 
   pub room : (c : ℕ) → HasRoom records uts46 c
   room c = record {
-    canonical = short (canonical_list records c) (canonical_fits c);
-    compatibility = short (compatibility_list records c) (compatibility_fits c);
-    mapper = short_mapper (mapper_list records uts46 c) (mapper_fits c);
+    canonical = short (canonical_list records c) (recorded_fits kind.Canonical c);
+    compatibility = short (compatibility_list records c) (recorded_fits kind.Compatibility c);
+    mapper = short_mapper (mapper_list records uts46 c) (recorded_fits kind.Mapper c);
   }
-
-  -- no list is empty
-  pub canonical_some : (c : ℕ) → 0 < length (canonical_list records c)
-  canonical_some c = full_list_some records Canonical c
-
-  pub compatibility_some : (c : ℕ) → 0 < length (compatibility_list records c)
-  compatibility_some c = full_list_some records AllMappings c
 
   pub no_mapping_fault : ¬ (has_mapping_fault records uts46 ≡ true)
   unfolding HasFault
@@ -141,13 +132,16 @@ module _ (records : List Entry) (uts46 : List MapperEntry) (none : IsFirstRefusa
 
   status_some : (c : ℕ) (o : Option Status) → status_of uts46 c ≡ o → IfSome (mapped_list records c o) (λ x. 0 < length x)
   unfolding mapped_list list_of_status status_of has_mapping_fault
-  status_some c None e = canonical_some c
+  status_some c None e = full_list_some records Canonical c
   status_some c (Some IsIgnored) e = tt
   status_some c (Some IsDisallowed) e = omega arith
   status_some c (Some (MapsTo [])) e = absurd (no_mapping_fault (or_right (list_any is_bad_mapping records) _ (bad_status uts46 c (MapsTo []) e refl)))
   status_some c (Some (MapsTo (m ∷ x))) e = let some = expand_all_some records m x in let same =
       length-order (recorded_classes records) (expand_all records Canonical (m ∷ x)) in omega (arith, some, same)
 
-  pub mapper_some : (c : ℕ) → IfSome (mapper_list records uts46 c) (λ x. 0 < length x)
+  -- no list is empty
+  pub recorded_some : (k : Kind) (c : ℕ) → IfSome (recorded_list records uts46 k c) (λ x. 0 < length x)
   unfolding mapper_list
-  mapper_some c = status_some c (status_of uts46 c) refl
+  recorded_some kind.Canonical c = full_list_some records Canonical c
+  recorded_some kind.Compatibility c = full_list_some records AllMappings c
+  recorded_some kind.Mapper c = status_some c (status_of uts46 c) refl

@@ -1,7 +1,7 @@
 -- Lists of characters other than U+0000 don't have it.
 use Rattle.std.proofs.Common.{◌≡◌, ℕ, zero, suc, ◌<◌, true, false, ◌==◌, ◌||◌, List, [], ◌∷◌, flat_map, Option, Some, None, IfSome, ap, subst, sym, refl, arith}
 use Rattle.std.proofs.Common.{if◌then◌else◌, inl, inr, All}
-use Rattle.std.proofs.lemmas.Bool.{cases_Bool, or_parts, or_right}
+use Rattle.std.proofs.lemmas.Bool.{or_parts, or_right}
 use Rattle.std.specs.List.{list_any, AllByRecursion}
 use Rattle.std.specs.Option.{option_map_or}
 use Rattle.std.proofs.lemmas.Bool.Decides.{nat_tests}
@@ -15,7 +15,7 @@ use Rattle.normalizer_records.specs.Faults.{IsFirstRefusal, has_mapping_fault, h
 use Rattle.normalizer_records.specs.Meaning.{entry_of, expand_all, expansion, full_list, levels, list_of_status, mapped_list, mapper_list, mapping_among, recorded_classes, replace_by, replacement}
 use Rattle.normalizer_records.specs.Meaning.{status_of}
 use Rattle.normalizer_records.proofs.SyllableLemmas.{by_jamo}
-use Rattle.normalizer_builder.proofs.NoRefusal.{bad_status, no_mapping_fault}
+use Rattle.normalizer_builder.proofs.NoRefusal.{bad_status, no_mapping_fault, not_so}
 use Rattle.normalizer_builder.proofs.UnrecordedCharacters.{find-cases, none_passes}
 
 -- U+0000 isn't among x
@@ -49,17 +49,12 @@ HasNoZero-among AllMappings r h = good_mapping r h
 module _ (records : List Entry) (uts46 : List MapperEntry) (none : IsFirstRefusal records uts46 None) where
   good_mappings : All (λ r. is_bad_mapping r ≡ false) records
   unfolding has_mapping_fault
-  good_mappings = none_passes is_bad_mapping records (elim (cases_Bool (list_any is_bad_mapping records)) as (λ _. list_any is_bad_mapping records ≡ false) [
-    | inl e ↦ absurd (no_mapping_fault records uts46 none (ap (λ b. b || list_any (λ (r : MapperEntry). is_bad_status r.status) uts46) e))
-    | inr e ↦ e
-  ])
+  good_mappings =
+      none_passes is_bad_mapping records (not_so _ (λ e. no_mapping_fault records uts46 none (ap (λ b. b || list_any (λ (r : MapperEntry). is_bad_status r.status) uts46) e)))
 
   good_status : (n : ℕ) (s : Status) → status_of uts46 n ≡ Some s → is_bad_status s ≡ false
   unfolding has_mapping_fault status_of
-  good_status n s found = elim (cases_Bool (is_bad_status s)) [
-    | inl bad ↦ absurd (no_mapping_fault records uts46 none (or_right (list_any is_bad_mapping records) _ (bad_status uts46 n s found bad)))
-    | inr e ↦ e
-  ]
+  good_status n s found = not_so _ (λ bad. no_mapping_fault records uts46 none (or_right (list_any is_bad_mapping records) _ (bad_status uts46 n s found bad)))
 
   pub HasNoZero-recorded : (mappings : Mappings) (n : ℕ) → HasNoZero (option_map_or (mapping_among mappings) (entry_of records n) [])
   unfolding entry_of

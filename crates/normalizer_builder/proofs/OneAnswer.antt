@@ -1,9 +1,7 @@
 -- Records have but one smallest refusal, want of memory aside, and none where they build data.
-use Rattle.std.proofs.Common.{◌≡◌, ◌≢◌, ◌⊎◌, inl, inr, ℕ, ◌≤◌, List, [], ◌∷◌, get_or, Some, None, refl, ap, sym, subst, ◌∙◌, arith}
+use Rattle.std.proofs.Common.{◌≡◌, ◌≢◌, ◌⊎◌, inl, inr, ◌≤◌, List, Some, None, refl, ap, sym, subst, arith}
 use Rattle.std.proofs.lemmas.Bool.{cases_order}
 use Rattle.normalizer_tables.specs.declared.provider.DataMarkerInfo.{DataMarkerInfo}
-use Rattle.normalizer_tables.specs.declared.provider.DataMarkerInfo.TheVariants.{NormalizerNfdDataV1, NormalizerNfkdDataV1, NormalizerUts46DataV1, NormalizerNfdTablesV1, NormalizerNfkdTablesV1}
-use Rattle.normalizer_tables.specs.declared.provider.DataMarkerInfo.TheVariants.{NormalizerNfcV1, NormalizerNfdSupplementV1}
 use Rattle.normalizer_tables.specs.Conditions.{item_limit}
 use Rattle.normalizer_packing.specs.declared.Packed.{Packed}
 use Rattle.normalizer_packing.specs.Entries.{CharacterEntry}
@@ -20,44 +18,24 @@ use Rattle.normalizer_builder.specs.Building.{Builds, HasTooManyItems, IsFirstUn
 use Rattle.normalizer_builder.specs.Ranks.{IsBefore, IsFirstUnmet, place_of}
 use Rattle.normalizer_builder.proofs.SameParts.{one_packing_of_records, same_entries}
 
--- a marker by its place
-marker_of : ℕ → DataMarkerInfo
-marker_of n = get_or (NormalizerNfdDataV1 ∷ NormalizerNfkdDataV1 ∷ NormalizerUts46DataV1 ∷ NormalizerNfdTablesV1 ∷ NormalizerNfkdTablesV1 ∷ NormalizerNfcV1 ∷ []) n NormalizerNfdSupplementV1
+one_place : (m l : DataMarkerInfo) → place_of m ≡ place_of l → m ≡ l
+one_place m l same = grind arith
 
-of_place : (m : DataMarkerInfo) → marker_of (place_of m) ≡ m
-unfolding marker_of
-of_place NormalizerNfdDataV1 = refl
-of_place NormalizerNfkdDataV1 = refl
-of_place NormalizerUts46DataV1 = refl
-of_place NormalizerNfdTablesV1 = refl
-of_place NormalizerNfkdTablesV1 = refl
-of_place NormalizerNfcV1 = refl
-of_place NormalizerNfdSupplementV1 = refl
-
--- of two answers one stands before the other, unless they are one
-one_before : (u v : Unfit) → (u ≡ v) ⊎ (IsBefore u v ⊎ IsBefore v u)
+-- two answers of which neither stands before the other are one
+one_of_neither : (u v : Unfit) → (IsBefore u v → ⊥) → (IsBefore v u → ⊥) → u ≡ v
 unfolding IsBefore
-one_before u v = elim (cases_order u.condition v.condition) as (λ _. (u ≡ v) ⊎ (IsBefore u v ⊎ IsBefore v u)) [
-  | inl same ↦ elim (cases_order (place_of u.marker) (place_of v.marker)) as (λ _. (u ≡ v) ⊎ (IsBefore u v ⊎ IsBefore v u)) [
-    | inl place ↦ inl (same_unfits same (sym (of_place u.marker) ∙ ap marker_of place ∙ of_place v.marker))
-    | inr (inl below) ↦ inr (inl (inr (same, below)))
-    | inr (inr above) ↦ inr (inr (inr (sym same, above)))
-  ]
-  | inr (inl below) ↦ inr (inl (inl below))
-  | inr (inr above) ↦ inr (inr (inl above))
-]
-  where
-    same_unfits : u.condition ≡ v.condition → u.marker ≡ v.marker → u ≡ v
-    same_unfits e f = λ i. record { marker = f i; condition = e i }
+one_of_neither u v h k =
+    let conditions : u.condition ≡ v.condition = grind arith in
+    let places : place_of u.marker ≡ place_of v.marker = grind arith in
+    let markers : u.marker ≡ v.marker = one_place u.marker v.marker places in
+    λ i. record { marker = markers i; condition = conditions i }
 
 -- the least answer to demands that aren't met is one
 one_unmet : {D : Type 0} (made : D → Type 0) (answer : D → Unfit) (meets : D → Type 0) (u v : Unfit) → IsFirstUnmet made answer meets (Some u) → IsFirstUnmet made answer meets (Some v) → u ≡ v
 unfolding IsFirstUnmet
-one_unmet made answer meets u v h k = elim (one_before u v) as (λ _. u ≡ v) [
-  | inl same ↦ same
-  | inr (inl before) ↦ absurd (h.unmet.3 (k.before h.unmet.0 h.unmet.1 (subst (λ w. IsBefore w v) (sym h.unmet.2) before)))
-  | inr (inr before) ↦ absurd (k.unmet.3 (h.before k.unmet.0 k.unmet.1 (subst (λ w. IsBefore w u) (sym k.unmet.2) before)))
-]
+one_unmet made answer meets u v h k = one_of_neither u v
+    (λ before. h.unmet.3 (k.before h.unmet.0 h.unmet.1 (subst (λ w. IsBefore w v) (sym h.unmet.2) before)))
+    (λ before. k.unmet.3 (h.before k.unmet.0 k.unmet.1 (subst (λ w. IsBefore w u) (sym k.unmet.2) before)))
 
 all_or_one : {D : Type 0} (made : D → Type 0) (answer : D → Unfit) (meets : D → Type 0) (u : Unfit) → IsFirstUnmet made answer meets None → IsFirstUnmet made answer meets (Some u) → ⊥
 unfolding IsFirstUnmet

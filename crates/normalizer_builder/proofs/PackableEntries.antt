@@ -1,25 +1,23 @@
 -- Entries of records that aren't refused can be packed.
-use Rattle.std.proofs.Common.{◌≡◌, ◌≢◌, inl, inr, ℕ, ◌+◌, ◌<◌, ◌≤◌, Bool, true, false, ◌&&◌, ◌==◌, nat_lt, nat_le, List, [], ◌∷◌, length, map, Option, Some, None, All, IfSome, refl, subst}
-use Rattle.std.proofs.Common.{sym, ◌∙◌, arith, if◌then◌else◌, filter_map}
+use Rattle.std.proofs.Common.{◌≡◌, ◌≢◌, ℕ, ◌<◌, ◌≤◌, true, false, nat_lt, nat_le, List, [], ◌∷◌, length, map, Option, Some, None, All, IfSome, refl, subst}
+use Rattle.std.proofs.Common.{sym, arith, filter_map}
 use Rattle.std.specs.List.{cons_option, list_all, list_any}
-use Rattle.std.proofs.lemmas.Bool.{and_cases, cases_Bool, or_left, or_parts, or_right, true≢false}
+use Rattle.std.proofs.lemmas.Bool.{or_parts, true≢false}
 use Rattle.std.proofs.lemmas.Bool.Decides.{nat_tests}
 use Rattle.std.proofs.lemmas.List.Elements.{All-cons}
 use Rattle.normalizer_tables.specs.SpecialLists.{fdfa_list}
 use Rattle.normalizer_packing.specs.declared.entry.Kind.{Kind}
-use Rattle.normalizer_packing.specs.declared.entry.Kind.TheVariants as kind
 use Rattle.normalizer_packing.specs.declared.spelling.Spelling.{Spelling}
 use Rattle.normalizer_packing.specs.declared.spelling.Spelling.TheVariants.{Final, Short, Listed}
 use Rattle.normalizer_packing.specs.Entries.{CharacterEntry, class_in, own_list}
 use Rattle.normalizer_packing.specs.Packing.{ArePackable}
-use Rattle.normalizer_packing.specs.Spelling.{final_word, spelling, spelling_or_ignored, spelling_by_list, spelling_of_list, has_fixed_list, list_eq}
+use Rattle.normalizer_packing.specs.Spelling.{spelling, spelling_or_ignored, spelling_by_list, spelling_of_list}
 use Rattle.normalizer_packing.specs.Stored.{HasLengthOfWord, is_narrow, listed_of, listed_in}
 use Rattle.normalizer_records.specs.Entry.{Entry, MapperEntry}
 use Rattle.normalizer_records.specs.Faults.{IsFirstRefusal, IsTooLong, is_long}
-use Rattle.normalizer_records.specs.Meaning.{mapper_list}
 use Rattle.normalizer_builder.specs.Recorded.{AreMadeOf, entry_for}
-use Rattle.normalizer_builder.proofs.EntriesOfRecords.{AreEntriesOf-made}
-use Rattle.normalizer_builder.proofs.NoRefusal.{canonical_fits, compatibility_fits, mapper_fits, canonical_some, compatibility_some, mapper_some}
+use Rattle.normalizer_builder.proofs.EntriesOfRecords.{AreEntriesOf-made, own_recorded, recorded_list}
+use Rattle.normalizer_builder.proofs.NoRefusal.{not_so, recorded_fits, recorded_some}
 
 -- a list that may stand in a table, unless a word spells it
 record IsFit (x : List ℕ) : Type 0 where
@@ -27,36 +25,16 @@ record IsFit (x : List ℕ) : Type 0 where
   within : ¬ IsTooLong x
 
 not_long : (x : List ℕ) → IsFit x → x ≢ fdfa_list → is_long x ≡ false
-not_long x h other = elim (cases_Bool (is_long x)) [
-  | inl long ↦ absurd (h.within (long, other))
-  | inr e ↦ e
-]
+not_long x h other = not_so _ (λ long. h.within (long, other))
 
 -- a character is past U+FFFF where not all are below
 some_past : (x : List ℕ) → list_all (λ c. nat_le c 0xFFFF) x ≡ false → list_any (λ c. nat_lt 0xFFFF c) x ≡ true
 some_past [] h = absurd (true≢false h)
-some_past (c ∷ x) h = elim (cases_Bool (nat_le c 0xFFFF)) [
-  | inl e ↦ or_right (nat_lt 0xFFFF c) _ (some_past x (and_second _ _ e h))
-  | inr e ↦ or_left (nat_lt 0xFFFF c) _ (grind (arith, nat_tests))
-]
-  where
-    and_second : (a b : Bool) → a ≡ true → (a && b) ≡ false → b ≡ false
-    and_second true b e f = f
-    and_second false b e f = absurd (true≢false (sym e))
+some_past (c ∷ x) h = let later = some_past x in grind (arith, nat_tests)
 
 wide_length : (x : List ℕ) → is_long x ≡ false → is_narrow x ≡ false → length x ≤ 16
 unfolding is_narrow
-wide_length x short wide =
-    let parts = or_parts (nat_lt 17 (length x)) (nat_lt 16 (length x) && list_any (λ c. nat_lt 0xFFFF c) x) short in
-    elim (and_cases (nat_le 2 (length x)) (list_all (λ c. nat_le c 0xFFFF) x) wide) [
-      | inl few ↦ grind (arith, nat_tests)
-      | inr past ↦ (
-          let beyond = some_past x past in
-          elim (and_cases (nat_lt 16 (length x)) (list_any (λ c. nat_lt 0xFFFF c) x) parts.1) [
-            | inl e ↦ grind (arith, nat_tests)
-            | inr e ↦ absurd (true≢false (sym beyond ∙ e))
-          ])
-    ]
+wide_length x short wide = let past = some_past x in grind (arith, nat_tests)
 
 length_of_word : (x : List ℕ) → IsFit x → x ≢ fdfa_list → HasLengthOfWord x
 unfolding HasLengthOfWord
@@ -68,28 +46,9 @@ length_of_word x h other =
     ] refl
 
 -- a word spells the list of U+FDFA
-fdfa_list_spelled : (class : ℕ → ℕ) (n : ℕ) → spelling_of_list class n fdfa_list ≢ Listed
-unfolding spelling_of_list fdfa_list
-fdfa_list_spelled class n e = absurd cc
-
-fdfa_by_list : (class : ℕ → ℕ) (n : ℕ) → spelling_by_list class n fdfa_list ≢ Listed
-unfolding spelling_by_list
-fdfa_by_list class n =
-    elim (has_fixed_list class n fdfa_list) as (λ b. (if b then Short (0xD900 + class n) else if list_eq fdfa_list (n ∷ []) then Short (if class n == 0 then 0 else 0xD800 + class n) else
-    spelling_of_list class n fdfa_list) ≢ Listed) [
-      | true ↦ λ e. absurd cc
-      | false ↦ elim (list_eq fdfa_list (n ∷ [])) as (λ b. (if b then Short (if class n == 0 then 0 else 0xD800 + class n) else spelling_of_list class n fdfa_list) ≢ Listed) [
-        | true ↦ λ e. absurd cc
-        | false ↦ fdfa_list_spelled class n
-      ]
-    ]
-
 fdfa_spelled : (class : ℕ → ℕ) (n : ℕ) → spelling class n (Some fdfa_list) ≢ Listed
-unfolding spelling spelling_or_ignored
-fdfa_spelled class n = elim (final_word n) as (λ o. elim o as (λ _. Spelling) [ Some w ↦ Final w | None ↦ spelling_or_ignored class n (Some fdfa_list) ] ≢ Listed) [
-  | Some w ↦ λ e. absurd cc
-  | None ↦ fdfa_by_list class n
-]
+unfolding spelling spelling_or_ignored spelling_by_list spelling_of_list fdfa_list
+fdfa_spelled class n e = absurd (grind arith)
 
 -- the list of an entry, where it is fit, has the length of a word if it stands in a table
 listed_fit : (class : ℕ → ℕ) (k : Kind) (e : CharacterEntry) → IfSome (own_list k e) IsFit → IfSome (listed_of class k e) HasLengthOfWord
@@ -116,10 +75,7 @@ module _ (records : List Entry) (uts46 : List MapperEntry) (none : IsFirstRefusa
   fit_both (Some x) h k = record { some = k; within = h }
 
   own_fit : (k : Kind) (c : ℕ) → IfSome (own_list k (entry_for records uts46 c)) IsFit
-  unfolding entry_for
-  own_fit kind.Canonical c = record { some = canonical_some records uts46 none c; within = canonical_fits records uts46 none c }
-  own_fit kind.Compatibility c = record { some = compatibility_some records uts46 none c; within = compatibility_fits records uts46 none c }
-  own_fit kind.Mapper c = fit_both (mapper_list records uts46 c) (mapper_fits records uts46 none c) (mapper_some records uts46 none c)
+  own_fit k c = rw (own_recorded records uts46 k c) (fit_both (recorded_list records uts46 k c) (recorded_fits records uts46 none k c) (recorded_some records uts46 none k c))
 
   listed_lengths : (entries : List CharacterEntry) → AreMadeOf records uts46 entries → (k : Kind) → All HasLengthOfWord (listed_in entries k)
   unfolding listed_in

@@ -1,6 +1,6 @@
 -- What constructors demand, in parts.
 use Rattle.std.proofs.Common.{◌≡◌, ◌⊎◌, inl, inr, length, map, Option, subst, sym, refl}
-use Rattle.std.specs.List.{Contains, range_with_len}
+use Rattle.std.specs.List.{range_with_len}
 use Rattle.std.specs.Option.{option_map}
 use Rattle.normalizer_tables.specs.declared.condition.Condition.{Condition}
 use Rattle.normalizer_tables.specs.Conditions.{IsFirstFailing, number_of}
@@ -33,14 +33,11 @@ IsOfTexts d = IsMadeOfKind Canonical d ⊎ IsMadeOfKind Compatibility d
 abbrev IsOfPart : Demand → Type 0
 IsOfPart d = IsOfTexts d ⊎ IsMadeOfKind Mapper d
 
-made_of_kind : (kind : Kind) (d : Demand) → IsMadeOfKind kind d → IsMade d
-unfolding IsMade
-made_of_kind kind d h = subst IsMade (sym h.2) h.1
-
 made_of_part : (d : Demand) → IsOfPart d → IsMade d
-made_of_part d (inl (inl h)) = made_of_kind Canonical d h
-made_of_part d (inl (inr h)) = made_of_kind Compatibility d h
-made_of_part d (inr h) = made_of_kind Mapper d h
+unfolding IsMade
+made_of_part d (inl (inl h)) = subst IsMade (sym h.2) h.1
+made_of_part d (inl (inr h)) = subst IsMade (sym h.2) h.1
+made_of_part d (inr h) = subst IsMade (sym h.2) h.1
 
 part_of : (d : Demand) → IsMade d → IsOfPart d
 unfolding IsMade

@@ -1,14 +1,14 @@
 -- Entries of records that aren't refused have words that can be read again.
 use Rattle.std.proofs.Common.{◌≡◌, ◌∙◌, ◌⊎◌, inl, inr, ℕ, ◌<◌, Bool, true, false, ◌==◌, ◌&&◌, nat_lt, List, [], ◌∷◌, map, All, Contains, Option, Some, None, IfSome, IsSomeAnd, unwrap_or, ap, ap₂}
-use Rattle.std.proofs.Common.{subst, sym, refl, arith}
+use Rattle.std.proofs.Common.{subst, sym, refl, arith, eq-eqb}
 use Rattle.std.specs.Char.{IsScalar}
 use Rattle.std.proofs.lemmas.Bool.{cases_Bool, cases_eq, or_parts, true≢false}
-use Rattle.std.proofs.lemmas.Bool.Decides.{eqb_tells, nat_tests}
-use Rattle.std.proofs.lemmas.List.Elements.{All-cons, All-contains, All-head, All-nil, All-tail}
+use Rattle.std.proofs.lemmas.Bool.Decides.{nat_tests}
+use Rattle.std.proofs.lemmas.List.Elements.{All-cons, All-contains, All-map, All-nil}
 use Rattle.normal_forms.specs.Boundary.{BeginsWithStarter}
 use Rattle.normal_forms.specs.Reading.{IsText}
 use Rattle.normalizer_tables.specs.Hangul.{is_hangul_syllable}
-use Rattle.normalizer_tables.specs.SpecialLists.{FixedList, fixed_list_of}
+use Rattle.normalizer_tables.specs.SpecialLists.{FixedList}
 use Rattle.normalizer_packing.specs.declared.entry.Kind.{Kind}
 use Rattle.normalizer_packing.specs.declared.entry.Kind.TheVariants as kind
 use Rattle.normalizer_packing.specs.Entries.{CharacterEntry, class_in, reading_of_entries, entry_of as packed_entry_of, kept_list, list_in, own_list}
@@ -21,48 +21,24 @@ use Rattle.normalizer_records.specs.Faults.{HasWrongClass, IsFirstRefusal, IsFix
 use Rattle.normalizer_records.specs.Meaning.{canonical_list, class_of, compatibility_list, list_of_status, mapped_list, mapper_list}
 use Rattle.normalizer_packing.proofs.EntryLemmas.{find-missing}
 use Rattle.normalizer_builder.specs.inner.Parts.{IsOfCharacters}
-use Rattle.normalizer_builder.specs.Recorded.{AreMadeOf, entry_for, recorded_characters}
-use Rattle.normalizer_builder.proofs.EntriesOfRecords.{AreEntriesOf, AreEntriesOf-made, class_of_found, list_alone, list_of_found, mapper_alone, no_entry}
-use Rattle.normalizer_builder.proofs.NoRefusal.{no_wrong_class}
+use Rattle.normalizer_builder.specs.Recorded.{AreMadeOf, recorded_characters}
+use Rattle.normalizer_builder.proofs.EntriesOfRecords.{AreEntriesOf, AreEntriesOf-made, characters_made, class_of_found, list_alone, list_of_found, no_entry, recorded_list, recorded_list-alone}
+use Rattle.normalizer_builder.proofs.NoRefusal.{no_wrong_class, not_so}
 use Rattle.normalizer_builder.proofs.NonzeroLists.{HasNoZero, HasNoZero-list, HasNoZero-mapper}
 use Rattle.normalizer_builder.proofs.UnrecordedCharacters.{class_of-unrecorded, find-cases, missing_syllable, status_of_replacement, unrecorded_replacement}
 
-numbers_made : {X : Type 0} (make : ℕ → X) (number : X → ℕ) → ((c : ℕ) → number (make c) ≡ c) → (cs : List ℕ) → map number (map make cs) ≡ cs
-numbers_made make number same [] = refl
-numbers_made make number same (c ∷ cs) = ap₂ (λ a b. a ∷ b) (same c) (numbers_made make number same cs)
-
--- classes that are the same make the same tests of them
-have_classes-same : (f g : ℕ → ℕ) → ((n : ℕ) → f n ≡ g n) → (ks x : List ℕ) → have_classes f ks x ≡ have_classes g ks x
-have_classes-same f g same [] [] = refl
-have_classes-same f g same [] (c ∷ x) = refl
-have_classes-same f g same (k ∷ ks) [] = refl
-have_classes-same f g same (k ∷ ks) (c ∷ x) = ap₂ (λ a b. (k == a) && b) (same c) (have_classes-same f g same ks x)
-
-eq_itself : (k : ℕ) → (k == k) ≡ true
-eq_itself k = elim (eqb_tells k k) [ inl h ↦ h.0 | inr h ↦ absurd (h.1 refl) ]
-
 have_classes-own : (f : ℕ → ℕ) (x : List ℕ) → have_classes f (map f x) x ≡ true
 have_classes-own f [] = refl
-have_classes-own f (c ∷ x) = ap₂ (λ a b. a && b) (eq_itself (f c)) (have_classes-own f x)
+have_classes-own f (c ∷ x) = ap₂ (λ a b. a && b) (eq-eqb (f c) (f c) refl) (have_classes-own f x)
 
 -- the test of a fixed list, if n has one
 abbrev fixed_test : (ℕ → ℕ) → ℕ → List ℕ → Option FixedList → Bool
 fixed_test class n x o = elim o [ Some l ↦ list_eq l.list x && ((l.class == class n) && have_classes class l.member_classes x) | None ↦ false ]
 
-pub has_fixed_list-same : (f g : ℕ → ℕ) → ((n : ℕ) → f n ≡ g n) → (n : ℕ) (x : List ℕ) → has_fixed_list f n x ≡ has_fixed_list g n x
-unfolding has_fixed_list
-has_fixed_list-same f g same n x = by (fixed_list_of n)
-  where
-    by : (o : Option FixedList) → fixed_test f n x o ≡ fixed_test g n x o
-    by None = refl
-    by (Some l) = ap₂ (λ a b. list_eq l.list x && ((l.class == a) && b)) (same n) (have_classes-same f g same l.member_classes x)
-
 pub fixed_form-has : (records : List Entry) (n : ℕ) (x : List ℕ) → IsFixedForm records n x → has_fixed_list (class_of records) n x ≡ true
 unfolding has_fixed_list
-fixed_form-has records n x form = ap (fixed_test (class_of records) n x) form ∙ all
-  where
-    all : (list_eq x x && ((class_of records n == class_of records n) && have_classes (class_of records) (map (class_of records) x) x)) ≡ true
-    all = rw (eq_list x x refl, eq_itself (class_of records n), have_classes-own (class_of records) x) refl
+fixed_form-has records n x form =
+    ap (fixed_test (class_of records) n x) form ∙ rw (eq_list x x refl, eq-eqb (class_of records n) (class_of records n) refl, have_classes-own (class_of records) x) refl
 
 no_mark : (k : ℕ) → nat_lt 0 k ≡ false → k ≡ 0
 no_mark k e = grind (arith, nat_tests)
@@ -73,19 +49,15 @@ starter_first : (records : List Entry) (entries : List CharacterEntry) → ((n :
 starter_first records entries same [] h = tt
 starter_first records entries same (c ∷ x) h = same c ∙ no_mark (class_of records c) h
 
-scalars_made : (make : ℕ → CharacterEntry) → ((c : ℕ) → (make c).character ≡ c) → (cs : List ℕ) → All IsOfCharacters (map make cs) → All IsScalar cs
-scalars_made make same [] all = All-nil IsScalar
-scalars_made make same (c ∷ cs) all =
-    All-cons IsScalar c cs (subst IsScalar (same c) (All-head IsOfCharacters (make c) (map make cs) all).character) (scalars_made make same cs (All-tail IsOfCharacters (make c) (map make cs) all))
+-- what holds of the list and of an empty one holds where the character may be ignored
+IfSome-or : (P : List ℕ → Type 0) (o : Option (List ℕ)) → P [] → IfSome o P → P (unwrap_or o [])
+IfSome-or P None none h = none
+IfSome-or P (Some x) none h = h
 
 own_text : (k : Kind) (e : CharacterEntry) → IsOfCharacters e → IsText (unwrap_or (own_list k e) [])
 own_text kind.Canonical e h = h.canonical
 own_text kind.Compatibility e h = h.compatibility
-own_text kind.Mapper e h = by e.mapper h.mapper
-  where
-    by : (o : Option (List ℕ)) → IfSome o IsText → IsText (unwrap_or o [])
-    by None h = All-nil IsScalar
-    by (Some x) h = h
+own_text kind.Mapper e h = IfSome-or IsText e.mapper (All-nil IsScalar) h.mapper
 
 other_than_syllable : is_hangul_syllable 0xFFFD ≡ false
 unfolding is_hangul_syllable
@@ -96,16 +68,13 @@ alone_kept : (kind : Kind) (entries : List CharacterEntry) (n : ℕ) → packed_
 unfolding kept_list list_in
 alone_kept kind entries n missing = ap (λ o. unwrap_or (list_of_found kind n o) []) missing
 
--- the list of n in one kind of data, if records don't ignore n
-abbrev pub recorded_list : List Entry → List MapperEntry → Kind → ℕ → Option (List ℕ)
-recorded_list records uts46 kind.Canonical n = Some (canonical_list records n)
-recorded_list records uts46 kind.Compatibility n = Some (compatibility_list records n)
-recorded_list records uts46 kind.Mapper n = mapper_list records uts46 n
-
 module _ (records : List Entry) (uts46 : List MapperEntry) (none : IsFirstRefusal records uts46 None) (entries : List CharacterEntry) (made : AreMadeOf records uts46 entries)
     (characters : All IsOfCharacters entries) where
   meaning : AreEntriesOf records uts46 entries
   meaning = AreEntriesOf-made records uts46 entries made
+
+  pub same_class : class_in entries ≡ class_of records
+  same_class = λ i n. meaning.classes n i
 
   entry_cases : (n : ℕ) → (packed_entry_of entries n ≡ None) ⊎ ((e : CharacterEntry) × (packed_entry_of entries n ≡ Some e) × (e.character ≡ n) × IsOfCharacters e)
   unfolding packed_entry_of
@@ -113,20 +82,19 @@ module _ (records : List Entry) (uts46 : List MapperEntry) (none : IsFirstRefusa
 
   -- no entry is of a character that isn't recorded
   no_packed_entry : (n : ℕ) → (Contains (recorded_characters records uts46) n → ⊥) → packed_entry_of entries n ≡ None
-  unfolding packed_entry_of entry_for
+  unfolding packed_entry_of
   no_packed_entry n missing =
       find-missing (λ (e : CharacterEntry). e.character) entries n (λ there.
       missing (All-contains (Contains (recorded_characters records uts46)) made.characters n made.listed.recorded
-      (subst (λ (x : List ℕ). Contains x n) (numbers_made (entry_for records uts46) (λ e. e.character) (λ c. refl) made.characters)
+      (subst (λ (x : List ℕ). Contains x n) (characters_made records uts46 made.characters)
       (subst (λ (es : List CharacterEntry). Contains (map (λ e. e.character) es) n) made.made there))))
 
   -- recorded characters are scalar values
   pub missing_beyond : (n : ℕ) → (IsScalar n → ⊥) → Contains (recorded_characters records uts46) n → ⊥
-  unfolding entry_for
   missing_beyond n beyond there =
-      beyond (All-contains IsScalar made.characters n
-      (scalars_made (entry_for records uts46) (λ c. refl) made.characters (subst (λ (es : List CharacterEntry). All IsOfCharacters es) made.made characters))
-      (All-contains (Contains made.characters) (recorded_characters records uts46) n made.listed.all there))
+      let scalars : All IsScalar (map (λ e. e.character) entries) = All-map IsScalar (λ e. e.character) entries (λ k d within. (characters k d within).character) in
+      let same : map (λ e. e.character) entries ≡ made.characters = ap (map (λ e. e.character)) made.made ∙ characters_made records uts46 made.characters in
+      beyond (All-contains IsScalar made.characters n (subst (All IsScalar) same scalars) (All-contains (Contains made.characters) (recorded_characters records uts46) n made.listed.all there))
 
   -- the list that is kept of a character
   pub kept_syllable : (k : Kind) (n : ℕ) → is_hangul_syllable n ≡ true → kept_list k entries n ≡ n ∷ []
@@ -134,9 +102,7 @@ module _ (records : List Entry) (uts46 : List MapperEntry) (none : IsFirstRefusa
 
   pub kept_other : (k : Kind) (n : ℕ) → is_hangul_syllable n ≡ false → kept_list k entries n ≡ unwrap_or (recorded_list records uts46 k n) []
   unfolding kept_list
-  kept_other kind.Canonical n other = ap (λ o. unwrap_or o []) (meaning.canonical n other)
-  kept_other kind.Compatibility n other = ap (λ o. unwrap_or o []) (meaning.compatibility n other)
-  kept_other kind.Mapper n other = ap (λ o. unwrap_or o []) (meaning.mapper n other)
+  kept_other k n other = ap (λ o. unwrap_or o []) (meaning.lists k n other)
 
   eight_bits : (n : ℕ) → class_in entries n < 0x100
   unfolding class_in
@@ -157,22 +123,19 @@ module _ (records : List Entry) (uts46 : List MapperEntry) (none : IsFirstRefusa
 
   replacement_alone : (k : Kind) → list_in k entries 0xFFFD ≡ Some (0xFFFD ∷ [])
   unfolding mapper_list mapped_list list_of_status
-  replacement_alone kind.Canonical = meaning.canonical 0xFFFD other_than_syllable ∙ ap Some (list_alone records uts46 0xFFFD Canonical other_than_syllable (unrecorded_replacement records uts46 none))
-  replacement_alone kind.Compatibility = meaning.compatibility 0xFFFD other_than_syllable
+  replacement_alone kind.Canonical = meaning.lists kind.Canonical 0xFFFD other_than_syllable
+      ∙ ap Some (list_alone records uts46 0xFFFD Canonical other_than_syllable (unrecorded_replacement records uts46 none))
+  replacement_alone kind.Compatibility = meaning.lists kind.Compatibility 0xFFFD other_than_syllable
       ∙ ap Some (list_alone records uts46 0xFFFD AllMappings other_than_syllable (unrecorded_replacement records uts46 none))
-  replacement_alone kind.Mapper = meaning.mapper 0xFFFD other_than_syllable ∙ elim (status_of_replacement records uts46 none) [
-    | inl unmapped ↦ mapper_alone records uts46 0xFFFD other_than_syllable (unrecorded_replacement records uts46 none) unmapped
+  replacement_alone kind.Mapper = meaning.lists kind.Mapper 0xFFFD other_than_syllable ∙ elim (status_of_replacement records uts46 none) [
+    | inl unmapped ↦ recorded_list-alone records uts46 0xFFFD kind.Mapper other_than_syllable (unrecorded_replacement records uts46 none) unmapped
     | inr disallowed ↦ ap (mapped_list records 0xFFFD) disallowed
   ]
-
-  nonzero_or_ignored : (o : Option (List ℕ)) → IfSome o HasNoZero → HasNoZero (unwrap_or o [])
-  nonzero_or_ignored None h = tt
-  nonzero_or_ignored (Some x) h = h
 
   nonzero_recorded : (k : Kind) (n : ℕ) → 0 < n → HasNoZero (unwrap_or (recorded_list records uts46 k n) [])
   nonzero_recorded kind.Canonical n some = HasNoZero-list records uts46 none Canonical n some
   nonzero_recorded kind.Compatibility n some = HasNoZero-list records uts46 none AllMappings n some
-  nonzero_recorded kind.Mapper n some = nonzero_or_ignored (mapper_list records uts46 n) (HasNoZero-mapper records uts46 none n some)
+  nonzero_recorded kind.Mapper n some = IfSome-or HasNoZero (mapper_list records uts46 n) tt (HasNoZero-mapper records uts46 none n some)
 
   kept_nonzero : (k : Kind) (n : ℕ) → 0 < n → HasNoZero (kept_list k entries n)
   kept_nonzero k n some = elim (cases_Bool (is_hangul_syllable n)) [
@@ -193,30 +156,34 @@ module _ (records : List Entry) (uts46 : List MapperEntry) (none : IsFirstRefusa
       let here : kept_list k entries n ≡ x = kept_other k n other ∙ ap (λ o. unwrap_or o []) e in
       let parts = or_parts (has_fixed_list (class_in entries) n (kept_list k entries n)) (list_eq (kept_list k entries n) (n ∷ [])) h in (
         λ same. true≢false (sym (eq_list (kept_list k entries n) (n ∷ []) (here ∙ same)) ∙ parts.1),
-        λ form. true≢false (sym (has_fixed_list-same (class_in entries) (class_of records) meaning.classes n (kept_list k entries n) ∙ ap (has_fixed_list (class_of records) n) here
+        λ form. true≢false (sym (ap (λ f. has_fixed_list f n (kept_list k entries n)) same_class ∙ ap (has_fixed_list (class_of records) n) here
             ∙ fixed_form-has records n x form) ∙ parts.0),
       )
 
-  not_so : (b : Bool) → (b ≡ true → ⊥) → b ≡ false
-  not_so true h = absurd (h refl)
-  not_so false h = refl
+  -- the list of one kind isn't wrong, where the mapper asks nothing of the character itself
+  abbrev asked_mark : Kind → ℕ → Bool
+  asked_mark kind.Mapper n = false
+  asked_mark _ n = is_mark records n
+
+  never_wrong : (k : Kind) (n : ℕ) (x : List ℕ) → recorded_list records uts46 k n ≡ Some x → ¬ IsWrong records n (asked_mark k n) x
+  unfolding HasWrongClass
+  never_wrong kind.Canonical n x e h =
+      let same : x ≡ canonical_list records n = cc in no_wrong_class records uts46 none n (inr (inl (subst (IsWrong records n (is_mark records n)) same h)))
+  never_wrong kind.Compatibility n x e h =
+      let same : x ≡ compatibility_list records n = cc in no_wrong_class records uts46 none n (inr (inr (inl (subst (IsWrong records n (is_mark records n)) same h))))
+  never_wrong kind.Mapper n x e h = no_wrong_class records uts46 none n (inr (inr (inr (subst (λ (o : Option (List ℕ)). IsSomeAnd o (IsWrong records n false)) (sym e) h))))
 
   -- such a list begins with no mark
   bare : (k : Kind) (n : ℕ) → ((x : List ℕ) → recorded_list records uts46 k n ≡ Some x → IsFreeForm records n x) → begins_with_mark records (unwrap_or (recorded_list records uts46 k n) []) ≡ false
-  unfolding HasWrongClass
-  bare kind.Canonical n form = not_so _ (λ e. no_wrong_class records uts46 none n (inr (inl (inr e, form (canonical_list records n) refl))))
-  bare kind.Compatibility n form = not_so _ (λ e. no_wrong_class records uts46 none n (inr (inr (inl (inr e, form (compatibility_list records n) refl)))))
-  bare kind.Mapper n form = by (mapper_list records uts46 n) refl
+  bare k n form = by (recorded_list records uts46 k n) refl
     where
-      by : (o : Option (List ℕ)) → mapper_list records uts46 n ≡ o → begins_with_mark records (unwrap_or o []) ≡ false
+      by : (o : Option (List ℕ)) → recorded_list records uts46 k n ≡ o → begins_with_mark records (unwrap_or o []) ≡ false
       by None e = refl
-      by (Some x) e = not_so _ (λ b. no_wrong_class records uts46 none n (inr (inr (inr (subst (λ (o : Option (List ℕ)). IsSomeAnd o (IsWrong records n false)) (sym e) (inr b, form x e))))))
+      by (Some x) e = not_so _ (λ b. never_wrong k n x e (inr b, form x e))
 
   told_syllable : (k : Kind) (n : ℕ) → is_hangul_syllable n ≡ true → tells_class k entries n ≡ false → ⊥
   unfolding tells_class
-  told_syllable k n h e =
-      let parts = or_parts (has_fixed_list (class_in entries) n (kept_list k entries n)) (list_eq (kept_list k entries n) (n ∷ [])) e in
-      true≢false (sym (eq_list (kept_list k entries n) (n ∷ []) (kept_syllable k n h)) ∙ parts.1)
+  told_syllable k n h e = let alone = eq_list (kept_list k entries n) (n ∷ []) (kept_syllable k n h) in absurd (grind arith)
 
   kept_first : (k : Kind) (n : ℕ) → tells_class k entries n ≡ false → BeginsWithStarter (reading_of_entries entries []) (kept_list k entries n)
   kept_first k n h = elim (cases_Bool (is_hangul_syllable n)) [
@@ -225,21 +192,17 @@ module _ (records : List Entry) (uts46 : List MapperEntry) (none : IsFirstRefusa
   ]
 
   -- the class of a character whose canonical or compatibility list is such a one
-  pub starter_canonical : (n : ℕ) → tells_class kind.Canonical entries n ≡ false → class_of records n ≡ 0
-  unfolding HasWrongClass
-  starter_canonical n h = elim (cases_Bool (is_hangul_syllable n)) [
-    | inl syllable ↦ absurd (told_syllable kind.Canonical n syllable h)
-    | inr other ↦ no_mark (class_of records n)
-        (not_so (is_mark records n) (λ e. no_wrong_class records uts46 none n (inr (inl (inl e, free kind.Canonical n other h (canonical_list records n) refl)))))
+  pub starter_free : (k : Kind) (n : ℕ) (x : List ℕ) → tells_class k entries n ≡ false → recorded_list records uts46 k n ≡ Some x → asked_mark k n ≡ false
+  starter_free k n x h e = elim (cases_Bool (is_hangul_syllable n)) [
+    | inl syllable ↦ absurd (told_syllable k n syllable h)
+    | inr other ↦ not_so _ (λ mark. never_wrong k n x e (inl mark, free k n other h x e))
   ]
 
+  pub starter_canonical : (n : ℕ) → tells_class kind.Canonical entries n ≡ false → class_of records n ≡ 0
+  starter_canonical n h = no_mark (class_of records n) (starter_free kind.Canonical n (canonical_list records n) h refl)
+
   pub starter_compatibility : (n : ℕ) → tells_class kind.Compatibility entries n ≡ false → class_of records n ≡ 0
-  unfolding HasWrongClass
-  starter_compatibility n h = elim (cases_Bool (is_hangul_syllable n)) [
-    | inl syllable ↦ absurd (told_syllable kind.Compatibility n syllable h)
-    | inr other ↦ no_mark (class_of records n)
-        (not_so (is_mark records n) (λ e. no_wrong_class records uts46 none n (inr (inr (inl (inl e, free kind.Compatibility n other h (compatibility_list records n) refl))))))
-  ]
+  starter_compatibility n h = no_mark (class_of records n) (starter_free kind.Compatibility n (compatibility_list records n) h refl)
 
   -- the entries of records that aren't refused can be read again
   pub AreReadable-made : (k : Kind) → AreReadable k entries

@@ -15,18 +15,9 @@ use Rattle.normalizer_builder.specs.Recorded.{AreMadeOf, ListsCharacters, entry_
 
 -- lists in one strict order with the same members are the same
 module _ {X : Type 0} (R : X → X → Type 0) (once : (x : X) → R x x → ⊥) (one_way : (x y : X) → R x y → R y x → ⊥) where
-  contains_head : (x : X) (xs : List X) → Contains (x ∷ xs) x
-  contains_head x xs = (0, omega arith, refl)
-
-  contains_tail : (x : X) (xs : List X) (y : X) → Contains xs y → Contains (x ∷ xs) y
-  contains_tail x xs y (k, within, is) = (suc k, omega arith, is)
-
   head_or_tail : (x : X) (xs : List X) (y : X) → Contains (x ∷ xs) y → (x ≡ y) ⊎ Contains xs y
   head_or_tail x xs y (zero, within, is) = inl is
   head_or_tail x xs y (suc k, within, is) = inr (k, omega arith, is)
-
-  no_member : (x : X) → Contains [] x → ⊥
-  no_member x (k, within, is) = omega arith
 
   head_first : (x : X) (xs : List X) (y : X) → AllPairs R (x ∷ xs) → Contains xs y → R x y
   head_first x xs y h (k, within, is) = subst (R x) is (h 0 (suc k) y (omega arith) (omega arith))
@@ -38,24 +29,24 @@ module _ {X : Type 0} (R : X → X → Type 0) (once : (x : X) → R x x → ⊥
   HasMembersOf xs ys = (x : X) → Contains xs x → Contains ys x
 
   same_head : (x : X) (xs : List X) (y : X) (ys : List X) → AllPairs R (x ∷ xs) → AllPairs R (y ∷ ys) → HasMembersOf (x ∷ xs) (y ∷ ys) → HasMembersOf (y ∷ ys) (x ∷ xs) → x ≡ y
-  same_head x xs y ys h k to from = elim (head_or_tail y ys x (to x (contains_head x xs))) as (λ _. x ≡ y) [
+  same_head x xs y ys h k to from = elim (head_or_tail y ys x (to x (0, omega arith, refl))) as (λ _. x ≡ y) [
     | inl same ↦ sym same
-    | inr later ↦ elim (head_or_tail x xs y (from y (contains_head y ys))) as (λ _. x ≡ y) [
+    | inr later ↦ elim (head_or_tail x xs y (from y (0, omega arith, refl))) as (λ _. x ≡ y) [
       | inl same ↦ same
       | inr also ↦ absurd (one_way x y (head_first x xs y h also) (head_first y ys x k later))
     ]
   ]
 
   tail_members : (x : X) (xs : List X) (y : X) (ys : List X) → x ≡ y → AllPairs R (x ∷ xs) → HasMembersOf (x ∷ xs) (y ∷ ys) → HasMembersOf xs ys
-  tail_members x xs y ys same h to z there = elim (head_or_tail y ys z (to z (contains_tail x xs z there))) as (λ _. Contains ys z) [
-    | inl again ↦ absurd (once x (subst (R x) (sym (same ∙ again)) (head_first x xs z h there)))
+  tail_members x xs y ys same h to z (k, within, is) = elim (head_or_tail y ys z (to z (suc k, omega arith, is))) as (λ _. Contains ys z) [
+    | inl again ↦ absurd (once x (subst (R x) (sym (same ∙ again)) (head_first x xs z h (k, within, is))))
     | inr later ↦ later
   ]
 
   pub same_members : (xs ys : List X) → AllPairs R xs → AllPairs R ys → HasMembersOf xs ys → HasMembersOf ys xs → xs ≡ ys
   same_members [] [] h k to from = refl
-  same_members [] (y ∷ ys) h k to from = absurd (no_member y (from y (contains_head y ys)))
-  same_members (x ∷ xs) [] h k to from = absurd (no_member x (to x (contains_head x xs)))
+  same_members [] (y ∷ ys) h k to from = absurd (omega (arith, (from y (0, omega arith, refl)).1))
+  same_members (x ∷ xs) [] h k to from = absurd (omega (arith, (to x (0, omega arith, refl)).1))
   same_members (x ∷ xs) (y ∷ ys) h k to from =
       let first : x ≡ y = same_head x xs y ys h k to from in
       let rest : xs ≡ ys = same_members xs ys (tail_pairs x xs h) (tail_pairs y ys k) (tail_members x xs y ys first h to) (tail_members y ys x xs (sym first) k from) in

@@ -1,58 +1,42 @@
 -- Fixed characters, of which no record speaks where none is refused.
-use Rattle.std.proofs.Common.{◌≡◌, ◌∙◌, ◌⊎◌, inl, inr, ℕ, Bool, true, false, ◌==◌, ◌&&◌, ◌||◌, nat_lt, cond, List, [], ◌∷◌, ◌++◌, map, get_or, flat_map, find, All}
-use Rattle.std.proofs.Common.{Contains, Some, None, ap, sym, refl, arith, if◌then◌else◌}
-use Rattle.std.specs.Int.{is_in_range}
+use Rattle.std.proofs.Common.{◌≡◌, ◌∙◌, ◌⊎◌, inl, inr, ℕ, Bool, true, false, ◌==◌, ◌&&◌, nat_lt, List, [], ◌∷◌, ◌++◌, map, get_or, flat_map, find, All}
+use Rattle.std.proofs.Common.{Contains, eqb-true, Some, None, ap, sym, refl, arith, if◌then◌else◌}
 use Rattle.std.specs.List.{list_any, AllByRecursion}
 use Rattle.std.specs.Option.{option_map}
-use Rattle.std.proofs.lemmas.Bool.{cases_Bool, or_parts, or_right, true≢false}
-use Rattle.std.proofs.lemmas.Bool.Decides.{eqb_tells, nat_tests}
-use Rattle.std.proofs.lemmas.List.Elements.{All-append, All-contains, All-head, All-map, All-tail}
+use Rattle.std.proofs.lemmas.Bool.{or_parts, true≢false}
+use Rattle.std.proofs.lemmas.Bool.Decides.{nat_tests}
+use Rattle.std.proofs.lemmas.List.Elements.{All-append, All-contains, All-map}
 use Rattle.std.proofs.lemmas.List.Folds.{list_any_at}
 use Rattle.normal_forms.specs.Order.{is_reorderable, insert, order}
 use Rattle.normal_forms.specs.Reading.{Reading, IsStarter}
 use Rattle.normalizer_tables.specs.Hangul.{is_hangul_syllable, hangul_decomposition}
 use Rattle.normalizer_records.specs.declared.records.Mappings.{Mappings}
-use Rattle.normalizer_records.specs.Entry.{Entry, MapperEntry, Status, MapsTo, IsIgnored, IsDisallowed}
-use Rattle.normalizer_records.specs.Faults.{IsFirstRefusal, has_fixed_fault, is_disallowed, is_fixed, is_fixed_for_mapper}
+use Rattle.normalizer_records.specs.Entry.{Entry, MapperEntry, IsDisallowed}
+use Rattle.normalizer_records.specs.Faults.{IsFirstRefusal, has_fixed_fault, is_fixed, is_fixed_for_mapper}
 use Rattle.normalizer_records.specs.Meaning.{class_of, entry_of, expansion, full_list, recorded_classes, status_of}
 use Rattle.normalizer_records.proofs.ExpansionLemmas.{expansion-replaced}
 use Rattle.normalizer_records.proofs.SyllableLemmas.{IsJamo, jamo_members, jamo_some, replacement-syllable}
 use Rattle.normalizer_records.proofs.UnrecordedLemmas.{jamo_alone, jamo_fixed}
-use Rattle.normalizer_packing.proofs.EntryLemmas.{find-missing}
+use Rattle.normalizer_packing.proofs.EntryLemmas.{find-missing, find-tells}
 use Rattle.normalizer_builder.specs.Recorded.{recorded_characters}
 use Rattle.normalizer_builder.proofs.EntriesOfRecords.{class_of_record}
-use Rattle.normalizer_builder.proofs.NoRefusal.{no_fixed_fault}
+use Rattle.normalizer_builder.proofs.NoRefusal.{no_fixed_fault, not_so}
 
 -- none passes a test that not any passes
 pub none_passes : {X : Type 0} (p : X → Bool) (xs : List X) → list_any p xs ≡ false → All (λ x. p x ≡ false) xs
-none_passes p xs h k d within = elim (cases_Bool (p (get_or xs k d))) [
-  | inl e ↦ absurd (true≢false (sym (list_any_at p xs k d within e) ∙ h))
-  | inr e ↦ e
-]
+none_passes p xs h k d within = not_so _ (λ e. true≢false (sym (list_any_at p xs k d within e) ∙ h))
 
 -- what is found by its number is of all, or none is found
 pub find-cases : {X : Type 0} (number : X → ℕ) (P : X → Type 0) (xs : List X) (n : ℕ) → All P xs →
     (find (λ x. number x == n) xs ≡ None) ⊎ ((x : X) × (find (λ y. number y == n) xs ≡ Some x) × (number x ≡ n) × P x)
-find-cases number P [] n all = inl refl
-find-cases number P (x ∷ xs) n all = elim (eqb_tells (number x) n) [
-  | inl h ↦ inr (x, ap (λ b. cond b (Some x) (find (λ y. number y == n) xs)) h.0, h.1, All-head P x xs all)
-  | inr h ↦ (
-      let skip : find (λ y. number y == n) (x ∷ xs) ≡ find (λ y. number y == n) xs = ap (λ b. cond b (Some x) (find (λ y. number y == n) xs)) h.0 in
-      elim (find-cases number P xs n (All-tail P x xs all)) [
-        | inl none ↦ inl (skip ∙ none)
-        | inr found ↦ inr (found.0, skip ∙ found.1, found.2, found.3)
-      ])
+find-cases number P xs n all = elim (find-tells (λ x. number x == n) xs) [
+  | inl none ↦ inl none.0
+  | inr some ↦ inr (some.0, some.1, eqb-true _ _ some.3, All-contains P xs some.0 all some.2)
 ]
-
-syllable_fixed : (c : ℕ) → is_hangul_syllable c ≡ true → is_fixed c ≡ true
-unfolding is_fixed
-syllable_fixed c h = rw h (or_right (c == 0xFFFD || is_in_range 0x1100 0x11FF c) true refl)
 
 unfixed_syllable : (c : ℕ) → is_fixed c ≡ false → is_hangul_syllable c ≡ false
-unfixed_syllable c h = elim (cases_Bool (is_hangul_syllable c)) [
-  | inl e ↦ absurd (true≢false (sym (syllable_fixed c e) ∙ h))
-  | inr e ↦ e
-]
+unfolding is_fixed
+unfixed_syllable c h = grind (arith, nat_tests)
 
 unfixed_mapper_syllable : (r : MapperEntry) → is_fixed_for_mapper r ≡ false → is_hangul_syllable r.c ≡ false
 unfolding is_fixed_for_mapper is_fixed is_hangul_syllable
@@ -64,12 +48,7 @@ replacement_fixed = refl
 
 disallowed_replacement : (r : MapperEntry) → r.c ≡ 0xFFFD → is_fixed_for_mapper r ≡ false → r.status ≡ IsDisallowed
 unfolding is_fixed_for_mapper is_fixed
-disallowed_replacement r here h = by r.status refl
-  where
-    by : (s : Status) → r.status ≡ s → s ≡ IsDisallowed
-    by IsDisallowed e = refl
-    by IsIgnored e = let not_so : is_disallowed r.status ≡ false = ap is_disallowed e in absurd (grind (arith, nat_tests))
-    by (MapsTo x) e = let not_so : is_disallowed r.status ≡ false = ap is_disallowed e in absurd (grind (arith, nat_tests))
+disallowed_replacement r here h = grind (arith, nat_tests)
 
 -- starters stay where they are
 order-starters : (d : Reading) (x : List ℕ) → AllByRecursion (IsStarter d) x → order d x ≡ x
@@ -90,17 +69,12 @@ module _ (records : List Entry) (uts46 : List MapperEntry) (none : IsFirstRefusa
   unfolding has_fixed_fault
   unfixed_statuses = none_passes is_fixed_for_mapper uts46 (or_parts (list_any (λ (r : Entry). is_fixed r.c) records) _ (no_fixed_fault records uts46 none)).1
 
-  unfixed_statuses_syllables : All (λ c. is_hangul_syllable c ≡ false) (map (λ (r : MapperEntry). r.c) uts46)
-  unfixed_statuses_syllables = All-map (λ c. is_hangul_syllable c ≡ false) (λ (r : MapperEntry). r.c) uts46 (λ k d within. unfixed_mapper_syllable (get_or uts46 k d) (unfixed_statuses k d within))
-
-  unfixed_records_syllables : All (λ c. is_hangul_syllable c ≡ false) (map (λ (r : Entry). r.c) records)
-  unfixed_records_syllables = λ k d within. unfixed_syllable (get_or (map (λ (r : Entry). r.c) records) k d) (unfixed_records k d within)
-
   pub missing_syllable : (n : ℕ) → is_hangul_syllable n ≡ true → Contains (recorded_characters records uts46) n → ⊥
   missing_syllable n h there =
-      true≢false (sym h ∙ All-contains (λ c. is_hangul_syllable c ≡ false)
-      (recorded_characters records uts46) n (All-append (λ c. is_hangul_syllable c ≡ false) (map (λ (r : Entry). r.c) records)
-      (map (λ (r : MapperEntry). r.c) uts46) unfixed_records_syllables unfixed_statuses_syllables) there)
+      let other : ℕ → Type 0 = λ c. is_hangul_syllable c ≡ false in
+      true≢false (sym h ∙ All-contains other (recorded_characters records uts46) n (All-append other (map (λ (r : Entry). r.c) records) (map (λ (r : MapperEntry). r.c) uts46)
+      (λ k d within. unfixed_syllable _ (unfixed_records k d within))
+      (All-map other (λ (r : MapperEntry). r.c) uts46 (λ k d within. unfixed_mapper_syllable (get_or uts46 k d) (unfixed_statuses k d within)))) there)
 
   unrecorded_fixed : (n : ℕ) → is_fixed n ≡ true → entry_of records n ≡ None
   unfolding entry_of

@@ -45,12 +45,9 @@ fn keeps_mappings(records: &[Record], packed: &Packed) -> bool
     requires { AreRising records.now }
     ensures { IsTrue result ↔ All (λ r. KeepsMapping records.now packed.now r.c) records.now }
 {
-    for recorded in records {
-        if !keeps_mapping(records, packed, recorded.c) {
-            return false;
-        }
-    }
-    true
+    records
+        .iter()
+        .all(|recorded| keeps_mapping(records, packed, recorded.c))
 }
 
 /// Whether one step of a character is the mapping that is recorded of it.

@@ -1,11 +1,12 @@
 -- Look-ups in entries that rise.
 use Rattle.std.proofs.Common.{◌≡◌, ◌≢◌, ◌==◌, ℕ, ◌<◌, ◌≤◌, Bool, true, false, List, [], ◌∷◌, length, get_or}
-use Rattle.std.proofs.Common.{refl, Some, None, find, All, arith, ap, sym, subst, ◌∙◌, zero, suc, inl, inr, nat_lt, Contains, map, cond}
-use Rattle.std.proofs.lemmas.Bool.{cases_order, eq-eqb, ltb-true, ltb-false, lt-ltb}
-use Rattle.std.proofs.lemmas.Bool.Decides.{eqb_tells, nat_tests}
-use Rattle.std.proofs.lemmas.List.Elements.{All-head, All-tail, All-from_get_or, Contains-append_right}
-use Rattle.std.proofs.Math.Nat.{eq-or-lt_of_le}
-use Rattle.std.specs.List.Sorted.{IsPartitionedBy, IsPartitionPoint}
+use Rattle.std.proofs.Common.{refl, Some, None, find, All, arith, ap, sym, subst, ◌∙◌, zero, suc, inl, inr, ◌⊎◌, eqb-true, nat_lt, Contains, map, cond}
+use Rattle.std.proofs.lemmas.Bool.{ltb-true, ltb-false}
+use Rattle.std.proofs.lemmas.Bool.Decides.{nat_tests}
+use Rattle.std.proofs.lemmas.List.{get_or-map, length-map}
+use Rattle.std.proofs.lemmas.List.Elements.{All-cons, All-head, All-nil, All-tail, All-from_get_or, Contains-append_right}
+use Rattle.std.proofs.lemmas.List.Kept.{AllPairs-from_increasing}
+use Rattle.std.specs.List.Sorted.{IsPartitionedBy, IsPartitionPoint, IsStrictlyIncreasing}
 use Rattle.normalizer_packing.specs.Entries.{CharacterEntry, AreRising, entry_of}
 
 -- the first element that passes
@@ -19,20 +20,18 @@ pub find-none : {A : Type 0} (p : A → Bool) (xs : List A) → All (λ x. p x �
 find-none p [] h = refl
 find-none p (x ∷ xs) h = rw (All-head (λ y. p y ≡ false) x xs h) (find-none p xs (All-tail (λ y. p y ≡ false) x xs h))
 
--- each entry is found by its character
-pub entry_of-each : (entries : List CharacterEntry) (k : ℕ) (d : CharacterEntry) → AreRising entries → k < length entries → entry_of entries (get_or entries k d).character ≡ Some (get_or entries k d)
-unfolding entry_of
-entry_of-each entries k d rising within = find-first (λ e. e.character == (get_or entries k d).character) entries k d within (eq-eqb _ _ refl) earlier
-  where
-    earlier : (j : ℕ) → j < k → ((get_or entries j d).character == (get_or entries k d).character) ≡ false
-    earlier j below = let less = rising j k d below within in grind (arith, nat_tests)
+pub character_at : (entries : List CharacterEntry) (k : ℕ) (d : CharacterEntry) → k < length entries → get_or (map (λ e. e.character) entries) k 0 ≡ (get_or entries k d).character
+character_at entries k d within = get_or-map (λ (e : CharacterEntry). e.character) entries k d 0 within
+
+-- entries rise where their characters do
+pub rising_characters : (entries : List CharacterEntry) → IsStrictlyIncreasing (map (λ e. e.character) entries) → AreRising entries
+rising_characters entries rising i j d below within =
+    let inside : j < length (map (λ e. e.character) entries) = omega (arith, length-map entries (λ (e : CharacterEntry). e.character)) in
+    omega (arith, AllPairs-from_increasing _ rising i j 0 below inside, character_at entries i d (omega arith), character_at entries j d within)
 
 -- entries that rise have those below a character in front
 pub IsPartitionedBy-character : (entries : List CharacterEntry) (n : ℕ) → AreRising entries → IsPartitionedBy (λ e. nat_lt e.character n) entries
-IsPartitionedBy-character entries n rising i j d le within later = elim (eq-or-lt_of_le le) as (λ _. nat_lt (get_or entries i d).character n ≡ true) [
-  | inl same ↦ subst (λ (m : ℕ). nat_lt (get_or entries m d).character n ≡ true) (sym same) later
-  | inr below ↦ lt-ltb _ _ (omega (arith, rising i j d below within, ltb-true _ _ later))
-]
+IsPartitionedBy-character entries n rising i j d le within later = let less = rising i j d in grind (arith, nat_tests)
 
 abbrev pub IsPlaceOf : ℕ → List CharacterEntry → ℕ → Type 0
 IsPlaceOf n entries at = IsPartitionPoint (λ e. nat_lt e.character n ≡ true) (λ e. nat_lt e.character n ≡ false) entries at
@@ -53,26 +52,39 @@ module _ (entries : List CharacterEntry) (n at : ℕ) (rising : AreRising entrie
   entry_of-gap e within here other = find-none (λ f. f.character == n) entries (All-from_get_or (λ f. (f.character == n) ≡ false) entries e misses)
     where
       misses : (k : ℕ) → k < length entries → ((get_or entries k e).character == n) ≡ false
-      misses k inside = elim (cases_order k at) as (λ _. ((get_or entries k e).character == n) ≡ false) [
-        | inl same ↦ subst (λ (f : CharacterEntry). (f.character == n) ≡ false) (here ∙ ap (λ m. get_or entries m e) (sym same)) (grind (arith, nat_tests))
-        | inr (inl below) ↦ other_before k e below inside
-        | inr (inr above) ↦ let low = ltb-false _ _ (is.1 at e (omega arith) within) in let more = rising at k e above inside in grind (arith, nat_tests)
-      ]
+      misses k inside =
+          let before = other_before k e in let after = rising at k e in let low = ltb-false _ _ (is.1 at e (omega arith) within) in grind (arith, nat_tests)
 
   pub entry_of-above : length entries ≤ at → entry_of entries n ≡ None
   unfolding entry_of
   entry_of-above above = find-none (λ f. f.character == n) entries (λ k d within. other_before k d (omega arith) within)
 
-pub Contains-cons : {X : Type 0} (x : X) (xs : List X) (y : X) → Contains xs y → Contains (x ∷ xs) y
-Contains-cons x xs y h = Contains-append_right (x ∷ []) xs y h
+pub Contains-map : {X Y : Type 0} (f : X → Y) (xs : List X) (x : X) → Contains xs x → Contains (map f xs) (f x)
+Contains-map f xs x (k, within, is) = (k, omega (arith, length-map xs f), get_or-map f xs k x (f x) within ∙ ap f is)
 
-pub Contains-head : {X : Type 0} (x : X) (xs : List X) → Contains (x ∷ xs) x
-Contains-head x xs = (0, omega arith, refl)
+-- none passes, or one that passes is found
+pub find-tells : {X : Type 0} (p : X → Bool) (xs : List X) → ((find p xs ≡ None) × All (λ x. p x ≡ false) xs) ⊎ ((x : X) × (find p xs ≡ Some x) × Contains xs x × (p x ≡ true))
+find-tells p [] = inl (refl, All-nil (λ x. p x ≡ false))
+find-tells {X} p (x ∷ xs) = elim (p x) as (λ b. p x ≡ b → ((cond b (Some x) (find p xs) ≡ None) × All (λ y. p y ≡ false) (x ∷ xs)) ⊎
+    ((y : X) × (cond b (Some x) (find p xs) ≡ Some y) × Contains (x ∷ xs) y × (p y ≡ true))) [
+      | true ↦ λ passes. inr (x, refl, (0, omega arith, refl), passes)
+      | false ↦ λ fails. elim (find-tells p xs) [
+        | inl none ↦ inl (none.0, All-cons (λ y. p y ≡ false) x xs fails none.1)
+        | inr some ↦ inr (some.0, some.1, Contains-append_right (x ∷ []) xs some.0 some.2, some.3)
+      ]
+    ] refl
 
 -- none is found where no element has this number
 pub find-missing : {X : Type 0} (number : X → ℕ) (xs : List X) (n : ℕ) → (Contains (map number xs) n → ⊥) → find (λ x. number x == n) xs ≡ None
-find-missing number [] n missing = refl
-find-missing number (x ∷ xs) n missing = elim (eqb_tells (number x) n) [
-  | inl h ↦ absurd (missing (subst (Contains (map number (x ∷ xs))) h.1 (Contains-head (number x) (map number xs))))
-  | inr h ↦ ap (λ b. cond b (Some x) (find (λ y. number y == n) xs)) h.0 ∙ find-missing number xs n (λ k. missing (Contains-cons (number x) (map number xs) n k))
+find-missing number xs n missing = elim (find-tells (λ x. number x == n) xs) [
+  | inl none ↦ none.0
+  | inr some ↦ absurd (missing (subst (Contains (map number xs)) (eqb-true _ _ some.3) (Contains-map number xs some.0 some.2)))
+]
+
+-- what is found by its character is of it, and one of the entries
+pub entry_of-own : (entries : List CharacterEntry) (n : ℕ) (e : CharacterEntry) → entry_of entries n ≡ Some e → (e.character ≡ n) × Contains entries e
+unfolding entry_of
+entry_of-own entries n e found = elim (find-tells {X = CharacterEntry} (λ f. f.character == n) entries) as (λ _. (e.character ≡ n) × Contains entries e) [
+  | inl none ↦ absurd (let missing = none.0 in cc)
+  | inr some ↦ (let same : some.0 ≡ e = (let here = some.1 in cc) in subst (λ (f : CharacterEntry). (f.character ≡ n) × Contains entries f) same (eqb-true _ _ some.3, some.2))
 ]

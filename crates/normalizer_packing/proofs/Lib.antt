@@ -5,9 +5,7 @@ pub mod PackableLemmas
 pub mod PackingLemmas
 pub mod PlaceLemmas
 pub mod ReadBack
-pub mod ReadBackBits
-pub mod ReadBackFlags
-pub mod ReadBackLines
+pub mod ReadBackLists
 pub mod ReadBackPlaces
 pub mod ReadBackWords
 pub mod StepLemmas

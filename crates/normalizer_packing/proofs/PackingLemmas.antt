@@ -1,9 +1,6 @@
 -- Data made of stores, and that packing is a function.
-use Rattle.std.proofs.Common.{◌≡◌, ◌↔◌, ℕ, ◌*◌, ◌/◌, ◌%◌, ◌<◌, ◌^◌, Bool, true, false, ◌==◌, not, List, [], ◌∷◌, bit_and, refl, sym, subst, ◌∙◌, arith, inl, inr}
+use Rattle.std.proofs.Common.{◌≡◌, ◌↔◌, ℕ, Bool, true, false, List, [], ◌∷◌, refl, sym, subst, ◌∙◌, arith, inl, inr}
 use Rattle.std.proofs.lemmas.Bool.{cases_lt, cases_order}
-use Rattle.std.proofs.lemmas.Bool.Decides.{nat_tests}
-use Rattle.std.proofs.lemmas.Nat.{and_mask}
-use Rattle.std.proofs.lemmas.Nat.Bits.{and_high}
 use Rattle.normal_forms.specs.Composition.{compose}
 use Rattle.normal_forms.specs.Reading.{Reading}
 use Rattle.normalizer_tables.specs.Data.{Decompositions, Supplement}
@@ -16,53 +13,14 @@ use Rattle.normalizer_packing.specs.declared.entry.Kind.{Kind}
 use Rattle.normalizer_packing.specs.declared.entry.Kind.TheVariants.{Canonical, Compatibility, Mapper}
 use Rattle.normalizer_packing.specs.declared.spelling.Spelling.{Spelling}
 use Rattle.normalizer_packing.specs.declared.spelling.Spelling.TheVariants.{Final, Short, Listed}
-use Rattle.normalizer_packing.specs.declared.stores.Stores.{Stores}
 use Rattle.normalizer_packing.specs.Caps.{IsCap}
 use Rattle.normalizer_packing.specs.Entries.{CharacterEntry, class_in, reading_of_entries, kept_list, list_in}
 use Rattle.normalizer_packing.specs.Flags.{BeginsUnpaired, IsFlagged, without_flags}
-use Rattle.normalizer_packing.specs.inner.PackedWords.{CanPoint}
 use Rattle.normalizer_packing.specs.Packing.{HasFlags, IsPackedWord, IsSpelled, Packs, PacksKind}
 use Rattle.normalizer_packing.specs.Spelling.{spelling}
 use Rattle.normalizer_packing.specs.Steps.{PacksSteps}
-use Rattle.normalizer_packing.specs.inner.Stores.{tables_in}
 use Rattle.normalizer_packing.specs.Words.{HasWords}
-
--- the data put together
-module _ (entries : List CharacterEntry) (pairs : List Pair) (s : Stores) (p : Packed) (h : CanPoint entries s) (pairs_are : p.compositions ≡ pairs) (tables_are : p.tables ≡ tables_in s.canonical)
-    (others_are : p.supplementary_tables ≡ tables_in s.supplementary) where
-  pub all_packed : PacksKind Canonical entries p.compositions p.canonical → PacksKind Compatibility entries p.compositions p.compatibility → PacksKind Mapper entries p.compositions p.mapper →
-      PacksSteps entries p.supplement → Packs entries pairs p
-  all_packed canonical compatibility mapper supplement =
-      record {
-        canonical = subst (λ (q : List Pair). PacksKind Canonical entries q p.canonical) pairs_are canonical;
-        compatibility = subst (λ (q : List Pair). PacksKind Compatibility entries q p.compatibility) pairs_are compatibility;
-        mapper = subst (λ (q : List Pair). PacksKind Mapper entries q p.mapper) pairs_are mapper;
-        tables = tables_are ∙ h.stored.canonical.tables;
-        supplementary_tables = others_are ∙ h.stored.supplementary.tables;
-        within = h.within;
-        compositions = pairs_are;
-        supplement = supplement;
-      }
-
--- a word is what it is without its flags, and these
-round_trip_bit : (w : ℕ) → is_non_round_trip w ≡ not (w / 2 ^ 30 % 2 ^ 1 == 0)
-unfolding is_non_round_trip
-round_trip_bit w = let bit : bit_and w 0x40000000 ≡ (w / 2 ^ 30 % 2 ^ 1) * 2 ^ 30 = and_high w 1 30 in grind (arith, nat_tests)
-
-backward_bit : (w : ℕ) → is_backward_combining w ≡ not (w / 2 ^ 31 % 2 ^ 1 == 0)
-unfolding is_backward_combining
-backward_bit w = let bit : bit_and w 0x80000000 ≡ (w / 2 ^ 31 % 2 ^ 1) * 2 ^ 31 = and_high w 1 31 in grind (arith, nat_tests)
-
-same_bit : (a b : ℕ) → a < 2 → b < 2 → not (a == 0) ≡ not (b == 0) → a ≡ b
-same_bit a b small also same = grind (arith, nat_tests)
-
-pub same_by_parts : (w v : ℕ) → w < 2 ^ 32 → v < 2 ^ 32 → without_flags w ≡ without_flags v → is_non_round_trip w ≡ is_non_round_trip v → is_backward_combining w ≡ is_backward_combining v → w ≡ v
-unfolding without_flags
-same_by_parts w v small also rest round_trip backward =
-    let low : w % 2 ^ 30 ≡ v % 2 ^ 30 = sym (and_mask w 30) ∙ rest ∙ and_mask v 30 in
-    let middle : w / 2 ^ 30 % 2 ^ 1 ≡ v / 2 ^ 30 % 2 ^ 1 = same_bit _ _ (omega arith) (omega arith) (sym (round_trip_bit w) ∙ round_trip ∙ round_trip_bit v) in
-    let high : w / 2 ^ 31 % 2 ^ 1 ≡ v / 2 ^ 31 % 2 ^ 1 = same_bit _ _ (omega arith) (omega arith) (sym (backward_bit w) ∙ backward ∙ backward_bit v) in
-    omega arith
+use Rattle.normalizer_packing.proofs.FlagLemmas.{same_by_parts}
 
 -- what two flags of one meaning say is the same
 same_flag : (P : Type 0) (a b : Bool) → (a ≡ false) ↔ P → (b ≡ false) ↔ P → a ≡ b
@@ -103,33 +61,25 @@ module _ (entries : List CharacterEntry) (pairs : List Pair) where
   ]
 
   one_kind : (kind : Kind) (d e : Decompositions) → PacksKind kind entries pairs d → PacksKind kind entries pairs e → d ≡ e
-  one_kind kind d e h k =
-      let table : d.table ≡ e.table = one_table (IsPackedWord kind entries pairs) (one_word kind) d.table e.table h.words k.words in
-      let cap : d.cap ≡ e.cap = one_cap kind d.cap e.cap h.cap k.cap in
-      λ i. record { table = table i; cap = cap i }
+  one_kind kind d e h k = λ i. record {
+    table = one_table (IsPackedWord kind entries pairs) (one_word kind) d.table e.table h.words k.words i;
+    cap = one_cap kind d.cap e.cap h.cap k.cap i;
+  }
 
   one_supplement : (s t : Supplement) → PacksSteps entries s → PacksSteps entries t → s ≡ t
-  one_supplement s t h k =
-      let table : s.table ≡ t.table = one_table _ (λ n w v a b. a ∙ sym b) s.table t.table h.words k.words in
-      let items : s.scalars24 ≡ t.scalars24 = h.items ∙ sym k.items in
-      λ i. record { table = table i; scalars24 = items i }
+  one_supplement s t h k = λ i. record {
+    table = one_table _ (λ n w v a b. a ∙ sym b) s.table t.table h.words k.words i;
+    scalars24 = (h.items ∙ sym k.items) i;
+  }
 
   -- data that pack the same entries and pairs are equal
   pub one_packing : (p q : Packed) → Packs entries pairs p → Packs entries pairs q → p ≡ q
-  one_packing p q h k =
-      let canonical : p.canonical ≡ q.canonical = one_kind Canonical p.canonical q.canonical h.canonical k.canonical in
-      let compatibility : p.compatibility ≡ q.compatibility = one_kind Compatibility p.compatibility q.compatibility h.compatibility k.compatibility in
-      let mapper : p.mapper ≡ q.mapper = one_kind Mapper p.mapper q.mapper h.mapper k.mapper in
-      let tables : p.tables ≡ q.tables = h.tables ∙ sym k.tables in
-      let supplementary : p.supplementary_tables ≡ q.supplementary_tables = h.supplementary_tables ∙ sym k.supplementary_tables in
-      let compositions : p.compositions ≡ q.compositions = h.compositions ∙ sym k.compositions in
-      let supplement : p.supplement ≡ q.supplement = one_supplement p.supplement q.supplement h.supplement k.supplement in
-      λ i. record {
-        canonical = canonical i;
-        compatibility = compatibility i;
-        mapper = mapper i;
-        tables = tables i;
-        supplementary_tables = supplementary i;
-        compositions = compositions i;
-        supplement = supplement i;
-      }
+  one_packing p q h k = λ i. record {
+    canonical = one_kind Canonical p.canonical q.canonical h.canonical k.canonical i;
+    compatibility = one_kind Compatibility p.compatibility q.compatibility h.compatibility k.compatibility i;
+    mapper = one_kind Mapper p.mapper q.mapper h.mapper k.mapper i;
+    tables = (h.tables ∙ sym k.tables) i;
+    supplementary_tables = (h.supplementary_tables ∙ sym k.supplementary_tables) i;
+    compositions = (h.compositions ∙ sym k.compositions) i;
+    supplement = one_supplement p.supplement q.supplement h.supplement k.supplement i;
+  }

@@ -1,7 +1,9 @@
 -- Where lists stand in the four tables.
 use Rattle.std.proofs.Common.{◌≡◌, ℕ, ◌+◌, ◌<◌, ◌≤◌, true, false, List, [], ◌∷◌, ◌++◌, length, Some, None, if◌then◌else◌, All, refl, arith, sym, subst, ap, ◌∙◌, inl, inr}
-use Rattle.std.proofs.lemmas.Bool.{leb-true, or_cases, or_left, or_right}
+use Rattle.std.proofs.lemmas.Bool.Decides.{nat_tests}
+use Rattle.std.proofs.lemmas.Bool.{cases_Bool, or_cases, or_left, or_right}
 use Rattle.std.proofs.lemmas.List.Elements.{All-head, All-tail}
+use Rattle.std.specs.Option.{is_some}
 use Rattle.normalizer_tables.specs.Characters.{items_at}
 use Rattle.normalizer_tables.specs.Conditions.{item_count, item_limit}
 use Rattle.normalizer_tables.specs.Data.{Lists}
@@ -11,15 +13,15 @@ use Rattle.normalizer_packing.specs.declared.stores.Stores.{Stores}
 use Rattle.normalizer_packing.specs.Entries.{CharacterEntry}
 use Rattle.normalizer_packing.specs.inner.PackedWords.{CanPoint}
 use Rattle.normalizer_packing.specs.Spelling.{list_eq}
-use Rattle.normalizer_packing.specs.Stored.{HasLengthOfWord, canonical_lists, is_among, is_narrow, item_at, item_in, item_of, items_of, listed_in, needed_items, place_of}
+use Rattle.normalizer_packing.specs.Stored.{HasLengthOfWord, canonical_lists, is_among, is_narrow, item_at, item_in, item_of, listed_in, needed_items, place_of}
 use Rattle.normalizer_packing.specs.Stored.{supplementary_lists, tables_of}
 use Rattle.normalizer_packing.specs.inner.Stores.{StandsAt, place_in, tables_in}
-use Rattle.normalizer_packing.proofs.StoreLemmas.{chosen, narrow_length, not_among_if_nowhere, place_if_some, placed}
+use Rattle.normalizer_packing.proofs.StoreLemmas.{is_some-place, narrow_length, place_if_some, placed}
 use Rattle.normalizer_packing.proofs.TableLemmas.{is_among-append, is_among-apart, is_among-first_come, same_list, stands_at_place}
 
 pub items_within : (t x : List ℕ) (place : ℕ) → items_at t place (length x) ≡ Some x → place + length x ≤ length t
 unfolding items_at
-items_within t x place h = leb-true _ _ (chosen _ _ x h).0
+items_within t x place h = grind (arith, nat_tests)
 
 -- a list stands within its table
 pub place_within : (t : Lists) (x : List ℕ) (place : ℕ) → StandsAt t x place → place + length x ≤ length (if is_narrow x then t.scalars16 else t.scalars24)
@@ -29,29 +31,17 @@ place_within t x place h = items_within _ x place h
 -- a list of which a word can tell the length isn't empty
 pub length_of_word : (x : List ℕ) → HasLengthOfWord x → 0 < length x
 unfolding HasLengthOfWord
-length_of_word x h = elim (is_narrow x) as (λ b. is_narrow x ≡ b → elim b as (λ _. Type 0) [ true ↦ length x ≤ 17 | false ↦ (0 < length x) × (length x ≤ 16) ] → 0 < length x) [
-  | true ↦ λ narrow short. omega (arith, narrow_length x narrow)
-  | false ↦ λ wide both. both.0
-] refl h
+length_of_word x h = let long = narrow_length x in grind arith
 
 -- its item is one of those of the two tables
 pub item_within : (t : Lists) (x : List ℕ) (place : ℕ) → 0 < length x → StandsAt t x place → item_at t x place < item_count t
 unfolding item_at
-item_within t x place some h =
-    elim (is_narrow x) as (λ b. place + length x ≤ length (if b then t.scalars16 else t.scalars24) → (if b then place else length t.scalars16 + place) < item_count t) [
-      | true ↦ λ within. omega arith
-      | false ↦ λ within. omega arith
-    ] (place_within t x place h)
+item_within t x place some h = let within = place_within t x place h in grind arith
 
 -- each of the lists stands at its place
 pub stands_among : (lists : List (List ℕ)) (x : List ℕ) → is_among x lists ≡ true → StandsAt (tables_of lists) x (place_of lists x)
 unfolding StandsAt
-stands_among lists x among =
-    elim (is_narrow x) as (λ b. items_at (items_of b lists) (place_of lists x) (length x) ≡ Some x →
-    items_at (if b then items_of true lists else items_of false lists) (place_of lists x) (length x) ≡ Some x) [
-      | true ↦ λ stands. stands
-      | false ↦ λ stands. stands
-    ] (stands_at_place lists x among)
+stands_among lists x among = let stands = stands_at_place lists x among in grind arith
 
 -- what holds of all lists holds of one among them
 pub among_all : (P : List ℕ → Type 0) (x : List ℕ) (lists : List (List ℕ)) → All P lists → is_among x lists ≡ true → P x
@@ -93,10 +83,16 @@ module _ (entries : List CharacterEntry) (x : List ℕ) where
 
   -- the item of a list is one of those of the four tables
   pub item_of-within : (kind : Kind) → is_among x (listed_in entries kind) ≡ true → 0 < length x → item_of entries x < needed_items entries
-  item_of-within kind listed some = elim (is_among x (canonical_lists entries)) as (λ b. is_among x (canonical_lists entries) ≡ b → item_of entries x < needed_items entries) [
-    | true ↦ λ among. omega (arith, item_of-canonical among, item_within _ x _ some (stands_among (canonical_lists entries) x among))
-    | false ↦ λ other. omega (arith, item_of-supplementary other, item_within _ x _ some (stands_among (supplementary_lists entries) x (among_supplementary kind listed other)))
-  ] refl
+  item_of-within kind listed some = elim (cases_Bool (is_among x (canonical_lists entries))) [
+    | inl among ↦ omega (arith, item_of-canonical among, item_within _ x _ some (stands_among (canonical_lists entries) x among))
+    | inr other ↦ omega (arith, item_of-supplementary other, item_within _ x _ some (stands_among (supplementary_lists entries) x (among_supplementary kind listed other)))
+  ]
+
+-- a list of one kind stands at a place in these tables, which come behind so many items
+pub record IsItem (entries : List CharacterEntry) (t : Lists) (x : List ℕ) (before place : ℕ) : Type 0 where
+  pub stands : StandsAt t x place
+  pub item : before + item_at t x place ≡ item_of entries x
+  pub within : item_of entries x < item_limit
 
 module _ (entries : List CharacterEntry) (s : Stores) (h : CanPoint entries s) (kind : Kind) (x : List ℕ) (listed : is_among x (listed_in entries kind) ≡ true) where
   -- a word can tell the length of each list that stands in a table
@@ -104,24 +100,23 @@ module _ (entries : List CharacterEntry) (s : Stores) (h : CanPoint entries s) (
   length_of_listed = among_all HasLengthOfWord x (listed_in entries kind) (h.packable.lengths kind) listed
 
   -- and its item is within the limit
-  pub item_within_limit : item_of entries x < item_limit
-  item_within_limit = omega (arith, h.within, item_of-within entries x kind listed (length_of_word x length_of_listed))
+  within_limit : item_of entries x < item_limit
+  within_limit = omega (arith, h.within, item_of-within entries x kind listed (length_of_word x length_of_listed))
 
   -- a list that the first store holds stands there
-  module _ (place : ℕ) (found : place_in s.canonical x ≡ Some place) where
-    in_first : (is_among x (canonical_lists entries) ≡ true) × (place ≡ place_of (canonical_lists entries) x)
-    in_first = place_if_some (canonical_lists entries) s.canonical x h.stored.canonical place found
-
-    pub stands_in_canonical : StandsAt (tables_in s.canonical) x place
-    stands_in_canonical = rw (in_first.1, h.stored.canonical.tables) (stands_among (canonical_lists entries) x in_first.0)
-
-    pub item_in_canonical : item_at (tables_in s.canonical) x place ≡ item_of entries x
-    item_in_canonical = rw (in_first.1, h.stored.canonical.tables) (sym (item_of-canonical entries x in_first.0))
+  pub in_canonical : (place : ℕ) → place_in s.canonical x ≡ Some place → IsItem entries (tables_in s.canonical) x 0 place
+  in_canonical place found =
+      let own = place_if_some (canonical_lists entries) s.canonical x h.stored.canonical place found in
+      rw (own.1, h.stored.canonical.tables) (record {
+        stands = stands_among (canonical_lists entries) x own.0;
+        item = omega (arith, item_of-canonical entries x own.0);
+        within = within_limit;
+      })
 
   -- another stands in the second
   module _ (nowhere : place_in s.canonical x ≡ None) where
     not_canonical : is_among x (canonical_lists entries) ≡ false
-    not_canonical = not_among_if_nowhere (canonical_lists entries) s.canonical x h.stored.canonical nowhere
+    not_canonical = sym (is_some-place (canonical_lists entries) s.canonical x h.stored.canonical) ∙ ap is_some nowhere
 
     in_second : is_among x (supplementary_lists entries) ≡ true
     in_second = among_supplementary entries x kind listed not_canonical
@@ -129,14 +124,12 @@ module _ (entries : List CharacterEntry) (s : Stores) (h : CanPoint entries s) (
     pub placed_in_supplementary : place_in s.supplementary x ≡ Some (place_of (supplementary_lists entries) x)
     placed_in_supplementary = placed (supplementary_lists entries) s.supplementary x h.stored.supplementary in_second
 
-    module _ (place : ℕ) (found : place_in s.supplementary x ≡ Some place) where
-      own_place : place ≡ place_of (supplementary_lists entries) x
-      own_place = (place_if_some (supplementary_lists entries) s.supplementary x h.stored.supplementary place found).1
-
-      pub stands_in_supplementary : StandsAt (tables_in s.supplementary) x place
-      stands_in_supplementary = rw (own_place, h.stored.supplementary.tables) (stands_among (supplementary_lists entries) x in_second)
-
-      pub item_in_supplementary : item_count (tables_in s.canonical) + item_at (tables_in s.supplementary) x place ≡ item_of entries x
-      item_in_supplementary =
-          let count : item_count (tables_in s.canonical) ≡ item_count (tables_of (canonical_lists entries)) = ap item_count h.stored.canonical.tables in
-          rw (own_place, h.stored.supplementary.tables, count) (sym (item_of-supplementary entries x not_canonical))
+    pub in_supplementary : (place : ℕ) → place_in s.supplementary x ≡ Some place → IsItem entries (tables_in s.supplementary) x (item_count (tables_in s.canonical)) place
+    in_supplementary place found =
+        let count : item_count (tables_in s.canonical) ≡ item_count (tables_of (canonical_lists entries)) = ap item_count h.stored.canonical.tables in
+        let own = place_if_some (supplementary_lists entries) s.supplementary x h.stored.supplementary place found in
+        rw (own.1, h.stored.supplementary.tables, count) (record {
+          stands = stands_among (supplementary_lists entries) x in_second;
+          item = sym (item_of-supplementary entries x not_canonical);
+          within = within_limit;
+        })

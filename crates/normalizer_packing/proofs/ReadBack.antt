@@ -1,16 +1,21 @@
 -- Packed data read to what the entries say of every character.
-use Rattle.std.proofs.Common.{◌≡◌, ◌≢◌, ℕ, ◌+◌, ◌*◌, ◌<◌, ◌≤◌, ◌⊎◌, Bool, true, false, not, ◌&&◌, ◌==◌, nat_le, List, [], ◌∷◌, Option, Some, None, if◌then◌else◌, ne_eqb, eq-eqb, eqb-true, leb-true}
-use Rattle.std.proofs.Common.{refl, arith, ap, subst, ◌∙◌, inl, inr}
+use Rattle.std.proofs.Common.{◌≡◌, ◌≢◌, ℕ, ◌+◌, ◌*◌, ◌<◌, ◌≤◌, ◌⊎◌, Bool, true, false, not, ◌&&◌, ◌||◌, ◌==◌, nat_le, nat_lt, All, List, [], ◌∷◌, Option, Some, None, unwrap_or, if◌then◌else◌}
+use Rattle.std.proofs.Common.{eqb-true, ltb-true, refl, arith, ap, sym, subst, ◌∙◌, inl, inr}
 use Rattle.std.specs.Char.{IsScalar}
 use lib.Utf8.{scalar_cases}
 use Rattle.std.proofs.lemmas.Bool.{and_parts}
 use Rattle.std.proofs.lemmas.Bool.Decides.{nat_tests}
-use Rattle.normalizer_tables.specs.Characters.{Characters, as_text, word_of}
+use Rattle.std.proofs.lemmas.List.Elements.{All-head}
+use Rattle.normal_forms.specs.Boundary.{BeginsWithStarter}
+use Rattle.normalizer_tables.specs.declared.word.WordReading.{WordReading}
+use Rattle.normalizer_tables.specs.declared.word.WordReading.TheVariants as reading
+use Rattle.normalizer_tables.specs.Characters.{Characters, class_of, has_class_form, list_read, named_list, reading_of_word, word_of}
 use Rattle.normalizer_tables.specs.Conditions.{is_surrogate, item_count, item_limit}
 use Rattle.normalizer_tables.specs.Hangul.{is_hangul_syllable}
 use Rattle.normalizer_tables.specs.Pairs.{Pair}
 use Rattle.normalizer_tables.specs.SpecialLists.{fdfa_list}
 use Rattle.normalizer_tables.specs.Table.{code_points}
+use Rattle.normalizer_tables.proofs.CharacterLemmas.{class_of-scalar, list_read-scalar}
 use Rattle.normalizer_tables.proofs.CodePoints.{lt-code_points}
 use Rattle.normalizer_tables.proofs.TextLemmas.{as_text-scalars}
 use Rattle.normalizer_packing.specs.declared.Packed.{Packed}
@@ -18,97 +23,58 @@ use Rattle.normalizer_packing.specs.declared.entry.Kind.{Kind}
 use Rattle.normalizer_packing.specs.declared.entry.Kind.TheVariants.{Canonical, Compatibility, Mapper}
 use Rattle.normalizer_packing.specs.declared.spelling.Spelling.{Spelling}
 use Rattle.normalizer_packing.specs.declared.spelling.Spelling.TheVariants.{Final, Short, Listed}
-use Rattle.normalizer_packing.specs.Entries.{CharacterEntry, class_in, entry_of, kept_list, list_in}
+use Rattle.normalizer_packing.specs.Entries.{CharacterEntry, class_in, entry_of, kept_list, list_in, reading_of_entries}
+use Rattle.normalizer_packing.specs.Flags.{without_flags}
 use Rattle.normalizer_packing.specs.Packing.{ArePackable, IsPackedWord, IsSpelled, Packs, PacksKind}
-use Rattle.normalizer_packing.specs.ReadBack.{AreReadable, ReadsBack, characters_of, decompositions_of, is_mappers}
+use Rattle.normalizer_packing.specs.ReadBack.{AreReadable, IsTold, ReadsBack, characters_of, class_by, decompositions_of, has_class_word, list_by, tells_class}
 use Rattle.normalizer_packing.specs.Spelling.{final_word, has_fixed_list, list_eq, spelling, spelling_by_list, spelling_of_list, spelling_or_ignored, spells_two}
-use Rattle.normalizer_packing.specs.Stored.{HasLengthOfWord, is_among, item_of, listed_in, supplementary_lists, tables_of}
+use Rattle.normalizer_packing.specs.Stored.{HasLengthOfWord, has_marks_behind, is_among, item_of, listed_in, low_length, pointing_word, supplementary_lists, tables_of}
 use Rattle.normalizer_packing.proofs.PlaceLemmas.{among_all, length_of_word}
-use Rattle.normalizer_packing.proofs.ReadBackLines.{IsReadBack, spelling_in, kept_is, line_alone, line_fdfa, line_fixed, line_hangul, line_ignored, line_listed, line_one, line_replacement, line_two}
-use Rattle.normalizer_packing.proofs.ReadBackLines.{text_of}
+use Rattle.normalizer_packing.proofs.ReadBackLists.{fixed_named, hangul_text, low_length-small, mapper_ignores, no_fixed-alone, no_fixed-empty, no_fixed-hangul}
 use Rattle.normalizer_packing.proofs.ReadBackPlaces.{IsGiven, given_from}
+use Rattle.normalizer_packing.proofs.ReadBackWords.{Reads, reads_fdfa, reads_hangul, reads_ignored, reads_itself, reads_listed, reads_one, reads_ordinary, reads_special, reads_two}
+use Rattle.normalizer_packing.proofs.TableLemmas.{eq_list, same_list}
 use Rattle.normalizer_packing.proofs.WordLemmas.{listed_among}
 
--- which characters have a word of their own
-pub final_hangul : (n : ℕ) → is_hangul_syllable n ≡ true → final_word n ≡ Some 1
-unfolding final_word
-final_hangul n syllable = rw syllable refl
+-- the word of its own that a number has, by what it is
+abbrev own_word : Bool → Bool → Bool → Option ℕ
+own_word syllable surrogate replacement = if syllable then Some 1 else if surrogate then Some 0xC000FFFD else if replacement then Some 0x40000000 else None
 
-pub final_replacement : (n : ℕ) → n ≡ 0xFFFD → final_word n ≡ Some 0x40000000
-unfolding final_word is_hangul_syllable is_surrogate
-final_replacement n same = rw same refl
-
-no_surrogate : (n : ℕ) → IsScalar n → is_surrogate n ≡ false
+no_surrogate : (n : ℕ) → IsScalar n → is_surrogate n ≡ true → ⊥
 unfolding is_surrogate
-no_surrogate n is = grind (arith, nat_tests)
+no_surrogate n is surrogate = absurd (grind (arith, nat_tests))
 
-pub final_none : (n : ℕ) → IsScalar n → is_hangul_syllable n ≡ false → n ≢ 0xFFFD → final_word n ≡ None
-unfolding final_word
-final_none n is other unlike = rw (other, no_surrogate n is, ne_eqb n 0xFFFD unlike) refl
-
-not_unset : (b : Bool) → b ≡ true → not b ≡ true → ⊥
-not_unset true set unset = cc
-not_unset false set unset = cc
-
-module _ (class : ℕ → ℕ) (n : ℕ) (list : Option (List ℕ)) where
-  pub spelled_final : (w : ℕ) → final_word n ≡ Some w → spelling class n list ≡ Final w
-  unfolding spelling
-  spelled_final w e = ap (λ o. elim o as (λ _. Spelling) [ Some v ↦ Final v | None ↦ spelling_or_ignored class n list ]) e
-
-  pub spelled_else : final_word n ≡ None → spelling class n list ≡ spelling_or_ignored class n list
-  unfolding spelling
-  spelled_else e = ap (λ o. elim o as (λ _. Spelling) [ Some v ↦ Final v | None ↦ spelling_or_ignored class n list ]) e
-
-module _ (class : ℕ → ℕ) (n : ℕ) (x : List ℕ) where
-  spelled_fixed : has_fixed_list class n x ≡ true → spelling_by_list class n x ≡ Short (0xD900 + class n)
-  unfolding spelling_by_list
-  spelled_fixed fixed = rw fixed refl
-
-  spelled_alone : has_fixed_list class n x ≡ false → list_eq x (n ∷ []) ≡ true → spelling_by_list class n x ≡ Short (if class n == 0 then 0 else 0xD800 + class n)
-  unfolding spelling_by_list
-  spelled_alone free alone = rw (free, alone) refl
-
-  spelled_other : has_fixed_list class n x ≡ false → list_eq x (n ∷ []) ≡ false → spelling_by_list class n x ≡ spelling_of_list class n x
-  unfolding spelling_by_list
-  spelled_other free differs = rw (free, differs) refl
-
-not_missing : (own : CharacterEntry → List ℕ) (n : ℕ) (o : Option CharacterEntry) → elim o as (λ _. Option (List ℕ)) [ Some e ↦ Some (own e) | None ↦ Some (n ∷ []) ] ≡ None → false ≡ true
-not_missing own n None h = cc
-not_missing own n (Some e) h = cc
-
--- a list is missing in the mapper's data alone
-mapper_ignores : (kind : Kind) (entries : List CharacterEntry) (n : ℕ) → list_in kind entries n ≡ None → is_mappers kind ≡ true
-unfolding list_in
-mapper_ignores Canonical entries n none = not_missing (λ e. e.canonical) n (entry_of entries n) none
-mapper_ignores Compatibility entries n none = not_missing (λ e. e.compatibility) n (entry_of entries n) none
-mapper_ignores Mapper entries n none = refl
-
-pub scalar_below : (n : ℕ) → IsScalar n → n < code_points
+scalar_below : (n : ℕ) → IsScalar n → n < code_points
 scalar_below n is = lt-code_points n (elim (scalar_cases n is) as (λ _. n ≤ 0x10FFFF) [ inl low ↦ omega arith | inr high ↦ omega (arith, high.1) ])
 
+-- what packed data read to of one character
+record IsReadBack (kind : Kind) (entries : List CharacterEntry) (s : Characters) (n : ℕ) : Type 0 where
+  lists : (ignored : List ℕ) → list_read s ignored n ≡ Some (unwrap_or (list_by kind entries n) ignored)
+  class : class_of s n ≡ class_by kind entries n
+  form : has_class_form s n ≡ has_class_word kind entries n
+  told : IsTold kind entries n (reading_of_word s n)
+
 module _ (entries : List CharacterEntry) (pairs : List Pair) (p : Packed) (packs : Packs entries pairs p) where
-  pub of_kind : (kind : Kind) → PacksKind kind entries pairs (decompositions_of p kind)
+  of_kind : (kind : Kind) → PacksKind kind entries pairs (decompositions_of p kind)
   of_kind Canonical = packs.canonical
   of_kind Compatibility = packs.compatibility
   of_kind Mapper = packs.mapper
 
   -- the word of a number of the table
-  pub packed_word : (kind : Kind) (n : ℕ) → n < code_points → IsPackedWord kind entries pairs n (word_of (characters_of p kind) n)
+  packed_word : (kind : Kind) (n : ℕ) → n < code_points → IsPackedWord kind entries pairs n (word_of (characters_of p kind) n)
   unfolding word_of
   packed_word kind n within = (of_kind kind).words.words n within
 
   -- all tables that words of a kind point into have few items
-  pub few_items : (kind : Kind) → item_count (characters_of p kind).tables + item_count (characters_of p kind).supplementary ≤ item_limit
+  few_items : (kind : Kind) → item_count (characters_of p kind).tables + item_count (characters_of p kind).supplementary ≤ item_limit
   few_items Canonical = omega (arith, ap item_count packs.tables, packs.within)
-  few_items Compatibility = omega (arith, ap item_count packs.tables, ap item_count packs.supplementary_tables, packs.within)
-  few_items Mapper = omega (arith, ap item_count packs.tables, ap item_count packs.supplementary_tables, packs.within)
+  few_items _ = omega (arith, ap item_count packs.tables, ap item_count packs.supplementary_tables, packs.within)
 
   -- a list of canonical data stands in the first tables, and words of other data point into all
   where_stands : (kind : Kind) (x : List ℕ) → is_among x (listed_in entries kind) ≡ true →
       (is_among x (listed_in entries Canonical) ≡ true) ⊎ ((characters_of p kind).supplementary ≡ tables_of (supplementary_lists entries))
   where_stands Canonical x among = inl among
-  where_stands Compatibility x among = inr packs.supplementary_tables
-  where_stands Mapper x among = inr packs.supplementary_tables
+  where_stands _ x among = inr packs.supplementary_tables
 
 module _ (kind : Kind) (entries : List CharacterEntry) (pairs : List Pair) (p : Packed) (packable : ArePackable entries) (readable : AreReadable kind entries) (packs : Packs entries pairs p) (n : ℕ)
     (is : IsScalar n) where
@@ -118,132 +84,193 @@ module _ (kind : Kind) (entries : List CharacterEntry) (pairs : List Pair) (p : 
   abbrev w : ℕ
   w = word_of s n
 
-  packed : IsPackedWord kind entries pairs n w
-  packed = packed_word entries pairs p packs kind n (scalar_below n is)
+  abbrev class : ℕ → ℕ
+  class = class_in entries
 
-  -- the word, by what spells the list
-  spelled_as : (x : List ℕ) (sp : Spelling) → kept_list kind entries n ≡ x → spelling_in kind entries n ≡ sp → IsSpelled entries x sp w
-  spelled_as x sp kept e = subst (λ (y : List ℕ). IsSpelled entries y sp w) kept (subst (λ (q : Spelling). IsSpelled entries (kept_list kind entries n) q w) e packed.spelled)
+  -- how the list, which is x, is spelled, and the word by that
+  record Spells (x : List ℕ) (q : Spelling) : Type 0 where
+    line : spelling class n (list_in kind entries n) ≡ q
+    word : IsSpelled entries x q w
 
-  hangul_case : is_hangul_syllable n ≡ true → IsReadBack kind entries s n
-  hangul_case syllable =
-      let spelled : spelling_in kind entries n ≡ Final 1 = spelled_final _ n _ 1 (final_hangul n syllable) in
-      line_hangul kind entries s n is readable syllable (spelled_as (kept_list kind entries n) (Final 1) refl spelled) spelled
+  -- by the reading of the word, and whether the list is the fixed one or the character alone
+  read_back : (x : List ℕ) (f a : Bool) (r : WordReading) (k : ℕ) (b : Bool) → kept_list kind entries n ≡ x → has_fixed_list class n x ≡ f → list_eq x (n ∷ []) ≡ a → Reads n w s.is_mapper r k b →
+      ((ignored : List ℕ) → named_list s ignored n r ≡ Some (unwrap_or (list_by kind entries n) ignored)) → (if f || a then class n else 0) ≡ k → (f || (a && nat_lt 0 (class n))) ≡ b →
+      IsTold kind entries n r → IsReadBack kind entries s n
+  unfolding reading_of_word has_class_form class_by has_class_word tells_class
+  read_back x f a r k b kept fixed alone reads named class_is form_is told = record {
+    lists = λ ignored. list_read-scalar s ignored n r is reads.reading ∙ named ignored;
+    class = class_of-scalar s n is ∙ reads.class ∙ rw (kept, fixed, alone) (sym class_is);
+    form = reads.form ∙ rw (kept, fixed, alone) (sym form_is);
+    told = subst (λ (q : WordReading). IsTold kind entries n q) (sym reads.reading) told;
+  }
 
-  replacement_case : n ≡ 0xFFFD → IsReadBack kind entries s n
-  replacement_case same =
-      let spelled : spelling_in kind entries n ≡ Final 0x40000000 = spelled_final _ n _ 0x40000000 (final_replacement n same) in
-      line_replacement kind entries s n is readable same (spelled_as (kept_list kind entries n) (Final 0x40000000) refl spelled) spelled
+  -- a Hangul syllable
+  hangul_back : is_hangul_syllable n ≡ true → w ≡ 1 → IsReadBack kind entries s n
+  unfolding list_by named_list IsTold without_flags
+  hangul_back syllable word =
+      let x = kept_list kind entries n in
+      let none : class n ≡ 0 = readable.hangul n syllable in
+      read_back x false (list_eq x (n ∷ [])) reading.HangulSyllable 0 false refl (no_fixed-hangul class n x syllable) refl (reads_hangul n w s.is_mapper syllable (ap without_flags word))
+      (λ ignored. rw syllable (hangul_text n syllable))
+      (elim (list_eq x (n ∷ [])) as (λ b. (if b then class n else 0) ≡ 0) [ true ↦ none | false ↦ refl ])
+      (rw none (elim (list_eq x (n ∷ [])) as (λ b. (b && false) ≡ false) [ true ↦ refl | false ↦ refl ])) syllable
 
-  module _ (other : is_hangul_syllable n ≡ false) (unlike : n ≢ 0xFFFD) where
-    spelled_by : (o : Option (List ℕ)) → list_in kind entries n ≡ o → spelling_in kind entries n ≡ spelling_or_ignored (class_in entries) n o
-    spelled_by o list = spelled_else (class_in entries) n (list_in kind entries n) (final_none n is other unlike) ∙ ap (spelling_or_ignored (class_in entries) n) list
-
-    ignored_case : list_in kind entries n ≡ None → IsReadBack kind entries s n
-    unfolding spelling_or_ignored
-    ignored_case none =
-        line_ignored kind entries s n is other (mapper_ignores kind entries n none) none (spelled_as (kept_list kind entries n) (Final 0xFFFFFFFF) refl (spelled_by None none)) (spelled_by None none)
+  module _ (other : is_hangul_syllable n ≡ false) where
+    -- a character that the mapper ignores
+    ignored_back : list_in kind entries n ≡ None → w ≡ 0xFFFFFFFF → IsReadBack kind entries s n
+    unfolding list_in list_by kept_list named_list IsTold
+    ignored_back list word =
+        let mapper : s.is_mapper ≡ true = mapper_ignores kind n (entry_of entries n) list in
+        read_back [] false false reading.Ignored 0 false (rw list refl) (no_fixed-empty class n) refl
+        (subst (λ (m : Bool). Reads n w m reading.Ignored 0 false) (sym mapper) (reads_ignored n w word)) (λ ignored. rw (other, list) refl) refl refl list
 
     module _ (x : List ℕ) (list : list_in kind entries n ≡ Some x) where
       kept : kept_list kind entries n ≡ x
-      kept = kept_is kind entries s n is other x list
+      unfolding kept_list
+      kept = rw list refl
 
-      by_its_list : spelling_in kind entries n ≡ spelling_by_list (class_in entries) n x
-      unfolding spelling_or_ignored
-      by_its_list = spelled_by (Some x) list
+      text : All IsScalar x
+      text = subst (λ (y : List ℕ). All IsScalar y) kept (readable.text n is)
 
-      fixed_case : has_fixed_list (class_in entries) n x ≡ true → IsReadBack kind entries s n
-      fixed_case fixed =
-          let spelled : spelling_in kind entries n ≡ Short (0xD900 + class_in entries n) = by_its_list ∙ spelled_fixed (class_in entries) n x fixed in
-          line_fixed kind entries s n is other x list (readable.classes n) fixed (spelled_as x (Short (0xD900 + class_in entries n)) kept spelled) spelled
+      -- a list that the reading names
+      named_back : (f a : Bool) (r : WordReading) (k : ℕ) (b : Bool) → has_fixed_list class n x ≡ f → list_eq x (n ∷ []) ≡ a → Reads n w s.is_mapper r k b →
+          ((ignored : List ℕ) → named_list s ignored n r ≡ Some x) → (if f || a then class n else 0) ≡ k → (f || (a && nat_lt 0 (class n))) ≡ b → IsTold kind entries n r → IsReadBack kind entries s n
+      unfolding list_by
+      named_back f a r k b fixed alone reads named = read_back x f a r k b kept fixed alone reads (λ ignored. named ignored ∙ rw (other, list) refl)
 
-      module _ (free : has_fixed_list (class_in entries) n x ≡ false) where
-        alone_case : list_eq x (n ∷ []) ≡ true → IsReadBack kind entries s n
-        alone_case alone =
-            let spelled : spelling_in kind entries n ≡ Short (if class_in entries n == 0 then 0 else 0xD800 + class_in entries n) = by_its_list ∙ spelled_alone (class_in entries) n x free alone in
-            line_alone kind entries s n is other x list free (readable.classes n) alone (spelled_as x (Short (if class_in entries n == 0 then 0 else 0xD800 + class_in entries n)) kept spelled) spelled
+      -- its fixed list
+      fixed_back : has_fixed_list class n x ≡ true → without_flags w ≡ 0xD900 + class n → IsReadBack kind entries s n
+      unfolding named_list IsTold
+      fixed_back fixed rest =
+          named_back true (list_eq x (n ∷ [])) (reading.SpecialForm (class n)) (class n) true fixed refl (reads_special n w (class n) s.is_mapper (readable.classes n) rest)
+          (λ ignored. fixed_named class n x fixed) refl refl (rw kept fixed, refl)
 
-        module _ (differs : list_eq x (n ∷ []) ≡ false) where
-          by_other : spelling_in kind entries n ≡ spelling_of_list (class_in entries) n x
-          by_other = by_its_list ∙ spelled_other (class_in entries) n x free differs
+      module _ (same : x ≡ n ∷ []) where
+        free : has_fixed_list class n x ≡ false
+        free = rw same (no_fixed-alone class n)
 
-          listed_case : spelling_of_list (class_in entries) n x ≡ Listed → IsReadBack kind entries s n
-          listed_case listed =
-              let spelled : spelling_in kind entries n ≡ Listed = by_other ∙ listed in
-              let among : is_among x (listed_in entries kind) ≡ true = subst (λ (y : List ℕ). is_among y (listed_in entries kind) ≡ true) kept (listed_among kind entries n spelled) in
-              let long : HasLengthOfWord x = among_all HasLengthOfWord x (listed_in entries kind) (packable.lengths kind) among in
-              let text : as_text x ≡ Some x = as_text-scalars x (text_of kind entries s n is other readable x list) in
-              let given : IsGiven s x (item_of entries x) = given_from entries s x packs.tables (length_of_word x long) text kind among (where_stands entries pairs p packs kind x among) in
-              line_listed kind entries s n is other x list free differs (item_of entries x) given (omega (arith, given.within, few_items entries pairs p packs kind)) long
-              (spelled_as x Listed kept spelled) spelled
+        -- the character alone, which is a starter
+        starter_back : class n ≡ 0 → without_flags w ≡ 0 → IsReadBack kind entries s n
+        unfolding named_list IsTold
+        starter_back none rest =
+            named_back false true reading.Itself 0 false free (eq_list x (n ∷ []) same) (reads_itself n w s.is_mapper rest) (λ ignored. ap Some (sym same)) none (rw none refl) (kept ∙ same, none)
 
-          long_case : spelling_of_list (class_in entries) n x ≡ (if list_eq x fdfa_list then Short 1 else Listed) → IsReadBack kind entries s n
-          long_case e = elim (list_eq x fdfa_list) as (λ b. list_eq x fdfa_list ≡ b → spelling_of_list (class_in entries) n x ≡ (if b then Short 1 else Listed) → IsReadBack kind entries s n) [
-            | true ↦ λ fdfa short. line_fdfa kind entries s n is other x list free differs fdfa (spelled_as x (Short 1) kept (by_other ∙ short)) (by_other ∙ short)
-            | false ↦ λ _ listed. listed_case listed
-          ] refl e
+        -- or a mark
+        mark_back : nat_lt 0 (class n) ≡ true → without_flags w ≡ 0xD800 + class n → IsReadBack kind entries s n
+        unfolding named_list IsTold
+        mark_back mark rest =
+            named_back false true (reading.ClassForm (class n)) (class n) true free (eq_list x (n ∷ []) same) (reads_ordinary n w (class n) s.is_mapper (readable.classes n) rest)
+            (λ ignored. ap Some (sym same)) refl mark (kept ∙ same, refl, ltb-true _ _ mark)
 
-    one_case : (a : ℕ) → list_in kind entries n ≡ Some (a ∷ []) → has_fixed_list (class_in entries) n (a ∷ []) ≡ false → list_eq (a ∷ []) (n ∷ []) ≡ false → IsReadBack kind entries s n
+      module _ (free : has_fixed_list class n x ≡ false) (differs : list_eq x (n ∷ []) ≡ false) where
+        other_back : (r : WordReading) → Reads n w s.is_mapper r 0 false → ((ignored : List ℕ) → named_list s ignored n r ≡ Some x) → IsTold kind entries n r → IsReadBack kind entries s n
+        other_back r reads named = named_back false false r 0 false free differs reads named refl refl
+
+        -- a list in the tables
+        listed_back : Spells x Listed → IsReadBack kind entries s n
+        unfolding named_list IsTold pointing_word
+        listed_back h =
+            let among : is_among x (listed_in entries kind) ≡ true = subst (λ (y : List ℕ). is_among y (listed_in entries kind) ≡ true) kept (listed_among kind entries n h.line) in
+            let long : HasLengthOfWord x = among_all HasLengthOfWord x (listed_in entries kind) (packable.lengths kind) among in
+            let given : IsGiven s x (item_of entries x) =
+            given_from entries s x packs.tables (length_of_word x long) (as_text-scalars x text) kind among (where_stands entries pairs p packs kind x among) in
+            let marks : Bool = has_marks_behind class x in
+            other_back (reading.Listed (item_of entries x) (low_length x) marks)
+            (reads_listed n w (item_of entries x) (low_length x) marks s.is_mapper (omega (arith, given.within, few_items entries pairs p packs kind)) (low_length-small x long) h.word)
+            (λ ignored. given.list) (ap (has_marks_behind class) (sym kept))
+
+        -- U+FDFA, or such a list
+        long_back : (b : Bool) → list_eq x fdfa_list ≡ b → Spells x (if b then Short 1 else Listed) → IsReadBack kind entries s n
+        unfolding named_list IsTold
+        long_back true long h =
+            let same : x ≡ fdfa_list = same_list x fdfa_list long in
+            other_back reading.Fdfa (reads_fdfa n w s.is_mapper other h.word) (λ ignored. ap Some (sym same)) (kept ∙ same)
+        long_back false _ h = listed_back h
+
+    -- another character
+    one_back : (a : ℕ) (list : list_in kind entries n ≡ Some (a ∷ [])) → has_fixed_list class n (a ∷ []) ≡ false → list_eq (a ∷ []) (n ∷ []) ≡ false →
+        (b : Bool) → (nat_le a 0xFFFF && not (a == 1)) ≡ b → Spells (a ∷ []) (if b then Short a else Listed) → IsReadBack kind entries s n
+    unfolding named_list IsTold
+    one_back a list free differs false _ h = listed_back (a ∷ []) list free differs h
+    one_back a list free differs true both h =
+        let scalars = text (a ∷ []) list in
+        let some : a ≢ 0 = λ zero.
+        (let none : n ≡ 0 = readable.zero n is (kept (a ∷ []) list ∙ ap (λ m. m ∷ []) zero) in let same = eq_list (a ∷ []) (n ∷ []) (ap (λ m. m ∷ []) (zero ∙ sym none)) in cc) in
+        other_back (a ∷ []) list free differs (reading.OneCharacter a) (reads_one n w a s.is_mapper other some both (All-head IsScalar a [] scalars) h.word)
+        (λ ignored. as_text-scalars (a ∷ []) scalars) (kept (a ∷ []) list)
+
+    -- two characters
+    two_back : (a b : ℕ) (list : list_in kind entries n ≡ Some (a ∷ b ∷ [])) → has_fixed_list class n (a ∷ b ∷ []) ≡ false → list_eq (a ∷ b ∷ []) (n ∷ []) ≡ false →
+        (q : Bool) → spells_two class n a b ≡ q → Spells (a ∷ b ∷ []) (if q then Short (a + b * 0x8000) else Listed) → IsReadBack kind entries s n
+    unfolding named_list IsTold spells_two tells_class
+    two_back a b list free differs false _ h = listed_back (a ∷ b ∷ []) list free differs h
+    two_back a b list free differs true spells h =
+        let kept_two = kept (a ∷ b ∷ []) list in
+        let one = and_parts _ _ spells in
+        let two = and_parts _ _ one.1 in
+        let three = and_parts _ _ two.1 in
+        let zeros = and_parts _ _ (and_parts _ _ three.1).1 in
+        let small : a < 0x8000 = ltb-true _ _ one.0 in
+        let also : b < 0x8000 = ltb-true _ _ two.0 in
+        let mark : 0 < class b = ltb-true _ _ three.0 in
+        let starter : BeginsWithStarter (reading_of_entries entries []) (a ∷ b ∷ []) =
+        subst (λ (y : List ℕ). BeginsWithStarter (reading_of_entries entries []) y) kept_two (readable.first n is (rw (kept_two, free, differs) refl)) in
+        other_back (a ∷ b ∷ []) list free differs (reading.TwoCharacters a b)
+        (reads_two n w a b s.is_mapper small also (unset _ zeros.0) (unset _ zeros.1) (unmarked small also starter mark) h.word)
+        (λ ignored. as_text-scalars (a ∷ b ∷ []) (text (a ∷ b ∷ []) list)) (kept_two, mark)
+      where
+        unset : (q : Bool) → not q ≡ true → q ≡ false
+        unset true e = cc
+        unset false e = refl
+
+        -- the word that is the marker without its flags spells the same character twice
+        unmarked : a < 0x8000 → b < 0x8000 → class a ≡ 0 → 0 < class b → a + b * 0x8000 ≢ 0x3FFFFFFF
+        unmarked small also starter mark e = let same : a ≡ b = omega arith in let none : class b ≡ 0 = subst (λ (m : ℕ). class m ≡ 0) same starter in omega arith
+
+    members_back : (x : List ℕ) → list_in kind entries n ≡ Some x → has_fixed_list class n x ≡ false → list_eq x (n ∷ []) ≡ false → Spells x (spelling_of_list class n x) → IsReadBack kind entries s n
     unfolding spelling_of_list
-    one_case a list free differs =
-        elim (nat_le a 0xFFFF && not (a == 1)) as (λ b. (nat_le a 0xFFFF && not (a == 1)) ≡ b → spelling_of_list (class_in entries) n (a ∷ []) ≡ (if b then Short a else Listed) →
-        IsReadBack kind entries s n) [
-          | true ↦ λ both short. (
-              let parts = and_parts _ _ both in
-              let more : a ≢ 1 = λ one. (let yes : (a == 1) ≡ true = eq-eqb a 1 one in let other : not (a == 1) ≡ true = parts.1 in not_unset (a == 1) yes other) in
-              line_one kind entries s n is other readable a list free differs (leb-true a 0xFFFF parts.0) more (spelled_as (a ∷ []) (Short a) (kept (a ∷ []) list)
-              (by_other (a ∷ []) list free differs ∙ short)) (by_other (a ∷ []) list free differs ∙ short))
-          | false ↦ λ _ listed. listed_case (a ∷ []) list free differs listed
-        ] refl refl
+    members_back [] list free differs h = long_back [] list free differs _ refl h
+    members_back (a ∷ []) list free differs h = one_back a list free differs _ refl h
+    members_back (a ∷ b ∷ []) list free differs h = two_back a b list free differs _ refl h
+    members_back (a ∷ b ∷ c ∷ x) list free differs h = long_back (a ∷ b ∷ c ∷ x) list free differs _ refl h
 
-    two_case : (a b : ℕ) → list_in kind entries n ≡ Some (a ∷ b ∷ []) → has_fixed_list (class_in entries) n (a ∷ b ∷ []) ≡ false → list_eq (a ∷ b ∷ []) (n ∷ []) ≡ false → IsReadBack kind entries s n
-    unfolding spelling_of_list
-    two_case a b list free differs =
-        elim (spells_two (class_in entries) n a b) as (λ q. spells_two (class_in entries) n a b ≡ q →
-        spelling_of_list (class_in entries) n (a ∷ b ∷ []) ≡ (if q then Short (a + b * 0x8000) else Listed) → IsReadBack kind entries s n) [
-          | true ↦ λ two short. line_two kind entries s n is other readable a b list free differs two (spelled_as (a ∷ b ∷ []) (Short (a + b * 0x8000)) (kept (a ∷ b ∷ []) list)
-              (by_other (a ∷ b ∷ []) list free differs ∙ short)) (by_other (a ∷ b ∷ []) list free differs ∙ short)
-          | false ↦ λ _ listed. listed_case (a ∷ b ∷ []) list free differs listed
-        ] refl refl
+    list_back : (x : List ℕ) → list_in kind entries n ≡ Some x → (f a z : Bool) → has_fixed_list class n x ≡ f → list_eq x (n ∷ []) ≡ a → (class n == 0) ≡ z →
+        Spells x (if f then Short (0xD900 + class n) else if a then Short (if z then 0 else 0xD800 + class n) else spelling_of_list class n x) → IsReadBack kind entries s n
+    list_back x list true a z fixed _ _ h = fixed_back x list fixed h.word
+    list_back x list false true true _ alone none h = starter_back x list (same_list x (n ∷ []) alone) (eqb-true _ _ none) h.word
+    list_back x list false true false _ alone some h = mark_back x list (same_list x (n ∷ []) alone) (mark (class n) some) h.word
+      where
+        mark : (k : ℕ) → (k == 0) ≡ false → nat_lt 0 k ≡ true
+        mark k some = grind (arith, nat_tests)
+    list_back x list false false z free differs _ h = members_back x list free differs h
 
-    other_case : (x : List ℕ) → list_in kind entries n ≡ Some x → has_fixed_list (class_in entries) n x ≡ false → list_eq x (n ∷ []) ≡ false → IsReadBack kind entries s n
-    unfolding spelling_of_list
-    other_case [] list free differs = long_case [] list free differs refl
-    other_case (a ∷ []) list free differs = one_case a list free differs
-    other_case (a ∷ b ∷ []) list free differs = two_case a b list free differs
-    other_case (a ∷ b ∷ c ∷ x) list free differs = long_case (a ∷ b ∷ c ∷ x) list free differs refl
+    else_back : (o : Option (List ℕ)) → list_in kind entries n ≡ o → Spells (kept_list kind entries n) (spelling_or_ignored class n o) → IsReadBack kind entries s n
+    unfolding spelling_or_ignored spelling_by_list
+    else_back None list h = ignored_back list h.word
+    else_back (Some x) list h = list_back x list _ _ _ refl refl refl (subst (λ (y : List ℕ). Spells y (spelling_by_list class n x)) (kept x list) h)
 
-    list_case : (x : List ℕ) → list_in kind entries n ≡ Some x → IsReadBack kind entries s n
-    list_case x list = elim (has_fixed_list (class_in entries) n x) as (λ b. has_fixed_list (class_in entries) n x ≡ b → IsReadBack kind entries s n) [
-      | true ↦ λ fixed. fixed_case x list fixed
-      | false ↦ λ free. elim (list_eq x (n ∷ [])) as (λ b. list_eq x (n ∷ []) ≡ b → IsReadBack kind entries s n) [
-        | true ↦ λ alone. alone_case x list free alone
-        | false ↦ λ differs. other_case x list free differs
-      ] refl
-    ] refl
-
-    else_case : IsReadBack kind entries s n
-    else_case = elim (list_in kind entries n) as (λ o. list_in kind entries n ≡ o → IsReadBack kind entries s n) [
-      | None ↦ λ none. ignored_case none
-      | Some x ↦ λ list. list_case x list
-    ] refl
+  final_back : (h u f : Bool) → is_hangul_syllable n ≡ h → is_surrogate n ≡ u → (n == 0xFFFD) ≡ f →
+      Spells (kept_list kind entries n) (elim (own_word h u f) as (λ _. Spelling) [ Some v ↦ Final v | None ↦ spelling_or_ignored class n (list_in kind entries n) ]) → IsReadBack kind entries s n
+  unfolding without_flags
+  final_back true u f syllable _ _ h = hangul_back syllable h.word
+  final_back false true f _ surrogate _ h = absurd (no_surrogate n is surrogate)
+  final_back false false true other _ same h =
+      let here : n ≡ 0xFFFD = eqb-true n 0xFFFD same in
+      starter_back other (n ∷ []) (rw here readable.replacement.0) refl (rw here readable.replacement.1) (ap without_flags h.word)
+  final_back false false false other _ _ h = else_back other (list_in kind entries n) refl h
 
   -- the word of each character reads back
-  pub character_reads_back : IsReadBack kind entries s n
-  character_reads_back = elim (is_hangul_syllable n) as (λ b. is_hangul_syllable n ≡ b → IsReadBack kind entries s n) [
-    | true ↦ λ syllable. hangul_case syllable
-    | false ↦ λ other. elim (n == 0xFFFD) as (λ b. (n == 0xFFFD) ≡ b → IsReadBack kind entries s n) [
-      | true ↦ λ e. replacement_case (eqb-true n 0xFFFD e)
-      | false ↦ λ e. else_case other (λ (same : n ≡ 0xFFFD). (let yes : (n == 0xFFFD) ≡ true = eq-eqb n 0xFFFD same in cc))
-    ] refl
-  ] refl
+  character_back : IsReadBack kind entries s n
+  unfolding spelling final_word
+  character_back =
+      final_back _ _ _ refl refl refl (record { line = refl; word = (packed_word entries pairs p packs kind n (scalar_below n is)).spelled })
 
 -- packed data read back
 pub Packs-reads_back : (kind : Kind) (entries : List CharacterEntry) (pairs : List Pair) (p : Packed) → ArePackable entries → AreReadable kind entries → Packs entries pairs p →
     ReadsBack kind entries (characters_of p kind)
 Packs-reads_back kind entries pairs p packable readable packs = record {
-  lists = λ ignored n is. (character_reads_back kind entries pairs p packable readable packs n is).lists ignored;
-  classes = λ n is. (character_reads_back kind entries pairs p packable readable packs n is).class;
-  class_forms = λ n is. (character_reads_back kind entries pairs p packable readable packs n is).form;
-  words = λ n is. (character_reads_back kind entries pairs p packable readable packs n is).told;
+  lists = λ ignored n is. (character_back kind entries pairs p packable readable packs n is).lists ignored;
+  classes = λ n is. (character_back kind entries pairs p packable readable packs n is).class;
+  class_forms = λ n is. (character_back kind entries pairs p packable readable packs n is).form;
+  words = λ n is. (character_back kind entries pairs p packable readable packs n is).told;
 }

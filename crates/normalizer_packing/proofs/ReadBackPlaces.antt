@@ -1,61 +1,28 @@
 -- What the four tables give from the item on from which a list stands.
-use Rattle.std.proofs.Common.{◌≡◌, ℕ, ◌+◌, ◌-◌, ◌<◌, ◌≤◌, ◌⊎◌, true, false, List, length, Option, Some, None, refl, arith, ◌∙◌, inl, inr}
-use Rattle.std.proofs.lemmas.Bool.{lt-ltb, le-ltb}
-use Rattle.normalizer_tables.specs.Characters.{Characters, as_text, items_at, listed_at, listed_in, narrow_at, placed_in, wide_at}
+use Rattle.std.proofs.Common.{◌≡◌, ℕ, ◌+◌, ◌<◌, ◌⊎◌, true, false, List, length, Option, Some, None, arith, ◌∙◌, inl, inr}
+use Rattle.std.proofs.lemmas.Bool.{cases_Bool}
+use Rattle.std.proofs.lemmas.Bool.Decides.{nat_tests}
+use Rattle.normalizer_tables.specs.Characters.{Characters, as_text, listed_at, listed_in, narrow_at, placed_in, wide_at}
 use Rattle.normalizer_tables.specs.Conditions.{item_count}
 use Rattle.normalizer_tables.specs.Data.{Lists}
 use Rattle.normalizer_packing.specs.declared.entry.Kind.{Kind}
 use Rattle.normalizer_packing.specs.declared.entry.Kind.TheVariants.{Canonical}
 use Rattle.normalizer_packing.specs.Entries.{CharacterEntry}
-use Rattle.normalizer_packing.specs.Stored.{canonical_lists, is_among, is_narrow, item_at, item_of, listed_in as packed_in, low_length, place_of, supplementary_lists, tables_of}
+use Rattle.normalizer_packing.specs.Stored.{canonical_lists, is_among, item_at, item_of, listed_in as packed_in, low_length, place_of, supplementary_lists, tables_of}
 use Rattle.normalizer_packing.specs.inner.Stores.{StandsAt}
 use Rattle.normalizer_packing.proofs.PlaceLemmas.{among_supplementary, canonical_kind, item_of-canonical, item_of-supplementary, item_within, place_within, stands_among}
 use Rattle.normalizer_packing.proofs.StoreLemmas.{narrow_length}
 
-module _ (table : List ℕ) (gives after : ℕ → Option (List ℕ)) where
-  placed_here : (place : ℕ) → place < length table → placed_in table gives after place ≡ gives place
-  unfolding placed_in
-  placed_here place within = rw (lt-ltb _ _ within) refl
-
-  placed_past : (item k : ℕ) → item ≡ length table + k → placed_in table gives after item ≡ after k
-  unfolding placed_in
-  placed_past item k e =
-      let back : item - length table ≡ k = omega arith in
-      rw (le-ltb item (length table) (omega arith), back) refl
-
 -- the item is past both tables
 past_both : (t : Lists) (low : ℕ) (after : ℕ → Option (List ℕ)) (k : ℕ) → listed_in t low after (item_count t + k) ≡ after k
-unfolding listed_in
-past_both t low after k =
-    placed_past t.scalars16 (narrow_at t.scalars16 low) (placed_in t.scalars24 (wide_at t.scalars24 low) after) (item_count t + k) (length t.scalars24 + k) (omega arith)
-    ∙ placed_past t.scalars24 (wide_at t.scalars24 low) after (length t.scalars24 + k) k refl
+unfolding listed_in placed_in
+past_both t low after k = grind (arith, nat_tests)
 
-module _ (t : Lists) (x : List ℕ) (place : ℕ) (some : 0 < length x) (after : ℕ → Option (List ℕ)) where
-  narrow_given : is_narrow x ≡ true → as_text x ≡ Some x → StandsAt t x place → listed_in t (low_length x) after (item_at t x place) ≡ Some x
-  unfolding listed_in StandsAt item_at low_length narrow_at
-  narrow_given narrow text stands =
-      let here : items_at t.scalars16 place (length x) ≡ Some x = rw narrow at stands in
-      let within : place + length x ≤ length t.scalars16 = rw narrow at (place_within t x place stands) in
-      let same : length x - 2 + 2 ≡ length x = omega (arith, narrow_length x narrow) in
-      rw narrow (placed_here t.scalars16 (narrow_at t.scalars16 (length x - 2)) (placed_in t.scalars24 (wide_at t.scalars24 (length x - 2)) after) place (omega arith)
-      ∙ rw (same, here) text)
-
-  wide_given : is_narrow x ≡ false → StandsAt t x place → listed_in t (low_length x) after (item_at t x place) ≡ Some x
-  unfolding listed_in StandsAt item_at low_length wide_at
-  wide_given wide stands =
-      let here : items_at t.scalars24 place (length x) ≡ Some x = rw wide at stands in
-      let within : place + length x ≤ length t.scalars24 = rw wide at (place_within t x place stands) in
-      let same : length x - 1 + 1 ≡ length x = omega arith in
-      rw wide (placed_past t.scalars16 (narrow_at t.scalars16 (length x - 1)) (placed_in t.scalars24 (wide_at t.scalars24 (length x - 1)) after) (length t.scalars16 + place) place refl
-      ∙ placed_here t.scalars24 (wide_at t.scalars24 (length x - 1)) after place (omega arith)
-      ∙ rw same here)
-
-  -- the list stands at its place in one of the two tables
-  given : as_text x ≡ Some x → StandsAt t x place → listed_in t (low_length x) after (item_at t x place) ≡ Some x
-  given text stands = elim (is_narrow x) as (λ b. is_narrow x ≡ b → listed_in t (low_length x) after (item_at t x place) ≡ Some x) [
-    | true ↦ λ narrow. narrow_given narrow text stands
-    | false ↦ λ wide. wide_given wide stands
-  ] refl
+-- the list stands at its place in one of the two tables
+given : (t : Lists) (x : List ℕ) (place : ℕ) → 0 < length x → (after : ℕ → Option (List ℕ)) → as_text x ≡ Some x → StandsAt t x place →
+    listed_in t (low_length x) after (item_at t x place) ≡ Some x
+unfolding listed_in placed_in StandsAt item_at low_length narrow_at wide_at
+given t x place some after text stands = let within = place_within t x place stands in let long = narrow_length x in grind (arith, nat_tests)
 
 -- what is known of a list that stands from an item on
 pub record IsGiven (s : Characters) (x : List ℕ) (item : ℕ) : Type 0 where
@@ -92,10 +59,10 @@ module _ (entries : List CharacterEntry) (s : Characters) (x : List ℕ) (first 
   -- a list of one kind of data is what the tables give from its item on
   pub given_from : (kind : Kind) → is_among x (packed_in entries kind) ≡ true → (is_among x (packed_in entries Canonical) ≡ true) ⊎ (s.supplementary ≡ tables_of (supplementary_lists entries)) →
       IsGiven s x (item_of entries x)
-  given_from kind among where_stands = elim (is_among x (canonical_lists entries)) as (λ b. is_among x (canonical_lists entries) ≡ b → IsGiven s x (item_of entries x)) [
-    | true ↦ λ here. given_by_first here
-    | false ↦ λ other. elim where_stands as (λ _. IsGiven s x (item_of entries x)) [
-      | inl canonical ↦ (let here = canonical_kind entries x canonical in cc)
+  given_from kind among where_stands = elim (cases_Bool (is_among x (canonical_lists entries))) [
+    | inl here ↦ given_by_first here
+    | inr other ↦ elim where_stands [
+      | inl canonical ↦ (let here = canonical_kind entries x canonical in absurd cc)
       | inr second ↦ given_by_second other (among_supplementary entries x kind among other) second
     ]
-  ] refl
+  ]

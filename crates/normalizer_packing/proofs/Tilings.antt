@@ -4,7 +4,6 @@ use Rattle.std.specs.List.Sorted.{IsStrictlyIncreasing}
 use Rattle.std.proofs.lemmas.Bool.{le-leb, lt-ltb, cases_lt}
 use Rattle.std.proofs.lemmas.List.{get_or_default}
 use Rattle.std.proofs.lemmas.List.Kept.{AllPairs-from_increasing}
-use Rattle.std.proofs.Math.Nat.{eq-or-lt_of_le}
 use Rattle.normalizer_tables.specs.Ranges.{WordRange, word_in}
 use Rattle.normalizer_tables.specs.Table.{code_points}
 use Rattle.normalizer_tables.proofs.RangeLists.{rises_from, rises_from-decides}
@@ -63,9 +62,6 @@ module _ (is_word : ℕ → ℕ → Type 0) where
           ];
         }
 
-    pub CoverUpTo-same : (end : ℕ) → from ≡ end → CoverUpTo is_word rs end
-    CoverUpTo-same end same = subst (λ (m : ℕ). CoverUpTo is_word rs m) same so_far
-
     -- all numbers have their words
     pub CoverWords-all : from ≡ code_points → CoverWords is_word rs
     CoverWords-all all =
@@ -97,10 +93,7 @@ HasPassed-start told = record { before = λ k d low within. absurd (omega arith)
 
 module _ (told : List ℕ) (rising : IsStrictlyIncreasing told) where
   not_below : (i j d : ℕ) → i ≤ j → j < length told → get_or told i d ≤ get_or told j d
-  not_below i j d le within = elim (eq-or-lt_of_le le) as (λ _. get_or told i d ≤ get_or told j d) [
-    | inl same ↦ subst (λ (m : ℕ). get_or told i d ≤ get_or told m d) same (omega arith)
-    | inr below ↦ omega (arith, AllPairs-from_increasing told rising i j d below within)
-  ]
+  not_below i j d le within = let less = AllPairs-from_increasing told rising i j d in grind arith
 
   module _ (place from : ℕ) (passed : HasPassed told place from) where
     -- no told number stands between

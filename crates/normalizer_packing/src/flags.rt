@@ -34,6 +34,7 @@ pub fn flagged(
 }
 
 /// A word with these flags.
+#[tactic(auto, using(crate::proofs::FlagLemmas::without_flags_low, crate::proofs::FlagLemmas::round_trip_bit, crate::proofs::FlagLemmas::backward_bit))]
 fn with_flags(word: u32, changes: bool, combines: bool) -> u32
     requires { word < 2 ^ 30 }
     ensures word { without_flags result ≡ word }

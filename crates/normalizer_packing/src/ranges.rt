@@ -47,6 +47,7 @@ pub fn table_of<W: Words>(
 }
 
 /// Ranges of one word each, one after another, that have all code points: each told character, and all between two.
+#[tactic(auto, unfolding(normalizer_tables::specs::Table::code_points))]
 fn ranges_of<W: Words>(
     alloc: Global,
     words: &W,
@@ -68,6 +69,7 @@ fn ranges_of<W: Words>(
 }
 
 /// Adds the numbers from one up to before a character, which have the word of the first, and the character.
+#[tactic(auto, unfolding(normalizer_tables::specs::Table::code_points))]
 fn push_up_to<W: Words>(
     ranges: &mut Vec<(u32, u32, u32)>,
     words: &W,

@@ -2,7 +2,7 @@
 ghost use Rattle.std.specs.Prelude.{◌≡◌, option_copied};
 ghost use Rattle.normalizer_packing.specs.Entries.{class_in};
 ghost use Rattle.normalizer_packing.specs.Spelling.{HasRoomForFlags, final_word, has_fixed_list, have_classes};
-ghost use Rattle.normalizer_packing.specs.Spelling.{spelling, spelling_by_list, spelling_of_list, spelling_of_one};
+ghost use Rattle.normalizer_packing.specs.Spelling.{spelling, spelling_by_list, spelling_of_list};
 ghost use Rattle.normalizer_packing.specs.Spelling.{spelling_of_two};
 ghost use Rattle.normalizer_tables.specs.Conditions.{is_surrogate};
 
@@ -111,21 +111,11 @@ fn spelling_of_list(entries: &Entries<'_>, character: char, list: &[char]) -> Sp
     ensures room { HasRoomForFlags result }
 {
     match list {
-        &[member] => spelling_of_one(member),
+        &[member] if member <= '\u{FFFF}' && member != '\u{1}' => Spelling::Short(member as u32),
+        &[_] => Spelling::Listed,
         &[first, second] => spelling_of_two(entries, character, first, second),
         _ if list == fdfa_list() => Spelling::Short(1),
         _ => Spelling::Listed,
-    }
-}
-
-fn spelling_of_one(member: char) -> Spelling
-    ensures line { result ≡ spelling_of_one member }
-    ensures room { HasRoomForFlags result }
-{
-    if member <= '\u{FFFF}' && member != '\u{1}' {
-        Spelling::Short(member as u32)
-    } else {
-        Spelling::Listed
     }
 }
 

@@ -1,5 +1,5 @@
 //! The supplement: one step of decomposition, where the word of canonical data doesn't tell it.
-ghost use Rattle.std.specs.Prelude.{◌≡◌, true, false, [], ◌∷◌, List, Some, IfOk, if◌then◌else◌, nat_le};
+ghost use Rattle.std.specs.Prelude.{◌≡◌, true, false, [], ◌∷◌, List, Some, IfOk};
 ghost use Rattle.normalizer_packing.specs.Entries.{class_in, entry_of};
 ghost use Rattle.normalizer_tables.specs.Pairs.{Pair};
 ghost use Rattle.normalizer_packing.specs.Stored.{first_come, is_among, place_of};
@@ -113,6 +113,7 @@ impl Words for StepWords<'_, '_, '_> {
 
     ghost is_word = { λ w n v. v ≡ word_of_step (step_lists w.entries.now) (step_in w.entries.now n) };
 
+    #[tactic(auto, using(crate::proofs::StepLemmas::no_step))]
     fn word_of(&self, number: u32) -> u32 {
         match char::from_u32(number) {
             Some(character) => self.word_of_character(character),
@@ -140,14 +141,15 @@ impl StepWords<'_, '_, '_> {
         ensures { result ≡ word_of_step (step_lists self.now.entries.now) (asked_step self.now.entries.now entry.now) }
     {
         match asked_step(self.entries, entry) {
-            Some(Mapping::One(character)) => word_of_one(character),
+            Some(Mapping::One(character)) if character <= '\u{FFFF}' => character as u32,
+            Some(Mapping::One(_)) => 0,
             Some(Mapping::Two(first, second)) => self.word_of_two(first, second),
             None => 0,
         }
     }
 
     /// The word of a step to two characters.
-    #[tactic(auto, unfolding(crate::specs::Steps::word_of_step))]
+    #[tactic(auto, unfolding(crate::specs::Steps::word_of_step, crate::specs::Steps::are_narrow))]
     fn word_of_two(&self, first: char, second: char) -> u32
         requires ready { Holds (step_lists self.now.entries.now) self.now.store }
         requires stored { are_narrow first second ≡ false →
@@ -180,18 +182,8 @@ impl StepWords<'_, '_, '_> {
     }
 }
 
-/// The word of a step to one character.
-fn word_of_one(character: char) -> u32
-    ensures { result ≡ (if nat_le character 0xFFFF then character else 0) }
-{
-    if character <= '\u{FFFF}' {
-        character as u32
-    } else {
-        0
-    }
-}
-
 /// The supplement of the entries.
+#[tactic(auto, unfolding(crate::specs::Steps::step_lists))]
 pub fn supplement_of(
     alloc: Global,
     entries: &Entries<'_>,
@@ -201,22 +193,7 @@ pub fn supplement_of(
     ensures { IfOk result (PacksSteps entries.now) }
 {
     let steps = stored_steps(alloc, entries)?;
-    supplement_with(alloc, entries, told, steps.as_slice())
-}
-
-/// The supplement with these steps in its table.
-#[tactic(auto, unfolding(crate::specs::Steps::step_lists))]
-fn supplement_with(
-    alloc: Global,
-    entries: &Entries<'_>,
-    told: &[char],
-    steps: &[[char; 2]],
-) -> Result<NonRecursiveDecompositionSupplement, AllocError>
-    requires told { (pairs : List Pair) × ListsTold entries.now pairs told.now }
-    requires steps { steps.now ≡ stored_steps entries.now }
-    ensures { IfOk result (PacksSteps entries.now) }
-{
-    let store = store_of(alloc, steps)?;
+    let store = store_of(alloc, steps.as_slice())?;
     supplement_in(alloc, StepWords { entries, store }, told)
 }
 

@@ -111,6 +111,7 @@ fn fits_units(list: &[char]) -> bool
 }
 
 /// Puts a list behind a table of 16-bit numbers, and answers its place.
+#[tactic(auto, using(crate::proofs::StoreLemmas::narrow_member))]
 fn append_narrow(units: &mut Vec<u16>, list: &[char]) -> Result<usize, AllocError>
     requires { is_narrow list.now ≡ true }
     ensures place { IfOk result (λ n. n ≡ length units.old.items) }

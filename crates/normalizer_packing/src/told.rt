@@ -35,21 +35,9 @@ fn unsorted_characters(
 ) -> Result<Vec<char>, AllocError>
     ensures { IfOk result (λ v. v.items ≡ told_numbers entries.now pairs.now) }
 {
-    let mut told = characters_of(alloc, entries)?;
-    let seconds = seconds_of(alloc, pairs)?;
+    let mut told: Vec<char> = entries.iter().map(|entry| entry.character).collect(alloc)?;
+    let seconds: Vec<char> = pairs.iter().map(|pair| pair.0).collect(alloc)?;
     told.extend_from_slice(&seconds)?;
     told.extend_from_slice(&EDGES)?;
     Ok(told)
-}
-
-fn characters_of(alloc: Global, entries: &[Entry]) -> Result<Vec<char>, AllocError>
-    ensures { IfOk result (λ v. v.items ≡ map (λ e. e.character) entries.now) }
-{
-    entries.iter().map(|entry| entry.character).collect(alloc)
-}
-
-fn seconds_of(alloc: Global, pairs: &[(char, char, char)]) -> Result<Vec<char>, AllocError>
-    ensures { IfOk result (λ v. v.items ≡ map (λ p. p.0) pairs.now) }
-{
-    pairs.iter().map(|pair| pair.0).collect(alloc)
 }

@@ -1,11 +1,7 @@
-use Rattle.std.proofs.Common.{◌≡◌, arith, refl}
+use Rattle.std.proofs.Common.{arith, refl}
 use Rattle.normalizer_tables.specs.Table.{code_points}
 use Rattle.normalizer_packing.proofs.Tilings.{CoverUpTo-start, CoverWords-all, HasPassed-next, HasPassed-start, IsStretch-untold, untold-behind, untold-between}
 use Rattle.normalizer_packing.proofs.ranges.ranges_of.Goals as goal
-
-all_numbers : 0x110000 ≡ code_points
-unfolding code_points
-all_numbers = refl
 
 pub loop-character-init : goal.loop-character-init
 loop-character-init g c = rw c.new-ranges.ensures.items (CoverUpTo-start _, HasPassed-start _, omega arith)
@@ -25,15 +21,10 @@ loop-character-preserved g c = (
   omega (arith, c.in_ok-push_up_to.ensures.within),
 )
 
-pub push_stretch-requires-clause-within : goal.push_stretch-requires-clause-within
-push_stretch-requires-clause-within g c = omega (arith, all_numbers)
-
-pub push_stretch-requires-clause-ordered : goal.push_stretch-requires-clause-ordered
-push_stretch-requires-clause-ordered g c = omega (arith, all_numbers, c.loop-character.invariant.2)
-
 pub push_stretch-requires-clause-alike : goal.push_stretch-requires-clause-alike
 push_stretch-requires-clause-alike g c =
     IsStretch-untold _ c.args.told.now _ _ c.requires.alike (untold-behind c.args.told.now c.requires.rising _ _ c.loop-character.invariant.1 (omega (arith, c.loop-character-test.false)) 0x110000)
 
 pub returns : goal.returns
-returns g c = CoverWords-all _ _ _ (c.in_ok-push_stretch.ensures c.loop-character.invariant.0) all_numbers
+unfolding code_points
+returns g c = CoverWords-all _ _ _ (c.in_ok-push_stretch.ensures c.loop-character.invariant.0) refl

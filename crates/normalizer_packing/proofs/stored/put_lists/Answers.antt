@@ -2,7 +2,7 @@ use Rattle.std.proofs.Common.{◌++◌, List, ℕ, subst, sym, append_assoc}
 use Rattle.std.proofs.lemmas.List.{append-nil}
 use Rattle.normalizer_packing.specs.Stored.{apart_from, first_come}
 use Rattle.normalizer_packing.specs.inner.Stores.{Holds}
-use Rattle.normalizer_packing.proofs.StoreLemmas.{listed_so_far, listed_so_far-none, listed_so_far-some, listed_so_far-other, listed_so_far-all}
+use Rattle.normalizer_packing.proofs.StoreLemmas.{listed_so_far, listed_so_far-none, listed_so_far-more, listed_so_far-all}
 use Rattle.normalizer_packing.proofs.stored.put_lists.Goals as goal
 use Rattle.normalizer_packing.proofs.stored.put_lists.Goals.{in-Some+in_ok-put_behind, in_default}
 
@@ -12,16 +12,12 @@ loop-entry-init c = λ before lists first h. rw (listed_so_far-none c.args.kind 
 pub loop-entry-preserved : goal.loop-entry-preserved
 loop-entry-preserved c = λ before lists first h.
     let so_far = c.loop-entry.invariant before lists first h in
+    let more = listed_so_far-more c.args.kind c.args.entries.now _ c.loop-entry.entry-index c.as_slice-entry-items.ensures c.entry-item.result c.loop-entry-test.true c.entry-item.is in
     elim c.match-listed_of.branch [
       | in-Some+in_ok-put_behind w ↦
-          let more = w.in_ok-put_behind.ensures before (lists ++ listed_so_far c.args.kind c.args.entries.now c.loop-entry.entry-index) first so_far in
-          let some = listed_so_far-some c.args.kind c.args.entries.now _ c.loop-entry.entry-index c.as_slice-entry-items.ensures c.entry-item.result w.in-Some.list.now c.loop-entry-test.true
-          c.entry-item.is (sym w.in-Some.ensures) in
-          rw (w.store-is, some) (subst (λ (l : List (List ℕ)). Holds (apart_from before (first_come l)) w.put_behind.new.store) (append_assoc lists _ _) more)
-      | in_default w ↦
-          let other = listed_so_far-other c.args.kind c.args.entries.now _ c.loop-entry.entry-index c.as_slice-entry-items.ensures c.entry-item.result c.loop-entry-test.true c.entry-item.is
-          (sym w.in_default.ensures) in
-          rw (w.store-is, other) so_far
+          let put = w.in_ok-put_behind.ensures before (lists ++ listed_so_far c.args.kind c.args.entries.now c.loop-entry.entry-index) first so_far in
+          rw (w.store-is, more, sym w.in-Some.ensures) (subst (λ (l : List (List ℕ)). Holds (apart_from before (first_come l)) w.put_behind.new.store) (append_assoc lists _ _) put)
+      | in_default w ↦ rw (w.store-is, more, sym w.in_default.ensures, append-nil) so_far
     ]
 
 pub returns : goal.returns
