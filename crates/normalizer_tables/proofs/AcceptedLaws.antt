@@ -75,8 +75,8 @@ HasScalarResults-faithful d faithful inhabited alone = record {
 list_of-elsewhere : (s : Characters) (ignored : List ℕ) (n : ℕ) → scalar n ≡ false → list_of s ignored n ≡ n ∷ []
 list_of-elsewhere s ignored n other = list_of-default s ignored n (list_read-elsewhere s ignored n other)
 
-pub HasScalarResults-pairs : (s : Characters) (ignored : List ℕ) (pairs : List Pair) → All (λ p. IsScalar p.2) pairs → HasScalarResults (reading_of s ignored (pair_of pairs))
-HasScalarResults-pairs s ignored pairs scalars = record {
+pub scalar_results : (s : Characters) (ignored : List ℕ) (pairs : List Pair) → All (λ p. IsScalar p.2) pairs → HasScalarResults (reading_of s ignored (pair_of pairs))
+scalar_results s ignored pairs scalars = record {
   scalars = λ a c r first second joins. elim (pair_of-some pairs a c r joins) as (λ _. scalar r ≡ true) [
     | inl by_hangul ↦ elim (compose_hangul-some a c r by_hangul) as (λ _. scalar r ≡ true) [
       | inl h ↦ low_scalar r (omega arith)
@@ -93,7 +93,7 @@ SuitsTexts-sound s b plain sound = record {
   laws = HasFullLists-sound s b sound Dropped (pair_of []);
   inhabited = HasInhabitedLists-reading_of s Dropped (pair_of []) (inl plain);
   texts = HasTextLists-sound s b sound Dropped (pair_of []);
-  scalars = HasScalarResults-pairs s [] [] (All-nil (λ (p : Pair). IsScalar p.2));
+  scalars = scalar_results s [] [] (All-nil (λ (p : Pair). IsScalar p.2));
 }
 
 pub SuitsTexts-accepted : (s : Characters) (b : Bounds) → s.is_mapper ≡ false → IsAccepted s b → SuitsTexts (reading_by s Dropped []) Decomposing

@@ -1,5 +1,6 @@
 -- The words of a table in blocks.
-use Rattle.std.proofs.Common.{add-one, All, AllPairs, ltb, nat_eq, ◌≡◌, ◌≢◌, ℕ, ◌+◌, ◌*◌, ◌/◌, ◌%◌, ◌<◌, ◌≤◌, List, [], ◌∷◌, ◌++◌, length, get_or, map, replicate, Bool, None, refl, inl, inr, arith, ap, sym, subst, ◌∙◌, zero, suc, zero-add}
+use Rattle.std.proofs.Common.{add-one, All, AllPairs, ltb, nat_eq, ◌≡◌, ◌≢◌, ℕ, ◌+◌, ◌*◌, ◌/◌, ◌%◌, ◌<◌, ◌≤◌, List, [], ◌∷◌, ◌++◌, length, get_or}
+use Rattle.std.proofs.Common.{map, replicate, Bool, None, refl, inl, inr, arith, ap, sym, subst, ◌∙◌, zero, suc, zero-add}
 use Rattle.std.specs.List.{range_with_len, position, position_or_len}
 use Rattle.std.proofs.lemmas.Grind.{common_steps}
 use Rattle.std.proofs.lemmas.List.Sums.{fails_before_first, passes_at_first, prefix_len-le-length}
@@ -55,7 +56,8 @@ IsFirstFrom-gap rs n m at h first later r within is gap =
 pub range_block-from_words : (rs : List WordRange) (start : ℕ) (block : Block) → length block ≡ 64 → ((k : ℕ) → k < 64 → get_or block k 0 ≡ word_in rs (start + k)) → block ≡ range_block rs start
 unfolding range_block
 range_block-from_words rs start block long words =
-    ext_get_or 0 block _ (long ∙ sym (length-map-range_with_len (word_in rs) start 64)) (λ k below. words k (omega arith) ∙ sym (get_or-map-range_with_len (word_in rs) start 64 k (start + k) 0 (omega arith) refl))
+    ext_get_or 0 block _ (long ∙ sym (length-map-range_with_len (word_in rs) start 64))
+        (λ k below. words k (omega arith) ∙ sym (get_or-map-range_with_len (word_in rs) start 64 k (start + k) 0 (omega arith) refl))
 
 pub length-stored_words : (blocks : List Block) (numbers : List ℕ) → length (stored_words blocks numbers) ≡ code_points
 unfolding stored_words

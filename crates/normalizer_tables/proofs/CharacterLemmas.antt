@@ -20,3 +20,6 @@ list_of-reads s ignored n x e = ap (λ o. unwrap_or o (n ∷ [])) e
 pub list_of-default : (s : Characters) (ignored : List ℕ) (n : ℕ) → list_read s ignored n ≡ None → list_of s ignored n ≡ n ∷ []
 unfolding list_of
 list_of-default s ignored n e = ap (λ o. unwrap_or o (n ∷ [])) e
+
+-- what scalar values have
+pub ruleset of_scalars = (list_read-scalar, class_of-scalar)

@@ -1,14 +1,13 @@
 -- Words that are 0, flags aside, have sound classes.
-use Rattle.std.proofs.Common.{◌≡◌, ℕ, ◌+◌, ◌<◌, ◌≤◌, inl, inr, true, Some, None, arith}
+use Rattle.std.proofs.Common.{◌≡◌, ℕ, ◌+◌, ◌<◌, ◌≤◌, inl, inr, sym, subst, true, Some, None, arith}
 use Rattle.std.specs.Char.{IsScalar}
-use Rattle.std.proofs.lemmas.Bool.{cases_lt}
+use Rattle.std.proofs.lemmas.Bool.{cases_lt, cases_order}
 use Rattle.normalizer_tables.specs.ClassConditions.{IsSoundClass}
 use Rattle.normalizer_tables.specs.Table.{Table, IsNextWithWord, HaveNoWord, code_points, without_flags, word_at}
 use Rattle.normalizer_tables.specs.Words.{is_plain}
 use Rattle.normalizer_tables.proofs.ConditionLemmas.{IsSoundClassForm-none, plain-no_class_form}
 use Rattle.normalizer_tables.proofs.NextWords.{is_plain-true}
 use Rattle.normalizer_tables.proofs.PairConditionLemmas.{scalar_below}
-use Rattle.normalizer_tables.proofs.WalkLemmas.{up_to_next}
 
 IsSoundClass-plain : (n w : ℕ) → is_plain w ≡ true → IsSoundClass n w
 IsSoundClass-plain n w plain = (let form = IsSoundClassForm-none n w (plain-no_class_form w plain) in record { ordinary = form.ordinary; special = form.special })
@@ -40,10 +39,16 @@ module _ (t : Table) (from : ℕ) (before : HaveSoundClasses t from) where
   -- up to the next that has a word, and with it
   pub sound_to_next : (number : ℕ) → IsNextWithWord t 0xC0000000 from (Some number) → HasSoundClass t number → HaveSoundClasses t (number + 1)
   unfolding IsNextWithWord HaveNoWord HaveSoundClasses
-  sound_to_next number next here = λ n below.
-      up_to_next (HasSoundClass t) 0 number (λ m low high. no_word-sound m (λ behind. next.3 m behind high)) here n (omega arith) below
+  sound_to_next number next here = λ n below. elim (cases_order n number) [
+    | inl same ↦ subst (HasSoundClass t) (sym same) here
+    | inr (inl before) ↦ no_word-sound n (λ behind. next.3 n behind before)
+    | inr (inr behind) ↦ absurd (omega arith)
+  ]
 
   -- all, where none has
   pub sound_to_end : IsNextWithWord t 0xC0000000 from None → (n : ℕ) → HasSoundClass t n
   unfolding IsNextWithWord HaveNoWord HasSoundClass code_points
   sound_to_end none n = λ character. no_word-sound n (λ behind. none n behind (scalar_below n character)) character
+
+-- what the function over all words cites
+pub ruleset classes = (HaveSoundClasses-none, sound_to_next, sound_to_end)

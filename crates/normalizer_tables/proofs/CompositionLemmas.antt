@@ -1,10 +1,10 @@
 -- When a list composes to one character.
-use Rattle.std.proofs.Common.{◌≡◌, suc, add-one, drop-cons, ◌≢◌, subst, ℕ, ◌+◌, ◌≤◌, List, [], ◌∷◌, length, drop, Option, Some, None, slice_get, sym, ap, ◌∙◌, arith}
+use Rattle.std.proofs.Common.{◌≡◌, ◌≢◌, subst, ℕ, ◌+◌, ◌≤◌, List, [], ◌∷◌, length, drop, Option, Some, None, slice_get, sym, ap, ◌∙◌, arith}
 use Rattle.std.proofs.lemmas.List.{drop_all}
-use Rattle.std.proofs.lemmas.Option.{slice_get_within, get_or_from_slice_get}
 use Rattle.normal_forms.specs.Reading.{Reading, IsStarter}
 use Rattle.normal_forms.specs.Composition.{joined, visit, compose_from, compose}
 use Rattle.normal_forms.specs.Boundary.{BeginsSafely}
+use Rattle.normalizer_tables.proofs.ListedLemmas.{drop_member}
 
 -- a visit takes nothing from the working list
 length-visit : (d : Reading) (w : List ℕ) (c : ℕ) → length w ≤ length (visit d w c)
@@ -33,10 +33,7 @@ visit-joined d a c next h = rw (h, visit)
 -- the character at a place is visited
 visited : (d : Reading) (w text : List ℕ) (place c : ℕ) → slice_get text place ≡ Some c → compose_from d (visit d w c) (drop (place + 1) text) ≡ compose_from d w (drop place text)
 unfolding compose_from
-visited d w text place c h =
-    let here : drop place text ≡ c ∷ drop (place + 1) text =
-    rw add-one (drop-cons text place 0 (slice_get_within text place c h) ∙ ap (λ m. m ∷ drop (suc place) text) (get_or_from_slice_get text place c 0 h)) in
-    sym (ap (compose_from d w) here)
+visited d w text place c h = sym (ap (compose_from d w) (drop_member text place c h))
 
 -- a list composes from its first character on
 pub compose-first : (d : Reading) (text : List ℕ) (first : ℕ) → slice_get text 0 ≡ Some first → compose_from d (first ∷ []) (drop 1 text) ≡ compose d text
@@ -78,3 +75,6 @@ first_of_safe_beginning d [] first h safe = cc
 first_of_safe_beginning d (c ∷ x) first h safe =
     let same : c ≡ first = cc in
     (subst (λ (m : ℕ). IsStarter d m) same safe.0, λ a. subst (λ (m : ℕ). d.pair a m ≡ None) same (safe.1 a))
+
+-- what the function that composes a list cites
+pub ruleset compositions = (compose-first, compose-empty, compose_from-joined, compose_from-kept, compose_from-end)

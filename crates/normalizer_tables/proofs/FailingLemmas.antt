@@ -29,3 +29,6 @@ IsFirstFailing-next P c cs (Some d) holds others = (c ∷ others.0, others.1, ap
 pub IsFirstFailing-none : {C : Type 0} (P : C → Type 0) → IsFirstFailing P [] None
 unfolding IsFirstFailing
 IsFirstFailing-none P = All-nil P
+
+-- what a function that asks one condition after another cites
+pub ruleset failing = (IsFirstFailing-here, IsFirstFailing-next, IsFirstFailing-none)

@@ -1,5 +1,6 @@
 -- Which characters make Hangul syllables.
-use Rattle.std.proofs.Common.{Option, ◌<◌, ◌⊎◌, inl, inr, ◌/◌, ◌%◌, ◌≢◌, [], ◌∷◌, ap, ap₂, ◌&&◌, ne_eqb, eq-eqb, ◌≡◌, ℕ, ◌+◌, ◌-◌, ◌*◌, ◌≤◌, arith, refl, true, not, IsTrue, ◌↔◌, Some, None, ◌∙◌, leb-true}
+use Rattle.std.proofs.Common.{Option, ◌<◌, ◌⊎◌, inl, inr, ◌/◌, ◌%◌, ◌≢◌, [], ◌∷◌, ap, ap₂, ◌&&◌, ne_eqb, eq-eqb, ◌≡◌, ℕ, ◌+◌, ◌-◌, ◌*◌, ◌≤◌, arith}
+use Rattle.std.proofs.Common.{refl, true, not, IsTrue, ◌↔◌, Some, None, ◌∙◌, leb-true}
 use Rattle.std.proofs.lemmas.Bool.Decides.{nat_tests}
 use Rattle.std.proofs.lemmas.Bool.{cases_Bool, and_parts, and_from, le-leb, cond-true}
 use Rattle.std.proofs.Math.Utf8.{low_scalar}

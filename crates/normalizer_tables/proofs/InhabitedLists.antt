@@ -1,8 +1,11 @@
 -- No list that a word reads to is empty, but for the ignored marker.
-use Rattle.std.proofs.Common.{◌≡◌, ◌≢◌, ℕ, ◌+◌, ◌-◌, ◌/◌, ◌%◌, ◌<◌, ◌≤◌, ◌⊎◌, inl, inr, Bool, true, false, not, ◌&&◌, ◌==◌, nat_lt, nat_le, bit_and, List, [], ◌∷◌, length, take, drop, Option, Some, None, unwrap_or, if◌then◌else◌, refl, ap, sym, ◌∙◌, subst, length-drop, arith}
+use Rattle.std.proofs.Common.{◌≡◌, ◌≢◌, ℕ, ◌+◌, ◌-◌, ◌/◌, ◌%◌, ◌<◌, ◌≤◌, ◌⊎◌, inl, inr, true, false, not, ◌&&◌, ◌==◌, nat_lt, nat_le, bit_and, List}
+use Rattle.std.proofs.Common.{[], ◌∷◌, length, take, drop, Option, Some, None, unwrap_or, if◌then◌else◌, refl, ap, sym, ◌∙◌, subst, length-drop}
+use Rattle.std.proofs.Common.{arith}
 use Rattle.std.specs.Option.{option_map, option_and_then}
 use Rattle.std.specs.List.{list_all}
 use lib.Utf8.{scalar}
+use Rattle.std.proofs.lemmas.Bool.{cond_both}
 use Rattle.std.proofs.lemmas.Bool.Decides.{nat_tests}
 use Rattle.std.proofs.lemmas.List.{length-take-le}
 use Rattle.normal_forms.specs.Hypotheses.{HasInhabitedLists}
@@ -19,68 +22,68 @@ use Rattle.normalizer_tables.proofs.WordLemmas.{if-second}
 use Rattle.normalizer_tables.proofs.SoundLists.{list_read-elsewhere}
 use Rattle.normalizer_tables.specs.Readings.{reading_of}
 
+some_same : {x : List ℕ} → Some x ≡ Some [] → x ≡ []
+some_same e = cc
+
 as_text-inhabited : (c : ℕ) (x : List ℕ) → as_text (c ∷ x) ≢ Some []
 unfolding as_text
-as_text-inhabited c x =
-    elim (list_all scalar (c ∷ x)) as (λ b. (if b then Some (c ∷ x) else None) ≢ Some []) [
-      | true ↦ λ e. cc
-      | false ↦ λ e. cc
-    ]
+as_text-inhabited c x = cond_both (list_all scalar (c ∷ x)) _ _ (λ o. o ≢ Some []) (λ _ e. cc) (λ _ e. cc)
 
 hangul-inhabited : (n : ℕ) → as_text (hangul_decomposition n) ≢ Some []
 unfolding hangul_decomposition
 hangul-inhabited n =
-    let index = n - s_base in
-    elim (index % t_count == 0) as (λ b. as_text (if b then (l_base + index / n_count) ∷ (v_base + index % n_count / t_count) ∷ [] else (l_base + index / n_count) ∷ (v_base + index % n_count / t_count) ∷ (t_base + index % t_count) ∷ []) ≢ Some []) [
-      | true ↦ as_text-inhabited _ _
-      | false ↦ as_text-inhabited _ _
-    ]
+    let l = l_base + (n - s_base) / n_count in
+    let v = v_base + (n - s_base) % n_count / t_count in
+    let t = t_base + (n - s_base) % t_count in
+    cond_both ((n - s_base) % t_count == 0) (l ∷ v ∷ []) (l ∷ v ∷ t ∷ []) (λ x. as_text x ≢ Some []) (λ _. as_text-inhabited l (v ∷ [])) (λ _. as_text-inhabited l (v ∷ t ∷ []))
 
--- the fixed list, where there is one, isn't empty
-record IsInhabited (o : Option FixedList) : Type 0 where
+-- a fixed list begins with another character
+pub record IsOther (n : ℕ) (o : Option FixedList) : Type 0 where
   inhabited : option_map (λ f. f.list) o ≢ Some []
+  pub other : option_map (λ f. f.list) o ≢ Some (n ∷ [])
 
-if-inhabited : (b : Bool) (c : ℕ) (x : List ℕ) (k : ℕ) (ks : List ℕ) (o : Option FixedList) → IsInhabited o → IsInhabited (if b then fixed (c ∷ x) k ks else o)
-if-inhabited true c x k ks o h = record { inhabited = λ e. cc }
-if-inhabited false c x k ks o h = h
+if-other : (n k c : ℕ) (x : List ℕ) (class : ℕ) (ks : List ℕ) (o : Option FixedList) → (k ≡ c → ⊥) → IsOther n o → IsOther n (if n == k then fixed (c ∷ x) class ks else o)
+if-other n k c x class ks o differ h =
+    elim (n == k) as (λ b. (n == k) ≡ b → IsOther n (if b then fixed (c ∷ x) class ks else o)) [
+      | true ↦ λ q. record {
+        inhabited = λ e. cc;
+        other = λ e.
+            let is : n ≡ k = grind (arith, nat_tests) in
+            let lists : Some (c ∷ x) ≡ Some (n ∷ []) = e in
+            let first : c ≡ n = cc in
+            differ (sym (first ∙ is));
+      }
+      | false ↦ λ q. h
+    ] refl
 
-no_list : IsInhabited None
-no_list = record { inhabited = λ e. cc }
-
-IsInhabited-fixed_list_of : (n : ℕ) → IsInhabited (fixed_list_of n)
+pub fixed_list_of-other : (n : ℕ) → IsOther n (fixed_list_of n)
 unfolding fixed_list_of
-IsInhabited-fixed_list_of n =
-    if-inhabited (n == 0x0340) 0x0300 [] 230 (230 ∷ []) _
-    (if-inhabited (n == 0x0341) 0x0301 [] 230 (230 ∷ []) _
-    (if-inhabited (n == 0x0343) 0x0313 [] 230 (230 ∷ []) _
-    (if-inhabited (n == 0x0344) 0x0308 (0x0301 ∷ []) 230 (230 ∷ 230 ∷ []) _
-    (if-inhabited (n == 0x0F73) 0x0F71 (0x0F72 ∷ []) 0 (129 ∷ 130 ∷ []) _
-    (if-inhabited (n == 0x0F75) 0x0F71 (0x0F74 ∷ []) 0 (129 ∷ 132 ∷ []) _
-    (if-inhabited (n == 0x0F81) 0x0F71 (0x0F80 ∷ []) 0 (129 ∷ 130 ∷ []) _
-    (if-inhabited (n == 0xFF9E) 0x3099 [] 0 (8 ∷ []) _
-    (if-inhabited (n == 0xFF9F) 0x309A [] 0 (8 ∷ []) _
-    no_list))))))))
+fixed_list_of-other n =
+    if-other n 0x0340 0x0300 [] 230 (230 ∷ []) _ (λ e. omega arith)
+    (if-other n 0x0341 0x0301 [] 230 (230 ∷ []) _ (λ e. omega arith)
+    (if-other n 0x0343 0x0313 [] 230 (230 ∷ []) _ (λ e. omega arith)
+    (if-other n 0x0344 0x0308 (0x0301 ∷ []) 230 (230 ∷ 230 ∷ []) _ (λ e. omega arith)
+    (if-other n 0x0F73 0x0F71 (0x0F72 ∷ []) 0 (129 ∷ 130 ∷ []) _ (λ e. omega arith)
+    (if-other n 0x0F75 0x0F71 (0x0F74 ∷ []) 0 (129 ∷ 132 ∷ []) _ (λ e. omega arith)
+    (if-other n 0x0F81 0x0F71 (0x0F80 ∷ []) 0 (129 ∷ 130 ∷ []) _ (λ e. omega arith)
+    (if-other n 0xFF9E 0x3099 [] 0 (8 ∷ []) _ (λ e. omega arith)
+    (if-other n 0xFF9F 0x309A [] 0 (8 ∷ []) _ (λ e. omega arith)
+    (record { inhabited = λ e. cc; other = λ e. cc })))))))))
 
 items_at-inhabited : (table : List ℕ) (place n : ℕ) → 0 < n → items_at table place n ≢ Some []
 unfolding items_at
-items_at-inhabited table place n h =
-    elim (nat_le (place + n) (length table)) as (λ b. nat_le (place + n) (length table) ≡ b → (if b then Some (take n (drop place table)) else None) ≢ Some []) [
-      | true ↦ λ q e.
-          (let fits : place + n ≤ length table = grind (arith, nat_tests) in
-          let many : n ≤ length (drop place table) = simp length-drop (omega arith) in
-          let none : take n (drop place table) ≡ [] = cc in
-          let some : length (take n (drop place table)) ≡ n = length-take-le n (drop place table) many in
-          let nothing : length (take n (drop place table)) ≡ 0 = ap length none in
-          omega arith)
-      | false ↦ λ q e. cc
-    ] refl
+items_at-inhabited table place n h = cond_both (nat_le (place + n) (length table)) _ _ (λ o. o ≢ Some []) (λ q e.
+    let fits : place + n ≤ length table = grind (arith, nat_tests) in
+    let many : n ≤ length (drop place table) = simp length-drop (omega arith) in
+    let nothing : length (take n (drop place table)) ≡ 0 = ap length (some_same e) in
+    absurd (omega (arith, length-take-le n (drop place table) many, nothing))) (λ q e. cc)
 
 narrow_at-inhabited : (units : List ℕ) (low place : ℕ) → narrow_at units low place ≢ Some []
 unfolding narrow_at as_text
 narrow_at-inhabited units low place =
     elim (items_at units place (low + 2)) as (λ o. o ≢ Some [] → option_and_then as_text o ≢ Some []) [
       | None ↦ λ h e. cc
-      | Some x ↦ λ h. elim (list_all scalar x) as (λ b. (if b then Some x else None) ≢ Some []) [ true ↦ h | false ↦ λ e. cc ]
+      | Some x ↦ λ h. cond_both (list_all scalar x) _ _ (λ o. o ≢ Some []) (λ _. h) (λ _ e. cc)
     ] (items_at-inhabited units place (low + 2) (omega arith))
 
 wide_at-inhabited : (scalars : List ℕ) (low place : ℕ) → wide_at scalars low place ≢ Some []
@@ -89,11 +92,7 @@ wide_at-inhabited scalars low place = items_at-inhabited scalars place (low + 1)
 
 placed_in-inhabited : (table : List ℕ) (gives after : ℕ → Option (List ℕ)) → ((k : ℕ) → gives k ≢ Some []) → ((k : ℕ) → after k ≢ Some []) → (item : ℕ) → placed_in table gives after item ≢ Some []
 unfolding placed_in
-placed_in-inhabited table gives after h k item =
-    elim (nat_lt item (length table)) as (λ b. (if b then gives item else after (item - length table)) ≢ Some []) [
-      | true ↦ h item
-      | false ↦ k (item - length table)
-    ]
+placed_in-inhabited table gives after h k item = cond_both (nat_lt item (length table)) _ _ (λ o. o ≢ Some []) (λ _. h item) (λ _. k (item - length table))
 
 listed_in-inhabited : (t : Lists) (low : ℕ) (after : ℕ → Option (List ℕ)) → ((k : ℕ) → after k ≢ Some []) → (item : ℕ) → listed_in t low after item ≢ Some []
 unfolding listed_in
@@ -111,7 +110,7 @@ unfolding named_list fdfa_list
 named_list-inhabited s ignored n Ignored h = absurd (h refl)
 named_list-inhabited s ignored n Itself h = λ e. cc
 named_list-inhabited s ignored n (ClassForm k) h = λ e. cc
-named_list-inhabited s ignored n (SpecialForm k) h = (IsInhabited-fixed_list_of n).inhabited
+named_list-inhabited s ignored n (SpecialForm k) h = (fixed_list_of-other n).inhabited
 named_list-inhabited s ignored n (TwoCharacters a b) h = as_text-inhabited a (b ∷ [])
 named_list-inhabited s ignored n HangulSyllable h = hangul-inhabited n
 named_list-inhabited s ignored n Fdfa h = λ e. cc
@@ -144,17 +143,7 @@ treatment-inhabited s i n (inr h) r = subst (λ j. ignored_list j ≢ []) (sym h
 
 marked : (r : WordReading) → (r ≡ Ignored) ⊎ (r ≢ Ignored)
 marked Ignored = inl refl
-marked Itself = inr (λ e. cc)
-marked (ClassForm k) = inr (λ e. cc)
-marked (SpecialForm k) = inr (λ e. cc)
-marked (TwoCharacters a b) = inr (λ e. cc)
-marked HangulSyllable = inr (λ e. cc)
-marked Fdfa = inr (λ e. cc)
-marked (OneCharacter a) = inr (λ e. cc)
-marked (Listed item low marks) = inr (λ e. cc)
-
-some_same : {x : List ℕ} → Some x ≡ Some [] → x ≡ []
-some_same e = cc
+marked _ = inr (λ e. cc)
 
 list_read-inhabited : (s : Characters) (i : IgnoredCharacters) (n : ℕ) → (s.is_mapper ≡ false) ⊎ (i ≡ Replaced) → list_read s (ignored_list i) n ≢ Some []
 unfolding named_list
@@ -177,3 +166,6 @@ HasInhabitedLists-reading_of s i pairing h = record {
     | Some x ↦ λ q e. q (ap Some e)
   ] (list_read-inhabited s i c h);
 }
+
+-- what the law of inhabited lists says
+pub ruleset inhabited_lists = (HasInhabitedLists-reading_of)

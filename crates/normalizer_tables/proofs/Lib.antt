@@ -33,9 +33,7 @@ pub mod RowLemmas
 pub mod RowLookUps
 pub mod SoundLists
 pub mod StepConditionLemmas
-pub mod StepLemmas
 pub mod StoredParts
-pub mod SurrogateLemmas
 pub mod Tables
 pub mod SyllableLemmas
 pub mod TextLemmas

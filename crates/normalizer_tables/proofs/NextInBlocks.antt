@@ -37,14 +37,16 @@ module _ (blocks : List Block) (numbers : List ℕ) (flags from place : ℕ) (lo
       get_or-stored_words blocks numbers n (within-code_points place n low below) ∙ ap₂ (λ p j. get_or (block_at blocks numbers p) j 0) at offset ∙ ap (λ b. get_or b (n - place * 64) 0) (sym is)
 
   -- a place whose block has none is passed
-  pub HasNoWordTo-more : HasNoWordTo blocks numbers flags from (place * 64) → ((j : ℕ) → from - place * 64 ≤ j → j < 64 → without_flags flags (get_or block j 0) ≡ 0) → HasNoWordTo blocks numbers flags from ((place + 1) * 64)
+  pub HasNoWordTo-more : HasNoWordTo blocks numbers flags from (place * 64) → ((j : ℕ) → from - place * 64 ≤ j → j < 64 → without_flags flags (get_or block j 0) ≡ 0)
+      → HasNoWordTo blocks numbers flags from ((place + 1) * 64)
   HasNoWordTo-more none here n on below = elim (cases_lt n (place * 64)) [
     | inl before ↦ none n on before
     | inr after ↦ ap (without_flags flags) (word-in_place n after (omega arith)) ∙ here (n - place * 64) (omega arith) (omega arith)
   ]
 
   -- the first place of its block that has one is the next
-  pub next-found : (above j : ℕ) → HasNoWordTo blocks numbers flags from (place * 64) → IsNextInBlock block flags (from - place * 64) (Some j) → IsNextWithWord (record { words = stored_words blocks numbers; past = above }) flags from (Some (place * 64 + j))
+  pub next-found : (above j : ℕ) → HasNoWordTo blocks numbers flags from (place * 64) → IsNextInBlock block flags (from - place * 64) (Some j)
+      → IsNextWithWord (record { words = stored_words blocks numbers; past = above }) flags from (Some (place * 64 + j))
   unfolding IsNextWithWord HaveNoWord IsNextInBlock word_at
   next-found above j none found =
       let within : place * 64 + j < code_points = within-code_points place _ low (omega (arith, found.1)) in
@@ -53,7 +55,8 @@ module _ (blocks : List Block) (numbers : List ℕ) (flags from place : ℕ) (lo
       let offset : place * 64 + j - place * 64 ≡ j = omega arith in (
         omega (arith, found.0),
         within,
-        λ zero. found.2 (ap (λ k. without_flags flags (get_or block k 0)) (sym offset) ∙ sym (ap (without_flags flags) (same _ within ∙ word-in_place (place * 64 + j) (omega arith) (omega (arith, found.1)))) ∙ zero),
+        λ zero. found.2 (ap (λ k. without_flags flags (get_or block k 0)) (sym offset)
+            ∙ sym (ap (without_flags flags) (same _ within ∙ word-in_place (place * 64 + j) (omega arith) (omega (arith, found.1)))) ∙ zero),
         λ m on below. ap (without_flags flags) (same m (omega arith)) ∙ elim (cases_lt m (place * 64)) [
           | inl before ↦ none m on before
           | inr after ↦ ap (without_flags flags) (word-in_place m after (omega (arith, found.1))) ∙ found.3 (m - place * 64) (omega arith) (omega arith)
@@ -61,7 +64,8 @@ module _ (blocks : List Block) (numbers : List ℕ) (flags from place : ℕ) (lo
       )
 
 -- where all places are passed there is none
-pub next-none : (blocks : List Block) (numbers : List ℕ) (flags from place above : ℕ) → block_places ≤ place → HasNoWordTo blocks numbers flags from (place * 64) → IsNextWithWord (record { words = stored_words blocks numbers; past = above }) flags from None
+pub next-none : (blocks : List Block) (numbers : List ℕ) (flags from place above : ℕ) → block_places ≤ place → HasNoWordTo blocks numbers flags from (place * 64)
+    → IsNextWithWord (record { words = stored_words blocks numbers; past = above }) flags from None
 unfolding IsNextWithWord HaveNoWord word_at
 next-none blocks numbers flags from place above all none n on below =
     ap (without_flags flags) (get_or_default (stored_words blocks numbers) n above 0 (omega (arith, length-stored_words blocks numbers))) ∙ none n on (past-code_points place n all below)

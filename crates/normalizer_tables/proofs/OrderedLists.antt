@@ -1,11 +1,13 @@
 -- Lists in canonical order are those in which no two neighbours are a reorderable pair.
-use Rattle.std.proofs.Common.{◌≡◌, ℕ, suc, ◌+◌, ◌<◌, ◌≤◌, ◌⊎◌, inl, inr, Bool, true, false, not, ◌&&◌, nat_lt, List, [], ◌∷◌, length, drop, Some, slice_get, refl, ap, ◌∙◌, subst, add-one, drop-cons, arith}
+use Rattle.std.proofs.Common.{◌≡◌, ℕ, ◌+◌, ◌<◌, ◌≤◌, ◌⊎◌, inl, inr, Bool, true, false, not, ◌&&◌, nat_lt, List, [], ◌∷◌, length, drop, Some, slice_get, refl, subst, arith}
+use Rattle.std.proofs.lemmas.Bool.{and_parts, not-true}
 use Rattle.std.proofs.lemmas.Bool.Decides.{nat_tests}
 use Rattle.std.proofs.lemmas.List.{drop_all}
-use Rattle.std.proofs.lemmas.Option.{slice_get_within, get_or_from_slice_get}
 use Rattle.normal_forms.specs.Reading.{Reading}
 use Rattle.normal_forms.specs.Order.{is_reorderable, order}
-use Rattle.normal_forms.proofs.OrderLemmas.{IsOrdered, IsOrdered-nil, IsOrdered-cons, IsOrdered-head, IsOrdered-tail, IsOrdered-order, insert-nil, insert-stays, order-nil, order_of_ordered, stands_before}
+use Rattle.normalizer_tables.proofs.ListedLemmas.{drop_member}
+use Rattle.normal_forms.proofs.OrderLemmas.{IsOrdered, IsOrdered-nil, IsOrdered-cons, IsOrdered-head, IsOrdered-tail, IsOrdered-order, insert-nil}
+use Rattle.normal_forms.proofs.OrderLemmas.{insert-stays, order-nil, order_of_ordered, stands_before}
 
 -- a character of class k and one of class j behind it stay as they are
 unfoldable pub keeps_place : ℕ → ℕ → Bool
@@ -16,25 +18,16 @@ unfoldable pub rises_from : (ℕ → ℕ) → ℕ → List ℕ → Bool
 rises_from class k [] = true
 rises_from class k (c ∷ x) = keeps_place k (class c) && rises_from class (class c) x
 
-second_half : (a b : Bool) → (a && b) ≡ true → b ≡ true
-second_half true b h = h
-second_half false b h = cc
-
--- the first character makes no reorderable pair with the next
-kept_first : (a b : Bool) → (not a && b) ≡ true → a ≡ false
-kept_first true b h = cc
-kept_first false b h = refl
-
 ordered-rising : (d : Reading) (c : ℕ) (x : List ℕ) → rises_from d.class (d.class c) x ≡ true → IsOrdered d (c ∷ x)
 unfolding rises_from keeps_place is_reorderable
 ordered-rising d c [] h = IsOrdered-cons d c [] (insert-nil d c) (IsOrdered-nil d)
 ordered-rising d c (e ∷ w) h =
-    IsOrdered-cons d c (e ∷ w) (insert-stays d c e w (kept_first _ _ h)) (ordered-rising d e w (second_half _ _ h))
+    IsOrdered-cons d c (e ∷ w) (insert-stays d c e w (not-true _ (and_parts _ _ h).0)) (ordered-rising d e w (and_parts _ _ h).1)
 
 pub order-rising : (d : Reading) (k : ℕ) (x : List ℕ) → rises_from d.class k x ≡ true → order d x ≡ x
 unfolding rises_from
 order-rising d k [] h = order-nil d
-order-rising d k (c ∷ x) h = order_of_ordered d (c ∷ x) (ordered-rising d c x (second_half _ _ h))
+order-rising d k (c ∷ x) h = order_of_ordered d (c ∷ x) (ordered-rising d c x (and_parts _ _ h).1)
 
 rising-ordered : (d : Reading) (c : ℕ) (x : List ℕ) → IsOrdered d (c ∷ x) → rises_from d.class (d.class c) x ≡ true
 unfolding rises_from keeps_place is_reorderable
@@ -49,16 +42,6 @@ rising-order d [] h = refl
 rising-order d (c ∷ x) h =
     let still : (nat_lt 0 (d.class c) && nat_lt (d.class c) 0) ≡ false = grind (arith, nat_tests) in
     rw still (rising-ordered d c x (subst (IsOrdered d) h (IsOrdered-order d (c ∷ x))))
-
-pub order-one : (d : Reading) (c : ℕ) → order d (c ∷ []) ≡ c ∷ []
-order-one d c = order_of_ordered d (c ∷ []) (IsOrdered-cons d c [] (insert-nil d c) (IsOrdered-nil d))
-
--- one member further
-drop_member : (x : List ℕ) (place m : ℕ) → slice_get x place ≡ Some m → drop place x ≡ m ∷ drop (place + 1) x
-drop_member x place m h =
-    let within = slice_get_within x place m h in
-    let member = get_or_from_slice_get x place m 0 h in
-    rw add-one (drop-cons x place 0 within ∙ ap (λ n. n ∷ drop (suc place) x) member)
 
 keeps_place-either : (k j : ℕ) → ((0 < j) × (k ≤ j)) ⊎ (j ≤ 0) → keeps_place k j ≡ true
 unfolding keeps_place

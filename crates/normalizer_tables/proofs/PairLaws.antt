@@ -1,9 +1,11 @@
 -- What data and pairs that meet the conditions give.
-use Rattle.std.proofs.Common.{◌≡◌, ◌≢◌, ℕ, ◌+◌, ◌-◌, ◌/◌, ◌%◌, ◌≤◌, ◌<◌, ◌⊎◌, inl, inr, Bool, true, false, not, ◌&&◌, ◌||◌, List, [], ◌∷◌, ◌++◌, All, Option, Some, refl, sym, ap, ap₂, subst, ◌∙◌, arith}
+use Rattle.std.proofs.Common.{◌≡◌, ◌≢◌, ℕ, ◌+◌, ◌-◌, ◌/◌, ◌%◌, ◌≤◌, ◌<◌, ◌⊎◌, inl, inr, Bool, true, false, not, ◌&&◌, List, [], ◌∷◌, ◌++◌, All}
+use Rattle.std.proofs.Common.{Option, Some, nat_lt, refl, sym, ap, ap₂, subst, ◌∙◌, arith}
 use Rattle.std.specs.Char.{IsScalar}
 use lib.Utf8.{scalar}
 use Rattle.std.proofs.Math.Utf8.{low_scalar}
-use Rattle.std.proofs.lemmas.Bool.{cond_both, and_from, le-leb}
+use Rattle.std.proofs.Math.Bool.{or-true}
+use Rattle.std.proofs.lemmas.Bool.{cond_both, and_from, and_parts, le-leb, or_cases}
 use Rattle.std.proofs.lemmas.Bool.Decides.{nat_tests}
 use Rattle.std.proofs.lemmas.List.{append-nil}
 use Rattle.std.proofs.lemmas.List.Elements.{All-head, All-tail, All-cons, All-nil}
@@ -19,13 +21,16 @@ use Rattle.normalizer_tables.specs.declared.condition.Condition.TheVariants.{Han
 use Rattle.normalizer_tables.specs.declared.condition.Condition.TheVariants.{Pairs, RoundTrip, SafeBeginning}
 use Rattle.normalizer_tables.specs.declared.word.WordReading.TheVariants.{Ignored, HangulSyllable}
 use Rattle.normalizer_tables.specs.Hangul.{is_hangul_syllable, hangul_decomposition}
-use Rattle.normalizer_tables.specs.Words.{is_plain, is_class_form, is_ordinary_class_form, is_special_class_form, has_high_zeros, has_low_zeros, read, read_low}
+use Rattle.normalizer_tables.specs.Words.{is_plain, is_non_round_trip, is_backward_combining, is_class_form, is_ordinary_class_form}
+use Rattle.normalizer_tables.specs.Words.{is_special_class_form, has_high_zeros, has_low_zeros, read, read_low}
 use Rattle.normalizer_tables.specs.Characters.{Characters, word_of, reading_of_word, as_text, named_list, list_of, class_of, has_class_form}
 use Rattle.normalizer_tables.specs.Conditions.{Holds, HoldsAt, IsSoundHangul, IsPlainStarter, is_composing_jamo}
 use Rattle.normalizer_tables.specs.SoundData.{Bounds}
 use Rattle.normalizer_tables.specs.Pairs.{Pair, pair_of, listed_result, is_vowel_or_trailing_jamo}
 use Rattle.normalizer_tables.specs.HangulComposition.{compose_hangul}
-use Rattle.normalizer_tables.specs.PairConditions.{HoldsOfPairs, PairsHoldAt, PairsHoldOverall, IsComposable, RoundTrips, KeepsRoundTrip, KeepsBeginning, HasSafeBeginning, HasOrderedLists, is_passed, is_taken_to_round_trip, is_taken_to_begin_safely}
+use Rattle.normalizer_tables.specs.PairConditions.{HoldsOfPairs, PairsHoldAt, PairsHoldOverall, IsComposable, RoundTrips, KeepsRoundTrip}
+use Rattle.normalizer_tables.specs.PairConditions.{KeepsBeginning, HasSafeBeginning, HasOrderedLists, is_passed, is_taken_to_round_trip}
+use Rattle.normalizer_tables.specs.PairConditions.{is_taken_to_begin_safely}
 use Rattle.normalizer_tables.specs.Readings.{reading_by, reading_of}
 use Rattle.normalizer_tables.specs.Ignored.{Dropped}
 use Rattle.normalizer_tables.proofs.CharacterLemmas.{list_read-scalar, list_of-reads}
@@ -38,7 +43,8 @@ pub pair_of-some : (pairs : List Pair) (first second result : ℕ) → pair_of p
     (compose_hangul first second ≡ Some result) ⊎ (listed_result pairs first second ≡ Some result)
 unfolding pair_of
 pair_of-some pairs first second result joins =
-    cond_both (is_vowel_or_trailing_jamo second) _ _ (λ o. o ≡ Some result → (compose_hangul first second ≡ Some result) ⊎ (listed_result pairs first second ≡ Some result)) (λ _ e. inl e) (λ _ e. inr e) joins
+    cond_both (is_vowel_or_trailing_jamo second) _ _ (λ o. o ≡ Some result → (compose_hangul first second ≡ Some result) ⊎ (listed_result pairs first second ≡ Some result))
+        (λ _ e. inl e) (λ _ e. inr e) joins
 
 -- only classes matter to the order, and classes and pairs to composition
 pub order-own : (s : Characters) (ignored : List ℕ) (pairing : ℕ → ℕ → Option ℕ) (x : List ℕ) → order (reading_by s Dropped []) x ≡ order (reading_of s ignored pairing) x
@@ -75,6 +81,9 @@ two_jamo l v first second = rw (low_scalar l first, low_scalar v second)
 pub three_jamo : (l v t : ℕ) → l < 55296 → v < 55296 → t < 55296 → as_text (l ∷ v ∷ t ∷ []) ≡ Some (l ∷ v ∷ t ∷ [])
 unfolding as_text
 three_jamo l v t first second third = rw (low_scalar l first, low_scalar v second, low_scalar t third)
+
+abbrev pub IsJamo : ℕ → Type 0
+IsJamo n = is_composing_jamo n ≡ true
 
 pub leading_jamo : (n : ℕ) → 0x1100 ≤ n → n ≤ 0x1112 → is_composing_jamo n ≡ true
 unfolding is_composing_jamo
@@ -119,15 +128,8 @@ module _ (s : Characters) (b : Bounds) (hangul : Holds s b Hangul) where
   jamo_class n h = ((sound n).jamo h).1
 
   module _ (ignored : List ℕ) (pairing : ℕ → ℕ → Option ℕ) where
-    two_starters : (l v : ℕ) → is_composing_jamo l ≡ true → is_composing_jamo v ≡ true → order (reading_of s ignored pairing) (l ∷ v ∷ []) ≡ l ∷ v ∷ []
-    two_starters l v first second =
-        let d = reading_of s ignored pairing in
-        order-starters d (l ∷ v ∷ []) (All-cons (IsStarter d) l (v ∷ []) (jamo_class l first) (All-cons (IsStarter d) v [] (jamo_class v second) (All-nil (IsStarter d))))
-
-    three_starters : (l v t : ℕ) → is_composing_jamo l ≡ true → is_composing_jamo v ≡ true → is_composing_jamo t ≡ true → order (reading_of s ignored pairing) (l ∷ v ∷ t ∷ []) ≡ l ∷ v ∷ t ∷ []
-    three_starters l v t first second third =
-        let d = reading_of s ignored pairing in
-        order-starters d (l ∷ v ∷ t ∷ []) (All-cons (IsStarter d) l (v ∷ t ∷ []) (jamo_class l first) (All-cons (IsStarter d) v (t ∷ []) (jamo_class v second) (All-cons (IsStarter d) t [] (jamo_class t third) (All-nil (IsStarter d)))))
+    jamo_stay : (x : List ℕ) → All IsJamo x → order (reading_of s ignored pairing) x ≡ x
+    jamo_stay x jamo = order-starters (reading_of s ignored pairing) x (λ k e h. jamo_class _ (jamo k e h))
 
     faithful-lv : (l v r : ℕ) → IsLv l v r → list_of s ignored r ≡ order (reading_of s ignored pairing) (list_of s ignored l ++ list_of s ignored v)
     faithful-lv l v r h =
@@ -135,7 +137,7 @@ module _ (s : Characters) (b : Bounds) (hangul : Holds s b Hangul) where
         let second = vowel_jamo v h.vowel.0 h.vowel.1 in
         let parts = ap₂ (λ x y. order (reading_of s ignored pairing) (x ++ y)) (jamo_list ignored l first) (jamo_list ignored v second) in
         list_of-syllable ignored r (l ∷ v ∷ []) (omega arith) (omega arith) (hangul_decomposition-lv l v r h) (two_jamo l v (omega arith) (omega arith))
-        ∙ sym (two_starters l v first second) ∙ sym parts
+        ∙ sym (jamo_stay _ (All-cons IsJamo l (v ∷ []) first (All-cons IsJamo v [] second (All-nil IsJamo)))) ∙ sym parts
 
     faithful-lvt : (a t r : ℕ) → IsLvt a t r → list_of s ignored r ≡ order (reading_of s ignored pairing) (list_of s ignored a ++ list_of s ignored t)
     faithful-lvt a t r h =
@@ -144,10 +146,11 @@ module _ (s : Characters) (b : Bounds) (hangul : Holds s b Hangul) where
         let first : is_composing_jamo l ≡ true = leading_jamo l (omega arith) (omega arith) in
         let second : is_composing_jamo v ≡ true = vowel_jamo v (omega arith) (omega arith) in
         let third = trailing_jamo t h.trailing.0 h.trailing.1 in
-        let syllable : list_of s ignored a ≡ l ∷ v ∷ [] = list_of-syllable ignored a (l ∷ v ∷ []) h.syllable.0 h.syllable.1 (hangul_decomposition-two a h.two_jamo) (two_jamo l v (omega arith) (omega arith)) in
+        let syllable : list_of s ignored a ≡ l ∷ v ∷ [] = list_of-syllable ignored a (l ∷ v ∷ []) h.syllable.0 h.syllable.1 (hangul_decomposition-two a h.two_jamo)
+            (two_jamo l v (omega arith) (omega arith)) in
         let parts = ap₂ (λ x y. order (reading_of s ignored pairing) (x ++ y)) syllable (jamo_list ignored t third) in
         list_of-syllable ignored r (l ∷ v ∷ t ∷ []) (omega arith) (omega arith) (hangul_decomposition-lvt a t r h) (three_jamo l v t (omega arith) (omega arith) (omega arith))
-        ∙ sym (three_starters l v t first second third) ∙ sym parts
+        ∙ sym (jamo_stay _ (All-cons IsJamo l (v ∷ t ∷ []) first (All-cons IsJamo v (t ∷ []) second (All-cons IsJamo t [] third (All-nil IsJamo))))) ∙ sym parts
 
   pub HasStarterResults-reading_of : (pairs : List Pair) → HoldsOfPairs s b pairs Pairs → (ignored : List ℕ) → HasStarterResults (reading_of s ignored (pair_of pairs))
   unfolding HoldsOfPairs PairsHoldOverall
@@ -173,28 +176,21 @@ module _ (s : Characters) (b : Bounds) (hangul : Holds s b Hangul) where
     ];
   }
 
--- what a passed character is taken for
-passed_round_trip : (below n k : Bool) → (below || (not n && not k)) ≡ true → (not n || below) ≡ true
-passed_round_trip true true k h = refl
-passed_round_trip true false k h = refl
-passed_round_trip false true k h = cc
-passed_round_trip false false k h = refl
-
-passed_beginning : (below n k : Bool) → (below || (not n && not k)) ≡ true → (not k || below) ≡ true
-passed_beginning true n true h = refl
-passed_beginning true n false h = refl
-passed_beginning false true k h = cc
-passed_beginning false false true h = cc
-passed_beginning false false false h = refl
-
 module _ (s : Characters) (b : Bounds) (pairs : List Pair) where
+  -- what a passed character is taken for
   taken_to_round_trip : (n : ℕ) → is_passed s b n ≡ true → is_taken_to_round_trip s b n ≡ true
   unfolding is_passed is_taken_to_round_trip
-  taken_to_round_trip n h = passed_round_trip _ _ _ h
+  taken_to_round_trip n h = elim (or_cases (nat_lt n b.composition) (not (is_non_round_trip (word_of s n)) && not (is_backward_combining (word_of s n))) h) [
+    | inl below ↦ rw (below, or-true)
+    | inr neither ↦ rw (and_parts (not (is_non_round_trip (word_of s n))) (not (is_backward_combining (word_of s n))) neither).0
+  ]
 
   taken_to_begin_safely : (n : ℕ) → is_passed s b n ≡ true → is_taken_to_begin_safely s b n ≡ true
   unfolding is_passed is_taken_to_begin_safely
-  taken_to_begin_safely n h = passed_beginning _ _ _ h
+  taken_to_begin_safely n h = elim (or_cases (nat_lt n b.composition) (not (is_non_round_trip (word_of s n)) && not (is_backward_combining (word_of s n))) h) [
+    | inl below ↦ rw (below, or-true)
+    | inr neither ↦ rw (and_parts (not (is_non_round_trip (word_of s n))) (not (is_backward_combining (word_of s n))) neither).1
+  ]
 
   -- a list that isn't empty is the same however ignored characters are treated
   same_list : (ignored : List ℕ) (n : ℕ) → scalar n ≡ true → list_of s [] n ≢ [] → list_of s ignored n ≡ list_of s [] n
@@ -247,3 +243,6 @@ module _ (s : Characters) (b : Bounds) (pairs : List Pair) where
   inhabited-passed holds ignored n h passed e =
       let begins = beginning holds n h passed in
       begins.begins (sym (same_list ignored n h begins.begins) ∙ e)
+
+-- what the laws of pairs say
+pub ruleset pair_laws = (HasStarterResults-reading_of, HasFaithfulResults-reading_of, IsNormalized-passed)

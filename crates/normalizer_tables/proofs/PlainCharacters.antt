@@ -1,5 +1,5 @@
 -- What a word that is 0, flags aside, says of its character.
-use Rattle.std.proofs.Common.{◌≡◌, ℕ, true, false, List, [], ◌∷◌, Option, refl}
+use Rattle.std.proofs.Common.{◌≡◌, ℕ, true, List, [], ◌∷◌, Option, refl}
 use lib.Utf8.{scalar}
 use Rattle.normal_forms.specs.Reading.{Reading}
 use Rattle.normal_forms.specs.Decomposition.{expand}
@@ -8,11 +8,10 @@ use Rattle.normal_forms.specs.Composition.{compose, compose_from, visit}
 use Rattle.normal_forms.specs.declared.Form.{Form}
 use Rattle.normal_forms.specs.declared.Form.TheVariants.{Decomposing, Composing}
 use Rattle.normal_forms.specs.Forms.{nfd, nfc, normal_form, IsNormalized}
-use Rattle.normal_forms.specs.ShortRuns.{continues}
-use Rattle.normalizer_tables.specs.Characters.{Characters, word_of, list_of, has_class_form}
+use Rattle.normalizer_tables.specs.Characters.{Characters, word_of, list_of}
 use Rattle.normalizer_tables.specs.Words.{is_plain}
 use Rattle.normalizer_tables.specs.Conditions.{ReadsToItself}
-use Rattle.normalizer_tables.proofs.ConditionLemmas.{list_read-plain, plain-no_class_form}
+use Rattle.normalizer_tables.proofs.ConditionLemmas.{class_of-plain, list_read-plain, plain-no_class_form}
 use Rattle.normalizer_tables.proofs.SoundLists.{reads_as_itself}
 use Rattle.normalizer_tables.specs.Readings.{reading_of}
 
@@ -30,7 +29,5 @@ pub IsNormalized-plain_word : (s : Characters) (ignored : List ℕ) (pairing : �
     IsNormalized (reading_of s ignored pairing) form (n ∷ [])
 IsNormalized-plain_word s ignored pairing form n h plain = form_of_itself (reading_of s ignored pairing) form n (list_of-plain_word s ignored n h plain)
 
-pub continues-plain_word : (s : Characters) (ignored : List ℕ) (pairing : ℕ → ℕ → Option ℕ) (n : ℕ) → scalar n ≡ true → is_plain (word_of s n) ≡ true →
-    continues (has_class_form s) (reading_of s ignored pairing) n ≡ false
-unfolding continues has_class_form
-continues-plain_word s ignored pairing n h plain = rw (plain-no_class_form (word_of s n) plain, list_of-plain_word s ignored n h plain) refl
+-- what the law of plain characters says
+pub ruleset plain_characters = (list_of-plain_word, class_of-plain, IsNormalized-plain_word, plain-no_class_form)

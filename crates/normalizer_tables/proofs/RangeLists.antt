@@ -47,10 +47,12 @@ pub rises_from-decides : (rs : List WordRange) → (rises_from 0 rs ≡ true) �
 rises_from-decides rs = (λ h. (IsRangeList-from_rises 0 rs h).0, λ h. rises_from-IsRangeList 0 rs h (λ k d within. omega arith))
 
 -- one range that follows the ones before is passed
-pub rises_from-passed : (rs : List WordRange) (k free : ℕ) (d : WordRange) → k < length rs → free ≤ (get_or rs k d).0 → (get_or rs k d).0 ≤ (get_or rs k d).1 → (get_or rs k d).1 < code_points → rises_from ((get_or rs k d).1 + 1) (drop (k + 1) rs) ≡ rises_from free (drop k rs)
+pub rises_from-passed : (rs : List WordRange) (k free : ℕ) (d : WordRange) → k < length rs → free ≤ (get_or rs k d).0 → (get_or rs k d).0 ≤ (get_or rs k d).1
+    → (get_or rs k d).1 < code_points → rises_from ((get_or rs k d).1 + 1) (drop (k + 1) rs) ≡ rises_from free (drop k rs)
 rises_from-passed rs k free d within first ordered ends =
     rw (drop-cons rs k d) (rw (le-leb _ _ first, le-leb _ _ ordered, lt-ltb _ _ ends) (ap (λ m. rises_from ((get_or rs k d).1 + 1) (drop m rs)) (add-one k)))
 
 -- a range that doesn't, or is none, ends the pass
-pub rises_from-stopped : (rs : List WordRange) (k free : ℕ) (d : WordRange) → k < length rs → ((get_or rs k d).0 < free) ⊎ (((get_or rs k d).1 < (get_or rs k d).0) ⊎ (code_points ≤ (get_or rs k d).1)) → rises_from free (drop k rs) ≡ false
+pub rises_from-stopped : (rs : List WordRange) (k free : ℕ) (d : WordRange) → k < length rs → ((get_or rs k d).0 < free)
+    ⊎ (((get_or rs k d).1 < (get_or rs k d).0) ⊎ (code_points ≤ (get_or rs k d).1)) → rises_from free (drop k rs) ≡ false
 rises_from-stopped rs k free d within ends = rw (drop-cons rs k d) (grind (arith, nat_tests))

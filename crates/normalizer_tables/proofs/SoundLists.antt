@@ -1,35 +1,30 @@
 -- What sound data say of each list.
-use Rattle.std.proofs.Common.{◌≡◌, ℕ, ◌⊎◌, inl, inr, zero, suc, true, false, List, [], ◌∷◌, All, Option, Some, None, unwrap_or, if◌then◌else◌, refl, ap, sym, ◌∙◌, subst, arith}
+use Rattle.std.proofs.Common.{◌≡◌, ℕ, ◌⊎◌, inl, inr, true, false, List, [], ◌∷◌, All, Option, Some, None, unwrap_or, refl, ap, sym, ◌∙◌, subst, arith}
 use Rattle.std.specs.Char.{IsScalar}
 use lib.Utf8.{scalar}
+use Rattle.std.proofs.lemmas.Bool.{cond_both}
+use Rattle.std.proofs.lemmas.List.Elements.{All-cons, All-nil}
 use Rattle.normal_forms.specs.Boundary.{BeginsWithStarter}
 use Rattle.normal_forms.specs.Hypotheses.{HasFullLists}
 use Rattle.normal_forms.specs.Order.{order}
 use Rattle.normal_forms.specs.Reading.{Reading}
 use Rattle.normalizer_tables.specs.declared.word.WordReading.{WordReading}
-use Rattle.normalizer_tables.specs.declared.word.WordReading.TheVariants.{Ignored, Itself, ClassForm, SpecialForm, TwoCharacters, HangulSyllable, Fdfa, OneCharacter, Listed}
-use Rattle.normalizer_tables.specs.Words.{class_of_word, is_class_form, low_byte}
-use Rattle.normalizer_tables.specs.Characters.{Characters, word_of, reading_of_word, named_list, list_read, list_of, class_of, has_class_form}
+use Rattle.normalizer_tables.specs.declared.word.WordReading.TheVariants.{Ignored}
+use Rattle.normalizer_tables.specs.Words.{class_of_word}
+use Rattle.normalizer_tables.specs.Characters.{Characters, reading_of_word, named_list, list_read, list_of, class_of, has_class_form}
 use Rattle.normalizer_tables.specs.Conditions.{ReadsToItself, IsPlainStarter, IsFlaggedReplacement, IsOrderedList, Holds, HoldsAt, HoldsOverall}
 use Rattle.normalizer_tables.specs.Ignored.{IgnoredCharacters, Dropped, Replaced, ignored_list}
 use Rattle.normalizer_tables.specs.SoundData.{Bounds, IsSoundData}
 use Rattle.normalizer_tables.specs.Readings.{reading_by, reading_of}
 use Rattle.normalizer_tables.proofs.CharacterLemmas.{list_read-scalar, list_of-reads, list_of-default}
 use Rattle.normal_forms.proofs.OrderLemmas.{order-nil}
-use Rattle.normalizer_tables.proofs.OrderedLists.{rising-order, order-rising, order-one}
+use Rattle.normalizer_tables.proofs.OrderedLists.{rising-order, order-rising, order-short}
 
 -- only the ignored marker reads by the treatment
 named_list-other : (s : Characters) (ignored : List ℕ) (n : ℕ) (r : WordReading) → (r ≡ Ignored) ⊎ (named_list s ignored n r ≡ named_list s [] n r)
 unfolding named_list
 named_list-other s ignored n Ignored = inl refl
-named_list-other s ignored n Itself = inr refl
-named_list-other s ignored n (ClassForm k) = inr refl
-named_list-other s ignored n (SpecialForm k) = inr refl
-named_list-other s ignored n (TwoCharacters a b) = inr refl
-named_list-other s ignored n HangulSyllable = inr refl
-named_list-other s ignored n Fdfa = inr refl
-named_list-other s ignored n (OneCharacter a) = inr refl
-named_list-other s ignored n (Listed item low marks) = inr refl
+named_list-other s ignored n _ = inr refl
 
 pub list_read-elsewhere : (s : Characters) (ignored : List ℕ) (n : ℕ) → scalar n ≡ false → list_read s ignored n ≡ None
 unfolding list_read
@@ -80,15 +75,11 @@ replacement_of : (s : Characters) (b : Bounds) → IsSoundData s b → IsPlainSt
 unfolding Holds HoldsOverall IsFlaggedReplacement
 replacement_of s b sound = sound.replacement.0.0
 
-All-one : (P : ℕ → Type 0) (n : ℕ) → P n → All P (n ∷ [])
-All-one P n h zero d below = h
-All-one P n h (suc k) d below = absurd (omega arith)
-
 -- what stands for an ignored character reads as itself
 ignored_members : (s : Characters) (b : Bounds) → IsSoundData s b → (i : IgnoredCharacters) → All (ReadsToItself s) (ignored_list i)
 unfolding IsPlainStarter
 ignored_members s b sound Dropped = λ k d below. absurd (omega arith)
-ignored_members s b sound Replaced = All-one (ReadsToItself s) 0xFFFD (replacement_of s b sound).0
+ignored_members s b sound Replaced = All-cons (ReadsToItself s) 0xFFFD [] (replacement_of s b sound).0 (All-nil (ReadsToItself s))
 
 -- each list has only members that read to themselves, or is of the number alone
 own_members : (s : Characters) (b : Bounds) → IsSoundData s b → (i : IgnoredCharacters) (n : ℕ) → scalar n ≡ true → All (ReadsToItself s) (list_of s (ignored_list i) n)
@@ -105,7 +96,8 @@ own_members s b sound i n h =
 pub HasFullLists-sound : (s : Characters) (b : Bounds) → IsSoundData s b → (i : IgnoredCharacters) (pairing : ℕ → ℕ → Option ℕ) → HasFullLists (reading_of s (ignored_list i) pairing)
 HasFullLists-sound s b sound i pairing = record {
   members = λ c. elim (kind_of s (ignored_list i) c) [
-    | elsewhere q e ↦ subst (All (λ m. list_of s (ignored_list i) m ≡ m ∷ [])) (sym e) (All-one (λ m. list_of s (ignored_list i) m ≡ m ∷ []) c e)
+    | elsewhere q e ↦ subst (All (λ m. list_of s (ignored_list i) m ≡ m ∷ [])) (sym e)
+        (All-cons (λ m. list_of s (ignored_list i) m ≡ m ∷ []) c [] e (All-nil (λ m. list_of s (ignored_list i) m ≡ m ∷ [])))
     | dropped q r e ↦ λ k d below. reads_as_itself s (ignored_list i) _ (own_members s b sound i c q k d below)
     | same q e f ↦ λ k d below. reads_as_itself s (ignored_list i) _ (own_members s b sound i c q k d below)
   ];
@@ -122,17 +114,9 @@ reads_to_itself-scalar s n h =
 pub IsText-list_of : (s : Characters) (b : Bounds) → IsSoundData s b → (i : IgnoredCharacters) (n : ℕ) → IsScalar n → All IsScalar (list_of s (ignored_list i) n)
 IsText-list_of s b sound i n h k d below = reads_to_itself-scalar s _ (own_members s b sound i n h k d below)
 
-class_of-elsewhere : (s : Characters) (n : ℕ) → scalar n ≡ false → class_of s n ≡ 0
-unfolding class_of
-class_of-elsewhere s n h = rw h
-
 pub class_of-no_class_form : (s : Characters) (n : ℕ) → has_class_form s n ≡ false → class_of s n ≡ 0
 unfolding has_class_form class_of class_of_word
-class_of-no_class_form s n h =
-    elim (scalar n) as (λ b. (if b then (if is_class_form (word_of s n) then low_byte (word_of s n) else 0) else 0) ≡ 0) [
-      | true ↦ rw h
-      | false ↦ refl
-    ]
+class_of-no_class_form s n h = cond_both (scalar n) _ _ (λ k. k ≡ 0) (λ _. rw h) (λ _. refl)
 
 -- only classes matter to where a list may begin
 same_beginning : (s : Characters) (ignored : List ℕ) (pairing : ℕ → ℕ → Option ℕ) (x : List ℕ) → BeginsWithStarter (reading_by s Dropped []) x → BeginsWithStarter (reading_of s ignored pairing) x
@@ -155,14 +139,17 @@ BeginsWithStarter-list_of s b sound i pairing c h =
 
 order-ignored : (i : IgnoredCharacters) (d : Reading) → order d (ignored_list i) ≡ ignored_list i
 order-ignored Dropped d = order-nil d
-order-ignored Replaced d = order-one d 0xFFFD
+order-ignored Replaced d = order-short d (0xFFFD ∷ []) (omega arith)
 
 pub order-list_of : (s : Characters) (b : Bounds) → IsSoundData s b → (i : IgnoredCharacters) (pairing : ℕ → ℕ → Option ℕ) (c : ℕ) →
     order (reading_of s (ignored_list i) pairing) (list_of s (ignored_list i) c) ≡ list_of s (ignored_list i) c
 order-list_of s b sound i pairing c =
     elim (kind_of s (ignored_list i) c) [
-      | elsewhere q e ↦ subst (λ x. order (reading_of s (ignored_list i) pairing) x ≡ x) (sym e) (order-one (reading_of s (ignored_list i) pairing) c)
+      | elsewhere q e ↦ subst (λ x. order (reading_of s (ignored_list i) pairing) x ≡ x) (sym e) (order-short (reading_of s (ignored_list i) pairing) (c ∷ []) (omega arith))
       | dropped q r e ↦ subst (λ x. order (reading_of s (ignored_list i) pairing) x ≡ x) (sym e) (order-ignored i (reading_of s (ignored_list i) pairing))
       | same q e f ↦ subst (λ x. order (reading_of s (ignored_list i) pairing) x ≡ x) (sym f)
           (order-rising (reading_of s (ignored_list i) pairing) 0 (list_of s [] c) (rising-order (reading_by s Dropped []) (list_of s [] c) (ordered_of s b sound c q).ordered))
     ]
+
+-- what the laws of lists say
+pub ruleset sound_lists = (HasFullLists-sound, IsText-list_of, class_of-no_class_form, order-list_of)

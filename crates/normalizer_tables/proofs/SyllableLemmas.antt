@@ -26,7 +26,7 @@ use Rattle.normalizer_tables.proofs.ConditionLemmas.{IsSoundClassForm-none, no_s
 use Rattle.normalizer_tables.proofs.FdfaWords.{syllable_avoids}
 use Rattle.normalizer_tables.proofs.HangulLemmas.{compose_hangul-lv, compose_hangul-lvt, hangul_decomposition-two, is_hangul_syllable-true, is_vowel_or_trailing_jamo_in_range}
 use Rattle.normalizer_tables.proofs.LoadedLemmas.{IfSome-all, IfSome-map}
-use Rattle.normalizer_tables.proofs.PairLaws.{leading_jamo, vowel_jamo, trailing_jamo, order-starters, read-syllable, syllable_in_range, three_jamo, two_jamo}
+use Rattle.normalizer_tables.proofs.PairLaws.{IsJamo, leading_jamo, vowel_jamo, trailing_jamo, order-starters, read-syllable, syllable_in_range, three_jamo, two_jamo}
 use Rattle.normalizer_tables.proofs.SoundLists.{class_of-no_class_form}
 use Rattle.normalizer_tables.proofs.StepConditionLemmas.{HasSoundStep-hangul}
 
@@ -50,11 +50,10 @@ hangul_decomposition-three : (n : ℕ) → (n - 0xAC00) % 28 ≢ 0 → hangul_de
 unfolding hangul_decomposition
 hangul_decomposition-three n some = rw (ne_eqb _ _ some) refl
 
-abbrev IsJamo : ℕ → Type 0
-IsJamo n = is_composing_jamo n ≡ true
-
 -- what the word of a syllable reads to: two jamo or three, which compose to it
-record HasJamo (s : Characters) (n second : ℕ) (rest : List ℕ) : Type 0 where
+record HasJamo (s : Characters) (n : ℕ) : Type 0 where
+  second : ℕ
+  rest : List ℕ
   reads : list_read s [] n ≡ Some ((0x1100 + (n - 0xAC00) / 588) ∷ second ∷ rest)
   members : All IsJamo ((0x1100 + (n - 0xAC00) / 588) ∷ second ∷ rest)
   composes : (pairs : List Pair) → compose (reading_by s Dropped pairs) ((0x1100 + (n - 0xAC00) / 588) ∷ second ∷ rest) ≡ n ∷ []
@@ -89,7 +88,7 @@ module _ (s : Characters) (sound : (n : ℕ) → IsSoundHangul s n) where
   joined-hangul pairs a c r starts behind composes = rw (starts, behind) composes
 
   module _ (n : ℕ) (low : 0xAC00 ≤ n) (high : n ≤ 0xD7A3) where
-    of_two : (n - 0xAC00) % 28 ≡ 0 → HasJamo s n (0x1161 + (n - 0xAC00) % 588 / 28) []
+    of_two : (n - 0xAC00) % 28 ≡ 0 → HasJamo s n
     of_two none =
         let l = 0x1100 + (n - 0xAC00) / 588 in
         let v = 0x1161 + (n - 0xAC00) % 588 / 28 in
@@ -97,6 +96,8 @@ module _ (s : Characters) (sound : (n : ℕ) → IsSoundHangul s n) where
         let first : is_composing_jamo l ≡ true = leading_jamo l (omega arith) (omega arith) in
         let second : is_composing_jamo v ≡ true = vowel_jamo v (omega arith) (omega arith) in
         record {
+          second = v;
+          rest = [];
           reads = syllable_read n (l ∷ v ∷ []) (syllable_in_range n low high) (hangul_decomposition-two n none) (two_jamo l v (omega arith) (omega arith));
           members = All-cons IsJamo l (v ∷ []) first (All-cons IsJamo v [] second (All-nil IsJamo));
           composes = λ pairs.
@@ -106,7 +107,7 @@ module _ (s : Characters) (sound : (n : ℕ) → IsSoundHangul s n) where
               ∙ compose_from-end (reading_by s Dropped pairs) (l ∷ v ∷ []) 2 n (omega arith);
         }
 
-    of_three : (n - 0xAC00) % 28 ≢ 0 → HasJamo s n (0x1161 + (n - 0xAC00) % 588 / 28) ((0x11A7 + (n - 0xAC00) % 28) ∷ [])
+    of_three : (n - 0xAC00) % 28 ≢ 0 → HasJamo s n
     of_three some =
         let l = 0x1100 + (n - 0xAC00) / 588 in
         let v = 0x1161 + (n - 0xAC00) % 588 / 28 in
@@ -121,6 +122,8 @@ module _ (s : Characters) (sound : (n : ℕ) → IsSoundHangul s n) where
         let third : is_composing_jamo t ≡ true = trailing_jamo t above (omega arith) in
         let inside : is_hangul_syllable a ≡ true = syllable_in_range a (omega arith) (omega arith) in
         record {
+          second = v;
+          rest = t ∷ [];
           reads = syllable_read n (l ∷ v ∷ t ∷ []) (syllable_in_range n low high) (hangul_decomposition-three n some) (three_jamo l v t (omega arith) (omega arith) (omega arith));
           members = All-cons IsJamo l (v ∷ t ∷ []) first (All-cons IsJamo v (t ∷ []) second (All-cons IsJamo t [] third (All-nil IsJamo)));
           composes = λ pairs.
@@ -133,19 +136,16 @@ module _ (s : Characters) (sound : (n : ℕ) → IsSoundHangul s n) where
               ∙ compose_from-end d (l ∷ v ∷ t ∷ []) 3 n (omega arith);
         }
 
-    some_jamo : (second : ℕ) × (rest : List ℕ) × HasJamo s n second rest
-    some_jamo = elim (cases_Bool ((n - 0xAC00) % 28 == 0)) [
-      | inl is ↦ (0x1161 + (n - 0xAC00) % 588 / 28, [], of_two (eqb-true _ _ is))
-      | inr isnt ↦ (0x1161 + (n - 0xAC00) % 588 / 28, (0x11A7 + (n - 0xAC00) % 28) ∷ [], of_three (eqb-false _ _ isnt))
-    ]
+    some_jamo : HasJamo s n
+    some_jamo = elim (cases_Bool ((n - 0xAC00) % 28 == 0)) [ inl is ↦ of_two (eqb-true _ _ is) | inr isnt ↦ of_three (eqb-false _ _ isnt) ]
 
   -- ---- each condition, of a syllable
 
-  module _ (n second : ℕ) (rest : List ℕ) (syllable : is_hangul_syllable n ≡ true) (jamo : HasJamo s n second rest) where
-    first : ℕ
-    first = 0x1100 + (n - 0xAC00) / 588
+  module _ (n : ℕ) (syllable : is_hangul_syllable n ≡ true) where
+    jamo : HasJamo s n
+    jamo = let range = is_hangul_syllable-true n syllable in some_jamo n range.0 range.1
 
-    jamo_list : list_of s [] n ≡ (0x1100 + (n - 0xAC00) / 588) ∷ second ∷ rest
+    jamo_list : list_of s [] n ≡ (0x1100 + (n - 0xAC00) / 588) ∷ jamo.second ∷ jamo.rest
     jamo_list = list_of-reads s [] n _ jamo.reads
 
     IsSoundWord-syllable : IsSoundWord s n
@@ -172,7 +172,7 @@ module _ (s : Characters) (sound : (n : ℕ) → IsSoundHangul s n) where
 
     not_itself : ReadsToItself s n → ⊥
     unfolding ReadsToItself
-    not_itself alone = (let same : Some ((0x1100 + (n - 0xAC00) / 588) ∷ second ∷ rest) ≡ Some (n ∷ []) = sym jamo.reads ∙ alone in cc)
+    not_itself alone = (let same : Some ((0x1100 + (n - 0xAC00) / 588) ∷ jamo.second ∷ jamo.rest) ≡ Some (n ∷ []) = sym jamo.reads ∙ alone in cc)
 
     RoundTrips-syllable : (pairs : List Pair) → RoundTrips s pairs n
     unfolding RoundTrips
@@ -196,31 +196,23 @@ module _ (s : Characters) (sound : (n : ℕ) → IsSoundHangul s n) where
   -- ---- of two syllables with one leading consonant
 
   module _ (m n : ℕ) (alike : IsSyllableBehind m n) where
-    behind_jamo : (second : ℕ) × (rest : List ℕ) × HasJamo s n second rest
-    behind_jamo = let range = is_hangul_syllable-true n alike.second in some_jamo n range.0 range.1
-
-    first_jamo : (second : ℕ) × (rest : List ℕ) × HasJamo s m second rest
-    first_jamo = let range = is_hangul_syllable-true m alike.first in some_jamo m range.0 range.1
-
     HoldsAt-behind : (b : Bounds) (c : Condition) → HoldsAt s b c m → HoldsAt s b c n
     unfolding HoldsAt IsPlainStarter
     HoldsAt-behind b Surrogates holds = λ q. absurd (no_surrogate n (syllable-scalar n alike.second) q)
     HoldsAt-behind b Hangul holds = sound n
-    HoldsAt-behind b Words holds = λ q. (let jamo = behind_jamo in IsSoundWord-syllable n jamo.0 jamo.1 alike.second jamo.2)
-    HoldsAt-behind b Members holds = λ q. (let jamo = behind_jamo in members-syllable n jamo.0 jamo.1 alike.second jamo.2)
-    HoldsAt-behind b Order holds = λ q. (let jamo = behind_jamo in IsOrderedList-syllable n jamo.0 jamo.1 alike.second jamo.2)
+    HoldsAt-behind b Words holds = λ q. IsSoundWord-syllable n alike.second
+    HoldsAt-behind b Members holds = λ q. members-syllable n alike.second
+    HoldsAt-behind b Order holds = λ q. IsOrderedList-syllable n alike.second
     HoldsAt-behind b Passthrough holds = λ q below.
-        (let jamo = first_jamo in absurd (not_itself m jamo.0 jamo.1 alike.first jamo.2 (holds (syllable-scalar m alike.first) (omega (arith, alike.behind))).0))
+        (absurd (not_itself m alike.first (holds (syllable-scalar m alike.first) (omega (arith, alike.behind))).0))
     HoldsAt-behind b _ holds = tt
 
     PairsHoldAt-behind : (b : Bounds) (pairs : List Pair) (c : Condition) → PairsHoldAt s b pairs c m → PairsHoldAt s b pairs c n
     unfolding PairsHoldAt KeepsRoundTrip KeepsBeginning
-    PairsHoldAt-behind b pairs RoundTrip holds = λ q taken. (let jamo = behind_jamo in RoundTrips-syllable n jamo.0 jamo.1 alike.second jamo.2 pairs)
+    PairsHoldAt-behind b pairs RoundTrip holds = λ q taken. RoundTrips-syllable n alike.second pairs
     PairsHoldAt-behind b pairs SafeBeginning holds = λ q taken.
-        (let first = first_jamo in
-        let jamo = behind_jamo in
-        let never = leading_never_second m first.0 first.1 alike.first first.2 pairs (holds (syllable-scalar m alike.first) (taken-syllable b m alike.first)) in
-        HasSafeBeginning-syllable n jamo.0 jamo.1 alike.second jamo.2 pairs (subst (λ k. (a : ℕ) → pair_of pairs a (0x1100 + k) ≡ None) alike.leading never))
+        (let never = leading_never_second m alike.first pairs (holds (syllable-scalar m alike.first) (taken-syllable b m alike.first)) in
+        HasSafeBeginning-syllable n alike.second pairs (subst (λ k. (a : ℕ) → pair_of pairs a (0x1100 + k) ≡ None) alike.leading never))
     PairsHoldAt-behind b pairs _ holds = tt
 
     StepsHoldAt-behind : (t : Supplement) (c : Condition) → StepsHoldAt s t c n

@@ -30,7 +30,8 @@ word_in-all_missed (r ∷ rs) n missed =
     word_in-missed r rs n (All-head (Misses n) r rs missed) ∙ word_in-all_missed rs n (All-tail (Misses n) r rs missed)
 
 -- the first range that the number doesn't miss decides
-pub word_in-at : (rs : List WordRange) (n k : ℕ) (d : WordRange) → k < length rs → (get_or rs k d).0 ≤ n → n ≤ (get_or rs k d).1 → ((j : ℕ) → j < k → Misses n (get_or rs j d)) → word_in rs n ≡ (get_or rs k d).2
+pub word_in-at : (rs : List WordRange) (n k : ℕ) (d : WordRange) → k < length rs → (get_or rs k d).0 ≤ n → n ≤ (get_or rs k d).1
+    → ((j : ℕ) → j < k → Misses n (get_or rs j d)) → word_in rs n ≡ (get_or rs k d).2
 word_in-at [] n k d within low high before = absurd (omega arith)
 word_in-at (r ∷ rs) n zero d within low high before = word_in-held r rs n low high
 word_in-at (r ∷ rs) n (suc k) d within low high before =

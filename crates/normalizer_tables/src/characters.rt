@@ -109,11 +109,8 @@ impl<'a> CharacterData<'a> {
         ensures { result ≡ self.entry }
     {
         CharacterData {
-            decompositions: self.decompositions,
-            tables: self.tables,
-            supplementary: self.supplementary,
-            is_mapper: self.is_mapper,
             unseen_below: bound,
+            ..self
         }
     }
 
@@ -121,13 +118,7 @@ impl<'a> CharacterData<'a> {
     pub fn copied(&self) -> CharacterData<'a>
         ensures { result ≡ self.now }
     {
-        CharacterData {
-            decompositions: self.decompositions,
-            tables: self.tables,
-            supplementary: self.supplementary,
-            is_mapper: self.is_mapper,
-            unseen_below: self.unseen_below,
-        }
+        CharacterData { ..*self }
     }
 
     /// Whether a character is known to pass unseen: it is its own list, with class 0 and no class form. Its word isn't
@@ -145,6 +136,7 @@ impl<'a> CharacterData<'a> {
     }
 
     /// The word of a character.
+    #[tactic(auto, unfolding(crate::specs::Characters::word_of))]
     pub fn word_of(&self, character: char) -> u32
         ensures { result ≡ word_of self.now character }
     {
@@ -177,6 +169,7 @@ impl<'a> CharacterData<'a> {
     }
 
     /// The word of all numbers past the code points.
+    #[tactic(auto, unfolding(crate::specs::Table::code_points))]
     pub fn past(&self) -> u32
         ensures { result ≡ self.now.decompositions.table.past }
     {
@@ -210,6 +203,7 @@ impl<'a> CharacterData<'a> {
     }
 
     /// The canonical combining class of a character.
+    #[tactic(auto, using(crate::proofs::CharacterLemmas::of_scalars), unfolding(crate::specs::Words::class_of_word, crate::specs::Characters::class_of))]
     pub fn class_of(&self, character: char) -> u8
         ensures { result ≡ class_of self.now character }
     {
@@ -235,6 +229,7 @@ impl<'a> CharacterData<'a> {
     }
 
     /// The list of a character by its word.
+    #[tactic(auto, unfolding(crate::specs::Characters::list_of))]
     pub fn members_by(&self, character: char, word: u32, ignored: IgnoredCharacters) -> Members<'a>
         requires { word ≡ word_of self.now character }
         ensures { result ≡ list_of self.now (ignored_list ignored) character }
@@ -246,6 +241,7 @@ impl<'a> CharacterData<'a> {
     }
 
     /// Whether the list of a character has members, by its word. None has an ignored character that is dropped.
+    #[tactic(auto, unfolding(crate::specs::Characters::list_of, crate::specs::Characters::list_read, crate::specs::Characters::named_list, crate::specs::Characters::reading_of_word))]
     pub fn has_members(&self, character: char, word: u32, ignored: IgnoredCharacters) -> bool
         requires { word ≡ word_of self.now character }
         ensures { IsTrue result ↔ (list_of self.now (ignored_list ignored) character ≢ []) }
@@ -257,7 +253,7 @@ impl<'a> CharacterData<'a> {
     }
 
     /// The class of a character whose word says that it is its own list.
-    #[tactic(auto, unfolding(crate::specs::Characters::class_of_itself))]
+    #[tactic(auto, unfolding(crate::specs::Characters::class_of_itself, crate::specs::Characters::list_of, crate::specs::Characters::list_read, crate::specs::Characters::named_list))]
     pub fn class_of_itself(&self, character: char, word: u32) -> Option<u8>
         requires { word ≡ word_of self.now character }
         ensures reading { result ≡ class_of_itself (reading_of_word self.now character) }
@@ -303,6 +299,7 @@ impl<'a> CharacterData<'a> {
     }
 
     /// The list from an item of the tables on.
+    #[tactic(auto, unfolding(crate::specs::Characters::listed_at))]
     fn listed_at(&self, item: u32, low: u8) -> Option<Members<'a>>
         ensures { result ≡ listed_at self.now item low }
     {
@@ -322,6 +319,7 @@ enum Found<'a> {
     Past(usize),
 }
 
+#[tactic(auto, using(crate::proofs::ListedLemmas::listed_lists), unfolding(crate::specs::Characters::listed_in))]
 fn listed_in<'a>(tables: &'a DecompositionTables, item: usize, low: u8) -> Found<'a>
     ensures { IsFound tables.now low item result }
 {
@@ -336,7 +334,7 @@ fn listed_in<'a>(tables: &'a DecompositionTables, item: usize, low: u8) -> Found
     }
 }
 
-#[tactic(auto, unfolding(crate::specs::Characters::narrow_at))]
+#[tactic(auto, using(crate::proofs::ListedLemmas::listed_lists), unfolding(crate::specs::Characters::narrow_at))]
 fn narrow_at(units: &Scalars16, low: u8, place: usize) -> Option<Members<'_>>
     ensures { result ≡ narrow_at units.now low place }
 {
@@ -356,6 +354,7 @@ fn wide_at(scalars: &[char], low: u8, place: usize) -> Option<Members<'_>>
 }
 
 /// Some items from a place on, if they lie within.
+#[tactic(auto, unfolding(crate::specs::Characters::items_at))]
 pub(crate) fn items_at<T>(items: &[T], place: usize, n: usize) -> Option<&[T]>
     ensures { option_copied result ≡ items_at items.now place n }
 {

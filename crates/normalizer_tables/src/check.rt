@@ -25,6 +25,7 @@ mod overall;
 mod parts;
 
 /// The first of these conditions that isn't met by what was loaded. It takes no memory.
+#[tactic(auto, using(crate::proofs::FirstFailing::first_failing_found), unfolding(crate::specs::Table::code_points))]
 pub fn first_failing(data: &LoadedData<'_>, conditions: &[Condition]) -> Option<Condition>
     ensures { IsFirstFailing (IsMet data.now) conditions.now result }
 {
@@ -44,6 +45,7 @@ pub fn first_failing(data: &LoadedData<'_>, conditions: &[Condition]) -> Option<
 }
 
 /// The condition at a place, if there is one.
+#[tactic(auto, using(crate::proofs::FirstFailing::copied_slice_get))]
 fn condition_at(conditions: &[Condition], place: usize) -> Option<Condition>
     ensures { result ≡ slice_get conditions.now place }
 {
@@ -87,6 +89,7 @@ fn is_asked_of_words(condition: Condition) -> bool
 
 /// The end of the numbers for which this one answers. Where Hangul is sound, a syllable does for those behind it with
 /// the same leading consonant.
+#[tactic(auto, unfolding(crate::specs::Hangul::is_hangul_syllable, crate::specs::Table::code_points))]
 fn end_of_alike(number: u32, hangul_is_sound: bool) -> u32
     requires { number ≤ code_points }
     ensures { IsEndOfAlike hangul_is_sound number result }

@@ -12,13 +12,14 @@ ghost use Rattle.normalizer_tables.specs.Words.{is_class_form};
 ghost use Rattle.normalizer_tables.specs.declared.condition.Condition.TheVariants as condition;
 
 use crate::characters::CODE_POINTS;
-use crate::check::numbers::has_fixed_class;
+use crate::check::numbers::is_sound_class;
 use crate::condition::Condition;
 use crate::provider::DecompositionData;
 use crate::table::CodePointTable;
-use crate::word::{FLAGS, is_class_form, is_ordinary_class_form, is_special_class_form, low_byte};
+use crate::word::{FLAGS, is_class_form};
 
 /// The first of the conditions on classes that data break. It takes no memory.
+#[tactic(auto, using(crate::proofs::FailingLemmas::failing))]
 pub fn first_failing_of_classes(data: &DecompositionData) -> Option<Condition>
     ensures { IsFirstFailing (HoldsOfClasses data.now.table) class_conditions result }
 {
@@ -35,6 +36,7 @@ pub fn first_failing_of_classes(data: &DecompositionData) -> Option<Condition>
 }
 
 /// Whether the word of no surrogate has a class form.
+#[tactic(auto, unfolding(crate::specs::ClassConditions::HoldsOfClasses, crate::specs::Conditions::is_surrogate))]
 fn have_no_surrogate_classes(table: &CodePointTable) -> bool
     ensures { IsTrue result ↔ HoldsOfClasses table.now condition.SurrogateClasses }
 {
@@ -47,6 +49,7 @@ fn have_no_surrogate_classes(table: &CodePointTable) -> bool
 }
 
 /// Whether the word of numbers past the code points has no class form.
+#[tactic(auto, unfolding(crate::specs::ClassConditions::HoldsOfClasses, crate::specs::Table::code_points))]
 fn has_no_class_past(table: &CodePointTable) -> bool
     ensures { IsTrue result ↔ HoldsOfClasses table.now condition.PastTheEnd }
 {
@@ -54,6 +57,7 @@ fn has_no_class_past(table: &CodePointTable) -> bool
 }
 
 /// Whether the words of all characters have sound classes.
+#[tactic(auto, using(crate::proofs::ClassLemmas::classes), unfolding(crate::specs::ClassConditions::HoldsOfClasses, crate::specs::Table::IsNextWithWord, crate::specs::Table::code_points))]
 fn have_sound_classes(table: &CodePointTable) -> bool
     ensures { IsTrue result ↔ HoldsOfClasses table.now condition.WordClasses }
 {
@@ -75,17 +79,5 @@ fn has_sound_class(number: u32, word: u32) -> bool
     match char::from_u32(number) {
         Some(character) => is_sound_class(character, word),
         None => true,
-    }
-}
-
-/// Whether a word is no class form, or has a class that its character may have.
-fn is_sound_class(character: char, word: u32) -> bool
-    ensures { IsTrue result ↔ IsSoundClass character word }
-{
-    if is_ordinary_class_form(word) {
-        let class = low_byte(word);
-        0 < class && class < 255
-    } else {
-        !is_special_class_form(word) || has_fixed_class(character, low_byte(word))
     }
 }

@@ -28,26 +28,19 @@ pub fn read_character<'a>(data: &CharacterData<'a>, character: char) -> ReadChar
 }
 
 /// Reads a character whose word was looked up.
+#[tactic(auto, unfolding(crate::specs::Characters::list_of))]
 pub fn read_by_word<'a>(data: &CharacterData<'a>, character: char, word: u32) -> ReadCharacter<'a>
     requires { word ≡ word_of data.now character }
     ensures read { IsRead data.now result }
     ensures same { result.character ≡ character }
 {
     let reading = data.reading_by(character, word);
-    match data.members_read_by(character, word, IgnoredCharacters::Dropped) {
-        Some(list) => ReadCharacter {
-            character,
-            word,
-            reading,
-            reads: true,
-            list,
-        },
-        None => ReadCharacter {
-            character,
-            word,
-            reading,
-            reads: false,
-            list: Members::one(character),
-        },
+    let members = data.members_read_by(character, word, IgnoredCharacters::Dropped);
+    ReadCharacter {
+        character,
+        word,
+        reading,
+        reads: members.is_some(),
+        list: members.unwrap_or(Members::one(character)),
     }
 }

@@ -49,6 +49,7 @@ pub fn step_of(
 }
 
 /// The canonical mapping of a character that is no Hangul syllable.
+#[tactic(auto, using(crate::proofs::ReadLemmas::readings), unfolding(crate::specs::Steps::step_of, crate::specs::Steps::step_of_reading))]
 pub(crate) fn step_by_reading(
     supplement: &NonRecursiveDecompositionSupplement,
     read: &ReadCharacter<'_>,
@@ -72,6 +73,7 @@ pub(crate) fn step_by_reading(
 }
 
 /// The step of a character whose word spells two.
+#[tactic(auto, unfolding(crate::specs::Steps::two_characters_step))]
 fn two_characters_step(
     supplement: &NonRecursiveDecompositionSupplement,
     read: &ReadCharacter<'_>,
@@ -87,6 +89,7 @@ fn two_characters_step(
 }
 
 /// The step to the list of a character, where its word reads.
+#[tactic(auto, using(crate::proofs::ReadLemmas::readings), unfolding(crate::specs::Steps::step_by))]
 fn step_by_list(read: &ReadCharacter<'_>) -> Option<Step>
     ensures { (s : Characters) → IsRead s read.now → result ≡ step_by (list_read s [] read.now.character) }
 {
@@ -124,6 +127,7 @@ fn listed_step(
 }
 
 /// The step that the supplement decides.
+#[tactic(auto, unfolding(crate::specs::Steps::supplementary_step))]
 fn supplementary_step(
     supplement: &NonRecursiveDecompositionSupplement,
     character: char,
@@ -153,7 +157,7 @@ fn supplementary_mapping(scalars: &[char], word: u32) -> Option<Members<'_>>
 }
 
 /// What a Hangul syllable maps to, by arithmetic (The Unicode Standard, section 3.12).
-#[tactic(auto, unfolding(crate::specs::Steps::hangul_mapping))]
+#[tactic(auto, unfolding(crate::specs::Steps::hangul_mapping, crate::specs::Hangul::is_hangul_syllable))]
 fn hangul_mapping(syllable: char) -> Option<Members<'static>>
     requires { is_hangul_syllable syllable ≡ true }
     ensures { result ≡ as_text (hangul_mapping syllable) }
@@ -175,6 +179,7 @@ fn step_by(mapping: Option<Members<'_>>) -> Option<Step>
 }
 
 /// The step to one character, or to two.
+#[tactic(auto, unfolding(crate::specs::Steps::step_to))]
 fn step_to(mapping: &Members<'_>) -> Option<Step>
     ensures { result ≡ step_to mapping.now }
 {

@@ -21,13 +21,13 @@ use crate::pair_check::results::{is_ordered_lists, is_spelled, put_in_order, wri
 use crate::provider::NonRecursiveDecompositionSupplement;
 use crate::read::ReadCharacter;
 use crate::step::{Step, step_by_reading};
-use crate::word::{is_hangul_syllable, is_plain};
+use crate::word::is_hangul_syllable;
 
 /// Room for a list, of at most 18 characters.
 const ROOM: usize = 18;
 
 /// Whether a condition holds of a character by its step.
-#[tactic(auto, unfolding(crate::specs::StepConditions::StepsHoldAt))]
+#[tactic(auto, unfolding(crate::specs::StepConditions::StepsHoldAt, crate::specs::StepConditions::AvoidsFdfa, crate::specs::Characters::reading_of_word))]
 pub(crate) fn steps_hold_at(
     data: &CharacterData<'_>,
     supplement: &NonRecursiveDecompositionSupplement,
@@ -45,6 +45,7 @@ pub(crate) fn steps_hold_at(
 }
 
 /// Whether the word of a number, flags aside, has not the form of U+FDFA: that of a Hangul syllable never has.
+#[tactic(auto, using(crate::proofs::FdfaWords::syllable_avoids, crate::proofs::FdfaWords::other_avoids))]
 pub(crate) fn avoids_fdfa(number: u32, word: u32) -> bool
     ensures { (is_mapper : Bool) → IsTrue result ↔ (read number word is_mapper ≢ Fdfa) }
 {
@@ -61,8 +62,7 @@ fn has_sound_step(
     requires { IsRead data.now read.now }
     ensures { IsTrue result ↔ HasSoundStep data.now supplement.now read.now.character }
 {
-    // Most characters stand for themselves, and need no look at their lists.
-    if is_plain(read.word) || is_hangul_syllable(read.character as u32) {
+    if is_hangul_syllable(read.character as u32) {
         return true;
     }
     match step_by_reading(supplement, read) {
@@ -73,7 +73,7 @@ fn has_sound_step(
 
 /// Whether a step of a character is `Default` exactly where the list is the character alone, and else the list is the
 /// ordered lists of its parts.
-#[tactic(auto, unfolding(crate::specs::StepConditions::IsSoundStep))]
+#[tactic(auto, unfolding(crate::specs::StepConditions::IsSoundStep, crate::specs::StepConditions::IsInOrder))]
 fn is_sound_step(data: &CharacterData<'_>, read: &ReadCharacter<'_>, step: Step) -> bool
     requires { IsRead data.now read.now }
     ensures { IsTrue result ↔ IsSoundStep data.now read.now.character step }
@@ -87,6 +87,7 @@ fn is_sound_step(data: &CharacterData<'_>, read: &ReadCharacter<'_>, step: Step)
 }
 
 /// Whether a list is that of a character put in order.
+#[tactic(auto, using(crate::proofs::PairConditionLemmas::ordered_lists))]
 fn has_ordered_list(data: &CharacterData<'_>, list: &Members<'_>, character: char) -> bool
     ensures { IsTrue result ↔ (list.now ≡ order (reading_by data.now Dropped []) (list_of data.now [] character)) }
 {

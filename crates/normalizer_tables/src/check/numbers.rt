@@ -2,6 +2,7 @@
 ghost use Rattle.std.specs.Prelude.{◌≡◌, ◌↔◌, ◌<◌, ◌≤◌, ℕ, [], Some, true, IsTrue, All};
 ghost use Rattle.std.specs.Option.{option_map};
 ghost use Rattle.normalizer_tables.specs.Characters.{Characters, list_of, word_of};
+ghost use Rattle.normalizer_tables.specs.ClassConditions.{IsSoundClass};
 ghost use Rattle.normalizer_tables.specs.Conditions.{
   HoldsAt,
   IsPlainStarter,
@@ -24,14 +25,14 @@ use crate::read::{ReadCharacter, read_character};
 use crate::special::fixed_list_of;
 use crate::word::{
     IGNORED_MARKER, class_of_word, is_backward_combining, is_class_form, is_hangul_syllable,
-    is_plain, is_special_class_form, low_byte,
+    is_ordinary_class_form, is_special_class_form, low_byte,
 };
 
 /// The word of every surrogate.
 const SURROGATE_WORD: u32 = 0xC000_FFFD;
 
 /// Whether a condition holds of a character.
-#[tactic(auto, unfolding(crate::specs::Conditions::HoldsAt))]
+#[tactic(auto, using(crate::proofs::ConditionLemmas::no_surrogate), unfolding(crate::specs::Conditions::HoldsAt))]
 pub fn holds_at(
     data: &CharacterData<'_>,
     bounds: Bounds,
@@ -41,20 +42,14 @@ pub fn holds_at(
     requires { IsRead data.now read.now }
     ensures { IsTrue result ↔ HoldsAt data.now bounds condition read.now.character }
 {
-    let number = read.character as u32;
-    // Most characters stand for themselves, and need no look at their lists.
-    if is_plain(read.word) {
-        return match condition {
-            Condition::Hangul => !is_hangul_syllable(number),
-            _ => true,
-        };
-    }
     match condition {
         Condition::Hangul => is_sound_hangul(read),
         Condition::Words => is_sound_word(data, read),
         Condition::Members => reads_in_full(data, read),
         Condition::Order => is_ordered_list(data, read),
-        Condition::Passthrough => number >= bounds.decomposition || is_plain_starter(read),
+        Condition::Passthrough => {
+            (read.character as u32) >= bounds.decomposition || is_plain_starter(read)
+        }
         _ => true,
     }
 }
@@ -66,26 +61,36 @@ pub fn is_sound_surrogate(number: u32, word: u32) -> bool
     !is_surrogate(number) || word == SURROGATE_WORD
 }
 
-/// Whether all surrogates have their word.
-pub fn have_surrogate_words(data: &CharacterData<'_>) -> bool
-    ensures { IsTrue result ↔ ((n : ℕ) → is_surrogate n ≡ true → word_of data.now n ≡ 0xC000FFFD) }
+/// Whether all numbers of a range have this word.
+fn have_word(data: &CharacterData<'_>, from: u32, end: u32, word: u32) -> bool
+    ensures { IsTrue result ↔ ((n : ℕ) → from ≤ n → n < end → word_of data.now n ≡ word) }
 {
-    for surrogate in 0xD800..0xE000 {
-        if data.word_of_number(surrogate) != SURROGATE_WORD {
+    for number in from..end {
+        if data.word_of_number(number) != word {
             return false;
         }
     }
     true
 }
 
-/// Whether all Hangul syllables have the word 1, and all jamo of one read to themselves with class 0.
+/// Whether all surrogates have their word.
+#[tactic(auto, unfolding(crate::specs::Conditions::is_surrogate))]
+pub fn have_surrogate_words(data: &CharacterData<'_>) -> bool
+    ensures { IsTrue result ↔ ((n : ℕ) → is_surrogate n ≡ true → word_of data.now n ≡ 0xC000FFFD) }
+{
+    have_word(data, 0xD800, 0xE000, SURROGATE_WORD)
+}
+
+/// Whether all Hangul syllables have the word 1, and all jamo of one read to themselves with class 0. The lists of
+/// syllables need no look.
 pub fn have_sound_hangul(data: &CharacterData<'_>) -> bool
     ensures { IsTrue result ↔ ((n : ℕ) → IsSoundHangul data.now n) }
 {
-    have_sound_jamo(data) && have_syllable_words(data)
+    have_sound_jamo(data) && have_word(data, 0xAC00, 0xD7A4, 1)
 }
 
 /// Whether all jamo of a syllable read to themselves with class 0.
+#[tactic(auto, unfolding(crate::specs::Conditions::is_composing_jamo))]
 fn have_sound_jamo(data: &CharacterData<'_>) -> bool
     ensures { IsTrue result ↔ ((n : ℕ) → is_composing_jamo n ≡ true → IsPlainStarter data.now n) }
 {
@@ -98,6 +103,7 @@ fn have_sound_jamo(data: &CharacterData<'_>) -> bool
 }
 
 /// Whether a number is that of no such jamo, or of one that reads to itself with class 0.
+#[tactic(auto, unfolding(crate::specs::Conditions::is_composing_jamo))]
 fn is_sound_jamo(data: &CharacterData<'_>, number: u32) -> bool
     ensures { IsTrue result ↔ (is_composing_jamo number ≡ true → IsPlainStarter data.now number) }
 {
@@ -107,18 +113,6 @@ fn is_sound_jamo(data: &CharacterData<'_>, number: u32) -> bool
         }
         None => true,
     }
-}
-
-/// Whether all Hangul syllables have the word 1. Their lists need no look.
-fn have_syllable_words(data: &CharacterData<'_>) -> bool
-    ensures { IsTrue result ↔ ((n : ℕ) → is_hangul_syllable n ≡ true → word_of data.now n ≡ 1) }
-{
-    for syllable in 0xAC00..0xD7A4 {
-        if data.word_of_number(syllable) != 1 {
-            return false;
-        }
-    }
-    true
 }
 
 #[tactic(auto, unfolding(crate::specs::Conditions::is_surrogate))]
@@ -137,6 +131,7 @@ fn is_composing_jamo(character: char) -> bool
 }
 
 /// Whether a Hangul syllable has the word 1, or a jamo reads to itself with class 0.
+#[tactic(auto, unfolding(crate::specs::Hangul::is_hangul_syllable, crate::specs::Conditions::is_composing_jamo))]
 fn is_sound_hangul(read: &ReadCharacter<'_>) -> bool
     ensures { (s : Characters) → IsRead s read.now → IsTrue result ↔ IsSoundHangul s read.now.character }
 {
@@ -148,6 +143,7 @@ fn is_sound_hangul(read: &ReadCharacter<'_>) -> bool
 }
 
 /// Whether a character reads to itself with class 0.
+#[tactic(auto, using(crate::proofs::ReadLemmas::readings), unfolding(crate::specs::Conditions::IsPlainStarter, crate::specs::Conditions::ReadsToItself))]
 pub fn is_plain_starter(read: &ReadCharacter<'_>) -> bool
     ensures { (s : Characters) → IsRead s read.now → IsTrue result ↔ IsPlainStarter s read.now.character }
 {
@@ -155,6 +151,7 @@ pub fn is_plain_starter(read: &ReadCharacter<'_>) -> bool
 }
 
 /// Whether the word of a character reads, and to the character alone.
+#[tactic(auto, using(crate::proofs::ReadLemmas::readings), unfolding(crate::specs::Conditions::ReadsToItself))]
 fn reads_to_itself(read: &ReadCharacter<'_>) -> bool
     ensures { (s : Characters) → IsRead s read.now → IsTrue result ↔ ReadsToItself s read.now.character }
 {
@@ -175,21 +172,24 @@ fn is_sound_word(data: &CharacterData<'_>, read: &ReadCharacter<'_>) -> bool
 fn is_sound_class_form(character: char, word: u32) -> bool
     ensures { IsTrue result ↔ IsSoundClassForm character word }
 {
-    if !is_class_form(word) {
-        return true;
+    is_sound_class(character, word) && (!is_class_form(word) || is_backward_combining(word))
+}
+
+/// Whether a word is no class form, or has a class that its character may have.
+#[tactic(auto, using(crate::proofs::ConditionLemmas::one_class_form))]
+pub(crate) fn is_sound_class(character: char, word: u32) -> bool
+    ensures { IsTrue result ↔ IsSoundClass character word }
+{
+    if is_ordinary_class_form(word) {
+        let class = low_byte(word);
+        0 < class && class < 255
+    } else {
+        !is_special_class_form(word) || has_fixed_class(character, low_byte(word))
     }
-    if !is_backward_combining(word) {
-        return false;
-    }
-    let class = low_byte(word);
-    if is_special_class_form(word) {
-        return has_fixed_class(character, class);
-    }
-    0 < class && class < 255
 }
 
 /// Whether a character has a fixed list and this class.
-pub(crate) fn has_fixed_class(character: char, class: u8) -> bool
+fn has_fixed_class(character: char, class: u8) -> bool
     ensures { IsTrue result ↔ (option_map (λ f. f.class) (fixed_list_of character) ≡ Some class) }
 {
     match fixed_list_of(character) {
@@ -199,6 +199,7 @@ pub(crate) fn has_fixed_class(character: char, class: u8) -> bool
 }
 
 /// Whether every member of the list of a character reads to itself.
+#[tactic(auto, using(crate::proofs::ConditionLemmas::itself_reads_in_full))]
 fn reads_in_full(data: &CharacterData<'_>, read: &ReadCharacter<'_>) -> bool
     requires { IsRead data.now read.now }
     ensures { IsTrue result ↔ All (ReadsToItself data.now) (list_of data.now [] read.now.character) }

@@ -2,7 +2,7 @@
 ghost use Rattle.std.specs.Prelude.{◌≡◌, ◌↔◌, ℕ, IsTrue, IfSome};
 ghost use Rattle.std.specs.Char.{IsScalar};
 ghost use Rattle.normalizer_tables.specs.Characters.{word_of};
-ghost use Rattle.normalizer_tables.specs.Loaded.{IsMetAt, IsMetOverall};
+ghost use Rattle.normalizer_tables.specs.Loaded.{IsMetAt};
 ghost use Rattle.normalizer_tables.specs.PairConditions.{PairsHoldAt, PairsHoldOverall};
 ghost use Rattle.normalizer_tables.specs.inner.Read.{IsRead};
 ghost use Rattle.normalizer_tables.specs.StepConditions.{AvoidsFdfa, StepsHoldAt};
@@ -20,14 +20,17 @@ use crate::read::ReadCharacter;
 use crate::step_check::{avoids_fdfa, steps_hold_at};
 
 /// Whether a condition is met, as far as it is about the data as a whole, and about numbers apart from the walk.
-#[tactic(auto, unfolding(crate::specs::inner::Walk::IsMetApart))]
+#[tactic(auto, unfolding(crate::specs::inner::Walk::IsMetApart, crate::specs::Loaded::IsMetOverall))]
 pub fn is_met_apart(data: &LoadedData<'_>, condition: Condition) -> bool
     ensures { IsTrue result ↔ IsMetApart data.now condition }
 {
-    is_met_overall(data, condition) && is_met_apart_at(data, condition)
+    holds_overall(data.characters(), condition)
+        && is_met_by_pairs(data, condition)
+        && is_met_apart_at(data, condition)
 }
 
 /// Whether a condition is met by all numbers whose word is 0, flags aside, or by all surrogates, or by all of Hangul.
+#[tactic(auto, using(crate::proofs::WalkLemmas::walk))]
 fn is_met_apart_at(data: &LoadedData<'_>, condition: Condition) -> bool
     ensures { IsTrue result ↔ IsMetApartAt data.now condition }
 {
@@ -50,14 +53,6 @@ fn have_safe_beginnings(data: &LoadedData<'_>) -> bool
     }
 }
 
-/// Whether a condition is met, as far as it is about the data as a whole.
-#[tactic(auto, unfolding(crate::specs::Loaded::IsMetOverall))]
-fn is_met_overall(data: &LoadedData<'_>, condition: Condition) -> bool
-    ensures { IsTrue result ↔ IsMetOverall data.now condition }
-{
-    holds_overall(data.characters(), condition) && is_met_by_pairs(data, condition)
-}
-
 fn is_met_by_pairs(data: &LoadedData<'_>, condition: Condition) -> bool
     ensures { IsTrue result ↔ IfSome data.now.pairs (λ pairs. PairsHoldOverall data.now.characters pairs condition) }
 {
@@ -73,13 +68,9 @@ pub fn is_met_at(data: &LoadedData<'_>, condition: Condition, read: &ReadCharact
     requires { IsRead data.now.characters read.now }
     ensures { IsTrue result ↔ IsMetAt data.now condition read.now.character }
 {
-    match condition {
-        Condition::RoundTrip | Condition::SafeBeginning => {
-            is_met_by_pairs_at(data, condition, read)
-        }
-        Condition::FdfaForms | Condition::Steps => is_met_by_steps_at(data, condition, read),
-        _ => holds_at(data.characters(), data.bounds(), condition, read),
-    }
+    holds_at(data.characters(), data.bounds(), condition, read)
+        && is_met_by_pairs_at(data, condition, read)
+        && is_met_by_steps_at(data, condition, read)
 }
 
 fn is_met_by_pairs_at(data: &LoadedData<'_>, condition: Condition, read: &ReadCharacter<'_>) -> bool
@@ -108,6 +99,7 @@ fn is_met_by_steps_at(data: &LoadedData<'_>, condition: Condition, read: &ReadCh
 }
 
 /// Whether a condition is met, as far as it is about a number that no character has and its word.
+#[tactic(auto, using(crate::proofs::LoadedLemmas::parts_of_conditions), unfolding(crate::specs::Loaded::IsMetAt, crate::specs::Conditions::HoldsAt, crate::specs::PairConditions::PairsHoldAt, crate::specs::StepConditions::StepsHoldAt, crate::specs::StepConditions::AvoidsFdfa, crate::specs::Characters::reading_of_word))]
 pub fn is_met_elsewhere(data: &LoadedData<'_>, condition: Condition, number: u32, word: u32) -> bool
     requires no_character { IsScalar number → ⊥ }
     requires word { word ≡ word_of data.now.characters number }
@@ -115,18 +107,10 @@ pub fn is_met_elsewhere(data: &LoadedData<'_>, condition: Condition, number: u32
 {
     match condition {
         Condition::Surrogates => is_sound_surrogate(number, word),
-        Condition::FdfaForms => keeps_from_fdfa(data, number, word),
+        Condition::FdfaForms => match data.supplement() {
+            Some(_) => avoids_fdfa(number, word),
+            None => true,
+        },
         _ => true,
-    }
-}
-
-/// Whether no supplement was loaded, or a word hasn't the form of U+FDFA.
-fn keeps_from_fdfa(data: &LoadedData<'_>, number: u32, word: u32) -> bool
-    requires { word ≡ word_of data.now.characters number }
-    ensures { IsTrue result ↔ IfSome data.now.supplement (λ _. AvoidsFdfa data.now.characters number) }
-{
-    match data.supplement() {
-        Some(_) => avoids_fdfa(number, word),
-        None => true,
     }
 }

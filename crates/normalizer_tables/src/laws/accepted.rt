@@ -55,6 +55,7 @@ pub fn low_characters_pass_unseen()
 {}
 
 /// What characters compose to are characters where the pairs hold characters alone; Hangul syllables are characters.
+#[tactic(auto, using(crate::proofs::AcceptedLaws::scalar_results))]
 pub fn results_are_characters()
     ensures { (s : Characters) (ignored : List ℕ) (pairs : List Pair) → All (λ p. IsScalar p.2) pairs →
         HasScalarResults (reading_of s ignored (pair_of pairs)) }
@@ -68,6 +69,7 @@ pub fn accepted_data_have_sound_classes()
 {}
 
 /// What is asked of pairs alone is part of what is asked of data with pairs: condition 11.
+#[tactic(auto, unfolding(crate::specs::PairConditions::HoldsOfPairs, crate::specs::PairConditions::PairsHoldOverall))]
 pub fn accepted_pairs_are_sound()
     ensures { (s : Characters) (b : Bounds) (pairs : List Pair) → HoldsOfPairs s b pairs condition.Pairs →
         AreSoundPairs pairs }

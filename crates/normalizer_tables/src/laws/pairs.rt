@@ -1,4 +1,6 @@
 //! What data and pairs that meet the written conditions give.
+#![tactic(auto, using(crate::proofs::PairLaws::pair_laws), unfolding(crate::specs::PairConditions::HoldsOfPairs, crate::specs::PairConditions::PairsHoldOverall))]
+
 ghost use Rattle.std.specs.Prelude.{◌≡◌, ◌≢◌, ℕ, List, [], ◌∷◌, true, All};
 ghost use Rattle.std.specs.Char.{IsScalar};
 ghost use Rattle.normal_forms.specs.Boundary.{BeginsSafely};

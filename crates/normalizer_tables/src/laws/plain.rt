@@ -1,4 +1,6 @@
 //! What a word that is 0, flags aside, says of its character.
+#![tactic(auto, using(crate::proofs::PlainCharacters::plain_characters), unfolding(normal_forms::specs::ShortRuns::continues, crate::specs::Characters::has_class_form))]
+
 ghost use Rattle.std.specs.Prelude.{◌≡◌, ℕ, List, [], ◌∷◌, Option, false, true};
 ghost use Rattle.std.specs.Char.{IsScalar};
 ghost use Rattle.normal_forms.specs.Forms.{IsNormalized};

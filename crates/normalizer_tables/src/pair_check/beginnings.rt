@@ -36,10 +36,6 @@ pub fn keeps_round_trip(
     requires { IsRead data.now read.now }
     ensures { IsTrue result ↔ KeepsRoundTrip data.now bounds compositions.now read.now.character }
 {
-    // Most characters stand for themselves, and need no look at their lists.
-    if is_plain(read.word) {
-        return true;
-    }
     let is_taken = !is_non_round_trip(read.word) || (read.character as u32) < bounds.composition;
     !is_taken || round_trips(data, compositions, read)
 }
@@ -57,11 +53,12 @@ pub fn keeps_beginning(
 {
     let is_taken = !is_backward_combining(read.word)
         || (read.character as u32) < bounds.composition;
-    !is_taken || begins_safely(data, compositions, read)
+    !is_taken || has_safe_beginning(data, compositions, read)
 }
 
 /// Whether all characters whose word is 0, flags aside, keep their beginnings. Only the seconds of pairs may not,
 /// Hangul ones included.
+#[tactic(auto, using(crate::proofs::WalkLemmas::walk))]
 pub fn keep_plain_beginnings(
     data: &CharacterData<'_>,
     bounds: Bounds,
@@ -89,6 +86,7 @@ fn seconds_keep_beginnings(
     true
 }
 
+#[tactic(auto, unfolding(crate::specs::Pairs::is_vowel_or_trailing_jamo))]
 fn jamo_keep_beginnings(
     data: &CharacterData<'_>,
     bounds: Bounds,
@@ -106,7 +104,7 @@ fn jamo_keep_beginnings(
 }
 
 /// Whether a number has another word than 0, flags aside, or keeps its beginning.
-#[tactic(auto, unfolding(crate::specs::inner::Walk::KeepsPlainBeginning))]
+#[tactic(auto, unfolding(crate::specs::inner::Walk::KeepsPlainBeginning, crate::specs::PairConditions::KeepsBeginning))]
 fn keeps_plain_beginning(
     data: &CharacterData<'_>,
     bounds: Bounds,
@@ -125,22 +123,6 @@ fn keeps_plain_beginning(
             keeps_beginning(data, bounds, compositions, &read)
         }
         None => true,
-    }
-}
-
-/// Whether the list of a character begins safely.
-fn begins_safely(
-    data: &CharacterData<'_>,
-    compositions: &CanonicalCompositions,
-    read: &ReadCharacter<'_>,
-) -> bool
-    requires { IsRead data.now read.now }
-    ensures { IsTrue result ↔ HasSafeBeginning data.now compositions.now read.now.character }
-{
-    if is_plain(read.word) {
-        compositions.is_never_second(read.character)
-    } else {
-        has_safe_beginning(data, compositions, read)
     }
 }
 
@@ -173,6 +155,7 @@ fn has_safe_beginning(
 }
 
 /// Whether a list composes to this character alone: all behind the first join.
+#[tactic(auto, using(crate::proofs::CompositionLemmas::compositions))]
 fn composes_to(
     data: &CharacterData<'_>,
     compositions: &CanonicalCompositions,

@@ -13,6 +13,7 @@ use crate::members::Members;
 const ROOM: usize = 36;
 
 /// Whether the list of a pair's result is the ordered lists of first and second.
+#[tactic(auto, unfolding(crate::specs::PairConditions::HasOrderedLists))]
 pub fn has_ordered_lists(data: &CharacterData<'_>, pair: (char, char, char)) -> bool
     ensures { IsTrue result ↔ HasOrderedLists data.now [] pair }
 {
@@ -21,6 +22,7 @@ pub fn has_ordered_lists(data: &CharacterData<'_>, pair: (char, char, char)) -> 
 }
 
 /// Whether a list is the ordered lists of two characters.
+#[tactic(auto, using(crate::proofs::PairConditionLemmas::ordered_lists))]
 pub(crate) fn is_ordered_lists(
     data: &CharacterData<'_>,
     list: &Members<'_>,
@@ -80,6 +82,7 @@ pub(crate) fn is_spelled(list: &Members<'_>, characters: &[char]) -> bool
 }
 
 /// Puts characters in canonical order: from the last on, each is put before those behind it.
+#[tactic(auto, using(crate::proofs::PairConditionLemmas::ordered_lists))]
 pub(crate) fn put_in_order(data: &CharacterData<'_>, characters: &mut [char])
     ensures { characters.new ≡ order (reading_by data.now Dropped []) characters.old }
 {
@@ -90,6 +93,7 @@ pub(crate) fn put_in_order(data: &CharacterData<'_>, characters: &mut [char])
 }
 
 /// The first character passes its neighbour as long as the two are a reorderable pair.
+#[tactic(auto, using(crate::proofs::PairConditionLemmas::ordered_lists))]
 fn insert_first(data: &CharacterData<'_>, characters: &mut [char])
     requires { 0 < length characters.old }
     ensures { characters.new ≡ insert (reading_by data.now Dropped []) (slice_index characters.old 0)

@@ -1,24 +1,7 @@
 use Rattle.std.proofs.Common.{refl, arith}
 use Rattle.normalizer_tables.specs.ClassConditions.{HoldsOfClasses}
-use Rattle.normalizer_tables.proofs.ClassLemmas.{HasSoundClass, HaveSoundClasses-none, next_within, sound_to_next, sound_to_end}
+use Rattle.normalizer_tables.proofs.ClassLemmas.{HasSoundClass, next_within, sound_to_next, sound_to_end}
 use Rattle.normalizer_tables.proofs.class_check.have_sound_classes.Goals as goal
-
-pub loop-number-init : goal.loop-number-init
-loop-number-init c = record { within = omega arith; sound = HaveSoundClasses-none c.args.table.now }
-
-pub returns-then-not-has_sound_class : goal.returns-then-not-has_sound_class
-unfolding HoldsOfClasses
-returns-then-not-has_sound_class c = (
-  λ f. cc,
-  λ all. (let yes = c.has_sound_class.ensures.1 (rw c.get32.ensures.word (all c.in-Some.number)) in
-      let no = c.if-not-has_sound_class.true in cc),
-)
-
-pub overflow_add-from : goal.overflow_add-from
-overflow_add-from c = (let next = next_within c.args.table.now c.loop-number.from c.in-Some.number c.in-Some.ensures in omega (arith, next.1))
-
-pub loop-number-smaller : goal.loop-number-smaller
-loop-number-smaller c = (let next = next_within c.args.table.now c.loop-number.from c.in-Some.number c.in-Some.ensures in omega (arith, next.0, next.1))
 
 pub loop-number-preserved : goal.loop-number-preserved
 unfolding HasSoundClass

@@ -1,11 +1,14 @@
 use Rattle.std.proofs.Common.{refl}
-use Rattle.normalizer_tables.proofs.ConditionLemmas.{IsSoundHangul-all}
+use Rattle.normalizer_tables.proofs.ConditionLemmas.{syllable_in_range, syllable_range}
 use Rattle.normalizer_tables.proofs.check.numbers.have_sound_hangul.Goals as goal
 
 pub returns-then-have_sound_jamo : goal.returns-then-have_sound_jamo
 returns-then-have_sound_jamo c = (
-  λ yes. IsSoundHangul-all c.args.data.now (c.if-have_sound_jamo.ensures.0 refl) (c.have_syllable_words.ensures.0 yes),
-  λ all. c.have_syllable_words.ensures.1 (λ n syllable. (all n).syllable syllable),
+  λ yes n. record {
+    syllable = λ h. let range = syllable_range n h in c.have_word.ensures.0 yes n range.0 range.1;
+    jamo = c.if-have_sound_jamo.ensures.0 refl n;
+  },
+  λ all. c.have_word.ensures.1 (λ n low high. (all n).syllable (syllable_in_range n low high)),
 )
 
 pub returns-else-have_sound_jamo : goal.returns-else-have_sound_jamo

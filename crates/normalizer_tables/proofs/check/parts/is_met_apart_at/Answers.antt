@@ -1,15 +1,20 @@
 use Rattle.std.proofs.Common.{refl}
-use Rattle.normalizer_tables.proofs.WalkLemmas.{IsMetApartAt-others, IsMetApartAt-surrogates, IsMetApartAt-hangul, IsMetApartAt-beginnings}
+use Rattle.normalizer_tables.specs.Conditions.{HoldsAt}
+use Rattle.normalizer_tables.specs.PairConditions.{PairsHoldAt}
+use Rattle.normalizer_tables.specs.StepConditions.{StepsHoldAt}
+use Rattle.normalizer_tables.specs.inner.Walk.{is_asked_apart}
+use Rattle.normalizer_tables.specs.declared.condition.Condition.TheVariants.{Surrogates, Hangul}
+use Rattle.normalizer_tables.proofs.WalkLemmas.{IsMetApartAt-alone, IsMetApartAt-beginnings}
 use Rattle.normalizer_tables.proofs.check.parts.is_met_apart_at.Goals as goal
 
 pub returns-in-Surrogates : goal.returns-in-Surrogates
-returns-in-Surrogates c = IsMetApartAt-surrogates c.args.data.now c.args.condition _ c.in-Surrogates.is (rw c.characters.ensures at c.have_surrogate_words.ensures)
+unfolding HoldsAt PairsHoldAt StepsHoldAt is_asked_apart
+returns-in-Surrogates c =
+    rw c.in-Surrogates.is (IsMetApartAt-alone c.args.data.now Surrogates _ (λ n. refl) (λ n pairs. tt) (λ n t. tt) (rw c.characters.ensures at c.have_surrogate_words.ensures))
 
 pub returns-in-Hangul : goal.returns-in-Hangul
-returns-in-Hangul c = IsMetApartAt-hangul c.args.data.now c.args.condition _ c.in-Hangul.is (rw c.characters-in-Hangul.ensures at c.have_sound_hangul.ensures)
+unfolding HoldsAt PairsHoldAt StepsHoldAt is_asked_apart
+returns-in-Hangul c = rw c.in-Hangul.is (IsMetApartAt-alone c.args.data.now Hangul _ (λ n. refl) (λ n pairs. tt) (λ n t. tt) (rw c.characters-in-Hangul.ensures at c.have_sound_hangul.ensures))
 
 pub returns-in-SafeBeginning : goal.returns-in-SafeBeginning
-returns-in-SafeBeginning c = IsMetApartAt-beginnings c.args.data.now c.args.condition _ c.in-SafeBeginning.is c.have_safe_beginnings.ensures
-
-pub returns-in_default : goal.returns-in_default
-returns-in_default c = (λ yes. IsMetApartAt-others c.args.data.now c.args.condition c.in_default.not-Surrogates c.in_default.not-Hangul c.in_default.not-SafeBeginning, λ met. refl)
+returns-in-SafeBeginning c = rw c.in-SafeBeginning.is (IsMetApartAt-beginnings c.args.data.now _ c.have_safe_beginnings.ensures)

@@ -1,9 +1,6 @@
 use Rattle.normalizer_tables.specs.Ignored.{ignored_list}
-use Rattle.normalizer_tables.proofs.PairLaws.{IsNormalized-passed, BeginsSafely-passed, inhabited-passed}
+use Rattle.normalizer_tables.proofs.PairLaws.{BeginsSafely-passed, inhabited-passed}
 use Rattle.normalizer_tables.proofs.laws.pairs.passed_characters_stand_apart.Goals as goal
-
-pub returns-clause-form : goal.returns-clause-form
-returns-clause-form c = λ s b pairs in_order trips i. IsNormalized-passed s b pairs in_order trips (ignored_list i)
 
 pub returns-clause-beginning : goal.returns-clause-beginning
 returns-clause-beginning c = λ s b pairs safe i. BeginsSafely-passed s b pairs safe (ignored_list i)
