@@ -22,7 +22,7 @@ HasFullLists-example = record {
       let P : ℕ → Type 0 = ReadsAsItself example in
       let at_composite : All P (0x61 ∷ 0x308 ∷ []) = All-cons P 0x61 (0x308 ∷ []) refl (All-cons P 0x308 [] refl (All-nil P)) in
       ⊎_elim (λ h. All-same P (example_list c) (0x61 ∷ 0x308 ∷ []) (list-composite c h) at_composite)
-          (λ h. All-same P (example_list c) (c ∷ []) (list-other c h) (All-cons P c [] (list-other c h) (All-nil P))) (cases_Bool (c == 0xE4));
+      (λ h. All-same P (example_list c) (c ∷ []) (list-other c h) (All-cons P c [] (list-other c h) (All-nil P))) (cases_Bool (c == 0xE4));
 }
 
 -- there is one pair

@@ -169,8 +169,10 @@ module _ (e : Encoding) (d : Reading) (form : Form) (units : List ℕ) where
 
     -- the step in front has the first character
     pub found_at : (rest : List ℕ) (s : Step) → IsFirstStep (first_in e) rest s → IsFirst (decoded_in e rest) s.character
-    found_at rest s first = (decoded_in e (drop (first_in e rest).width rest), decoded-some (first_in e) (IsDecoding-first e) rest first.some
-        ∙ ap (λ t. t.character ∷ decoded_in e (drop (first_in e rest).width rest)) (sym first.is))
+    found_at rest s first = (
+      decoded_in e (drop (first_in e rest).width rest),
+      decoded-some (first_in e) (IsDecoding-first e) rest first.some ∙ ap (λ t. t.character ∷ decoded_in e (drop (first_in e rest).width rest)) (sym first.is),
+    )
 
 -- nothing is answered exactly where the units are well-formed and their own form
 pub is_none_iff_normalized : (e : Encoding) (d : Reading) (form : Form) (units : List ℕ) (cut : Option ℕ) (r : Bool) → is_some cut ≡ not r → IsCutUnlessNormalized e d form units cut

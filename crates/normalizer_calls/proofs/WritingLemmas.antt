@@ -153,8 +153,16 @@ module _ {S : Type 0} (e : Encoding) (taken : S → List ℕ) (refused left : S 
       ahead = IfOk-weaker answer _ _ (λ _ ahead later r. told.units.written.ahead later (ahead later r)) h.ahead;
       fault = λ is. told.units.written.ahead new (h.fault is);
       refusal = λ is. let r = h.refusal is in
-          record { before = r.before; beginning = TookBeginning-told text r.before r.beginning; piece = r.piece; kind = r.kind; rest = r.rest; goes_on
-              = r.goes_on; known = r.known; leaves = r.leaves };
+          record {
+            before = r.before;
+            beginning = TookBeginning-told text r.before r.beginning;
+            piece = r.piece;
+            kind = r.kind;
+            rest = r.rest;
+            goes_on = r.goes_on;
+            known = r.known;
+            leaves = r.leaves;
+          };
       begun = λ is. TookBeginning-told text new (h.begun is);
     }
 
@@ -165,7 +173,7 @@ module _ {S : Type 0} (e : Encoding) (taken : S → List ℕ) (refused left : S 
 pub WritesForm-text : {S : Type 0} {offered : List ℕ → List ℕ → Type 0} (e : Encoding) (taken : S → List ℕ) (refused left : S → S → Type 0)
     (refuses : S → List ℕ → Type 0) (has_class_form : ℕ → Bool) (d : Reading) (form : Form) (x y : List ℕ) (old : S) (answer : Result ⊤ NormalizeError) (new : S)
     → x ≡ y → WritesText e taken refused left refuses offered (normal_form d form x) old answer new → (HasShortRuns has_class_form d x → ¬ IsErrOf answer Memory)
-        → WritesForm e taken refused left has_class_form d form y old answer new
+    → WritesForm e taken refused left has_class_form d form y old answer new
 WritesForm-text {S = S} {offered = offered} e taken refused left refuses has_class_form d form x y old answer new same h room =
     subst (λ z. WritesForm e taken refused left has_class_form d form z old answer new) same (record { written = h.written; fault = h.fault; room = room; begun = begun answer h })
   where

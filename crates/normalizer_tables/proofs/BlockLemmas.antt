@@ -57,7 +57,7 @@ pub range_block-from_words : (rs : List WordRange) (start : ℕ) (block : Block)
 unfolding range_block
 range_block-from_words rs start block long words =
     ext_get_or 0 block _ (long ∙ sym (length-map-range_with_len (word_in rs) start 64))
-        (λ k below. words k (omega arith) ∙ sym (get_or-map-range_with_len (word_in rs) start 64 k (start + k) 0 (omega arith) refl))
+    (λ k below. words k (omega arith) ∙ sym (get_or-map-range_with_len (word_in rs) start 64 k (start + k) 0 (omega arith) refl))
 
 pub length-stored_words : (blocks : List Block) (numbers : List ℕ) → length (stored_words blocks numbers) ≡ code_points
 unfolding stored_words

@@ -39,7 +39,7 @@ pub listed_at-alone : (s : Characters) (item low k : ℕ) → ((after : ℕ → 
     s.supplementary ≡ record { scalars16 = []; scalars24 = [] } → listed_at s item low ≡ None
 listed_at-alone s item low k first e =
     listed_at-past s item low k (k - 0 - 0) first (λ after. subst (λ (t : Lists). listed_in t low after k ≡ after (k - 0 - 0)) (sym e)
-        (listed_in-past (record { scalars16 = []; scalars24 = [] }) low k after (omega arith) (omega arith)))
+    (listed_in-past (record { scalars16 = []; scalars24 = [] }) low k after (omega arith) (omega arith)))
 
 -- what the functions that look for a list cite
 pub ruleset listed_lists = (list_all-items_at, narrow_at-all, placed_in-within, placed_in-past, listed_in-past)

@@ -44,7 +44,7 @@ pub pair_of-some : (pairs : List Pair) (first second result : ℕ) → pair_of p
 unfolding pair_of
 pair_of-some pairs first second result joins =
     cond_both (is_vowel_or_trailing_jamo second) _ _ (λ o. o ≡ Some result → (compose_hangul first second ≡ Some result) ⊎ (listed_result pairs first second ≡ Some result))
-        (λ _ e. inl e) (λ _ e. inr e) joins
+    (λ _ e. inl e) (λ _ e. inr e) joins
 
 -- only classes matter to the order, and classes and pairs to composition
 pub order-own : (s : Characters) (ignored : List ℕ) (pairing : ℕ → ℕ → Option ℕ) (x : List ℕ) → order (reading_by s Dropped []) x ≡ order (reading_of s ignored pairing) x
@@ -147,7 +147,7 @@ module _ (s : Characters) (b : Bounds) (hangul : Holds s b Hangul) where
         let second : is_composing_jamo v ≡ true = vowel_jamo v (omega arith) (omega arith) in
         let third = trailing_jamo t h.trailing.0 h.trailing.1 in
         let syllable : list_of s ignored a ≡ l ∷ v ∷ [] = list_of-syllable ignored a (l ∷ v ∷ []) h.syllable.0 h.syllable.1 (hangul_decomposition-two a h.two_jamo)
-            (two_jamo l v (omega arith) (omega arith)) in
+        (two_jamo l v (omega arith) (omega arith)) in
         let parts = ap₂ (λ x y. order (reading_of s ignored pairing) (x ++ y)) syllable (jamo_list ignored t third) in
         list_of-syllable ignored r (l ∷ v ∷ t ∷ []) (omega arith) (omega arith) (hangul_decomposition-lvt a t r h) (three_jamo l v t (omega arith) (omega arith) (omega arith))
         ∙ sym (jamo_stay _ (All-cons IsJamo l (v ∷ t ∷ []) first (All-cons IsJamo v (t ∷ []) second (All-cons IsJamo t [] third (All-nil IsJamo))))) ∙ sym parts

@@ -23,4 +23,4 @@ returns-clause-text g c =
 pub returns-clause-first : goal.returns-clause-first
 returns-clause-first g c =
     TellsLengthFirst-told g.U.Units.encoding g.O.Output.taken g.O.Output.refused g.O.Output.left g.O.Output.refuses g.O.Output.hinted _ _ _
-        (rw c.in_ok-begin.was at c.begin.ensures) _ _ _ c.len.ensures
+    (rw c.in_ok-begin.was at c.begin.ensures) _ _ _ c.len.ensures

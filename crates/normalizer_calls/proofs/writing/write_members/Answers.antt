@@ -10,7 +10,7 @@ loop-place-init g c = WroteSoFar-none g.U.Units.encoding g.O.Output.taken g.O.Ou
 pub loop-place-preserved : goal.loop-place-preserved
 loop-place-preserved g c =
     WroteSoFar-more g.U.Units.encoding g.O.Output.taken g.O.Output.refused g.O.Output.left g.O.Output.refuses list_gives _ _ _
-        (drop (c.loop-place.place + 1) c.args.members.now) _ _ c.loop-place.invariant c.at.result
+    (drop (c.loop-place.place + 1) c.args.members.now) _ _ c.loop-place.invariant c.at.result
     (list_gives-at c.args.members.now c.loop-place.place c.at.result c.at.ensures) (rw c.in_ok-write_char.was at c.write_char.ensures)
 
 pub returns-in_err-write_char-clause-text : goal.returns-in_err-write_char-clause-text
@@ -18,7 +18,7 @@ returns-in_err-write_char-clause-text g c =
     let is : c.from_residual.result ≡ Err Sink = search rules in
     rw is
     (WritesText-refused g.U.Units.encoding g.O.Output.taken g.O.Output.refused g.O.Output.left g.O.Output.refuses list_gives _ _ _
-        (drop (c.loop-place.place + 1) c.args.members.now) _ _ c.loop-place.invariant c.at.result _
+    (drop (c.loop-place.place + 1) c.args.members.now) _ _ c.loop-place.invariant c.at.result _
     (list_gives-at c.args.members.now c.loop-place.place c.at.result c.at.ensures) c.in_err-write_char.ensures _ (SpellsUnless-list c.args.members.now))
 
 pub returns-clause-text : goal.returns-clause-text

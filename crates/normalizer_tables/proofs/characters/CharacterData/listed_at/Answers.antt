@@ -7,4 +7,4 @@ use Rattle.normalizer_tables.proofs.characters.CharacterData.listed_at.Goals as 
 pub returns-in_err-self-in-Past : goal.returns-in_err-self-in-Past
 returns-in_err-self-in-Past c =
     rw (← c.self.view_is) (c.from_residual.ensures ∙ sym (listed_at-alone _ c.args.item c.args.low c.in-Past.item c.in-Past.ensures
-        (ap (λ t. lists_or_none (option_copied t)) c.in_err-self-in-Past.was)))
+    (ap (λ t. lists_or_none (option_copied t)) c.in_err-self-in-Past.was)))

@@ -14,13 +14,13 @@ pub returns-in_err-fixed_list_of-in-SpecialForm : goal.returns-in_err-fixed_list
 unfolding named_list
 returns-in_err-fixed_list_of-in-SpecialForm c =
     c.from_residual.ensures ∙ ap (option_map (λ (f : FixedList). f.list)) c.in_err-fixed_list_of-in-SpecialForm.ensures
-        ∙ sym (list_read-scalar _ _ _ _ c.ranges.character.0 (sym c.in-SpecialForm.ensures))
+    ∙ sym (list_read-scalar _ _ _ _ c.ranges.character.0 (sym c.in-SpecialForm.ensures))
 
 pub returns-in_ok-fixed_list_of-in-SpecialForm : goal.returns-in_ok-fixed_list_of-in-SpecialForm
 unfolding named_list
 returns-in_ok-fixed_list_of-in-SpecialForm c =
     ap Some c.members.ensures ∙ ap (option_map (λ (f : FixedList). f.list)) c.in_ok-fixed_list_of-in-SpecialForm.ensures
-        ∙ sym (list_read-scalar _ _ _ _ c.ranges.character.0 (sym c.in-SpecialForm.ensures))
+    ∙ sym (list_read-scalar _ _ _ _ c.ranges.character.0 (sym c.in-SpecialForm.ensures))
 
 pub returns-in-Itself : goal.returns-in-Itself
 unfolding named_list
