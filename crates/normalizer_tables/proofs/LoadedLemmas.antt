@@ -105,6 +105,3 @@ IsMet-within d c complete overall each = IsMet-everywhere d c overall (λ n. eli
       (λ e. avoids_past d.characters d.supplement complete (λ m h. subst (λ k. IfSome d.supplement (λ t. StepsHoldAt d.characters t k m)) e (each m h).2) n)
   | inr within ↦ each n within
 ])
-
--- what the functions on one condition cite
-pub ruleset parts_of_conditions = (IfSome-all)

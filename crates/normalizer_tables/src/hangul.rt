@@ -23,7 +23,7 @@ pub(crate) const T_COUNT: u32 = 28;
 pub(crate) const N_COUNT: u32 = 588;
 
 /// The syllable of a leading consonant and a vowel, or of such a syllable and a trailing consonant.
-#[tactic(auto, using(crate::proofs::HangulLemmas::low_character), unfolding(crate::specs::Hangul::is_hangul_syllable, crate::specs::HangulComposition::compose_hangul, crate::specs::HangulComposition::is_leading_consonant, crate::specs::HangulComposition::is_lv_syllable, crate::specs::HangulComposition::is_trailing_consonant, crate::specs::HangulComposition::is_vowel, crate::specs::HangulComposition::lv_syllable))]
+#[tactic(auto, unfolding(crate::specs::HangulComposition::compose_hangul))]
 pub fn compose_hangul(first: char, second: char) -> Option<char>
     ensures { result ≡ compose_hangul first second }
 {

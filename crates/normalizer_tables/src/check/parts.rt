@@ -99,7 +99,6 @@ fn is_met_by_steps_at(data: &LoadedData<'_>, condition: Condition, read: &ReadCh
 }
 
 /// Whether a condition is met, as far as it is about a number that no character has and its word.
-#[tactic(auto, using(crate::proofs::LoadedLemmas::parts_of_conditions), unfolding(crate::specs::Loaded::IsMetAt, crate::specs::Conditions::HoldsAt, crate::specs::PairConditions::PairsHoldAt, crate::specs::StepConditions::StepsHoldAt, crate::specs::StepConditions::AvoidsFdfa, crate::specs::Characters::reading_of_word))]
 pub fn is_met_elsewhere(data: &LoadedData<'_>, condition: Condition, number: u32, word: u32) -> bool
     requires no_character { IsScalar number → ⊥ }
     requires word { word ≡ word_of data.now.characters number }

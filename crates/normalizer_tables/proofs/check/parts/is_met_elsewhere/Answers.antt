@@ -1,6 +1,23 @@
-use Rattle.std.proofs.Common.{refl}
-use Rattle.normalizer_tables.proofs.LoadedLemmas.{IsMetAt-elsewhere}
+use Rattle.std.proofs.Common.{refl, arith}
+use Rattle.normalizer_tables.specs.Characters.{reading_of_word}
+use Rattle.normalizer_tables.specs.Conditions.{HoldsAt}
+use Rattle.normalizer_tables.specs.Loaded.{IsMetAt}
+use Rattle.normalizer_tables.specs.PairConditions.{PairsHoldAt}
+use Rattle.normalizer_tables.specs.StepConditions.{AvoidsFdfa, StepsHoldAt}
+use Rattle.normalizer_tables.proofs.LoadedLemmas.{IfSome-all, IsMetAt-elsewhere}
 use Rattle.normalizer_tables.proofs.check.parts.is_met_elsewhere.Goals as goal
+
+pub returns-in-Surrogates : goal.returns-in-Surrogates
+unfolding IsMetAt HoldsAt PairsHoldAt StepsHoldAt
+returns-in-Surrogates c = grind (arith, IfSome-all)
+
+pub returns-in-Some : goal.returns-in-Some
+unfolding IsMetAt HoldsAt PairsHoldAt StepsHoldAt AvoidsFdfa reading_of_word
+returns-in-Some c = grind (arith, IfSome-all)
+
+pub returns-in-None : goal.returns-in-None
+unfolding IsMetAt HoldsAt PairsHoldAt StepsHoldAt
+returns-in-None c = grind (arith, IfSome-all)
 
 pub returns-in_default : goal.returns-in_default
 returns-in_default c = (
