@@ -1,5 +1,5 @@
 //! Data that were built, handed out as a provider's.
-ghost use Rattle.std.specs.Prelude.{◌≡◌, Some};
+ghost use Rattle.std.specs.Prelude.{Some};
 
 use normalizer_packing::Packed;
 use normalizer_tables::{

@@ -1,5 +1,5 @@
 //! Below which number a composing loop may pass every character unseen.
-ghost use Rattle.std.specs.Prelude.{◌≡◌, ◌↔◌, ◌<◌, IsTrue};
+ghost use Rattle.std.specs.Prelude.{◌↔◌, ◌<◌, IsTrue};
 ghost use Rattle.normalizer_packing.specs.Caps.{BeginsPassed, IsCap, MayPass, MayPassWith};
 
 use crate::entries::Entries;

@@ -1,8 +1,6 @@
 //! Packs lists of characters into the words and tables of normalization data.
 #![tactic(auto)]
 
-ghost use Rattle.std.specs.Prelude.{◌≡◌};
-
 mod cap;
 mod entries;
 pub mod entry;

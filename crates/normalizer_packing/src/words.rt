@@ -1,5 +1,5 @@
 //! The words of one kind of data.
-ghost use Rattle.std.specs.Prelude.{◌≡◌, ◌<◌, ◌≤◌, true, IsSome};
+ghost use Rattle.std.specs.Prelude.{◌≡◌, ◌<◌, true};
 ghost use Rattle.normalizer_tables.specs.Conditions.{item_limit};
 ghost use Rattle.normalizer_packing.specs.inner.PackedWords.{CanPoint};
 ghost use Rattle.normalizer_packing.specs.Packing.{IsPackedWord};

@@ -1,9 +1,9 @@
 //! The faults that the lists of characters show.
-ghost use Rattle.std.specs.Prelude.{◌≡◌, ℕ, ◌≢◌, ◌<◌, ◌↔◌, ◌⊎◌, ◌||◌, ◌++◌, ◌∷◌, [], Some, map, true, false, nat_lt};
+ghost use Rattle.std.specs.Prelude.{◌≡◌, ◌<◌, ◌↔◌, ◌||◌, ◌∷◌, [], Some, map, true, false, nat_lt};
 ghost use Rattle.std.specs.Prelude.{IfOk, IsSomeAnd, IsTrue};
 ghost use Rattle.std.specs.List.{list_any};
 ghost use Rattle.std.specs.Option.{option_map};
-ghost use Rattle.normalizer_tables.specs.SpecialLists.{fdfa_list, fixed_list_of};
+ghost use Rattle.normalizer_tables.specs.SpecialLists.{fixed_list_of};
 ghost use Rattle.normalizer_records.specs.inner.Cut.{MayStandFor, StandsFor};
 ghost use Rattle.normalizer_records.specs.Faults.{
   AreMapperRising,

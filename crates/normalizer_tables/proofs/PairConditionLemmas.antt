@@ -1,5 +1,5 @@
 -- What the conditions on pairs say of a character.
-use Rattle.std.proofs.Common.{◌≡◌, ◌↔◌, ℕ, ◌<◌, Bool, true, List, [], ◌∷◌, Some, slice_get, IsTrue, sym, ap, ap₂, ◌∙◌, ◌++◌, inl, inr, arith}
+use Rattle.std.proofs.Common.{◌≡◌, ◌↔◌, ℕ, ◌<◌, Bool, true, List, [], Some, slice_get, IsTrue, sym, ap, ap₂, ◌∙◌, ◌++◌, inl, inr, arith}
 use Rattle.std.specs.Char.{IsScalar}
 use Rattle.std.proofs.Math.Utf8.{scalar, scalar_cases}
 use Rattle.normal_forms.specs.Order.{order}

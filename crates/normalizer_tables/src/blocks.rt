@@ -1,5 +1,5 @@
 //! How the words of a table are stored: in blocks of 64 code points each, equal blocks once.
-ghost use Rattle.std.specs.Prelude.{◌≡◌, ◌+◌, ◌≤◌, ◌<◌, IfOk, ℕ, length, position, nat_eq, slice_index};
+ghost use Rattle.std.specs.Prelude.{◌≡◌, ◌+◌, ◌≤◌, ◌<◌, IfOk, ℕ, position, nat_eq, slice_index};
 ghost use Rattle.std.specs.Cmp.Lexicographic.{pointwise};
 ghost use Rattle.normalizer_tables.specs.Table.{block_count};
 ghost use Rattle.normalizer_tables.specs.inner.Blocks.{range_block, IsFirstFrom, IsJoined, IsNextInBlock};

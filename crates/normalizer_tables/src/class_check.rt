@@ -1,5 +1,5 @@
 //! The complete check of data from which classes alone are read.
-ghost use Rattle.std.specs.Prelude.{◌≡◌, ◌↔◌, ℕ, IsTrue, true, false};
+ghost use Rattle.std.specs.Prelude.{◌↔◌, IsTrue, true, false};
 ghost use Rattle.std.specs.Char.{IsScalar};
 ghost use Rattle.normalizer_tables.specs.ClassConditions.{
   HoldsOfClasses,
@@ -7,7 +7,6 @@ ghost use Rattle.normalizer_tables.specs.ClassConditions.{
   class_conditions,
 };
 ghost use Rattle.normalizer_tables.specs.Conditions.{IsFirstFailing, is_surrogate};
-ghost use Rattle.normalizer_tables.specs.Table.{word_at};
 ghost use Rattle.normalizer_tables.specs.Words.{is_class_form};
 ghost use Rattle.normalizer_tables.specs.declared.condition.Condition.TheVariants as condition;
 

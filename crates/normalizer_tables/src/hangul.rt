@@ -7,7 +7,6 @@ ghost use Rattle.normalizer_tables.specs.HangulComposition.{
   is_lv_syllable,
   is_trailing_consonant,
   is_vowel,
-  lv_syllable,
 };
 
 pub(crate) const S_BASE: u32 = 0xAC00;

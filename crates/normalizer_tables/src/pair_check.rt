@@ -1,5 +1,5 @@
 //! The complete check of composing pairs, and of decomposition data by the pairs.
-ghost use Rattle.std.specs.Prelude.{◌≡◌, ◌↔◌, [], IsTrue, All};
+ghost use Rattle.std.specs.Prelude.{◌↔◌, [], IsTrue, All};
 ghost use Rattle.normalizer_tables.specs.PairConditions.{
   AreSoundPairs,
   HasOrderedLists,

@@ -7,7 +7,6 @@ ghost use Rattle.normalizer_tables.specs.StepConditions.{
   IsSoundStep,
   StepsHoldAt,
 };
-ghost use Rattle.normalizer_tables.specs.Steps.{step_of};
 ghost use Rattle.normalizer_tables.specs.Words.{read};
 ghost use Rattle.normalizer_tables.specs.inner.Read.{IsRead};
 ghost use Rattle.normalizer_tables.specs.Readings.{reading_by};

@@ -10,7 +10,7 @@ ghost use Rattle.normalizer_tables.specs.Conditions.{
   IsOrderedList,
   KeepsPromise,
 };
-ghost use Rattle.normalizer_tables.specs.SpecialLists.{FixedList, fixed_list_of};
+ghost use Rattle.normalizer_tables.specs.SpecialLists.{fixed_list_of};
 ghost use Rattle.normalizer_tables.specs.inner.Read.{IsRead};
 ghost use Rattle.normalizer_tables.specs.Readings.{reading_by};
 ghost use Rattle.normalizer_tables.specs.Ignored.{Dropped};

@@ -15,7 +15,7 @@ ghost use Rattle.normalizer_tables.specs.Conditions.{
 };
 ghost use Rattle.normalizer_tables.specs.Hangul.{is_hangul_syllable};
 ghost use Rattle.normalizer_tables.specs.inner.Read.{IsRead};
-ghost use Rattle.normalizer_tables.specs.SpecialLists.{FixedList, fixed_list_of};
+ghost use Rattle.normalizer_tables.specs.SpecialLists.{fixed_list_of};
 
 use crate::characters::CharacterData;
 use crate::check::lists::is_ordered_list;

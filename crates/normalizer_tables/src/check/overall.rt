@@ -1,5 +1,5 @@
 //! What the conditions say of the data as a whole.
-ghost use Rattle.std.specs.Prelude.{◌≡◌, ◌↔◌, ◌+◌, ◌-◌, ◌≤◌, IsTrue};
+ghost use Rattle.std.specs.Prelude.{◌↔◌, ◌+◌, ◌-◌, ◌≤◌, IsTrue};
 ghost use Rattle.std.specs.Option.{SomeIff};
 ghost use Rattle.normalizer_tables.specs.Conditions.{
   HoldsOverall,

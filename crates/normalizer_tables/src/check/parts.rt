@@ -5,7 +5,7 @@ ghost use Rattle.normalizer_tables.specs.Characters.{word_of};
 ghost use Rattle.normalizer_tables.specs.Loaded.{IsMetAt};
 ghost use Rattle.normalizer_tables.specs.PairConditions.{PairsHoldAt, PairsHoldOverall};
 ghost use Rattle.normalizer_tables.specs.inner.Read.{IsRead};
-ghost use Rattle.normalizer_tables.specs.StepConditions.{AvoidsFdfa, StepsHoldAt};
+ghost use Rattle.normalizer_tables.specs.StepConditions.{StepsHoldAt};
 ghost use Rattle.normalizer_tables.specs.inner.Walk.{IsMetApart, IsMetApartAt, KeepsPlainBeginning};
 
 use crate::check::numbers::{

@@ -1,5 +1,5 @@
 //! What data that a constructor accepts are to the laws of the normal forms, and to those who ask less of them.
-ghost use Rattle.std.specs.Prelude.{◌≡◌, ℕ, List, false, true, All, [], None};
+ghost use Rattle.std.specs.Prelude.{◌≡◌, ℕ, List, false, All, [], None};
 ghost use Rattle.std.specs.Char.{IsScalar};
 ghost use Rattle.normal_forms.specs.declared.Form.{Form};
 ghost use Rattle.normal_forms.specs.declared.Form.TheVariants.{Decomposing};

@@ -1,9 +1,6 @@
 //! What is asked of the characters that a composing loop passes.
 ghost use Rattle.std.specs.Prelude.{◌≡◌, ◌↔◌, ℕ, [], ◌∷◌, true, IsTrue, All};
-ghost use Rattle.std.specs.Char.{IsScalar};
-ghost use Rattle.normal_forms.specs.Boundary.{BeginsSafely};
 ghost use Rattle.normal_forms.specs.Composition.{compose, joined};
-ghost use Rattle.normalizer_tables.specs.Characters.{Characters};
 ghost use Rattle.normalizer_tables.specs.PairConditions.{
   HasSafeBeginning,
   KeepsBeginning,

@@ -1,5 +1,5 @@
 //! How the pairs are kept: in rows of equal neighbouring seconds.
-ghost use Rattle.std.specs.Prelude.{◌≡◌, ◌↔◌, ◌<◌, ◌≤◌, IfOk, IsTrue, None, Some, ℕ, length, slice_get};
+ghost use Rattle.std.specs.Prelude.{◌≡◌, ◌↔◌, ◌<◌, IfOk, IsTrue, None, Some, ℕ, length, slice_get};
 ghost use Rattle.normalizer_tables.specs.Pairs.{listed_result, AreRising};
 ghost use Rattle.normalizer_tables.specs.Pairs.{begins_row, row_count};
 ghost use Rattle.normalizer_tables.specs.inner.Rows.{start_of, IsRowOf};
