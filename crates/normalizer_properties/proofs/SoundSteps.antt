@@ -18,7 +18,6 @@ use Rattle.normalizer_tables.specs.Steps.{step_of}
 use Rattle.normalizer_tables.specs.Readings.{reading_by}
 use Rattle.normalizer_tables.specs.declared.characters.IgnoredCharacters.TheVariants.{Dropped}
 use Rattle.normalizer_tables.proofs.CharacterLemmas.{list_of-default}
-use Rattle.normalizer_tables.proofs.HangulLemmas.{is_hangul_syllable-true}
 use Rattle.normalizer_tables.proofs.SoundLists.{list_read-elsewhere}
 use Rattle.normalizer_properties.specs.StepData.{StepData, SuitsSteps}
 use Rattle.normalizer_properties.specs.StepMeaning.{HasSteps, MeansInLists}
@@ -58,7 +57,7 @@ module _ (s : Characters) (t : Supplement) (b : Bounds) where
   MeansInLists-hangul hangul n a c syllable h Default e = cc
   MeansInLists-hangul hangul n a c syllable h (Singleton k) e = cc
   MeansInLists-hangul hangul n a c syllable h (Expansion k m) e = record {
-    default = (λ f. cc, λ f. let range = is_hangul_syllable-true n syllable in absurd (list_of-hangul_apart s b hangul n range.0 range.1 f));
+    default = (λ f. cc, λ f. absurd (list_of-hangul_apart s b hangul n syllable f));
     singleton = λ x f. cc;
     expansion = λ x y f.
         let first : a ≡ x = cc in
@@ -70,16 +69,14 @@ module _ (s : Characters) (t : Supplement) (b : Bounds) where
     given : (syllable : Bool) → is_hangul_syllable n ≡ syllable → step_of s t n ≢ None
     unfolding HoldsOfSteps StepsHoldAt HasSoundStep
     given true h none =
-        let range = is_hangul_syllable-true n h in
-        let m = has_mapping n range.0 range.1 in
+        let m = has_mapping n h in
         let some = step_of-hangul s t n m.0 m.1 h m.2 in cc
     given false h none = subst (λ o. IsSomeAnd o (IsSoundStep s n)) none (sound n of_character h)
 
     means : (syllable : Bool) → is_hangul_syllable n ≡ syllable → (step : Step) → step_of s t n ≡ Some step → MeansInLists s n step
     unfolding HoldsOfSteps StepsHoldAt HasSoundStep
     means true h step e =
-        let range = is_hangul_syllable-true n h in
-        let m = has_mapping n range.0 range.1 in
+        let m = has_mapping n h in
         MeansInLists-hangul hangul n m.0 m.1 h m.2 step (sym (step_of-hangul s t n m.0 m.1 h m.2) ∙ e)
     means false h step e = MeansInLists-sound in_order n step (subst (λ o. IsSomeAnd o (IsSoundStep s n)) e (sound n of_character h))
 

@@ -1,10 +1,9 @@
 -- What accepted data are to the laws of the normal forms, and to those who ask less of them.
-use Rattle.std.proofs.Common.{◌≡◌, ◌≢◌, ℕ, ◌<◌, true, false, List, [], ◌∷◌, ◌++◌, length, length-append, All, Option, None, inl, inr, refl, sym, ap, subst, ◌∙◌, arith}
+use Rattle.std.proofs.Common.{◌≡◌, ℕ, true, false, List, [], ◌∷◌, ◌++◌, length, length-append, All, Option, None, inl, inr, refl, sym, ap, subst, ◌∙◌, arith}
 use Rattle.std.specs.Char.{IsScalar}
 use lib.Utf8.{scalar}
-use Rattle.std.proofs.Math.Utf8.{low_scalar}
+use Rattle.std.proofs.lemmas.List.{nil_from_length}
 use Rattle.std.proofs.lemmas.Bool.{cases_Bool}
-use Rattle.normal_forms.specs.Reading.{Reading}
 use Rattle.normal_forms.specs.Order.{order}
 use Rattle.normal_forms.specs.declared.Form.{Form}
 use Rattle.normal_forms.specs.declared.Form.TheVariants.{Decomposing, Composing}
@@ -12,20 +11,20 @@ use Rattle.normal_forms.specs.Hypotheses.{HasFullLists, HasStarterResults, HasFa
 use Rattle.normal_forms.proofs.OrderLemmas.{length-order}
 use Rattle.normalizer_tables.specs.declared.condition.Condition.TheVariants as condition
 use Rattle.normalizer_tables.specs.AcceptedData.{IsAccepted, AreAcceptedPairs, SuitsMapper, SuitsTexts, pair_conditions}
-use Rattle.normalizer_tables.specs.Characters.{Characters, list_of, characters_from}
+use Rattle.normalizer_tables.specs.Characters.{Characters, characters_from}
 use Rattle.normalizer_tables.specs.Data.{Decompositions, Lists}
 use Rattle.normalizer_tables.specs.Ignored.{IgnoredCharacters, Dropped, ignored_list}
 use Rattle.normalizer_tables.specs.Loaded.{IsMet}
 use Rattle.normalizer_tables.specs.NfdData.{IsSoundNfdData, nfd_bounds}
-use Rattle.normalizer_tables.specs.PairConditions.{HoldsOfPairs, PairsHoldOverall}
+use Rattle.normalizer_tables.specs.PairConditions.{HoldsOfPairs}
 use Rattle.normalizer_tables.specs.Pairs.{Pair, pair_of}
 use Rattle.normalizer_tables.specs.SoundData.{Bounds, IsSoundData}
 use Rattle.normalizer_tables.specs.Readings.{reading_by, reading_of}
 use Rattle.std.proofs.lemmas.List.Elements.{All-nil}
 use Rattle.normalizer_tables.proofs.CharacterLemmas.{list_of-default}
-use Rattle.normalizer_tables.proofs.HangulLemmas.{compose_hangul-some}
+use Rattle.normalizer_tables.proofs.ConditionLemmas.{syllable-scalar}
 use Rattle.normalizer_tables.proofs.InhabitedLists.{HasInhabitedLists-reading_of}
-use Rattle.normalizer_tables.proofs.PairLaws.{pair_of-some, HasFaithfulResults-reading_of, HasStarterResults-reading_of}
+use Rattle.normalizer_tables.proofs.PairLaws.{composed-syllable, pair_of-some, HasFaithfulResults-condition, HasStarterResults-reading_of}
 use Rattle.normalizer_tables.proofs.PairLemmas.{All-listed_result}
 use Rattle.normalizer_tables.proofs.SoundLists.{list_read-elsewhere, HasFullLists-sound, IsText-list_of}
 
@@ -53,89 +52,71 @@ HasTextLists-sound s b sound i pairing = record { texts = IsText-list_of s b sou
 
 -- ---- what characters compose to
 
-nonempty : (x : List ℕ) → x ≢ [] → 0 < length x
-nonempty [] some = absurd (some refl)
-nonempty (c ∷ x) some = omega arith
-
--- two lists together are no list of one
-not_one : (d : Reading) (x y : List ℕ) (r : ℕ) → x ≢ [] → y ≢ [] → r ∷ [] ≡ order d (x ++ y) → ⊥
-not_one d x y r first second e =
-    let lengths : 1 ≡ length (order d (x ++ y)) = ap length e in
-    omega (arith, length-order d (x ++ y), length-append x y, nonempty x first, nonempty y second)
-
 -- where a composite has the lists of its parts, and no list is empty, it is a character, since other numbers have themselves
-HasScalarResults-faithful : (d : Reading) → HasFaithfulResults d → HasInhabitedLists d → ((c : ℕ) → scalar c ≡ false → d.list c ≡ c ∷ []) → HasScalarResults d
-HasScalarResults-faithful d faithful inhabited alone = record {
+HasScalarResults-faithful : (s : Characters) (pairs : List Pair) → HasFaithfulResults (reading_by s Dropped pairs) → HasInhabitedLists (reading_by s Dropped pairs)
+    → HasScalarResults (reading_by s Dropped pairs)
+HasScalarResults-faithful s pairs faithful inhabited = record {
   scalars = λ a c r first second joins. elim (cases_Bool (scalar r)) as (λ _. scalar r ≡ true) [
     | inl is ↦ is
-    | inr other ↦ absurd (not_one d (d.list a) (d.list c) r (inhabited.inhabited a) (inhabited.inhabited c) (sym (alone r other) ∙ faithful.results a c r joins))
+    | inr other ↦
+        let d = reading_by s Dropped pairs in
+        let alone : r ∷ [] ≡ order d (d.list a ++ d.list c) = sym (list_of-default s [] r (list_read-elsewhere s [] r other)) ∙ faithful.results a c r joins in
+        grind (arith, nil_from_length, length-order d (d.list a ++ d.list c), length-append (d.list a) (d.list c), ap length alone, inhabited.inhabited a, inhabited.inhabited c)
   ];
 }
-
-list_of-elsewhere : (s : Characters) (ignored : List ℕ) (n : ℕ) → scalar n ≡ false → list_of s ignored n ≡ n ∷ []
-list_of-elsewhere s ignored n other = list_of-default s ignored n (list_read-elsewhere s ignored n other)
 
 pub scalar_results : (s : Characters) (ignored : List ℕ) (pairs : List Pair) → All (λ p. IsScalar p.2) pairs → HasScalarResults (reading_of s ignored (pair_of pairs))
 scalar_results s ignored pairs scalars = record {
   scalars = λ a c r first second joins. elim (pair_of-some pairs a c r joins) as (λ _. scalar r ≡ true) [
-    | inl by_hangul ↦ elim (compose_hangul-some a c r by_hangul) as (λ _. scalar r ≡ true) [
-      | inl h ↦ low_scalar r (omega arith)
-      | inr h ↦ low_scalar r (omega arith)
-    ]
+    | inl by_hangul ↦ syllable-scalar r (composed-syllable a c r by_hangul)
     | inr as_listed ↦ All-listed_result (λ p. IsScalar p.2) pairs a c r scalars as_listed
   ];
 }
 
 -- ---- accepted data
 
-SuitsTexts-sound : (s : Characters) (b : Bounds) → s.is_mapper ≡ false → IsSoundData s b → SuitsTexts (reading_by s Dropped []) Decomposing
-SuitsTexts-sound s b plain sound = record {
-  laws = HasFullLists-sound s b sound Dropped (pair_of []);
-  inhabited = HasInhabitedLists-reading_of s Dropped (pair_of []) (inl plain);
-  texts = HasTextLists-sound s b sound Dropped (pair_of []);
-  scalars = scalar_results s [] [] (All-nil (λ (p : Pair). IsScalar p.2));
+SuitsTexts-sound : (s : Characters) (b : Bounds) → s.is_mapper ≡ false → IsSoundData s b → (pairs : List Pair) (form : Form)
+    → (HasFullLists (reading_by s Dropped pairs) → SuitsForm (reading_by s Dropped pairs) form) → HasScalarResults (reading_by s Dropped pairs) → SuitsTexts (reading_by s Dropped pairs) form
+SuitsTexts-sound s b plain sound pairs form suits scalar = record {
+  laws = suits (HasFullLists-sound s b sound Dropped (pair_of pairs));
+  inhabited = HasInhabitedLists-reading_of s Dropped (pair_of pairs) (inl plain);
+  texts = HasTextLists-sound s b sound Dropped (pair_of pairs);
+  scalars = scalar;
 }
 
+decomposing : (s : Characters) (b : Bounds) → s.is_mapper ≡ false → IsSoundData s b → SuitsTexts (reading_by s Dropped []) Decomposing
+decomposing s b plain sound =
+    SuitsTexts-sound s b plain sound [] Decomposing (λ full. full) (scalar_results s [] [] (All-nil (λ (p : Pair). IsScalar p.2)))
+
 pub SuitsTexts-accepted : (s : Characters) (b : Bounds) → s.is_mapper ≡ false → IsAccepted s b → SuitsTexts (reading_by s Dropped []) Decomposing
-SuitsTexts-accepted s b plain accepted = SuitsTexts-sound s b plain (IsSoundData-accepted s b accepted)
+SuitsTexts-accepted s b plain accepted = decomposing s b plain (IsSoundData-accepted s b accepted)
 
 pub SuitsTexts-handed_in : (decompositions : Decompositions) (tables : Lists) → IsSoundNfdData decompositions tables
     → SuitsTexts (reading_by (characters_from decompositions tables None) Dropped []) Decomposing
-SuitsTexts-handed_in decompositions tables accepted =
-    SuitsTexts-sound (characters_from decompositions tables None) nfd_bounds refl (IsSoundData-handed_in decompositions tables accepted)
+SuitsTexts-handed_in decompositions tables accepted = decomposing _ nfd_bounds refl (IsSoundData-handed_in decompositions tables accepted)
 
 module _ (s : Characters) (b : Bounds) (pairs : List Pair) (accepted : IsAccepted s b) where
-  pub HasStarterResults-accepted : AreAcceptedPairs s b pairs → (ignored : List ℕ) → HasStarterResults (reading_of s ignored (pair_of pairs))
-  HasStarterResults-accepted accepted_pairs ignored =
+  starters-accepted : AreAcceptedPairs s b pairs → (ignored : List ℕ) → HasStarterResults (reading_of s ignored (pair_of pairs))
+  starters-accepted accepted_pairs ignored =
       HasStarterResults-reading_of s b (accepted 5 condition.Hangul (omega arith)) pairs (accepted_pairs 0 condition.Pairs (omega arith)) ignored
 
   pub SuitsMapper-accepted : AreAcceptedPairs s b pairs → (i : IgnoredCharacters) → SuitsMapper (reading_by s i pairs)
-  SuitsMapper-accepted accepted_pairs i =
-      let sound = IsSoundData-accepted s b accepted in
-      record {
-        full = HasFullLists-sound s b sound i (pair_of pairs);
-        starters = HasStarterResults-accepted accepted_pairs (ignored_list i);
-        texts = HasTextLists-sound s b sound i (pair_of pairs);
-      }
+  SuitsMapper-accepted accepted_pairs i = record {
+    full = HasFullLists-sound s b (IsSoundData-accepted s b accepted) i (pair_of pairs);
+    starters = starters-accepted accepted_pairs (ignored_list i);
+    texts = HasTextLists-sound s b (IsSoundData-accepted s b accepted) i (pair_of pairs);
+  }
 
   module _ (plain : s.is_mapper ≡ false) (accepted_pairs : AreAcceptedPairs s b pairs) where
-    HasFaithfulResults-accepted : HasFaithfulResults (reading_by s Dropped pairs)
-    unfolding HoldsOfPairs PairsHoldOverall
-    HasFaithfulResults-accepted =
+    faithful-accepted : HasFaithfulResults (reading_by s Dropped pairs)
+    faithful-accepted =
         let all : All (HoldsOfPairs s b pairs) (pair_conditions false) = subst (λ m. All (HoldsOfPairs s b pairs) (pair_conditions m)) plain accepted_pairs in
-        HasFaithfulResults-reading_of s b (accepted 5 condition.Hangul (omega arith)) pairs [] (all 3 condition.Results (omega arith)).0
+        HasFaithfulResults-condition s b (accepted 5 condition.Hangul (omega arith)) pairs (all 3 condition.Results (omega arith))
 
     suits : (form : Form) → HasFullLists (reading_by s Dropped pairs) → SuitsForm (reading_by s Dropped pairs) form
     suits Decomposing full = full
-    suits Composing full = (full, HasStarterResults-accepted accepted_pairs [], HasFaithfulResults-accepted)
+    suits Composing full = (full, starters-accepted accepted_pairs [], faithful-accepted)
 
     pub SuitsTexts-accepted_pairs : (form : Form) → SuitsTexts (reading_by s Dropped pairs) form
-    SuitsTexts-accepted_pairs form =
-        let sound = IsSoundData-accepted s b accepted in
-        let inhabited = HasInhabitedLists-reading_of s Dropped (pair_of pairs) (inl plain) in
-        record {
-          laws = suits form (HasFullLists-sound s b sound Dropped (pair_of pairs));
-          inhabited = inhabited;
-          texts = HasTextLists-sound s b sound Dropped (pair_of pairs);
-          scalars = HasScalarResults-faithful (reading_by s Dropped pairs) HasFaithfulResults-accepted inhabited (list_of-elsewhere s []);
-        }
+    SuitsTexts-accepted_pairs form = SuitsTexts-sound s b plain (IsSoundData-accepted s b accepted) pairs form (suits form)
+        (HasScalarResults-faithful s pairs faithful-accepted (HasInhabitedLists-reading_of s Dropped (pair_of pairs) (inl plain)))

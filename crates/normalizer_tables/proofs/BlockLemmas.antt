@@ -1,88 +1,39 @@
 -- The words of a table in blocks.
-use Rattle.std.proofs.Common.{add-one, All, AllPairs, ltb, nat_eq, ◌≡◌, ◌≢◌, ℕ, ◌+◌, ◌*◌, ◌/◌, ◌%◌, ◌<◌, ◌≤◌, List, [], ◌∷◌, ◌++◌, length, get_or}
-use Rattle.std.proofs.Common.{map, replicate, Bool, None, refl, inl, inr, arith, ap, sym, subst, ◌∙◌, zero, suc, zero-add}
-use Rattle.std.specs.List.{range_with_len, position, position_or_len}
+use Rattle.std.proofs.Common.{add-one, ltb, nat_eq, ◌≡◌, ℕ, ◌+◌, ◌*◌, ◌/◌, ◌%◌, ◌<◌, ◌≤◌, List, [], ◌∷◌, ◌++◌, length, get_or}
+use Rattle.std.proofs.Common.{Bool, None, refl, inl, inr, arith, ap, sym, subst, ◌∙◌, zero, suc, zero-add}
+use Rattle.std.specs.List.{position, position_or_len}
 use Rattle.std.proofs.lemmas.Grind.{common_steps}
-use Rattle.std.proofs.lemmas.List.Sums.{fails_before_first, passes_at_first, prefix_len-le-length}
-use Rattle.std.proofs.lemmas.List.Elements.{All-push}
+use Rattle.std.proofs.lemmas.List.Sums.{passes_at_first, prefix_len-le-length}
 use Rattle.std.specs.Cmp.Lexicographic.{pointwise, bytes_decides}
 use Rattle.std.proofs.lemmas.List.{ext_get_or, get_or_read, get_or_push, get_or_append_left, length_push}
 use Rattle.std.proofs.lemmas.List.FromFn.{get_or-map-range_with_len, length-map-range_with_len, map-range_with_len_more}
-use Rattle.std.proofs.lemmas.List.Quantifiers.{all_pairs_push}
 use Rattle.std.proofs.lemmas.Bool.{cases_lt, cond_both, ltb-true, ltb-false}
-use Rattle.std.proofs.Math.Nat.{eq-or-lt_of_le}
 use Rattle.normalizer_tables.specs.Table.{Block, block_places}
-use Rattle.normalizer_tables.specs.inner.Blocks.{block_at, stored_word, stored_words, range_block, IsFirstFrom, block_of, number_in, joined, blocks_to, numbers_to, IsStored}
-use Rattle.normalizer_tables.specs.Ranges.{WordRange, IsRangeList, word_in, words_of}
-use Rattle.normalizer_tables.proofs.WordsInRanges.{word_in-point, word_in-gap}
+use Rattle.normalizer_tables.specs.inner.Blocks.{block_at, stored_word, stored_words, block_of, number_in, joined, blocks_to, numbers_to, IsStored}
+use Rattle.normalizer_tables.specs.Ranges.{WordRange, word_in, words_of}
 use Rattle.normalizer_tables.specs.Table.{code_points}
-
--- numbers that all have one word
-pub constant_words : (f : ℕ → ℕ) (start n w : ℕ) → ((m : ℕ) → start ≤ m → m < start + n → f m ≡ w) → replicate n w ≡ map f (range_with_len start n)
-constant_words f start zero w same = refl
-constant_words f start (suc n) w same =
-    let first : w ≡ f start = sym (same start (omega arith) (omega arith)) in
-    let rest = constant_words f (start + 1) n w (λ m low high. same m (omega arith) (omega arith)) in
-    cc
-
--- the words of a block that no range reaches, or one range covers
-module _ (rs : List WordRange) (start at : ℕ) (first : IsFirstFrom rs start at) where
-  pub range_block-gap : IsRangeList rs → (at < length rs → start + 64 ≤ (get_or rs at (0, 0, 0)).0) → replicate 64 0 ≡ range_block rs start
-  unfolding range_block
-  range_block-gap h gap = constant_words (word_in rs) start 64 0 (λ m low high. word_in-gap rs start at first m low h (λ within. omega (arith, gap within)))
-
-  pub range_block-covered : (r : WordRange) → at < length rs → r ≡ get_or rs at r → r.0 ≤ start → start + 63 ≤ r.1 → replicate 64 r.2 ≡ range_block rs start
-  unfolding range_block
-  range_block-covered r within is low high = constant_words (word_in rs) start 64 r.2 (λ m from to. word_in-point rs start at first m from r within is (omega arith) (omega arith))
-
--- the first range that doesn't end before a number is that of a later number that it reaches
-pub IsFirstFrom-later : (rs : List WordRange) (n m at : ℕ) → IsRangeList rs → IsFirstFrom rs n at → n ≤ m → (r : WordRange) → at < length rs → r ≡ get_or rs at r → m ≤ r.1 → IsFirstFrom rs m at
-IsFirstFrom-later rs n m at h first later r within is reaches = record {
-  before = λ k below. omega (arith, first.before k below);
-  behind = λ k from below.
-      let here : r ≡ get_or rs at (0, 0, 0) = get_or_read rs at r within is (0, 0, 0) in
-      elim (eq-or-lt_of_le from) as (λ _. m ≤ (get_or rs k (0, 0, 0)).1) [
-        | inl same ↦ subst (λ (j : ℕ). m ≤ (get_or rs j (0, 0, 0)).1) same (subst (λ (q : WordRange). m ≤ q.1) here reaches)
-        | inr after ↦ omega (arith, ap (λ q. q.1) here, h.rising at k (0, 0, 0) after below, (h.ranges k (0, 0, 0) below).0)
-      ];
-}
-
-pub IsFirstFrom-gap : (rs : List WordRange) (n m at : ℕ) → IsRangeList rs → IsFirstFrom rs n at → n ≤ m → (r : WordRange) → at < length rs → r ≡ get_or rs at r → m ≤ r.0 → IsFirstFrom rs m at
-IsFirstFrom-gap rs n m at h first later r within is gap =
-    let here : r ≡ get_or rs at (0, 0, 0) = get_or_read rs at r within is (0, 0, 0) in
-    IsFirstFrom-later rs n m at h first later r within is (omega (arith, ap (λ q. q.0) here, ap (λ q. q.1) here, (h.ranges at (0, 0, 0) within).0))
-
--- a block with the word of each of its numbers
-pub range_block-from_words : (rs : List WordRange) (start : ℕ) (block : Block) → length block ≡ 64 → ((k : ℕ) → k < 64 → get_or block k 0 ≡ word_in rs (start + k)) → block ≡ range_block rs start
-unfolding range_block
-range_block-from_words rs start block long words =
-    ext_get_or 0 block _ (long ∙ sym (length-map-range_with_len (word_in rs) start 64))
-    (λ k below. words k (omega arith) ∙ sym (get_or-map-range_with_len (word_in rs) start 64 k (start + k) 0 (omega arith) refl))
 
 pub length-stored_words : (blocks : List Block) (numbers : List ℕ) → length (stored_words blocks numbers) ≡ code_points
 unfolding stored_words
 length-stored_words blocks numbers = length-map-range_with_len (stored_word blocks numbers) 0 code_points
 
 -- the word of a code point is that of its place in its block
-pub get_or-stored_words : (blocks : List Block) (numbers : List ℕ) (n : ℕ) → n < code_points → get_or (stored_words blocks numbers) n 0 ≡ get_or (block_at blocks numbers (n / 64)) (n % 64) 0
+pub get_or-stored_words : (blocks : List Block) (numbers : List ℕ) (n above : ℕ) → n < code_points → get_or (stored_words blocks numbers) n above ≡ get_or (block_at blocks numbers (n / 64)) (n % 64) 0
 unfolding stored_words stored_word
-get_or-stored_words blocks numbers n low = get_or-map-range_with_len (stored_word blocks numbers) 0 code_points n n 0 low (zero-add n)
+get_or-stored_words blocks numbers n above low = get_or-map-range_with_len (stored_word blocks numbers) 0 code_points n n above low (zero-add n)
 
 pub place-within : (n : ℕ) → n < code_points → n / 64 < block_places
 unfolding code_points
 place-within n low = omega arith
 
-pub place-reaches : (place : ℕ) → place < block_places → 64 * place + 64 ≤ code_points
-unfolding code_points
-place-reaches place low = omega arith
-
--- the block of ranges is that of their words
-pub range_block-of : (rs : List WordRange) (place : ℕ) → place < block_places → range_block rs (place * 64) ≡ block_of (words_of rs) place
-unfolding range_block words_of
-range_block-of rs place low = ext_get_or 0 _ _ (length-map-range_with_len (word_in rs) (place * 64) 64 ∙ sym (length-map-range_with_len (λ n. get_or (words_of rs) n 0) (64 * place) 64)) (λ j below.
-    let inside : j < 64 = omega (arith, length-map-range_with_len (word_in rs) (place * 64) 64) in
-    get_or-map-range_with_len (word_in rs) (place * 64) 64 j (place * 64 + j) 0 inside refl
-    ∙ sym (get_or-map-range_with_len (word_in rs) 0 code_points (place * 64 + j) (place * 64 + j) 0 (omega (arith, place-reaches place low)) (zero-add (place * 64 + j)))
+-- a block of words that ranges give
+pub block_of-words_of : (rs : List WordRange) (place : ℕ) (block : Block) → place < block_places → length block ≡ 64 → ((k : ℕ) → k < 64 → get_or block k 0 ≡ word_in rs (place * 64 + k))
+    → block ≡ block_of (words_of rs) place
+unfolding words_of code_points
+block_of-words_of rs place block low long words = ext_get_or 0 _ _ (long ∙ sym (length-map-range_with_len (λ n. get_or (words_of rs) n 0) (64 * place) 64)) (λ j below.
+    let inside : j < 64 = omega arith in
+    words j inside
+    ∙ sym (get_or-map-range_with_len (word_in rs) 0 code_points (place * 64 + j) (place * 64 + j) 0 (omega arith) (zero-add (place * 64 + j)))
     ∙ sym (get_or-map-range_with_len (λ n. get_or (words_of rs) n 0) (64 * place) 64 j (place * 64 + j) 0 inside (omega arith)))
 
 module _ (bs : List Block) (b : Block) where
@@ -92,7 +43,7 @@ module _ (bs : List Block) (b : Block) where
   -- a block stands at its number, and the others where they stood
   joined-here : (number_in bs b < length (joined bs b)) × (get_or (joined bs b) (number_in bs b) [] ≡ b)
   joined-here = cond_both (ltb (number_in bs b) (length bs)) bs (bs ++ b ∷ []) (λ cs. (number_in bs b < length cs) × (get_or cs (number_in bs b) [] ≡ b))
-      (λ kept. (ltb-true _ _ kept, (bytes_decides _ _).0 (passes_at_first (λ c. pointwise nat_eq c b) bs [] (ltb-true _ _ kept))))
+      (λ kept. (ltb-true _ _ kept, sym ((bytes_decides _ _).0 (passes_at_first (pointwise nat_eq b) bs [] (ltb-true _ _ kept)))))
       (λ new.
       let last : length bs ≡ number_in bs b = omega (arith, ltb-false _ _ new, number_in-le) in
       (omega (arith, length_push bs b), get_or_push bs b [] _ last))
@@ -100,16 +51,6 @@ module _ (bs : List Block) (b : Block) where
   joined-earlier : (j : ℕ) → j < length bs → (j < length (joined bs b)) × (get_or (joined bs b) j [] ≡ get_or bs j [])
   joined-earlier j below = cond_both (ltb (number_in bs b) (length bs)) bs (bs ++ b ∷ []) (λ cs. (j < length cs) × (get_or cs j [] ≡ get_or bs j []))
       (λ _. (below, refl)) (λ _. (omega (arith, length_push bs b), get_or_append_left bs (b ∷ []) [] j below))
-
-  pub joined-apart : AllPairs (λ c d. c ≢ d) bs → AllPairs (λ c d. c ≢ d) (joined bs b)
-  joined-apart apart = cond_both (ltb (number_in bs b) (length bs)) bs (bs ++ b ∷ []) (AllPairs (λ c d. c ≢ d))
-      (λ _. apart) (λ new. all_pairs_push (λ c d. c ≢ d) bs b apart (λ k d below same.
-      let passed = fails_before_first (λ c. pointwise nat_eq c b) bs k d (omega (arith, ltb-false _ _ new)) in
-      let equal = (bytes_decides (get_or bs k d) b).1 same in
-      cc))
-
-  pub joined-each : (P : Block → Type 0) → All P bs → P b → All P (joined bs b)
-  joined-each P all it = cond_both (ltb (number_in bs b) (length bs)) bs (bs ++ b ∷ []) (All P) (λ _. all) (λ _. All-push P bs b all it)
 
   joined-length : length (joined bs b) ≤ length bs + 1
   joined-length = cond_both (ltb (number_in bs b) (length bs)) bs (bs ++ b ∷ []) (λ cs. length cs ≤ length bs + 1) (λ _. omega arith) (λ _. omega (arith, length_push bs b))
@@ -162,7 +103,7 @@ module _ (blocks : List Block) (numbers words : List ℕ) (s : IsStored blocks n
   pub stored_words-same : length words ≡ code_points → stored_words blocks numbers ≡ words
   stored_words-same long = ext_get_or 0 _ words (length-stored_words blocks numbers ∙ sym long) (λ n below.
       let low : n < code_points = omega (arith, length-stored_words blocks numbers) in
-      get_or-stored_words blocks numbers n low
+      get_or-stored_words blocks numbers n 0 low
       ∙ ap (λ b. get_or b (n % 64) 0) (block_at-stored (n / 64) (place-within n low)).1
       ∙ get_or-map-range_with_len (λ m. get_or words m 0) (64 * (n / 64)) 64 (n % 64) n 0 (omega arith) (omega arith))
 

@@ -1,9 +1,15 @@
 -- The list and the class of a character.
-use Rattle.std.proofs.Common.{◌≡◌, ℕ, true, List, [], ◌∷◌, Some, None, unwrap_or, ap}
+use Rattle.std.proofs.Common.{◌≡◌, ℕ, true, All, List, [], ◌∷◌, Some, None, unwrap_or, ap}
+use Rattle.std.specs.Char.{IsScalar}
 use lib.Utf8.{scalar}
+use Rattle.std.proofs.lemmas.List.Sums.{list_all-from_AllPass}
 use Rattle.normalizer_tables.specs.declared.word.WordReading.{WordReading}
 use Rattle.normalizer_tables.specs.Words.{class_of_word}
-use Rattle.normalizer_tables.specs.Characters.{Characters, word_of, reading_of_word, named_list, list_read, list_of, class_of}
+use Rattle.normalizer_tables.specs.Characters.{Characters, word_of, reading_of_word, as_text, named_list, list_read, list_of, class_of}
+
+pub as_text-scalars : (x : List ℕ) → All IsScalar x → as_text x ≡ Some x
+unfolding as_text
+as_text-scalars x h = rw (list_all-from_AllPass scalar x h)
 
 pub list_read-scalar : (s : Characters) (ignored : List ℕ) (n : ℕ) (r : WordReading) → scalar n ≡ true → reading_of_word s n ≡ r → list_read s ignored n ≡ named_list s ignored n r
 unfolding list_read

@@ -1,11 +1,10 @@
 -- Which characters make Hangul syllables.
-use Rattle.std.proofs.Common.{Option, ◌<◌, ◌⊎◌, inl, inr, ◌/◌, ◌%◌, ◌≢◌, [], ◌∷◌, ap, ap₂, ◌&&◌, ne_eqb, eq-eqb, ◌≡◌, ℕ, ◌+◌, ◌-◌, ◌*◌, ◌≤◌, arith}
-use Rattle.std.proofs.Common.{refl, true, not, IsTrue, ◌↔◌, Some, None, ◌∙◌, leb-true}
+use Rattle.std.proofs.Common.{Option, ◌<◌, ◌⊎◌, inl, inr, ◌/◌, ◌%◌, [], ◌∷◌, ap, ◌&&◌, ◌≡◌, ℕ, ◌+◌, ◌-◌, ◌*◌, ◌≤◌, arith}
+use Rattle.std.proofs.Common.{true, not, IsTrue, ◌↔◌, Some, None}
 use Rattle.std.proofs.lemmas.Bool.Decides.{nat_tests}
-use Rattle.std.proofs.lemmas.Bool.{cases_Bool, and_parts, and_from, le-leb, cond-true}
+use Rattle.std.proofs.lemmas.Bool.{cases_Bool}
 use Rattle.std.proofs.Math.Utf8.{low_scalar}
 use Rattle.std.specs.Char.{IsScalar}
-use Rattle.std.specs.Int.{is_in_range}
 use Rattle.std.specs.Option.{SomeIff}
 use Rattle.normalizer_tables.specs.Hangul.{is_hangul_syllable, hangul_decomposition}
 use Rattle.normalizer_tables.specs.Pairs.{is_vowel_or_trailing_jamo}
@@ -16,25 +15,18 @@ pub low_character : (r : Option ℕ) (n : ℕ) → SomeIff r (IsScalar n) n → 
 low_character None n h low = absurd (h (low_scalar n low))
 low_character (Some x) n h low = ap Some h.1
 
-is_in_range-true : (low high c : ℕ) → is_in_range low high c ≡ true → (low ≤ c) × (c ≤ high)
-is_in_range-true low high c h = let parts = and_parts _ _ h in (leb-true _ _ parts.0, leb-true _ _ parts.1)
-
 pub is_hangul_syllable-true : (c : ℕ) → is_hangul_syllable c ≡ true → (0xAC00 ≤ c) × (c ≤ 0xD7A3)
 unfolding is_hangul_syllable
-is_hangul_syllable-true c h = is_in_range-true _ _ c h
-
-pub is_vowel_or_trailing_jamo-true : (c : ℕ) → is_vowel_or_trailing_jamo c ≡ true → (0x1161 ≤ c) × (c ≤ 0x11FF)
-unfolding is_vowel_or_trailing_jamo
-is_vowel_or_trailing_jamo-true c h = is_in_range-true _ _ c h
+is_hangul_syllable-true c h = (grind arith, grind arith)
 
 pub is_vowel_or_trailing_jamo_in_range : (c : ℕ) → 0x1161 ≤ c → c ≤ 0x11FF → is_vowel_or_trailing_jamo c ≡ true
 unfolding is_vowel_or_trailing_jamo
-is_vowel_or_trailing_jamo_in_range c low high = and_from _ _ (le-leb 0x1161 c low) (le-leb c 0x11FF high)
+is_vowel_or_trailing_jamo_in_range c low high = grind (arith, nat_tests)
 
 pub compose_hangul-lv : (leading vowel : ℕ) → is_leading_consonant leading ≡ true → is_vowel vowel ≡ true →
     compose_hangul leading vowel ≡ Some (0xAC00 + ((leading - 0x1100) * 588 + (vowel - 0x1161) * 28))
 unfolding compose_hangul lv_syllable
-compose_hangul-lv leading vowel h k = cond-true _ _ _ (and_from _ _ h k)
+compose_hangul-lv leading vowel h k = grind arith
 
 pub compose_hangul-lvt : (syllable trailing : ℕ) → is_lv_syllable syllable ≡ true → is_trailing_consonant trailing ≡ true → compose_hangul syllable trailing ≡ Some (syllable + (trailing - 0x11A7))
 unfolding compose_hangul is_leading_consonant is_lv_syllable is_hangul_syllable
@@ -61,27 +53,30 @@ pub record IsLvt (s t r : ℕ) : Type 0 where
 pub compose_hangul-some : (first second result : ℕ) → compose_hangul first second ≡ Some result → IsLv first second result ⊎ IsLvt first second result
 unfolding compose_hangul lv_syllable is_lv_syllable is_leading_consonant is_vowel is_trailing_consonant is_hangul_syllable
 compose_hangul-some first second result joined = elim (cases_Bool (is_leading_consonant first && is_vowel second)) [
-  | inl both ↦ inl (record { leading = grind (arith, nat_tests); vowel = grind (arith, nat_tests); value = grind arith })
-  | inr other ↦ inr (record { syllable = grind (arith, nat_tests); two_jamo = grind (arith, nat_tests); trailing = grind (arith, nat_tests); value = grind arith })
+  | inl both ↦ inl (record { leading = grind arith; vowel = grind arith; value = grind arith })
+  | inr other ↦ inr (record { syllable = grind arith; two_jamo = grind arith; trailing = grind arith; value = grind arith })
 ]
 
 pub hangul_decomposition-lv : (l v r : ℕ) → IsLv l v r → hangul_decomposition r ≡ l ∷ v ∷ []
 unfolding hangul_decomposition
-hangul_decomposition-lv l v r h =
-    let none : (r - 0xAC00) % 28 ≡ 0 = omega arith in
-    let leading : 0x1100 + (r - 0xAC00) / 588 ≡ l = omega arith in
-    let vowel : 0x1161 + (r - 0xAC00) % 588 / 28 ≡ v = omega arith in
-    rw (eq-eqb _ _ none) (ap₂ (λ x y. x ∷ y ∷ []) leading vowel)
+hangul_decomposition-lv l v r h = grind arith
 
 pub hangul_decomposition-two : (s : ℕ) → (s - 0xAC00) % 28 ≡ 0 → hangul_decomposition s ≡ (0x1100 + (s - 0xAC00) / 588) ∷ (0x1161 + (s - 0xAC00) % 588 / 28) ∷ []
 unfolding hangul_decomposition
-hangul_decomposition-two s none = rw (eq-eqb _ _ none) refl
+hangul_decomposition-two s none = grind arith
 
 pub hangul_decomposition-lvt : (s t r : ℕ) → IsLvt s t r → hangul_decomposition r ≡ (0x1100 + (s - 0xAC00) / 588) ∷ (0x1161 + (s - 0xAC00) % 588 / 28) ∷ t ∷ []
 unfolding hangul_decomposition
-hangul_decomposition-lvt s t r h =
-    let some : (r - 0xAC00) % 28 ≢ 0 = λ e. omega arith in
-    let leading : 0x1100 + (r - 0xAC00) / 588 ≡ 0x1100 + (s - 0xAC00) / 588 = omega arith in
-    let vowel : 0x1161 + (r - 0xAC00) % 588 / 28 ≡ 0x1161 + (s - 0xAC00) % 588 / 28 = omega arith in
-    let trailing : 0x11A7 + (r - 0xAC00) % 28 ≡ t = omega arith in
-    rw (ne_eqb _ _ some) (ap₂ (λ x y. x ∷ y ∷ (0x11A7 + (r - 0xAC00) % 28) ∷ []) leading vowel ∙ ap (λ z. (0x1100 + (s - 0xAC00) / 588) ∷ (0x1161 + (s - 0xAC00) % 588 / 28) ∷ z ∷ []) trailing)
+hangul_decomposition-lvt s t r h = grind arith
+
+-- the numbers of what is joined
+pub lv_ranges : (l v : ℕ) → is_leading_consonant l ≡ true → is_vowel v ≡ true → (0x1100 ≤ l) × (l ≤ 0x1112) × (0x1161 ≤ v) × (v ≤ 0x1175)
+unfolding is_leading_consonant is_vowel
+lv_ranges l v h k = (grind arith, grind arith, grind arith, grind arith)
+
+pub trailing_range : (t : ℕ) → is_trailing_consonant t ≡ true → (0x11A8 ≤ t) × (t ≤ 0x11C2)
+unfolding is_trailing_consonant
+trailing_range t h = (grind arith, grind arith)
+
+-- what joining two characters needs
+pub ruleset compositions = (lv_ranges, trailing_range, is_hangul_syllable-true, low_character, compose_hangul-lv, compose_hangul-lvt)

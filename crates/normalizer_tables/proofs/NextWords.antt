@@ -1,5 +1,5 @@
 -- The next number with a word, as the table tells it.
-use Rattle.std.proofs.Common.{◌≡◌, ◌≢◌, ℕ, ◌≤◌, true, false, Some, None, eq-eqb, ne_eqb, arith}
+use Rattle.std.proofs.Common.{◌≡◌, ℕ, ◌≤◌, true, Some, None, eq-eqb, ne_eqb, arith}
 use Rattle.normalizer_tables.specs.Characters.{Characters, word_of}
 use Rattle.normalizer_tables.specs.Table.{IsNextWithWord, HaveNoWord, code_points, without_flags}
 use Rattle.normalizer_tables.specs.Characters.{IsNextWord}
@@ -9,18 +9,14 @@ pub is_plain-true : (w : ℕ) → without_flags 0xC0000000 w ≡ 0 → is_plain 
 unfolding is_plain without_flags
 is_plain-true w h = eq-eqb _ _ h
 
-is_plain-false : (w : ℕ) → without_flags 0xC0000000 w ≢ 0 → is_plain w ≡ false
-unfolding is_plain without_flags
-is_plain-false w h = ne_eqb _ _ h
-
 module _ (s : Characters) (from : ℕ) where
   pub IsNextWord-some : (n : ℕ) → IsNextWithWord s.decompositions.table 0xC0000000 from (Some n) → IsNextWord s from n
-  unfolding IsNextWithWord HaveNoWord word_of
+  unfolding IsNextWithWord HaveNoWord word_of is_plain without_flags
   IsNextWord-some n next = record {
     least = next.0;
     within = omega (arith, next.1);
     between = λ m low high. is_plain-true (word_of s m) (next.3 m low high);
-    found = λ below. is_plain-false (word_of s n) next.2;
+    found = λ below. ne_eqb _ _ next.2;
   }
 
   pub IsNextWord-none : from ≤ code_points → IsNextWithWord s.decompositions.table 0xC0000000 from None → IsNextWord s from code_points

@@ -1,7 +1,6 @@
 -- What a word that is 0, flags aside, says of its character.
 use Rattle.std.proofs.Common.{◌≡◌, ℕ, true, List, [], ◌∷◌, Option, refl}
 use lib.Utf8.{scalar}
-use Rattle.normal_forms.specs.Reading.{Reading}
 use Rattle.normal_forms.specs.Decomposition.{expand}
 use Rattle.normal_forms.specs.Order.{order, insert}
 use Rattle.normal_forms.specs.Composition.{compose, compose_from, visit}
@@ -19,15 +18,11 @@ pub list_of-plain_word : (s : Characters) (ignored : List ℕ) (n : ℕ) → sca
 unfolding ReadsToItself
 list_of-plain_word s ignored n h plain = reads_as_itself s ignored n (list_read-plain s n h plain)
 
--- a character that reads as itself is its own form
-form_of_itself : (d : Reading) (form : Form) (c : ℕ) → d.list c ≡ c ∷ [] → normal_form d form (c ∷ []) ≡ c ∷ []
-unfolding normal_form nfc nfd expand order insert compose compose_from visit
-form_of_itself d Decomposing c itself = rw itself refl
-form_of_itself d Composing c itself = rw itself refl
-
 pub IsNormalized-plain_word : (s : Characters) (ignored : List ℕ) (pairing : ℕ → ℕ → Option ℕ) (form : Form) (n : ℕ) → scalar n ≡ true → is_plain (word_of s n) ≡ true →
     IsNormalized (reading_of s ignored pairing) form (n ∷ [])
-IsNormalized-plain_word s ignored pairing form n h plain = form_of_itself (reading_of s ignored pairing) form n (list_of-plain_word s ignored n h plain)
+unfolding normal_form nfc nfd expand order insert compose compose_from visit
+IsNormalized-plain_word s ignored pairing Decomposing n h plain = rw (list_of-plain_word s ignored n h plain) refl
+IsNormalized-plain_word s ignored pairing Composing n h plain = rw (list_of-plain_word s ignored n h plain) refl
 
 -- what the law of plain characters says
 pub ruleset plain_characters = (list_of-plain_word, class_of-plain, IsNormalized-plain_word, plain-no_class_form)

@@ -1,26 +1,18 @@
 -- What follows for a character that was read.
-use Rattle.std.proofs.Common.{◌≡◌, ℕ, true, false, List, [], ◌∷◌, Option, Some, None, IsSome, unwrap_or, refl, ap, sym, ◌∙◌}
+use Rattle.std.proofs.Common.{arith, ◌≡◌, true, false, [], Some, None, ap, sym, ◌∙◌}
 use Rattle.normalizer_tables.specs.declared.read.ReadCharacter.{ReadCharacter}
 use Rattle.normalizer_tables.specs.Words.{class_of_word}
 use Rattle.normalizer_tables.specs.Characters.{Characters, list_read, list_of, class_of}
 use Rattle.normalizer_tables.specs.inner.Read.{IsRead}
 use Rattle.normalizer_tables.proofs.CharacterLemmas.{list_of-reads, class_of-scalar}
 
-some_of : (o : Option (List ℕ)) (default : List ℕ) → IsSome o → o ≡ Some (unwrap_or o default)
-some_of None default h = cc
-some_of (Some x) default h = refl
-
-none_of : (o : Option (List ℕ)) → (IsSome o → ⊥) → o ≡ None
-none_of None h = refl
-none_of (Some x) h = absurd (h refl)
-
 -- the list is read, or none is
 pub list_read-reads : (s : Characters) (r : ReadCharacter) → IsRead s r → r.reads ≡ true → list_read s [] r.character ≡ Some r.list
 unfolding list_of
-list_read-reads s r is_read reads = some_of (list_read s [] r.character) (r.character ∷ []) (is_read.reads.0 reads) ∙ ap Some (sym is_read.list)
+list_read-reads s r is_read reads = grind (arith, is_read.reads, is_read.list)
 
 pub list_read-fails : (s : Characters) (r : ReadCharacter) → IsRead s r → r.reads ≡ false → list_read s [] r.character ≡ None
-list_read-fails s r is_read fails = none_of (list_read s [] r.character) (λ some. let reads = is_read.reads.1 some in cc)
+list_read-fails s r is_read fails = grind (arith, is_read.reads)
 
 pub class_of-read : (s : Characters) (r : ReadCharacter) → IsRead s r → class_of_word r.word ≡ class_of s r.character
 class_of-read s r is_read = ap class_of_word is_read.word ∙ sym (class_of-scalar s r.character is_read.character)

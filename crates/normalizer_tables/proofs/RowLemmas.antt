@@ -3,27 +3,19 @@ use Rattle.std.proofs.Common.{◌≡◌, ◌≢◌, ℕ, ◌<◌, ◌≤◌, ◌
 use Rattle.std.proofs.Common.{leb, ltb, take, cond, Some, refl, arith, ap, sym, subst, ◌∙◌, zero, suc, inl, inr, add-one, zero-add}
 use Rattle.std.proofs.lemmas.Bool.{cases_lt, cases_Bool, ltb-true, ltb-false}
 use Rattle.std.proofs.lemmas.Bool.Decides.{nat_tests}
-use Rattle.std.proofs.lemmas.List.{length-map, get_or_default, get_or-map, get_or_past, get_or_read, take_all}
-use Rattle.std.proofs.lemmas.List.Elements.{All-filter, filter_passes, Contains-append_left, Contains-push}
-use Rattle.std.proofs.lemmas.List.FromFn.{fill_by_all, filter_of_map_range_with_len_more, get_or-map-range_with_len, length-map-range_with_len}
+use Rattle.std.proofs.lemmas.List.{length-map, get_or_default, get_or-map, get_or_read, take_all}
+use Rattle.std.proofs.lemmas.List.Elements.{All-filter, All-map, filter_passes, Contains-append_left, Contains-push}
+use Rattle.std.proofs.lemmas.List.FromFn.{fill_by_all, filter_of_map_range_with_len_more, length-range_with_len, get_or-range_with_len, get_or-map-range_with_len, length-map-range_with_len}
 use Rattle.std.proofs.lemmas.List.Kept.{AllPairs-filter}
 use Rattle.std.proofs.lemmas.List.Sums.{fails_before_first, passes_at_first, prefix_len-le-length, length-filter, sum_by-cons}
 use Rattle.std.proofs.lemmas.List.Sorted.{IsPartitionedBy-leb}
 use Rattle.std.proofs.lemmas.Option.{slice_get-get_or}
 use Rattle.std.specs.List.Sorted.{IsPartitionedBy}
 use Rattle.std.specs.List.{count_by, slice_get, Contains, range_with_len}
+use Rattle.normalizer_tables.proofs.RisingLists.{non_decreasing}
 use Rattle.normalizer_tables.specs.Pairs.{Pair, pair_at, begins_row, row_count}
 use Rattle.normalizer_tables.specs.declared.pairs.rows.Row.{Row}
-use Rattle.normalizer_tables.specs.inner.Rows.{Member, member_of, no_row, row_in, start_of, row_from, rows_to, AreKept, count_begun, kept_pair, kept_pairs}
-
--- a row starts at its own start, and the end stands for that of the next one
-pub start_of-row : (rows : List Row) (end i : ℕ) → i < length rows → start_of rows end i ≡ (row_in rows i).start
-unfolding start_of
-start_of-row rows end i within = ap (λ (r : Row). r.start) (get_or_default rows i _ _ within)
-
-pub start_of-past : (rows : List Row) (end i : ℕ) → length rows ≤ i → start_of rows end i ≡ end
-unfolding start_of
-start_of-past rows end i past = ap (λ (r : Row). r.start) (get_or_past rows i _ past)
+use Rattle.normalizer_tables.specs.inner.Rows.{Member, member_of, no_row, row_in, row_from, rows_to, AreKept, count_begun, kept_pair, kept_pairs}
 
 -- a row that was read
 pub row_read : (xs rows : List Row) (i : ℕ) (row : Row) → xs ≡ rows → i < length xs → row ≡ get_or xs i row → (i < length rows) × (row ≡ row_in rows i)
@@ -85,20 +77,16 @@ module _ (rows : List Row) (pairs : List Pair) (end : ℕ) (is : rows ≡ rows_t
       rw (get_or-map-range_with_len (row_from pairs) 0 end i i d (omega arith) (zero-add i), get_or-map-range_with_len (row_from pairs) 0 end j j d inside (zero-add j)) below))
 
   pub start_not_below : (i j : ℕ) → i ≤ j → j < length rows → (row_in rows i).start ≤ (row_in rows j).start
-  start_not_below i j le within = elim (cases_lt i j) [
-    | inl earlier ↦ omega (arith, starts_rise i j no_row earlier within)
-    | inr above ↦ (let same : i ≡ j = omega arith in omega (arith, ap (λ k. (row_in rows k).start) same))
-  ]
+  start_not_below i j le within = non_decreasing (λ (r : Row). r.start) rows starts_rise i j no_row le within
 
   -- a row starts at a pair of its second, and no row goes on there
-  pub row_is : (i : ℕ) → i < length rows → IsRowFrom pairs end (row_in rows i) × (begins_row pairs (row_in rows i).start ≡ true)
+  pub row_is : All (λ (r : Row). IsRowFrom pairs end r × (begins_row pairs r.start ≡ true)) rows
   unfolding rows_to
-  row_is i within =
-      let places = map (row_from pairs) (range_with_len 0 end) in
-      let inside : i < length (rows_to pairs end) = rw is at within in
-      let each : All (IsRowFrom pairs end) places = λ k d below.
-      (let low : k < end = omega (arith, length-map-range_with_len (row_from pairs) 0 end) in rw (get_or-map-range_with_len (row_from pairs) 0 end k k d low (zero-add k)) (refl, low)) in
-      rw is (All-filter (λ (r : Row). begins_row pairs r.start) (IsRowFrom pairs end) places each i no_row inside, filter_passes (λ (r : Row). begins_row pairs r.start) places i no_row inside)
+  row_is = rw is (λ i d within. (
+    All-filter (λ (r : Row). begins_row pairs r.start) (IsRowFrom pairs end) (map (row_from pairs) (range_with_len 0 end))
+        (All-map (IsRowFrom pairs end) (row_from pairs) _ (λ k e below. (refl, omega (arith, length-range_with_len 0 end, get_or-range_with_len 0 end k e)))) i d within,
+    filter_passes (λ (r : Row). begins_row pairs r.start) (map (row_from pairs) (range_with_len 0 end)) i d within,
+  ))
 
   -- what divides rows by their starts tells the row of a place
   row_begun : (k n : ℕ) → k < end → begins_row pairs k ≡ true → n ≤ length rows → ((i : ℕ) → i < n → (row_in rows i).start ≤ k) → (n < length rows → k < (row_in rows n).start)
@@ -108,7 +96,7 @@ module _ (rows : List Row) (pairs : List Pair) (end : ℕ) (is : rows ≡ rows_t
       let here : (row_in rows found.0).start ≡ k = ap (λ (r : Row). r.start) (get_or_default rows found.0 _ _ found.1 ∙ found.2) in
       let inside : found.0 < n = elim (cases_lt found.0 n) [ inl lower ↦ lower | inr higher ↦ absurd (omega (arith, behind, found.1, start_not_below n found.0 higher found.1)) ] in
       let last : k ≡ (row_in rows (n - 1)).start = omega (arith, front (n - 1) (omega arith), start_not_below found.0 (n - 1) (omega arith) (omega arith)) in
-      record { some = omega arith; bound = bound; front = front; behind = behind; its = ap (λ m. (pair_at pairs m).0) last ∙ sym (row_is (n - 1) (omega arith)).0.0 }
+      record { some = omega arith; bound = bound; front = front; behind = behind; its = ap (λ m. (pair_at pairs m).0) last ∙ sym (row_is (n - 1) no_row (omega arith)).0.0 }
 
   pub row_in_front : (k n : ℕ) → k < end → n ≤ length rows → ((i : ℕ) → i < n → (row_in rows i).start ≤ k) → (n < length rows → k < (row_in rows n).start)
       → IsRowAt rows pairs k n
@@ -117,7 +105,7 @@ module _ (rows : List Row) (pairs : List Pair) (end : ℕ) (is : rows ≡ rows_t
     | inl begins ↦ row_begun (suc k) n below begins bound front behind
     | inr goes ↦
         let other : (i : ℕ) → i < n → (row_in rows i).start ≢ suc k = λ i low same.
-        (let still : begins_row pairs (suc k) ≡ true = sym (ap (begins_row pairs) same) ∙ (row_is i (omega arith)).1 in cc) in
+        (let still : begins_row pairs (suc k) ≡ true = sym (ap (begins_row pairs) same) ∙ (row_is i no_row (omega arith)).1 in cc) in
         let h = row_in_front k n (omega arith) bound (λ i low. omega (arith, front i low, other i low)) (λ more. omega (arith, behind more)) in
         record { some = h.some; bound = bound; front = front; behind = behind; its = sym (goes_on pairs k goes) ∙ h.its }
   ]
@@ -129,8 +117,7 @@ module _ (rows : List Row) (pairs : List Pair) (end : ℕ) (is : rows ≡ rows_t
 
   -- rows that have begun stand in front of the others
   pub starts_part : (k : ℕ) → IsPartitionedBy (λ (row : Row). leb row.start k) rows
-  starts_part k = IsPartitionedBy-leb (λ (row : Row). row.start) rows k (λ i j d le below.
-      omega (arith, start_not_below i j le below, ap (λ (r : Row). r.start) (get_or_default rows i d no_row (omega arith)), ap (λ (r : Row). r.start) (get_or_default rows j d no_row below)))
+  starts_part k = IsPartitionedBy-leb (λ (row : Row). row.start) rows k (non_decreasing (λ (r : Row). r.start) rows starts_rise)
 
 module _ (rows : List Row) (members : List Member) (pairs : List Pair) (s : AreKept rows members pairs) where
   pub as_many : length members ≡ length pairs

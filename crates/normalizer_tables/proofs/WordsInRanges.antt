@@ -1,11 +1,10 @@
 -- The word of a number in a list of ranges.
-use Rattle.std.proofs.Common.{◌≡◌, ℕ, ◌<◌, ◌≤◌, ◌&&◌, ◌⊎◌, true, false, List, [], ◌∷◌, length, get_or, refl, inl, inr, nat_le, if◌then◌else◌, All, arith, ap, sym, subst, ◌∙◌, zero, suc}
-use Rattle.std.proofs.lemmas.Bool.{le-leb, lt-leb, cases_lt}
-use Rattle.std.proofs.lemmas.List.Elements.{All-head, All-tail, All-from_get_or}
-use Rattle.std.proofs.lemmas.List.{get_or_read}
-use Rattle.std.proofs.Math.Nat.{eq-or-lt_of_le}
-use Rattle.normalizer_tables.specs.inner.Blocks.{IsFirstFrom}
-use Rattle.normalizer_tables.specs.Ranges.{WordRange, IsRangeList, word_in}
+use Rattle.std.proofs.Common.{◌≡◌, ℕ, ◌+◌, ◌-◌, ◌<◌, ◌≤◌, ◌&&◌, ◌⊎◌, true, false, List, [], ◌∷◌, refl, inl, inr, nat_le, if◌then◌else◌, All, arith, ◌∙◌, sym, suc, length, get_or, take, drop}
+use Rattle.std.proofs.lemmas.Bool.{le-leb, lt-leb}
+use Rattle.std.proofs.lemmas.List.{take_all}
+use Rattle.std.proofs.lemmas.List.Elements.{All-tail, All-cons}
+use Rattle.normalizer_tables.specs.inner.Blocks.{AreFrom, AreLeft, IsRun}
+use Rattle.normalizer_tables.specs.Ranges.{WordRange, IsRange, IsRangeList, word_in}
 
 -- the number lies before the range or after it
 abbrev pub Misses : ℕ → WordRange → Type 0
@@ -22,41 +21,60 @@ unfolding word_in
 word_in-missed r rs n (inl below) = elim (nat_le r.0 n) as (λ b. (if b && nat_le n r.1 then r.2 else word_in rs n) ≡ word_in rs n) [ true ↦ rw (lt-leb n r.1 below) refl | false ↦ refl ]
 word_in-missed r rs n (inr above) = rw (lt-leb r.0 n above) refl
 
--- a number that every range misses has no word
-pub word_in-all_missed : (rs : List WordRange) (n : ℕ) → All (Misses n) rs → word_in rs n ≡ 0
+-- a number in front of all ranges has no word
+pub word_in-before : (rs : List WordRange) (n : ℕ) → All (λ r. n < r.0) rs → word_in rs n ≡ 0
 unfolding word_in
-word_in-all_missed [] n missed = refl
-word_in-all_missed (r ∷ rs) n missed =
-    word_in-missed r rs n (All-head (Misses n) r rs missed) ∙ word_in-all_missed rs n (All-tail (Misses n) r rs missed)
+word_in-before [] n before = refl
+word_in-before (r ∷ rs) n before = word_in-missed r rs n (inr (before 0 r (omega arith))) ∙ word_in-before rs n (All-tail (λ s. n < s.0) r rs before)
 
--- the first range that the number doesn't miss decides
-pub word_in-at : (rs : List WordRange) (n k : ℕ) (d : WordRange) → k < length rs → (get_or rs k d).0 ≤ n → n ≤ (get_or rs k d).1
-    → ((j : ℕ) → j < k → Misses n (get_or rs j d)) → word_in rs n ≡ (get_or rs k d).2
-word_in-at [] n k d within low high before = absurd (omega arith)
-word_in-at (r ∷ rs) n zero d within low high before = word_in-held r rs n low high
-word_in-at (r ∷ rs) n (suc k) d within low high before =
-    word_in-missed r rs n (before 0 (omega arith)) ∙ word_in-at rs n k d (omega arith) low high (λ j below. before (suc j) (omega arith))
+-- what follows the first range is a list of ranges that begin after it
+pub IsRangeList-tail : (r : WordRange) (rs : List WordRange) → IsRangeList (r ∷ rs) → IsRangeList rs × All (λ s. r.1 < s.0) rs
+IsRangeList-tail r rs h = (
+  record { ranges = All-tail IsRange r rs h.ranges; rising = λ i j d below within. h.rising (suc i) (suc j) d (omega arith) (omega arith) },
+  λ k d within. h.rising 0 (suc k) d (omega arith) (omega arith),
+)
 
--- a number from `n` on, where a range is the first that doesn't end before `n`
-module _ (rs : List WordRange) (n at : ℕ) (first : IsFirstFrom rs n at) (m : ℕ) (from : n ≤ m) where
-  -- where that range holds the number, its word is the number's
-  pub word_in-point : (r : WordRange) → at < length rs → r ≡ get_or rs at r → r.0 ≤ m → m ≤ r.1 → word_in rs m ≡ r.2
-  word_in-point r within is low high =
-      let here : r ≡ get_or rs at (0, 0, 0) = get_or_read rs at r within is (0, 0, 0) in
-      word_in-at rs m at (0, 0, 0) within (subst (λ (q : WordRange). q.0 ≤ m) here low) (subst (λ (q : WordRange). m ≤ q.1) here high) (λ j below. inl (omega (arith, first.before j below)))
-      ∙ ap (λ q. q.2) (sym here)
+-- those behind the first range end later
+AreFrom-tail : (r : WordRange) (rs : List WordRange) (m : ℕ) → IsRangeList (r ∷ rs) → m ≤ r.1 + 1 → AreFrom m rs
+AreFrom-tail r rs m h low =
+    let behind = IsRangeList-tail r rs h in
+    record { list = behind.0; ends = λ k d below. omega (arith, behind.1 k d below, (behind.0.ranges k d below).0) }
 
-  -- where it begins after the number, or there is none, none holds it
-  pub word_in-gap : IsRangeList rs → (at < length rs → m < (get_or rs at (0, 0, 0)).0) → word_in rs m ≡ 0
-  word_in-gap h high = word_in-all_missed rs m (All-from_get_or (Misses m) rs (0, 0, 0) (λ k below. elim (cases_lt k at) [
-    | inl before ↦ inl (omega (arith, first.before k before))
-    | inr from_at ↦ inr (elim (eq-or-lt_of_le from_at) [
-      | inl same ↦ subst (λ j. m < (get_or rs j (0, 0, 0)).0) same (high (omega arith))
-      | inr after ↦ omega (arith, high (omega arith), h.rising at k (0, 0, 0) after below, (h.ranges at (0, 0, 0) (omega arith)).0)
-    ])
-  ]))
+AreFrom-to : (r : WordRange) (rs : List WordRange) (m : ℕ) → IsRangeList (r ∷ rs) → m ≤ r.1 → AreFrom m (r ∷ rs)
+AreFrom-to r rs m h low = record { list = h; ends = All-cons (λ s. m ≤ s.1) r rs low (AreFrom-tail r rs m h (omega arith)).ends }
 
--- the first range that doesn't end before a number reaches it
-pub first-reaches : (rs : List WordRange) (n at : ℕ) → IsFirstFrom rs n at → (r : WordRange) → at < length rs → r ≡ get_or rs at r → n ≤ r.1
-first-reaches rs n at first r within is =
-    subst (λ (q : WordRange). n ≤ q.1) (sym (get_or_read rs at r within is (0, 0, 0))) (first.behind at (omega arith) within)
+pub AreFrom-earlier : (rs : List WordRange) (n m : ℕ) → m ≤ n → AreFrom n rs → AreFrom m rs
+AreFrom-earlier rs n m low f = record { list = f.list; ends = λ k d below. omega (arith, f.ends k d below) }
+
+-- the run of a number: up to the first range, or to its end
+pub IsRun-none : (rs : List WordRange) (n last : ℕ) → length rs < 1 → n ≤ last → AreFrom n rs → IsRun rs n 0 last
+IsRun-none rs n last none some f = record {
+  some = some;
+  words = λ m low high. word_in-before rs m (λ k d below. absurd (omega arith));
+  from = record { list = f.list; ends = λ k d below. absurd (omega arith) };
+}
+
+pub IsRun-gap : (rs : List WordRange) (n : ℕ) → 1 ≤ length rs → n < (get_or rs 0 (0, 0, 0)).0 → AreFrom n rs → IsRun rs n 0 ((get_or rs 0 (0, 0, 0)).0 - 1)
+IsRun-gap [] n some gap f = absurd (omega arith)
+IsRun-gap (r ∷ rs) n some gap f =
+    let range = f.list.ranges 0 r (omega arith) in
+    record {
+      some = omega arith;
+      words = λ m low high. word_in-before (r ∷ rs) m (All-cons (λ s. m < s.0) r rs (omega arith) (λ k d below. omega (arith, (IsRangeList-tail r rs f.list).1 k d below, range.0)));
+      from = AreFrom-to r rs (r.0 - 1) f.list (omega (arith, range.0));
+    }
+
+pub IsRun-held : (rs : List WordRange) (n : ℕ) → 1 ≤ length rs → (get_or rs 0 (0, 0, 0)).0 ≤ n → AreFrom n rs → IsRun rs n (get_or rs 0 (0, 0, 0)).2 (get_or rs 0 (0, 0, 0)).1
+IsRun-held [] n some begun f = absurd (omega arith)
+IsRun-held (r ∷ rs) n some begun f =
+    record { some = f.ends 0 r (omega arith); words = λ m low high. word_in-held r rs m (omega arith) high; from = AreFrom-to r rs r.1 f.list (omega arith) }
+
+-- what is left behind a number
+pub AreLeft-tail : (rs : List WordRange) (n : ℕ) → 1 ≤ length rs → (get_or rs 0 (0, 0, 0)).1 ≤ n → AreFrom n rs → AreLeft rs (n + 1) (take (length rs - 1) (drop 1 rs))
+AreLeft-tail [] n some ends f = absurd (omega arith)
+AreLeft-tail (r ∷ rs) n some ends f = rw (take_all (length (r ∷ rs) - 1) rs (omega arith))
+    (record { from = AreFrom-tail r rs (n + 1) f.list (omega (arith, f.ends 0 r (omega arith))); words = λ m low. sym (word_in-missed r rs m (inl (omega arith))) })
+
+pub AreLeft-all : (rs : List WordRange) (n : ℕ) → (1 ≤ length rs → n < (get_or rs 0 (0, 0, 0)).1) → AreFrom n rs → AreLeft rs (n + 1) rs
+AreLeft-all [] n later f = record { from = record { list = f.list; ends = λ k d below. absurd (omega arith) }; words = λ m low. refl }
+AreLeft-all (r ∷ rs) n later f = record { from = AreFrom-to r rs (n + 1) f.list (omega (arith, later (omega arith))); words = λ m low. refl }

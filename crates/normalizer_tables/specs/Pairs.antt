@@ -1,9 +1,8 @@
 -- The pairs of characters that have a primary composite (The Unicode Standard, D114), Hangul ones included.
-use Rattle.std.specs.Prelude.{◌≡◌, ℕ, Bool, true, false, ◌&&◌, ◌||◌, ◌==◌, nat_eq, nat_lt, List, AllPairs, find, Option}
+use Rattle.std.specs.Prelude.{◌≡◌, ℕ, Bool, true, ◌&&◌, ◌||◌, ◌==◌, nat_eq, nat_lt, List, AllPairs, find, Option}
 use Rattle.std.specs.Prelude.{None, if◌then◌else◌, ◌-◌, not, length, count_by, slice_index_or}
 use Rattle.std.specs.Option.{option_map}
 use Rattle.std.specs.List.{range_with_len}
-use Rattle.std.specs.List.Sorted.{IsPartitionPoint}
 use Rattle.std.specs.Int.{is_in_range}
 use Rattle.normalizer_tables.specs.HangulComposition.{compose_hangul}
 
@@ -22,11 +21,6 @@ is_before p second first = nat_lt p.0 second || ((p.0 == second) && nat_lt p.1 f
 -- triples that strictly rise by second, then by first
 abbrev pub AreRising : List Pair → Type 0
 AreRising pairs = AllPairs (λ p q. is_before p q.0 q.1 ≡ true) pairs
-
--- the triples below the place stand before those of this second and this first, and no others do
-unfoldable pub IsPlaceOf : List Pair → ℕ → ℕ → ℕ → Type 0
-IsPlaceOf pairs second first place =
-    IsPartitionPoint (λ p. is_before p second first ≡ true) (λ p. is_before p second first ≡ false) pairs place
 
 unfoldable pub is_of : Pair → ℕ → ℕ → Bool
 is_of p first second = (p.0 == second) && (p.1 == first)

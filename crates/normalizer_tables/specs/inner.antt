@@ -1,6 +1,5 @@
 -- What the contracts of private functions alone cite.
 pub mod Blocks
-pub mod Found
 pub mod Members
 pub mod Read
 pub mod Rows

@@ -2,7 +2,7 @@
 ghost use Rattle.std.specs.Prelude.{◌≡◌, ◌+◌, ◌≤◌, ◌<◌, IfOk, ℕ, position, nat_eq, slice_index};
 ghost use Rattle.std.specs.Cmp.Lexicographic.{pointwise};
 ghost use Rattle.normalizer_tables.specs.Table.{block_count};
-ghost use Rattle.normalizer_tables.specs.inner.Blocks.{range_block, IsFirstFrom, IsJoined, IsNextInBlock};
+ghost use Rattle.normalizer_tables.specs.inner.Blocks.{AreFrom, AreLeft, IsJoined, IsRun};
 ghost use Rattle.normalizer_tables.specs.Ranges.{word_in, words_of, IsRangeList};
 ghost use Rattle.normalizer_tables.specs.Table.{code_points, IsNextWithWord};
 
@@ -43,11 +43,11 @@ impl Blocks {
     {
         let mut blocks = Vec::new(alloc);
         let mut numbers = Vec::with_capacity(alloc, PLACES as usize)?;
-        let mut at = 0;
+        let mut left = ranges;
         for place in 0..PLACES {
-            let (block, next) = block_from(ranges, at, place * BLOCK);
+            let (block, next) = block_from(left, place * BLOCK);
             numbers.push(joined(&mut blocks, block)? as u16)?;
-            at = next;
+            left = next;
         }
         Ok(Blocks { blocks, numbers })
     }
@@ -69,6 +69,7 @@ impl Blocks {
     }
 
     /// The least code point from a number on whose word isn't 0 once the bits of `flags` are taken away.
+    #[tactic(auto, unfolding(crate::specs::Table::without_flags))]
     pub(crate) fn next_with_word(&self, from: u32, flags: u32) -> Option<u32>
         ensures { (above : ℕ) → IsNextWithWord (record { words = self.now; past = above }) flags from result }
     {
@@ -79,31 +80,18 @@ impl Blocks {
                 continue;
             }
             let start = place * BLOCK;
-            match next_in_block(
-                &self.blocks[number as usize],
-                from.saturating_sub(start),
-                flags,
-            ) {
-                Some(offset) => return Some(start + offset),
-                None if from <= start => passed = Some(number),
-                None => {}
+            let block = &self.blocks[number as usize];
+            for offset in from.saturating_sub(start)..BLOCK {
+                if block[offset as usize] & !flags != 0 {
+                    return Some(start + offset);
+                }
+            }
+            if from <= start {
+                passed = Some(number);
             }
         }
         None
     }
-}
-
-/// The least place in a block, from one on, whose word isn't 0 once the bits of `flags` are taken away.
-#[tactic(auto, unfolding(crate::specs::inner::Blocks::IsNextInBlock, crate::specs::Table::without_flags))]
-fn next_in_block(block: &[u32; 64], from: u32, flags: u32) -> Option<u32>
-    ensures { IsNextInBlock block.now flags from result }
-{
-    for offset in from..BLOCK {
-        if block[offset as usize] & !flags != 0 {
-            return Some(offset);
-        }
-    }
-    None
 }
 
 impl Clone for Blocks {
@@ -149,66 +137,50 @@ fn joined(blocks: &mut Vec<[u32; 64]>, block: [u32; 64]) -> Result<usize, AllocE
 }
 
 fn number_of(blocks: &[[u32; 64]], block: &[u32; 64]) -> Option<usize>
-    ensures { result ≡ position (λ kept. pointwise nat_eq kept block.now) blocks.now }
+    ensures { result ≡ position (pointwise nat_eq block.now) blocks.now }
 {
-    blocks.iter().position(|kept| kept == block)
+    blocks.iter().position(|kept| block == kept)
 }
 
-/// The block of the ranges from a number on, and the first range that doesn't end within it.
-fn block_from(ranges: &[(u32, u32, u32)], at: usize, start: u32) -> ([u32; 64], usize)
-    requires ranges { IsRangeList ranges.now }
-    requires at { IsFirstFrom ranges.now start at }
+/// The words of 64 numbers from one on, and the ranges that don't end among them.
+fn block_from(ranges: &[(u32, u32, u32)], start: u32) -> ([u32; 64], &[(u32, u32, u32)])
+    requires ranges { AreFrom start ranges.now }
     requires room { start ≤ 0x10FFC0 }
-    ensures block { result.0 ≡ range_block ranges.now start }
-    ensures next { IsFirstFrom ranges.now (start + 64) result.1 }
+    ensures block { (k : ℕ) → k < 64 → slice_index result.0 k ≡ word_in ranges.now (start + k) }
+    ensures left { AreLeft ranges.now (start + 64) result.1.now }
 {
-    match ranges.get(at) {
-        None => ([0; 64], at),
-        Some(&(first, _, _)) if start + BLOCK <= first => ([0; 64], at),
-        Some(&(first, last, word)) if first <= start && start + 63 <= last => {
-            ([word; 64], first_behind(ranges, at, start + 63))
-        }
-        Some(_) => mixed_block(ranges, at, start),
+    let (word, last) = run_from(ranges, start);
+    if start + 63 <= last {
+        return ([word; 64], behind(ranges, start + 63));
     }
-}
-
-/// The same, number by number.
-fn mixed_block(ranges: &[(u32, u32, u32)], at: usize, start: u32) -> ([u32; 64], usize)
-    requires ranges { IsRangeList ranges.now }
-    requires at { IsFirstFrom ranges.now start at }
-    requires room { start ≤ 0x10FFC0 }
-    ensures block { result.0 ≡ range_block ranges.now start }
-    ensures next { IsFirstFrom ranges.now (start + 64) result.1 }
-{
     let mut block = [0; 64];
-    let mut at = at;
+    let mut left = ranges;
     for offset in 0..BLOCK {
-        block[offset as usize] = word_from(ranges, at, start + offset);
-        at = first_behind(ranges, at, start + offset);
+        block[offset as usize] = run_from(left, start + offset).0;
+        left = behind(left, start + offset);
     }
-    (block, at)
+    (block, left)
 }
 
-/// The word of a number, where the ranges before this one end before it and the others don't.
-fn word_from(ranges: &[(u32, u32, u32)], at: usize, number: u32) -> u32
-    requires ranges { IsRangeList ranges.now }
-    requires at { IsFirstFrom ranges.now number at }
-    ensures { result ≡ word_in ranges.now number }
+/// The word of a number, and a number up to which all have it.
+fn run_from(ranges: &[(u32, u32, u32)], number: u32) -> (u32, u32)
+    requires { AreFrom number ranges.now }
+    ensures { IsRun ranges.now number result.0 result.1 }
 {
-    match ranges.get(at) {
-        Some(&(first, _, word)) if first <= number => word,
-        _ => 0,
+    match ranges {
+        [] => (0, u32::MAX),
+        [(first, _, _), ..] if number < *first => (0, first - 1),
+        [(_, last, word), ..] => (*word, *last),
     }
 }
 
-/// The first range that doesn't end before the next number.
-fn first_behind(ranges: &[(u32, u32, u32)], at: usize, number: u32) -> usize
-    requires ranges { IsRangeList ranges.now }
-    requires at { IsFirstFrom ranges.now number at }
-    ensures { IsFirstFrom ranges.now (number + 1) result }
+/// The ranges that don't end at this number.
+fn behind(ranges: &[(u32, u32, u32)], number: u32) -> &[(u32, u32, u32)]
+    requires { AreFrom number ranges.now }
+    ensures { AreLeft ranges.now (number + 1) result.now }
 {
-    match ranges.get(at) {
-        Some(range) if range.1 <= number => at + 1,
-        _ => at,
+    match ranges {
+        [range, left @ ..] if range.1 <= number => left,
+        _ => ranges,
     }
 }

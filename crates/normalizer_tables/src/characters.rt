@@ -1,8 +1,10 @@
 //! What decomposition data say of each character.
-ghost use Rattle.std.specs.Prelude.{◌≡◌, ◌≢◌, ◌↔◌, ◌≤◌, ◌∷◌, [], ℕ, List, IfSome, IsTrue};
+ghost use Rattle.std.specs.Prelude.{◌≡◌, ◌≢◌, ◌↔◌, ◌≤◌, ◌∷◌, [], ℕ, List, Option, IfErr, IfOk, IfSome, IsTrue};
 ghost use Rattle.std.specs.Option.{option_copied};
 ghost use Rattle.normalizer_tables.specs.Ignored.{ignored_list, Dropped};
+ghost use Rattle.normalizer_tables.specs.Data.{lists_or_none};
 ghost use Rattle.normalizer_tables.specs.Characters.{
+  Characters,
   class_of,
   class_of_itself,
   has_class_form,
@@ -10,12 +12,12 @@ ghost use Rattle.normalizer_tables.specs.Characters.{
   list_of,
   list_read,
   listed_at,
+  listed_in,
   narrow_at,
   reading_of_word,
   wide_at,
   word_of,
 };
-ghost use Rattle.normalizer_tables.specs.inner.Found.{IsFound};
 ghost use Rattle.normalizer_tables.specs.Ranges.{IsComplete};
 ghost use Rattle.normalizer_tables.specs.Table.{code_points};
 ghost use Rattle.normalizer_tables.specs.Unseen.{PassUnseenBelow, PassesUnseen};
@@ -53,11 +55,6 @@ pub struct CharacterData<'a> {
 }
 
 impl<'a> Model for CharacterData<'a> {
-    ghost use Rattle.std.specs.Option.{option_copied};
-    ghost use Rattle.normalizer_tables.specs.Data.{lists_or_none};
-    ghost use Rattle.normalizer_tables.specs.Characters.{Characters};
-    ghost use Rattle.normalizer_tables.specs.Unseen.{PassUnseenBelow};
-
     ghost Value = { Characters };
 
     ghost view = { λ s. record {
@@ -76,9 +73,6 @@ impl<'a> Model for CharacterData<'a> {
 }
 
 impl<'a> CharacterData<'a> {
-    ghost use Rattle.std.specs.Option.{option_copied};
-    ghost use Rattle.normalizer_tables.specs.Data.{lists_or_none};
-
     /// Data, the tables that come first, the supplementary ones where the data have them, and whether the data are the
     /// mapper's. No character passes unseen.
     pub fn new(
@@ -234,14 +228,12 @@ impl<'a> CharacterData<'a> {
         requires { word ≡ word_of self.now character }
         ensures { result ≡ list_of self.now (ignored_list ignored) character }
     {
-        match self.members_read_by(character, word, ignored) {
-            Some(members) => members,
-            None => Members::one(character),
-        }
+        self.members_read_by(character, word, ignored)
+            .unwrap_or(Members::one(character))
     }
 
     /// Whether the list of a character has members, by its word. None has an ignored character that is dropped.
-    #[tactic(auto, unfolding(crate::specs::Characters::list_of, crate::specs::Characters::list_read, crate::specs::Characters::named_list, crate::specs::Characters::reading_of_word))]
+    #[tactic(auto, using(crate::proofs::WordLemmas::readings), unfolding(crate::specs::Characters::list_read, crate::specs::Characters::named_list))]
     pub fn has_members(&self, character: char, word: u32, ignored: IgnoredCharacters) -> bool
         requires { word ≡ word_of self.now character }
         ensures { IsTrue result ↔ (list_of self.now (ignored_list ignored) character ≢ []) }
@@ -253,7 +245,7 @@ impl<'a> CharacterData<'a> {
     }
 
     /// The class of a character whose word says that it is its own list.
-    #[tactic(auto, unfolding(crate::specs::Characters::class_of_itself, crate::specs::Characters::list_of, crate::specs::Characters::list_read, crate::specs::Characters::named_list))]
+    #[tactic(auto, using(crate::proofs::WordLemmas::readings), unfolding(crate::specs::Characters::class_of_itself, crate::specs::Characters::list_read, crate::specs::Characters::named_list))]
     pub fn class_of_itself(&self, character: char, word: u32) -> Option<u8>
         requires { word ≡ word_of self.now character }
         ensures reading { result ≡ class_of_itself (reading_of_word self.now character) }
@@ -268,6 +260,7 @@ impl<'a> CharacterData<'a> {
         }
     }
 
+    #[tactic(auto, using(crate::proofs::WordLemmas::readings), unfolding(crate::specs::Characters::list_read, crate::specs::Characters::named_list))]
     pub(crate) fn members_read_by(
         &self,
         character: char,
@@ -278,7 +271,10 @@ impl<'a> CharacterData<'a> {
         ensures { result ≡ list_read self.now (ignored_list ignored) character }
     {
         match self.reading_by(character, word) {
-            WordReading::Ignored => Some(ignored_members(ignored)),
+            WordReading::Ignored => match ignored {
+                IgnoredCharacters::Dropped => Some(Members::empty()),
+                IgnoredCharacters::Replaced => Some(Members::one('\u{FFFD}')),
+            },
             WordReading::Itself | WordReading::ClassForm(_) => Some(Members::one(character)),
             WordReading::SpecialForm(_) => Some(fixed_list_of(character)?.members()),
             WordReading::TwoCharacters(a, b) => Members::of_numbers(a as u32, b as u32),
@@ -299,42 +295,39 @@ impl<'a> CharacterData<'a> {
     }
 
     /// The list from an item of the tables on.
-    #[tactic(auto, unfolding(crate::specs::Characters::listed_at))]
+    #[tactic(auto, using(crate::proofs::ListedLemmas::listed_lists), unfolding(crate::specs::Characters::listed_at))]
     fn listed_at(&self, item: u32, low: u8) -> Option<Members<'a>>
         ensures { result ≡ listed_at self.now item low }
     {
         match listed_in(self.tables, item as usize, low) {
-            Found::Here(list) => list,
-            Found::Past(item) => match listed_in(self.supplementary?, item, low) {
-                Found::Here(list) => list,
-                Found::Past(_) => None,
-            },
+            Ok(list) => list,
+            Err(past) => listed_in(self.supplementary?, past, low).unwrap_or(None),
         }
     }
 }
 
 /// The list that starts at an item of a pair of tables, if it lies there, or else how far the item is past both.
-enum Found<'a> {
-    Here(Option<Members<'a>>),
-    Past(usize),
-}
-
-#[tactic(auto, using(crate::proofs::ListedLemmas::listed_lists), unfolding(crate::specs::Characters::listed_in))]
-fn listed_in<'a>(tables: &'a DecompositionTables, item: usize, low: u8) -> Found<'a>
-    ensures { IsFound tables.now low item result }
+#[tactic(auto, unfolding(crate::specs::Characters::listed_in, crate::specs::Characters::placed_in))]
+fn listed_in<'a>(
+    tables: &'a DecompositionTables,
+    item: usize,
+    low: u8,
+) -> Result<Option<Members<'a>>, usize>
+    ensures here { IfOk result (λ x. (after : ℕ → Option (List ℕ)) → listed_in tables.now low after item ≡ x) }
+    ensures past { IfErr result (λ k. (after : ℕ → Option (List ℕ)) → listed_in tables.now low after item ≡ after k) }
 {
     let narrow = &tables.scalars16;
     let Some(past_narrow) = item.checked_sub(narrow.len()) else {
-        return Found::Here(narrow_at(narrow, low, item));
+        return Ok(narrow_at(narrow, low, item));
     };
     let wide = tables.scalars24.as_slice();
     match past_narrow.checked_sub(wide.len()) {
-        Some(past) => Found::Past(past),
-        None => Found::Here(wide_at(wide, low, past_narrow)),
+        Some(past) => Err(past),
+        None => Ok(wide_at(wide, low, past_narrow)),
     }
 }
 
-#[tactic(auto, using(crate::proofs::ListedLemmas::listed_lists), unfolding(crate::specs::Characters::narrow_at))]
+#[tactic(auto, using(crate::proofs::ListedLemmas::listed_lists), unfolding(crate::specs::Characters::narrow_at, crate::specs::Characters::as_text))]
 fn narrow_at(units: &Scalars16, low: u8, place: usize) -> Option<Members<'_>>
     ensures { result ≡ narrow_at units.now low place }
 {
@@ -359,13 +352,4 @@ pub(crate) fn items_at<T>(items: &[T], place: usize, n: usize) -> Option<&[T]>
     ensures { option_copied result ≡ items_at items.now place n }
 {
     items.get(place..)?.get(..n)
-}
-
-fn ignored_members(ignored: IgnoredCharacters) -> Members<'static>
-    ensures { result ≡ ignored_list ignored }
-{
-    match ignored {
-        IgnoredCharacters::Dropped => Members::empty(),
-        IgnoredCharacters::Replaced => Members::one('\u{FFFD}'),
-    }
 }

@@ -1,8 +1,6 @@
 //! The complete check of what was loaded: the first of the written conditions that it breaks.
 ghost use Rattle.std.specs.Prelude.{◌≡◌, ◌↔◌, ◌≤◌, IsTrue, slice_get};
-ghost use Rattle.std.specs.Char.{IsScalar};
 ghost use Rattle.std.specs.List.{Contains, list_any};
-ghost use Rattle.normalizer_tables.specs.Characters.{word_of};
 ghost use Rattle.normalizer_tables.specs.Conditions.{IsFirstFailing, IsPlaceOfFirstFailing};
 ghost use Rattle.normalizer_tables.specs.Loaded.{IsMet, IsMetAt};
 ghost use Rattle.normalizer_tables.specs.Ranges.{IsComplete};
@@ -25,31 +23,20 @@ mod overall;
 mod parts;
 
 /// The first of these conditions that isn't met by what was loaded. It takes no memory.
-#[tactic(auto, using(crate::proofs::FirstFailing::first_failing_found), unfolding(crate::specs::Table::code_points))]
+#[tactic(auto, unfolding(crate::specs::Table::code_points))]
 pub fn first_failing(data: &LoadedData<'_>, conditions: &[Condition]) -> Option<Condition>
     ensures { IsFirstFailing (IsMet data.now) conditions.now result }
 {
     let mut failing = first_failing_apart(data, conditions);
     let hangul_is_sound = asks_hangul(&conditions[..failing]);
     let mut from = 0;
-    while from <= CODE_POINTS {
-        if !are_asked_of_words(&conditions[..failing]) {
-            return condition_at(conditions, failing);
-        }
+    while from <= CODE_POINTS && are_asked_of_words(&conditions[..failing]) {
         // The word of the first number past the code points is that of all.
-        let number = data.characters().next_with_word(from);
+        let number = data.characters.next_with_word(from);
         failing = first_failing_at(data, &conditions[..failing], number);
         from = end_of_alike(number, hangul_is_sound);
     }
-    condition_at(conditions, failing)
-}
-
-/// The condition at a place, if there is one.
-#[tactic(auto, using(crate::proofs::FirstFailing::copied_slice_get))]
-fn condition_at(conditions: &[Condition], place: usize) -> Option<Condition>
-    ensures { result ≡ slice_get conditions.now place }
-{
-    conditions.get(place).copied()
+    conditions.get(failing).copied()
 }
 
 /// Whether Hangul is among these conditions.
@@ -62,29 +49,23 @@ fn asks_hangul(conditions: &[Condition]) -> bool
 }
 
 /// Whether one of these conditions says something of words that aren't 0, beyond what was asked apart.
+#[tactic(auto, unfolding(crate::specs::inner::Walk::is_asked_of_words))]
 fn are_asked_of_words(conditions: &[Condition]) -> bool
     ensures { result ≡ list_any is_asked_of_words conditions.now }
 {
-    conditions
-        .iter()
-        .any(|&condition| is_asked_of_words(condition))
-}
-
-#[tactic(auto, unfolding(crate::specs::inner::Walk::is_asked_of_words))]
-fn is_asked_of_words(condition: Condition) -> bool
-    ensures { result ≡ is_asked_of_words condition }
-{
-    matches!(
-        condition,
-        Condition::Words
-            | Condition::Members
-            | Condition::Order
-            | Condition::Passthrough
-            | Condition::RoundTrip
-            | Condition::SafeBeginning
-            | Condition::FdfaForms
-            | Condition::Steps
-    )
+    conditions.iter().any(|&condition| {
+        matches!(
+            condition,
+            Condition::Words
+                | Condition::Members
+                | Condition::Order
+                | Condition::Passthrough
+                | Condition::RoundTrip
+                | Condition::SafeBeginning
+                | Condition::FdfaForms
+                | Condition::Steps
+        )
+    })
 }
 
 /// The end of the numbers for which this one answers. Where Hangul is sound, a syllable does for those behind it with
@@ -105,12 +86,10 @@ fn end_of_alike(number: u32, hangul_is_sound: bool) -> u32
 fn first_failing_apart(data: &LoadedData<'_>, conditions: &[Condition]) -> usize
     ensures { IsPlaceOfFirstFailing (IsMetApart data.now) conditions.now result }
 {
-    for (place, &condition) in conditions.iter().enumerate() {
-        if !is_met_apart(data, condition) {
-            return place;
-        }
-    }
-    conditions.len()
+    conditions
+        .iter()
+        .position(|&condition| !is_met_apart(data, condition))
+        .unwrap_or(conditions.len())
 }
 
 /// The place of the first condition that fails of a number.
@@ -118,49 +97,16 @@ fn first_failing_at(data: &LoadedData<'_>, conditions: &[Condition], number: u32
     ensures place { IsPlaceOfFirstFailing (λ c. IsMetAt data.now c number) conditions.now result }
     ensures complete { IsComplete data.now.characters.decompositions.table }
 {
-    let characters = data.characters();
+    let characters = &data.characters;
     let word = characters.word_of_number(number);
-    match char::from_u32(number) {
+    let mut asked = conditions.iter();
+    let place = match char::from_u32(number) {
         // It is read here, once for all conditions.
         Some(character) => {
-            first_failing_of(data, conditions, &read_by_word(characters, character, word))
+            let read = read_by_word(characters, character, word);
+            asked.position(|&condition| !is_met_at(data, condition, &read))
         }
-        None => first_failing_elsewhere(data, conditions, number, word),
-    }
-}
-
-/// The place of the first condition that fails of a character.
-fn first_failing_of(
-    data: &LoadedData<'_>,
-    conditions: &[Condition],
-    read: &ReadCharacter<'_>,
-) -> usize
-    requires { IsRead data.now.characters read.now }
-    ensures { IsPlaceOfFirstFailing (λ c. IsMetAt data.now c read.now.character) conditions.now result }
-{
-    for (place, &condition) in conditions.iter().enumerate() {
-        if !is_met_at(data, condition, read) {
-            return place;
-        }
-    }
-    conditions.len()
-}
-
-/// The place of the first condition that fails of a number that no character has and its word.
-fn first_failing_elsewhere(
-    data: &LoadedData<'_>,
-    conditions: &[Condition],
-    number: u32,
-    word: u32,
-) -> usize
-    requires no_character { IsScalar number → ⊥ }
-    requires word { word ≡ word_of data.now.characters number }
-    ensures { IsPlaceOfFirstFailing (λ c. IsMetAt data.now c number) conditions.now result }
-{
-    for (place, &condition) in conditions.iter().enumerate() {
-        if !is_met_elsewhere(data, condition, number, word) {
-            return place;
-        }
-    }
-    conditions.len()
+        None => asked.position(|&condition| !is_met_elsewhere(data, condition, number, word)),
+    };
+    place.unwrap_or(conditions.len())
 }

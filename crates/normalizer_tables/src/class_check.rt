@@ -56,7 +56,7 @@ fn has_no_class_past(table: &CodePointTable) -> bool
 }
 
 /// Whether the words of all characters have sound classes.
-#[tactic(auto, using(crate::proofs::ClassLemmas::classes), unfolding(crate::specs::ClassConditions::HoldsOfClasses, crate::specs::Table::IsNextWithWord, crate::specs::Table::code_points))]
+#[tactic(auto, unfolding(crate::specs::ClassConditions::HoldsOfClasses, crate::specs::Table::IsNextWithWord, crate::specs::Table::code_points))]
 fn have_sound_classes(table: &CodePointTable) -> bool
     ensures { IsTrue result ↔ HoldsOfClasses table.now condition.WordClasses }
 {

@@ -9,11 +9,13 @@ ghost use Rattle.normalizer_tables.specs.HangulComposition.{
   is_vowel,
 };
 
+use crate::word::is_hangul_syllable;
+
 pub(crate) const S_BASE: u32 = 0xAC00;
 
-const L_BASE: u32 = 0x1100;
+pub(crate) const L_BASE: u32 = 0x1100;
 
-const V_BASE: u32 = 0x1161;
+pub(crate) const V_BASE: u32 = 0x1161;
 
 pub(crate) const T_BASE: u32 = 0x11A7;
 
@@ -22,7 +24,7 @@ pub(crate) const T_COUNT: u32 = 28;
 pub(crate) const N_COUNT: u32 = 588;
 
 /// The syllable of a leading consonant and a vowel, or of such a syllable and a trailing consonant.
-#[tactic(auto, unfolding(crate::specs::HangulComposition::compose_hangul))]
+#[tactic(auto, using(crate::proofs::HangulLemmas::compositions), unfolding(crate::specs::HangulComposition::compose_hangul, crate::specs::HangulComposition::is_lv_syllable))]
 pub fn compose_hangul(first: char, second: char) -> Option<char>
     ensures { result ≡ compose_hangul first second }
 {
@@ -30,7 +32,10 @@ pub fn compose_hangul(first: char, second: char) -> Option<char>
         let leading = first as u32 - L_BASE;
         let vowel = second as u32 - V_BASE;
         char::from_u32(S_BASE + (leading * N_COUNT + vowel * T_COUNT))
-    } else if is_lv_syllable(first) && is_trailing_consonant(second) {
+    } else if is_hangul_syllable(first as u32)
+        && (first as u32 - S_BASE) % T_COUNT == 0
+        && is_trailing_consonant(second)
+    {
         char::from_u32(first as u32 + (second as u32 - T_BASE))
     } else {
         None
@@ -38,10 +43,11 @@ pub fn compose_hangul(first: char, second: char) -> Option<char>
 }
 
 /// Whether a character makes a syllable with none before it.
+#[tactic(auto, using(crate::proofs::HangulLemmas::never_hangul_second))]
 pub fn is_never_hangul_second(second: char) -> bool
     ensures { IsTrue result ↔ ((first : ℕ) → compose_hangul first second ≡ None) }
 {
-    !is_vowel(second) && !is_trailing_consonant(second)
+    !is_vowel(second) & !is_trailing_consonant(second)
 }
 
 #[tactic(auto, unfolding(crate::specs::HangulComposition::is_leading_consonant))]
@@ -63,19 +69,4 @@ fn is_trailing_consonant(c: char) -> bool
     ensures { result ≡ is_trailing_consonant c }
 {
     '\u{11A8}' <= c && c <= '\u{11C2}'
-}
-
-#[tactic(auto, unfolding(crate::specs::Hangul::is_hangul_syllable))]
-fn is_hangul_syllable(c: char) -> bool
-    ensures { result ≡ is_hangul_syllable c }
-{
-    '\u{AC00}' <= c && c <= '\u{D7A3}'
-}
-
-/// Whether a character is a syllable of a leading consonant and a vowel alone.
-#[tactic(auto, unfolding(crate::specs::HangulComposition::is_lv_syllable, crate::specs::Hangul::is_hangul_syllable))]
-fn is_lv_syllable(c: char) -> bool
-    ensures { result ≡ is_lv_syllable c }
-{
-    is_hangul_syllable(c) && (c as u32 - S_BASE) % T_COUNT == 0
 }

@@ -12,10 +12,10 @@ use std::marker::Model;
 /// characters pass unseen.
 #[derive(Drop)]
 pub struct LoadedData<'a> {
-    characters: CharacterData<'a>,
-    bounds: Bounds,
-    pairs: Option<&'a CanonicalCompositions>,
-    supplement: Option<&'a NonRecursiveDecompositionSupplement>,
+    pub(crate) characters: CharacterData<'a>,
+    pub(crate) bounds: Bounds,
+    pub(crate) pairs: Option<&'a CanonicalCompositions>,
+    pub(crate) supplement: Option<&'a NonRecursiveDecompositionSupplement>,
 }
 
 impl<'a> Model for LoadedData<'a> {
@@ -52,29 +52,5 @@ impl<'a> LoadedData<'a> {
             pairs,
             supplement,
         }
-    }
-
-    pub fn characters(&self) -> &CharacterData<'a>
-        ensures { result.now ≡ self.now.characters }
-    {
-        &self.characters
-    }
-
-    pub fn bounds(&self) -> Bounds
-        ensures { result ≡ self.now.bounds }
-    {
-        self.bounds
-    }
-
-    pub fn pairs(&self) -> Option<&'a CanonicalCompositions>
-        ensures { option_copied result ≡ self.now.pairs }
-    {
-        self.pairs
-    }
-
-    pub fn supplement(&self) -> Option<&'a NonRecursiveDecompositionSupplement>
-        ensures { option_copied result ≡ self.now.supplement }
-    {
-        self.supplement
     }
 }

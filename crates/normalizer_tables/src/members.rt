@@ -1,12 +1,14 @@
 //! The list of a character, walked without taking memory.
-ghost use Rattle.std.specs.Prelude.{◌≡◌, ◌↔◌, ◌<◌, [], ◌∷◌, Some, IsTrue, All, length, slice_get, true};
+ghost use Rattle.std.specs.Prelude.{◌≡◌, ◌↔◌, ◌<◌, ℕ, List, [], ◌∷◌, Some, IsTrue, All, length, slice_get, true};
 ghost use lib.Utf8.{scalar};
 ghost use Rattle.std.specs.Char.{IsScalar};
 ghost use Rattle.std.specs.List.{list_all};
 ghost use Rattle.normalizer_tables.specs.Characters.{as_text};
 ghost use Rattle.normalizer_tables.specs.Hangul.{hangul_decomposition, is_hangul_syllable};
 ghost use Rattle.normalizer_tables.specs.SpecialLists.{fdfa_list};
+ghost use Rattle.normalizer_tables.specs.inner.Members.{members_of, spells_characters};
 
+use crate::hangul::{L_BASE, N_COUNT, S_BASE, T_BASE, T_COUNT, V_BASE};
 use crate::scalars::spell_characters;
 use std::marker::Model;
 
@@ -28,27 +30,12 @@ enum Shape<'a> {
 }
 
 impl<'a> Model for Members<'a> {
-    ghost use Rattle.std.specs.Prelude.{◌≡◌, ℕ, List, true};
-    ghost use Rattle.normalizer_tables.specs.inner.Members.{members_of, spells_characters};
-
     ghost Value = { List ℕ };
 
     ghost view = { λ m. members_of m.shape };
 
     ghost invariant = { λ m. spells_characters m.shape ≡ true };
 }
-
-const S_BASE: u32 = 0xAC00;
-
-const L_BASE: u32 = 0x1100;
-
-const V_BASE: u32 = 0x1161;
-
-const T_BASE: u32 = 0x11A7;
-
-const T_COUNT: u32 = 28;
-
-const N_COUNT: u32 = 588;
 
 static FDFA: [char; 18] = [
     '\u{635}', '\u{644}', '\u{649}', '\u{20}', '\u{627}', '\u{644}', '\u{644}', '\u{647}',
@@ -208,8 +195,5 @@ fn character_at(units: &[u16], place: usize) -> Option<char>
     requires { All IsScalar units.now }
     ensures { result ≡ slice_get units.now place }
 {
-    match units.get(place) {
-        Some(&unit) => char::from_u32(unit as u32),
-        None => None,
-    }
+    char::from_u32(*units.get(place)? as u32)
 }

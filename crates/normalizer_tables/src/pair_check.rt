@@ -9,10 +9,10 @@ ghost use Rattle.normalizer_tables.specs.PairConditions.{
 };
 ghost use Rattle.normalizer_tables.specs.inner.Read.{IsRead};
 
-use crate::characters::CharacterData;
+use crate::characters::{CharacterData, IgnoredCharacters};
 use crate::condition::{Bounds, Condition};
 use crate::pair_check::beginnings::{keeps_beginning, keeps_round_trip};
-use crate::pair_check::results::has_ordered_lists;
+use crate::pair_check::results::is_ordered_lists;
 use crate::pairs::CanonicalCompositions;
 use crate::read::ReadCharacter;
 use crate::word::{IGNORED_MARKER, is_class_form};
@@ -30,7 +30,9 @@ pub(crate) fn pairs_hold_overall(
     ensures { IsTrue result ↔ PairsHoldOverall data.now compositions.now condition }
 {
     match condition {
-        Condition::Pairs => are_composing_pairs(data, compositions),
+        Condition::Pairs => {
+            are_sound_pairs(compositions) && have_composable_members(data, compositions)
+        }
         Condition::Results => have_ordered_lists(data, compositions),
         Condition::PairOrder => are_sound_pairs(compositions),
         _ => true,
@@ -63,14 +65,6 @@ pub fn are_sound_pairs(compositions: &CanonicalCompositions) -> bool
     compositions.is_rising() && compositions.has_no_jamo_second()
 }
 
-/// Whether these hold, and no first and no result has a class form or is ignored.
-fn are_composing_pairs(data: &CharacterData<'_>, compositions: &CanonicalCompositions) -> bool
-    ensures { IsTrue result ↔ (AreSoundPairs compositions.now ×
-        All (λ p. IsComposable data.now p.1 × IsComposable data.now p.2) compositions.now) }
-{
-    are_sound_pairs(compositions) && have_composable_members(data, compositions)
-}
-
 /// Whether no first and no result has a class form or is ignored.
 fn have_composable_members(data: &CharacterData<'_>, compositions: &CanonicalCompositions) -> bool
     ensures { IsTrue result ↔ All (λ p. IsComposable data.now p.1 × IsComposable data.now p.2) compositions.now }
@@ -93,11 +87,14 @@ fn is_composable(data: &CharacterData<'_>, character: char) -> bool
 }
 
 /// Whether each result has the ordered lists of first and second.
+#[tactic(auto, unfolding(crate::specs::PairConditions::HasOrderedLists))]
 fn have_ordered_lists(data: &CharacterData<'_>, compositions: &CanonicalCompositions) -> bool
     ensures { IsTrue result ↔ All (HasOrderedLists data.now []) compositions.now }
 {
     for place in 0..compositions.len() {
-        if !has_ordered_lists(data, compositions.at(place)) {
+        let (second, first, result) = compositions.at(place);
+        let of_result = data.members(result, IgnoredCharacters::Dropped);
+        if !is_ordered_lists(data, &of_result, first, second) {
             return false;
         }
     }

@@ -1,5 +1,7 @@
 //! The data that normalisation works on, and the trait by which they are handed in.
-ghost use Rattle.std.specs.Prelude.{◌≡◌, ◌↔◌, ◌⊎◌, IfOk, IfErr, IsErrOf, IsNone};
+ghost use Rattle.std.specs.Prelude.{◌≡◌, ◌↔◌, ◌⊎◌, Option, IfOk, IfErr, IsErrOf, IsNone};
+ghost use Rattle.normalizer_tables.specs.Data.{Decompositions, Lists, Supplement};
+ghost use Rattle.normalizer_tables.specs.declared.provider.DataMarkerInfo.{DataMarkerInfo};
 ghost use Rattle.normalizer_tables.specs.declared.provider.DataMarkerInfo.TheVariants as marker;
 
 use crate::pairs::CanonicalCompositions;
@@ -43,8 +45,6 @@ pub enum DataError {
 pub trait DataMarker {
     type Data;
 
-    ghost use Rattle.normalizer_tables.specs.declared.provider.DataMarkerInfo.{DataMarkerInfo};
-
     ghost INFO: { DataMarkerInfo };
 
     const INFO: DataMarkerInfo;
@@ -52,8 +52,6 @@ pub trait DataMarker {
 
 /// Where data come from.
 pub trait DataProvider<M: DataMarker> {
-    ghost use Rattle.std.specs.Prelude.{Option};
-
     ghost held: { Self → Option M.Data };
 
     /// What is held for the marker.
@@ -71,8 +69,6 @@ pub struct DecompositionData {
 }
 
 impl Model for DecompositionData {
-    ghost use Rattle.normalizer_tables.specs.Data.{Decompositions};
-
     ghost Value = { Decompositions };
 
     ghost view = { λ d. record { table = d.table; cap = d.passthrough_cap } };
@@ -88,8 +84,6 @@ pub struct DecompositionTables {
 }
 
 impl Model for DecompositionTables {
-    ghost use Rattle.normalizer_tables.specs.Data.{Lists};
-
     ghost Value = { Lists };
 
     ghost view = { λ t. record { scalars16 = t.scalars16; scalars24 = t.scalars24 } };
@@ -105,8 +99,6 @@ pub struct NonRecursiveDecompositionSupplement {
 }
 
 impl Model for NonRecursiveDecompositionSupplement {
-    ghost use Rattle.normalizer_tables.specs.Data.{Supplement};
-
     ghost Value = { Supplement };
 
     ghost view = { λ s. record { table = s.table; scalars24 = s.scalars24 } };

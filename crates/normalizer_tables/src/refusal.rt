@@ -16,19 +16,7 @@ pub fn marker_of(data_marker: DataMarkerInfo, condition: Condition) -> DataMarke
         }
         Condition::FdfaForms => DataMarkerInfo::NormalizerNfdDataV1,
         Condition::Steps => DataMarkerInfo::NormalizerNfdSupplementV1,
-        Condition::CapLimit
-        | Condition::ReplacementCharacter
-        | Condition::Surrogates
-        | Condition::PastTheEnd
-        | Condition::Hangul
-        | Condition::Words
-        | Condition::Members
-        | Condition::Order
-        | Condition::Passthrough
-        | Condition::RoundTrip
-        | Condition::SafeBeginning
-        | Condition::SurrogateClasses
-        | Condition::WordClasses => data_marker,
+        _ => data_marker,
     }
 }
 

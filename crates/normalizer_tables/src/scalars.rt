@@ -1,6 +1,9 @@
 //! Lists of characters that the words of a table point into.
-ghost use Rattle.std.specs.Prelude.{◌≡◌, ◌↔◌, [], length, IsTrue};
+ghost use Rattle.std.specs.Prelude.{◌≡◌, ◌↔◌, ℕ, [], List, length, IsTrue, nat_eq};
+ghost use Rattle.std.specs.Cmp.{partial_equiv_from_equiv};
+ghost use Rattle.std.specs.Cmp.Lexicographic.{pointwise};
 ghost use Rattle.std.specs.List.{list_all};
+ghost use Rattle.std.proofs.lemmas.Cmp.{nat_list_eq_equiv};
 ghost use lib.Utf8.{scalar};
 
 use std::alloc::{AllocError, Global};
@@ -15,10 +18,6 @@ pub struct Scalars16 {
 }
 
 impl Model for Scalars16 {
-    ghost use Rattle.std.specs.Prelude.{◌≡◌, ℕ, List};
-    ghost use Rattle.std.specs.List.{list_all};
-    ghost use lib.Utf8.{scalar};
-
     ghost Value = { List ℕ };
 
     ghost view = { λ s. s.units.items };
@@ -79,11 +78,6 @@ impl From<Scalars16> for Vec<u16> {
 }
 
 impl PartialEq for Scalars16 {
-    ghost use Rattle.std.specs.Cmp.{partial_equiv_from_equiv};
-    ghost use Rattle.std.specs.Cmp.Lexicographic.{pointwise};
-    ghost use Rattle.std.specs.Prelude.{nat_eq};
-    ghost use Rattle.std.proofs.lemmas.Cmp.{nat_list_eq_equiv};
-
     ghost eq = { pointwise nat_eq };
 
     ghost laws = { partial_equiv_from_equiv nat_list_eq_equiv };
@@ -94,8 +88,6 @@ impl PartialEq for Scalars16 {
 }
 
 impl Eq for Scalars16 {
-    ghost use Rattle.std.proofs.lemmas.Cmp.{nat_list_eq_equiv};
-
     ghost laws = { nat_list_eq_equiv };
 }
 
@@ -114,14 +106,9 @@ impl Clone for Scalars16 {
 pub(crate) fn spell_characters(units: &[u16]) -> bool
     ensures { result ≡ list_all scalar units.now }
 {
-    units.iter().all(|&unit| is_character(unit))
-}
-
-/// Whether a number is that of a character, and no surrogate.
-fn is_character(unit: u16) -> bool
-    ensures { result ≡ scalar unit }
-{
-    char::from_u32(unit as u32).is_some()
+    units
+        .iter()
+        .all(|&unit| char::from_u32(unit as u32).is_some())
 }
 
 /// Characters.
@@ -131,8 +118,6 @@ pub struct Scalars24 {
 }
 
 impl Model for Scalars24 {
-    ghost use Rattle.std.specs.Prelude.{ℕ, List};
-
     ghost Value = { List ℕ };
 
     ghost view = { λ s. s.scalars.items };
@@ -176,11 +161,6 @@ impl From<Scalars24> for Vec<char> {
 }
 
 impl PartialEq for Scalars24 {
-    ghost use Rattle.std.specs.Cmp.{partial_equiv_from_equiv};
-    ghost use Rattle.std.specs.Cmp.Lexicographic.{pointwise};
-    ghost use Rattle.std.specs.Prelude.{nat_eq};
-    ghost use Rattle.std.proofs.lemmas.Cmp.{nat_list_eq_equiv};
-
     ghost eq = { pointwise nat_eq };
 
     ghost laws = { partial_equiv_from_equiv nat_list_eq_equiv };
@@ -191,8 +171,6 @@ impl PartialEq for Scalars24 {
 }
 
 impl Eq for Scalars24 {
-    ghost use Rattle.std.proofs.lemmas.Cmp.{nat_list_eq_equiv};
-
     ghost laws = { nat_list_eq_equiv };
 }
 

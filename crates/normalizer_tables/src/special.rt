@@ -1,6 +1,6 @@
 //! The nine characters whose fixed list no word spells.
 ghost use Rattle.std.specs.Prelude.{◌≡◌};
-ghost use Rattle.normalizer_tables.specs.SpecialLists.{fixed, fixed_list_of};
+ghost use Rattle.normalizer_tables.specs.SpecialLists.{FixedList as Fixed, fixed, fixed_list_of};
 
 use crate::members::Members;
 use std::marker::Model;
@@ -14,8 +14,6 @@ pub struct FixedList {
 }
 
 impl Model for FixedList {
-    ghost use Rattle.normalizer_tables.specs.SpecialLists.{FixedList as Fixed};
-
     ghost Value = { Fixed };
 
     ghost view = { λ f. record { list = f.list.now; class = f.class; member_classes = f.member_classes.now } };

@@ -4,14 +4,12 @@ ghost use Rattle.normalizer_tables.specs.Characters.{Characters, as_text, list_r
 ghost use Rattle.normalizer_tables.specs.Hangul.{is_hangul_syllable};
 ghost use Rattle.normalizer_tables.specs.inner.Read.{IsRead};
 ghost use Rattle.normalizer_tables.specs.Steps.{
-  hangul_mapping,
   listed_step,
   may_have_oxia,
   step_by,
   step_of,
   step_to,
   two_characters_step,
-  supplementary_mapping,
   supplementary_step,
 };
 
@@ -34,7 +32,7 @@ pub enum Step {
 }
 
 /// The canonical mapping of a character, if the words give one or say that there is none. It takes no memory.
-#[tactic(auto, unfolding(crate::specs::Steps::step_of))]
+#[tactic(auto, unfolding(crate::specs::Steps::step_of, crate::specs::Steps::hangul_mapping, crate::specs::Steps::step_by, crate::specs::Hangul::is_hangul_syllable))]
 pub fn step_of(
     data: &CharacterData<'_>,
     supplement: &NonRecursiveDecompositionSupplement,
@@ -43,13 +41,20 @@ pub fn step_of(
     ensures { result ≡ step_of data.now supplement.now character }
 {
     if is_hangul_syllable(character as u32) {
-        return step_by(hangul_mapping(character));
+        // It maps by arithmetic (The Unicode Standard, section 3.12).
+        let trailing = (character as u32 - S_BASE) % T_COUNT;
+        let mapping = if trailing == 0 {
+            Members::of_hangul_syllable(character)?
+        } else {
+            Members::of_numbers(character as u32 - trailing, T_BASE + trailing)?
+        };
+        return step_to(&mapping);
     }
     step_by_reading(supplement, &read_character(data, character))
 }
 
 /// The canonical mapping of a character that is no Hangul syllable.
-#[tactic(auto, using(crate::proofs::ReadLemmas::readings), unfolding(crate::specs::Steps::step_of, crate::specs::Steps::step_of_reading))]
+#[tactic(auto, using(crate::proofs::ReadLemmas::readings), unfolding(crate::specs::Steps::step_of, crate::specs::Steps::step_of_reading, crate::specs::Steps::two_characters_step, crate::specs::Steps::step_by))]
 pub(crate) fn step_by_reading(
     supplement: &NonRecursiveDecompositionSupplement,
     read: &ReadCharacter<'_>,
@@ -59,44 +64,17 @@ pub(crate) fn step_by_reading(
 {
     match read.reading {
         WordReading::Itself | WordReading::ClassForm(_) => Some(Step::Default),
-        WordReading::TwoCharacters(_, _) => two_characters_step(supplement, read),
-        WordReading::SpecialForm(_) | WordReading::OneCharacter(_) => step_by_list(read),
-        WordReading::Listed(_, _, _) => {
-            if read.reads {
-                listed_step(supplement, read.character, &read.list)
-            } else {
-                None
-            }
+        WordReading::TwoCharacters(_, _) if may_have_oxia(read.character) => {
+            supplementary_step(supplement, read.character)
         }
-        WordReading::Ignored | WordReading::HangulSyllable | WordReading::Fdfa => None,
-    }
-}
-
-/// The step of a character whose word spells two.
-#[tactic(auto, unfolding(crate::specs::Steps::two_characters_step))]
-fn two_characters_step(
-    supplement: &NonRecursiveDecompositionSupplement,
-    read: &ReadCharacter<'_>,
-) -> Option<Step>
-    ensures { (s : Characters) → IsRead s read.now →
-        result ≡ two_characters_step s supplement.now read.now.character }
-{
-    if may_have_oxia(read.character) {
-        supplementary_step(supplement, read.character)
-    } else {
-        step_by_list(read)
-    }
-}
-
-/// The step to the list of a character, where its word reads.
-#[tactic(auto, using(crate::proofs::ReadLemmas::readings), unfolding(crate::specs::Steps::step_by))]
-fn step_by_list(read: &ReadCharacter<'_>) -> Option<Step>
-    ensures { (s : Characters) → IsRead s read.now → result ≡ step_by (list_read s [] read.now.character) }
-{
-    if read.reads {
-        step_to(&read.list)
-    } else {
-        None
+        WordReading::Listed(_, _, _) if read.reads => {
+            listed_step(supplement, read.character, &read.list)
+        }
+        WordReading::TwoCharacters(_, _)
+        | WordReading::SpecialForm(_)
+        | WordReading::OneCharacter(_)
+            if read.reads => step_to(&read.list),
+        _ => None,
     }
 }
 
@@ -126,56 +104,27 @@ fn listed_step(
     }
 }
 
-/// The step that the supplement decides.
-#[tactic(auto, unfolding(crate::specs::Steps::supplementary_step))]
+/// The step that the supplement decides, by the mapping that its word names.
+#[tactic(auto, unfolding(crate::specs::Steps::supplementary_step, crate::specs::Steps::supplementary_mapping, crate::specs::Steps::step_by))]
 fn supplementary_step(
     supplement: &NonRecursiveDecompositionSupplement,
     character: char,
 ) -> Option<Step>
     ensures { result ≡ supplementary_step supplement.now character }
 {
-    let scalars = supplement.scalars24.as_slice();
-    step_by(supplementary_mapping(scalars, supplement.table.get(character)))
-}
-
-/// What a word of the supplement names.
-#[tactic(auto, unfolding(crate::specs::Steps::supplementary_mapping))]
-fn supplementary_mapping(scalars: &[char], word: u32) -> Option<Members<'_>>
-    ensures { result ≡ supplementary_mapping scalars.now word }
-{
+    let word = supplement.table.get(character);
     let lead = word & 0xFFFF;
     let trail = word >> 16;
-    if lead != 0 && trail != 0 {
-        Members::of_numbers(lead, trail)
+    let mapping = if lead != 0 && trail != 0 {
+        Members::of_numbers(lead, trail)?
     } else if lead != 0 {
-        Members::of_number(lead)
+        Members::of_number(lead)?
     } else if trail != 0 {
-        Some(Members::of_scalars(items_at(scalars, trail as usize - 1, 2)?))
+        Members::of_scalars(items_at(supplement.scalars24.as_slice(), trail as usize - 1, 2)?)
     } else {
-        None
-    }
-}
-
-/// What a Hangul syllable maps to, by arithmetic (The Unicode Standard, section 3.12).
-#[tactic(auto, unfolding(crate::specs::Steps::hangul_mapping, crate::specs::Hangul::is_hangul_syllable))]
-fn hangul_mapping(syllable: char) -> Option<Members<'static>>
-    requires { is_hangul_syllable syllable ≡ true }
-    ensures { result ≡ as_text (hangul_mapping syllable) }
-{
-    let trailing = (syllable as u32 - S_BASE) % T_COUNT;
-    if trailing == 0 {
-        Members::of_hangul_syllable(syllable)
-    } else {
-        Members::of_numbers(syllable as u32 - trailing, T_BASE + trailing)
-    }
-}
-
-/// The step to a mapping, where there is one.
-#[tactic(auto, unfolding(crate::specs::Steps::step_by))]
-fn step_by(mapping: Option<Members<'_>>) -> Option<Step>
-    ensures { result ≡ step_by mapping.entry }
-{
-    step_to(&mapping?)
+        return None;
+    };
+    step_to(&mapping)
 }
 
 /// The step to one character, or to two.

@@ -2,6 +2,8 @@
 ghost use Rattle.std.specs.Prelude.{◌≡◌, ◌↔◌, ◌≤◌, IfOk, IsErrOf, IsTrue};
 ghost use Rattle.normalizer_tables.specs.Table.{block_count};
 ghost use Rattle.normalizer_tables.specs.Ranges.{IsComplete, IsRangeList, IsTableOf};
+ghost use Rattle.normalizer_tables.specs.inner.Blocks.{is_range};
+ghost use Rattle.std.specs.List.{list_all};
 ghost use Rattle.normalizer_tables.specs.Table.{word_at, code_points, IsNextWithWord};
 
 use crate::blocks::Blocks;
@@ -126,12 +128,13 @@ const LAST_CODE_POINT: u32 = 0x10FFFF;
 fn is_range_list(ranges: &[(u32, u32, u32)]) -> bool
     ensures { IsTrue result ↔ IsRangeList ranges.now }
 {
-    let mut next_free = 0;
-    for &(first, last, _) in ranges {
-        if first < next_free || last < first || last > LAST_CODE_POINT {
-            return false;
-        }
-        next_free = last + 1;
-    }
-    true
+    are_ranges(ranges) && ranges.is_sorted_by(|range, next| range.1 < next.0)
+}
+
+fn are_ranges(ranges: &[(u32, u32, u32)]) -> bool
+    ensures { result ≡ list_all is_range ranges.now }
+{
+    ranges
+        .iter()
+        .all(|range| range.0 <= range.1 && range.1 <= LAST_CODE_POINT)
 }

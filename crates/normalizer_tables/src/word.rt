@@ -1,5 +1,5 @@
 //! The readings of the 32-bit words of decomposition data.
-ghost use Rattle.std.specs.Prelude.{◌≡◌, false};
+ghost use Rattle.std.specs.Prelude.{◌≡◌};
 ghost use Rattle.normalizer_tables.specs.Hangul.{is_hangul_syllable};
 ghost use Rattle.normalizer_tables.specs.Words.{
   class_of_word,
@@ -11,11 +11,8 @@ ghost use Rattle.normalizer_tables.specs.Words.{
   is_ordinary_class_form,
   is_plain,
   is_special_class_form,
-  listed,
   low_byte,
   read,
-  read_low,
-  two_characters,
 };
 
 /// The word of a character that the mapper ignores (UTS #46, section 4).
@@ -49,7 +46,7 @@ pub enum WordReading {
 }
 
 /// The reading of the word of a character, in the mapper's data or in others.
-#[tactic(auto, unfolding(crate::specs::Words::read))]
+#[tactic(auto, using(crate::proofs::WordLemmas::item_above_zero), unfolding(crate::specs::Words::read, crate::specs::Words::two_characters, crate::specs::Words::listed, crate::specs::Words::read_low))]
 pub fn read(character: char, word: u32, is_mapper: bool) -> WordReading
     ensures { result ≡ read character word is_mapper }
 {
@@ -62,11 +59,17 @@ pub fn read(character: char, word: u32, is_mapper: bool) -> WordReading
     } else if is_special_class_form(word) {
         WordReading::SpecialForm(low_byte(word))
     } else if !has_high_zeros(word) && !has_low_zeros(word) {
-        two_characters(word)
-    } else if has_high_zeros(word) {
-        read_low(character, word)
+        WordReading::TwoCharacters((word & 0x7FFF) as u16, ((word >> 15) & 0x7FFF) as u16)
+    } else if !has_high_zeros(word) {
+        // It points into the tables.
+        let first = ((word & 0x3FFF_FFFF) >> 16) - 1;
+        WordReading::Listed(first, (word & 0xF) as u8, word & 0x10 != 0)
+    } else if is_hangul_syllable(character as u32) {
+        WordReading::HangulSyllable
+    } else if word & 0xFFFF == 1 {
+        WordReading::Fdfa
     } else {
-        listed(word)
+        WordReading::OneCharacter((word & 0xFFFF) as u16)
     }
 }
 
@@ -156,35 +159,4 @@ pub(crate) fn low_byte(word: u32) -> u8
     ensures { result ≡ low_byte word }
 {
     (word & 0xFF) as u8
-}
-
-#[tactic(auto, unfolding(crate::specs::Words::two_characters))]
-fn two_characters(word: u32) -> WordReading
-    ensures { result ≡ two_characters word }
-{
-    WordReading::TwoCharacters((word & 0x7FFF) as u16, ((word >> 15) & 0x7FFF) as u16)
-}
-
-/// The reading of a word with high zeros.
-#[tactic(auto, unfolding(crate::specs::Words::read_low))]
-fn read_low(character: char, word: u32) -> WordReading
-    ensures { result ≡ read_low character word }
-{
-    if is_hangul_syllable(character as u32) {
-        WordReading::HangulSyllable
-    } else if word & 0xFFFF == 1 {
-        WordReading::Fdfa
-    } else {
-        WordReading::OneCharacter((word & 0xFFFF) as u16)
-    }
-}
-
-/// The reading of a word that points into the tables.
-#[tactic(auto, using(crate::proofs::WordLemmas::item_above_zero), unfolding(crate::specs::Words::listed))]
-fn listed(word: u32) -> WordReading
-    requires { has_high_zeros word ≡ false }
-    ensures { result ≡ listed word }
-{
-    let first = ((word & 0x3FFF_FFFF) >> 16) - 1;
-    WordReading::Listed(first, (word & 0xF) as u8, word & 0x10 != 0)
 }

@@ -13,7 +13,7 @@ use Rattle.normalizer_tables.specs.Loaded.{IsMet, bounds_of_cap, characters_alon
 use Rattle.normalizer_tables.specs.PairConditions.{AreSoundPairs, HoldsOfPairs, PairsHoldOverall}
 use Rattle.normalizer_tables.proofs.FailingLemmas.{IsFirstFailing-not_all}
 use Rattle.normalizer_tables.proofs.LoadedLemmas.{All-front}
-use Rattle.normalizer_tables.proofs.PartsOfConditions.{class_conditions-met}
+use Rattle.normalizer_tables.proofs.ConditionLemmas.{class_conditions-met}
 use Rattle.normalizer_calls.specs.Acceptance.{RefusesToDecompose}
 use Rattle.normalizer_calls.specs.ComposingAcceptance.{RefusesToCompose}
 use Rattle.normalizer_properties.specs.ClassData.{RefusesClasses}

@@ -1,10 +1,10 @@
 -- How the words of a table are stored: in blocks of 64 code points each, equal blocks once.
-use Rattle.std.specs.Prelude.{◌≡◌, ◌≢◌, ℕ, zero, suc, ◌*◌, ◌/◌, ◌%◌, ◌<◌, ◌≤◌, List, [], ◌∷◌, ◌++◌, cond, length, map}
-use Rattle.std.specs.Prelude.{Option, Some, None, nat_eq, nat_lt, slice_index, slice_index_or}
+use Rattle.std.specs.Prelude.{◌≡◌, ℕ, zero, suc, ◌*◌, ◌/◌, ◌%◌, ◌≤◌, List, [], ◌∷◌, ◌++◌, All, cond, length, map}
+use Rattle.std.specs.Prelude.{Bool, ◌&&◌, nat_eq, nat_le, nat_lt, slice_index, slice_index_or}
 use Rattle.std.specs.Cmp.Lexicographic.{pointwise}
 use Rattle.std.specs.List.{position_or_len, range_with_len}
-use Rattle.normalizer_tables.specs.Ranges.{WordRange, word_in}
-use Rattle.normalizer_tables.specs.Table.{Block, block_places, code_points, without_flags}
+use Rattle.normalizer_tables.specs.Ranges.{WordRange, IsRangeList, word_in}
+use Rattle.normalizer_tables.specs.Table.{Block, block_places, code_points}
 
 -- the block at a place
 unfoldable pub block_at : List Block → List ℕ → ℕ → Block
@@ -24,7 +24,7 @@ block_of words place = map (slice_index words) (range_with_len (64 * place) 64)
 
 -- the place of a block among those kept, or behind them
 abbrev pub number_in : List Block → Block → ℕ
-number_in blocks block = position_or_len (λ kept. pointwise nat_eq kept block) blocks
+number_in blocks block = position_or_len (pointwise nat_eq block) blocks
 
 -- the blocks, and this one behind them where it is none of them
 abbrev pub joined : List Block → Block → List Block
@@ -48,18 +48,22 @@ pub record IsStored (blocks : List Block) (numbers words : List ℕ) : Type 0 wh
   pub in_blocks : blocks ≡ blocks_to words block_places
   pub in_order : numbers ≡ numbers_to words block_places
 
--- the ranges before this one end before the number, and it and the later ones don't
-pub record IsFirstFrom (ranges : List WordRange) (n at : ℕ) : Type 0 where
-  pub before : (k : ℕ) → k < at → (slice_index_or ranges k (0, 0, 0)).1 < n
-  pub behind : (k : ℕ) → at ≤ k → k < length ranges → n ≤ (slice_index_or ranges k (0, 0, 0)).1
+-- the range has a member, and ends within the code points
+abbrev pub is_range : WordRange → Bool
+is_range r = nat_le r.0 r.1 && nat_le r.1 0x10FFFF
 
--- the least place of a block from one on that has a word besides flags, or that none has
-unfoldable pub IsNextInBlock : Block → ℕ → ℕ → Option ℕ → Type 0
-IsNextInBlock block flags from (Some j) =
-    (from ≤ j) × (j < 64) × (without_flags flags (slice_index block j) ≢ 0)
-    × ((k : ℕ) → from ≤ k → k < j → without_flags flags (slice_index block k) ≡ 0)
-IsNextInBlock block flags from None = (k : ℕ) → from ≤ k → k < 64 → without_flags flags (slice_index block k) ≡ 0
+-- ranges none of which ends before the number
+pub record AreFrom (n : ℕ) (ranges : List WordRange) : Type 0 where
+  pub list : IsRangeList ranges
+  pub ends : All (λ r. n ≤ r.1) ranges
 
--- the words that ranges give the 64 code points from `start` on
-unfoldable pub range_block : List WordRange → ℕ → Block
-range_block ranges start = map (word_in ranges) (range_with_len start 64)
+-- so do those that are left, and from the number on they give the words of all
+pub record AreLeft (ranges : List WordRange) (n : ℕ) (left : List WordRange) : Type 0 where
+  pub from : AreFrom n left
+  pub words : (m : ℕ) → n ≤ m → word_in left m ≡ word_in ranges m
+
+-- the numbers up to `last` have the word, and no range ends before `last`
+pub record IsRun (ranges : List WordRange) (n word last : ℕ) : Type 0 where
+  pub some : n ≤ last
+  pub words : (m : ℕ) → n ≤ m → m ≤ last → word_in ranges m ≡ word
+  pub from : AreFrom last ranges

@@ -1,5 +1,5 @@
 -- How pairs are kept: in rows of equal neighbouring seconds.
-use Rattle.std.specs.Prelude.{◌≡◌, ℕ, ◌-◌, ◌<◌, ◌≤◌, nat_lt, List, length, map, slice_index_or}
+use Rattle.std.specs.Prelude.{◌≡◌, ℕ, ◌-◌, nat_eq, nat_lt, List, length, map, slice_index_or}
 use Rattle.std.specs.Cmp.{IsEquivalence}
 use Rattle.std.specs.Cmp.Lexicographic.{pointwise}
 use Rattle.std.specs.List.{filter, position_or_len, range_with_len}
@@ -26,10 +26,6 @@ no_row = record { second = 0; start = 0 }
 
 abbrev pub row_in : List Row → ℕ → Row
 row_in rows i = slice_index_or rows i no_row
-
--- where a row starts; there is none behind the last one, and `end` stands for its start
-unfoldable pub start_of : List Row → ℕ → ℕ → ℕ
-start_of rows end i = (slice_index_or rows i (record { second = 0; start = end })).start
 
 -- the row that a place begins
 abbrev pub row_from : List Pair → ℕ → Row
@@ -58,10 +54,6 @@ kept_pair rows members place =
 unfoldable pub kept_pairs : List Row → List Member → List Pair
 kept_pairs rows members = map (kept_pair rows members) (range_with_len 0 (length members))
 
--- the pairs of a second stand from `start` to `end`, with lower seconds in front of them and higher ones behind
-pub record IsRowOf (pairs : List Pair) (second start end : ℕ) : Type 0 where
-  pub order : start ≤ end
-  pub bound : end ≤ length pairs
-  pub before : (k : ℕ) → k < start → (pair_at pairs k).0 < second
-  pub within : (k : ℕ) → start ≤ k → k < end → (pair_at pairs k).0 ≡ second
-  pub behind : (k : ℕ) → end ≤ k → k < length pairs → second < (pair_at pairs k).0
+-- what is kept of the pairs of a second
+unfoldable pub members_of : List Pair → ℕ → List Member
+members_of pairs second = map member_of (filter (λ p. nat_eq p.0 second) pairs)

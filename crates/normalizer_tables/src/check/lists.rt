@@ -109,16 +109,10 @@ fn has_fixed_classes(data: &CharacterData<'_>, character: char, list: &Members<'
     ensures { IsTrue result ↔
         (option_map (λ f. f.member_classes) (fixed_list_of character) ≡ Some (map (class_of data.now) list.now)) }
 {
-    match fixed_list_of(character) {
-        Some(fixed) => have_classes(data, list, fixed.member_classes()),
-        None => false,
-    }
-}
-
-/// Whether the members have these classes, one after another.
-fn have_classes(data: &CharacterData<'_>, list: &Members<'_>, classes: &[u8]) -> bool
-    ensures { IsTrue result ↔ (classes.now ≡ map (class_of data.now) list.now) }
-{
+    let Some(fixed) = fixed_list_of(character) else {
+        return false;
+    };
+    let classes = fixed.member_classes();
     if list.len() != classes.len() {
         return false;
     }

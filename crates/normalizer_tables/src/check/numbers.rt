@@ -1,12 +1,11 @@
 //! What the conditions say of each number.
 ghost use Rattle.std.specs.Prelude.{◌≡◌, ◌↔◌, ◌<◌, ◌≤◌, ℕ, [], Some, true, IsTrue, All};
-ghost use Rattle.std.specs.Option.{option_map};
+ghost use Rattle.std.specs.Int.{is_in_range};
 ghost use Rattle.normalizer_tables.specs.Characters.{Characters, list_of, word_of};
 ghost use Rattle.normalizer_tables.specs.ClassConditions.{IsSoundClass};
 ghost use Rattle.normalizer_tables.specs.Conditions.{
   HoldsAt,
   IsPlainStarter,
-  IsSoundClassForm,
   IsSoundHangul,
   IsSoundWord,
   ReadsToItself,
@@ -15,7 +14,6 @@ ghost use Rattle.normalizer_tables.specs.Conditions.{
 };
 ghost use Rattle.normalizer_tables.specs.Hangul.{is_hangul_syllable};
 ghost use Rattle.normalizer_tables.specs.inner.Read.{IsRead};
-ghost use Rattle.normalizer_tables.specs.SpecialLists.{fixed_list_of};
 
 use crate::characters::CharacterData;
 use crate::check::lists::is_ordered_list;
@@ -55,17 +53,18 @@ pub fn holds_at(
 }
 
 /// Whether a number is no surrogate, or has the word of one.
+#[tactic(auto, unfolding(crate::specs::Conditions::is_surrogate))]
 pub fn is_sound_surrogate(number: u32, word: u32) -> bool
     ensures { IsTrue result ↔ (is_surrogate number ≡ true → word ≡ 0xC000FFFD) }
 {
-    !is_surrogate(number) || word == SURROGATE_WORD
+    !matches!(number, 0xD800..=0xDFFF) || word == SURROGATE_WORD
 }
 
-/// Whether all numbers of a range have this word.
-fn have_word(data: &CharacterData<'_>, from: u32, end: u32, word: u32) -> bool
-    ensures { IsTrue result ↔ ((n : ℕ) → from ≤ n → n < end → word_of data.now n ≡ word) }
+/// Whether all numbers from one to another have this word.
+fn have_word(data: &CharacterData<'_>, first: u32, last: u32, word: u32) -> bool
+    ensures { IsTrue result ↔ ((n : ℕ) → is_in_range first last n ≡ true → word_of data.now n ≡ word) }
 {
-    for number in from..end {
+    for number in first..=last {
         if data.word_of_number(number) != word {
             return false;
         }
@@ -78,31 +77,24 @@ fn have_word(data: &CharacterData<'_>, from: u32, end: u32, word: u32) -> bool
 pub fn have_surrogate_words(data: &CharacterData<'_>) -> bool
     ensures { IsTrue result ↔ ((n : ℕ) → is_surrogate n ≡ true → word_of data.now n ≡ 0xC000FFFD) }
 {
-    have_word(data, 0xD800, 0xE000, SURROGATE_WORD)
+    have_word(data, 0xD800, 0xDFFF, SURROGATE_WORD)
 }
 
 /// Whether all Hangul syllables have the word 1, and all jamo of one read to themselves with class 0. The lists of
 /// syllables need no look.
+#[tactic(auto, unfolding(crate::specs::Conditions::is_composing_jamo))]
 pub fn have_sound_hangul(data: &CharacterData<'_>) -> bool
     ensures { IsTrue result ↔ ((n : ℕ) → IsSoundHangul data.now n) }
-{
-    have_sound_jamo(data) && have_word(data, 0xAC00, 0xD7A4, 1)
-}
-
-/// Whether all jamo of a syllable read to themselves with class 0.
-#[tactic(auto, unfolding(crate::specs::Conditions::is_composing_jamo))]
-fn have_sound_jamo(data: &CharacterData<'_>) -> bool
-    ensures { IsTrue result ↔ ((n : ℕ) → is_composing_jamo n ≡ true → IsPlainStarter data.now n) }
 {
     for jamo in 0x1100..0x11C3 {
         if !is_sound_jamo(data, jamo) {
             return false;
         }
     }
-    true
+    have_word(data, 0xAC00, 0xD7A3, 1)
 }
 
-/// Whether a number is that of no such jamo, or of one that reads to itself with class 0.
+/// Whether a number is that of no jamo of a syllable, or of one that reads to itself with class 0.
 #[tactic(auto, unfolding(crate::specs::Conditions::is_composing_jamo))]
 fn is_sound_jamo(data: &CharacterData<'_>, number: u32) -> bool
     ensures { IsTrue result ↔ (is_composing_jamo number ≡ true → IsPlainStarter data.now number) }
@@ -113,13 +105,6 @@ fn is_sound_jamo(data: &CharacterData<'_>, number: u32) -> bool
         }
         None => true,
     }
-}
-
-#[tactic(auto, unfolding(crate::specs::Conditions::is_surrogate))]
-fn is_surrogate(number: u32) -> bool
-    ensures { result ≡ is_surrogate number }
-{
-    0xD800 <= number && number <= 0xDFFF
 }
 
 /// Whether a character takes part in Hangul syllables as one of their jamo.
@@ -164,15 +149,9 @@ fn is_sound_word(data: &CharacterData<'_>, read: &ReadCharacter<'_>) -> bool
     ensures { IsTrue result ↔ IsSoundWord data.now read.now.character }
 {
     read.reads
-        && is_sound_class_form(read.character, read.word)
+        && is_sound_class(read.character, read.word)
+        && (!is_class_form(read.word) || is_backward_combining(read.word))
         && (data.is_mapper() || read.word != IGNORED_MARKER)
-}
-
-/// Whether a word is no class form, or has a class that its character may have and BACKWARD_COMBINING.
-fn is_sound_class_form(character: char, word: u32) -> bool
-    ensures { IsTrue result ↔ IsSoundClassForm character word }
-{
-    is_sound_class(character, word) && (!is_class_form(word) || is_backward_combining(word))
 }
 
 /// Whether a word is no class form, or has a class that its character may have.
@@ -184,17 +163,8 @@ pub(crate) fn is_sound_class(character: char, word: u32) -> bool
         let class = low_byte(word);
         0 < class && class < 255
     } else {
-        !is_special_class_form(word) || has_fixed_class(character, low_byte(word))
-    }
-}
-
-/// Whether a character has a fixed list and this class.
-fn has_fixed_class(character: char, class: u8) -> bool
-    ensures { IsTrue result ↔ (option_map (λ f. f.class) (fixed_list_of character) ≡ Some class) }
-{
-    match fixed_list_of(character) {
-        Some(fixed) => fixed.class() == class,
-        None => false,
+        !is_special_class_form(word)
+            || fixed_list_of(character).is_some_and(|fixed| fixed.class() == low_byte(word))
     }
 }
 
@@ -209,15 +179,9 @@ fn reads_in_full(data: &CharacterData<'_>, read: &ReadCharacter<'_>) -> bool
         return true;
     }
     for place in 0..read.list.len() {
-        if !member_reads_to_itself(data, read.list.at(place)) {
+        if !reads_to_itself(&read_character(data, read.list.at(place))) {
             return false;
         }
     }
     true
-}
-
-fn member_reads_to_itself(data: &CharacterData<'_>, member: char) -> bool
-    ensures { IsTrue result ↔ ReadsToItself data.now member }
-{
-    reads_to_itself(&read_character(data, member))
 }

@@ -55,8 +55,5 @@ fn is_flagged_replacement(data: &CharacterData<'_>) -> bool
     ensures { IsTrue result ↔ IsFlaggedReplacement data.now }
 {
     let read = read_character(data, char::REPLACEMENT_CHARACTER);
-    if !is_plain_starter(&read) {
-        return false;
-    }
-    is_non_round_trip(read.word) && !is_backward_combining(read.word)
+    is_plain_starter(&read) && is_non_round_trip(read.word) && !is_backward_combining(read.word)
 }

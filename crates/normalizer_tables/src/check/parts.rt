@@ -24,40 +24,32 @@ use crate::step_check::{avoids_fdfa, steps_hold_at};
 pub fn is_met_apart(data: &LoadedData<'_>, condition: Condition) -> bool
     ensures { IsTrue result ↔ IsMetApart data.now condition }
 {
-    holds_overall(data.characters(), condition)
+    holds_overall(&data.characters, condition)
         && is_met_by_pairs(data, condition)
         && is_met_apart_at(data, condition)
 }
 
 /// Whether a condition is met by all numbers whose word is 0, flags aside, or by all surrogates, or by all of Hangul.
-#[tactic(auto, using(crate::proofs::WalkLemmas::walk))]
+#[tactic(auto, unfolding(crate::specs::inner::Walk::IsMetApartAt))]
 fn is_met_apart_at(data: &LoadedData<'_>, condition: Condition) -> bool
     ensures { IsTrue result ↔ IsMetApartAt data.now condition }
 {
     match condition {
-        Condition::Surrogates => have_surrogate_words(data.characters()),
-        Condition::Hangul => have_sound_hangul(data.characters()),
-        Condition::SafeBeginning => have_safe_beginnings(data),
+        Condition::Surrogates => have_surrogate_words(&data.characters),
+        Condition::Hangul => have_sound_hangul(&data.characters),
+        Condition::SafeBeginning => match data.pairs {
+            Some(pairs) => keep_plain_beginnings(&data.characters, data.bounds, pairs),
+            None => true,
+        },
         _ => true,
-    }
-}
-
-/// Whether all characters whose word is 0, flags aside, keep their beginnings.
-fn have_safe_beginnings(data: &LoadedData<'_>) -> bool
-    ensures { IsTrue result ↔ IfSome data.now.pairs
-        (λ pairs. (n : ℕ) → KeepsPlainBeginning data.now.characters data.now.bounds pairs n) }
-{
-    match data.pairs() {
-        Some(pairs) => keep_plain_beginnings(data.characters(), data.bounds(), pairs),
-        None => true,
     }
 }
 
 fn is_met_by_pairs(data: &LoadedData<'_>, condition: Condition) -> bool
     ensures { IsTrue result ↔ IfSome data.now.pairs (λ pairs. PairsHoldOverall data.now.characters pairs condition) }
 {
-    match data.pairs() {
-        Some(pairs) => pairs_hold_overall(data.characters(), pairs, condition),
+    match data.pairs {
+        Some(pairs) => pairs_hold_overall(&data.characters, pairs, condition),
         None => true,
     }
 }
@@ -68,7 +60,7 @@ pub fn is_met_at(data: &LoadedData<'_>, condition: Condition, read: &ReadCharact
     requires { IsRead data.now.characters read.now }
     ensures { IsTrue result ↔ IsMetAt data.now condition read.now.character }
 {
-    holds_at(data.characters(), data.bounds(), condition, read)
+    holds_at(&data.characters, data.bounds, condition, read)
         && is_met_by_pairs_at(data, condition, read)
         && is_met_by_steps_at(data, condition, read)
 }
@@ -78,10 +70,10 @@ fn is_met_by_pairs_at(data: &LoadedData<'_>, condition: Condition, read: &ReadCh
     ensures { IsTrue result ↔ IfSome data.now.pairs
         (λ pairs. PairsHoldAt data.now.characters data.now.bounds pairs condition read.now.character) }
 {
-    match data.pairs() {
+    match data.pairs {
         Some(pairs) => {
-            let characters = data.characters();
-            pairs_hold_at(characters, data.bounds(), pairs, condition, read)
+            let characters = &data.characters;
+            pairs_hold_at(characters, data.bounds, pairs, condition, read)
         }
         None => true,
     }
@@ -92,8 +84,8 @@ fn is_met_by_steps_at(data: &LoadedData<'_>, condition: Condition, read: &ReadCh
     ensures { IsTrue result ↔ IfSome data.now.supplement
         (λ t. StepsHoldAt data.now.characters t condition read.now.character) }
 {
-    match data.supplement() {
-        Some(supplement) => steps_hold_at(data.characters(), supplement, condition, read),
+    match data.supplement {
+        Some(supplement) => steps_hold_at(&data.characters, supplement, condition, read),
         None => true,
     }
 }
@@ -106,10 +98,7 @@ pub fn is_met_elsewhere(data: &LoadedData<'_>, condition: Condition, number: u32
 {
     match condition {
         Condition::Surrogates => is_sound_surrogate(number, word),
-        Condition::FdfaForms => match data.supplement() {
-            Some(_) => avoids_fdfa(number, word),
-            None => true,
-        },
+        Condition::FdfaForms => data.supplement.is_none() || avoids_fdfa(number, word),
         _ => true,
     }
 }

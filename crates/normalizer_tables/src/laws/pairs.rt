@@ -1,5 +1,5 @@
 //! What data and pairs that meet the written conditions give.
-#![tactic(auto, using(crate::proofs::PairLaws::pair_laws), unfolding(crate::specs::PairConditions::HoldsOfPairs, crate::specs::PairConditions::PairsHoldOverall))]
+#![tactic(auto, using(crate::proofs::PairLaws::pair_laws))]
 
 ghost use Rattle.std.specs.Prelude.{◌≡◌, ◌≢◌, ℕ, List, [], ◌∷◌, true, All};
 ghost use Rattle.std.specs.Char.{IsScalar};

@@ -22,8 +22,8 @@ use crate::pairs::CanonicalCompositions;
 use crate::read::{ReadCharacter, read_by_word};
 use crate::word::{is_backward_combining, is_non_round_trip, is_plain};
 
-/// Whether a character composes to itself if a composing loop relies on it.
-#[tactic(auto, unfolding(crate::specs::PairConditions::KeepsRoundTrip, crate::specs::PairConditions::is_taken_to_round_trip))]
+/// Whether the list of a character composes to it alone if a composing loop relies on it: all behind the first join.
+#[tactic(auto, using(crate::proofs::PairLaws::trips), unfolding(crate::specs::PairConditions::KeepsRoundTrip, crate::specs::PairConditions::RoundTrips))]
 pub fn keeps_round_trip(
     data: &CharacterData<'_>,
     bounds: Bounds,
@@ -34,11 +34,24 @@ pub fn keeps_round_trip(
     ensures { IsTrue result ↔ KeepsRoundTrip data.now bounds compositions.now read.now.character }
 {
     let is_taken = !is_non_round_trip(read.word) || (read.character as u32) < bounds.composition;
-    !is_taken || round_trips(data, compositions, read)
+    if !is_taken {
+        return true;
+    }
+    let list = &read.list;
+    let Some(mut composite) = list.get(0) else {
+        return false;
+    };
+    for place in 1..list.len() {
+        match joined(data, compositions, composite, list.at(place)) {
+            Some(next) => composite = next,
+            None => return false,
+        }
+    }
+    composite == read.character
 }
 
-/// Whether the list of a character begins safely if a composing loop relies on it.
-#[tactic(auto, unfolding(crate::specs::PairConditions::KeepsBeginning, crate::specs::PairConditions::is_taken_to_begin_safely))]
+/// Whether the list of a character begins with a starter that is second in no pair if a composing loop relies on it.
+#[tactic(auto, using(crate::proofs::PairConditionLemmas::beginnings), unfolding(crate::specs::PairConditions::KeepsBeginning))]
 pub fn keeps_beginning(
     data: &CharacterData<'_>,
     bounds: Bounds,
@@ -50,12 +63,16 @@ pub fn keeps_beginning(
 {
     let is_taken = !is_backward_combining(read.word)
         || (read.character as u32) < bounds.composition;
-    !is_taken || has_safe_beginning(data, compositions, read)
+    match read.list.get(0) {
+        _ if !is_taken => true,
+        Some(first) => data.class_of(first) == 0 && compositions.is_never_second(first),
+        None => false,
+    }
 }
 
 /// Whether all characters whose word is 0, flags aside, keep their beginnings. Only the seconds of pairs may not,
 /// Hangul ones included.
-#[tactic(auto, using(crate::proofs::WalkLemmas::walk))]
+#[tactic(auto, using(crate::proofs::WalkLemmas::all_keep_plain_beginning), unfolding(crate::specs::Pairs::is_vowel_or_trailing_jamo))]
 pub fn keep_plain_beginnings(
     data: &CharacterData<'_>,
     bounds: Bounds,
@@ -63,35 +80,12 @@ pub fn keep_plain_beginnings(
 ) -> bool
     ensures { IsTrue result ↔ ((n : ℕ) → KeepsPlainBeginning data.now bounds compositions.now n) }
 {
-    seconds_keep_beginnings(data, bounds, compositions)
-        && jamo_keep_beginnings(data, bounds, compositions)
-}
-
-fn seconds_keep_beginnings(
-    data: &CharacterData<'_>,
-    bounds: Bounds,
-    compositions: &CanonicalCompositions,
-) -> bool
-    ensures { IsTrue result ↔ All (λ p. KeepsPlainBeginning data.now bounds compositions.now p.0) compositions.now }
-{
     for place in 0..compositions.len() {
         let (second, _, _) = compositions.at(place);
         if !keeps_plain_beginning(data, bounds, compositions, second as u32) {
             return false;
         }
     }
-    true
-}
-
-#[tactic(auto, unfolding(crate::specs::Pairs::is_vowel_or_trailing_jamo))]
-fn jamo_keep_beginnings(
-    data: &CharacterData<'_>,
-    bounds: Bounds,
-    compositions: &CanonicalCompositions,
-) -> bool
-    ensures { IsTrue result ↔
-        ((n : ℕ) → is_vowel_or_trailing_jamo n ≡ true → KeepsPlainBeginning data.now bounds compositions.now n) }
-{
     for jamo in 0x1161..0x1200 {
         if !keeps_plain_beginning(data, bounds, compositions, jamo) {
             return false;
@@ -110,67 +104,17 @@ fn keeps_plain_beginning(
 ) -> bool
     ensures { IsTrue result ↔ KeepsPlainBeginning data.now bounds compositions.now number }
 {
-    match char::from_u32(number) {
-        Some(character) => {
-            let word = data.word_of(character);
-            if !is_plain(word) {
-                return true;
-            }
-            let read = read_by_word(data, character, word);
-            keeps_beginning(data, bounds, compositions, &read)
-        }
-        None => true,
-    }
-}
-
-/// Whether the list of a character composes to it alone.
-#[tactic(auto, unfolding(crate::specs::PairConditions::RoundTrips))]
-fn round_trips(
-    data: &CharacterData<'_>,
-    compositions: &CanonicalCompositions,
-    read: &ReadCharacter<'_>,
-) -> bool
-    requires { IsRead data.now read.now }
-    ensures { IsTrue result ↔ RoundTrips data.now compositions.now read.now.character }
-{
-    composes_to(data, compositions, &read.list, read.character)
-}
-
-/// Whether the list of a character begins with a starter that is second in no pair.
-fn has_safe_beginning(
-    data: &CharacterData<'_>,
-    compositions: &CanonicalCompositions,
-    read: &ReadCharacter<'_>,
-) -> bool
-    requires { IsRead data.now read.now }
-    ensures { IsTrue result ↔ HasSafeBeginning data.now compositions.now read.now.character }
-{
-    match read.list.get(0) {
-        Some(first) => data.class_of(first) == 0 && compositions.is_never_second(first),
-        None => false,
-    }
-}
-
-/// Whether a list composes to this character alone: all behind the first join.
-#[tactic(auto, using(crate::proofs::CompositionLemmas::compositions))]
-fn composes_to(
-    data: &CharacterData<'_>,
-    compositions: &CanonicalCompositions,
-    list: &Members<'_>,
-    character: char,
-) -> bool
-    ensures { IsTrue result ↔ (compose (reading_by data.now Dropped compositions.now) list.now ≡ character ∷ []) }
-{
-    let Some(mut composite) = list.get(0) else {
-        return false;
+    let Some(character) = char::from_u32(number) else {
+        return true;
     };
-    for place in 1..list.len() {
-        match joined(data, compositions, composite, list.at(place)) {
-            Some(next) => composite = next,
-            None => return false,
-        }
-    }
-    composite == character
+    let word = data.word_of(character);
+    !is_plain(word)
+        || keeps_beginning(
+            data,
+            bounds,
+            compositions,
+            &read_by_word(data, character, word),
+        )
 }
 
 /// What a character becomes by the one right behind it.

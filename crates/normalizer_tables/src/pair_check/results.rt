@@ -1,5 +1,5 @@
 //! The lists of what pairs compose to.
-ghost use Rattle.std.specs.Prelude.{◌≡◌, ◌↔◌, ◌<◌, ◌+◌, ◌++◌, [], IsTrue, length, drop, slice_index};
+ghost use Rattle.std.specs.Prelude.{◌≡◌, ◌↔◌, ◌<◌, ◌+◌, ◌++◌, [], ◌∷◌, IsTrue, length, drop, slice_index};
 ghost use Rattle.normal_forms.specs.Order.{insert, is_reorderable, order};
 ghost use Rattle.normalizer_tables.specs.Characters.{list_of};
 ghost use Rattle.normalizer_tables.specs.PairConditions.{HasOrderedLists};
@@ -11,15 +11,6 @@ use crate::members::Members;
 
 /// Room for two lists, each of at most 18 characters.
 const ROOM: usize = 36;
-
-/// Whether the list of a pair's result is the ordered lists of first and second.
-#[tactic(auto, unfolding(crate::specs::PairConditions::HasOrderedLists))]
-pub fn has_ordered_lists(data: &CharacterData<'_>, pair: (char, char, char)) -> bool
-    ensures { IsTrue result ↔ HasOrderedLists data.now [] pair }
-{
-    let of_result = data.members(pair.2, IgnoredCharacters::Dropped);
-    is_ordered_lists(data, &of_result, pair.1, pair.0)
-}
 
 /// Whether a list is the ordered lists of two characters.
 #[tactic(auto, using(crate::proofs::PairConditionLemmas::ordered_lists))]
@@ -35,25 +26,11 @@ pub(crate) fn is_ordered_lists(
     let of_first = data.members(first, IgnoredCharacters::Dropped);
     let of_second = data.members(second, IgnoredCharacters::Dropped);
     let mut room = ['\0'; ROOM];
-    let end = of_first.len() + of_second.len();
-    is_order_of(data, list, &of_first, &of_second, &mut room[..end])
-}
-
-/// Whether a list is two others put in order, for which there just is room.
-fn is_order_of(
-    data: &CharacterData<'_>,
-    list: &Members<'_>,
-    first: &Members<'_>,
-    second: &Members<'_>,
-    room: &mut [char],
-) -> bool
-    requires { length room.old ≡ length first.now + length second.now }
-    ensures { IsTrue result ↔ (list.now ≡ order (reading_by data.now Dropped []) (first.now ++ second.now)) }
-{
-    write(first, &mut room[..first.len()]);
-    write(second, &mut room[first.len()..]);
-    put_in_order(data, room);
-    is_spelled(list, room)
+    let ordered = &mut room[..of_first.len() + of_second.len()];
+    write(&of_first, &mut ordered[..of_first.len()]);
+    write(&of_second, &mut ordered[of_first.len()..]);
+    put_in_order(data, ordered);
+    is_spelled(list, ordered)
 }
 
 /// Writes a list where it just has room.
@@ -70,15 +47,12 @@ pub(crate) fn write(list: &Members<'_>, room: &mut [char])
 pub(crate) fn is_spelled(list: &Members<'_>, characters: &[char]) -> bool
     ensures { IsTrue result ↔ (list.now ≡ characters.now) }
 {
-    if list.len() != characters.len() {
-        return false;
-    }
-    for place in 0..list.len() {
-        if list.at(place) != characters[place] {
+    for place in 0..characters.len() {
+        if list.get(place) != Some(characters[place]) {
             return false;
         }
     }
-    true
+    list.len() == characters.len()
 }
 
 /// Puts characters in canonical order: from the last on, each is put before those behind it.
@@ -86,29 +60,22 @@ pub(crate) fn is_spelled(list: &Members<'_>, characters: &[char]) -> bool
 pub(crate) fn put_in_order(data: &CharacterData<'_>, characters: &mut [char])
     ensures { characters.new ≡ order (reading_by data.now Dropped []) characters.old }
 {
-    if characters.len() > 1 {
-        put_in_order(data, &mut characters[1..]);
-        insert_first(data, characters);
+    if let Some((first, rest)) = characters.split_first_mut() {
+        put_in_order(data, rest);
+        insert_first(data, first, rest);
     }
 }
 
 /// The first character passes its neighbour as long as the two are a reorderable pair.
-#[tactic(auto, using(crate::proofs::PairConditionLemmas::ordered_lists))]
-fn insert_first(data: &CharacterData<'_>, characters: &mut [char])
-    requires { 0 < length characters.old }
-    ensures { characters.new ≡ insert (reading_by data.now Dropped []) (slice_index characters.old 0)
-        (drop 1 characters.old) }
+#[tactic(auto, using(crate::proofs::PairConditionLemmas::ordered_lists), unfolding(normal_forms::specs::Order::is_reorderable))]
+fn insert_first(data: &CharacterData<'_>, first: &mut char, rest: &mut [char])
+    ensures { (first.new ∷ rest.new) ≡ insert (reading_by data.now Dropped []) first.old rest.old }
 {
-    if characters.len() > 1 && is_reorderable(data, characters[0], characters[1]) {
-        characters.swap(0, 1);
-        insert_first(data, &mut characters[1..]);
+    if let Some((next, behind)) = rest.split_first_mut() {
+        let class = data.class_of(*next);
+        if 0 < class && class < data.class_of(*first) {
+            std::mem::swap(first, next);
+            insert_first(data, next, behind);
+        }
     }
-}
-
-#[tactic(auto, unfolding(normal_forms::specs::Order::is_reorderable))]
-fn is_reorderable(data: &CharacterData<'_>, first: char, second: char) -> bool
-    ensures { result ≡ is_reorderable (reading_by data.now Dropped []) first second }
-{
-    let class = data.class_of(second);
-    0 < class && class < data.class_of(first)
 }

@@ -2,7 +2,7 @@
 ghost use Rattle.std.specs.Prelude.{◌≡◌, ◌↔◌, ◌<◌, IfOk, IsTrue, None, Some, ℕ, length, slice_get};
 ghost use Rattle.normalizer_tables.specs.Pairs.{listed_result, AreRising};
 ghost use Rattle.normalizer_tables.specs.Pairs.{begins_row, row_count};
-ghost use Rattle.normalizer_tables.specs.inner.Rows.{start_of, IsRowOf};
+ghost use Rattle.normalizer_tables.specs.inner.Rows.{members_of};
 
 use std::alloc::{AllocError, Global};
 use std::marker::Model;
@@ -89,8 +89,7 @@ impl PairRows {
         requires { AreRising self.now }
         ensures { result ≡ listed_result self.now first second }
     {
-        let (start, end) = self.row_of(second);
-        let row = &self.members[start..end];
+        let row = self.row_of(second);
         let at = row.partition_point(|member| member.0 < first);
         match row.get(at) {
             Some(member) if member.0 == first => Some(member.1),
@@ -103,22 +102,24 @@ impl PairRows {
         requires { AreRising self.now }
         ensures { IsTrue result ↔ ((first : ℕ) → listed_result self.now first second ≡ None) }
     {
-        let (start, end) = self.row_of(second);
-        start == end
+        self.row_of(second).is_empty()
     }
 
-    /// From where to where the pairs of a second stand in a rising list.
-    fn row_of(&self, second: char) -> (usize, usize)
+    /// The pairs of a second in a rising list.
+    fn row_of(&self, second: char) -> &[(char, char)]
         requires { AreRising self.now }
-        ensures { IsRowOf self.now second result.0 result.1 }
+        ensures { result.now ≡ members_of self.now second }
     {
         let number = self.rows.partition_point(|row| row.second < second);
-        let start = start_of(&self.rows, self.members.len(), number);
         match self.rows.get(number) {
             Some(row) if row.second == second => {
-                (start, start_of(&self.rows, self.members.len(), number + 1))
+                let end = match self.rows.get(number + 1) {
+                    Some(next) => next.start,
+                    None => self.members.len(),
+                };
+                &self.members[row.start..end]
             }
-            _ => (start, start),
+            _ => &[],
         }
     }
 }
@@ -156,15 +157,4 @@ fn begins_row(pairs: &[(char, char, char)], place: usize) -> bool
     ensures { result ≡ begins_row pairs.now place }
 {
     place == 0 || pairs[place - 1].0 != pairs[place].0
-}
-
-/// Where a row starts: behind the last one, at the end.
-#[tactic(auto, unfolding(crate::specs::inner::Rows::start_of))]
-fn start_of(rows: &[Row], end: usize, number: usize) -> usize
-    ensures { result ≡ start_of rows.now end number }
-{
-    match rows.get(number) {
-        Some(row) => row.start,
-        None => end,
-    }
 }

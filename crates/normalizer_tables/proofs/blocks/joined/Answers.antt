@@ -12,5 +12,5 @@ returns-in-Some c =
 
 pub returns : goal.returns
 returns c =
-    let none = position-None (λ kept. pointwise nat_eq kept c.args.block) c.args.blocks.now.items (rw c.deref.ensures.value at (sym (rw c.in_default.is at c.number_of.ensures))) in
+    let none = position-None (pointwise nat_eq c.args.block) c.args.blocks.now.items (rw c.deref.ensures.value at (sym (rw c.in_default.is at c.number_of.ensures))) in
     rw (le-ltb _ _ none) (c.in_ok-push.ensures.items, omega (arith, none, number_in-le c.args.blocks.now.items c.args.block, c.len.ensures, c.in_ok-push.ensures.len, c.args.blocks.now.ok.0))

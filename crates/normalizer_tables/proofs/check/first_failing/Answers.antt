@@ -1,35 +1,50 @@
-use Rattle.std.proofs.Common.{◌≡◌, sym, true, arith}
+use Rattle.std.proofs.Common.{◌∙◌, sym, subst, arith}
+use Rattle.normalizer_tables.specs.Characters.{IsNextWord}
 use Rattle.normalizer_tables.specs.Table.{code_points}
-use Rattle.normalizer_tables.proofs.FirstFailing.{FailsFirst-start, FailsFirst-step, has_sound_hangul, IsFirstFailing-unasked}
-use Rattle.normalizer_tables.proofs.WalkLemmas.{IsMetAt-answered}
+use Rattle.normalizer_tables.specs.inner.Walk.{IsMetApart}
+use Rattle.normalizer_tables.proofs.FirstFailing.{FailsFirst-all, copied_slice_get, FailsFirst-step, has_sound_hangul, unasked}
+use Rattle.normalizer_tables.proofs.LoadedLemmas.{IsMet-within}
+use Rattle.normalizer_tables.proofs.WalkLemmas.{IsMet-apart, IsMetAt-answered}
 use Rattle.normalizer_tables.proofs.check.first_failing.Goals as goal
+use Rattle.normalizer_tables.proofs.check.first_failing.Goals.{then-loop-from-test+else-are_asked_of_words, else-loop-from-test}
 
 pub loop-from-init : goal.loop-from-init
-loop-from-init c = record {
-  within = omega arith;
-  complete = λ positive. absurd (omega arith);
-  first = FailsFirst-start c.args.data.now c.args.conditions.now c.first_failing_apart-failing.result c.first_failing_apart-failing.ensures;
-}
+loop-from-init c =
+    let apart = c.first_failing_apart-failing.ensures in
+    record {
+      within = omega arith;
+      complete = λ positive. absurd (omega arith);
+      first = record {
+        within = apart.within;
+        before = λ k d low kh. (apart.before k d low kh, λ n none. absurd (omega arith));
+        fails = λ k e met. apart.fails k e (IsMet-apart c.args.data.now k met);
+      };
+    }
 
 pub loop-from-preserved : goal.loop-from-preserved
 unfolding code_points
 loop-from-preserved c =
     let apart = c.first_failing_apart-failing.ensures in
-    let answers = c.end_of_alike-from.ensures in
-    let sound = λ (asked : c.asks_hangul-hangul_is_sound.result ≡ true).
-    has_sound_hangul c.args.data.now c.args.conditions.now c.first_failing_apart-failing.result apart (c.asks_hangul-hangul_is_sound.ensures.0 asked) in
-    let next = rw c.characters.ensures at c.next_with_word-number.ensures in
+    let next = subst (λ d. IsNextWord d.characters c.loop-from.from c.next_with_word-number.result) c.data.view_is c.next_with_word-number.ensures in
     record {
-      within = answers.within next.within;
+      within = c.end_of_alike-from.ensures.within next.within;
       complete = λ positive. c.first_failing_at-failing.ensures.complete;
       first =
           FailsFirst-step c.args.data.now c.args.conditions.now c.loop-from.from c.next_with_word-number.result c.end_of_alike-from.result c.loop-from.failing c.first_failing_at-failing.result
           c.loop-from.invariant.first
-          (IsMetAt-answered c.args.data.now c.asks_hangul-hangul_is_sound.result sound c.loop-from.from c.next_with_word-number.result c.end_of_alike-from.result next answers)
+          (IsMetAt-answered c.args.data.now c.asks_hangul-hangul_is_sound.result
+          (λ asked. has_sound_hangul c.args.data.now c.args.conditions.now c.first_failing_apart-failing.result apart (c.asks_hangul-hangul_is_sound.ensures.0 asked)) c.loop-from.from
+          c.next_with_word-number.result c.end_of_alike-from.result next c.end_of_alike-from.ensures)
           c.first_failing_at-failing.ensures.place;
     }
 
-pub returns-then-not-are_asked_of_words : goal.returns-then-not-are_asked_of_words
-returns-then-not-are_asked_of_words c =
-    IsFirstFailing-unasked c.args.data.now c.args.conditions.now c.loop-from.from c.loop-from.failing c.condition_at.result
-    (sym c.if-not-are_asked_of_words.ensures) c.loop-from.invariant.first c.condition_at.ensures
+pub returns : goal.returns
+unfolding IsMetApart
+returns c =
+    FailsFirst-all c.args.data.now c.args.conditions.now c.loop-from.from c.loop-from.failing c.copied.result c.loop-from.invariant.first
+    (elim c.loop-from-test.branch [
+      | then-loop-from-test+else-are_asked_of_words w ↦
+          unasked c.args.data.now c.args.conditions.now c.loop-from.from c.loop-from.failing c.loop-from.invariant.first.within (sym w.if-are_asked_of_words.ensures)
+      | else-loop-from-test w ↦ λ k d low kh met. IsMet-within c.args.data.now _ (c.loop-from.invariant.complete (omega arith)) met.0.0 (λ n nh. met.1 n (omega arith))
+    ])
+    (c.copied.ensures ∙ copied_slice_get c.args.conditions.now c.loop-from.failing c.get.result c.get.ensures.lookup.1 c.get.ensures.lookup.3)

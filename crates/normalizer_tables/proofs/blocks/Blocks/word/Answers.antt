@@ -12,4 +12,4 @@ index-requires c =
 pub returns : goal.returns
 returns c =
     let is = block_at-looked_up _ _ _ c.self.invariant _ _ (place-within _ c.requires) c.index-block.ensures _ c.index.ensures in
-    rw (← c.self.view_is) (ap (λ b. get_or b (c.args.number % 64) 0) is ∙ sym (get_or-stored_words _ _ _ c.requires))
+    rw (← c.self.view_is) (ap (λ b. get_or b (c.args.number % 64) 0) is ∙ sym (get_or-stored_words _ _ _ _ c.requires))

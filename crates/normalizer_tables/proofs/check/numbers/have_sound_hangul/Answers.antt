@@ -1,15 +1,15 @@
-use Rattle.std.proofs.Common.{refl}
-use Rattle.normalizer_tables.proofs.ConditionLemmas.{syllable_in_range, syllable_range}
+use Rattle.std.proofs.Common.{arith}
+use Rattle.std.proofs.lemmas.Bool.Decides.{nat_tests}
+use Rattle.normalizer_tables.specs.Conditions.{is_composing_jamo}
+use Rattle.normalizer_tables.specs.Hangul.{is_hangul_syllable}
 use Rattle.normalizer_tables.proofs.check.numbers.have_sound_hangul.Goals as goal
 
-pub returns-then-have_sound_jamo : goal.returns-then-have_sound_jamo
-returns-then-have_sound_jamo c = (
-  λ yes n. record {
-    syllable = λ h. let range = syllable_range n h in c.have_word.ensures.0 yes n range.0 range.1;
-    jamo = c.if-have_sound_jamo.ensures.0 refl n;
-  },
-  λ all. c.have_word.ensures.1 (λ n low high. (all n).syllable (syllable_in_range n low high)),
-)
+pub returns-then-not-is_sound_jamo : goal.returns-then-not-is_sound_jamo
+returns-then-not-is_sound_jamo c = (λ no. cc, λ all. c.if-not-is_sound_jamo.ensures.1 (all c.loop-jamo.jamo).jamo)
 
-pub returns-else-have_sound_jamo : goal.returns-else-have_sound_jamo
-returns-else-have_sound_jamo c = (λ yes. cc (c.if-have_sound_jamo.false), λ all. c.have_sound_jamo.ensures.1 (λ n jamo. (all n).jamo jamo))
+pub returns : goal.returns
+unfolding is_hangul_syllable is_composing_jamo
+returns c = (
+  λ yes n. record { syllable = c.have_word.ensures.0 yes n; jamo = λ is. c.loop-jamo.invariant n (grind (arith, nat_tests)) is },
+  λ all. c.have_word.ensures.1 (λ n. (all n).syllable),
+)

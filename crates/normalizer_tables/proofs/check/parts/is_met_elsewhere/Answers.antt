@@ -11,13 +11,13 @@ pub returns-in-Surrogates : goal.returns-in-Surrogates
 unfolding IsMetAt HoldsAt PairsHoldAt StepsHoldAt
 returns-in-Surrogates c = grind (arith, IfSome-all)
 
-pub returns-in-Some : goal.returns-in-Some
+pub returns-else-is_none : goal.returns-else-is_none
 unfolding IsMetAt HoldsAt PairsHoldAt StepsHoldAt AvoidsFdfa reading_of_word
-returns-in-Some c = grind (arith, IfSome-all)
+returns-else-is_none c = grind (arith, IfSome-all)
 
-pub returns-in-None : goal.returns-in-None
+pub returns-then-is_none : goal.returns-then-is_none
 unfolding IsMetAt HoldsAt PairsHoldAt StepsHoldAt
-returns-in-None c = grind (arith, IfSome-all)
+returns-then-is_none c = grind (arith, IfSome-all)
 
 pub returns-in_default : goal.returns-in_default
 returns-in_default c = (

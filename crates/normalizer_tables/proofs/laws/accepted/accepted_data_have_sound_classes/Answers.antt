@@ -1,4 +1,4 @@
-use Rattle.normalizer_tables.proofs.PartsOfConditions.{class_conditions-met}
+use Rattle.normalizer_tables.proofs.ConditionLemmas.{class_conditions-met}
 use Rattle.normalizer_tables.proofs.laws.accepted.accepted_data_have_sound_classes.Goals as goal
 
 pub returns : goal.returns

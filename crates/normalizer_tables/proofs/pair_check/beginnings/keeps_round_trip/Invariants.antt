@@ -2,7 +2,7 @@ use Rattle.std.proofs.Common.{◌≡◌, [], ◌∷◌, drop}
 use Rattle.normal_forms.specs.Composition.{compose, compose_from}
 use Rattle.normalizer_tables.specs.Readings.{reading_by}
 use Rattle.normalizer_tables.specs.Ignored.{Dropped}
-use Rattle.normalizer_tables.proofs.pair_check.beginnings.composes_to.Given as goal
+use Rattle.normalizer_tables.proofs.pair_check.beginnings.keeps_round_trip.Given as goal
 
 -- what is left composes behind the composite as the whole list does
 abbrev pub invariant-loop-place : goal.invariant-loop-place
