@@ -1,10 +1,10 @@
 -- Neighbours of which nothing is told have the same words.
-use Rattle.std.proofs.Common.{◌≡◌, ◌≢◌, ◌∙◌, ℕ, ◌+◌, ◌<◌, eqb-true, List, [], ◌∷◌, ◌++◌, map, length, Contains, get_or, Option, Some, None, refl, sym, ap, subst, arith, inl, inr}
+use Rattle.std.proofs.Common.{◌≡◌, ◌≢◌, ◌∙◌, ℕ, ◌+◌, Bool, eqb-true, List, [], ◌∷◌, map, Contains, Option, Some, None, refl, sym, ap, subst, arith, inl, inr}
 use Rattle.std.specs.List.{AllByRecursion}
 use Rattle.std.proofs.lemmas.Bool.{and_parts}
 use Rattle.std.proofs.lemmas.List.{get_or_default}
 use Rattle.std.proofs.lemmas.Bool.Decides.{nat_tests}
-use Rattle.std.proofs.lemmas.List.Elements.{All-contains, Contains-append_left, Contains-append_right, recursion_from_All}
+use Rattle.std.proofs.lemmas.List.Elements.{Contains-append_left, Contains-append_right, recursion_from_All}
 use Rattle.normal_forms.specs.Composition.{compose, compose_from, visit}
 use Rattle.normal_forms.specs.Reading.{Reading}
 use Rattle.normalizer_tables.specs.Conditions.{is_surrogate}
@@ -19,10 +19,11 @@ use Rattle.normalizer_packing.specs.Flags.{IsFlagged}
 use Rattle.normalizer_packing.specs.Packing.{HasFlags, IsPackedWord, IsSpelled}
 use Rattle.normalizer_packing.specs.Spelling.{final_word, spelling, spelling_by_list, spelling_or_ignored}
 use Rattle.normalizer_packing.specs.Steps.{step_in, step_lists, word_of_step}
-use Rattle.normalizer_packing.specs.inner.Stretches.{AreAlike, ListsTold, edges, told_numbers}
+use Rattle.normalizer_packing.specs.inner.Stretches.{AreAlike, ListsTold, edges}
 use Rattle.normalizer_packing.proofs.EntryLemmas.{Contains-map, find-missing, find-tells}
-use Rattle.normalizer_packing.proofs.ReadBackLists.{no_fixed-alone}
+use Rattle.normalizer_packing.proofs.ReadBackWords.{no_fixed-alone}
 use Rattle.normalizer_packing.proofs.TableLemmas.{eq_list}
+use Rattle.normalizer_packing.proofs.WordLemmas.{final_packs, short_packs}
 
 -- a second that no pair has
 listed-missing : (pairs : List Pair) (first n : ℕ) → (Contains (map (λ p. p.0) pairs) n → ⊥) → listed_result pairs first n ≡ None
@@ -51,44 +52,28 @@ module _ (entries : List CharacterEntry) (pairs : List Pair) (told : List ℕ) (
   IsUntold-missing : (n : ℕ) → (Contains told n → ⊥) → IsUntold entries pairs n
   unfolding entry_of
   IsUntold-missing n untold = record {
-    entry = find-missing {X = CharacterEntry} (λ e. e.character) entries n (λ k. missing (Contains-append_left heads edges n (Contains-append_left characters seconds n k)));
-    listed = λ first. listed-missing pairs first n (λ k. missing (Contains-append_left heads edges n (Contains-append_right characters seconds n k)));
-    apart = recursion_from_All (λ e. e ≢ n) edges (λ k d within same. missing (Contains-append_right heads edges n (k, within, edge k d within same)));
+    entry = find-missing {X = CharacterEntry} (λ e. e.character) entries n (λ k. untold (lists.all n (Contains-append_left _ edges n (Contains-append_left _ _ n k))));
+    listed = λ first. listed-missing pairs first n (λ k. untold (lists.all n (Contains-append_left _ edges n (Contains-append_right _ _ n k))));
+    apart = recursion_from_All (λ e. e ≢ n) edges (λ k d within same. untold (lists.all n (Contains-append_right _ edges n (k, within, get_or_default edges k n d within ∙ same))));
   }
-    where
-      characters : List ℕ
-      characters = map (λ e. e.character) entries
 
-      seconds : List ℕ
-      seconds = map (λ p. p.0) pairs
-
-      heads : List ℕ
-      heads = characters ++ seconds
-
-      missing : Contains (told_numbers entries pairs) n → ⊥
-      missing there = untold (All-contains (Contains told) (told_numbers entries pairs) n lists.all there)
-
-      edge : (k d : ℕ) → k < length edges → get_or edges k d ≡ n → get_or edges k n ≡ n
-      edge k d within same = get_or_default edges k n d within ∙ same
+-- what composition of Hangul asks of a second
+abbrev jamo : ℕ → Bool × Bool × Bool
+jamo n = (is_vowel n, is_trailing_consonant n, is_vowel_or_trailing_jamo n)
 
 -- where nothing composes with one second, nothing does with another of the same jamo that no pair has
-never_alike : (pairs : List Pair) (a b : ℕ) → is_vowel a ≡ is_vowel b → is_trailing_consonant a ≡ is_trailing_consonant b → is_vowel_or_trailing_jamo a ≡ is_vowel_or_trailing_jamo b →
-    ((first : ℕ) → listed_result pairs first b ≡ None) → IsNeverSecond pairs a → IsNeverSecond pairs b
+never_alike : (pairs : List Pair) (a b : ℕ) → jamo a ≡ jamo b → ((first : ℕ) → listed_result pairs first b ≡ None) → IsNeverSecond pairs a → IsNeverSecond pairs b
 unfolding IsNeverSecond pair_of compose_hangul
-never_alike pairs a b vowel trailing jamo listed never first = let before = never first in let unlisted = listed first in grind (arith, nat_tests)
+never_alike pairs a b same listed never first =
+    let vowel = ap (λ j. j.0) same in let trailing = ap (λ j. j.1) same in let any = ap (λ j. j.2) same in let before = never first in let unlisted = listed first in grind (arith, nat_tests)
 
 module _ (entries : List CharacterEntry) (pairs : List Pair) (n : ℕ) (one : IsUntold entries pairs n) (next : IsUntold entries pairs (n + 1)) where
-  same_vowel : is_vowel n ≡ is_vowel (n + 1)
-  unfolding is_vowel
-  same_vowel = grind (arith, nat_tests, next.apart)
-
-  same_trailing : is_trailing_consonant n ≡ is_trailing_consonant (n + 1)
-  unfolding is_trailing_consonant
-  same_trailing = grind (arith, nat_tests, next.apart)
-
-  same_jamo : is_vowel_or_trailing_jamo n ≡ is_vowel_or_trailing_jamo (n + 1)
-  unfolding is_vowel_or_trailing_jamo
-  same_jamo = grind (arith, nat_tests, next.apart)
+  same_jamo : jamo n ≡ jamo (n + 1)
+  unfolding is_vowel is_trailing_consonant is_vowel_or_trailing_jamo
+  same_jamo =
+      let vowel : is_vowel n ≡ is_vowel (n + 1) = grind (arith, nat_tests, next.apart) in
+      let trailing : is_trailing_consonant n ≡ is_trailing_consonant (n + 1) = grind (arith, nat_tests, next.apart) in
+      let any : is_vowel_or_trailing_jamo n ≡ is_vowel_or_trailing_jamo (n + 1) = grind (arith, nat_tests, next.apart) in cc
 
   same_final : final_word n ≡ final_word (n + 1)
   unfolding final_word is_hangul_syllable is_surrogate
@@ -100,8 +85,8 @@ module _ (entries : List CharacterEntry) (pairs : List Pair) (n : ℕ) (one : Is
         within = h.within;
         round_trip = (λ clear. compose-alone d (n + 1), λ alone. h.round_trip.1 (compose-alone d n));
         backward = (
-          λ clear. (let k = h.backward.0 clear in (k.0, never_alike pairs n (n + 1) same_vowel same_trailing same_jamo next.listed k.1)),
-          λ k. h.backward.1 (k.0, never_alike pairs (n + 1) n (sym same_vowel) (sym same_trailing) (sym same_jamo) one.listed k.1),
+          λ clear. (let k = h.backward.0 clear in (k.0, never_alike pairs n (n + 1) same_jamo next.listed k.1)),
+          λ k. h.backward.1 (k.0, never_alike pairs (n + 1) n (sym same_jamo) one.listed k.1),
         );
       }
 
@@ -116,32 +101,30 @@ module _ (entries : List CharacterEntry) (kind : Kind) (n : ℕ) (none : entry_o
 
 module _ (entries : List CharacterEntry) (pairs : List Pair) (told : List ℕ) (lists : ListsTold entries pairs told) where
   pub packed_alike : (kind : Kind) → AreAlike (IsPackedWord kind entries pairs) told
+  unfolding AreAlike
   packed_alike kind n w untold next h =
-      let one = IsUntold-missing entries pairs told lists n untold in
-      let two = IsUntold-missing entries pairs told lists (n + 1) next in
       let first = spelled-none entries kind n one.entry in
-      let second = spelled-none entries kind (n + 1) two.entry in
-      let spelled : IsSpelled entries (n ∷ []) (plain (final_word n)) w = rw (sym first, sym (kept-none entries kind n one.entry)) h.spelled in
-      let flags : HasFlags kind entries pairs n (plain (final_word n)) w = rw (sym first) h.flags in
-      let moved = move (final_word n) one two spelled flags in
-      let same = same_final entries pairs n one two in
-      record {
-        spelled = rw (second, kept-none entries kind (n + 1) two.entry, sym same) moved.0;
-        flags = rw (second, sym same) moved.1;
-      }
+      go (final_word n) (spelled-none entries kind (n + 1) two.entry ∙ ap plain (sym (same_final entries pairs n one two))) (rw first at h.spelled) (rw first at h.flags)
     where
-      move : (o : Option ℕ) → IsUntold entries pairs n → IsUntold entries pairs (n + 1) → IsSpelled entries (n ∷ []) (plain o) w → HasFlags kind entries pairs n (plain o) w →
-          IsSpelled entries ((n + 1) ∷ []) (plain o) w × HasFlags kind entries pairs (n + 1) (plain o) w
-      move (Some v) one two a b = (a, tt)
-      move None one two a b =
-          (a, rw (kept-none entries kind (n + 1) two.entry) (flags_next entries pairs n one two (reading_of_entries entries pairs) w (rw (sym (kept-none entries kind n one.entry)) b)))
+      one : IsUntold entries pairs n
+      one = IsUntold-missing entries pairs told lists n untold
+
+      two : IsUntold entries pairs (n + 1)
+      two = IsUntold-missing entries pairs told lists (n + 1) next
+
+      go : (o : Option ℕ) → spelling (class_in entries) (n + 1) (list_in kind entries (n + 1)) ≡ plain o → IsSpelled entries (kept_list kind entries n) (plain o) w →
+          HasFlags kind entries pairs n (plain o) w → IsPackedWord kind entries pairs (n + 1) w
+      go (Some v) second spelled flags = final_packs kind entries pairs (n + 1) w (second ∙ ap Final (sym spelled))
+      go None second spelled flags =
+          short_packs kind entries pairs (n + 1) 0 w second spelled
+          (rw (kept-none entries kind (n + 1) two.entry) (flags_next entries pairs n one two (reading_of_entries entries pairs) w (rw (kept-none entries kind n one.entry) at flags)))
 
   step-none : (n : ℕ) → entry_of entries n ≡ None → step_in entries n ≡ None
   unfolding step_in
   step-none n none = rw (none, step_in) refl
 
   pub steps_alike : AreAlike (λ n w. w ≡ word_of_step (step_lists entries) (step_in entries n)) told
+  unfolding AreAlike
   steps_alike n w untold next h =
-      let one : entry_of entries n ≡ None = (IsUntold-missing entries pairs told lists n untold).entry in
-      let two : entry_of entries (n + 1) ≡ None = (IsUntold-missing entries pairs told lists (n + 1) next).entry in
-      h ∙ ap (word_of_step (step_lists entries)) (step-none n one ∙ sym (step-none (n + 1) two))
+      let one = step-none n (IsUntold-missing entries pairs told lists n untold).entry in
+      let two = step-none (n + 1) (IsUntold-missing entries pairs told lists (n + 1) next).entry in h ∙ ap (word_of_step (step_lists entries)) (one ∙ sym two)

@@ -1,19 +1,16 @@
 -- Look-ups in entries that rise.
-use Rattle.std.proofs.Common.{◌≡◌, ◌≢◌, ◌==◌, ℕ, ◌<◌, ◌≤◌, Bool, true, false, List, [], ◌∷◌, length, get_or}
-use Rattle.std.proofs.Common.{refl, Some, None, find, All, arith, ap, sym, subst, ◌∙◌, zero, suc, inl, inr, ◌⊎◌, eqb-true, nat_lt, Contains, map, cond}
-use Rattle.std.proofs.lemmas.Bool.{ltb-true, ltb-false}
+use Rattle.std.proofs.Common.{◌≡◌, ◌≢◌, ◌==◌, ℕ, ◌<◌, Bool, true, false, List, [], ◌∷◌, length, get_or}
+use Rattle.std.proofs.Common.{refl, Some, None, find, All, arith, ap, subst, ◌∙◌, inl, inr, ◌⊎◌, eqb-true, nat_lt, Contains, map, cond}
 use Rattle.std.proofs.lemmas.Bool.Decides.{nat_tests}
 use Rattle.std.proofs.lemmas.List.{get_or-map, length-map}
-use Rattle.std.proofs.lemmas.List.Elements.{All-cons, All-head, All-nil, All-tail, All-from_get_or, Contains-append_right}
+use Rattle.std.proofs.lemmas.List.Elements.{All-cons, All-head, All-nil, All-tail, Contains-append_right}
+use Rattle.std.proofs.lemmas.List.Folds.{find_at}
 use Rattle.std.proofs.lemmas.List.Kept.{AllPairs-from_increasing}
+use Rattle.std.proofs.lemmas.List.Sums.{position_or_len_is}
+use Rattle.std.proofs.lemmas.Option.{slice_get_read}
+use Rattle.std.specs.List.{slice_get}
 use Rattle.std.specs.List.Sorted.{IsPartitionedBy, IsPartitionPoint, IsStrictlyIncreasing}
 use Rattle.normalizer_packing.specs.Entries.{CharacterEntry, AreRising, entry_of}
-
--- the first element that passes
-pub find-first : {A : Type 0} (p : A → Bool) (xs : List A) (k : ℕ) (d : A) → k < length xs → p (get_or xs k d) ≡ true → ((j : ℕ) → j < k → p (get_or xs j d) ≡ false) → find p xs ≡ Some (get_or xs k d)
-find-first p [] k d within here before = absurd (omega arith)
-find-first p (x ∷ xs) zero d within here before = rw here refl
-find-first p (x ∷ xs) (suc k) d within here before = rw (before 0 (omega arith)) (find-first p xs k d (omega arith) here (λ j below. before (suc j) (omega arith)))
 
 -- none passes
 pub find-none : {A : Type 0} (p : A → Bool) (xs : List A) → All (λ x. p x ≡ false) xs → find p xs ≡ None
@@ -37,27 +34,17 @@ abbrev pub IsPlaceOf : ℕ → List CharacterEntry → ℕ → Type 0
 IsPlaceOf n entries at = IsPartitionPoint (λ e. nat_lt e.character n ≡ true) (λ e. nat_lt e.character n ≡ false) entries at
 
 module _ (entries : List CharacterEntry) (n at : ℕ) (rising : AreRising entries) (is : IsPlaceOf n entries at) where
-  other_before : (k : ℕ) (d : CharacterEntry) → k < at → (k < length entries) → ((get_or entries k d).character == n) ≡ false
-  other_before k d below within =
-      let low = ltb-true _ _ (is.0 k d (omega arith) below) in grind (arith, nat_tests)
-
   pub entry_of-found : (e : CharacterEntry) → at < length entries → e ≡ get_or entries at e → e.character ≡ n → entry_of entries n ≡ Some e
   unfolding entry_of
   entry_of-found e within here same =
-      find-first (λ f. f.character == n) entries at e within (subst (λ (f : CharacterEntry). (f.character == n) ≡ true) here (grind (arith, nat_tests)))
-      (λ j below. other_before j e below (omega arith)) ∙ ap Some (sym here)
+      let first = position_or_len_is (λ f. f.character == n) entries at e (omega arith) (λ j below. let low = is.0 j e (omega arith) below in grind (arith, nat_tests))
+      (λ _. subst (λ (f : CharacterEntry). (f.character == n) ≡ true) here (grind (arith, nat_tests))) in
+      find_at (λ f. f.character == n) entries ∙ ap (slice_get entries) first ∙ slice_get_read entries (length entries) at e refl within here
 
-  pub entry_of-gap : (e : CharacterEntry) → at < length entries → e ≡ get_or entries at e → e.character ≢ n → entry_of entries n ≡ None
+  pub entry_of-none : ((d : CharacterEntry) → at < length entries → (get_or entries at d).character ≢ n) → entry_of entries n ≡ None
   unfolding entry_of
-  entry_of-gap e within here other = find-none (λ f. f.character == n) entries (All-from_get_or (λ f. (f.character == n) ≡ false) entries e misses)
-    where
-      misses : (k : ℕ) → k < length entries → ((get_or entries k e).character == n) ≡ false
-      misses k inside =
-          let before = other_before k e in let after = rising at k e in let low = ltb-false _ _ (is.1 at e (omega arith) within) in grind (arith, nat_tests)
-
-  pub entry_of-above : length entries ≤ at → entry_of entries n ≡ None
-  unfolding entry_of
-  entry_of-above above = find-none (λ f. f.character == n) entries (λ k d within. other_before k d (omega arith) within)
+  entry_of-none other =
+      find-none (λ f. f.character == n) entries (λ k d inside. let before = is.0 k d in let behind = is.1 at d in let after = rising at k d in let differs = other d in grind (arith, nat_tests))
 
 pub Contains-map : {X Y : Type 0} (f : X → Y) (xs : List X) (x : X) → Contains xs x → Contains (map f xs) (f x)
 Contains-map f xs x (k, within, is) = (k, omega (arith, length-map xs f), get_or-map f xs k x (f x) within ∙ ap f is)

@@ -5,8 +5,6 @@ pub mod PackableLemmas
 pub mod PackingLemmas
 pub mod PlaceLemmas
 pub mod ReadBack
-pub mod ReadBackLists
-pub mod ReadBackPlaces
 pub mod ReadBackWords
 pub mod StepLemmas
 pub mod StoreLemmas

@@ -1,10 +1,10 @@
 -- Where lists stand in the four tables.
-use Rattle.std.proofs.Common.{◌≡◌, ℕ, ◌+◌, ◌<◌, ◌≤◌, true, false, List, [], ◌∷◌, ◌++◌, length, Some, None, if◌then◌else◌, All, refl, arith, sym, subst, ap, ◌∙◌, inl, inr}
+use Rattle.std.proofs.Common.{◌≡◌, ℕ, ◌+◌, ◌<◌, ◌≤◌, true, false, List, [], ◌∷◌, ◌++◌, length, Option, Some, None, if◌then◌else◌, All, refl, arith, sym, subst, ap, ◌∙◌, inl, inr}
 use Rattle.std.proofs.lemmas.Bool.Decides.{nat_tests}
 use Rattle.std.proofs.lemmas.Bool.{cases_Bool, or_cases, or_left, or_right}
 use Rattle.std.proofs.lemmas.List.Elements.{All-head, All-tail}
 use Rattle.std.specs.Option.{is_some}
-use Rattle.normalizer_tables.specs.Characters.{items_at}
+use Rattle.normalizer_tables.specs.Characters.{Characters, as_text, items_at, listed_at, listed_in as listed_from, narrow_at, placed_in, wide_at}
 use Rattle.normalizer_tables.specs.Conditions.{item_count, item_limit}
 use Rattle.normalizer_tables.specs.Data.{Lists}
 use Rattle.normalizer_packing.specs.declared.entry.Kind.{Kind}
@@ -13,20 +13,16 @@ use Rattle.normalizer_packing.specs.declared.stores.Stores.{Stores}
 use Rattle.normalizer_packing.specs.Entries.{CharacterEntry}
 use Rattle.normalizer_packing.specs.inner.PackedWords.{CanPoint}
 use Rattle.normalizer_packing.specs.Spelling.{list_eq}
-use Rattle.normalizer_packing.specs.Stored.{HasLengthOfWord, canonical_lists, is_among, is_narrow, item_at, item_in, item_of, listed_in, needed_items, place_of}
+use Rattle.normalizer_packing.specs.Stored.{HasLengthOfWord, canonical_lists, is_among, is_narrow, item_at, item_in, item_of, listed_in, low_length, needed_items, place_of}
 use Rattle.normalizer_packing.specs.Stored.{supplementary_lists, tables_of}
 use Rattle.normalizer_packing.specs.inner.Stores.{StandsAt, place_in, tables_in}
 use Rattle.normalizer_packing.proofs.StoreLemmas.{is_some-place, narrow_length, place_if_some, placed}
 use Rattle.normalizer_packing.proofs.TableLemmas.{is_among-append, is_among-apart, is_among-first_come, same_list, stands_at_place}
 
-pub items_within : (t x : List ℕ) (place : ℕ) → items_at t place (length x) ≡ Some x → place + length x ≤ length t
-unfolding items_at
-items_within t x place h = grind (arith, nat_tests)
-
 -- a list stands within its table
 pub place_within : (t : Lists) (x : List ℕ) (place : ℕ) → StandsAt t x place → place + length x ≤ length (if is_narrow x then t.scalars16 else t.scalars24)
-unfolding StandsAt
-place_within t x place h = items_within _ x place h
+unfolding StandsAt items_at
+place_within t x place h = grind (arith, nat_tests)
 
 -- a list of which a word can tell the length isn't empty
 pub length_of_word : (x : List ℕ) → HasLengthOfWord x → 0 < length x
@@ -88,11 +84,27 @@ module _ (entries : List CharacterEntry) (x : List ℕ) where
     | inr other ↦ omega (arith, item_of-supplementary other, item_within _ x _ some (stands_among (supplementary_lists entries) x (among_supplementary kind listed other)))
   ]
 
--- a list of one kind stands at a place in these tables, which come behind so many items
-pub record IsItem (entries : List CharacterEntry) (t : Lists) (x : List ℕ) (before place : ℕ) : Type 0 where
-  pub stands : StandsAt t x place
-  pub item : before + item_at t x place ≡ item_of entries x
-  pub within : item_of entries x < item_limit
+-- an item past two tables
+past_both : (t : Lists) (low : ℕ) (after : ℕ → Option (List ℕ)) (k : ℕ) → listed_from t low after (item_count t + k) ≡ after k
+unfolding listed_from placed_in
+past_both t low after k = grind (arith, nat_tests)
+
+-- the list that stands at its place in one of two tables
+given : (t : Lists) (x : List ℕ) (place : ℕ) (after : ℕ → Option (List ℕ)) → 0 < length x → as_text x ≡ Some x → StandsAt t x place → listed_from t (low_length x) after (item_at t x place) ≡ Some x
+unfolding listed_from placed_in StandsAt item_at low_length narrow_at wide_at
+given t x place after some text stands = let within = place_within t x place stands in let long = narrow_length x in grind (arith, nat_tests)
+
+-- a list of one kind of data is what the tables give from its item on
+pub given_from : (entries : List CharacterEntry) (s : Characters) (x : List ℕ) (kind : Kind) → s.tables ≡ tables_of (canonical_lists entries) → 0 < length x → as_text x ≡ Some x →
+    is_among x (listed_in entries kind) ≡ true → (is_among x (canonical_lists entries) ≡ false → s.supplementary ≡ tables_of (supplementary_lists entries)) →
+    listed_at s (item_of entries x) (low_length x) ≡ Some x
+unfolding listed_at
+given_from entries s x kind first some text among second = elim (cases_Bool (is_among x (canonical_lists entries))) [
+  | inl here ↦ rw (item_of-canonical entries x here, first) (given _ x _ (listed_from s.supplementary (low_length x) (λ past. None)) some text (stands_among (canonical_lists entries) x here))
+  | inr other ↦
+      let there = stands_among (supplementary_lists entries) x (among_supplementary entries x kind among other) in
+      rw (item_of-supplementary entries x other, first, second other) (past_both _ (low_length x) (listed_from _ (low_length x) (λ past. None)) _ ∙ given _ x _ (λ past. None) some text there)
+]
 
 module _ (entries : List CharacterEntry) (s : Stores) (h : CanPoint entries s) (kind : Kind) (x : List ℕ) (listed : is_among x (listed_in entries kind) ≡ true) where
   -- a word can tell the length of each list that stands in a table
@@ -104,14 +116,18 @@ module _ (entries : List CharacterEntry) (s : Stores) (h : CanPoint entries s) (
   within_limit = omega (arith, h.within, item_of-within entries x kind listed (length_of_word x length_of_listed))
 
   -- a list that the first store holds stands there
-  pub in_canonical : (place : ℕ) → place_in s.canonical x ≡ Some place → IsItem entries (tables_in s.canonical) x 0 place
-  in_canonical place found =
-      let own = place_if_some (canonical_lists entries) s.canonical x h.stored.canonical place found in
-      rw (own.1, h.stored.canonical.tables) (record {
-        stands = stands_among (canonical_lists entries) x own.0;
-        item = omega (arith, item_of-canonical entries x own.0);
-        within = within_limit;
-      })
+  module _ (place : ℕ) (found : place_in s.canonical x ≡ Some place) where
+    own_place : (is_among x (canonical_lists entries) ≡ true) × (place ≡ place_of (canonical_lists entries) x)
+    own_place = place_if_some (canonical_lists entries) s.canonical x h.stored.canonical place found
+
+    pub stands_first : StandsAt (tables_in s.canonical) x place
+    stands_first = rw (own_place.1, h.stored.canonical.tables) (stands_among (canonical_lists entries) x own_place.0)
+
+    pub item_first : item_at (tables_in s.canonical) x place ≡ item_of entries x
+    item_first = rw (own_place.1, h.stored.canonical.tables) (sym (item_of-canonical entries x own_place.0))
+
+    pub within_first : item_at (tables_in s.canonical) x place < item_limit
+    within_first = omega (arith, item_first, within_limit)
 
   -- another stands in the second
   module _ (nowhere : place_in s.canonical x ≡ None) where
@@ -121,15 +137,17 @@ module _ (entries : List CharacterEntry) (s : Stores) (h : CanPoint entries s) (
     in_second : is_among x (supplementary_lists entries) ≡ true
     in_second = among_supplementary entries x kind listed not_canonical
 
-    pub placed_in_supplementary : place_in s.supplementary x ≡ Some (place_of (supplementary_lists entries) x)
-    placed_in_supplementary = placed (supplementary_lists entries) s.supplementary x h.stored.supplementary in_second
+    pub placed_second : place_in s.supplementary x ≡ Some (place_of (supplementary_lists entries) x)
+    placed_second = placed (supplementary_lists entries) s.supplementary x h.stored.supplementary in_second
 
-    pub in_supplementary : (place : ℕ) → place_in s.supplementary x ≡ Some place → IsItem entries (tables_in s.supplementary) x (item_count (tables_in s.canonical)) place
-    in_supplementary place found =
-        let count : item_count (tables_in s.canonical) ≡ item_count (tables_of (canonical_lists entries)) = ap item_count h.stored.canonical.tables in
-        let own = place_if_some (supplementary_lists entries) s.supplementary x h.stored.supplementary place found in
-        rw (own.1, h.stored.supplementary.tables, count) (record {
-          stands = stands_among (supplementary_lists entries) x in_second;
-          item = sym (item_of-supplementary entries x not_canonical);
-          within = within_limit;
-        })
+    pub stands_second : StandsAt (tables_in s.supplementary) x (place_of (supplementary_lists entries) x)
+    stands_second = rw h.stored.supplementary.tables (stands_among (supplementary_lists entries) x in_second)
+
+    pub item_second : item_count (tables_in s.canonical) + item_at (tables_in s.supplementary) x (place_of (supplementary_lists entries) x) ≡ item_of entries x
+    item_second = rw h.stored.supplementary.tables (omega (arith, ap item_count h.stored.canonical.tables, item_of-supplementary entries x not_canonical))
+
+    pub within_second : item_count (tables_in s.canonical) + item_at (tables_in s.supplementary) x (place_of (supplementary_lists entries) x) < item_limit
+    within_second = omega (arith, item_second, within_limit)
+
+-- where a list of one kind stands, and that words can point there
+pub ruleset listed_places = (stands_first, item_first, within_first, placed_second, stands_second, item_second, within_second)

@@ -1,23 +1,21 @@
 -- Packed data read to what the entries say of every character.
-use Rattle.std.proofs.Common.{◌≡◌, ◌≢◌, ℕ, ◌+◌, ◌*◌, ◌<◌, ◌≤◌, ◌⊎◌, Bool, true, false, not, ◌&&◌, ◌||◌, ◌==◌, nat_le, nat_lt, All, List, [], ◌∷◌, Option, Some, None, unwrap_or, if◌then◌else◌}
+use Rattle.std.proofs.Common.{◌≡◌, ◌≢◌, ℕ, ◌+◌, ◌*◌, ◌<◌, Bool, true, false, not, ◌&&◌, ◌||◌, ◌==◌, nat_le, nat_lt, All, List, [], ◌∷◌, length, Option, Some, None, unwrap_or, if◌then◌else◌}
 use Rattle.std.proofs.Common.{eqb-true, ltb-true, refl, arith, ap, sym, subst, ◌∙◌, inl, inr}
 use Rattle.std.specs.Char.{IsScalar}
 use lib.Utf8.{scalar_cases}
-use Rattle.std.proofs.lemmas.Bool.{and_parts}
 use Rattle.std.proofs.lemmas.Bool.Decides.{nat_tests}
 use Rattle.std.proofs.lemmas.List.Elements.{All-head}
 use Rattle.normal_forms.specs.Boundary.{BeginsWithStarter}
 use Rattle.normalizer_tables.specs.declared.word.WordReading.{WordReading}
 use Rattle.normalizer_tables.specs.declared.word.WordReading.TheVariants as reading
 use Rattle.normalizer_tables.specs.Characters.{Characters, class_of, has_class_form, list_read, named_list, reading_of_word, word_of}
-use Rattle.normalizer_tables.specs.Conditions.{is_surrogate, item_count, item_limit}
+use Rattle.normalizer_tables.specs.Conditions.{is_surrogate}
 use Rattle.normalizer_tables.specs.Hangul.{is_hangul_syllable}
 use Rattle.normalizer_tables.specs.Pairs.{Pair}
 use Rattle.normalizer_tables.specs.SpecialLists.{fdfa_list}
 use Rattle.normalizer_tables.specs.Table.{code_points}
 use Rattle.normalizer_tables.proofs.CharacterLemmas.{class_of-scalar, list_read-scalar}
-use Rattle.normalizer_tables.proofs.CodePoints.{lt-code_points}
-use Rattle.normalizer_tables.proofs.TextLemmas.{as_text-scalars}
+use Rattle.normalizer_tables.proofs.CharacterLemmas.{as_text-scalars}
 use Rattle.normalizer_packing.specs.declared.Packed.{Packed}
 use Rattle.normalizer_packing.specs.declared.entry.Kind.{Kind}
 use Rattle.normalizer_packing.specs.declared.entry.Kind.TheVariants.{Canonical, Compatibility, Mapper}
@@ -28,11 +26,10 @@ use Rattle.normalizer_packing.specs.Flags.{without_flags}
 use Rattle.normalizer_packing.specs.Packing.{ArePackable, IsPackedWord, IsSpelled, Packs, PacksKind}
 use Rattle.normalizer_packing.specs.ReadBack.{AreReadable, IsTold, ReadsBack, characters_of, class_by, decompositions_of, has_class_word, list_by, tells_class}
 use Rattle.normalizer_packing.specs.Spelling.{final_word, has_fixed_list, list_eq, spelling, spelling_by_list, spelling_of_list, spelling_or_ignored, spells_two}
-use Rattle.normalizer_packing.specs.Stored.{HasLengthOfWord, has_marks_behind, is_among, item_of, listed_in, low_length, pointing_word, supplementary_lists, tables_of}
-use Rattle.normalizer_packing.proofs.PlaceLemmas.{among_all, length_of_word}
-use Rattle.normalizer_packing.proofs.ReadBackLists.{fixed_named, hangul_text, low_length-small, mapper_ignores, no_fixed-alone, no_fixed-empty, no_fixed-hangul}
-use Rattle.normalizer_packing.proofs.ReadBackPlaces.{IsGiven, given_from}
-use Rattle.normalizer_packing.proofs.ReadBackWords.{Reads, reads_fdfa, reads_hangul, reads_ignored, reads_itself, reads_listed, reads_one, reads_ordinary, reads_special, reads_two}
+use Rattle.normalizer_packing.specs.Stored.{HasLengthOfWord, canonical_lists, has_marks_behind, is_among, item_of, listed_in, low_length, pointing_word, supplementary_lists, tables_of}
+use Rattle.normalizer_packing.proofs.PlaceLemmas.{among_all, canonical_kind, given_from, item_of-within, length_of_word}
+use Rattle.normalizer_packing.proofs.ReadBackWords.{fixed_named, hangul_text, low_length-small, mapper_ignores, no_fixed-alone, no_fixed-empty, no_fixed-hangul, Reads}
+use Rattle.normalizer_packing.proofs.ReadBackWords.{reads_class, reads_ignored, reads_itself, reads_listed, reads_low, reads_one, reads_two}
 use Rattle.normalizer_packing.proofs.TableLemmas.{eq_list, same_list}
 use Rattle.normalizer_packing.proofs.WordLemmas.{listed_among}
 
@@ -45,7 +42,8 @@ unfolding is_surrogate
 no_surrogate n is surrogate = absurd (grind (arith, nat_tests))
 
 scalar_below : (n : ℕ) → IsScalar n → n < code_points
-scalar_below n is = lt-code_points n (elim (scalar_cases n is) as (λ _. n ≤ 0x10FFFF) [ inl low ↦ omega arith | inr high ↦ omega (arith, high.1) ])
+unfolding code_points
+scalar_below n is = elim (scalar_cases n is) as (λ _. n < code_points) [ inl low ↦ omega arith | inr high ↦ omega (arith, high.1) ]
 
 -- what packed data read to of one character
 record IsReadBack (kind : Kind) (entries : List CharacterEntry) (s : Characters) (n : ℕ) : Type 0 where
@@ -65,16 +63,11 @@ module _ (entries : List CharacterEntry) (pairs : List Pair) (p : Packed) (packs
   unfolding word_of
   packed_word kind n within = (of_kind kind).words.words n within
 
-  -- all tables that words of a kind point into have few items
-  few_items : (kind : Kind) → item_count (characters_of p kind).tables + item_count (characters_of p kind).supplementary ≤ item_limit
-  few_items Canonical = omega (arith, ap item_count packs.tables, packs.within)
-  few_items _ = omega (arith, ap item_count packs.tables, ap item_count packs.supplementary_tables, packs.within)
-
   -- a list of canonical data stands in the first tables, and words of other data point into all
-  where_stands : (kind : Kind) (x : List ℕ) → is_among x (listed_in entries kind) ≡ true →
-      (is_among x (listed_in entries Canonical) ≡ true) ⊎ ((characters_of p kind).supplementary ≡ tables_of (supplementary_lists entries))
-  where_stands Canonical x among = inl among
-  where_stands _ x among = inr packs.supplementary_tables
+  second_tables : (kind : Kind) (x : List ℕ) → is_among x (listed_in entries kind) ≡ true → is_among x (canonical_lists entries) ≡ false →
+      (characters_of p kind).supplementary ≡ tables_of (supplementary_lists entries)
+  second_tables Canonical x among other = let here = canonical_kind entries x among in absurd cc
+  second_tables _ x among other = packs.supplementary_tables
 
 module _ (kind : Kind) (entries : List CharacterEntry) (pairs : List Pair) (p : Packed) (packable : ArePackable entries) (readable : AreReadable kind entries) (packs : Packs entries pairs p) (n : ℕ)
     (is : IsScalar n) where
@@ -110,10 +103,9 @@ module _ (kind : Kind) (entries : List CharacterEntry) (pairs : List Pair) (p : 
   hangul_back syllable word =
       let x = kept_list kind entries n in
       let none : class n ≡ 0 = readable.hangul n syllable in
-      read_back x false (list_eq x (n ∷ [])) reading.HangulSyllable 0 false refl (no_fixed-hangul class n x syllable) refl (reads_hangul n w s.is_mapper syllable (ap without_flags word))
+      read_back x false (list_eq x (n ∷ [])) reading.HangulSyllable 0 false refl (no_fixed-hangul class n x syllable) refl (rw syllable at (reads_low n w s.is_mapper (ap without_flags word)))
       (λ ignored. rw syllable (hangul_text n syllable))
-      (elim (list_eq x (n ∷ [])) as (λ b. (if b then class n else 0) ≡ 0) [ true ↦ none | false ↦ refl ])
-      (rw none (elim (list_eq x (n ∷ [])) as (λ b. (b && false) ≡ false) [ true ↦ refl | false ↦ refl ])) syllable
+      (grind arith) (grind arith) syllable
 
   module _ (other : is_hangul_syllable n ≡ false) where
     -- a character that the mapper ignores
@@ -142,7 +134,7 @@ module _ (kind : Kind) (entries : List CharacterEntry) (pairs : List Pair) (p : 
       fixed_back : has_fixed_list class n x ≡ true → without_flags w ≡ 0xD900 + class n → IsReadBack kind entries s n
       unfolding named_list IsTold
       fixed_back fixed rest =
-          named_back true (list_eq x (n ∷ [])) (reading.SpecialForm (class n)) (class n) true fixed refl (reads_special n w (class n) s.is_mapper (readable.classes n) rest)
+          named_back true (list_eq x (n ∷ [])) (reading.SpecialForm (class n)) (class n) true fixed refl (reads_class true n w (class n) s.is_mapper (readable.classes n) rest)
           (λ ignored. fixed_named class n x fixed) refl refl (rw kept fixed, refl)
 
       module _ (same : x ≡ n ∷ []) where
@@ -159,7 +151,7 @@ module _ (kind : Kind) (entries : List CharacterEntry) (pairs : List Pair) (p : 
         mark_back : nat_lt 0 (class n) ≡ true → without_flags w ≡ 0xD800 + class n → IsReadBack kind entries s n
         unfolding named_list IsTold
         mark_back mark rest =
-            named_back false true (reading.ClassForm (class n)) (class n) true free (eq_list x (n ∷ []) same) (reads_ordinary n w (class n) s.is_mapper (readable.classes n) rest)
+            named_back false true (reading.ClassForm (class n)) (class n) true free (eq_list x (n ∷ []) same) (reads_class false n w (class n) s.is_mapper (readable.classes n) rest)
             (λ ignored. ap Some (sym same)) refl mark (kept ∙ same, refl, ltb-true _ _ mark)
 
       module _ (free : has_fixed_list class n x ≡ false) (differs : list_eq x (n ∷ []) ≡ false) where
@@ -172,19 +164,19 @@ module _ (kind : Kind) (entries : List CharacterEntry) (pairs : List Pair) (p : 
         listed_back h =
             let among : is_among x (listed_in entries kind) ≡ true = subst (λ (y : List ℕ). is_among y (listed_in entries kind) ≡ true) kept (listed_among kind entries n h.line) in
             let long : HasLengthOfWord x = among_all HasLengthOfWord x (listed_in entries kind) (packable.lengths kind) among in
-            let given : IsGiven s x (item_of entries x) =
-            given_from entries s x packs.tables (length_of_word x long) (as_text-scalars x text) kind among (where_stands entries pairs p packs kind x among) in
+            let some : 0 < length x = length_of_word x long in
+            let given = given_from entries s x kind packs.tables some (as_text-scalars x text) among (second_tables entries pairs p packs kind x among) in
             let marks : Bool = has_marks_behind class x in
             other_back (reading.Listed (item_of entries x) (low_length x) marks)
-            (reads_listed n w (item_of entries x) (low_length x) marks s.is_mapper (omega (arith, given.within, few_items entries pairs p packs kind)) (low_length-small x long) h.word)
-            (λ ignored. given.list) (ap (has_marks_behind class) (sym kept))
+            (reads_listed n w (item_of entries x) (low_length x) marks s.is_mapper (omega (arith, item_of-within entries x kind among some, packs.within)) (low_length-small x long) h.word)
+            (λ ignored. given) (ap (has_marks_behind class) (sym kept))
 
         -- U+FDFA, or such a list
         long_back : (b : Bool) → list_eq x fdfa_list ≡ b → Spells x (if b then Short 1 else Listed) → IsReadBack kind entries s n
         unfolding named_list IsTold
         long_back true long h =
             let same : x ≡ fdfa_list = same_list x fdfa_list long in
-            other_back reading.Fdfa (reads_fdfa n w s.is_mapper other h.word) (λ ignored. ap Some (sym same)) (kept ∙ same)
+            other_back reading.Fdfa (rw other at (reads_low n w s.is_mapper h.word)) (λ ignored. ap Some (sym same)) (kept ∙ same)
         long_back false _ h = listed_back h
 
     -- another character
@@ -206,26 +198,10 @@ module _ (kind : Kind) (entries : List CharacterEntry) (pairs : List Pair) (p : 
     two_back a b list free differs false _ h = listed_back (a ∷ b ∷ []) list free differs h
     two_back a b list free differs true spells h =
         let kept_two = kept (a ∷ b ∷ []) list in
-        let one = and_parts _ _ spells in
-        let two = and_parts _ _ one.1 in
-        let three = and_parts _ _ two.1 in
-        let zeros = and_parts _ _ (and_parts _ _ three.1).1 in
-        let small : a < 0x8000 = ltb-true _ _ one.0 in
-        let also : b < 0x8000 = ltb-true _ _ two.0 in
-        let mark : 0 < class b = ltb-true _ _ three.0 in
         let starter : BeginsWithStarter (reading_of_entries entries []) (a ∷ b ∷ []) =
         subst (λ (y : List ℕ). BeginsWithStarter (reading_of_entries entries []) y) kept_two (readable.first n is (rw (kept_two, free, differs) refl)) in
-        other_back (a ∷ b ∷ []) list free differs (reading.TwoCharacters a b)
-        (reads_two n w a b s.is_mapper small also (unset _ zeros.0) (unset _ zeros.1) (unmarked small also starter mark) h.word)
-        (λ ignored. as_text-scalars (a ∷ b ∷ []) (text (a ∷ b ∷ []) list)) (kept_two, mark)
-      where
-        unset : (q : Bool) → not q ≡ true → q ≡ false
-        unset true e = cc
-        unset false e = refl
-
-        -- the word that is the marker without its flags spells the same character twice
-        unmarked : a < 0x8000 → b < 0x8000 → class a ≡ 0 → 0 < class b → a + b * 0x8000 ≢ 0x3FFFFFFF
-        unmarked small also starter mark e = let same : a ≡ b = omega arith in let none : class b ≡ 0 = subst (λ (m : ℕ). class m ≡ 0) same starter in omega arith
+        other_back (a ∷ b ∷ []) list free differs (reading.TwoCharacters a b) (reads_two class n w a b s.is_mapper spells starter h.word)
+        (λ ignored. as_text-scalars (a ∷ b ∷ []) (text (a ∷ b ∷ []) list)) (kept_two, grind (arith, nat_tests))
 
     members_back : (x : List ℕ) → list_in kind entries n ≡ Some x → has_fixed_list class n x ≡ false → list_eq x (n ∷ []) ≡ false → Spells x (spelling_of_list class n x) → IsReadBack kind entries s n
     unfolding spelling_of_list
@@ -238,10 +214,7 @@ module _ (kind : Kind) (entries : List CharacterEntry) (pairs : List Pair) (p : 
         Spells x (if f then Short (0xD900 + class n) else if a then Short (if z then 0 else 0xD800 + class n) else spelling_of_list class n x) → IsReadBack kind entries s n
     list_back x list true a z fixed _ _ h = fixed_back x list fixed h.word
     list_back x list false true true _ alone none h = starter_back x list (same_list x (n ∷ []) alone) (eqb-true _ _ none) h.word
-    list_back x list false true false _ alone some h = mark_back x list (same_list x (n ∷ []) alone) (mark (class n) some) h.word
-      where
-        mark : (k : ℕ) → (k == 0) ≡ false → nat_lt 0 k ≡ true
-        mark k some = grind (arith, nat_tests)
+    list_back x list false true false _ alone some h = mark_back x list (same_list x (n ∷ []) alone) (grind (arith, nat_tests)) h.word
     list_back x list false false z free differs _ h = members_back x list free differs h
 
     else_back : (o : Option (List ℕ)) → list_in kind entries n ≡ o → Spells (kept_list kind entries n) (spelling_or_ignored class n o) → IsReadBack kind entries s n
@@ -266,9 +239,9 @@ module _ (kind : Kind) (entries : List CharacterEntry) (pairs : List Pair) (p : 
       final_back _ _ _ refl refl refl (record { line = refl; word = (packed_word entries pairs p packs kind n (scalar_below n is)).spelled })
 
 -- packed data read back
-pub Packs-reads_back : (kind : Kind) (entries : List CharacterEntry) (pairs : List Pair) (p : Packed) → ArePackable entries → AreReadable kind entries → Packs entries pairs p →
+pub packs_reads_back : (kind : Kind) (entries : List CharacterEntry) (pairs : List Pair) (p : Packed) → ArePackable entries → AreReadable kind entries → Packs entries pairs p →
     ReadsBack kind entries (characters_of p kind)
-Packs-reads_back kind entries pairs p packable readable packs = record {
+packs_reads_back kind entries pairs p packable readable packs = record {
   lists = λ ignored n is. (character_back kind entries pairs p packable readable packs n is).lists ignored;
   classes = λ n is. (character_back kind entries pairs p packable readable packs n is).class;
   class_forms = λ n is. (character_back kind entries pairs p packable readable packs n is).form;

@@ -1,5 +1,5 @@
 -- The words of the supplement.
-use Rattle.std.proofs.Common.{◌≡◌, ℕ, ◌+◌, ◌<◌, ◌≤◌, true, false, List, [], ◌∷◌, take, get_or, length, Option, Some, None, refl, arith, ap, sym, ◌∙◌, inl, inr}
+use Rattle.std.proofs.Common.{◌≡◌, ℕ, ◌+◌, ◌<◌, true, false, List, [], ◌∷◌, take, filter_map, get_or, length, Option, Some, None, refl, arith, ap, sym, ◌∙◌}
 use Rattle.std.specs.Char.{OutOfScalarRange}
 use Rattle.std.proofs.lemmas.List.{take_more}
 use Rattle.normalizer_tables.specs.Table.{code_points}
@@ -11,7 +11,7 @@ use Rattle.normalizer_packing.specs.Steps.{are_narrow, asked_step, asks_suppleme
 use Rattle.normalizer_packing.specs.Stored.{first_come, is_among}
 use Rattle.normalizer_packing.specs.inner.Stores.{Holds, HoldsMore}
 use Rattle.normalizer_packing.proofs.TableLemmas.{first_come-append, is_among-first_come}
-use Rattle.normalizer_packing.proofs.WordLemmas.{below_all, given_among, surrogate_spelled}
+use Rattle.normalizer_packing.proofs.WordLemmas.{given_among, surrogate_spelled}
 use Rattle.normalizer_packing.proofs.EntryLemmas.{entry_of-own}
 
 not_narrow : (a b : ℕ) → are_narrow a b ≡ false → stored_step (Some (Two a b)) ≡ Some (a ∷ b ∷ [])
@@ -19,32 +19,29 @@ unfolding stored_step
 not_narrow a b wide = rw (wide, stored_step) refl
 
 -- a step that only the table can hold is one of those in it
-pub step_among : (entries : List CharacterEntry) (n : ℕ) (e : CharacterEntry) (a b : ℕ) → entry_of entries n ≡ Some e → asked_step entries e ≡ Some (Two a b) → are_narrow a b ≡ false →
-    is_among (a ∷ b ∷ []) (step_lists entries) ≡ true
-unfolding step_lists stored_steps
-step_among entries n e a b found asked wide =
-    is_among-first_come (a ∷ b ∷ []) (stored_steps entries)
-    ∙ given_among (λ f. stored_step (asked_step entries f)) entries e (a ∷ b ∷ []) (entry_of-own entries n e found).1 (ap stored_step asked ∙ not_narrow a b wide)
+pub step_among : (entries : List CharacterEntry) (n : ℕ) (a b : ℕ) → step_in entries n ≡ Some (Two a b) → are_narrow a b ≡ false → is_among (a ∷ b ∷ []) (step_lists entries) ≡ true
+unfolding step_in step_lists stored_steps
+step_among entries n a b asked wide = by (entry_of entries n) refl asked
+  where
+    by : (o : Option CharacterEntry) → entry_of entries n ≡ o → elim o as (λ _. Option Mapping) [ Some e ↦ asked_step entries e | None ↦ None ] ≡ Some (Two a b) →
+        is_among (a ∷ b ∷ []) (first_come (filter_map (λ f. stored_step (asked_step entries f)) entries)) ≡ true
+    by None found own = cc
+    by (Some e) found own =
+        is_among-first_come (a ∷ b ∷ []) (stored_steps entries)
+        ∙ given_among (λ f. stored_step (asked_step entries f)) entries e (a ∷ b ∷ []) (entry_of-own entries n e found).1 (ap stored_step own ∙ not_narrow a b wide)
 
 -- a number that is no character has no step
-asked_none : (entries : List CharacterEntry) (e : CharacterEntry) → 0xD800 ≤ e.character → e.character ≤ 0xDFFF → asked_step entries e ≡ None
+asked_none : (entries : List CharacterEntry) (e : CharacterEntry) → e.character < code_points → OutOfScalarRange e.character → asked_step entries e ≡ None
 unfolding asked_step asks_supplement
-asked_none entries e low high = let is = surrogate_spelled (class_in entries) e.character (Some e.canonical) low high in grind arith
+asked_none entries e within out = let is = surrogate_spelled (class_in entries) e.character (Some e.canonical) within out in grind arith
 
-surrogate_step : (entries : List CharacterEntry) (n : ℕ) → 0xD800 ≤ n → n ≤ 0xDFFF → step_in entries n ≡ None
-unfolding step_in
-surrogate_step entries n low high = by (entry_of entries n) refl
+pub no_step : (entries : List CharacterEntry) (n : ℕ) → n < code_points → OutOfScalarRange n → 0 ≡ word_of_step (step_lists entries) (step_in entries n)
+unfolding step_in word_of_step
+no_step entries n within out = sym (ap (word_of_step (step_lists entries)) (by (entry_of entries n) refl))
   where
     by : (o : Option CharacterEntry) → entry_of entries n ≡ o → elim o as (λ _. Option Mapping) [ Some e ↦ asked_step entries e | None ↦ None ] ≡ None
     by None found = refl
-    by (Some e) found = let own = entry_of-own entries n e found in asked_none entries e (omega (arith, own.0)) (omega (arith, own.0))
-
-pub no_step : (entries : List CharacterEntry) (n : ℕ) → n < code_points → OutOfScalarRange n → 0 ≡ word_of_step (step_lists entries) (step_in entries n)
-unfolding word_of_step
-no_step entries n within out = elim out as (λ _. 0 ≡ word_of_step (step_lists entries) (step_in entries n)) [
-  | inl surrogate ↦ sym (ap (word_of_step (step_lists entries)) (surrogate_step entries n (omega arith) (omega arith)))
-  | inr past ↦ (let below = below_all n within in absurd (omega arith))
-]
+    by (Some e) found = let same = (entry_of-own entries n e found).0 in asked_none entries e (rw same within) (rw same out)
 
 -- one more list
 pub Holds-more : (lists : List (List ℕ)) (i : ℕ) (old new : Store) → i < length lists → Holds (first_come (take i lists)) old → HoldsMore old (get_or lists i []) new →

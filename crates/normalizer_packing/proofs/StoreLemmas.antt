@@ -1,5 +1,5 @@
 -- What a store holds, list by list.
-use Rattle.std.proofs.Common.{◌≡◌, ℕ, ◌+◌, ◌<◌, ◌≤◌, true, false, not, List, [], ◌∷◌, ◌++◌, length, take, get_or, Some, None, cond, if◌then◌else◌, nat_le, refl, arith, ap}
+use Rattle.std.proofs.Common.{◌≡◌, ℕ, ◌+◌, ◌<◌, ◌≤◌, Bool, true, false, List, [], ◌∷◌, ◌++◌, length, take, get_or, Some, None, cond, if◌then◌else◌, nat_le, refl, arith, ap}
 use Rattle.std.proofs.Common.{sym, subst, ◌∙◌}
 use Rattle.std.specs.List.{filter_map}
 use Rattle.std.proofs.lemmas.Bool.{and_parts, leb-true}
@@ -19,12 +19,8 @@ use Rattle.std.specs.Ordering.{nat_cmp}
 use Rattle.std.specs.Option.{is_some}
 use Rattle.std.proofs.lemmas.Map.Text.{btree_map_updates_str}
 use Rattle.std.proofs.lemmas.List.Elements.{filter_map-append}
-use Rattle.normalizer_packing.proofs.TableLemmas.{apart_from-more, apart_from-there, eq_list, is_among-append, is_among-first_come, is_among-one, items_of-append, place_of-end, place_of-kept}
+use Rattle.normalizer_packing.proofs.TableLemmas.{apart_from-more, eq_list, is_among-append, is_among-first_come, is_among-one, items_of-more, place_of-end, place_of-kept}
 use Rattle.normalizer_packing.proofs.TableLemmas.{same_list}
-
-pub holds_nothing : (s : Store) → tables_in s ≡ record { scalars16 = []; scalars24 = [] } → ((x : List ℕ) → place_in s x ≡ None) → Holds [] s
-unfolding is_among items_of
-holds_nothing s empty nowhere = record { tables = empty; places = nowhere }
 
 module _ (lists : List (List ℕ)) (s : Store) (x : List ℕ) (h : Holds lists s) where
   -- a list that has a place is among them, and has its own
@@ -42,8 +38,9 @@ module _ (lists : List (List ℕ)) (s : Store) (x : List ℕ) (h : Holds lists s
   unfolding with_list
   Holds-there among = rw among h
 
-  module _ (new : Store) (n : ℕ) (fresh : is_among x lists ≡ false) (finds : (y : List ℕ) → place_in new y ≡ cond (list_eq x y) (Some n) (place_in s y))
-      (at_end : n ≡ length (items_of (is_narrow x) lists)) where
+  -- another is put behind those of its table
+  module _ (new : Store) (n : ℕ) (b : Bool) (narrow : is_narrow x ≡ b) (fresh : is_among x lists ≡ false) (finds : (y : List ℕ) → place_in new y ≡ cond (list_eq x y) (Some n) (place_in s y))
+      (at_end : n ≡ length (if b then s.scalars16.items else s.scalars24.items)) where
     place_put : (y : List ℕ) → place_in new y ≡ (if is_among y (lists ++ x ∷ []) then Some (place_of (lists ++ x ∷ []) y) else None)
     place_put y =
         let found = finds y in
@@ -53,22 +50,20 @@ module _ (lists : List (List ℕ)) (s : Store) (x : List ℕ) (h : Holds lists s
         let same = same_list x y in
         let back = same_list y x in
         let equal = eq_list y x in
+        let first = ap (λ (t : Lists). t.scalars16) h.tables in
+        let second = ap (λ (t : Lists). t.scalars24) h.tables in
         let ends = place_of-end lists x fresh in
         let kept = place_of-kept lists y x in
         grind arith
 
-    -- another is put behind
-    pub Holds-put : tables_in new ≡ tables_of (lists ++ x ∷ []) → Holds (with_list lists x) new
+    pub Holds-put : new.scalars16.items ≡ s.scalars16.items ++ (if b then x else []) → new.scalars24.items ≡ s.scalars24.items ++ (if b then [] else x) → Holds (with_list lists x) new
     unfolding with_list
-    Holds-put tables = rw fresh (record { tables = tables; places = place_put })
-
--- tables with one more list
-pub tables_put : (lists : List (List ℕ)) (t u : Lists) (x : List ℕ) → t ≡ tables_of lists → u.scalars16 ≡ t.scalars16 ++ (if is_narrow x then x else []) →
-    u.scalars24 ≡ t.scalars24 ++ (if not (is_narrow x) then x else []) → u ≡ tables_of (lists ++ x ∷ [])
-tables_put lists t u x same narrow wide =
-    let first : u.scalars16 ≡ items_of true (lists ++ x ∷ []) = narrow ∙ ap (λ (v : Lists). v.scalars16 ++ (if is_narrow x then x else [])) same ∙ sym (items_of-append true lists x) in
-    let second : u.scalars24 ≡ items_of false (lists ++ x ∷ []) = wide ∙ ap (λ (v : Lists). v.scalars24 ++ (if not (is_narrow x) then x else [])) same ∙ sym (items_of-append false lists x) in
-    λ i. record { scalars16 = first i; scalars24 = second i }
+    Holds-put narrow_items wide_items =
+        let first = ap (λ (t : Lists). t.scalars16) h.tables in
+        let second = ap (λ (t : Lists). t.scalars24) h.tables in
+        let narrow_table : new.scalars16.items ≡ items_of true (lists ++ x ∷ []) = let more = items_of-more true lists x in grind arith in
+        let wide_table : new.scalars24.items ≡ items_of false (lists ++ x ∷ []) = let more = items_of-more false lists x in grind arith in
+        rw fresh (record { tables = λ i. record { scalars16 = narrow_table i; scalars24 = wide_table i }; places = place_put })
 
 -- the lists of the first entries
 unfoldable pub listed_so_far : Kind → List CharacterEntry → ℕ → List (List ℕ)
@@ -111,10 +106,10 @@ module _ (before lists : List (List ℕ)) (first s : Store) (x : List ℕ) (held
 
   -- the store before holds a list, and so this one needn't
   pub HoldsLists-there : is_some (place_in first x) ≡ true → Holds (apart_from before (first_come (lists ++ x ∷ []))) s
-  HoldsLists-there some = subst (λ (l : List (List ℕ)). Holds l s) (sym (apart_from-there before lists x (sym among_before ∙ some))) h
+  HoldsLists-there some = rw (apart_from-more before lists x, sym among_before ∙ some) h
 
   pub HoldsLists-more : (new : Store) → is_some (place_in first x) ≡ false → HoldsMore s x new → Holds (apart_from before (first_come (lists ++ x ∷ []))) new
-  HoldsLists-more new none more = subst (λ (l : List (List ℕ)). Holds l new) (sym (apart_from-more before lists x (sym among_before ∙ none))) (more (apart_from before (first_come lists)) h)
+  HoldsLists-more new none more = rw (apart_from-more before lists x, sym among_before ∙ none) (more (apart_from before (first_come lists)) h)
 
 pub narrow_length : (x : List ℕ) → is_narrow x ≡ true → 2 ≤ length x
 unfolding is_narrow

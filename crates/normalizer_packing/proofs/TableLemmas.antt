@@ -1,7 +1,8 @@
 -- Lists in the order in which they first come, and their places in tables.
-use Rattle.std.proofs.Common.{◌≡◌, ℕ, ◌+◌, Bool, true, false, not, ◌&&◌, ◌||◌, List, [], ◌∷◌, ◌++◌, length, Some, if◌then◌else◌, refl, arith, ap, sym, ◌∙◌}
+use Rattle.std.proofs.Common.{◌≡◌, ℕ, Bool, true, false, not, ◌&&◌, ◌||◌, List, [], ◌∷◌, ◌++◌, length, Some, if◌then◌else◌, refl, arith, ap, sym, ◌∙◌, inl, inr}
 use Rattle.std.proofs.Common.{length-append}
-use Rattle.std.specs.List.{before_first, concat, filter}
+use Rattle.std.specs.List.{before_first, concat, filter, list_any}
+use Rattle.std.proofs.lemmas.Bool.{cases_Bool}
 use Rattle.std.proofs.lemmas.Bool.Decides.{nat_tests}
 use Rattle.std.proofs.lemmas.List.{append-nil, take-append-le}
 use Rattle.std.proofs.lemmas.List.Elements.{filter-append}
@@ -37,13 +38,7 @@ is_among-filter p x lists = any-filter_same (list_eq x) p (p x) (λ y same. ap p
 pub is_among-first_come : (x : List ℕ) (lists : List (List ℕ)) → is_among x (first_come lists) ≡ is_among x lists
 unfolding first_come is_among
 is_among-first_come x [] = refl
-is_among-first_come x (y ∷ lists) =
-    ap (λ b. list_eq x y || b) (is_among-filter (λ z. not (list_eq z y)) x (first_come lists) ∙ ap (λ b. not (list_eq x y) && b) (is_among-first_come x lists))
-    ∙ either (list_eq x y) (is_among x lists)
-  where
-    either : (a b : Bool) → (a || (not a && b)) ≡ (a || b)
-    either true b = refl
-    either false b = refl
+is_among-first_come x (y ∷ lists) = let kept = is_among-filter (λ z. not (list_eq z y)) x (first_come lists) in let rest = is_among-first_come x lists in grind arith
 
 -- what a filter keeps of lists with one more
 filter-with_list : (p : List ℕ → Bool) (lists : List (List ℕ)) (x : List ℕ) → filter p (with_list lists x) ≡ (if p x then with_list (filter p lists) x else filter p lists)
@@ -64,15 +59,11 @@ first_come-append (y ∷ lists) x =
     ∙ ap (λ l. y ∷ l) (filter-with_list (λ z. not (list_eq z y)) (first_come lists) x)
     ∙ with_list-behind x y (filter (λ z. not (list_eq z y)) (first_come lists))
 
-module _ (before lists : List (List ℕ)) (x : List ℕ) where
-  -- unless it stands among those before
-  pub apart_from-there : is_among x before ≡ true → apart_from before (first_come (lists ++ x ∷ [])) ≡ apart_from before (first_come lists)
-  unfolding apart_from
-  apart_from-there there = ap (filter (λ y. not (is_among y before))) (first_come-append lists x) ∙ filter-with_list (λ y. not (is_among y before)) (first_come lists) x ∙ rw there refl
-
-  pub apart_from-more : is_among x before ≡ false → apart_from before (first_come (lists ++ x ∷ [])) ≡ with_list (apart_from before (first_come lists)) x
-  unfolding apart_from
-  apart_from-more new = ap (filter (λ y. not (is_among y before))) (first_come-append lists x) ∙ filter-with_list (λ y. not (is_among y before)) (first_come lists) x ∙ rw new refl
+-- unless it stands among those before
+pub apart_from-more : (before lists : List (List ℕ)) (x : List ℕ) → apart_from before (first_come (lists ++ x ∷ [])) ≡
+    (if not (is_among x before) then with_list (apart_from before (first_come lists)) x else apart_from before (first_come lists))
+unfolding apart_from
+apart_from-more before lists x = ap (filter (λ y. not (is_among y before))) (first_come-append lists x) ∙ filter-with_list (λ y. not (is_among y before)) (first_come lists) x
 
 pub apart_from-none : (lists : List (List ℕ)) → apart_from [] lists ≡ lists
 unfolding apart_from is_among
@@ -84,66 +75,53 @@ pub is_among-apart : (before lists : List (List ℕ)) (x : List ℕ) → is_amon
 unfolding apart_from
 is_among-apart before lists x new = is_among-filter (λ y. not (is_among y before)) x (first_come lists) ∙ rw new (is_among-first_come x lists)
 
--- the items of one more list
-pub items_of-append : (narrow : Bool) (lists : List (List ℕ)) (x : List ℕ) → items_of narrow (lists ++ x ∷ []) ≡ items_of narrow lists ++ (if stands_in narrow x then x else [])
+items_of-append : (narrow : Bool) (lists more : List (List ℕ)) → items_of narrow (lists ++ more) ≡ items_of narrow lists ++ items_of narrow more
 unfolding items_of
-items_of-append narrow lists x =
-    ap concat (filter-append (stands_in narrow) lists (x ∷ [])) ∙ concat-append (filter (stands_in narrow) lists) (filter (stands_in narrow) (x ∷ []))
-    ∙ ap (λ l. concat (filter (stands_in narrow) lists) ++ l) (elim (stands_in narrow x) as (λ b. concat (if b then x ∷ [] else []) ≡ (if b then x else [])) [ true ↦ append-nil x | false ↦ refl ])
+items_of-append narrow lists more = ap concat (filter-append (stands_in narrow) lists more) ∙ concat-append (filter (stands_in narrow) lists) (filter (stands_in narrow) more)
 
-items_of-cons : (narrow : Bool) (x : List ℕ) (lists : List (List ℕ)) → items_of narrow (x ∷ lists) ≡ (if stands_in narrow x then x else []) ++ items_of narrow lists
+-- the items of one more list
+pub items_of-more : (narrow : Bool) (lists : List (List ℕ)) (x : List ℕ) → items_of narrow (lists ++ x ∷ []) ≡ items_of narrow lists ++ (if stands_in narrow x then x else [])
 unfolding items_of
-items_of-cons narrow x lists = grind arith
+items_of-more narrow lists x = let both = items_of-append narrow lists (x ∷ []) in let whole = append-nil x in grind arith
 
 before_first-cons : (p : List ℕ → Bool) (y : List ℕ) (lists : List (List ℕ)) → before_first p (y ∷ lists) ≡ (if p y then [] else y ∷ before_first p lists)
 before_first-cons p y lists = grind arith
 
-place_of-cons : (x y : List ℕ) (lists : List (List ℕ)) → place_of (y ∷ lists) x ≡ (if list_eq x y then 0 else length (if stands_in (is_narrow x) y then y else []) + place_of lists x)
-unfolding place_of items_of
-place_of-cons x y lists =
-    let first = before_first-cons (list_eq x) y lists in
-    let items = items_of-cons (is_narrow x) y (before_first (list_eq x) lists) in
-    let lengths = length-append (if stands_in (is_narrow x) y then y else []) (items_of (is_narrow x) (before_first (list_eq x) lists)) in
-    grind arith
+before_first-append : (p : List ℕ → Bool) (lists more : List (List ℕ)) → before_first p (lists ++ more) ≡ (if list_any p lists then before_first p lists else lists ++ before_first p more)
+before_first-append p [] more = refl
+before_first-append p (y ∷ lists) more = rw (before_first-cons p y (lists ++ more), before_first-cons p y lists, before_first-append p lists more) (grind arith)
 
 -- a list keeps its place when another comes behind
 pub place_of-kept : (lists : List (List ℕ)) (x y : List ℕ) → is_among x lists ≡ true → place_of (lists ++ y ∷ []) x ≡ place_of lists x
-unfolding is_among
-place_of-kept [] x y among = cc
-place_of-kept (z ∷ lists) x y among = let more = place_of-cons x z (lists ++ y ∷ []) in let one = place_of-cons x z lists in let kept = place_of-kept lists x y in grind arith
+unfolding is_among place_of
+place_of-kept lists x y among = rw (before_first-append (list_eq x) lists (y ∷ []), among) refl
 
 -- and one that is put behind stands at the end of its table
 pub place_of-end : (lists : List (List ℕ)) (x : List ℕ) → is_among x lists ≡ false → place_of (lists ++ x ∷ []) x ≡ length (items_of (is_narrow x) lists)
-unfolding is_among items_of
-place_of-end [] x new = place_of-cons x x [] ∙ rw (eq_list x x refl) refl
-place_of-end (z ∷ lists) x new =
-    let more = place_of-cons x z (lists ++ x ∷ []) in
-    let ends = place_of-end lists x in
-    let items = ap length (items_of-cons (is_narrow x) z lists) in
-    let lengths = length-append (if stands_in (is_narrow x) z then z else []) (items_of (is_narrow x) lists) in
-    grind arith
+unfolding is_among place_of
+place_of-end lists x new = rw (before_first-append (list_eq x) lists (x ∷ []), new, eq_list x x refl, append-nil lists) refl
 
--- what stands in a table stands behind others
-items_at-behind : (p t x : List ℕ) (place n : ℕ) → items_at t place n ≡ Some x → items_at (p ++ t) (length p + place) n ≡ Some x
+items_at-middle : (p x t : List ℕ) → items_at (p ++ (x ++ t)) (length p) (length x) ≡ Some x
 unfolding items_at
-items_at-behind p t x place n h = let lengths = length-append p t in let rest = drop-append-add p t place in grind (arith, nat_tests)
+items_at-middle p x t =
+    let lengths = length-append p (x ++ t) in let more = length-append x t in let rest = drop-append-add p (x ++ t) 0 in
+    let first = take-append-le (length x) x t in let whole = take-length x in grind (arith, nat_tests)
 
-items_at-front : (x t : List ℕ) → items_at (x ++ t) 0 (length x) ≡ Some x
-unfolding items_at
-items_at-front x t = let lengths = length-append x t in let first = take-append-le (length x) x t in let whole = take-length x in grind (arith, nat_tests)
-
-own_table : (x : List ℕ) → stands_in (is_narrow x) x ≡ true
-own_table x = grind arith
-
--- a list stands at its place in its table
-pub stands_at_place : (lists : List (List ℕ)) (x : List ℕ) → is_among x lists ≡ true → items_at (items_of (is_narrow x) lists) (place_of lists x) (length x) ≡ Some x
+-- a list stands behind those before the first that is equal
+split_at_list : (lists : List (List ℕ)) (x : List ℕ) → is_among x lists ≡ true → (rest : List (List ℕ)) × (lists ≡ before_first (list_eq x) lists ++ (x ∷ rest))
 unfolding is_among
-stands_at_place [] x among = cc
-stands_at_place (y ∷ lists) x among =
-    elim (list_eq x y) as (λ b. list_eq x y ≡ b → (b || is_among x lists) ≡ true → items_at (items_of (is_narrow x) (y ∷ lists)) (place_of (y ∷ lists) x) (length x) ≡ Some x) [
-      | true ↦ λ same _.
-          rw (items_of-cons (is_narrow x) y lists, place_of-cons x y lists, same, sym (same_list x y same), own_table x) (items_at-front x (items_of (is_narrow x) lists))
-      | false ↦ λ differs later.
-          rw (items_of-cons (is_narrow x) y lists, place_of-cons x y lists, differs)
-          (items_at-behind (if stands_in (is_narrow x) y then y else []) (items_of (is_narrow x) lists) x (place_of lists x) (length x) (stands_at_place lists x later))
-    ] refl among
+split_at_list [] x among = cc
+split_at_list (y ∷ lists) x among = elim (cases_Bool (list_eq x y)) [
+  | inl same ↦ (lists, rw (before_first-cons (list_eq x) y lists, same) (ap (λ z. z ∷ lists) (sym (same_list x y same))))
+  | inr other ↦ (let rest = split_at_list lists x (rw other at among) in (rest.0, rw (before_first-cons (list_eq x) y lists, other) (ap (λ l. y ∷ l) rest.1)))
+]
+
+-- so it stands at its place in its table
+pub stands_at_place : (lists : List (List ℕ)) (x : List ℕ) → is_among x lists ≡ true → items_at (items_of (is_narrow x) lists) (place_of lists x) (length x) ≡ Some x
+unfolding place_of items_of
+stands_at_place lists x among =
+    let split = split_at_list lists x among in
+    let before : List ℕ = items_of (is_narrow x) (before_first (list_eq x) lists) in
+    let own : stands_in (is_narrow x) x ≡ true = grind arith in
+    let table : items_of (is_narrow x) lists ≡ before ++ (x ++ items_of (is_narrow x) split.0) = ap (items_of (is_narrow x)) split.1 ∙ items_of-append (is_narrow x) _ (x ∷ split.0) ∙ rw own refl in
+    rw table (items_at-middle before x (items_of (is_narrow x) split.0))

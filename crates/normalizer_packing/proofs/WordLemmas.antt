@@ -1,6 +1,5 @@
 -- What words say, by how their lists are spelled.
-use Rattle.std.proofs.Common.{◌≡◌, ℕ, zero, suc, Contains, ◌<◌, ◌≤◌, true, List, [], ◌∷◌, Option, Some, None, unwrap_or, Bor, refl, arith, ap, sym, subst, ◌∙◌, inl}
-use Rattle.std.proofs.Common.{inr}
+use Rattle.std.proofs.Common.{◌≡◌, ℕ, zero, suc, Contains, ◌<◌, true, List, [], ◌∷◌, Option, Some, None, unwrap_or, Bor, refl, arith, ap, sym, ◌∙◌}
 use Rattle.std.proofs.lemmas.Bool.{or_left, or_right}
 use Rattle.std.specs.Char.{OutOfScalarRange}
 use Rattle.std.specs.List.{cons_option, filter_map, list_any}
@@ -33,6 +32,9 @@ module _ (kind : Kind) (entries : List CharacterEntry) (pairs : List Pair) (n : 
       IsPackedWord kind entries pairs n w
   listed_packs item w is item_is same flags = record { spelled = rw is (same ∙ ap (pointing_word (class_in entries) (kept_list kind entries n)) item_is); flags = rw is flags }
 
+-- the word of a character packs it
+pub ruleset packed_words = (final_packs, short_packs, listed_packs)
+
 -- what an element gives is among what all give
 pub given_among : (f : CharacterEntry → Option (List ℕ)) (entries : List CharacterEntry) (e : CharacterEntry) (x : List ℕ) → Contains entries e → f e ≡ Some x →
     is_among x (filter_map f entries) ≡ true
@@ -54,64 +56,40 @@ ignored_spelled : (class : ℕ → ℕ) (n : ℕ) → spelling class n None ≡ 
 unfolding spelling spelling_or_ignored
 ignored_spelled class n is = absurd (grind arith)
 
-listed_is_some : (class : ℕ → ℕ) (n : ℕ) (o : Option (List ℕ)) → spelling class n o ≡ Listed → (x : List ℕ) × (o ≡ Some x)
-unfolding spelling spelling_or_ignored
-listed_is_some class n (Some x) is = (x, refl)
-listed_is_some class n None is = absurd (ignored_spelled class n is)
-
-listed_own : (class : ℕ → ℕ) (kind : Kind) (e : CharacterEntry) → spelling class e.character (own_list kind e) ≡ Listed → listed_of class kind e ≡ own_list kind e
+listed_own : (class : ℕ → ℕ) (kind : Kind) (e : CharacterEntry) (x : List ℕ) → own_list kind e ≡ Some x → spelling class e.character (Some x) ≡ Listed → listed_of class kind e ≡ Some x
 unfolding listed_of
-listed_own class kind e is = rw (is, listed_of) refl
+listed_own class kind e x own is = grind arith
 
-module _ (kind : Kind) (entries : List CharacterEntry) (n : ℕ) (is : spelling (class_in entries) n (list_in kind entries n) ≡ Listed) where
-  without_entry : entry_of entries n ≡ None → is_among (kept_list kind entries n) (listed_in entries kind) ≡ true
-  unfolding list_in
-  without_entry none = absurd (alone_spelled (class_in entries) n (rw (none, list_in) at is))
+-- a list that no word spells is one of those of its kind
+pub listed_among : (kind : Kind) (entries : List CharacterEntry) (n : ℕ) → spelling (class_in entries) n (list_in kind entries n) ≡ Listed →
+    is_among (kept_list kind entries n) (listed_in entries kind) ≡ true
+unfolding list_in kept_list listed_in
+listed_among kind entries n is = by (entry_of entries n) refl is
+  where
+    own : (e : CharacterEntry) → entry_of entries n ≡ Some e → (o : Option (List ℕ)) → own_list kind e ≡ o → spelling (class_in entries) n o ≡ Listed →
+        is_among (unwrap_or o []) (filter_map (listed_of (class_in entries) kind) entries) ≡ true
+    own e found None some is = absurd (ignored_spelled (class_in entries) n is)
+    own e found (Some x) some is =
+        let one = entry_of-own entries n e found in
+        given_among (listed_of (class_in entries) kind) entries e x one.1 (listed_own (class_in entries) kind e x some (rw one.0 is))
 
-  with_entry : (e : CharacterEntry) → entry_of entries n ≡ Some e → is_among (kept_list kind entries n) (listed_in entries kind) ≡ true
-  unfolding list_in kept_list listed_in
-  with_entry e found =
-      let own : list_in kind entries n ≡ own_list kind e = rw (found, list_in) refl in
-      let one = entry_of-own entries n e found in
-      let spelled : spelling (class_in entries) n (own_list kind e) ≡ Listed = subst (λ (o : Option (List ℕ)). spelling (class_in entries) n o ≡ Listed) own is in
-      let here : spelling (class_in entries) e.character (own_list kind e) ≡ Listed = subst (λ (m : ℕ). spelling (class_in entries) m (own_list kind e) ≡ Listed) (sym one.0) spelled in
-      let some : (x : List ℕ) × (own_list kind e ≡ Some x) = listed_is_some (class_in entries) n (own_list kind e) spelled in
-      let kept : kept_list kind entries n ≡ some.0 = ap (λ o. unwrap_or o []) (own ∙ some.1) in
-      subst (λ (x : List ℕ). is_among x (listed_in entries kind) ≡ true) (sym kept)
-      (given_among (listed_of (class_in entries) kind) entries e some.0 one.1 (listed_own (class_in entries) kind e here ∙ some.1))
+    by : (o : Option CharacterEntry) → entry_of entries n ≡ o → spelling (class_in entries) n (elim o [ Some e ↦ own_list kind e | None ↦ Some (n ∷ []) ]) ≡ Listed →
+        is_among (unwrap_or (elim o as (λ _. Option (List ℕ)) [ Some e ↦ own_list kind e | None ↦ Some (n ∷ []) ]) []) (filter_map (listed_of (class_in entries) kind) entries) ≡ true
+    by None none is = absurd (alone_spelled (class_in entries) n is)
+    by (Some e) found is = own e found (own_list kind e) refl is
 
-  -- a list that no word spells is one of those of its kind
-  pub listed_among : is_among (kept_list kind entries n) (listed_in entries kind) ≡ true
-  listed_among = elim (entry_of entries n) as (λ o. entry_of entries n ≡ o → is_among (kept_list kind entries n) (listed_in entries kind) ≡ true) [
-    | None ↦ λ none. without_entry none
-    | Some e ↦ λ found. with_entry e found
-  ] refl
-
-pub surrogate_spelled : (class : ℕ → ℕ) (n : ℕ) (list : Option (List ℕ)) → 0xD800 ≤ n → n ≤ 0xDFFF → spelling class n list ≡ Final 0xC000FFFD
-unfolding spelling final_word is_hangul_syllable is_surrogate
-surrogate_spelled class n list low high = grind (arith, nat_tests)
-
-pub below_all : (n : ℕ) → n < code_points → n < 0x110000
-unfolding code_points
-below_all n h = h
+pub surrogate_spelled : (class : ℕ → ℕ) (n : ℕ) (list : Option (List ℕ)) → n < code_points → OutOfScalarRange n → spelling class n list ≡ Final 0xC000FFFD
+unfolding spelling final_word is_hangul_syllable is_surrogate code_points
+surrogate_spelled class n list within out = grind (arith, nat_tests)
 
 -- the word of a number that is no character
 pub surrogate_packs : (kind : Kind) (entries : List CharacterEntry) (pairs : List Pair) (n : ℕ) → n < code_points → OutOfScalarRange n → IsPackedWord kind entries pairs n 0xC000FFFD
-surrogate_packs kind entries pairs n within out = elim out as (λ _. IsPackedWord kind entries pairs n 0xC000FFFD) [
-  | inl surrogate ↦ final_packs kind entries pairs n _ (surrogate_spelled _ n _ (omega arith) (omega arith))
-  | inr past ↦ (let below = below_all n within in absurd (omega arith))
-]
-
--- a list behind a reference, or the empty one
-kept_now : (o : Option (Bor (List ℕ))) (k d : Bor (List ℕ)) (own : Option (List ℕ)) → k ≡ unwrap_or o d → d.now ≡ [] → option_copied o ≡ own → k.now ≡ unwrap_or own []
-kept_now None k d own is empty same = ap (λ r. r.now) is ∙ empty ∙ ap (λ x. unwrap_or x []) same
-kept_now (Some r) k d own is empty same = ap (λ r. r.now) is ∙ ap (λ x. unwrap_or x []) same
+surrogate_packs kind entries pairs n within out = final_packs kind entries pairs n _ (surrogate_spelled _ n _ within out)
 
 -- the same of a list that a look-up has lent
 pub listed_lent : (kind : Kind) (entries : List CharacterEntry) (n : ℕ) (o : Option (Bor (List ℕ))) (k d : Bor (List ℕ)) → k ≡ unwrap_or o d → d.now ≡ [] → option_copied o ≡ list_in kind entries n →
     Listed ≡ spelling (class_in entries) n (option_copied o) → is_among k.now (listed_in entries kind) ≡ true
 unfolding kept_list
 listed_lent kind entries n o k d is empty same spelled =
-    let kept : k.now ≡ kept_list kind entries n = kept_now o k d _ is empty same in
-    let listed : spelling (class_in entries) n (list_in kind entries n) ≡ Listed = subst (λ (l : Option (List ℕ)). spelling (class_in entries) n l ≡ Listed) same (sym spelled) in
-    subst (λ (x : List ℕ). is_among x (listed_in entries kind) ≡ true) (sym kept) (listed_among kind entries n listed)
+    let kept : k.now ≡ kept_list kind entries n = grind arith in
+    let among = listed_among kind entries n (rw same at (sym spelled)) in rw kept among

@@ -54,10 +54,7 @@ impl<'a> Entries<'a> {
     pub fn class_of(&self, character: char) -> u8
         ensures { result ≡ class_in self.now character }
     {
-        match self.entry_of(character) {
-            Some(entry) => entry.class,
-            None => 0,
-        }
+        self.entry_of(character).map_or(0, |entry| entry.class)
     }
 
     /// The list of a character in one kind of data, where `alone` is that of a character without an entry. Nothing
@@ -72,9 +69,7 @@ impl<'a> Entries<'a> {
         requires { alone.now ≡ character ∷ [] }
         ensures { option_copied result ≡ list_in kind self.now character }
     {
-        match self.entry_of(character) {
-            Some(entry) => entry.list(kind),
-            None => Some(alone),
-        }
+        self.entry_of(character)
+            .map_or(Some(alone), |entry| entry.list(kind))
     }
 }

@@ -57,10 +57,7 @@ impl Entry {
         match kind {
             Kind::Canonical => Some(self.canonical.as_slice()),
             Kind::Compatibility => Some(self.compatibility.as_slice()),
-            Kind::Mapper => match &self.mapper {
-                Some(list) => Some(list.as_slice()),
-                None => None,
-            },
+            Kind::Mapper => self.mapper.as_deref(),
         }
     }
 }

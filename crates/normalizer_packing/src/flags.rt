@@ -41,30 +41,21 @@ fn with_flags(word: u32, changes: bool, combines: bool) -> u32
     ensures round_trip { is_non_round_trip result ≡ changes }
     ensures backward { is_backward_combining result ≡ combines }
 {
-    let round_trip = flag_if(changes, NON_ROUND_TRIP);
-    let backward = flag_if(combines, BACKWARD_COMBINING);
+    let round_trip = if changes { NON_ROUND_TRIP } else { 0 };
+    let backward = if combines { BACKWARD_COMBINING } else { 0 };
     word + round_trip + backward
-}
-
-/// A flag where it is set.
-fn flag_if(is_set: bool, flag: u32) -> u32
-    ensures value { result ≡ (if is_set then flag else 0) }
-    ensures bound { result ≤ flag }
-{
-    if is_set { flag } else { 0 }
 }
 
 /// Whether the first of a list is second in no pair.
 pub fn begins_unpaired(compositions: &CanonicalCompositions, list: &[char]) -> bool
     ensures { IsTrue result ↔ BeginsUnpaired compositions.now list.now }
 {
-    match list.first() {
-        Some(&first) => compositions.is_never_second(first),
-        None => true,
-    }
+    list.first()
+        .map_or(true, |first| compositions.is_never_second(*first))
 }
 
 /// Whether a list composes to this character alone: all behind the first join.
+#[tactic(auto, using(normalizer_tables::proofs::CompositionLemmas::compositions, std::proofs::lemmas::Option::slice_get_read))]
 pub fn composes_to(
     entries: &Entries<'_>,
     compositions: &CanonicalCompositions,

@@ -48,10 +48,7 @@ fn all_have_lengths(entries: &Entries<'_>, kind: Kind, items: &[Entry]) -> bool
 fn has_length(entries: &Entries<'_>, kind: Kind, entry: &Entry) -> bool
     ensures { result ≡ has_length_if_any (listed_of (class_in entries.now) kind entry.now) }
 {
-    match listed_of(entries, kind, entry) {
-        Some(list) => has_length_of_word(list),
-        None => true,
-    }
+    listed_of(entries, kind, entry).map_or(true, |list| has_length_of_word(list))
 }
 
 /// Whether a word can tell the length of a list in a table.

@@ -32,10 +32,7 @@ pub fn pack(
 {
     let entries = Entries::new(entries);
     let stores = stores_of(alloc, &entries)?;
-    match packed_with(alloc, entries, pairs, stores) {
-        Ok(packed) => Ok(packed),
-        Err(AllocError) => Err(PackError::Memory),
-    }
+    packed_with(alloc, entries, pairs, stores).map_err(|_| PackError::Memory)
 }
 
 /// The data whose lists stand in these stores.
@@ -91,6 +88,7 @@ fn compositions_of(pairs: Vec<(char, char, char)>) -> Result<CanonicalCompositio
 }
 
 /// One kind of data.
+#[tactic(auto, using(crate::proofs::AlikeWords::packed_alike))]
 fn data_of<'a, 'e>(
     alloc: Global,
     entries: &'a Entries<'e>,

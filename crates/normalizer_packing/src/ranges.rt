@@ -47,7 +47,7 @@ pub fn table_of<W: Words>(
 }
 
 /// Ranges of one word each, one after another, that have all code points: each told character, and all between two.
-#[tactic(auto, unfolding(normalizer_tables::specs::Table::code_points))]
+#[tactic(auto, using(crate::proofs::Tilings::IsStretch_one), unfolding(normalizer_tables::specs::Table::code_points))]
 fn ranges_of<W: Words>(
     alloc: Global,
     words: &W,
@@ -61,31 +61,13 @@ fn ranges_of<W: Words>(
     let mut ranges = Vec::new(alloc);
     let mut from = 0;
     for &character in told {
-        push_up_to(&mut ranges, words, from, character)?;
-        from = character as u32 + 1;
+        let number = character as u32;
+        push_stretch(&mut ranges, words, from, number)?;
+        push_stretch(&mut ranges, words, number, number + 1)?;
+        from = number + 1;
     }
     push_stretch(&mut ranges, words, from, CODE_POINTS)?;
     Ok(ranges)
-}
-
-/// Adds the numbers from one up to before a character, which have the word of the first, and the character.
-#[tactic(auto, unfolding(normalizer_tables::specs::Table::code_points))]
-fn push_up_to<W: Words>(
-    ranges: &mut Vec<(u32, u32, u32)>,
-    words: &W,
-    from: u32,
-    character: char,
-) -> Result<(), AllocError>
-    requires ready { W.is_ready words.now }
-    requires ordered { from ≤ character }
-    requires alike { IsStretch (W.is_word words.now) from character }
-    ensures within { character < code_points }
-    ensures words { IfOk result (λ _. CoverUpTo (W.is_word words.now) ranges.old.items from →
-        CoverUpTo (W.is_word words.now) ranges.new.items (character + 1)) }
-{
-    let number = character as u32;
-    push_stretch(ranges, words, from, number)?;
-    push_stretch(ranges, words, number, number + 1)
 }
 
 /// Adds the numbers from one up to before another, which have the word of the first.

@@ -17,33 +17,20 @@ use normalizer_tables::NonRecursiveDecompositionSupplement;
 use normalizer_tables::word::is_class_form;
 use std::alloc::{AllocError, Global};
 
-/// Whether one step of a character asks the supplement.
-#[tactic(auto, unfolding(crate::specs::Steps::asks_supplement))]
-fn asks_supplement(entries: &Entries<'_>, entry: &Entry) -> bool
-    ensures { result ≡ asks_supplement (class_in entries.now) entry.now }
-{
-    let list = entry.canonical.as_slice();
-    match spell(entries, entry.character, Some(list)) {
-        Spelling::Final(_) => false,
-        Spelling::Short(word) => {
-            !is_class_form(word)
-                && list.len() == 2
-                && '\u{1F71}' <= entry.character
-                && entry.character <= '\u{1FFB}'
-        }
-        Spelling::Listed => entry.character != '\u{212B}' && 2 < list.len(),
-    }
-}
-
 /// The mapping that one step of a character asks the supplement for.
-#[tactic(auto, unfolding(crate::specs::Steps::asked_step))]
+#[tactic(auto, unfolding(crate::specs::Steps::asked_step, crate::specs::Steps::asks_supplement))]
 fn asked_step(entries: &Entries<'_>, entry: &Entry) -> Option<Mapping>
     ensures { result ≡ asked_step entries.now entry.now }
 {
-    if asks_supplement(entries, entry) {
-        entry.mapping
-    } else {
-        None
+    let list = entry.canonical.as_slice();
+    match spell(entries, entry.character, Some(list)) {
+        Spelling::Short(word)
+            if !is_class_form(word)
+                && list.len() == 2
+                && '\u{1F71}' <= entry.character
+                && entry.character <= '\u{1FFB}' => { entry.mapping }
+        Spelling::Listed if entry.character != '\u{212B}' && 2 < list.len() => entry.mapping,
+        _ => None,
     }
 }
 
@@ -61,13 +48,7 @@ fn stored_step(step: Option<Mapping>) -> Option<[char; 2]>
     ensures { result ≡ stored_step step }
 {
     match step {
-        Some(Mapping::Two(first, second)) => {
-            if are_narrow(first, second) {
-                None
-            } else {
-                Some([first, second])
-            }
-        }
+        Some(Mapping::Two(first, second)) if !are_narrow(first, second) => Some([first, second]),
         _ => None,
     }
 }
@@ -85,6 +66,7 @@ fn stored_steps(alloc: Global, entries: &Entries<'_>) -> Result<Vec<[char; 2]>, 
 }
 
 /// The store of lists of two, an equal one once.
+#[tactic(auto, unfolding(crate::specs::Stored::first_come))]
 fn store_of<'s>(alloc: Global, steps: &'s [[char; 2]]) -> Result<Store<'s>, AllocError>
     ensures { IfOk result (Holds (first_come steps.now)) }
 {
@@ -123,43 +105,26 @@ impl Words for StepWords<'_, '_, '_> {
 }
 
 impl StepWords<'_, '_, '_> {
-    #[tactic(auto, unfolding(crate::specs::Steps::step_in, crate::specs::Steps::word_of_step))]
+    /// The step that is asked of a character.
+    #[tactic(auto, unfolding(crate::specs::Steps::step_in))]
+    fn step_of(&self, character: char) -> Option<Mapping>
+        ensures { result ≡ step_in self.now.entries.now character }
+    {
+        asked_step(self.entries, self.entries.entry_of(character)?)
+    }
+
+    #[tactic(auto, using(crate::proofs::StepLemmas::step_among), unfolding(crate::specs::Steps::word_of_step, crate::specs::Steps::are_narrow))]
     fn word_of_character(&self, character: char) -> u32
         requires { Holds (step_lists self.now.entries.now) self.now.store }
         ensures { result ≡ word_of_step (step_lists self.now.entries.now) (step_in self.now.entries.now character) }
     {
-        match self.entries.entry_of(character) {
-            Some(entry) => self.word_of_entry(entry),
-            None => 0,
-        }
-    }
-
-    #[tactic(auto, unfolding(crate::specs::Steps::word_of_step))]
-    fn word_of_entry(&self, entry: &Entry) -> u32
-        requires ready { Holds (step_lists self.now.entries.now) self.now.store }
-        requires held { entry_of self.now.entries.now entry.now.character ≡ Some entry.now }
-        ensures { result ≡ word_of_step (step_lists self.now.entries.now) (asked_step self.now.entries.now entry.now) }
-    {
-        match asked_step(self.entries, entry) {
-            Some(Mapping::One(character)) if character <= '\u{FFFF}' => character as u32,
-            Some(Mapping::One(_)) => 0,
-            Some(Mapping::Two(first, second)) => self.word_of_two(first, second),
-            None => 0,
-        }
-    }
-
-    /// The word of a step to two characters.
-    #[tactic(auto, unfolding(crate::specs::Steps::word_of_step, crate::specs::Steps::are_narrow))]
-    fn word_of_two(&self, first: char, second: char) -> u32
-        requires ready { Holds (step_lists self.now.entries.now) self.now.store }
-        requires stored { are_narrow first second ≡ false →
-            is_among (first ∷ second ∷ []) (step_lists self.now.entries.now) ≡ true }
-        ensures { result ≡ word_of_step (step_lists self.now.entries.now) (Some (Mapping.Two first second)) }
-    {
-        if are_narrow(first, second) {
-            first as u32 + second as u32 * 0x10000
-        } else {
-            self.word_of_stored(first, second)
+        match self.step_of(character) {
+            Some(Mapping::One(member)) if member <= '\u{FFFF}' => member as u32,
+            Some(Mapping::Two(first, second)) if are_narrow(first, second) => {
+                first as u32 + second as u32 * 0x10000
+            }
+            Some(Mapping::Two(first, second)) => self.word_of_stored(first, second),
+            _ => 0,
         }
     }
 
@@ -170,14 +135,8 @@ impl StepWords<'_, '_, '_> {
         ensures { result ≡ word_of_place (place_of (step_lists self.now.entries.now) (first ∷ second ∷ [])) }
     {
         match self.store.place_of(&[first, second]) {
-            Some(place) => {
-                if place <= LAST_PLACE {
-                    (place as u32 + 1) * 0x10000
-                } else {
-                    0
-                }
-            }
-            None => 0,
+            Some(place) if place <= LAST_PLACE => (place as u32 + 1) * 0x10000,
+            _ => 0,
         }
     }
 }
@@ -194,19 +153,7 @@ pub fn supplement_of(
 {
     let steps = stored_steps(alloc, entries)?;
     let store = store_of(alloc, steps.as_slice())?;
-    supplement_in(alloc, StepWords { entries, store }, told)
-}
-
-/// The supplement with these words.
-fn supplement_in(
-    alloc: Global,
-    words: StepWords<'_, '_, '_>,
-    told: &[char],
-) -> Result<NonRecursiveDecompositionSupplement, AllocError>
-    requires held { Holds (step_lists words.entries.now) words.store }
-    requires told { (pairs : List Pair) × ListsTold words.entries.now pairs told.now }
-    ensures { IfOk result (PacksSteps words.entry.entries.now) }
-{
+    let words = StepWords { entries, store };
     let table = table_of(alloc, &words, told)?;
     let StepWords { store, .. } = words;
     let mut scalars24 = store.into_scalars24();

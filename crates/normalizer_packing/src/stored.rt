@@ -22,6 +22,7 @@ pub struct Store<'a> {
 }
 
 impl<'a> Store<'a> {
+    #[tactic(auto, unfolding(crate::specs::inner::Stores::place_in, crate::specs::Stored::items_of, crate::specs::Stored::is_among))]
     pub fn new(alloc: Global) -> Self
         ensures { Holds [] result }
     {
@@ -157,23 +158,10 @@ pub fn put_lists<'a>(
 {
     for entry in entries.as_slice() {
         if let Some(list) = listed_of(entries, kind, entry) {
-            put_behind(before, store, list)?;
+            if before.place_of(list).is_none() {
+                store.put(list)?;
+            }
         }
     }
-    Ok(())
-}
-
-/// Puts a list into a store, if it doesn't stand in the one before.
-fn put_behind<'a>(
-    before: &Store<'_>,
-    store: &mut Store<'a>,
-    list: &'a [char],
-) -> Result<(), AllocError>
-    ensures { OnOk result (HoldsLists before.now store.old (list.now ∷ []) store.new) }
-{
-    if before.place_of(list).is_some() {
-        return Ok(());
-    }
-    store.put(list)?;
     Ok(())
 }

@@ -40,7 +40,7 @@ impl Words for PackedWords<'_, '_> {
 }
 
 impl PackedWords<'_, '_> {
-    #[tactic(auto, using(crate::proofs::WordLemmas::final_packs, crate::proofs::WordLemmas::short_packs, crate::proofs::WordLemmas::listed_packs), unfolding(crate::specs::Entries::kept_list))]
+    #[tactic(auto, using(crate::proofs::WordLemmas::packed_words), unfolding(crate::specs::Entries::kept_list))]
     fn word_of_character(&self, character: char) -> u32
         requires { CanPoint self.now.entries.now self.now.stores.now }
         ensures { IsPackedWord self.now.kind self.now.entries.now self.now.compositions.now character result }
@@ -61,6 +61,7 @@ impl PackedWords<'_, '_> {
     }
 
     /// The item from which on a list stands in the four tables, put one after another.
+    #[tactic(auto, using(crate::proofs::PlaceLemmas::listed_places))]
     fn item_of(&self, list: &[char]) -> u32
         requires ready { CanPoint self.now.entries.now self.now.stores.now }
         requires listed { is_among list.now (listed_in self.now.entries.now self.now.kind) ≡ true }

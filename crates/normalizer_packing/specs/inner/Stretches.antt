@@ -1,26 +1,22 @@
 -- Tables made of stretches of numbers that have one word. What functions of this crate tell one another of them.
-use Rattle.std.specs.Prelude.{◌≡◌, ℕ, ◌+◌, ◌<◌, ◌≤◌, List, [], ◌∷◌, ◌++◌, map, All, Contains}
+use Rattle.std.specs.Prelude.{ℕ, ◌+◌, ◌<◌, ◌≤◌, List, [], ◌∷◌, ◌++◌, map, All, Contains}
 use Rattle.std.specs.List.Sorted.{IsStrictlyIncreasing}
 use Rattle.normalizer_tables.specs.Pairs.{Pair}
-use Rattle.normalizer_tables.specs.Ranges.{WordRange, word_in}
+use Rattle.normalizer_tables.specs.Ranges.{IsRangeList, WordRange, word_in}
 use Rattle.normalizer_packing.specs.Entries.{CharacterEntry}
 
--- the ranges follow one another from a to before b
-unfoldable pub Tiles : List WordRange → ℕ → ℕ → Type 0
-Tiles [] a b = a ≡ b
-Tiles (r ∷ rs) a b = (r.0 ≡ a) × (r.0 ≤ r.1) × Tiles rs (r.1 + 1) b
-
--- ranges one after another that give each number below `end` its word
+-- ranges before `end`, one after another, that give each number there its word
 pub record CoverUpTo (is_word : ℕ → ℕ → Type 0) (rs : List WordRange) (end : ℕ) : Type 0 where
-  pub tiles : Tiles rs 0 end
+  pub list : IsRangeList rs
+  pub before : All (λ r. r.1 < end) rs
   pub words : (n : ℕ) → n < end → is_word n (word_in rs n)
 
 -- the numbers from one up to before another have the word of the first
-abbrev pub IsStretch : (ℕ → ℕ → Type 0) → ℕ → ℕ → Type 0
+unfoldable pub IsStretch : (ℕ → ℕ → Type 0) → ℕ → ℕ → Type 0
 IsStretch is_word from end = (n w : ℕ) → from ≤ n → n < end → is_word from w → is_word n w
 
 -- two neighbours have one word, unless one of them is told
-abbrev pub AreAlike : (ℕ → ℕ → Type 0) → List ℕ → Type 0
+unfoldable pub AreAlike : (ℕ → ℕ → Type 0) → List ℕ → Type 0
 AreAlike is_word told =
     (n w : ℕ) → ¬ Contains told n → ¬ Contains told (n + 1) → is_word n w → is_word (n + 1) w
 
@@ -36,5 +32,5 @@ told_numbers entries pairs = map (λ e. e.character) entries ++ map (λ p. p.0) 
 
 -- they all, in their order
 pub record ListsTold (entries : List CharacterEntry) (pairs : List Pair) (told : List ℕ) : Type 0 where
-  pub all : All (Contains told) (told_numbers entries pairs)
+  pub all : (n : ℕ) → Contains (told_numbers entries pairs) n → Contains told n
   pub rising : IsStrictlyIncreasing told

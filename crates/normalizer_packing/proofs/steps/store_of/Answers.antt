@@ -1,10 +1,5 @@
-use Rattle.normalizer_packing.specs.Stored.{first_come}
 use Rattle.normalizer_packing.proofs.StepLemmas.{Holds-more}
 use Rattle.normalizer_packing.proofs.steps.store_of.Goals as goal
-
-pub loop-step-init : goal.loop-step-init
-unfolding first_come
-loop-step-init c = c.new-store.ensures
 
 pub loop-step-preserved : goal.loop-step-preserved
 loop-step-preserved c = Holds-more _ _ _ _ c.loop-step-test.true c.loop-step.invariant c.in_ok-put.ensures

@@ -1,10 +1,10 @@
-use Rattle.std.proofs.Common.{◌++◌, List, ℕ, subst, sym, append_assoc}
+use Rattle.std.proofs.Common.{◌++◌, List, ℕ, arith, subst, sym, append_assoc}
 use Rattle.std.proofs.lemmas.List.{append-nil}
 use Rattle.normalizer_packing.specs.Stored.{apart_from, first_come}
 use Rattle.normalizer_packing.specs.inner.Stores.{Holds}
-use Rattle.normalizer_packing.proofs.StoreLemmas.{listed_so_far, listed_so_far-none, listed_so_far-more, listed_so_far-all}
+use Rattle.normalizer_packing.proofs.StoreLemmas.{HoldsLists-more, HoldsLists-there, listed_so_far-all, listed_so_far-more, listed_so_far-none}
 use Rattle.normalizer_packing.proofs.stored.put_lists.Goals as goal
-use Rattle.normalizer_packing.proofs.stored.put_lists.Goals.{in-Some+in_ok-put_behind, in_default}
+use Rattle.normalizer_packing.proofs.stored.put_lists.Goals.{in-Some+then-is_none+in_ok-put, in-Some+else-is_none, in_default}
 
 pub loop-entry-init : goal.loop-entry-init
 loop-entry-init c = λ before lists first h. rw (listed_so_far-none c.args.kind c.args.entries.now, append-nil lists) h
@@ -14,9 +14,9 @@ loop-entry-preserved c = λ before lists first h.
     let so_far = c.loop-entry.invariant before lists first h in
     let more = listed_so_far-more c.args.kind c.args.entries.now _ c.loop-entry.entry-index c.as_slice-entry-items.ensures c.entry-item.result c.loop-entry-test.true c.entry-item.is in
     elim c.match-listed_of.branch [
-      | in-Some+in_ok-put_behind w ↦
-          let put = w.in_ok-put_behind.ensures before (lists ++ listed_so_far c.args.kind c.args.entries.now c.loop-entry.entry-index) first so_far in
-          rw (w.store-is, more, sym w.in-Some.ensures) (subst (λ (l : List (List ℕ)). Holds (apart_from before (first_come l)) w.put_behind.new.store) (append_assoc lists _ _) put)
+      | in-Some+then-is_none+in_ok-put w ↦
+          rw (w.store-is, more, sym w.in-Some.ensures, ← append_assoc) (HoldsLists-more before _ _ _ _ first so_far _ (grind arith) w.in_ok-put.ensures)
+      | in-Some+else-is_none w ↦ rw (w.store-is, more, sym w.in-Some.ensures, ← append_assoc) (HoldsLists-there before _ _ _ _ first so_far (grind arith))
       | in_default w ↦ rw (w.store-is, more, sym w.in_default.ensures, append-nil) so_far
     ]
 

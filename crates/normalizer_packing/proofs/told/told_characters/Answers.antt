@@ -1,6 +1,5 @@
-use Rattle.std.proofs.Common.{ℕ, nat_eq, List, Contains, subst}
+use Rattle.std.proofs.Common.{ℕ, nat_eq, List, subst}
 use Rattle.std.specs.List.Sorted.{IsPermutation}
-use Rattle.std.proofs.lemmas.List.Elements.{All-weaker, All-contains_itself}
 use Rattle.std.proofs.lemmas.List.Filters.{dedup_is}
 use Rattle.std.proofs.lemmas.List.Kept.{Contains-dedup_nat}
 use Rattle.std.proofs.lemmas.List.Sorted.{Contains-permutation}
@@ -16,6 +15,6 @@ returns c =
     let moved : IsPermutation all sorted = subst (λ (x : List ℕ). IsPermutation x sorted) c.in_ok-told.ensures c.sort_unstable.ensures.permutation in
     let kept = dedup_is nat_eq sorted _ c.dedup.ensures.filtered in
     record {
-      all = rw kept (All-weaker (Contains all) _ (λ n h. Contains-dedup_nat sorted n (Contains-permutation all sorted n moved h)) all (All-contains_itself all));
+      all = λ n there. rw kept (Contains-dedup_nat sorted n (Contains-permutation all sorted n moved there));
       rising = rw kept (IsStrictlyIncreasing-dedup sorted c.sort_unstable.ensures.sorted);
     }

@@ -1,6 +1,7 @@
-use Rattle.std.proofs.Common.{rules, nat_lt, sym, ap, ◌∙◌}
+use Rattle.std.proofs.Common.{arith, rules, nat_lt, sym, ap, ◌∙◌}
+use Rattle.std.proofs.lemmas.List.{get_or_read}
 use Rattle.std.proofs.lemmas.List.Sorted.{IsPartitionPoint-from_clause}
-use Rattle.normalizer_packing.proofs.EntryLemmas.{IsPartitionedBy-character, entry_of-found, entry_of-gap, entry_of-above}
+use Rattle.normalizer_packing.proofs.EntryLemmas.{IsPartitionedBy-character, entry_of-found, entry_of-none}
 use Rattle.normalizer_packing.proofs.entries.Entries.entry_of.Goals as goal
 use Rattle.normalizer_packing.proofs.entries.Entries.entry_of.Goals.{in_default-via-in-Some+else-entry-character, in_default-via-in_default}
 
@@ -15,9 +16,8 @@ pub returns-in_default : goal.returns-in_default
 returns-in_default c =
     let parted = IsPartitionedBy-character c.self.inside.entries.now c.args.character c.self.invariant in
     let point = IsPartitionPoint-from_clause (λ e. nat_lt e.character c.args.character) _ _ c.partition_point-at.ensures.partitioned parted (λ a r q k. search rules) in
-    elim c.in_default.branch [
-      | in_default-via-in-Some+else-entry-character w ↦ rw (← c.self.view_is)
-          (sym (entry_of-gap _ _ _ c.self.invariant point w.in-Some.entry.now w.in-Some.ensures.lookup.3.0 w.in-Some.ensures.lookup.1
-          (λ same. w.if-entry-character.false (ap (λ e. e.character) w.entry.view_is ∙ same))))
-      | in_default-via-in_default w ↦ rw (← c.self.view_is) (sym (entry_of-above _ _ _ c.self.invariant point (rw w.in_default.is at c.get.ensures.lookup.3)))
-    ]
+    rw (← c.self.view_is) (sym (entry_of-none _ _ _ c.self.invariant point (elim c.in_default.branch [
+      | in_default-via-in-Some+else-entry-character w ↦ λ d within same. w.if-entry-character.false
+          (ap (λ e. e.character) (w.entry.view_is ∙ get_or_read c.self.inside.entries.now _ _ within w.in-Some.ensures.lookup.1 d) ∙ same)
+      | in_default-via-in_default w ↦ λ d within same. omega (arith, rw w.in_default.is at c.get.ensures.lookup.3)
+    ])))
