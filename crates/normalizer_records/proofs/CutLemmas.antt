@@ -1,12 +1,13 @@
 -- What is asked of a list may be asked of what stands for it.
-use Rattle.std.proofs.Common.{◌≡◌, ℕ, zero, suc, ◌<◌, ◌≤◌, ◌⊎◌, ◌↔◌, Bool, true, false, nat_lt, ◌&&◌, List, [], ◌∷◌, length, take, refl, Option, Some, None}
-use Rattle.std.proofs.Common.{IfSome, IsSomeAnd, inl, inr, sym, ap, subst, ◌∙◌, arith, rules, if◌then◌else◌}
+use Rattle.std.proofs.Common.{◌≡◌, ℕ, ◌<◌, ◌≤◌, ◌⊎◌, ◌↔◌, Bool, true, nat_lt, List, [], ◌∷◌, length, take, refl, Option, Some, None}
+use Rattle.std.proofs.Common.{IfSome, IsSomeAnd, inl, inr, sym, ap, subst, ◌∙◌, arith}
 use Rattle.std.proofs.lemmas.Bool.{cases_lt}
 use Rattle.std.proofs.lemmas.Bool.Decides.{nat_tests}
+use Rattle.std.proofs.lemmas.Grind.{common_steps}
 use Rattle.std.proofs.lemmas.List.{take_all, length-take}
 use Rattle.normal_forms.specs.Order.{is_reorderable, insert, order}
 use Rattle.normal_forms.proofs.OrderLemmas.{length-order}
-use Rattle.normalizer_tables.specs.SpecialLists.{FixedList, fixed, fixed_list_of, fdfa_list}
+use Rattle.normalizer_tables.specs.SpecialLists.{fixed_list_of, fdfa_list}
 use Rattle.normalizer_records.specs.Entry.{Entry}
 use Rattle.normalizer_records.specs.Meaning.{class_of, recorded_classes}
 use Rattle.normalizer_records.specs.Faults.{begins_with_mark, IsFreeForm, IsTooLong}
@@ -16,12 +17,10 @@ module _ (records : List Entry) where
   begins-insert : (c : ℕ) (y : List ℕ) → begins_with_mark records (insert (recorded_classes records) c y) ≡ nat_lt 0 (class_of records c)
   unfolding insert is_reorderable
   begins-insert c [] = refl
-  begins-insert c (e ∷ v) =
-      elim (nat_lt 0 (class_of records e) && nat_lt (class_of records e) (class_of records c)) as (λ b. (nat_lt 0 (class_of records e) && nat_lt (class_of records e) (class_of records c)) ≡ b →
-      begins_with_mark records (if b then e ∷ insert (recorded_classes records) c v else c ∷ e ∷ v) ≡ nat_lt 0 (class_of records c)) [
-        | true ↦ λ passes. grind (arith, nat_tests)
-        | false ↦ λ stays. refl
-      ] refl
+  begins-insert c (e ∷ v) = grind (arith, nat_tests)
+
+  begins-take : (n : ℕ) (x : List ℕ) → 0 < n → begins_with_mark records (take n x) ≡ begins_with_mark records x
+  begins-take n x h = grind (arith, common_steps)
 
   -- a list put in order begins with a mark exactly where it did
   pub begins-order : (x : List ℕ) → begins_with_mark records (order (recorded_classes records) x) ≡ begins_with_mark records x
@@ -29,28 +28,13 @@ module _ (records : List Entry) where
   begins-order [] = refl
   begins-order (c ∷ w) = begins-insert c (order (recorded_classes records) w)
 
-  begins-take : (n : ℕ) (x : List ℕ) → 0 < n → begins_with_mark records (take n x) ≡ begins_with_mark records x
-  begins-take zero x h = absurd (omega arith)
-  begins-take (suc n) [] h = refl
-  begins-take (suc n) (c ∷ x) h = refl
-
-IsShortFixed : Option FixedList → Type 0
-IsShortFixed None = Unit {0}
-IsShortFixed (Some f) = length f.list ≤ 2
-
-if-short : (b : Bool) (x : List ℕ) (k : ℕ) (ks : List ℕ) (o : Option FixedList) → length x ≤ 2 → IsShortFixed o → IsShortFixed (if b then fixed x k ks else o)
-unfolding IsShortFixed
-if-short true x k ks o h rest = h
-if-short false x k ks o h rest = rest
-
-fixed_list_of-short : (n : ℕ) → IsShortFixed (fixed_list_of n)
-unfolding fixed_list_of IsShortFixed
-fixed_list_of-short n = search (rules, if-short) depth 60
+fixed_list_of-short : (n : ℕ) → IfSome (fixed_list_of n) (λ f. length f.list ≤ 2)
+unfolding fixed_list_of
+fixed_list_of-short n = grind arith
 
 -- a long list is neither the character alone nor its fixed one
 IsFreeForm-long : (records : List Entry) (c : ℕ) (list : List ℕ) → 18 < length list → IsFreeForm records c list
-unfolding IsShortFixed
-IsFreeForm-long records c list h = (λ same. let one = ap length same in omega arith, λ form. let short : length list ≤ 2 = subst IsShortFixed form (fixed_list_of-short c) in omega arith)
+IsFreeForm-long records c list h = (λ same. let one = ap length same in omega arith, λ form. let short = rw form at (fixed_list_of-short c) in omega arith)
 
 IsTooLong-long : (list : List ℕ) → 18 < length list → IsTooLong list
 unfolding fdfa_list

@@ -2,12 +2,9 @@ pub mod ChainLemmas
 pub mod CutLemmas
 pub mod ExpansionLemmas
 pub mod LookupLemmas
-pub mod MeasureLemmas
 pub mod OrLemmas
 pub mod PairFaultLemmas
 pub mod RefusalLemmas
 pub mod ReplacedLemmas
-pub mod StepLemmas
 pub mod SyllableLemmas
 pub mod UnrecordedLemmas
-pub mod WalkLemmas

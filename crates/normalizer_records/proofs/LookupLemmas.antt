@@ -1,7 +1,6 @@
 -- Look-ups in a list that rises.
 use Rattle.std.proofs.Common.{◌≡◌, ◌≢◌, ℕ, zero, suc, ◌+◌, ◌<◌, ◌≤◌, ◌⊎◌, ◌==◌, ◌↔◌, nat_lt, Bool, true, false, List, [], ◌∷◌, length, get_or, refl, Some, None, AllPairs, find, inl, inr}
-use Rattle.std.proofs.Common.{sym, ap, ◌∙◌, arith, IsTrue, Result, Ok, Err, MatchOption}
-use Rattle.std.specs.Result.{result_ok}
+use Rattle.std.proofs.Common.{sym, ap, ◌∙◌, arith, IsTrue, Ok, Err}
 use Rattle.normalizer_records.specs.inner.Lookup.{Stands}
 use Rattle.std.proofs.lemmas.Bool.{cases_eq, cases_lt}
 use Rattle.std.proofs.lemmas.Bool.Decides.{nat_tests}
@@ -12,21 +11,29 @@ use Rattle.std.specs.List.Sorted.{IsBinarySearchResult, IsNonDecreasingBy, IsSea
 use Rattle.std.specs.Ordering.{nat_cmp, ordering_index}
 
 module _ {X : Type 0} (key : X → ℕ) where
-  find-none : (xs : List X) (c : ℕ) → ((k : ℕ) (d : X) → k < length xs → key (get_or xs k d) ≢ c) → find (λ y. key y == c) xs ≡ None
-  find-none [] c others = refl
-  find-none (x ∷ xs) c others =
-      let other = others 0 x (omega arith) in
-      let off : (key x == c) ≡ false = grind (arith, nat_tests) in
-      rw off (find-none xs c (λ k d inside. others (suc k) d (omega arith)))
-
   -- the element of this key is found
   find-at : (xs : List X) → AllPairs (λ r s. key r < key s) xs → (c i : ℕ) (d : X) → i < length xs → key (get_or xs i d) ≡ c → find (λ y. key y == c) xs ≡ Some (get_or xs i d)
   find-at [] rising c i d inside same = absurd (omega arith)
-  find-at (x ∷ xs) rising c zero d inside same = let on : (key x == c) ≡ true = grind (arith, nat_tests) in rw on refl
-  find-at (x ∷ xs) rising c (suc i) d inside same =
-      let below = rising 0 (suc i) d (omega arith) inside in
-      let off : (key x == c) ≡ false = grind (arith, nat_tests) in
-      rw off (find-at xs (λ k j e less within. rising (suc k) (suc j) e (omega arith) (omega arith)) c i d (omega arith) same)
+  find-at (x ∷ xs) rising c zero d inside same = grind (arith, nat_tests)
+  find-at (x ∷ xs) rising c (suc i) d inside same = grind (
+    arith,
+    nat_tests,
+    rising 0 (suc i) d (omega arith) inside,
+    find-at xs (λ k j e less within. rising (suc k) (suc j) e (omega arith) (omega arith)) c i d (omega arith) same,
+  )
+
+  find-none : (xs : List X) (c : ℕ) → ((k : ℕ) (d : X) → k < length xs → key (get_or xs k d) ≢ c) → find (λ y. key y == c) xs ≡ None
+  find-none [] c others = refl
+  find-none (x ∷ xs) c others = grind (arith, nat_tests, others 0 x (omega arith), find-none xs c (λ k d inside. others (suc k) d (omega arith)))
+
+  -- each element before the next
+  rising_from_adjacent : (xs : List X) → AllAdjacentBelow (λ p q. true ≡ nat_lt (key p) (key q)) xs (length xs) → AllPairs (λ r s. key r < key s) xs
+  rising_from_adjacent xs adjacent i j d below within = grind (
+    arith,
+    nat_tests,
+    adjacent i d (omega arith),
+    IsNonDecreasingBy-from_all_adjacent key xs (λ k e inside. let lt = adjacent k e inside in grind (arith, nat_tests)) (i + 1) j d (omega arith) within,
+  )
 
   pub find-found : (xs : List X) → AllPairs (λ r s. key r < key s) xs → (c i : ℕ) (x : X) → Stands key xs c i → x ≡ get_or xs i x → find (λ y. key y == c) xs ≡ Some x
   find-found xs rising c i x at is = find-at xs rising c i x at.within (at.there x) ∙ ap (λ y. Some y) (sym is)
@@ -45,10 +52,14 @@ module _ {X : Type 0} (key : X → ℕ) where
   ]
 
   -- what a search by halving answers
-  pub searched : (xs : List X) → AllPairs (λ r s. key r < key s) xs → (c : ℕ) (r : Result ℕ ℕ) → IsSearchInRange r (length xs) → IsBinarySearchResult (λ y. nat_cmp (key y) c) xs r →
-      MatchOption (result_ok r) (find (λ y. key y == c) xs ≡ None) (Stands key xs c)
-  searched xs rising c (Ok i) inside equal = record { within = inside; there = λ d. ranked _ c _ (sym (equal d)) }
-  searched xs rising c (Err i) inside parted = find-none xs c others
+  pub found : (xs : List X) → AllPairs (λ r s. key r < key s) xs → (c i : ℕ) (x : X) →
+      IsSearchInRange (Ok i) (length xs) → IsBinarySearchResult (λ y. nat_cmp (key y) c) xs (Ok i) → x ≡ get_or xs i x →
+      Some x ≡ find (λ y. key y == c) xs
+  found xs rising c i x inside equal is = sym (find-found xs rising c i x (record { within = inside; there = λ d. ranked _ c _ (sym (equal d)) }) is)
+
+  pub missing : (xs : List X) → AllPairs (λ r s. key r < key s) xs → (c i : ℕ) →
+      IsSearchInRange (Err i) (length xs) → IsBinarySearchResult (λ y. nat_cmp (key y) c) xs (Err i) → None ≡ find (λ y. key y == c) xs
+  missing xs rising c i inside parted = sym (find-none xs c others)
     where
       rise : IsNonDecreasingBy (λ y. ordering_index (nat_cmp (key y) c)) xs
       rise k j d le within =
@@ -60,13 +71,6 @@ module _ {X : Type 0} (key : X → ℕ) where
         | inl below ↦ let less = ranked _ c _ (sym ((parted rise).0 k d (omega arith) below)) in omega arith
         | inr above ↦ let more = ranked _ c _ (sym ((parted rise).1 k d above inside)) in omega arith
       ]
-
--- each element before the next
-rising_from_adjacent : {X : Type 0} (key : X → ℕ) (xs : List X) → AllAdjacentBelow (λ p q. true ≡ nat_lt (key p) (key q)) xs (length xs) → AllPairs (λ r s. key r < key s) xs
-rising_from_adjacent key xs adjacent i j d below within =
-    let next = adjacent i d (omega arith) in
-    let further = IsNonDecreasingBy-from_all_adjacent key xs (λ k e inside. let lt = adjacent k e inside in grind (arith, nat_tests)) (i + 1) j d (omega arith) within in
-    grind (arith, nat_tests)
 
 pub rising-decides : {X : Type 0} (key : X → ℕ) (xs : List X) (r : Bool) → IsAllAdjacentAnswer (λ p q b. b ≡ nat_lt (key p) (key q)) xs r → IsTrue r ↔ AllPairs (λ p q. key p < key q) xs
 rising-decides key xs true h = (λ _. rising_from_adjacent key xs h, λ _. refl)

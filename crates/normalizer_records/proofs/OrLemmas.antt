@@ -1,34 +1,26 @@
 -- Tests of several things.
-use Rattle.std.proofs.Common.{◌≡◌, ℕ, ◌+◌, ◌<◌, ◌⊎◌, ◌↔◌, ◌||◌, Bool, List, [], ◌∷◌, ◌++◌, length, get_or, take, IsTrue, inl, inr, sym, ap, subst, ◌∙◌, arith, Contains}
+use Rattle.std.proofs.Common.{◌≡◌, ℕ, ◌+◌, ◌⊎◌, ◌↔◌, ◌||◌, Bool, List, get_or, IsTrue, inl, inr, sym, ap, subst, ◌∙◌, arith}
 use Rattle.std.proofs.lemmas.Bool.Decides.{Decides-or}
-use Rattle.std.proofs.lemmas.List.{take_more}
-use Rattle.std.proofs.lemmas.List.Elements.{Contains-push, Contains-push_cases, Contains-append_left}
+use Rattle.std.proofs.lemmas.Bool.{cases_eq}
 use Rattle.normalizer_records.specs.inner.Cut.{IsOfSome}
 
 pub iff_trans : (A B C : Type 0) → A ↔ B → B ↔ C → A ↔ C
 iff_trans A B C h k = (λ a. k.0 (h.0 a), λ c. h.1 (k.1 c))
 
 -- one of three, each asked through what stands for it
-pub any_decides : {A A' B B' C C' : Type 0} (u v w any : Bool) → any ≡ (u || (v || w)) → IsTrue u ↔ A → A ↔ A' → IsTrue v ↔ B → B ↔ B' → IsTrue w ↔ C → C ↔ C' → IsTrue any ↔ (A' ⊎ (B' ⊎ C'))
-any_decides u v w any is a a' b b' c c' = rw is (Decides-or u (v || w) (iff_trans _ _ _ a a') (Decides-or v w (iff_trans _ _ _ b b') (iff_trans _ _ _ c c')))
+pub any_decides : {A A' B B' C C' : Type 0} (u v w : Bool) → IsTrue u ↔ A → A ↔ A' → IsTrue v ↔ B → B ↔ B' → IsTrue w ↔ C → C ↔ C' → IsTrue (u || (v || w)) ↔ (A' ⊎ (B' ⊎ C'))
+any_decides u v w a a' b b' c c' = Decides-or u (v || w) (iff_trans _ _ _ a a') (Decides-or v w (iff_trans _ _ _ b b') (iff_trans _ _ _ c c'))
 
--- no character, and one more
-pub IsOfSome-none : (P : ℕ → Type 0) (xs : List ℕ) → IsOfSome P (take 0 xs) → ⊥
-IsOfSome-none P [] h = let within = h.1.1 in omega arith
-IsOfSome-none P (x ∷ xs) h = let within = h.1.1 in omega arith
-
-pub IsOfSome-more : (P : ℕ → Type 0) (xs : List ℕ) (i m : ℕ) → i < length xs → m ≡ get_or xs i 0 → IsOfSome P (take (i + 1) xs) ↔ (IsOfSome P (take i xs) ⊎ P m)
-IsOfSome-more P xs i m within is = (apart, together)
+-- one character more
+pub IsOfSome-more : (P : ℕ → Type 0) (xs : List ℕ) (i m : ℕ) → m ≡ get_or xs i 0 → (b d e : Bool) → e ≡ (d || b) → IsTrue b ↔ IsOfSome P i xs → IsTrue d ↔ P m → IsTrue e ↔ IsOfSome P (i + 1) xs
+IsOfSome-more P xs i m is b d e either h j = rw either (iff_trans _ _ _ (Decides-or d b j h) (together, apart))
   where
-    grown : take (i + 1) xs ≡ take i xs ++ m ∷ []
-    grown = take_more xs i 0 within ∙ ap (λ y. take i xs ++ y ∷ []) (sym is)
+    together : P m ⊎ IsOfSome P i xs → IsOfSome P (i + 1) xs
+    together (inr (k, below, p)) = (k, omega arith, p)
+    together (inl p) = (i, omega arith, subst P is p)
 
-    apart : IsOfSome P (take (i + 1) xs) → IsOfSome P (take i xs) ⊎ P m
-    apart h = elim (Contains-push_cases (take i xs) m h.0 (subst (λ (y : List ℕ). Contains y h.0) grown h.1)) as (λ _. IsOfSome P (take i xs) ⊎ P m) [
-      | inl before ↦ inl (h.0, before, h.2)
-      | inr last ↦ inr (subst P (sym last) h.2)
+    apart : IsOfSome P (i + 1) xs → P m ⊎ IsOfSome P i xs
+    apart (k, below, p) = elim (cases_eq k i) as (λ _. P m ⊎ IsOfSome P i xs) [
+      | inl last ↦ inl (subst P (ap (λ n. get_or xs n 0) last ∙ sym is) p)
+      | inr before ↦ inr (k, omega arith, p)
     ]
-
-    together : IsOfSome P (take i xs) ⊎ P m → IsOfSome P (take (i + 1) xs)
-    together (inl h) = (h.0, subst (λ (y : List ℕ). Contains y h.0) (sym grown) (Contains-append_left (take i xs) (m ∷ []) h.0 h.1), h.2)
-    together (inr p) = (m, subst (λ (y : List ℕ). Contains y m) (sym grown) (Contains-push (take i xs) m), p)

@@ -1,53 +1,38 @@
 -- Two records give the same pair exactly where the sorted pairs don't strictly rise.
-use Rattle.std.proofs.Common.{◌≡◌, ℕ, ◌+◌, ◌<◌, ◌≤◌, ◌↔◌, ◌==◌, ◌&&◌, not, Bool, true, false, List, length, get_or, refl, sym, ap, ◌∙◌, inl, inr, cond}
-use Rattle.std.proofs.Common.{Less, Equal, nat_cmp, is_lt, IsPermutation, IsSorted, IsTrue, count_by, filter, arith}
-use Rattle.std.proofs.lemmas.Bool.{cases_Bool, cases_order, true≢false}
+use Rattle.std.proofs.Common.{◌≡◌, ℕ, ◌+◌, ◌<◌, ◌↔◌, ◌==◌, ◌&&◌, not, Bool, true, false, List, length, get_or, refl, sym, ◌∙◌, inl, inr, cond}
+use Rattle.std.proofs.Common.{is_lt, IsPermutation, IsSorted, IsTrue, count_by, filter, arith}
+use Rattle.std.proofs.lemmas.Bool.{cases_Bool, true≢false}
 use Rattle.std.proofs.lemmas.Bool.Decides.{nat_tests}
 use Rattle.std.proofs.lemmas.List.Elements.{filter_passes}
 use Rattle.std.proofs.lemmas.List.Kept.{AllPairs-filter}
 use Rattle.std.proofs.lemmas.List.Sorted.{sum_by-IsPermutation}
 use Rattle.std.proofs.lemmas.List.Sums.{count_by_more_yes, length-filter, sum_by-take-le}
-use Rattle.std.proofs.lemmas.Map.Keys.{ge_from_not_lt}
-use Rattle.std.specs.Cmp.{nat_cmp_is}
-use Rattle.std.specs.Ordering.{ordering_then}
+use Rattle.std.proofs.lemmas.Grind.{common_steps}
 use Rattle.std.specs.List.{IsAllAdjacentAnswer}
 use Rattle.normalizer_tables.specs.Pairs.{Pair, is_before, AreRising}
-use Rattle.normalizer_tables.proofs.PairLemmas.{AreRising_from_adjacent}
+use Rattle.normalizer_tables.proofs.PairLemmas.{AreRising-decides, AreRising_from_adjacent}
 use Rattle.normalizer_records.specs.Entry.{Entry}
 use Rattle.normalizer_records.specs.Meaning.{pairs_of}
 use Rattle.normalizer_records.specs.Faults.{HasPairFault}
-use Rattle.normalizer_records.specs.inner.SortedPairs.{by_second_and_first, FallsSomewhere}
+use Rattle.normalizer_records.specs.inner.SortedPairs.{by_second_and_first}
 
 -- the two are the same pair
 abbrev same_as : ℕ → ℕ → Pair → Bool
 same_as first second p = (p.0 == second) && (p.1 == first)
 
-lower_before : (p q : Pair) → p.0 < q.0 → is_before p q.0 q.1 ≡ false → ⊥
-unfolding is_before
-lower_before p q lower stays = grind (arith, nat_tests)
-
 -- neither stands before the other
 tie : (p q : Pair) → is_lt (by_second_and_first q p) ≡ false → is_before p q.0 q.1 ≡ false → (p.0 ≡ q.0) × (p.1 ≡ q.1)
 unfolding is_before
-tie p q behind stays = elim (cases_order p.0 q.0) as (λ _. (p.0 ≡ q.0) × (p.1 ≡ q.1)) [
-  | inl same ↦
-      let equal = ap (λ o. is_lt (ordering_then o (nat_cmp q.1 p.1))) (nat_cmp_is q.0 p.0 Equal (sym same)) in
-      let above = ge_from_not_lt q.1 p.1 (equal ∙ behind) in
-      let below : q.1 ≤ p.1 = grind (arith, nat_tests) in
-      (same, omega arith)
-  | inr (inl lower) ↦ absurd (lower_before p q lower stays)
-  | inr (inr higher) ↦
-      let before = ap (λ o. is_lt (ordering_then o (nat_cmp q.1 p.1))) (nat_cmp_is q.0 p.0 Less higher) in
-      absurd (true≢false (before ∙ behind))
-]
+tie p q behind stays = grind (arith, nat_tests, common_steps)
 
 -- two neighbours that pass
 counts_two : (test : Pair → Bool) (ps : List Pair) (k : ℕ) (d : Pair) → k + 1 < length ps → test (get_or ps k d) ≡ true → test (get_or ps (k + 1) d) ≡ true → 1 < count_by test ps
-counts_two test ps k d within first second =
-    let one = count_by_more_yes test ps k d (omega arith) first in
-    let two = count_by_more_yes test ps (k + 1) d within second in
-    let some = sum_by-take-le (λ p. cond (test p) 1 0) ps (k + 1 + 1) in
-    omega arith
+counts_two test ps k d within first second = omega (
+  arith,
+  count_by_more_yes test ps k d (omega arith) first,
+  count_by_more_yes test ps (k + 1) d within second,
+  sum_by-take-le (λ p. cond (test p) 1 0) ps (k + 1 + 1),
+)
 
 other : (p q : Pair) (first second : ℕ) → is_before p q.0 q.1 ≡ true → same_as first second p ≡ true → same_as first second q ≡ false
 unfolding is_before
@@ -98,11 +83,6 @@ module _ (records : List Entry) (ps : List Pair) (moved : IsPermutation (pairs_o
           | inr stays ↦ absurd (none (neighbours k d within stays))
         ]
 
-    pub decides : (b : Bool) → IsTrue b ↔ AreRising ps → (b ≡ false → FallsSomewhere ps) → IsTrue (not b) ↔ HasPairFault records
-    decides true h falls = (λ passes. absurd (true≢false (sym passes)), λ fault. absurd (HasPairFault-not_rising fault (h.0 refl)))
-    decides false h falls = let at = falls refl in (λ _. neighbours at.0 any_pair at.1 (at.2 any_pair), λ _. refl)
-
--- what the test of neighbours answers
-pub falls_from_answer : (ps : List Pair) (r : Bool) → IsAllAdjacentAnswer (λ p q b. b ≡ is_before p q.0 q.1) ps r → r ≡ false → FallsSomewhere ps
-falls_from_answer ps true h fails = absurd (true≢false fails)
-falls_from_answer ps false h fails = (h.0, h.1, λ d. sym (h.2 d))
+    pub decides : (b : Bool) → IsAllAdjacentAnswer (λ p q b. b ≡ is_before p q.0 q.1) ps b → IsTrue (not b) ↔ HasPairFault records
+    decides true h = (λ passes. cc, λ fault. absurd (HasPairFault-not_rising fault ((AreRising-decides ps true h).0 refl)))
+    decides false h = (λ _. neighbours h.0 any_pair h.1 (sym (h.2 any_pair)), λ _. refl)

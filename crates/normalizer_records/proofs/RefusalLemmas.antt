@@ -1,38 +1,25 @@
 -- The first refusal, one after another.
-use Rattle.std.proofs.Common.{◌≡◌, ℕ, ◌+◌, ◌<◌, ◌↔◌, Bool, true, false, List, [], ◌∷◌, get_or, refl, Option, Some, IsTrue, if◌then◌else◌, inl, inr, sym, ap, subst}
-use Rattle.std.proofs.Common.{◌∙◌, arith}
-use Rattle.std.proofs.lemmas.Bool.{true≢false, cases_eq}
+use Rattle.std.proofs.Common.{◌≡◌, ℕ, ◌+◌, ◌<◌, ◌↔◌, Bool, true, false, List, ◌∷◌, get_or, refl, Option, Some, IsTrue, if◌then◌else◌, sym}
+use Rattle.std.proofs.Common.{◌∙◌, arith, suc, length}
+use Rattle.std.specs.BTreeSet.{BTreeSet, contains}
+use Rattle.std.specs.List.{list_any}
+use Rattle.std.specs.Ordering.{nat_cmp}
+use Rattle.std.proofs.lemmas.List.Elements.{All-cons, All-contains}
+use Rattle.std.proofs.lemmas.List.Folds.{Any-from_list_any, list_any_at}
+use Rattle.normalizer_records.specs.Meaning.{status_of}
+use Rattle.normalizer_records.specs.inner.Chains.{IsSetOf}
+use Rattle.std.proofs.lemmas.Bool.{true≢false}
 use Rattle.normalizer_records.specs.declared.refusal.Refusal.{Refusal}
 use Rattle.normalizer_records.specs.declared.refusal.Refusal.TheVariants.{Order, Fixed, Class, Mapping, Chain, Length, Pair}
 use Rattle.normalizer_records.specs.Entry.{Entry, MapperEntry}
 use Rattle.normalizer_records.specs.Faults.{HasFault, has_fixed_fault, has_mapping_fault, HasClassFault, HasLengthFault, HasPairFault, first_among, rank_of, IsFirstRefusal, HasOrderFault}
-use Rattle.normalizer_records.specs.Faults.{HasChainFault, AreRising, AreMapperRising}
-
--- a refusal by its rank
-refusal_at : ℕ → Refusal
-refusal_at n = get_or (Pair ∷ Order ∷ Fixed ∷ Class ∷ Mapping ∷ Chain ∷ Length ∷ []) n Pair
-
-refusal_at-rank : (r : Refusal) → refusal_at (rank_of r) ≡ r
-unfolding refusal_at
-refusal_at-rank Order = refl
-refusal_at-rank Fixed = refl
-refusal_at-rank Class = refl
-refusal_at-rank Mapping = refl
-refusal_at-rank Chain = refl
-refusal_at-rank Length = refl
-refusal_at-rank Pair = refl
-
-pub same_rank : (r s : Refusal) → rank_of r ≡ rank_of s → r ≡ s
-same_rank r s e = sym (refusal_at-rank r) ∙ ap refusal_at e ∙ refusal_at-rank s
+use Rattle.normalizer_records.specs.Faults.{HasChainFault, AreRising, AreMapperRising, IsAsked, IsOnLongChain, mapped_to}
 
 ranks : (r : Refusal) → (0 < rank_of r) × (rank_of r < 8)
-ranks Order = (omega arith, omega arith)
-ranks Fixed = (omega arith, omega arith)
-ranks Class = (omega arith, omega arith)
-ranks Mapping = (omega arith, omega arith)
-ranks Chain = (omega arith, omega arith)
-ranks Length = (omega arith, omega arith)
-ranks Pair = (omega arith, omega arith)
+ranks r = grind arith
+
+pub same_rank : (r s : Refusal) → rank_of r ≡ rank_of s → r ≡ s
+same_rank r s e = grind arith
 
 module _ (records : List Entry) (uts46 : List MapperEntry) where
   -- none of these refusals' faults
@@ -43,10 +30,7 @@ module _ (records : List Entry) (uts46 : List MapperEntry) where
   none_at_all s low = let some = (ranks s).0 in absurd (omega arith)
 
   none_more : (r : Refusal) → NoneBelow (rank_of r) → (HasFault records uts46 r → ⊥) → NoneBelow (rank_of r + 1)
-  none_more r below not s low fault = elim (cases_eq (rank_of s) (rank_of r)) as (λ _. ⊥) [
-    | inl same ↦ not (subst (HasFault records uts46) (same_rank s r same) fault)
-    | inr other ↦ below s (omega arith) fault
-  ]
+  none_more r below not s low fault = absurd (grind (arith, same_rank s r, below s, not))
 
   no_order_fault : AreRising records → AreMapperRising uts46 → NoneBelow 2
   unfolding HasFault HasOrderFault
@@ -75,3 +59,23 @@ module _ (records : List Entry) (uts46 : List MapperEntry) where
   pub fixed_first : AreRising records → AreMapperRising uts46 → has_fixed_fault records uts46 ≡ true → IsFirstRefusal records uts46 (Some Fixed)
   unfolding HasFault IsFirstRefusal
   fixed_first rising mapper h = (h, no_order_fault rising mapper)
+
+-- whether a character is asked, by the set of those on long chains
+module _ (records : List Entry) (uts46 : List MapperEntry) (long : BTreeSet ℕ) (is : IsSetOf (IsOnLongChain records) long) (c : ℕ) where
+  abbrev among : Bool
+  among = list_any (contains nat_cmp long) (c ∷ mapped_to (status_of uts46 c))
+
+  pub not_asked : among ≡ true → (W : Type 0) → IsTrue false ↔ (IsAsked records uts46 c × W)
+  not_asked h W = (λ e. absurd (true≢false (sym e)), λ both. absurd (never both.0))
+    where
+      never : IsAsked records uts46 c → ⊥
+      never asked =
+          let (k, m, within, at, has) = Any-from_list_any (contains nat_cmp long) (c ∷ mapped_to (status_of uts46 c)) h in
+          All-contains (λ x. IsOnLongChain records x → ⊥) (c ∷ mapped_to (status_of uts46 c)) m
+          (All-cons (λ x. IsOnLongChain records x → ⊥) c (mapped_to (status_of uts46 c)) asked.off_chain asked.mapped_off_chain) (k, within, at) ((is m).0 has)
+
+  pub asked : among ≡ false → (W : Type 0) (b : Bool) → IsTrue b ↔ W → IsTrue b ↔ (IsAsked records uts46 c × W)
+  asked h W b w = (λ e. (record { off_chain = never 0 c (omega arith); mapped_off_chain = λ k d within. never (suc k) d (omega arith) }, w.0 e), λ both. w.1 both.1)
+    where
+      never : (k d : ℕ) → k < length (c ∷ mapped_to (status_of uts46 c)) → IsOnLongChain records (get_or (c ∷ mapped_to (status_of uts46 c)) k d) → ⊥
+      never k d within on = true≢false (sym (list_any_at (contains nat_cmp long) (c ∷ mapped_to (status_of uts46 c)) k d within ((is (get_or (c ∷ mapped_to (status_of uts46 c)) k d)).1 on)) ∙ h)

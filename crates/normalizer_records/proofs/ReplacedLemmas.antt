@@ -1,23 +1,21 @@
 -- What the expansion gives is what comes of replacing until nothing changes.
-use Rattle.std.proofs.Common.{◌≡◌, ◌≢◌, ℕ, zero, suc, ◌+◌, ◌≤◌, ◌↔◌, Bool, true, false, List, [], ◌∷◌, ◌++◌, length, refl, Option, Some, None, is_some, sym, ap, subst, ◌∙◌}
-use Rattle.std.proofs.Common.{arith, inl, inr, ◌⊎◌, All, Contains, append_assoc, length-append, if◌then◌else◌, flat_map}
+use Rattle.std.proofs.Common.{◌≡◌, ◌≢◌, ℕ, zero, suc, ◌+◌, ◌↔◌, true, false, List, [], ◌∷◌, ◌++◌, refl, Option, is_some, sym, ap, subst, ◌∙◌}
+use Rattle.std.proofs.Common.{arith, inl, inr, ◌⊎◌, All, Contains, append_assoc, flat_map}
 use Rattle.std.specs.Option.{option_map_or}
-use Rattle.std.proofs.lemmas.Bool.{cases_Bool, cases_lt}
+use Rattle.std.proofs.lemmas.Bool.{cases_Bool}
 use Rattle.std.proofs.lemmas.List.{append-nil}
 use Rattle.std.proofs.lemmas.List.Elements.{All-nil, All-cons, All-contains}
 use Rattle.normal_forms.proofs.PlaceLemmas.{same_or_not}
 use Rattle.normalizer_tables.specs.Hangul.{is_hangul_syllable, hangul_decomposition}
 use Rattle.normalizer_records.specs.declared.records.Mappings.{Mappings}
-use Rattle.normalizer_records.specs.declared.records.Mappings.TheVariants.{Canonical, All as AllMappings}
-use Rattle.normalizer_records.specs.declared.chains.Direction.TheVariants.{Up}
 use Rattle.normalizer_records.specs.Entry.{Entry, MapperEntry}
 use Rattle.normalizer_records.specs.Meaning.{entry_of, mapping_of, mapping_among, replacement, expansion, ExpandsTo, done, stays, replaced, levels}
-use Rattle.normalizer_records.specs.inner.ChainLengths.{GoesOn, IsWalk}
+use Rattle.normalizer_records.specs.inner.Chains.{LeadsOn}
 use Rattle.normalizer_records.specs.Faults.{IsRecorded, HasChainFault, has_fixed_fault}
 use Rattle.normalizer_records.proofs.ExpansionLemmas.{expansion-alone, expansion-replaced}
 use Rattle.normalizer_records.proofs.SyllableLemmas.{IsJamo, by_jamo, replacement-syllable}
 use Rattle.normalizer_records.proofs.UnrecordedLemmas.{jamo_stays}
-use Rattle.normalizer_records.proofs.WalkLemmas.{glue, chain_iff_walk}
+use Rattle.normalizer_records.proofs.ChainLemmas.{chain_from_on}
 
 jamo_of_syllable : (c x : ℕ) → is_hangul_syllable c ≡ true → Contains (hangul_decomposition c) x → IsJamo x
 jamo_of_syllable c x h = All-contains IsJamo (hangul_decomposition c) x
@@ -27,13 +25,7 @@ jamo_of_syllable c x h = All-contains IsJamo (hangul_decomposition c) x
 -- what is taken of a mapping is the whole mapping, or nothing
 whole_mapping : (o : Option Entry) (mappings : Mappings) → option_map_or (mapping_among mappings) o [] ≢ [] →
     (is_some o ≡ true) × (option_map_or (mapping_among mappings) o [] ≡ option_map_or (λ r. r.mapping) o [])
-whole_mapping None mappings some = absurd (some refl)
-whole_mapping (Some r) AllMappings some = (refl, refl)
-whole_mapping (Some r) Canonical some = (refl, of_canonical r.compatibility some)
-  where
-    of_canonical : (b : Bool) → (if b then [] else r.mapping) ≢ [] → (if b then [] else r.mapping) ≡ r.mapping
-    of_canonical true some = absurd (some refl)
-    of_canonical false some = refl
+whole_mapping o mappings some = grind (arith, some)
 
 -- one text comes of replacing
 module _ (records : List Entry) (mappings : Mappings) where
@@ -62,17 +54,19 @@ module _ (records : List Entry) (mappings : Mappings) where
   ]
 
 module _ (records : List Entry) (uts46 : List MapperEntry) (fixed : has_fixed_fault records uts46 ≡ false) (short : HasChainFault records → ⊥) (mappings : Mappings) where
-  -- no walk up is longer than a chain may be
-  ups-short : (ups : List ℕ) → IsWalk records Up ups → length ups ≤ 16
+  -- fewer than n records lead on from c
+  abbrev EndsWithin : ℕ → ℕ → Type 0
+  EndsWithin zero c = ⊥
+  EndsWithin (suc n) c = LeadsOn records n c → ⊥
+
+  EndsWithin-member : (n c m : ℕ) → IsRecorded records c → Contains (mapping_of records c) m → EndsWithin (suc n) c → EndsWithin n m
+  unfolding LeadsOn
+  EndsWithin-member zero c m h there ends = ends h
+  EndsWithin-member (suc n) c m h there ends = λ on. ends (m, there, on)
+
+  EndsWithin-all : (c : ℕ) → EndsWithin 17 c
   unfolding HasChainFault
-  ups-short [] walk = omega arith
-  ups-short (c ∷ ups) walk =
-      let chain = glue records c ups [] walk (walk.0, tt, tt) in
-      let long = chain.2 in
-      elim (cases_lt 16 (length (c ∷ ups))) as (λ _. length (c ∷ ups) ≤ 16) [
-        | inr few ↦ few
-        | inl many ↦ absurd (short (chain.0 ++ c ∷ [], (chain_iff_walk records (chain.0 ++ c ∷ [])).1 chain.1, simp length-append (omega arith)))
-      ]
+  EndsWithin-all c = λ on. let chain = chain_from_on records 16 c on in let long = chain.2 in short (c ∷ chain.0, chain.1, omega arith)
 
   replacement-other : (c : ℕ) → is_hangul_syllable c ≡ false → replacement records mappings c ≡ option_map_or (mapping_among mappings) (entry_of records c) []
   unfolding replacement
@@ -86,11 +80,6 @@ module _ (records : List Entry) (uts46 : List MapperEntry) (fixed : has_fixed_fa
       let given = whole_mapping (entry_of records c) mappings (λ none. some (is ∙ none)) in
       (given.0, is ∙ given.1)
 
-  -- the walk from a member up to its ancestors
-  walk_from : (c : ℕ) (ups : List ℕ) → GoesOn records Up c ups → IsWalk records Up ups → IsRecorded records c → IsWalk records Up (c ∷ ups)
-  walk_from c [] goes walk h = (h, tt, tt)
-  walk_from c (u ∷ ups) goes walk h = (h, goes, walk)
-
   stays_alone : (n c : ℕ) (x y : List ℕ) → replacement records mappings c ≡ [] → ExpandsTo records mappings x y → ExpandsTo records mappings (c ∷ x) (expansion records mappings n c ++ y)
   stays_alone n c x y none rest = subst (λ (z : List ℕ). ExpandsTo records mappings (c ∷ x) (z ++ y)) (sym (expansion-alone records mappings n c none)) (stays c none rest)
 
@@ -102,10 +91,9 @@ module _ (records : List Entry) (uts46 : List MapperEntry) (fixed : has_fixed_fa
       (each m (0, omega arith, refl) (ms ++ x) (flat_map f ms ++ y) (members_replaced f ms x y (λ k there x' y' h. each k (let inside = there.1 in (suc there.0, omega arith, there.2)) x' y' h) rest))
 
   -- what the expansion gives comes of replacing
-  comes_of_replacing : (n c : ℕ) (ups : List ℕ) → GoesOn records Up c ups → IsWalk records Up ups → 17 ≤ n + length ups → (x y : List ℕ) → ExpandsTo records mappings x y →
-      ExpandsTo records mappings (c ∷ x) (expansion records mappings n c ++ y)
-  comes_of_replacing zero c ups goes walk deep x y rest = let few = ups-short ups walk in absurd (omega arith)
-  comes_of_replacing (suc n) c ups goes walk deep x y rest = elim (same_or_not (replacement records mappings c) []) [
+  comes_of_replacing : (n c : ℕ) → EndsWithin n c → (x y : List ℕ) → ExpandsTo records mappings x y → ExpandsTo records mappings (c ∷ x) (expansion records mappings n c ++ y)
+  comes_of_replacing zero c ends x y rest = absurd ends
+  comes_of_replacing (suc n) c ends x y rest = elim (same_or_not (replacement records mappings c) []) [
     | inl none ↦ stays_alone (suc n) c x y none rest
     | inr some ↦
         subst (λ (z : List ℕ). ExpandsTo records mappings (c ∷ x) (z ++ y)) (sym (expansion-replaced records mappings n c some))
@@ -116,8 +104,7 @@ module _ (records : List Entry) (uts46 : List MapperEntry) (fixed : has_fixed_fa
               stays_alone n m x' y' (jamo_stays records uts46 fixed mappings m jamo.0 jamo.1) h
           | inr other ↦
               let is = recorded_replacement c other some in
-              let up = walk_from c ups goes walk is.0 in
-              comes_of_replacing n m (c ∷ ups) (subst (λ (z : List ℕ). Contains z m) is.1 there) up (omega arith) x' y' h
+              comes_of_replacing n m (EndsWithin-member n c m is.0 (subst (λ (z : List ℕ). Contains z m) is.1 there) ends) x' y' h
         ]) rest))
   ]
 
@@ -125,7 +112,7 @@ module _ (records : List Entry) (uts46 : List MapperEntry) (fixed : has_fixed_fa
   pub ExpandsTo-expansion : (c : ℕ) (y : List ℕ) → ExpandsTo records mappings (c ∷ []) y ↔ (y ≡ expansion records mappings levels c)
   ExpandsTo-expansion c y =
       let whole = append-nil (expansion records mappings 17 c) in
-      let is = comes_of_replacing 17 c [] tt tt (omega arith) [] [] done in (
+      let is = comes_of_replacing 17 c (EndsWithin-all c) [] [] done in (
         λ h. ends_once records mappings (c ∷ []) y _ h is ∙ whole,
         λ e. subst (ExpandsTo records mappings (c ∷ [])) (whole ∙ sym e) is,
       )

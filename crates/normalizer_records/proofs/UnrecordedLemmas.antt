@@ -1,10 +1,10 @@
 -- The lists of characters of which nothing is recorded show no fault.
-use Rattle.std.proofs.Common.{◌≡◌, ℕ, ◌<◌, ◌≤◌, ◌⊎◌, ◌↔◌, ◌==◌, Bool, true, false, List, [], ◌∷◌, ◌++◌, length, map, refl, Option, Some, None, IsSomeAnd}
+use Rattle.std.proofs.Common.{◌≡◌, ℕ, ◌<◌, ◌≤◌, ◌⊎◌, ◌↔◌, ◌==◌, true, false, List, [], ◌∷◌, ◌++◌, length, get_or, map, refl, None}
 use Rattle.std.proofs.Common.{inl, inr, sym, ap, subst, ◌∙◌, arith, Contains, find, nat_lt, flat_map}
 use Rattle.std.specs.Option.{option_map, option_map_or}
 use Rattle.std.proofs.lemmas.Bool.{or_parts, true≢false}
 use Rattle.std.proofs.lemmas.Bool.Decides.{nat_tests}
-use Rattle.std.proofs.lemmas.List.{get_or-map, length-map}
+use Rattle.std.proofs.lemmas.List.{get_or-map, get_or_default, length-map}
 use Rattle.std.proofs.lemmas.List.Elements.{Contains-append_left, Contains-append_right}
 use Rattle.std.proofs.lemmas.List.Folds.{list_any_at}
 use Rattle.normal_forms.proofs.OrderLemmas.{length-order}
@@ -12,10 +12,10 @@ use Rattle.normalizer_tables.specs.Hangul.{is_hangul_syllable, hangul_decomposit
 use Rattle.normalizer_records.specs.declared.records.Mappings.{Mappings}
 use Rattle.normalizer_records.specs.declared.records.Mappings.TheVariants.{Canonical, All as AllMappings}
 use Rattle.normalizer_records.specs.Entry.{Entry, IsIgnored, MapperEntry}
-use Rattle.normalizer_records.specs.Meaning.{entry_of, class_of, replacement, expansion, full_list, recorded_classes, canonical_list, status_of, mapper_list, mapped_list, levels}
-use Rattle.normalizer_records.specs.inner.ChainLengths.{no_entry}
+use Rattle.normalizer_records.specs.Meaning.{entry_of, class_of, replacement, expansion, full_list, recorded_classes, status_of, mapper_list, mapped_list, levels}
+use Rattle.normalizer_records.specs.inner.Lookup.{no_entry}
 use Rattle.normalizer_records.specs.inner.Cut.{IsOfSome}
-use Rattle.normalizer_records.specs.Faults.{is_fixed, has_fixed_fault, begins_with_mark, IsWrong, HasWrongClass, HasLongList, IsTooLong, IsAsked, HasClassFault, HasLengthFault}
+use Rattle.normalizer_records.specs.Faults.{is_fixed, has_fixed_fault, begins_with_mark, HasWrongClass, HasLongList, IsAsked, HasClassFault, HasLengthFault}
 use Rattle.normalizer_records.proofs.CutLemmas.{begins-order}
 use Rattle.normalizer_records.proofs.ExpansionLemmas.{expansion-alone, expansion-replaced}
 use Rattle.normalizer_records.proofs.LookupLemmas.{stands_or_none}
@@ -93,30 +93,14 @@ module _ (records : List Entry) (uts46 : List MapperEntry) (fixed : has_fixed_fa
         let few = bare.1 in
         (begins-order records (expansion records mappings levels c) ∙ bare.0, omega arith)
 
-  not_wrong : (c : ℕ) (b : Bool) (list : List ℕ) → b ≡ false → begins_with_mark records list ≡ false → IsWrong records c b list → ⊥
-  not_wrong c b list starts bare (inl marked, form) = true≢false (sym marked ∙ starts)
-  not_wrong c b list starts bare (inr marked, form) = true≢false (sym marked ∙ bare)
-
-  not_long : (list : List ℕ) → length list ≤ 3 → IsTooLong list → ⊥
-  not_long list few h = let long = h.0 in absurd (grind (arith, nat_tests))
-
-  mapper_list-unrecorded : (c : ℕ) → status_of uts46 c ≡ None → mapper_list records uts46 c ≡ Some (canonical_list records c)
-  unfolding mapper_list mapped_list
-  mapper_list-unrecorded c h = rw h refl
-
   HasWrongClass-unrecorded : (c : ℕ) → entry_of records c ≡ None → status_of uts46 c ≡ None → HasWrongClass records uts46 c → ⊥
-  unfolding HasWrongClass
-  HasWrongClass-unrecorded c h k (inl highest) = let none = class_of-unrecorded c h in omega arith
-  HasWrongClass-unrecorded c h k (inr (inl wrong)) = not_wrong c _ _ (starter Canonical c h) (full_list-bare Canonical c h).0 wrong
-  HasWrongClass-unrecorded c h k (inr (inr (inl wrong))) = not_wrong c _ _ (starter AllMappings c h) (full_list-bare AllMappings c h).0 wrong
-  HasWrongClass-unrecorded c h k (inr (inr (inr wrong))) =
-      not_wrong c false _ refl (full_list-bare Canonical c h).0 (subst (λ (o : Option (List ℕ)). IsSomeAnd o (IsWrong records c false)) (mapper_list-unrecorded c k) wrong)
+  unfolding HasWrongClass mapper_list mapped_list
+  HasWrongClass-unrecorded c h k wrong =
+      absurd (grind (arith, nat_tests, class_of-unrecorded c h, (full_list-bare Canonical c h).0, (full_list-bare AllMappings c h).0))
 
   HasLongList-unrecorded : (c : ℕ) → entry_of records c ≡ None → status_of uts46 c ≡ None → HasLongList records uts46 c → ⊥
-  unfolding HasLongList
-  HasLongList-unrecorded c h k (inl long) = not_long _ (full_list-bare Canonical c h).1 long
-  HasLongList-unrecorded c h k (inr (inl long)) = not_long _ (full_list-bare AllMappings c h).1 long
-  HasLongList-unrecorded c h k (inr (inr long)) = not_long _ (full_list-bare Canonical c h).1 (subst (λ (o : Option (List ℕ)). IsSomeAnd o IsTooLong) (mapper_list-unrecorded c k) long)
+  unfolding HasLongList mapper_list mapped_list
+  HasLongList-unrecorded c h k long = absurd (grind (arith, nat_tests, (full_list-bare Canonical c h).1, (full_list-bare AllMappings c h).1))
 
   -- every character is recorded in one way or the other, or in none
   abbrev characters : List ℕ
@@ -135,19 +119,19 @@ module _ (records : List Entry) (uts46 : List MapperEntry) (fixed : has_fixed_fa
 
   -- what no other character shows is shown by a recorded one, or by none
   recorded_alone : (P : ℕ → Type 0) → ((c : ℕ) → entry_of records c ≡ None → status_of uts46 c ≡ None → P c → ⊥) →
-      IsOfSome (λ c. IsAsked records uts46 c × P c) characters ↔ ((c : ℕ) × IsAsked records uts46 c × P c)
+      IsOfSome (λ c. IsAsked records uts46 c × P c) (length characters) characters ↔ ((c : ℕ) × IsAsked records uts46 c × P c)
   recorded_alone P never = (
-    λ h. (h.0, h.2.0, h.2.1),
+    λ h. (get_or characters h.0 0, h.2.0, h.2.1),
     λ h. elim (recorded_or_not h.0) [
-      | inl there ↦ (h.0, there, (h.1, h.2))
+      | inl there ↦ let e = get_or_default characters there.0 0 h.0 there.1 ∙ there.2 in (there.0, there.1, subst (λ c. IsAsked records uts46 c × P c) (sym e) (h.1, h.2))
       | inr nowhere ↦ absurd (never h.0 nowhere.0 nowhere.1 h.2)
     ],
   )
 
-  pub HasClassFault-recorded : IsOfSome (λ c. IsAsked records uts46 c × HasWrongClass records uts46 c) characters ↔ HasClassFault records uts46
+  pub HasClassFault-recorded : IsOfSome (λ c. IsAsked records uts46 c × HasWrongClass records uts46 c) (length characters) characters ↔ HasClassFault records uts46
   unfolding HasClassFault
   HasClassFault-recorded = recorded_alone (HasWrongClass records uts46) HasWrongClass-unrecorded
 
-  pub HasLengthFault-recorded : IsOfSome (λ c. IsAsked records uts46 c × HasLongList records uts46 c) characters ↔ HasLengthFault records uts46
+  pub HasLengthFault-recorded : IsOfSome (λ c. IsAsked records uts46 c × HasLongList records uts46 c) (length characters) characters ↔ HasLengthFault records uts46
   unfolding HasLengthFault
   HasLengthFault-recorded = recorded_alone (HasLongList records uts46) HasLongList-unrecorded

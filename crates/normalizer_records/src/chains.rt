@@ -1,168 +1,131 @@
 //! How many records lead from one to the next.
-ghost use Rattle.std.specs.Prelude.{◌≡◌, ◌<◌, ◌↔◌, ℕ, length, slice_index, IfOk, IsTrue, nat_lt};
+ghost use Rattle.std.specs.Prelude.{◌≡◌, ◌↔◌, ◌||◌, ◌&&◌, ℕ, IfOk, IsTrue, OnOk, flat_map, map};
+ghost use Rattle.std.specs.BTreeSet.{contains, IsFromIterResult};
 ghost use Rattle.std.specs.List.{list_any};
-ghost use Rattle.normalizer_records.specs.inner.ChainLengths.{
-  chain_rounds,
-  entry_at,
-  IsLinked,
-  IsLinkedByAny,
-  IsRaised,
-  IsStep,
-  Measures,
-  MeasuresChains,
-};
+ghost use Rattle.std.specs.Ordering.{nat_cmp};
+ghost use Rattle.normalizer_records.specs.inner.Chains.{beginning, ends, IsBetween, IsLedTo, IsSetOf, LeadsOn};
 ghost use Rattle.normalizer_records.specs.Faults.{AreRising, IsOnLongChain};
 
-use crate::lookup::place_of;
 use crate::records::Record;
 use std::alloc::{AllocError, Global};
+use std::collections::BTreeSet;
 
 /// How many records may lead from one to the next.
 pub(crate) const CHAIN_LIMIT: u8 = 16;
 
-/// So many records in a row are too many; no more are counted.
-const LIMIT: u8 = CHAIN_LIMIT + 1;
-
-/// A chain is followed to the characters of a mapping, or to the records that have a character in theirs.
-#[derive(Clone, Copy)]
-enum Direction {
-    Down,
-    Up,
-}
-
-/// For the record at each place, how long the longest chains are that lead down from it, and up from it.
-#[derive(Drop)]
-pub(crate) struct ChainLengths {
-    down: Vec<u8>,
-    up: Vec<u8>,
-}
-
-/// Raises the length at a place above the one at another.
-fn raise(old: &[u8], lengths: &mut [u8], place: usize, next: usize)
-    requires place { place < length lengths.old }
-    requires next { next < length old.now }
-    requires small { slice_index old.now next < 255 }
-    ensures { IsRaised (λ k l. (k ≡ place) × (l ≡ next)) old.now lengths.old lengths.new }
+/// The characters of records.
+fn recorded(alloc: Global, records: &[Record]) -> Result<BTreeSet<char>, AllocError>
+    ensures { IfOk result (IsFromIterResult nat_cmp (map (λ r. r.c) records.now)) }
 {
-    let longer = old[next] + 1;
-    if longer <= lengths[place] {
-        return;
-    }
-    lengths[place] = longer;
+    records.iter().map(|record| record.c).collect(alloc)
 }
 
-/// Raises lengths along a member of the mapping of the record at a place, if it is recorded.
-fn raise_by_member(
-    records: &[Record],
-    direction: Direction,
-    place: usize,
-    member: char,
-    old: &[u8],
-    lengths: &mut [u8],
-)
-    requires rising { AreRising records.now }
-    requires place { place < length records.now }
-    requires old { length old.now ≡ length records.now }
-    requires lengths { length lengths.old ≡ length records.now }
-    requires small { (k : ℕ) → k < length old.now → slice_index old.now k < 255 }
-    ensures { IsRaised (IsLinked records.now direction place member) old.now lengths.old lengths.new }
+/// Whether a list has one of these characters.
+pub(crate) fn has_any(set: &BTreeSet<char>, mapping: &[char]) -> bool
+    ensures { result ≡ list_any (contains nat_cmp set.now) mapping.now }
 {
-    match place_of(records, member) {
-        None => {}
-        Some(other) => match direction {
-            Direction::Down => raise(old, lengths, place, other),
-            Direction::Up => raise(old, lengths, other, place),
-        },
+    mapping.iter().any(|member| set.contains(member))
+}
+
+/// The character of a record that leads to one of these.
+fn beginning<'a>(set: &BTreeSet<char>, record: &'a Record) -> &'a [char]
+    ensures { result.now ≡ beginning set.now «record».now }
+{
+    if has_any(set, &record.mapping) {
+        std::slice::from_ref(&record.c)
+    } else {
+        &[]
     }
 }
 
-/// Raises lengths along the mapping of the record at a place.
-fn raise_by_record(
-    records: &[Record],
-    direction: Direction,
-    place: usize,
-    old: &[u8],
-    lengths: &mut [u8],
-)
-    requires rising { AreRising records.now }
-    requires place { place < length records.now }
-    requires old { length old.now ≡ length records.now }
-    requires lengths { length lengths.old ≡ length records.now }
-    requires small { (k : ℕ) → k < length old.now → slice_index old.now k < 255 }
-    ensures { IsRaised (IsLinkedByAny records.now direction place (entry_at records.now place).mapping)
-        old.now lengths.old lengths.new }
-{
-    let members = mapping_of(&records[place]);
-    for index in 0..members.len() {
-        raise_by_member(records, direction, place, members[index], old, lengths);
-    }
-}
-
-fn mapping_of(record: &Record) -> &[char]
-    ensures { result.now ≡ record.now.mapping }
-{
-    record.mapping.as_slice()
-}
-
-/// The lengths of chains by those of chains that are one record shorter.
-fn next_lengths(
+/// The characters of records that lead to one of these.
+fn beginnings(
     alloc: Global,
     records: &[Record],
-    direction: Direction,
-    old: &[u8],
-) -> Result<Vec<u8>, AllocError>
-    requires rising { AreRising records.now }
-    requires old { length old.now ≡ length records.now }
-    requires small { (k : ℕ) → k < length old.now → slice_index old.now k < 255 }
-    ensures { IfOk result (λ v. IsStep records.now direction old.now v.items) }
+    set: &BTreeSet<char>,
+) -> Result<BTreeSet<char>, AllocError>
+    ensures { IfOk result (IsFromIterResult nat_cmp (flat_map (beginning set.now) records.now)) }
 {
-    let mut lengths = vec![in alloc; 1; records.len()]?;
-    for place in 0..records.len() {
-        raise_by_record(records, direction, place, old, lengths.as_mut_slice());
-    }
-    Ok(lengths)
+    records
+        .iter()
+        .flat_map(|record| beginning(set, record).iter().copied())
+        .collect(alloc)
 }
 
-/// How long the longest chains from each record are, those past the limit counted as of the limit.
-fn lengths_of(
+/// What a record leads to, if its character is one of these.
+fn ends<'a>(set: &BTreeSet<char>, record: &'a Record) -> &'a [char]
+    ensures { result.now ≡ ends set.now «record».now }
+{
+    if set.contains(&record.c) {
+        &record.mapping
+    } else {
+        &[]
+    }
+}
+
+/// What the records of these lead to.
+fn all_ends(
     alloc: Global,
     records: &[Record],
-    direction: Direction,
-) -> Result<Vec<u8>, AllocError>
+    set: &BTreeSet<char>,
+) -> Result<BTreeSet<char>, AllocError>
+    ensures { IfOk result (IsFromIterResult nat_cmp (flat_map (ends set.now) records.now)) }
+{
+    records
+        .iter()
+        .flat_map(|record| ends(set, record).iter().copied())
+        .collect(alloc)
+}
+
+/// Adds what both have.
+fn add_common(
+    found: &mut BTreeSet<char>,
+    set: &BTreeSet<char>,
+    other: &BTreeSet<char>,
+) -> Result<(), AllocError>
+    ensures { OnOk result ((c : ℕ) → contains nat_cmp found.new c
+        ≡ (contains nat_cmp found.old c || (contains nat_cmp set.now c && contains nat_cmp other.now c))) }
+{
+    found.extend(set.intersection(other).copied())?;
+    Ok(())
+}
+
+/// The characters from which so many records lead on. Those to which so many lead are given, and what is between is found.
+fn leading_on(
+    alloc: Global,
+    records: &[Record],
+    count: u8,
+    led: &BTreeSet<char>,
+    found: &mut BTreeSet<char>,
+) -> Result<BTreeSet<char>, AllocError>
     requires { AreRising records.now }
-    ensures { IfOk result (λ v. Measures records.now direction chain_rounds v.items) }
+    ensures leading { IfOk result (IsSetOf (LeadsOn records.now count)) }
+    ensures between { OnOk result ((k : ℕ) → IsSetOf (IsLedTo records.now k) led.now → (c : ℕ) →
+        IsTrue (contains nat_cmp found.new c)
+        ↔ IsBetween records.now (IsTrue (contains nat_cmp found.old c)) count k c) }
 {
-    let mut lengths = vec![in alloc; 0; records.len()]?;
-    for round in 0..LIMIT {
-        lengths = next_lengths(alloc, records, direction, &lengths)?;
+    if count == 0 {
+        let leading = recorded(alloc, records)?;
+        add_common(found, &leading, led)?;
+        return Ok(leading);
     }
-    Ok(lengths)
+    let next = all_ends(alloc, records, led)?;
+    let shorter = leading_on(alloc, records, count - 1, &next, found)?;
+    let leading = beginnings(alloc, records, &shorter)?;
+    add_common(found, &leading, led)?;
+    Ok(leading)
 }
 
-/// How long the chains of records are.
-pub(crate) fn chain_lengths(alloc: Global, records: &[Record]) -> Result<ChainLengths, AllocError>
+/// The characters on chains of more than 16 records, each with the next one's character in its mapping.
+pub(crate) fn on_long_chains(
+    alloc: Global,
+    records: &[Record],
+) -> Result<BTreeSet<char>, AllocError>
     requires { AreRising records.now }
-    ensures { IfOk result (MeasuresChains records.now) }
+    ensures { IfOk result (IsSetOf (IsOnLongChain records.now)) }
 {
-    let down = lengths_of(alloc, records, Direction::Down)?;
-    let up = lengths_of(alloc, records, Direction::Up)?;
-    Ok(ChainLengths { down, up })
-}
-
-/// Whether more than 16 records lead from one to the next.
-pub(crate) fn has_long_chain(lengths: &ChainLengths) -> bool
-    ensures { result ≡ list_any (λ n. nat_lt 16 n) lengths.now.down.items }
-{
-    lengths.down.iter().any(|&length| 16 < length)
-}
-
-/// Whether a character is on such a chain.
-pub(crate) fn is_on_long_chain(records: &[Record], lengths: &ChainLengths, c: char) -> bool
-    requires { MeasuresChains records.now lengths.now }
-    ensures { IsTrue result ↔ IsOnLongChain records.now c }
-{
-    match place_of(records, c) {
-        None => false,
-        Some(place) => 17 < u16::from(lengths.down[place]) + u16::from(lengths.up[place]),
-    }
+    let recorded = recorded(alloc, records)?;
+    let mut found = BTreeSet::new(alloc);
+    leading_on(alloc, records, CHAIN_LIMIT, &recorded, &mut found)?;
+    Ok(found)
 }

@@ -1,5 +1,5 @@
 //! The faults that the lists of characters show.
-ghost use Rattle.std.specs.Prelude.{◌≡◌, ◌<◌, ◌↔◌, ◌||◌, ◌∷◌, [], Some, map, true, false, nat_lt};
+ghost use Rattle.std.specs.Prelude.{◌≡◌, ◌<◌, ◌↔◌, ◌∷◌, [], Some, map, true, false, nat_lt};
 ghost use Rattle.std.specs.Prelude.{IfOk, IsSomeAnd, IsTrue};
 ghost use Rattle.std.specs.List.{list_any};
 ghost use Rattle.std.specs.Option.{option_map};
@@ -209,13 +209,6 @@ fn is_too_long_mapping(mapped: &Option<Vec<char>>) -> bool
     }
 }
 
-/// Whether one of the three is so.
-fn any_of(canonical: bool, compatibility: bool, mapped: bool) -> bool
-    ensures { result ≡ (canonical || (compatibility || mapped)) }
-{
-    canonical || compatibility || mapped
-}
-
 /// The faults that the lists of a character show.
 pub(crate) fn faults_of(
     alloc: Global,
@@ -239,10 +232,8 @@ pub(crate) fn faults_of(
     let long_canonical = is_too_long(&canonical);
     let long_compatibility = is_too_long(&compatibility);
     let long_mapping = is_too_long_mapping(&mapped);
-    let any_wrong = any_of(wrong_canonical, wrong_compatibility, wrong_mapping);
-    let any_long = any_of(long_canonical, long_compatibility, long_mapping);
     Ok(ListFaults {
-        class: (class == 255) | any_wrong,
-        length: any_long,
+        class: (class == 255) | (wrong_canonical | (wrong_compatibility | wrong_mapping)),
+        length: long_canonical | (long_compatibility | long_mapping),
     })
 }

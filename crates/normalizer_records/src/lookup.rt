@@ -1,28 +1,21 @@
 //! The record of a character.
-ghost use Rattle.std.specs.Prelude.{◌≡◌, None, MatchOption};
+ghost use Rattle.std.specs.Prelude.{◌≡◌};
 ghost use Rattle.std.specs.Option.{option_map};
 ghost use Rattle.normalizer_records.specs.declared.records.Mappings.TheVariants.{Canonical};
 ghost use Rattle.normalizer_records.specs.Faults.{AreRising, AreMapperRising};
-ghost use Rattle.normalizer_records.specs.inner.Lookup.{Stands};
 ghost use Rattle.normalizer_records.specs.Meaning.{canonical_mapping_of, class_of, entry_of, mapping_among, status_of};
 
 use crate::records::{Record, Uts46Record};
 
-/// The place where a character is recorded, by halving.
-pub(crate) fn place_of(records: &[Record], c: char) -> Option<usize>
-    requires { AreRising records.now }
-    ensures { MatchOption result (entry_of records.now c ≡ None) (Stands (λ r. r.c) records.now c) }
-{
-    records.binary_search_by_key(&c, |record| record.c).ok()
-}
-
-/// The record of a character.
+/// The record of a character, by halving.
 pub(crate) fn record_of(records: &[Record], c: char) -> Option<&Record>
     requires { AreRising records.now }
     ensures { option_map (λ r. r.now) result ≡ entry_of records.now c }
 {
-    let place = place_of(records, c)?;
-    Some(&records[place])
+    match records.binary_search_by_key(&c, |record| record.c) {
+        Ok(place) => Some(&records[place]),
+        Err(_) => None,
+    }
 }
 
 /// The recorded class of a character.

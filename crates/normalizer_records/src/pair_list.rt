@@ -1,10 +1,11 @@
 //! The pairs that records give.
-ghost use Rattle.std.specs.Prelude.{◌≡◌, ◌↔◌, false, IfOk, IsTrue};
+ghost use Rattle.std.specs.Prelude.{◌≡◌, ◌↔◌, IfOk, IsTrue};
+ghost use Rattle.std.specs.List.{IsAllAdjacentAnswer};
 ghost use Rattle.std.specs.List.Sorted.{IsPermutation, IsSorted};
 ghost use Rattle.normalizer_tables.specs.Pairs.{is_before, AreRising as ArePairsRising};
 ghost use Rattle.normalizer_records.specs.Faults.{HasPairFault};
 ghost use Rattle.normalizer_records.specs.Meaning.{pair_of_mapping, pair_of_record, pairs_of};
-ghost use Rattle.normalizer_records.specs.inner.SortedPairs.{by_second_and_first, FallsSomewhere};
+ghost use Rattle.normalizer_records.specs.inner.SortedPairs.{by_second_and_first};
 
 use crate::records::Record;
 use normalizer_tables::special::fixed_list_of;
@@ -60,8 +61,7 @@ fn is_before(pair: &(char, char, char), next: &(char, char, char)) -> bool
 }
 
 fn are_rising(pairs: &[(char, char, char)]) -> bool
-    ensures rising { IsTrue result ↔ ArePairsRising pairs.now }
-    ensures falls { result ≡ false → FallsSomewhere pairs.now }
+    ensures { IsAllAdjacentAnswer (λ p q b. b ≡ is_before p q.0 q.1) pairs.now result }
 {
     pairs.is_sorted_by(|pair, next| is_before(pair, next))
 }

@@ -1,6 +1,9 @@
 //! The first refusal that records alone decide.
-ghost use Rattle.std.specs.Prelude.{◌≡◌, ◌↔◌, ◌++◌, All, false, map, IfOk, IsTrue};
-ghost use Rattle.normalizer_records.specs.inner.ChainLengths.{MeasuresChains};
+ghost use Rattle.std.specs.Prelude.{◌≡◌, ◌↔◌, ◌++◌, ◌∷◌, false, length, map, IfOk, IsTrue};
+ghost use Rattle.std.specs.BTreeSet.{contains};
+ghost use Rattle.std.specs.List.{list_any};
+ghost use Rattle.std.specs.Ordering.{nat_cmp};
+ghost use Rattle.normalizer_records.specs.inner.Chains.{IsSetOf};
 ghost use Rattle.normalizer_records.specs.inner.Cut.{IsOfSome};
 ghost use Rattle.normalizer_records.specs.Faults.{
   AreMapperRising,
@@ -16,7 +19,7 @@ ghost use Rattle.normalizer_records.specs.Faults.{
 };
 ghost use Rattle.normalizer_records.specs.Meaning.{status_of};
 
-use crate::chains::{ChainLengths, chain_lengths, has_long_chain, is_on_long_chain};
+use crate::chains::{has_any, on_long_chains};
 use crate::faults::{are_mapper_rising, are_rising, has_fixed_fault, has_mapping_fault};
 use crate::list_faults::{ListFaults, faults_of};
 use crate::lookup::uts46_record_of;
@@ -24,95 +27,55 @@ use crate::pair_list::has_pair_fault;
 use crate::records::{Record, Uts46Record, Uts46Status};
 use crate::refusal::Refusal;
 use std::alloc::{AllocError, Global};
+use std::collections::BTreeSet;
 
-/// Whether the characters of a text are on no long chain.
-fn are_off_chains(records: &[Record], lengths: &ChainLengths, text: &[char]) -> bool
-    requires { MeasuresChains records.now lengths.now }
-    ensures { IsTrue result ↔ All (λ m. ¬ IsOnLongChain records.now m) text.now }
-{
-    for place in 0..text.len() {
-        if is_on_long_chain(records, lengths, text[place]) {
-            return false;
-        }
-    }
-    true
-}
-
-/// Whether that is so of what the mapper maps a character to.
-fn is_mapped_off_chains(
-    records: &[Record],
-    uts46: &[Uts46Record],
-    lengths: &ChainLengths,
-    c: char,
-) -> bool
-    requires chains { MeasuresChains records.now lengths.now }
-    requires mapper { AreMapperRising uts46.now }
-    ensures { IsTrue result ↔ All (λ m. ¬ IsOnLongChain records.now m) (mapped_to (status_of uts46.now c)) }
+/// What the mapper maps a character to.
+fn mapped_to(uts46: &[Uts46Record], c: char) -> &[char]
+    requires { AreMapperRising uts46.now }
+    ensures { result.now ≡ mapped_to (status_of uts46.now c) }
 {
     match uts46_record_of(uts46, c) {
-        None => true,
+        None => &[],
         Some(record) => match &record.status {
-            Uts46Status::Mapped(mapping) => are_off_chains(records, lengths, mapping),
-            _ => true,
+            Uts46Status::Mapped(mapping) => mapping,
+            _ => &[],
         },
     }
 }
 
-/// Whether the class and the lists of a character are asked.
-fn is_asked(records: &[Record], uts46: &[Uts46Record], lengths: &ChainLengths, c: char) -> bool
-    requires chains { MeasuresChains records.now lengths.now }
-    requires mapper { AreMapperRising uts46.now }
-    ensures { IsTrue result ↔ IsAsked records.now uts46.now c }
+/// Whether a character, or one that the mapper maps it to, is one of these.
+fn is_among(long: &BTreeSet<char>, uts46: &[Uts46Record], c: char) -> bool
+    requires { AreMapperRising uts46.now }
+    ensures { result ≡ list_any (contains nat_cmp long.now) (c ∷ mapped_to (status_of uts46.now c)) }
 {
-    !is_on_long_chain(records, lengths, c) && is_mapped_off_chains(records, uts46, lengths, c)
+    long.contains(&c) || has_any(long, mapped_to(uts46, c))
 }
 
-/// The faults of a character, if it is asked.
-fn asked_faults(
-    alloc: Global,
-    records: &[Record],
-    uts46: &[Uts46Record],
-    lengths: &ChainLengths,
-    c: char,
-) -> Result<ListFaults, AllocError>
-    requires chains { MeasuresChains records.now lengths.now }
-    requires mapper { AreMapperRising uts46.now }
-    ensures class { IfOk result (λ f.
-        IsTrue f.class ↔ (IsAsked records.now uts46.now c × HasWrongClass records.now uts46.now c)) }
-    ensures length { IfOk result (λ f.
-        IsTrue f.length ↔ (IsAsked records.now uts46.now c × HasLongList records.now uts46.now c)) }
-{
-    if is_asked(records, uts46, lengths, c) {
-        faults_of(alloc, records, uts46, c)
-    } else {
-        Ok(ListFaults {
-            class: false,
-            length: false,
-        })
-    }
-}
-
-/// The faults that these characters show.
+/// The faults that these characters show, as far as they are asked.
 fn list_faults(
     alloc: Global,
     records: &[Record],
     uts46: &[Uts46Record],
-    lengths: &ChainLengths,
+    long: &BTreeSet<char>,
     characters: &[char],
 ) -> Result<ListFaults, AllocError>
-    requires chains { MeasuresChains records.now lengths.now }
+    requires chains { IsSetOf (IsOnLongChain records.now) long.now }
+    requires rising { AreRising records.now }
     requires mapper { AreMapperRising uts46.now }
     ensures class { IfOk result (λ f. IsTrue f.class ↔
-        IsOfSome (λ c. IsAsked records.now uts46.now c × HasWrongClass records.now uts46.now c) characters.now) }
+        IsOfSome (λ c. IsAsked records.now uts46.now c × HasWrongClass records.now uts46.now c) (length characters.now) characters.now) }
     ensures length { IfOk result (λ f. IsTrue f.length ↔
-        IsOfSome (λ c. IsAsked records.now uts46.now c × HasLongList records.now uts46.now c) characters.now) }
+        IsOfSome (λ c. IsAsked records.now uts46.now c × HasLongList records.now uts46.now c) (length characters.now) characters.now) }
 {
     let mut class = false;
     let mut length = false;
     for place in 0..characters.len() {
-        let faults = asked_faults(alloc, records, uts46, lengths, characters[place])?;
-        class = class | faults.class;
-        length = length | faults.length;
+        let c = characters[place];
+        if !is_among(long, uts46, c) {
+            let faults = faults_of(alloc, records, uts46, c)?;
+            class = faults.class | class;
+            length = faults.length | length;
+        }
     }
     Ok(ListFaults { class, length })
 }
@@ -142,11 +105,11 @@ fn first_of_rising(
     requires fixed { has_fixed_fault records.now uts46.now ≡ false }
     ensures { IfOk result (IsFirstRefusal records.now uts46.now) }
 {
-    let lengths = chain_lengths(alloc, records)?;
+    let long = on_long_chains(alloc, records)?;
     let characters = recorded_characters(alloc, records, uts46)?;
-    let faults = list_faults(alloc, records, uts46, &lengths, &characters)?;
+    let faults = list_faults(alloc, records, uts46, &long, &characters)?;
     let mapping = has_mapping_fault(records, uts46);
-    let chain = has_long_chain(&lengths);
+    let chain = !long.is_empty();
     let pair = has_pair_fault(alloc, records)?;
     Ok(first_among(faults.class, mapping, chain, faults.length, pair))
 }

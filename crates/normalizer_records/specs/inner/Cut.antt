@@ -1,5 +1,5 @@
 -- Lists that are cut where they are too long anyway.
-use Rattle.std.specs.Prelude.{◌≡◌, ◌↔◌, ℕ, ◌≤◌, Bool, List, length, Option, Some, None, Contains}
+use Rattle.std.specs.Prelude.{◌≡◌, ◌↔◌, ℕ, ◌≤◌, Bool, List, length, slice_index, ◌<◌, Option, Some, None}
 use Rattle.normalizer_records.specs.Entry.{Entry}
 use Rattle.normalizer_records.specs.Faults.{IsTooLong, IsWrong}
 
@@ -15,6 +15,6 @@ MayStandFor records None None = Unit {0}
 MayStandFor records (Some list) (Some cut) = StandsFor records list cut
 MayStandFor records _ _ = ⊥
 
--- some character of the list is of P
-abbrev pub IsOfSome : (ℕ → Type 0) → List ℕ → Type 0
-IsOfSome P characters = (c : ℕ) × Contains characters c × P c
+-- one of the first n characters is of P
+abbrev pub IsOfSome : (ℕ → Type 0) → ℕ → List ℕ → Type 0
+IsOfSome P n characters = (k : ℕ) × (k < n) × P (slice_index characters k)

@@ -11,13 +11,13 @@ returns-clause-class c =
     let class = c.class_of-class.ensures in
     let char = c.args.c in
     Decides-or _ _ (subst (λ (n : ℕ). IsTrue (c.class_of-class.result == 255) ↔ (n ≡ 255)) class (Decides-eqb c.class_of-class.result 255))
-    (any_decides _ _ _ _ c.any_of-any_wrong.ensures (rw (class, c.deref.ensures.value) at c.is_wrong-wrong_canonical.ensures) (c.in_ok-canonical.ensures.wrong char _)
+    (any_decides _ _ _ (rw (class, c.deref.ensures.value) at c.is_wrong-wrong_canonical.ensures) (c.in_ok-canonical.ensures.wrong char _)
     (rw (class, c.deref-2.ensures.value) at c.is_wrong-wrong_compatibility.ensures) (c.in_ok-compatibility.ensures.wrong char _)
     c.is_wrong_mapping-wrong_mapping.ensures (MayStandFor-some c.args.records.now (IsWrong c.args.records.now char false) (λ list cut stands. stands.wrong char false) _ _ c.in_ok-mapped.ensures))
 
 pub returns-clause-length : goal.returns-clause-length
 unfolding HasLongList
 returns-clause-length c =
-    any_decides _ _ _ _ c.any_of-any_long.ensures (rw c.deref-3.ensures.value at c.is_too_long-long_canonical.ensures) c.in_ok-canonical.ensures.long
+    any_decides _ _ _ (rw c.deref-3.ensures.value at c.is_too_long-long_canonical.ensures) c.in_ok-canonical.ensures.long
     (rw c.deref-4.ensures.value at c.is_too_long-long_compatibility.ensures) c.in_ok-compatibility.ensures.long
     c.is_too_long_mapping-long_mapping.ensures (MayStandFor-some c.args.records.now IsTooLong (λ list cut stands. stands.long) _ _ c.in_ok-mapped.ensures)

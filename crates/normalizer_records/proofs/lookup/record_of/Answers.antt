@@ -1,8 +1,14 @@
-use Rattle.std.proofs.Common.{sym}
+use Rattle.std.proofs.Common.{rules}
+use Rattle.std.proofs.lemmas.List.Sorted.{answers_always}
 use Rattle.normalizer_records.specs.Meaning.{entry_of}
-use Rattle.normalizer_records.proofs.LookupLemmas.{find-found}
+use Rattle.normalizer_records.proofs.LookupLemmas.{found, missing}
 use Rattle.normalizer_records.proofs.lookup.record_of.Goals as goal
 
-pub returns : goal.returns
+pub returns-in-Ok : goal.returns-in-Ok
 unfolding entry_of
-returns c = sym (find-found (λ r. r.c) _ c.requires c.args.c _ _ c.in_ok-place.ensures c.index-records-place.is)
+returns-in-Ok c =
+    found (λ r. r.c) _ c.requires c.args.c c.in-Ok.place _ c.in-Ok.ensures.bound (c.in-Ok.ensures.position (λ r. r.c) (answers_always _ _ _ (λ f a r g called. search rules))) c.index-records-place.is
+
+pub returns-in-Err : goal.returns-in-Err
+unfolding entry_of
+returns-in-Err c = missing (λ r. r.c) _ c.requires c.args.c c.in-Err.field-0 c.in-Err.ensures.bound (c.in-Err.ensures.position (λ r. r.c) (answers_always _ _ _ (λ f a r g called. search rules)))
