@@ -1,16 +1,9 @@
-pub mod BuildLemmas
 pub mod BuiltMeaning
 pub mod EntriesOfRecords
-pub mod FirstOfParts
+pub mod FirstUnfit
 pub mod FitData
-pub mod LeastOfTwo
-pub mod MappingLemmas
 pub mod NoRefusal
-pub mod NonzeroLists
 pub mod OneAnswer
 pub mod PackableEntries
-pub mod PartsOfDemands
 pub mod ReadableEntries
-pub mod SamePairs
 pub mod SameParts
-pub mod UnrecordedCharacters

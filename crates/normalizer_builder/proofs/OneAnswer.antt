@@ -1,5 +1,5 @@
 -- Records have but one smallest refusal, want of memory aside, and none where they build data.
-use Rattle.std.proofs.Common.{◌≡◌, ◌≢◌, ◌⊎◌, inl, inr, ◌≤◌, List, Some, None, refl, ap, sym, subst, arith}
+use Rattle.std.proofs.Common.{◌≡◌, ◌≢◌, inl, inr, ◌≤◌, List, Option, Some, None, refl, ap, sym, subst, arith}
 use Rattle.std.proofs.lemmas.Bool.{cases_order}
 use Rattle.normalizer_tables.specs.declared.provider.DataMarkerInfo.{DataMarkerInfo}
 use Rattle.normalizer_tables.specs.Conditions.{item_limit}
@@ -9,7 +9,6 @@ use Rattle.normalizer_packing.specs.Stored.{needed_items}
 use Rattle.normalizer_records.specs.declared.records.BuildError.{BuildError}
 use Rattle.normalizer_records.specs.declared.records.BuildError.TheVariants as error
 use Rattle.normalizer_records.specs.declared.refusal.Refusal.{Refusal}
-use Rattle.normalizer_records.specs.declared.refusal.Refusal.TheVariants.{Order, Fixed, Class, Mapping, Chain, Length, Pair}
 use Rattle.normalizer_records.specs.Entry.{Entry, MapperEntry}
 use Rattle.normalizer_records.specs.Faults.{IsFirstRefusal, rank_of}
 use Rattle.normalizer_records.proofs.RefusalLemmas.{same_rank}
@@ -22,105 +21,79 @@ one_place : (m l : DataMarkerInfo) → place_of m ≡ place_of l → m ≡ l
 one_place m l same = grind arith
 
 -- two answers of which neither stands before the other are one
-one_of_neither : (u v : Unfit) → (IsBefore u v → ⊥) → (IsBefore v u → ⊥) → u ≡ v
+one_of_neither : (u v : Unfit) → ¬ IsBefore u v → ¬ IsBefore v u → u ≡ v
 unfolding IsBefore
 one_of_neither u v h k =
     let conditions : u.condition ≡ v.condition = grind arith in
-    let places : place_of u.marker ≡ place_of v.marker = grind arith in
-    let markers : u.marker ≡ v.marker = one_place u.marker v.marker places in
+    let markers : u.marker ≡ v.marker = one_place u.marker v.marker (grind arith) in
     λ i. record { marker = markers i; condition = conditions i }
 
 -- the least answer to demands that aren't met is one
-one_unmet : {D : Type 0} (made : D → Type 0) (answer : D → Unfit) (meets : D → Type 0) (u v : Unfit) → IsFirstUnmet made answer meets (Some u) → IsFirstUnmet made answer meets (Some v) → u ≡ v
+one_unmet : {D : Type 0} (made : D → Type 0) (answer : D → Unfit) (meets : D → Type 0) (o p : Option Unfit) → IsFirstUnmet made answer meets o → IsFirstUnmet made answer meets p → o ≡ p
 unfolding IsFirstUnmet
-one_unmet made answer meets u v h k = one_of_neither u v
+one_unmet made answer meets None None h k = refl
+one_unmet made answer meets None (Some v) h k = absurd (k.unmet.3 (h k.unmet.0 k.unmet.1))
+one_unmet made answer meets (Some u) None h k = absurd (h.unmet.3 (k h.unmet.0 h.unmet.1))
+one_unmet made answer meets (Some u) (Some v) h k = ap Some (one_of_neither u v
     (λ before. h.unmet.3 (k.before h.unmet.0 h.unmet.1 (subst (λ w. IsBefore w v) (sym h.unmet.2) before)))
-    (λ before. k.unmet.3 (h.before k.unmet.0 k.unmet.1 (subst (λ w. IsBefore w u) (sym k.unmet.2) before)))
-
-all_or_one : {D : Type 0} (made : D → Type 0) (answer : D → Unfit) (meets : D → Type 0) (u : Unfit) → IsFirstUnmet made answer meets None → IsFirstUnmet made answer meets (Some u) → ⊥
-unfolding IsFirstUnmet
-all_or_one made answer meets u all h = h.unmet.3 (all h.unmet.0 h.unmet.1)
+    (λ before. k.unmet.3 (h.before k.unmet.0 k.unmet.1 (subst (λ w. IsBefore w u) (sym k.unmet.2) before))))
 
 module _ (records : List Entry) (uts46 : List MapperEntry) where
-  one_refusal : (r s : Refusal) → IsFirstRefusal records uts46 (Some r) → IsFirstRefusal records uts46 (Some s) → r ≡ s
+  one_refusal : (o p : Option Refusal) → IsFirstRefusal records uts46 o → IsFirstRefusal records uts46 p → o ≡ p
   unfolding IsFirstRefusal
-  one_refusal r s h k = elim (cases_order (rank_of r) (rank_of s)) as (λ _. r ≡ s) [
-    | inl same ↦ same_rank r s same
+  one_refusal None None h k = refl
+  one_refusal None (Some s) h k = absurd (h s k.0)
+  one_refusal (Some r) None h k = absurd (k r h.0)
+  one_refusal (Some r) (Some s) h k = elim (cases_order (rank_of r) (rank_of s)) as (λ _. Some r ≡ Some s) [
+    | inl same ↦ ap Some (same_rank r s same)
     | inr (inl below) ↦ absurd (k.1 r below h.0)
     | inr (inr above) ↦ absurd (h.1 s above k.0)
   ]
 
-  refused_or_not : (r : Refusal) → IsFirstRefusal records uts46 (Some r) → IsFirstRefusal records uts46 None → ⊥
-  unfolding IsFirstRefusal
-  refused_or_not r h none = none r h.0
+  -- what becomes of records that aren't refused: too many items, or data, and the least answer to what they don't meet
+  abbrev Becomes : Option (Option Unfit) → Type 0
+  Becomes None = HasTooManyItems records uts46
+  Becomes (Some o) = (p : Packed) × PacksRecords records uts46 p × IsFirstUnfitOfRecords records p o
 
-  -- data pack no records whose lists are too many
-  too_many : (p : Packed) → PacksRecords records uts46 p → HasTooManyItems records uts46 → ⊥
+  too_many : (p : Packed) → PacksRecords records uts46 p → ¬ HasTooManyItems records uts46
   too_many p packs h =
-      let same : h.entries ≡ packs.entries = same_entries records uts46 h.entries packs.entries h.made packs.made in
-      let few : needed_items h.entries ≤ item_limit = subst (λ (es : List CharacterEntry). needed_items es ≤ item_limit) (sym same) packs.packs.within in
+      let few = subst (λ (es : List CharacterEntry). needed_items es ≤ item_limit) (same_entries records uts46 packs.entries h.entries packs.made h.made) packs.packs.within in
       omega (arith, few, h.full)
 
-  -- data that pack the records, and the least answer to what they don't meet
-  record Unmet (u : Unfit) : Type 0 where
-    packed : Packed
-    packs : PacksRecords records uts46 packed
-    first : IsFirstUnfitOfRecords records packed (Some u)
+  one_outcome : (v w : Option (Option Unfit)) → Becomes v → Becomes w → v ≡ w
+  one_outcome None None h k = refl
+  one_outcome None (Some o) h k = absurd (too_many k.0 k.1 h)
+  one_outcome (Some o) None h k = absurd (too_many h.0 h.1 k)
+  one_outcome (Some o) (Some q) h k = ap Some (one_unmet IsMadeOfRecords answer_of_records (MeetsRecords records k.0) o q
+      (subst (λ (p : Packed). IsFirstUnfitOfRecords records p o) (one_packing_of_records records uts46 h.0 k.0 h.1 k.1) h.2) k.2)
 
-  -- other data that pack them are the same
-  unfit_of : (u : Unfit) → Unmet u → (p : Packed) → PacksRecords records uts46 p → IsFirstUnfitOfRecords records p (Some u)
-  unfit_of u h p packs = subst (λ (q : Packed). IsFirstUnfitOfRecords records q (Some u)) (one_packing_of_records records uts46 h.packed p h.packs packs) h.first
+  abbrev error_of_outcome : Option (Option Unfit) → BuildError
+  error_of_outcome None = error.TableFull
+  error_of_outcome (Some None) = error.Memory
+  error_of_outcome (Some (Some u)) = error.Unfit u.marker u.condition
 
-  one_unfit : (u v : Unfit) → Unmet u → Unmet v → u ≡ v
-  one_unfit u v h k = one_unmet IsMadeOfRecords answer_of_records (MeetsRecords records k.packed) u v (unfit_of u h k.packed k.packs) k.first
-
-  built_fits : (u : Unfit) → Unmet u → (p : Packed) → PacksRecords records uts46 p → IsFirstUnfitOfRecords records p None → ⊥
-  built_fits u h p packs fit = all_or_one IsMadeOfRecords answer_of_records (MeetsRecords records p) u fit (unfit_of u h p packs)
-
-  -- why records are refused, memory aside
+  -- what is answered, memory standing for data
   data Cause : BuildError → Type 0 where
     refused : (r : Refusal) → IsFirstRefusal records uts46 (Some r) → Cause (error_of r)
-    full : IsFirstRefusal records uts46 None → HasTooManyItems records uts46 → Cause error.TableFull
-    unfit : (u : Unfit) → IsFirstRefusal records uts46 None → Unmet u → Cause (error.Unfit u.marker u.condition)
+    become : (v : Option (Option Unfit)) → IsFirstRefusal records uts46 None → Becomes v → Cause (error_of_outcome v)
 
-  memory_or_cause : (e : BuildError) → IsSmallest records uts46 e → (e ≡ error.Memory) ⊎ Cause e
+  cause_of : (e : BuildError) → (e ≡ error.Memory → Cause e) → IsSmallest records uts46 e → Cause e
   unfolding IsSmallest
-  memory_or_cause error.Memory h = inl refl
-  memory_or_cause error.TableFull h = inr (full h.0 h.1)
-  memory_or_cause (error.Unfit marker condition) h =
-      inr (unfit (record { marker = marker; condition = condition }) h.0 (record { packed = h.1.0; packs = h.1.1; first = h.1.2 }))
-  memory_or_cause error.Order h = inr (refused Order h)
-  memory_or_cause error.Fixed h = inr (refused Fixed h)
-  memory_or_cause error.Class h = inr (refused Class h)
-  memory_or_cause error.Mapping h = inr (refused Mapping h)
-  memory_or_cause error.Chain h = inr (refused Chain h)
-  memory_or_cause error.Length h = inr (refused Length h)
-  memory_or_cause error.Pair h = inr (refused Pair h)
-
-  cause_of : (e : BuildError) → IsSmallest records uts46 e → e ≢ error.Memory → Cause e
-  cause_of e h other = elim (memory_or_cause e h) as (λ _. Cause e) [ inl memory ↦ absurd (other memory) | inr cause ↦ cause ]
+  cause_of error.Memory memory h = memory refl
+  cause_of error.TableFull memory h = become None h.0 h.1
+  cause_of (error.Unfit marker condition) memory h = become (Some (Some (record { marker = marker; condition = condition }))) h.0 h.1
+  cause_of error.Order memory h = refused _ h
+  cause_of _ memory h = refused _ h
 
   one_cause : (e f : BuildError) → Cause e → Cause f → e ≡ f
-  one_cause e f (refused r h) (refused s k) = ap error_of (one_refusal r s h k)
-  one_cause e f (refused r h) (full none k) = absurd (refused_or_not r h none)
-  one_cause e f (refused r h) (unfit u none k) = absurd (refused_or_not r h none)
-  one_cause e f (full none h) (refused s k) = absurd (refused_or_not s k none)
-  one_cause e f (full none h) (full also k) = refl
-  one_cause e f (full none h) (unfit u also k) = absurd (too_many k.packed k.packs h)
-  one_cause e f (unfit u none h) (refused s k) = absurd (refused_or_not s k none)
-  one_cause e f (unfit u none h) (full also k) = absurd (too_many h.packed h.packs k)
-  one_cause e f (unfit u none h) (unfit v also k) = ap (λ (w : Unfit). error.Unfit w.marker w.condition) (one_unfit u v h k)
+  one_cause e f (refused r h) (refused s k) = (let some = one_refusal (Some r) (Some s) h k in let same : r ≡ s = cc in ap error_of same)
+  one_cause e f (refused r h) (become v none k) = absurd (let never = one_refusal (Some r) None h none in cc)
+  one_cause e f (become v none h) (refused s k) = absurd (let never = one_refusal (Some s) None k none in cc)
+  one_cause e f (become v none h) (become w also k) = ap error_of_outcome (one_outcome v w h k)
 
-  no_cause : (e : BuildError) (p : Packed) → Builds records uts46 p → Cause e → ⊥
-  no_cause e p built (refused r h) = refused_or_not r h built.unrefused
-  no_cause e p built (full none h) = too_many p built.packs h
-  no_cause e p built (unfit u none h) = built_fits u h p built.packs built.fit
+  pub one_smallest : (e f : BuildError) → IsSmallest records uts46 e → IsSmallest records uts46 f → e ≢ error.Memory → f ≢ error.Memory → e ≡ f
+  one_smallest e f h k some also = one_cause e f (cause_of e (λ m. absurd (some m)) h) (cause_of f (λ m. absurd (also m)) k)
 
-pub one_smallest : (records : List Entry) (uts46 : List MapperEntry) (e f : BuildError) → IsSmallest records uts46 e → IsSmallest records uts46 f → e ≢ error.Memory → f ≢ error.Memory → e ≡ f
-one_smallest records uts46 e f h k some also = one_cause records uts46 e f (cause_of records uts46 e h some) (cause_of records uts46 f k also)
-
-pub built_or_memory : (records : List Entry) (uts46 : List MapperEntry) (p : Packed) (e : BuildError) → Builds records uts46 p → IsSmallest records uts46 e → e ≡ error.Memory
-built_or_memory records uts46 p e built h = elim (memory_or_cause records uts46 e h) as (λ _. e ≡ error.Memory) [
-  | inl memory ↦ memory
-  | inr cause ↦ absurd (no_cause records uts46 e p built cause)
-]
+  pub built_or_memory : (p : Packed) (e : BuildError) → Builds records uts46 p → IsSmallest records uts46 e → e ≡ error.Memory
+  built_or_memory p e built h =
+      let data' : Cause error.Memory = become (Some None) built.unrefused (p, built.packs, built.fit) in one_cause e error.Memory (cause_of e (λ m. subst Cause (sym m) data') h) data'

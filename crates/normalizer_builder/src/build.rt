@@ -87,6 +87,7 @@ fn packed_of(alloc: Global, records: &[Record], uts46: &[Uts46Record]) -> Result
 }
 
 /// What is packed of such records: the entries and the pairs.
+#[tactic(auto, using(crate::proofs::NoRefusal::no_pair_fault))]
 fn parts_of(
     alloc: Global,
     records: &[Record],

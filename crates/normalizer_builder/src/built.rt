@@ -1,5 +1,6 @@
 //! Data that were built, handed out as a provider's.
-ghost use Rattle.std.specs.Prelude.{Some};
+ghost use Rattle.std.specs.Prelude.{◌≡◌, Ok, Some, IfErr, IfOk};
+ghost use Rattle.normalizer_tables.specs.declared.provider.DataError.TheVariants.{Memory};
 
 use normalizer_packing::Packed;
 use normalizer_tables::{
@@ -8,6 +9,7 @@ use normalizer_tables::{
     NormalizerNfdSupplementV1, NormalizerNfdTablesV1, NormalizerNfkdDataV1, NormalizerNfkdTablesV1,
     NormalizerUts46DataV1,
 };
+use std::alloc::AllocError;
 
 /// Data of all markers.
 #[derive(Drop)]
@@ -19,7 +21,7 @@ impl DataProvider<NormalizerNfdDataV1> for Built {
     ghost held = { λ b. Some b.packed.canonical };
 
     fn load(&self) -> Result<DecompositionData, DataError> {
-        self.packed.canonical.clone().map_err(|_| DataError::Memory)
+        loaded(self.packed.canonical.clone())
     }
 }
 
@@ -27,10 +29,7 @@ impl DataProvider<NormalizerNfkdDataV1> for Built {
     ghost held = { λ b. Some b.packed.compatibility };
 
     fn load(&self) -> Result<DecompositionData, DataError> {
-        self.packed
-            .compatibility
-            .clone()
-            .map_err(|_| DataError::Memory)
+        loaded(self.packed.compatibility.clone())
     }
 }
 
@@ -38,7 +37,7 @@ impl DataProvider<NormalizerUts46DataV1> for Built {
     ghost held = { λ b. Some b.packed.mapper };
 
     fn load(&self) -> Result<DecompositionData, DataError> {
-        self.packed.mapper.clone().map_err(|_| DataError::Memory)
+        loaded(self.packed.mapper.clone())
     }
 }
 
@@ -46,7 +45,7 @@ impl DataProvider<NormalizerNfdTablesV1> for Built {
     ghost held = { λ b. Some b.packed.tables };
 
     fn load(&self) -> Result<DecompositionTables, DataError> {
-        self.packed.tables.clone().map_err(|_| DataError::Memory)
+        loaded(self.packed.tables.clone())
     }
 }
 
@@ -54,10 +53,7 @@ impl DataProvider<NormalizerNfkdTablesV1> for Built {
     ghost held = { λ b. Some b.packed.supplementary_tables };
 
     fn load(&self) -> Result<DecompositionTables, DataError> {
-        self.packed
-            .supplementary_tables
-            .clone()
-            .map_err(|_| DataError::Memory)
+        loaded(self.packed.supplementary_tables.clone())
     }
 }
 
@@ -65,10 +61,7 @@ impl DataProvider<NormalizerNfcV1> for Built {
     ghost held = { λ b. Some b.packed.compositions };
 
     fn load(&self) -> Result<CanonicalCompositions, DataError> {
-        self.packed
-            .compositions
-            .clone()
-            .map_err(|_| DataError::Memory)
+        loaded(self.packed.compositions.clone())
     }
 }
 
@@ -76,9 +69,14 @@ impl DataProvider<NormalizerNfdSupplementV1> for Built {
     ghost held = { λ b. Some b.packed.supplement };
 
     fn load(&self) -> Result<NonRecursiveDecompositionSupplement, DataError> {
-        self.packed
-            .supplement
-            .clone()
-            .map_err(|_| DataError::Memory)
+        loaded(self.packed.supplement.clone())
     }
+}
+
+/// A copy of what is held, unless memory was refused.
+fn loaded<T>(copy: Result<T, AllocError>) -> Result<T, DataError>
+    ensures ok { IfOk result (λ d. copy ≡ Ok d) }
+    ensures refused { IfErr result (λ e. e ≡ Memory) }
+{
+    copy.map_err(|_| DataError::Memory)
 }

@@ -18,6 +18,7 @@ use normalizer_tables::step::{Step, step_of};
 
 /// The first demand that data that pack records don't meet: what constructors ask, and that one step keeps the recorded
 /// mappings.
+#[tactic(auto, using(crate::proofs::FirstUnfit::first_unfit_of_both))]
 pub(crate) fn first_unfit_of_records(records: &[Record], packed: &Packed) -> Option<Unfit>
     requires { AreRising records.now }
     ensures { IsFirstUnfitOfRecords records.now packed.now result }
@@ -26,6 +27,7 @@ pub(crate) fn first_unfit_of_records(records: &[Record], packed: &Packed) -> Opt
 }
 
 /// How data that don't keep the recorded mappings are answered.
+#[tactic(auto, using(crate::proofs::FirstUnfit::mappings_kept, crate::proofs::FirstUnfit::mappings_lost))]
 fn answer_to_mappings(records: &[Record], packed: &Packed) -> Option<Unfit>
     requires { AreRising records.now }
     ensures { IsFirstUnfitOfMappings records.now packed.now result }
@@ -57,21 +59,11 @@ fn keeps_mapping(records: &[Record], packed: &Packed, character: char) -> bool
     ensures { IsTrue result ↔ KeepsMapping records.now packed.now character }
 {
     match step_to(canonical_mapping_of(records, character)) {
-        Some(mapping) => is_step(packed, character, mapping),
+        Some(mapping) => {
+            let characters = characters_of(packed, Kind::Canonical);
+            step_of(&characters, &packed.supplement, character) == Some(step_of_mapping(mapping))
+        }
         None => true,
-    }
-}
-
-/// Whether one step of a character is this mapping.
-fn is_step(packed: &Packed, character: char, mapping: Mapping) -> bool
-    ensures { IsTrue result ↔
-        (step_of (characters_of packed.now Canonical) packed.now.supplement character
-        ≡ Some (step_of_mapping mapping)) }
-{
-    let characters = characters_of(packed, Kind::Canonical);
-    match step_of(&characters, &packed.supplement, character) {
-        Some(step) => step == step_of_mapping(mapping),
-        None => false,
     }
 }
 

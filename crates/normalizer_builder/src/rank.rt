@@ -27,19 +27,10 @@ impl Unfit {
 pub(crate) fn least(a: Option<Unfit>, b: Option<Unfit>) -> Option<Unfit>
     ensures { IsLeast a b result }
 {
-    match a {
-        None => b,
-        Some(a) => Some(least_of(a, b)),
-    }
-}
-
-#[tactic(auto, unfolding(crate::specs::Ranks::IsLeast))]
-fn least_of(a: Unfit, b: Option<Unfit>) -> Unfit
-    ensures { IsLeast (Some a) b (Some result) }
-{
-    match b {
-        None => a,
-        Some(b) => { if b.is_before(a) { b } else { a } }
+    match (a, b) {
+        (None, b) => b,
+        (Some(a), Some(b)) if b.is_before(a) => Some(b),
+        (a, _) => a,
     }
 }
 

@@ -23,6 +23,7 @@ use normalizer_tables::refusal::marker_of;
 
 /// The first condition that the data break, of all that constructors ask: the least by its number, and of one number
 /// the one of the earliest marker. It takes no memory.
+#[tactic(auto, using(crate::proofs::FirstUnfit::first_unfit_of_texts, crate::proofs::FirstUnfit::first_unfit_of_kinds))]
 pub fn first_unfit(packed: &Packed) -> Option<Unfit>
     ensures { IsFirstUnfit packed.now result }
 {
@@ -34,6 +35,7 @@ pub fn first_unfit(packed: &Packed) -> Option<Unfit>
 }
 
 /// The first condition that the data of one kind break.
+#[tactic(auto, using(crate::proofs::FirstUnfit::first_unfit_of_kind))]
 fn first_unfit_of_kind(packed: &Packed, kind: Kind) -> Option<Unfit>
     ensures { IsFirstUnfitOfKind packed.now kind result }
 {
@@ -90,13 +92,10 @@ pub(crate) fn characters_of(packed: &Packed, kind: Kind) -> CharacterData<'_>
 fn answer_of(kind: Kind, failing: Option<Condition>) -> Option<Unfit>
     ensures { result ≡ option_map (answer_of kind) failing }
 {
-    match failing {
-        Some(condition) => Some(Unfit {
-            marker: marker_of(marker_of_kind(kind), condition),
-            condition: condition.number(),
-        }),
-        None => None,
-    }
+    failing.map(|condition| Unfit {
+        marker: marker_of(marker_of_kind(kind), condition),
+        condition: condition.number(),
+    })
 }
 
 /// The marker of the decomposition data of one kind.

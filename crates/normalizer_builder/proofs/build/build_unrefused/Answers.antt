@@ -1,4 +1,3 @@
-use Rattle.normalizer_builder.specs.Building.{IsSmallest}
 use Rattle.normalizer_builder.proofs.BuiltMeaning.{Builds-packed}
 use Rattle.normalizer_builder.proofs.NoRefusal.{rising}
 use Rattle.normalizer_builder.proofs.build.build_unrefused.Goals as goal
@@ -8,7 +7,3 @@ first_unfit_of_records-requires c = rising c.args.records.now c.args.uts46.now c
 
 pub returns-in-None : goal.returns-in-None
 returns-in-None c = Builds-packed c.args.records.now c.args.uts46.now c.requires c.in_ok-packed.packed c.in_ok-packed.ensures.packs c.in_ok-packed.ensures.characters c.in-None.ensures
-
-pub returns-in-Some : goal.returns-in-Some
-unfolding IsSmallest
-returns-in-Some c = (c.requires, (c.in_ok-packed.packed, c.in_ok-packed.ensures.packs, c.in-Some.ensures))
