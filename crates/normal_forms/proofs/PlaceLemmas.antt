@@ -144,7 +144,7 @@ cut_below d form x n differs cut =
 
 -- ---- the first offence
 
-cases_first : (x : List ℕ) → (x ≡ []) ⊎ ((c : ℕ) × IsFirst x c)
+pub cases_first : (x : List ℕ) → (x ≡ []) ⊎ ((c : ℕ) × IsFirst x c)
 cases_first [] = inl refl
 cases_first (c ∷ x) = inr (c, (x, refl))
 
@@ -163,7 +163,7 @@ offence_of d form inhabited x differs =
           ]
     ]
 
-first_unique : (x : List ℕ) (a b : ℕ) → IsFirst x a → IsFirst x b → a ≡ b
+pub first_unique : (x : List ℕ) (a b : ℕ) → IsFirst x a → IsFirst x b → a ≡ b
 first_unique x a b first second = let same = sym first.1 ∙ second.1 in cc
 
 pub offence_unique : (d : Reading) (form : Form) (x : List ℕ) (place found wanted place' found' wanted' : ℕ) → IsFirstOffence d form x place found wanted

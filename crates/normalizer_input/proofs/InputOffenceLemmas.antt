@@ -14,7 +14,7 @@ use Rattle.normalizer_text.specs.Steps.{IsWellFormed}
 use Rattle.normalizer_text.specs.Encodings.{Encoding, first_in, decoded_in}
 use Rattle.normalizer_text.proofs.EncodingRules.{IsDecoding-first}
 use Rattle.normalizer_text.proofs.StepLemmas.{decoded-some, decoded-append}
-use Rattle.normal_forms.proofs.PlaceLemmas.{cut_of, cut_unique, form_is_nothing, normalized_iff_cut, at_seam}
+use Rattle.normal_forms.proofs.PlaceLemmas.{cases_first, cut_of, cut_unique, first_unique, form_is_nothing, normalized_iff_cut, at_seam}
 use Rattle.normalizer_input.specs.InputCut.{IsInputNormalized, IsInputCut, characters_before, IsErrorAt}
 use Rattle.normalizer_input.specs.InputOffence.{IsInputOffence, IsInputOffenceOf}
 use Rattle.normalizer_input.specs.declared.offence.Offence.{Offence}
@@ -22,15 +22,8 @@ use Rattle.normalizer_input.proofs.InputBoundaryLemmas.{IsWellFormed-rest, decod
 use Rattle.normalizer_input.proofs.InputCutLemmas.{boundary-fewer, drop-characters_before, qualifies_iff_characters, input_cut_exists}
 use Rattle.normalizer_input.proofs.InputCutLemmas.{input_cut_unique, cut_ends, input_cut_below, is_normalized_iff_input_cut, cut_of_well_formed}
 
-first_unique : (x : List ℕ) (a b : ℕ) → IsFirst x a → IsFirst x b → a ≡ b
-first_unique x a b one two = let same = sym one.1 ∙ two.1 in cc
-
 first_behind : (front rest whole : List ℕ) (c : ℕ) → whole ≡ front ++ rest → IsFirst rest c → slice_get whole (length front) ≡ Some c
 first_behind front rest whole c parts first = ap (λ l. slice_get l (length front)) (parts ∙ ap (λ l. front ++ l) first.1) ∙ at_seam front first.0 (length front) c refl
-
-cases_first : (x : List ℕ) → (x ≡ []) ⊎ ((c : ℕ) × IsFirst x c)
-cases_first [] = inl refl
-cases_first (c ∷ x) = inr (c, (x, refl))
 
 module _ (e : Encoding) (d : Reading) (form : Form) where
   pub input_offence_unique : (units : List ℕ) (place found wanted place' found' wanted' : ℕ) → IsInputOffence e d form units place found wanted

@@ -1,30 +1,13 @@
 -- What the tests of entries tell.
-use Rattle.std.proofs.Common.{◌≡◌, ◌↔◌, ℕ, ◌+◌, ◌<◌, ◌≤◌, Bool, true, false, ◌&&◌, IsTrue, List, [], ◌∷◌, length, get_or, Option, Some, None, All, nat_le, nat_lt, refl, arith, sym}
-use Rattle.std.proofs.Common.{◌∙◌, if◌then◌else◌}
+use Rattle.std.proofs.Common.{◌≡◌, ◌↔◌, ℕ, ◌<◌, ◌≤◌, Bool, true, false, ◌&&◌, IsTrue, List, [], ◌∷◌, length, Option, Some, None, All, nat_le, nat_lt, refl}
+use Rattle.std.proofs.Common.{if◌then◌else◌}
 use Rattle.std.specs.List.{cons_option, filter_map, list_all}
 use Rattle.std.proofs.lemmas.Bool.{le-leb, leb-true, lt-ltb, ltb-true, and_from, and_parts}
 use Rattle.std.proofs.lemmas.List.Elements.{All-cons, All-head, All-nil, All-tail}
 use Rattle.normalizer_packing.specs.declared.entry.Kind.{Kind}
-use Rattle.std.proofs.lemmas.List.{length-map}
-use Rattle.normalizer_packing.specs.Entries.{AreRising, CharacterEntry, class_in}
-use Rattle.normalizer_packing.proofs.EntryLemmas.{character_at, rising_characters}
+use Rattle.normalizer_packing.specs.Entries.{CharacterEntry, class_in}
 use Rattle.normalizer_packing.specs.inner.Packable.{has_length_if_any, has_length_of_word}
 use Rattle.normalizer_packing.specs.Stored.{HasLengthOfWord, is_narrow, listed_in, listed_of}
-use Rattle.std.specs.List.{IsAllAdjacentAnswer}
-
-module _ (entries : List CharacterEntry) (adjacent : (i : ℕ) (d : CharacterEntry) → i + 1 < length entries → true ≡ nat_lt (get_or entries i d).character (get_or entries (i + 1) d).character) where
-  rising_from_adjacent : AreRising entries
-  rising_from_adjacent i j d below within = rising_characters entries (λ k inside.
-      let here : k + 1 < length entries = omega (arith, length-map entries (λ e. e.character)) in
-      omega (arith, ltb-true _ _ (sym (adjacent k d here)), character_at entries k d (omega arith), character_at entries (k + 1) d here)) i j d below within
-
-any : CharacterEntry
-any = record { character = 0; class = 0; canonical = []; compatibility = []; mapper = None; mapping = None }
-
--- the test of each entry and the next answers whether entries rise
-pub AreRising-decides : (entries : List CharacterEntry) (r : Bool) → IsAllAdjacentAnswer (λ e f b. b ≡ nat_lt e.character f.character) entries r → IsTrue r ↔ AreRising entries
-AreRising-decides entries true h = (λ _. rising_from_adjacent entries h, λ _. refl)
-AreRising-decides entries false h = (λ no. cc, λ rising. h.2 any ∙ lt-ltb _ _ (rising h.0 (h.0 + 1) any (omega arith) h.1))
 
 length_tells : (x : List ℕ) → IsTrue (has_length_of_word x) ↔ HasLengthOfWord x
 unfolding has_length_of_word HasLengthOfWord

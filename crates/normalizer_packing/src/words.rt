@@ -13,6 +13,7 @@ use crate::ranges::Words;
 use crate::spelling::{Spelling, spell};
 use crate::stores::Stores;
 use normalizer_tables::CanonicalCompositions;
+use normalizer_tables::word::SURROGATE_WORD;
 
 /// What the words of one kind of data are made of.
 #[derive(Drop)]
@@ -22,9 +23,6 @@ pub struct PackedWords<'a, 'e> {
     pub stores: &'a Stores<'e>,
     pub kind: Kind,
 }
-
-/// The word of surrogates, with its flags.
-const SURROGATE_WORD: u32 = 0xC000_FFFD;
 
 impl Words for PackedWords<'_, '_> {
     ghost is_ready = { λ w. CanPoint w.entries.now w.stores.now };

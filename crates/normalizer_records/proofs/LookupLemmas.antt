@@ -1,12 +1,10 @@
 -- Look-ups in a list that rises.
-use Rattle.std.proofs.Common.{◌≡◌, ◌≢◌, ℕ, zero, suc, ◌+◌, ◌<◌, ◌≤◌, ◌⊎◌, ◌==◌, ◌↔◌, nat_lt, Bool, true, false, List, [], ◌∷◌, length, get_or, refl, Some, None, AllPairs, find, inl, inr}
-use Rattle.std.proofs.Common.{sym, ap, ◌∙◌, arith, IsTrue, Ok, Err}
+use Rattle.std.proofs.Common.{◌≡◌, ◌≢◌, ℕ, zero, suc, ◌<◌, ◌≤◌, ◌⊎◌, ◌==◌, false, List, [], ◌∷◌, length, get_or, refl, Some, None, AllPairs, find, inl, inr}
+use Rattle.std.proofs.Common.{sym, ap, ◌∙◌, arith, Ok, Err}
 use Rattle.normalizer_records.specs.inner.Lookup.{Stands}
 use Rattle.std.proofs.lemmas.Bool.{cases_eq, cases_lt}
 use Rattle.std.proofs.lemmas.Bool.Decides.{nat_tests}
 use Rattle.std.proofs.lemmas.Cmp.{ranked}
-use Rattle.std.proofs.lemmas.List.Sorted.{IsNonDecreasingBy-from_all_adjacent}
-use Rattle.std.specs.List.{AllAdjacentBelow, IsAllAdjacentAnswer}
 use Rattle.std.specs.List.Sorted.{IsBinarySearchResult, IsNonDecreasingBy, IsSearchInRange}
 use Rattle.std.specs.Ordering.{nat_cmp, ordering_index}
 
@@ -25,15 +23,6 @@ module _ {X : Type 0} (key : X → ℕ) where
   find-none : (xs : List X) (c : ℕ) → ((k : ℕ) (d : X) → k < length xs → key (get_or xs k d) ≢ c) → find (λ y. key y == c) xs ≡ None
   find-none [] c others = refl
   find-none (x ∷ xs) c others = grind (arith, nat_tests, others 0 x (omega arith), find-none xs c (λ k d inside. others (suc k) d (omega arith)))
-
-  -- each element before the next
-  rising_from_adjacent : (xs : List X) → AllAdjacentBelow (λ p q. true ≡ nat_lt (key p) (key q)) xs (length xs) → AllPairs (λ r s. key r < key s) xs
-  rising_from_adjacent xs adjacent i j d below within = grind (
-    arith,
-    nat_tests,
-    adjacent i d (omega arith),
-    IsNonDecreasingBy-from_all_adjacent key xs (λ k e inside. let lt = adjacent k e inside in grind (arith, nat_tests)) (i + 1) j d (omega arith) within,
-  )
 
   pub find-found : (xs : List X) → AllPairs (λ r s. key r < key s) xs → (c i : ℕ) (x : X) → Stands key xs c i → x ≡ get_or xs i x → find (λ y. key y == c) xs ≡ Some x
   find-found xs rising c i x at is = find-at xs rising c i x at.within (at.there x) ∙ ap (λ y. Some y) (sym is)
@@ -71,8 +60,3 @@ module _ {X : Type 0} (key : X → ℕ) where
         | inl below ↦ let less = ranked _ c _ (sym ((parted rise).0 k d (omega arith) below)) in omega arith
         | inr above ↦ let more = ranked _ c _ (sym ((parted rise).1 k d above inside)) in omega arith
       ]
-
-pub rising-decides : {X : Type 0} (key : X → ℕ) (xs : List X) (r : Bool) → IsAllAdjacentAnswer (λ p q b. b ≡ nat_lt (key p) (key q)) xs r → IsTrue r ↔ AllPairs (λ p q. key p < key q) xs
-rising-decides key xs true h = (λ _. rising_from_adjacent key xs h, λ _. refl)
-rising-decides key [] false h = (λ fails. cc, λ rising. let within = h.1 in absurd (omega arith))
-rising-decides key (x ∷ xs) false h = (λ fails. cc, λ rising. let lt = rising h.0 (h.0 + 1) x (omega arith) h.1 in let falls = h.2 x in absurd (grind (arith, nat_tests)))

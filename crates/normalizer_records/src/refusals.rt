@@ -63,9 +63,11 @@ fn list_faults(
     requires rising { AreRising records.now }
     requires mapper { AreMapperRising uts46.now }
     ensures class { IfOk result (λ f. IsTrue f.class ↔
-        IsOfSome (λ c. IsAsked records.now uts46.now c × HasWrongClass records.now uts46.now c) (length characters.now) characters.now) }
+        IsOfSome (λ c. IsAsked records.now uts46.now c × HasWrongClass records.now uts46.now c)
+        (length characters.now) characters.now) }
     ensures length { IfOk result (λ f. IsTrue f.length ↔
-        IsOfSome (λ c. IsAsked records.now uts46.now c × HasLongList records.now uts46.now c) (length characters.now) characters.now) }
+        IsOfSome (λ c. IsAsked records.now uts46.now c × HasLongList records.now uts46.now c)
+        (length characters.now) characters.now) }
 {
     let mut class = false;
     let mut length = false;

@@ -1,6 +1,9 @@
 -- Lists in which each element is before the next, and so before all later ones.
 use Rattle.std.proofs.Common.{◌≡◌, ℕ, ◌+◌, ◌<◌, ap, Bool, true, false, List, AllPairs, All, length, get_or, IsTrue, ◌↔◌, refl, inl, inr, arith, add-one, subst, sym, ◌∙◌, zero, suc}
+use Rattle.std.proofs.Common.{nat_lt, [], ◌∷◌}
 use Rattle.std.proofs.lemmas.Bool.{cases_lt}
+use Rattle.std.proofs.lemmas.Bool.Decides.{nat_tests}
+use Rattle.std.proofs.lemmas.List.Sorted.{IsNonDecreasingBy-from_all_adjacent}
 use Rattle.std.specs.List.Sorted.{IsNonDecreasingBy}
 use Rattle.std.specs.List.{AllAdjacentBelow, IsAllAdjacentAnswer}
 
@@ -25,3 +28,17 @@ non_decreasing n xs rising i j d le within = elim (cases_lt i j) [
   | inl below ↦ omega (arith, rising i j d below within)
   | inr above ↦ (let same : i ≡ j = omega arith in omega (arith, ap (λ k. n (get_or xs k d)) same))
 ]
+
+-- keys that rise from each element to the next
+rising_from_adjacent : {X : Type 0} (key : X → ℕ) (xs : List X) → AllAdjacentBelow (λ p q. true ≡ nat_lt (key p) (key q)) xs (length xs) → AllPairs (λ r s. key r < key s) xs
+rising_from_adjacent key xs adjacent i j d below within = grind (
+  arith,
+  nat_tests,
+  adjacent i d (omega arith),
+  IsNonDecreasingBy-from_all_adjacent key xs (λ k e inside. let lt = adjacent k e inside in grind (arith, nat_tests)) (i + 1) j d (omega arith) within,
+)
+
+pub rising-decides : {X : Type 0} (key : X → ℕ) (xs : List X) (r : Bool) → IsAllAdjacentAnswer (λ p q b. b ≡ nat_lt (key p) (key q)) xs r → IsTrue r ↔ AllPairs (λ p q. key p < key q) xs
+rising-decides key xs true h = (λ _. rising_from_adjacent key xs h, λ _. refl)
+rising-decides key [] false h = (λ fails. cc, λ rising. let within = h.1 in absurd (omega arith))
+rising-decides key (x ∷ xs) false h = (λ fails. cc, λ rising. let lt = rising h.0 (h.0 + 1) x (omega arith) h.1 in let falls = h.2 x in absurd (grind (arith, nat_tests)))

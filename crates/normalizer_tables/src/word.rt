@@ -18,6 +18,9 @@ ghost use Rattle.normalizer_tables.specs.Words.{
 /// The word of a character that the mapper ignores (UTS #46, section 4).
 pub const IGNORED_MARKER: u32 = 0xFFFF_FFFF;
 
+/// The word of a surrogate, with its flags.
+pub const SURROGATE_WORD: u32 = 0xC000_FFFD;
+
 /// NON_ROUND_TRIP and BACKWARD_COMBINING.
 pub(crate) const FLAGS: u32 = 0xC000_0000;
 

@@ -31,8 +31,8 @@ pub record IsEndOfAlike (hangul_is_sound : Bool) (n end : ℕ) : Type 0 where
 unfoldable pub KeepsPlainBeginning : Characters → Bounds → List Pair → ℕ → Type 0
 KeepsPlainBeginning s b pairs n = is_plain (word_of s n) ≡ true → KeepsBeginning s b pairs n
 
--- what a condition asks of numbers apart from that walk: of surrogates and of Hangul whatever their words, else where the
--- word is 0, flags aside, and there of beginnings alone
+-- what a condition asks of numbers apart from that walk: of surrogates and of Hangul whatever their words, else where
+-- the word is 0, flags aside, and there of beginnings alone
 unfoldable pub IsMetApartAt : Loaded → Condition → Type 0
 IsMetApartAt d Surrogates = (n : ℕ) → is_surrogate n ≡ true → word_of d.characters n ≡ 0xC000FFFD
 IsMetApartAt d Hangul = (n : ℕ) → IsSoundHangul d.characters n

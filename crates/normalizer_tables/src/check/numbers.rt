@@ -22,12 +22,9 @@ use crate::pair_check::results::is_spelled;
 use crate::read::{ReadCharacter, read_character};
 use crate::special::fixed_list_of;
 use crate::word::{
-    IGNORED_MARKER, class_of_word, is_backward_combining, is_class_form, is_hangul_syllable,
-    is_ordinary_class_form, is_special_class_form, low_byte,
+    IGNORED_MARKER, SURROGATE_WORD, class_of_word, is_backward_combining, is_class_form,
+    is_hangul_syllable, is_ordinary_class_form, is_special_class_form, low_byte,
 };
-
-/// The word of every surrogate.
-const SURROGATE_WORD: u32 = 0xC000_FFFD;
 
 /// Whether a condition holds of a character.
 #[tactic(auto, using(crate::proofs::ConditionLemmas::no_surrogate), unfolding(crate::specs::Conditions::HoldsAt))]
