@@ -1,5 +1,5 @@
 -- What the expansion gives is what comes of replacing until nothing changes.
-use Rattle.std.proofs.Common.{◌≡◌, ◌≢◌, ℕ, zero, suc, ◌+◌, ◌↔◌, true, false, List, [], ◌∷◌, ◌++◌, refl, Option, is_some, sym, ap, subst, ◌∙◌}
+use Rattle.std.proofs.Common.{◌≡◌, ◌≢◌, ℕ, zero, suc, ◌+◌, ◌↔◌, true, false, List, [], ◌∷◌, ◌++◌, refl, Option, is_some, sym, ap, subst, subst₂, ◌∙◌}
 use Rattle.std.proofs.Common.{arith, inl, inr, ◌⊎◌, All, Contains, append_assoc, flat_map}
 use Rattle.std.specs.Option.{option_map_or}
 use Rattle.std.proofs.lemmas.Bool.{cases_Bool}
@@ -9,9 +9,9 @@ use Rattle.normal_forms.proofs.PlaceLemmas.{same_or_not}
 use Rattle.normalizer_tables.specs.Hangul.{is_hangul_syllable, hangul_decomposition}
 use Rattle.normalizer_records.specs.declared.records.Mappings.{Mappings}
 use Rattle.normalizer_records.specs.Entry.{Entry, MapperEntry}
-use Rattle.normalizer_records.specs.Meaning.{entry_of, mapping_of, mapping_among, replacement, expansion, ExpandsTo, done, stays, replaced, levels}
+use Rattle.normalizer_records.specs.Meaning.{expand_all, entry_of, mapping_of, mapping_among, replacement, expansion, ExpandsTo, done, stays, replaced, levels}
 use Rattle.normalizer_records.specs.inner.Chains.{LeadsOn}
-use Rattle.normalizer_records.specs.Faults.{IsRecorded, HasChainFault, has_fixed_fault}
+use Rattle.normalizer_records.specs.Faults.{IsRecorded, IsOnLongChain, has_fixed_fault}
 use Rattle.normalizer_records.proofs.ExpansionLemmas.{expansion-alone, expansion-replaced}
 use Rattle.normalizer_records.proofs.SyllableLemmas.{IsJamo, by_jamo, replacement-syllable}
 use Rattle.normalizer_records.proofs.UnrecordedLemmas.{jamo_stays}
@@ -53,7 +53,7 @@ module _ (records : List Entry) (mappings : Mappings) where
     | inr (_, by) ↦ ends_once (replacement records mappings c ++ x) y z rest by
   ]
 
-module _ (records : List Entry) (uts46 : List MapperEntry) (fixed : has_fixed_fault records uts46 ≡ false) (short : HasChainFault records → ⊥) (mappings : Mappings) where
+module _ (records : List Entry) (uts46 : List MapperEntry) (fixed : has_fixed_fault records uts46 ≡ false) (mappings : Mappings) where
   -- fewer than n records lead on from c
   abbrev EndsWithin : ℕ → ℕ → Type 0
   EndsWithin zero c = ⊥
@@ -64,9 +64,9 @@ module _ (records : List Entry) (uts46 : List MapperEntry) (fixed : has_fixed_fa
   EndsWithin-member zero c m h there ends = ends h
   EndsWithin-member (suc n) c m h there ends = λ on. ends (m, there, on)
 
-  EndsWithin-all : (c : ℕ) → EndsWithin 17 c
-  unfolding HasChainFault
-  EndsWithin-all c = λ on. let chain = chain_from_on records 16 c on in let long = chain.2 in short (c ∷ chain.0, chain.1, omega arith)
+  EndsWithin-short : (c : ℕ) → (IsOnLongChain records c → ⊥) → EndsWithin 17 c
+  unfolding IsOnLongChain
+  EndsWithin-short c short = λ on. let chain = chain_from_on records 16 c on in let long = chain.2 in short ([], chain.0, chain.1, omega arith)
 
   replacement-other : (c : ℕ) → is_hangul_syllable c ≡ false → replacement records mappings c ≡ option_map_or (mapping_among mappings) (entry_of records c) []
   unfolding replacement
@@ -108,11 +108,20 @@ module _ (records : List Entry) (uts46 : List MapperEntry) (fixed : has_fixed_fa
         ]) rest))
   ]
 
-  -- the law for one character
-  pub ExpandsTo-expansion : (c : ℕ) (y : List ℕ) → ExpandsTo records mappings (c ∷ []) y ↔ (y ≡ expansion records mappings levels c)
-  ExpandsTo-expansion c y =
-      let whole = append-nil (expansion records mappings 17 c) in
-      let is = comes_of_replacing 17 c (EndsWithin-all c) [] [] done in (
-        λ h. ends_once records mappings (c ∷ []) y _ h is ∙ whole,
-        λ e. subst (ExpandsTo records mappings (c ∷ [])) (whole ∙ sym e) is,
+  -- the law for a text, and for one character
+  pub ExpandsTo-expand_all : (x y : List ℕ) → All (λ c. IsOnLongChain records c → ⊥) x → ExpandsTo records mappings x y ↔ (y ≡ expand_all records mappings x)
+  unfolding expand_all
+  ExpandsTo-expand_all x y short =
+      let each = λ (m : ℕ) (there : Contains x m). comes_of_replacing 17 m (EndsWithin-short m (All-contains (λ c. IsOnLongChain records c → ⊥) x m short there)) in
+      let is : ExpandsTo records mappings x (expand_all records mappings x) =
+      subst₂ (ExpandsTo records mappings) (append-nil x) (append-nil (expand_all records mappings x)) (members_replaced (expansion records mappings 17) x [] [] each done) in (
+        λ h. ends_once records mappings x y _ h is,
+        λ e. subst (ExpandsTo records mappings x) (sym e) is,
       )
+
+  pub ExpandsTo-expansion : (c : ℕ) (y : List ℕ) → (IsOnLongChain records c → ⊥) → ExpandsTo records mappings (c ∷ []) y ↔ (y ≡ expansion records mappings levels c)
+  unfolding expand_all
+  ExpandsTo-expansion c y short =
+      let whole = append-nil (expansion records mappings 17 c) in
+      let by = ExpandsTo-expand_all (c ∷ []) y (λ k d within. let first : k ≡ 0 = omega arith in rw first short) in
+      (λ h. by.0 h ∙ whole, λ e. by.1 (e ∙ sym whole))

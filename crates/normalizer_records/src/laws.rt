@@ -1,15 +1,17 @@
 //! The laws of what records mean. Each function does nothing: its contract is the law, its proof stands in `proofs/`.
-ghost use Rattle.std.specs.Prelude.{◌≡◌, ◌↔◌, ℕ, List, ◌∷◌, [], false};
+ghost use Rattle.std.specs.Prelude.{◌≡◌, ◌↔◌, ℕ, List, ◌∷◌, [], false, All};
 ghost use Rattle.normalizer_records.specs.declared.records.Mappings.{Mappings};
 ghost use Rattle.normalizer_records.specs.Entry.{Entry, MapperEntry};
-ghost use Rattle.normalizer_records.specs.Faults.{has_fixed_fault, HasChainFault};
-ghost use Rattle.normalizer_records.specs.Meaning.{expansion, levels, ExpandsTo};
+ghost use Rattle.normalizer_records.specs.Faults.{has_fixed_fault, IsOnLongChain};
+ghost use Rattle.normalizer_records.specs.Meaning.{expand_all, expansion, levels, ExpandsTo};
 
-/// Where no more than 16 records lead from one to the next, the expansion of a character is what comes of replacing
-/// until nothing changes, and nothing else does.
+/// Where a character is on no chain of more than 16 records, its expansion is what comes of replacing until nothing
+/// changes, and nothing else does. So it is of a text of such characters, one after another.
 pub fn expansion_is_replacing()
-    ensures { (records : List Entry) (uts46 : List MapperEntry) (mappings : Mappings) →
-        has_fixed_fault records uts46 ≡ false → (¬ HasChainFault records) →
-        (c : ℕ) (list : List ℕ) →
+    ensures character { (records : List Entry) (uts46 : List MapperEntry) (mappings : Mappings) →
+        has_fixed_fault records uts46 ≡ false → (c : ℕ) (list : List ℕ) → (¬ IsOnLongChain records c) →
         ExpandsTo records mappings (c ∷ []) list ↔ (list ≡ expansion records mappings levels c) }
+    ensures text { (records : List Entry) (uts46 : List MapperEntry) (mappings : Mappings) →
+        has_fixed_fault records uts46 ≡ false → (text list : List ℕ) → All (λ c. ¬ IsOnLongChain records c) text →
+        ExpandsTo records mappings text list ↔ (list ≡ expand_all records mappings text) }
 {}
