@@ -7,8 +7,6 @@ mod characters;
 mod device;
 mod ending;
 mod mapping;
-#[cfg(test)]
-mod memory;
 mod normalizer;
 mod program;
 mod reply;
@@ -16,8 +14,6 @@ mod run;
 mod set_run;
 mod standard;
 mod task;
-#[cfg(test)]
-mod tests;
 mod transfer;
 mod words;
 mod worker;
