@@ -9,7 +9,7 @@ use std::marker::Model;
 pub enum Kind {
     Canonical,
     Compatibility,
-    /// Of the mapper (UTS #46, section 4).
+    /// The mapper's (UTS #46, section 4).
     Mapper,
 }
 
@@ -28,7 +28,7 @@ pub struct Entry {
     pub class: u8,
     pub canonical: Vec<char>,
     pub compatibility: Vec<char>,
-    /// Nothing where the mapper ignores the character.
+    /// `None` if the mapper ignores the character.
     pub mapper: Option<Vec<char>>,
     pub mapping: Option<Mapping>,
 }
@@ -50,7 +50,7 @@ impl Model for Entry {
 }
 
 impl Entry {
-    /// The full decomposition in one kind of data. Nothing where the mapper ignores the character.
+    /// Returns the full decomposition in one kind of data, `None` if the mapper ignores the character.
     pub fn list(&self, kind: Kind) -> Option<&[char]>
         ensures { option_copied result ≡ own_list kind self.now }
     {
