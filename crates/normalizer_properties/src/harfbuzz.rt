@@ -1,4 +1,4 @@
-//! The traits by which a shaper asks for properties of characters, with the answers of the properties.
+//! Traits by which a shaper uses properties of characters. The types of `properties` implement them.
 ghost use Rattle.std.specs.Prelude.{◌≡◌};
 ghost use Rattle.normalizer_properties.specs.Shapers.{shaper_mapping};
 
@@ -7,7 +7,7 @@ use crate::composition::{CanonicalComposition, CanonicalCompositionBorrowed};
 use crate::decomposition::{CanonicalDecomposition, CanonicalDecompositionBorrowed};
 use normalizer_tables::step::Step as Decomposed;
 
-/// What two characters compose to.
+/// Composition of two characters.
 pub trait ComposeFunc {
     ghost use Rattle.std.specs.Prelude.{ℕ, Option};
 
@@ -23,7 +23,8 @@ pub trait DecomposeFunc {
 
     ghost mapping: { Self → ℕ → Option (ℕ × ℕ) };
 
-    /// The two characters that it maps to; the one, with U+0000 behind it; or nothing where it has no mapping.
+    /// Returns the two characters that `character` maps to; the one, with U+0000 after it; or `None` if it has no
+    /// mapping.
     fn decompose(&self, character: char) -> Option<(char, char)>
         ensures { result ≡ mapping self.now character };
 }
