@@ -66,6 +66,11 @@ impl<'a> DecomposingNormalizerBorrowed<'a> {
     ///
     /// # Errors
     /// `Memory` if an allocation was refused. None is made unless more than 17 characters are buffered at a time.
+    ///
+    /// # Examples
+    /// ```rust
+    /// normalizer.is_normalized(text)
+    /// ```
     pub fn is_normalized(&self, text: &str) -> Result<bool, NormalizeError>
         ensures { ChecksText (decomposed_by self.now) (chars text.now) result }
     {
@@ -154,6 +159,11 @@ impl<'a> ComposingNormalizerBorrowed<'a> {
     ///
     /// # Errors
     /// `Memory` if an allocation was refused. None is made unless more than 17 characters are buffered at a time.
+    ///
+    /// # Examples
+    /// ```rust
+    /// normalizer.is_normalized(text)
+    /// ```
     pub fn is_normalized(&self, text: &str) -> Result<bool, NormalizeError>
         ensures { ChecksText (composed_by self.now) (chars text.now) result }
     {

@@ -150,6 +150,11 @@ impl<'a> DecomposingNormalizerBorrowed<'a> {
     /// `Memory` if reading up to the first boundary needed memory that was refused. Items are `Result`s for the same
     /// reason: after one `Err`, only `None` comes. Memory is needed only if more than 17 characters are buffered at a
     /// time.
+    ///
+    /// # Examples
+    /// ```rust
+    /// collected(alloc, normalizer.normalize_iter(Utf8Chars::new(bytes))?)
+    /// ```
     pub fn normalize_iter<I: Iterator<Item = char> + Drop>(
         &self,
         iter: I,

@@ -43,6 +43,12 @@ impl<'a> DecomposingNormalizerBorrowed<'a> {
     ///
     /// After either, a beginning of the form was written, if refused calls of the sink take nothing. The normalizer is
     /// unchanged.
+    ///
+    /// # Examples
+    /// ```rust
+    /// let mut form = String::new(alloc);
+    /// normalizer.normalize_utf8_to(bytes, &mut form)?;
+    /// ```
     pub fn normalize_utf8_to<W: Write>(
         &self,
         bytes: &[u8],
@@ -66,6 +72,12 @@ impl<'a> DecomposingNormalizerBorrowed<'a> {
     ///
     /// After either, a beginning of the form was written, if refused calls of the sink take nothing. The normalizer is
     /// unchanged.
+    ///
+    /// # Examples
+    /// ```rust
+    /// let mut form = Vec::new(alloc);
+    /// normalizer.normalize_utf16_to(units, &mut form)?;
+    /// ```
     pub fn normalize_utf16_to<W: Write16>(
         &self,
         units: &[u16],
@@ -112,6 +124,12 @@ impl<'a> ComposingNormalizerBorrowed<'a> {
     ///
     /// After either, a beginning of the form was written, if refused calls of the sink take nothing. The normalizer is
     /// unchanged.
+    ///
+    /// # Examples
+    /// ```rust
+    /// let mut form = String::new(alloc);
+    /// normalizer.normalize_utf8_to(bytes, &mut form)?;
+    /// ```
     pub fn normalize_utf8_to<W: Write>(
         &self,
         bytes: &[u8],
@@ -135,6 +153,12 @@ impl<'a> ComposingNormalizerBorrowed<'a> {
     ///
     /// After either, a beginning of the form was written, if refused calls of the sink take nothing. The normalizer is
     /// unchanged.
+    ///
+    /// # Examples
+    /// ```rust
+    /// let mut form = Vec::new(alloc);
+    /// normalizer.normalize_utf16_to(units, &mut form)?;
+    /// ```
     pub fn normalize_utf16_to<W: Write16>(
         &self,
         units: &[u16],
