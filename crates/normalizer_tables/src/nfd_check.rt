@@ -34,6 +34,12 @@ const NFD_DATA: [Condition; 9] = [
 ///
 /// # Errors
 /// `FutureExtension` for condition 1; otherwise `Invalid` with the lowest-numbered condition that fails.
+///
+/// # Examples
+/// ```rust
+/// check_nfd_data(decompositions, tables)?;
+/// let normalizer = DecomposingNormalizerBorrowed::new_with_data(decompositions, tables);
+/// ```
 pub fn check_nfd_data<'a>(
     decompositions: &'a DecompositionData,
     tables: &'a DecompositionTables,
