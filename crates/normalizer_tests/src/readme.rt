@@ -1,4 +1,4 @@
-//! The example of the README, as it stands there.
+//! The example of the README, word for word.
 use icu_normalizer::{ComposingNormalizer, Record, Records};
 use std::alloc::Global;
 
