@@ -1,4 +1,5 @@
-//! Text, bytes and 16-bit units in two parts: the front that stays whatever follows, and the rest.
+//! Text, bytes and 16-bit units in two parts: the longest front that the form leaves as it is, and the
+//! rest.
 ghost use Rattle.std.specs.Prelude.{◌≡◌, chars};
 ghost use Rattle.normalizer_text.specs.Encodings.{Encoding, decoded_in};
 ghost use Rattle.normalizer_text.specs.Steps.{IsWellFormed};
