@@ -6,7 +6,9 @@
 /// and NFKC.
 #[derive(Clone, Copy, PartialEq, Eq, Debug)]
 pub enum Form {
+    /// NFD, or NFKD.
     Decomposing,
+    /// NFC, or NFKC.
     Composing,
 }
 
