@@ -44,6 +44,7 @@ static FDFA: [char; 18] = [
 ];
 
 impl<'a> Members<'a> {
+    /// Returns how many members there are.
     pub fn len(&self) -> usize
         ensures { result ≡ length self.now }
     {

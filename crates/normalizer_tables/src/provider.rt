@@ -13,12 +13,19 @@ use thiserror::Error;
 /// The markers of data, in their order.
 #[derive(Clone, Copy, Debug, PartialEq, Eq)]
 pub enum DataMarkerInfo {
+    /// Canonical decompositions.
     NormalizerNfdDataV1,
+    /// Compatibility decompositions.
     NormalizerNfkdDataV1,
+    /// The mapper's decompositions.
     NormalizerUts46DataV1,
+    /// The lists of canonical decompositions.
     NormalizerNfdTablesV1,
+    /// The further lists of compatibility decompositions and of the mapper's.
     NormalizerNfkdTablesV1,
+    /// The composing pairs.
     NormalizerNfcV1,
+    /// The supplement for single canonical decomposition steps.
     NormalizerNfdSupplementV1,
 }
 
@@ -34,19 +41,24 @@ pub enum DataError {
     /// The data break the written condition of this number (`docs/CONDITIONS.md`), the lowest that fails.
     #[error("the data of {marker:?} break condition {condition}")]
     Invalid {
+        /// The kind of data.
         marker: DataMarkerInfo,
+        /// The number of the condition.
         condition: u8,
     },
+    /// An allocation was refused.
     #[error("out of memory")]
     Memory,
 }
 
 /// A marker: a kind of data, with its type and its place among the markers.
 pub trait DataMarker {
+    /// The type of the data.
     type Data;
 
     ghost INFO: { DataMarkerInfo };
 
+    /// Its place among the markers.
     const INFO: DataMarkerInfo;
 }
 
@@ -68,7 +80,9 @@ pub trait DataProvider<M: DataMarker> {
 /// by composing.
 #[derive(Drop, Clone, PartialEq, Eq)]
 pub struct DecompositionData {
+    /// The words.
     pub table: CodePointTable,
+    /// The number below which no character changes by composing.
     pub passthrough_cap: u16,
 }
 
@@ -83,7 +97,9 @@ impl Model for DecompositionData {
 /// The lists of characters that words point into.
 #[derive(Drop, Clone, PartialEq, Eq)]
 pub struct DecompositionTables {
+    /// The lists of characters up to U+FFFF, one after another.
     pub scalars16: Scalars16,
+    /// The other lists, one after another.
     pub scalars24: Scalars24,
 }
 
@@ -98,7 +114,9 @@ impl Model for DecompositionTables {
 /// What single decomposition steps need beside the words.
 #[derive(Drop, Clone, PartialEq, Eq)]
 pub struct NonRecursiveDecompositionSupplement {
+    /// The words of the characters that need them.
     pub table: CodePointTable,
+    /// The pairs of characters that they point to.
     pub scalars24: Scalars24,
 }
 

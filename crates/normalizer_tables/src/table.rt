@@ -17,6 +17,7 @@ pub enum TableError {
     /// A first number above its last, a last above 0x10FFFF, or ranges that overlap or don't rise.
     #[error("the ranges of a table overlap, don't rise, or leave the code points")]
     Ranges,
+    /// An allocation was refused.
     #[error("out of memory")]
     Memory,
 }
