@@ -9,19 +9,17 @@ use std::marker::Model;
 use thiserror::Error;
 
 /// A record of one character: its class and its mapping, as in a line of `UnicodeData.txt`.
-///
-/// - `c`: the character. `class`: its canonical combining class.
-/// - `mapping`: its decomposition mapping, not replaced further. An empty one is none, and the two flags are then
-///   ignored.
-/// - `compatibility`: whether the mapping is a compatibility mapping.
-/// - `excluded`: whether the character is excluded from composition (`CompositionExclusions.txt`). Only canonical
-///   mappings of two characters use it.
 #[derive(Drop, Clone, Debug)]
 pub struct Record {
+    /// The character.
     pub c: char,
+    /// Its canonical combining class.
     pub class: u8,
+    /// Its decomposition mapping, not replaced further. An empty one is none, and the two flags are then ignored.
     pub mapping: Vec<char>,
+    /// Whether the mapping is a compatibility mapping.
     pub compatibility: bool,
+    /// Whether the character is excluded from composition. Only canonical mappings of two characters use it.
     pub excluded: bool,
 }
 
@@ -64,15 +62,20 @@ impl Eq for Record {
 /// U+FFFD.
 #[derive(Drop, Clone, PartialEq, Eq, Debug)]
 pub enum Uts46Status {
+    /// It is mapped to these characters, at least one.
     Mapped(Vec<char>),
+    /// It is dropped.
     Ignored,
+    /// It is replaced by U+FFFD.
     Disallowed,
 }
 
 /// A record of one character for the mapper.
 #[derive(Drop, Clone, Debug)]
 pub struct Uts46Record {
+    /// The character.
     pub c: char,
+    /// What the mapper does with it.
     pub status: Uts46Status,
 }
 
@@ -106,7 +109,9 @@ impl Eq for Uts46Record {
 /// Which mappings are replaced: the canonical ones alone, or all.
 #[derive(Clone, Copy, PartialEq, Eq, Debug)]
 pub enum Mappings {
+    /// Canonical mappings.
     Canonical,
+    /// Canonical and compatibility mappings.
     All,
 }
 
@@ -137,12 +142,15 @@ pub enum BuildError {
     /// The data that the records make break the written condition of this number (`docs/CONDITIONS.md`).
     #[error("the data of {marker:?} break condition {condition}")]
     Unfit {
+        /// The kind of data.
         marker: DataMarkerInfo,
+        /// The number of the condition.
         condition: u8,
     },
     /// The lists that need tables have more than 8,191 items together.
     #[error("the lists have more items than the tables hold")]
     TableFull,
+    /// An allocation was refused.
     #[error("out of memory")]
     Memory,
 }
