@@ -7,7 +7,9 @@ use std::marker::Model;
 /// The three kinds of decomposition data.
 #[derive(Clone, Copy, Debug, PartialEq, Eq)]
 pub enum Kind {
+    /// Canonical decompositions.
     Canonical,
+    /// Compatibility decompositions.
     Compatibility,
     /// The mapper's (UTS #46, section 4).
     Mapper,
@@ -16,7 +18,9 @@ pub enum Kind {
 /// A canonical mapping as it is recorded, before it is replaced further.
 #[derive(Clone, Copy, Debug, PartialEq, Eq)]
 pub enum Mapping {
+    /// To one character.
     One(char),
+    /// To two characters.
     Two(char, char),
 }
 
@@ -24,12 +28,17 @@ pub enum Mapping {
 /// mapping.
 #[derive(Drop)]
 pub struct Entry {
+    /// The character.
     pub character: char,
+    /// Its canonical combining class.
     pub class: u8,
+    /// Its list in canonical data.
     pub canonical: Vec<char>,
+    /// Its list in compatibility data.
     pub compatibility: Vec<char>,
     /// `None` if the mapper ignores the character.
     pub mapper: Option<Vec<char>>,
+    /// Its recorded canonical mapping, if it has one.
     pub mapping: Option<Mapping>,
 }
 
