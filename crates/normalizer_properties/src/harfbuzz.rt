@@ -13,6 +13,7 @@ pub trait ComposeFunc {
 
     ghost composite: { Self → ℕ → ℕ → Option ℕ };
 
+    /// Returns what two characters compose to, if they do.
     fn compose(&self, a: char, b: char) -> Option<char>
         ensures { result ≡ composite self.now a b };
 }
@@ -35,6 +36,7 @@ pub trait CombiningClassFunc {
 
     ghost class: { Self → ℕ → ℕ };
 
+    /// Returns the class of a character, 0 for a starter.
     fn combining_class(&self, character: char) -> u8
         ensures { result ≡ class self.now character };
 }
