@@ -29,9 +29,13 @@ use std::alloc::Global;
 /// The four normal forms (UAX #15, section 1.2).
 #[derive(Clone, Copy, Debug, PartialEq, Eq)]
 pub enum NormalForm {
+    /// Canonical decomposition.
     Nfd,
+    /// Canonical decomposition, then canonical composition.
     Nfc,
+    /// Compatibility decomposition.
     Nfkd,
+    /// Compatibility decomposition, then canonical composition.
     Nfkc,
 }
 
