@@ -1,4 +1,29 @@
-//! Unicode normalization over data handed in (Unicode Standard Annex #15).
+//! Unicode normalization forms NFC, NFD, NFKC and NFKD (Unicode Standard Annex #15), over data that are handed in and
+//! checked. No Unicode data come with the crate.
+//!
+//! [`ComposingNormalizer`] makes NFC and NFKC, [`DecomposingNormalizer`] NFD and NFKD; their borrowed types have the
+//! calls. Inputs are `&str`, bytes that may not be UTF-8 and 16-bit units that may not be UTF-16 (ill-formed sequences
+//! read as U+FFFD), and iterators of `char`. Checks never return 'maybe'. Forms are returned, borrowed if the input is
+//! already normalized, or written to a [`sink`].
+//!
+//! Data come from a [`DataProvider`]. [`Records::build`] makes one from plain records of characters. Constructors
+//! check all data by written conditions (`docs/CONDITIONS.md`) and refuse bad ones; all promises hold for all data
+//! that pass.
+//!
+//! - [`properties`]: canonical combining classes, the pairs that compose, and single decomposition steps.
+//! - [`uts46`]: the mapper of UTS #46.
+//! - [`harfbuzz`]: traits for shapers.
+//! - [`provider`]: data, markers and their trait.
+//! - [`sink`]: sinks of text, in UTF-8 or UTF-16.
+//!
+//! # Examples
+//! ```rust
+//! let data = Records::build(alloc, &[umlaut, diaeresis], &[]).ok()?;
+//! let normalizer = ComposingNormalizer::try_new_nfc_unstable(&data).ok()?;
+//! let mut form = String::new(alloc);
+//! normalizer.as_borrowed().normalize_to(text, &mut form).ok()?;
+//! ```
+//! The README has it whole, and `docs/GUIDE.md` an example for each task.
 #![tactic(auto)]
 
 pub mod properties;

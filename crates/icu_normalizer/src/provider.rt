@@ -1,4 +1,4 @@
-//! Data of normalizers, and the providers that they come from.
+//! The data of normalizers, their markers, and the trait of their providers.
 pub use normalizer_tables::{
     CanonicalCompositions, CodePointTable, DataError, DataMarker, DataMarkerInfo, DataProvider,
     DecompositionData, DecompositionTables, NonRecursiveDecompositionSupplement, NormalizerNfcV1,

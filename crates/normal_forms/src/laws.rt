@@ -1,5 +1,5 @@
-//! The laws of the normal forms, over any reading of characters and both forms. Each function does nothing: its
-//! contract is the law, and its proof stands in `proofs/`.
+//! The laws of the normal forms, for any reading of characters and both forms. Each function does nothing: its
+//! contract is the law, and its proof is in `proofs/`.
 
 ghost use Rattle.std.specs.Prelude.{◌≡◌, ◌≢◌, ℕ, ◌≤◌, ◌<◌, ◌⊎◌, ◌+◌, ◌-◌, ◌↔◌, Bool, true, false, Option, Some, None};
 ghost use Rattle.std.specs.Prelude.{List, [], ◌∷◌, ◌++◌, length, take, drop, slice_get, All};
@@ -32,18 +32,18 @@ pub fn canonical_order()
     ensures { (d : Reading) (x y : List ℕ) → InOrder d x y ↔ (y ≡ order d x) }
 {}
 
-/// The composition by visits (D117) is the composition by starters, where what a pair joins to is a starter.
+/// Composition by visits (D117) equals composition by starters, if what a pair joins to is a starter.
 pub fn composition_by_starters()
     ensures { (d : Reading) → HasStarterResults d → (x : List ℕ) → compose d x ≡ compose_by_starters d x }
 {}
 
-/// A common front cancels: no character behind it can tell how it was followed.
+/// A common front cancels: if two texts with a common front have equal order, so have the texts after it.
 pub fn left_cancellation()
     ensures { (d : Reading) (u v w : List ℕ) → order d (u ++ v) ≡ order d (u ++ w) → order d v ≡ order d w }
 {}
 
-/// Two texts are equivalent exactly where their normal forms are equal: for the decomposing form, where their full
-/// decompositions in canonical order are (D70). They are so through texts alone where characters decompose to texts.
+/// Two texts are equivalent exactly if their normal forms are equal: for the decomposing form, if their full
+/// decompositions in canonical order are (D70). They are so through texts alone if characters decompose to texts.
 pub fn canonicity()
     ensures lists { (d : Reading) (form : Form) → SuitsForm d form → (x y : List ℕ) →
         Equivalent d x y ↔ (normal_form d form x ≡ normal_form d form y) }
@@ -52,13 +52,13 @@ pub fn canonicity()
         EquivalentTexts d x y ↔ (normal_form d form x ≡ normal_form d form y) }
 {}
 
-/// No two texts are equivalent only by way of lists that are no texts.
+/// No two texts are equivalent only by way of lists that aren't texts.
 pub fn equivalence_stays_within_texts()
     ensures { (d : Reading) → HasFullLists d → HasTextLists d → (x y : List ℕ) → IsText x → IsText y →
         Equivalent d x y ↔ EquivalentTexts d x y }
 {}
 
-/// The forms of a text are texts, where characters decompose to texts, and join to characters.
+/// The forms of a text are texts, if characters decompose to texts and join to characters.
 pub fn forms_are_texts()
     ensures decomposing { (d : Reading) → HasTextLists d → (x : List ℕ) → IsText x → IsText (nfd d x) }
     ensures forms { (d : Reading) (form : Form) → HasTextLists d → HasScalarResults d →
@@ -72,7 +72,7 @@ pub fn twice_is_once()
 {}
 
 /// The two forms of a text have the same decomposing form and the same composing form; so two texts have equal
-/// composing forms exactly where they have equal decomposing forms.
+/// composing forms exactly if they have equal decomposing forms.
 pub fn composing_keeps_decomposing()
     ensures decomposed { (d : Reading) → SuitsForm d Composing → (x : List ℕ) → nfd d (nfc d x) ≡ nfd d x }
     ensures composed { (d : Reading) → HasFullLists d → (x : List ℕ) → nfc d (nfd d x) ≡ nfc d x }
@@ -80,7 +80,7 @@ pub fn composing_keeps_decomposing()
         (nfc d x ≡ nfc d y) ↔ (nfd d x ≡ nfd d y) }
 {}
 
-/// A number qualifies for the cut exactly where so many characters are a common front of the text and its form. So 0
+/// A number qualifies for the cut exactly if that many characters are a common front of the text and its form. So 0
 /// qualifies, and every number below one that does.
 pub fn cut_is_common_front()
     ensures exactly { (d : Reading) (form : Form) → SuitsForm d form → (x : List ℕ) (n : ℕ) →
@@ -90,7 +90,7 @@ pub fn cut_is_common_front()
         QualifiesForCut d form x n → m ≤ n → QualifiesForCut d form x m }
 {}
 
-/// Every text has exactly one cut. Where the laws hold it is the length of the longest common front of the text and its
+/// Every text has exactly one cut. If the laws hold, it is the length of the longest common front of the text and its
 /// form.
 pub fn one_cut()
     ensures exists { (d : Reading) (form : Form) (x : List ℕ) → (n : ℕ) × IsCut d form x n }
@@ -99,7 +99,7 @@ pub fn one_cut()
         (m : ℕ) → IsCommonFront x (normal_form d form x) m → m ≤ n }
 {}
 
-/// The prefix at the cut is its own form; the rest is empty or is not its own form.
+/// The prefix at the cut is normalized; the rest is empty or is not.
 pub fn parts_at_cut()
     ensures prefix { (d : Reading) (form : Form) → SuitsForm d form → (x : List ℕ) (n : ℕ) → IsCut d form x n →
         IsNormalized d form (take n x) }
@@ -115,14 +115,14 @@ pub fn parts_of_normal_form()
         normal_form d form x ≡ front ++ rest → IsNormalized d form rest }
 {}
 
-/// A text is its own form exactly where it is a front of its form, and exactly where its cut is its length.
+/// A text is normalized exactly if it is a front of its form, and exactly if its cut is its length.
 pub fn normalized_is_front()
     ensures front { (d : Reading) (form : Form) → SuitsForm d form → (x : List ℕ) →
         IsNormalized d form x ↔ IsFront x (normal_form d form x) }
     ensures cut { (d : Reading) (form : Form) (x : List ℕ) → IsNormalized d form x ↔ IsCut d form x (length x) }
 {}
 
-/// A text that is not its own form has exactly one first offence, and the character found there is not the one wanted.
+/// A text that isn't normalized has exactly one first mismatch, and the character found there is not the one expected.
 pub fn first_offence()
     ensures exists { (d : Reading) (form : Form) → HasInhabitedLists d → (x : List ℕ) → normal_form d form x ≢ x →
         (place : ℕ) × (found : ℕ) × (wanted : ℕ) × IsFirstOffence d form x place found wanted }
@@ -133,7 +133,7 @@ pub fn first_offence()
         IsFirstOffence d form x place found wanted → found ≢ wanted }
 {}
 
-/// Every text has exactly one answer: its first offence, or none exactly where it is its own form.
+/// A search for the first mismatch of a text has exactly one result: none exactly if the text is normalized.
 pub fn offence_of_text()
     ensures exists { (d : Reading) (form : Form) → HasInhabitedLists d → (x : List ℕ) →
         (o : Option (ℕ × ℕ × ℕ)) × IsOffenceOf d form x o }
@@ -143,7 +143,8 @@ pub fn offence_of_text()
         IsOffenceOf d form x o → (o ≡ None) ↔ IsNormalized d form x }
 {}
 
-/// What is found stands in the text at the place of the first offence, and what is wanted in the form of the whole.
+/// The character found is in the text at the place of the first mismatch, and the one expected in the form of the
+/// whole.
 pub fn characters_at_offence()
     ensures found { (d : Reading) (form : Form) (x : List ℕ) (place found wanted : ℕ) →
         IsFirstOffence d form x place found wanted → slice_get x place ≡ Some found }
@@ -151,7 +152,7 @@ pub fn characters_at_offence()
         IsFirstOffence d form x place found wanted → slice_get (normal_form d form x) place ≡ Some wanted }
 {}
 
-/// What is put behind a text mends no offence: the longer text has one too, at a place no later.
+/// Appending never removes the first mismatch of a text: the longer text has one too, at a place no later.
 pub fn offence_under_continuation()
     ensures cut { (d : Reading) (form : Form) → SuitsForm d form → (x y : List ℕ) (n m : ℕ) →
         normal_form d form x ≢ x → IsCut d form x n → IsCut d form (x ++ y) m → m ≤ n }
@@ -162,8 +163,8 @@ pub fn offence_under_continuation()
         (place : ℕ) × (found' : ℕ) × (wanted' : ℕ) × IsFirstOffence d form (x ++ y) place found' wanted' × (place ≤ n) }
 {}
 
-/// A text offered piece by piece: where the form of a front stands at the front of the text, it is that front. So a
-/// form never ends early: where it stands at the front of its text, it is the text.
+/// If the form of a front is at the front of the text, that front is normalized. So no text is a proper extension of
+/// its own form.
 pub fn offered_front()
     ensures piece { (d : Reading) (form : Form) → SuitsForm d form → HasInhabitedLists d → (u v : List ℕ) →
         IsFront (normal_form d form u) (u ++ v) → IsNormalized d form u }
@@ -171,8 +172,8 @@ pub fn offered_front()
         IsFront (normal_form d form x) x → IsNormalized d form x }
 {}
 
-/// Each part is normalized apart where the second begins with a starter, for the composing form one that is second in
-/// no pair (UAX #15, section 1.4).
+/// Each part is normalized apart if the second begins with a starter, for the composing form one that is second in no
+/// pair (UAX #15, section 1.4).
 pub fn safe_boundary()
     ensures decomposing { (d : Reading) (u v : List ℕ) → BeginsWithStarter d (expand d v) →
         nfd d (u ++ v) ≡ nfd d u ++ nfd d v }
@@ -180,7 +181,8 @@ pub fn safe_boundary()
         nfc d (u ++ v) ≡ nfc d u ++ nfc d v }
 {}
 
-/// A run of characters that are their own forms, each with a list that begins so, is passed on whole.
+/// A run of characters that are their own forms, each with a list that begins so, is its own form, apart from what
+/// follows.
 pub fn run_passed_on()
     ensures decomposing { (d : Reading) (u run v : List ℕ) →
         All (λ c. (nfd d (c ∷ []) ≡ c ∷ []) × BeginsWithStarter d (d.list c)) run → BeginsWithStarter d (expand d v) →
@@ -190,9 +192,9 @@ pub fn run_passed_on()
         nfc d (u ++ (run ++ v)) ≡ nfc d u ++ (run ++ nfc d v) }
 {}
 
-/// The decomposing form may be read lazily. Ahead of the first chunk stands what leads it, in order; each chunk gives
-/// the first of its character's list, then the rest of that list and the lists of what follows up to the next chunk, in
-/// order. Characters with an empty list may stand anywhere in a chunk.
+/// The decomposing form may be read lazily: first what comes before the first chunk, in order; then for each chunk the
+/// first of its character's list, and, in order, the rest of that list and the lists of what follows up to the next
+/// chunk. Characters with an empty list may be anywhere in a chunk.
 pub fn lazy_reading()
     ensures leading { (d : Reading) (leading rest : List ℕ) → BeginsChunk d rest →
         nfd d (leading ++ rest) ≡ order d (expand d leading) ++ nfd d rest }
@@ -201,8 +203,8 @@ pub fn lazy_reading()
         nfd d (c ∷ (following ++ rest)) ≡ first ∷ (order d (tail ++ expand d following) ++ nfd d rest) }
 {}
 
-/// Short runs pass to every rest, and bound what waits: the lists of the leading characters that continue, and the list
-/// of another character after its first with the lists of those that continue behind it.
+/// Short runs pass to every rest, and bound what is buffered: the lists of the leading characters that continue, and
+/// the list of another character after its first with the lists of those that continue after it.
 pub fn short_runs()
     ensures rest { (has_class_form : ℕ → Bool) (d : Reading) (front rest : List ℕ) →
         HasShortRuns has_class_form d (front ++ rest) → HasShortRuns has_class_form d rest }
@@ -215,8 +217,8 @@ pub fn short_runs()
         length (tail ++ expand d following) ≤ places }
 {}
 
-/// Over a run of marks composition is one pass, which gives a starter and the marks that stay. A character joins behind
-/// marks in order exactly where none waits or the last one has a lower class.
+/// Over a run of marks composition is one pass, which yields a starter and the marks that stay. A character joins
+/// after ordered marks exactly if none stays or the last one has a lower class.
 pub fn composition_over_marks()
     ensures pass { (d : Reading) (a : ℕ) (waiting marks rest : List ℕ) → All (IsMark d) marks →
         compose_after d a waiting (marks ++ rest) ≡
@@ -226,7 +228,7 @@ pub fn composition_over_marks()
         (is_above d waiting c ≡ true) ↔ ((waiting ≡ []) ⊎ IsLastBelow d waiting c) }
 {}
 
-/// Readings that say the same make the same forms, and suit the laws alike.
+/// Readings that agree on every character and every pair make the same forms, and satisfy the same hypotheses.
 pub fn alike_readings_make_the_same_forms()
     ensures same { (d e : Reading) → AreAlike d e → (form : Form) (x : List ℕ) →
         normal_form d form x ≡ normal_form e form x }
@@ -236,13 +238,13 @@ pub fn alike_readings_make_the_same_forms()
     ensures scalars { (d e : Reading) → AreAlike d e → HasScalarResults d → HasScalarResults e }
 {}
 
-/// The decomposing form looks at no pairs: readings of the same lists and classes have the same one.
+/// The decomposing form doesn't depend on pairs: readings of the same lists and classes have the same one.
 pub fn decomposing_looks_at_no_pairs()
     ensures { (d e : Reading) → ((c : ℕ) → d.list c ≡ e.list c) → ((c : ℕ) → d.class c ≡ e.class c) →
         (x : List ℕ) → nfd d x ≡ nfd e x }
 {}
 
-/// A starter from which a character isn't blocked is the last before it: only marks stand between (D115).
+/// A starter from which a character isn't blocked is the last before it: only marks are between (D115).
 pub fn unblocked_starter_is_last()
     ensures { (d : Reading) (between : List ℕ) (c : ℕ) → is_blocked d between c ≡ false → All (IsMark d) between }
 {}

@@ -37,7 +37,7 @@ pub record PacksRecords (records : List Entry) (uts46 : List MapperEntry) (p : P
   pub rising_pairs : ArePairsRising pairs
   pub packs : Packs entries pairs p
 
--- the distinct lists that no word spells have more items than words can point to
+-- the distinct lists that no word spells have more items than the limit
 pub record HasTooManyItems (records : List Entry) (uts46 : List MapperEntry) : Type 0 where
   pub entries : List CharacterEntry
   pub made : AreMadeOf records uts46 entries

@@ -13,12 +13,23 @@ use normalizer_packing::{PackError, Packed, pack};
 use normalizer_records::{BuildError, Record, Refusal, Uts46Record, first_refusal, pairs};
 use std::alloc::{AllocError, Global};
 
-/// Plain records of characters.
+/// Builds data from plain records of characters.
 pub struct Records;
 
 impl Records {
-    /// Data that pack records: their classes, lists and pairs, and the steps of their canonical mappings. Records that
-    /// give no such data, or data that a constructor would refuse, are refused for the smallest cause.
+    /// Builds data from `records`, and from `uts46` for the mapper: classes, lists, pairs and single decomposition
+    /// steps. Each must rise by character. Without a mapper, pass `&[]`.
+    ///
+    /// What is built means what the records mean for every character, and every constructor accepts it.
+    ///
+    /// # Errors
+    /// The first thing that is wrong, in the order of [`BuildError`], or `Memory`.
+    ///
+    /// # Examples
+    /// ```rust
+    /// let data = Records::build(alloc, &[umlaut, diaeresis], &[]).ok()?;
+    /// let normalizer = ComposingNormalizer::try_new_nfc_unstable(&data).ok()?;
+    /// ```
     #[tactic(auto, unfolding(crate::specs::Building::IsSmallest))]
     pub fn build(
         alloc: Global,

@@ -1,4 +1,4 @@
-//! Data that were built, handed out as a provider's.
+//! Data that were built: a provider of all markers.
 ghost use Rattle.std.specs.Prelude.{◌≡◌, Ok, Some, IfErr, IfOk};
 ghost use Rattle.normalizer_tables.specs.declared.provider.DataError.TheVariants.{Memory};
 
@@ -11,7 +11,8 @@ use normalizer_tables::{
 };
 use std::alloc::AllocError;
 
-/// Data of all markers.
+/// Data built from records: a provider for all seven markers. [`Records::build`](crate::Records::build) makes it.
+/// `load` copies what is held.
 #[derive(Drop)]
 pub struct Built {
     pub(crate) packed: Packed,

@@ -1,4 +1,4 @@
-//! Builds normalization data from plain records, and tells which written condition packed data break.
+//! Builds normalization data from plain records.
 #![tactic(auto)]
 
 mod build;

@@ -1,4 +1,4 @@
-//! Whether text, bytes and 16-bit units are their own normal form, and where they first are not.
+//! Whether text, bytes and 16-bit units are normalized, and where they first are not.
 ghost use Rattle.std.specs.Prelude.{chars};
 ghost use Rattle.normalizer_text.specs.Encodings.{Encoding};
 ghost use Rattle.normalizer_calls.specs.Checks.{
@@ -62,14 +62,25 @@ fn lasting_offence_of_text<'t, N: LawfulItems<Chars<&'t str>>>(
 }
 
 impl<'a> DecomposingNormalizerBorrowed<'a> {
-    /// Whether a text is its own decomposed form.
+    /// Returns whether `text` is already in its decomposed form. There is no 'maybe'.
+    ///
+    /// # Errors
+    /// `Memory` if an allocation was refused. None is made unless more than 17 characters are buffered at a time.
+    ///
+    /// # Examples
+    /// ```rust
+    /// normalizer.is_normalized(text)
+    /// ```
     pub fn is_normalized(&self, text: &str) -> Result<bool, NormalizeError>
         ensures { ChecksText (decomposed_by self.now) (chars text.now) result }
     {
         is_own_text(self, text)
     }
 
-    /// Whether bytes are well-formed and their own decomposed form.
+    /// Returns whether `bytes` are well-formed UTF-8 that is already in its decomposed form.
+    ///
+    /// # Errors
+    /// `Memory` if an allocation was refused. None is made unless more than 17 characters are buffered at a time.
     pub fn is_normalized_utf8(&self, bytes: &[u8]) -> Result<bool, NormalizeError>
         ensures { ChecksForm (decomposed_by self.now) Encoding.Utf8 bytes.now result }
     {
@@ -79,21 +90,46 @@ impl<'a> DecomposingNormalizerBorrowed<'a> {
         }
     }
 
-    /// Whether 16-bit units are well-formed and their own decomposed form.
+    /// Returns whether 16-bit units are well-formed UTF-16 that is already in its decomposed form.
+    ///
+    /// # Errors
+    /// `Memory` if an allocation was refused. None is made unless more than 17 characters are buffered at a time.
     pub fn is_normalized_utf16(&self, units: &[u16]) -> Result<bool, NormalizeError>
         ensures { ChecksForm (decomposed_by self.now) Encoding.Utf16 units.now result }
     {
         is_own_form::<&[u16], Self>(self, units)
     }
 
-    /// The first place at which a text is not its own decomposed form, in bytes.
+    /// Returns the first place where `text` differs from its decomposed form: the byte offset, the character found
+    /// there and the one expected; `None` if `text` is normalized.
+    ///
+    /// Appending to `text` never removes the mismatch, and never moves it to a later offset.
+    ///
+    /// # Errors
+    /// `Memory` if an allocation was refused. None is made unless more than 17 characters are buffered at a time.
+    ///
+    /// # Examples
+    /// ```rust
+    /// match normalizer.first_offence(text) {
+    ///     Ok(None) => Ok(text),
+    ///     Ok(Some(offence)) => Err(Refusal::Differs(offence)),
+    ///     Err(_) => Err(Refusal::Memory),
+    /// }
+    /// ```
     pub fn first_offence(&self, text: &str) -> Result<Option<Offence>, NormalizeError>
         ensures { FindsOffenceOfText (decomposed_by self.now) (chars text.now) result }
     {
         lasting_offence_of_text(self, text)
     }
 
-    /// The first place at which bytes are ill-formed or not their own decomposed form.
+    /// Returns the first place where `bytes` are ill-formed or differ from their decomposed form: the byte offset, the
+    /// character found there and the one expected; `None` if they are normalized. At an ill-formed sequence, U+FFFD is
+    /// found, and may be expected too.
+    ///
+    /// Appending to well-formed bytes never removes the mismatch, and never moves it to a later offset.
+    ///
+    /// # Errors
+    /// `Memory` if an allocation was refused. None is made unless more than 17 characters are buffered at a time.
     pub fn first_offence_utf8(&self, bytes: &[u8]) -> Result<Option<Offence>, NormalizeError>
         ensures { FindsOffence (decomposed_by self.now) Encoding.Utf8 bytes.now result }
     {
@@ -103,7 +139,14 @@ impl<'a> DecomposingNormalizerBorrowed<'a> {
         }
     }
 
-    /// The first place at which 16-bit units are ill-formed or not their own decomposed form, in such units.
+    /// Returns the first place where 16-bit units are ill-formed or differ from their decomposed form: the offset in
+    /// units, the character found there and the one expected; `None` if they are normalized. At an unpaired surrogate,
+    /// U+FFFD is found, and may be expected too.
+    ///
+    /// Appending to well-formed units never removes the mismatch, and never moves it to a later offset.
+    ///
+    /// # Errors
+    /// `Memory` if an allocation was refused. None is made unless more than 17 characters are buffered at a time.
     pub fn first_offence_utf16(&self, units: &[u16]) -> Result<Option<Offence>, NormalizeError>
         ensures { FindsOffence (decomposed_by self.now) Encoding.Utf16 units.now result }
     {
@@ -112,14 +155,25 @@ impl<'a> DecomposingNormalizerBorrowed<'a> {
 }
 
 impl<'a> ComposingNormalizerBorrowed<'a> {
-    /// Whether a text is its own composed form.
+    /// Returns whether `text` is already in its composed form. There is no 'maybe'.
+    ///
+    /// # Errors
+    /// `Memory` if an allocation was refused. None is made unless more than 17 characters are buffered at a time.
+    ///
+    /// # Examples
+    /// ```rust
+    /// normalizer.is_normalized(text)
+    /// ```
     pub fn is_normalized(&self, text: &str) -> Result<bool, NormalizeError>
         ensures { ChecksText (composed_by self.now) (chars text.now) result }
     {
         is_own_text(self, text)
     }
 
-    /// Whether bytes are well-formed and their own composed form.
+    /// Returns whether `bytes` are well-formed UTF-8 that is already in its composed form.
+    ///
+    /// # Errors
+    /// `Memory` if an allocation was refused. None is made unless more than 17 characters are buffered at a time.
     pub fn is_normalized_utf8(&self, bytes: &[u8]) -> Result<bool, NormalizeError>
         ensures { ChecksForm (composed_by self.now) Encoding.Utf8 bytes.now result }
     {
@@ -129,21 +183,46 @@ impl<'a> ComposingNormalizerBorrowed<'a> {
         }
     }
 
-    /// Whether 16-bit units are well-formed and their own composed form.
+    /// Returns whether 16-bit units are well-formed UTF-16 that is already in its composed form.
+    ///
+    /// # Errors
+    /// `Memory` if an allocation was refused. None is made unless more than 17 characters are buffered at a time.
     pub fn is_normalized_utf16(&self, units: &[u16]) -> Result<bool, NormalizeError>
         ensures { ChecksForm (composed_by self.now) Encoding.Utf16 units.now result }
     {
         is_own_form::<&[u16], Self>(self, units)
     }
 
-    /// The first place at which a text is not its own composed form, in bytes.
+    /// Returns the first place where `text` differs from its composed form: the byte offset, the character found there
+    /// and the one expected; `None` if `text` is normalized.
+    ///
+    /// Appending to `text` never removes the mismatch, and never moves it to a later offset.
+    ///
+    /// # Errors
+    /// `Memory` if an allocation was refused. None is made unless more than 17 characters are buffered at a time.
+    ///
+    /// # Examples
+    /// ```rust
+    /// match normalizer.first_offence(text) {
+    ///     Ok(None) => Ok(text),
+    ///     Ok(Some(offence)) => Err(Refusal::Differs(offence)),
+    ///     Err(_) => Err(Refusal::Memory),
+    /// }
+    /// ```
     pub fn first_offence(&self, text: &str) -> Result<Option<Offence>, NormalizeError>
         ensures { FindsOffenceOfText (composed_by self.now) (chars text.now) result }
     {
         lasting_offence_of_text(self, text)
     }
 
-    /// The first place at which bytes are ill-formed or not their own composed form.
+    /// Returns the first place where `bytes` are ill-formed or differ from their composed form: the byte offset, the
+    /// character found there and the one expected; `None` if they are normalized. At an ill-formed sequence, U+FFFD is
+    /// found, and may be expected too.
+    ///
+    /// Appending to well-formed bytes never removes the mismatch, and never moves it to a later offset.
+    ///
+    /// # Errors
+    /// `Memory` if an allocation was refused. None is made unless more than 17 characters are buffered at a time.
     pub fn first_offence_utf8(&self, bytes: &[u8]) -> Result<Option<Offence>, NormalizeError>
         ensures { FindsOffence (composed_by self.now) Encoding.Utf8 bytes.now result }
     {
@@ -153,7 +232,14 @@ impl<'a> ComposingNormalizerBorrowed<'a> {
         }
     }
 
-    /// The first place at which 16-bit units are ill-formed or not their own composed form, in such units.
+    /// Returns the first place where 16-bit units are ill-formed or differ from their composed form: the offset in
+    /// units, the character found there and the one expected; `None` if they are normalized. At an unpaired surrogate,
+    /// U+FFFD is found, and may be expected too.
+    ///
+    /// Appending to well-formed units never removes the mismatch, and never moves it to a later offset.
+    ///
+    /// # Errors
+    /// `Memory` if an allocation was refused. None is made unless more than 17 characters are buffered at a time.
     pub fn first_offence_utf16(&self, units: &[u16]) -> Result<Option<Offence>, NormalizeError>
         ensures { FindsOffence (composed_by self.now) Encoding.Utf16 units.now result }
     {

@@ -1,4 +1,4 @@
-//! Composing normalizers over data that a provider holds.
+//! Composing normalizers over the data of a provider.
 ghost use Rattle.std.specs.Prelude.{◌≡◌, IfOk, IfErr};
 ghost use Rattle.std.specs.Iterator.{IsFinite};
 ghost use Rattle.normal_forms.specs.Forms.{nfc};
@@ -27,7 +27,9 @@ use normalizer_tables::{
     NormalizerNfkdDataV1, NormalizerNfkdTablesV1,
 };
 
-/// A normalizer to a composed form.
+/// A normalizer to NFC, or to NFKC over compatibility data. Its data were checked when it was made.
+///
+/// [`as_borrowed`](ComposingNormalizer::as_borrowed) returns the normalizer that has the calls on text.
 #[derive(Drop)]
 pub struct ComposingNormalizer {
     decompositions: DecompositionData,
@@ -42,8 +44,14 @@ impl ComposingNormalizer {
     ghost use Rattle.normalizer_calls.specs.ComposingNormalizers.{composing_data_of, composing_data_of_borrowed};
     ghost use Rattle.normalizer_calls.specs.ComposingNormalizers.{data_and_pairs_of, pairs_of, pairs_of_borrowed};
 
-    /// A normalizer to NFC over what the provider holds. The data are loaded first, then their tables, then the pairs;
-    /// the first load that is refused is the answer, and else the first written condition that they break.
+    /// Makes a normalizer to NFC over canonical data and pairs, which it loads from the provider and checks.
+    ///
+    /// # Errors
+    /// - `Provider` if the provider holds nothing for one of the markers; the data of the first marker are loaded
+    ///   first.
+    /// - `FutureExtension` if the tables have more items than the limit.
+    /// - `Invalid`, with the lowest-numbered condition that fails, if the data break one (`docs/CONDITIONS.md`).
+    /// - `Memory` if a load was refused memory. The check itself takes none.
     pub fn try_new_nfc_unstable<P>(provider: &P) -> Result<Self, DataError>
     where
         P: DataProvider<NormalizerNfdDataV1>
@@ -61,9 +69,19 @@ impl ComposingNormalizer {
         Self::over(marker, decompositions, tables, None, pairs)
     }
 
-    /// A normalizer to NFKC over what the provider holds. The data are loaded first, then the tables of canonical data,
-    /// the supplementary ones and the pairs; the first load that is refused is the answer, and else the first written
-    /// condition that they break.
+    /// Makes a normalizer to NFKC over compatibility data and pairs, which it loads from the provider and checks.
+    ///
+    /// # Errors
+    /// - `Provider` if the provider holds nothing for one of the markers; the data of the first marker are loaded
+    ///   first.
+    /// - `FutureExtension` if the tables have more items than the limit.
+    /// - `Invalid`, with the lowest-numbered condition that fails, if the data break one (`docs/CONDITIONS.md`).
+    /// - `Memory` if a load was refused memory. The check itself takes none.
+    ///
+    /// # Examples
+    /// ```rust
+    /// let normalizer = ComposingNormalizer::try_new_nfkc_unstable(provider)?;
+    /// ```
     pub fn try_new_nfkc_unstable<P>(provider: &P) -> Result<Self, DataError>
     where
         P: DataProvider<NormalizerNfkdDataV1>
@@ -116,7 +134,7 @@ impl ComposingNormalizer {
         }
     }
 
-    /// The normalizer that borrows this one's data.
+    /// Returns the normalizer that borrows this one's data.
     pub fn as_borrowed(&self) -> ComposingNormalizerBorrowed<'_>
         ensures held { composing_data_of_borrowed result ≡ composing_data_of self.now }
         ensures pairs { pairs_of_borrowed result ≡ pairs_of self.now }
@@ -136,7 +154,7 @@ impl ComposingNormalizer {
     }
 }
 
-/// A normalizer to a composed form, over borrowed data.
+/// A normalizer to NFC or NFKC over borrowed data: the calls on text are its methods.
 #[derive(Drop)]
 pub struct ComposingNormalizerBorrowed<'a> {
     pub(crate) characters: CharacterData<'a>,
@@ -149,7 +167,18 @@ impl<'a> ComposingNormalizerBorrowed<'a> {
     ghost use Rattle.normalizer_calls.specs.ComposingNormalizers.{composing_data_of_borrowed, pairs_of_borrowed};
     ghost use Rattle.normalizer_iterators.specs.Composition.{data_of_composition, pairs_of_composition};
 
-    /// The characters of the composed form of what `iter` gives, one by one.
+    /// Returns an iterator over the characters of the composed form of what `iter` yields. It reads `iter` up to the
+    /// first boundary when it is made.
+    ///
+    /// # Errors
+    /// `Memory` if reading up to the first boundary needed memory that was refused. Items are `Result`s for the same
+    /// reason: after one `Err`, only `None` comes. Memory is needed only if more than 17 characters are buffered at a
+    /// time.
+    ///
+    /// # Examples
+    /// ```rust
+    /// collected(alloc, normalizer.normalize_iter(Utf8Chars::new(bytes))?)
+    /// ```
     pub fn normalize_iter<I: Iterator<Item = char> + Drop>(
         &self,
         iter: I,

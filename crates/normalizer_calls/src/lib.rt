@@ -1,4 +1,5 @@
-//! Normalizers over data that a provider holds, and over canonical data that a caller answers for; and the mapper.
+//! Normalizers over the data of a provider or over checked canonical data, their calls on text, bytes and 16-bit
+//! units, and the mapper.
 #![tactic(auto)]
 
 mod checks;

@@ -1,4 +1,4 @@
-//! Normalizers over data that a provider holds.
+//! Decomposing normalizers over the data of a provider.
 ghost use Rattle.std.specs.Prelude.{◌≡◌, IfOk, IfErr, []};
 ghost use Rattle.std.specs.Iterator.{IsFinite};
 ghost use Rattle.normal_forms.specs.Forms.{nfd};
@@ -27,7 +27,9 @@ use normalizer_tables::{
     NormalizerNfdDataV1, NormalizerNfdTablesV1, NormalizerNfkdDataV1, NormalizerNfkdTablesV1,
 };
 
-/// A normalizer to a decomposed form.
+/// A normalizer to NFD, or to NFKD over compatibility data. Its data were checked when it was made.
+///
+/// [`as_borrowed`](DecomposingNormalizer::as_borrowed) returns the normalizer that has the calls on text.
 #[derive(Drop)]
 pub struct DecomposingNormalizer {
     decompositions: DecompositionData,
@@ -39,8 +41,14 @@ pub struct DecomposingNormalizer {
 impl DecomposingNormalizer {
     ghost use Rattle.normalizer_calls.specs.Normalizers.{data_of, data_of_borrowed};
 
-    /// A normalizer to NFD over what the provider holds. The data are loaded first and then their tables; the first
-    /// load that is refused is the answer, and else the first written condition that the data break.
+    /// Makes a normalizer to NFD over canonical data, which it loads from the provider and checks.
+    ///
+    /// # Errors
+    /// - `Provider` if the provider holds nothing for one of the markers; the data of the first marker are loaded
+    ///   first.
+    /// - `FutureExtension` if the tables have more items than the limit.
+    /// - `Invalid`, with the lowest-numbered condition that fails, if the data break one (`docs/CONDITIONS.md`).
+    /// - `Memory` if a load was refused memory. The check itself takes none.
     pub fn try_new_nfd_unstable<P>(provider: &P) -> Result<Self, DataError>
     where
         P: DataProvider<NormalizerNfdDataV1> + DataProvider<NormalizerNfdTablesV1>,
@@ -54,9 +62,14 @@ impl DecomposingNormalizer {
         Self::over(marker, decompositions, tables, None)
     }
 
-    /// A normalizer to NFKD over what the provider holds. The data are loaded first, then the tables of canonical data
-    /// and then the supplementary ones; the first load that is refused is the answer, and else the first written
-    /// condition that the data break.
+    /// Makes a normalizer to NFKD over compatibility data, which it loads from the provider and checks.
+    ///
+    /// # Errors
+    /// - `Provider` if the provider holds nothing for one of the markers; the data of the first marker are loaded
+    ///   first.
+    /// - `FutureExtension` if the tables have more items than the limit.
+    /// - `Invalid`, with the lowest-numbered condition that fails, if the data break one (`docs/CONDITIONS.md`).
+    /// - `Memory` if a load was refused memory. The check itself takes none.
     pub fn try_new_nfkd_unstable<P>(provider: &P) -> Result<Self, DataError>
     where
         P: DataProvider<NormalizerNfkdDataV1>
@@ -103,7 +116,7 @@ impl DecomposingNormalizer {
         }
     }
 
-    /// The normalizer that borrows this one's data.
+    /// Returns the normalizer that borrows this one's data.
     pub fn as_borrowed(&self) -> DecomposingNormalizerBorrowed<'_>
         ensures { data_of_borrowed result ≡ data_of self.now }
     {
@@ -120,7 +133,7 @@ impl DecomposingNormalizer {
     }
 }
 
-/// A normalizer to a decomposed form, over borrowed data.
+/// A normalizer to NFD or NFKD over borrowed data: the calls on text are its methods.
 #[derive(Drop)]
 pub struct DecomposingNormalizerBorrowed<'a> {
     pub(crate) characters: CharacterData<'a>,
@@ -130,7 +143,18 @@ pub struct DecomposingNormalizerBorrowed<'a> {
 impl<'a> DecomposingNormalizerBorrowed<'a> {
     ghost use Rattle.normalizer_calls.specs.Normalizers.{data_of_borrowed};
 
-    /// The characters of the decomposed form of what `iter` gives, one by one.
+    /// Returns an iterator over the characters of the decomposed form of what `iter` yields. It reads `iter` up to the
+    /// first boundary when it is made.
+    ///
+    /// # Errors
+    /// `Memory` if reading up to the first boundary needed memory that was refused. Items are `Result`s for the same
+    /// reason: after one `Err`, only `None` comes. Memory is needed only if more than 17 characters are buffered at a
+    /// time.
+    ///
+    /// # Examples
+    /// ```rust
+    /// collected(alloc, normalizer.normalize_iter(Utf8Chars::new(bytes))?)
+    /// ```
     pub fn normalize_iter<I: Iterator<Item = char> + Drop>(
         &self,
         iter: I,

@@ -1,4 +1,4 @@
-//! The forms of text, bytes and 16-bit units, borrowed from the input where it is its own form.
+//! The forms of text, bytes and 16-bit units, borrowed from the input if it is already normalized.
 ghost use Rattle.std.specs.Prelude.{◌≡◌, ◌++◌, [], chars, IfOk, IsOk, IsOkUnless, OnOk, string_bytes};
 ghost use Rattle.std.specs.Cow.{cow_slice_items, cow_str_bytes, IsBorrowedSlice, IsBorrowedStr};
 ghost use Rattle.normal_forms.specs.ShortRuns.{HasShortRuns};
@@ -159,14 +159,29 @@ fn form_of_utf16<'t, N: LawfulItems<Chars<&'t [u16]>>>(
 }
 
 impl<'a> DecomposingNormalizerBorrowed<'a> {
-    /// The decomposed form of a text, borrowed exactly where the text is its own.
+    /// Returns the decomposed form of `text`. It borrows from `text` exactly if `text` is already normalized. Exactly
+    /// the texts equivalent to `text` have this form.
+    ///
+    /// # Errors
+    /// `Memory` if an allocation was refused. If `text` is normalized and at most 17 characters are buffered at a
+    /// time, none is made.
+    ///
+    /// # Examples
+    /// ```rust
+    /// let key = normalizer.normalize(text)?;
+    /// ```
     pub fn normalize<'t>(&self, text: &'t str) -> Result<CowStr<'t, Global>, NormalizeError>
         ensures { HandsOutFormOfText (decomposed_by self.now) (chars text.now) result }
     {
         form_of_str(self, self.characters.allocator(), text)
     }
 
-    /// The decomposed form of what bytes decode to, borrowed exactly where they are well-formed and their own.
+    /// Returns the decomposed form of what `bytes` decode to, in UTF-8. It borrows from `bytes` exactly if they are
+    /// well-formed and already normalized. Each maximal ill-formed subpart reads as U+FFFD.
+    ///
+    /// # Errors
+    /// `Memory` if an allocation was refused. If `bytes` are normalized and at most 17 characters are buffered at a
+    /// time, none is made.
     pub fn normalize_utf8<'t>(&self, bytes: &'t [u8]) -> Result<CowStr<'t, Global>, NormalizeError>
         ensures { HandsOutForm cow_str_bytes IsBorrowedStr (decomposed_by self.now) Encoding.Utf8 bytes.now result }
     {
@@ -177,7 +192,12 @@ impl<'a> DecomposingNormalizerBorrowed<'a> {
         }
     }
 
-    /// The decomposed form of what 16-bit units decode to, borrowed exactly where they are well-formed and their own.
+    /// Returns the decomposed form of what 16-bit units decode to, in UTF-16. It borrows from `units` exactly if they
+    /// are well-formed and already normalized. Each unpaired surrogate reads as U+FFFD.
+    ///
+    /// # Errors
+    /// `Memory` if an allocation was refused. If `units` are normalized and at most 17 characters are buffered at a
+    /// time, none is made.
     pub fn normalize_utf16<'t>(
         &self,
         units: &'t [u16],
@@ -190,14 +210,29 @@ impl<'a> DecomposingNormalizerBorrowed<'a> {
 }
 
 impl<'a> ComposingNormalizerBorrowed<'a> {
-    /// The composed form of a text, borrowed exactly where the text is its own.
+    /// Returns the composed form of `text`. It borrows from `text` exactly if `text` is already normalized. Exactly
+    /// the texts equivalent to `text` have this form.
+    ///
+    /// # Errors
+    /// `Memory` if an allocation was refused. If `text` is normalized and at most 17 characters are buffered at a
+    /// time, none is made.
+    ///
+    /// # Examples
+    /// ```rust
+    /// let key = normalizer.normalize(text)?;
+    /// ```
     pub fn normalize<'t>(&self, text: &'t str) -> Result<CowStr<'t, Global>, NormalizeError>
         ensures { HandsOutFormOfText (composed_by self.now) (chars text.now) result }
     {
         form_of_str(self, self.characters.allocator(), text)
     }
 
-    /// The composed form of what bytes decode to, borrowed exactly where they are well-formed and their own.
+    /// Returns the composed form of what `bytes` decode to, in UTF-8. It borrows from `bytes` exactly if they are
+    /// well-formed and already normalized. Each maximal ill-formed subpart reads as U+FFFD.
+    ///
+    /// # Errors
+    /// `Memory` if an allocation was refused. If `bytes` are normalized and at most 17 characters are buffered at a
+    /// time, none is made.
     pub fn normalize_utf8<'t>(&self, bytes: &'t [u8]) -> Result<CowStr<'t, Global>, NormalizeError>
         ensures { HandsOutForm cow_str_bytes IsBorrowedStr (composed_by self.now) Encoding.Utf8 bytes.now result }
     {
@@ -208,7 +243,12 @@ impl<'a> ComposingNormalizerBorrowed<'a> {
         }
     }
 
-    /// The composed form of what 16-bit units decode to, borrowed exactly where they are well-formed and their own.
+    /// Returns the composed form of what 16-bit units decode to, in UTF-16. It borrows from `units` exactly if they
+    /// are well-formed and already normalized. Each unpaired surrogate reads as U+FFFD.
+    ///
+    /// # Errors
+    /// `Memory` if an allocation was refused. If `units` are normalized and at most 17 characters are buffered at a
+    /// time, none is made.
     pub fn normalize_utf16<'t>(
         &self,
         units: &'t [u16],

@@ -1,4 +1,5 @@
-//! Text, bytes and 16-bit units in two parts: the front that stays as it is, and the rest.
+//! Text, bytes and 16-bit units in two parts: the longest front that the form leaves as it is, and the
+//! rest.
 ghost use Rattle.std.specs.Prelude.{◌≡◌, chars};
 ghost use Rattle.normalizer_text.specs.Encodings.{Encoding, decoded_in};
 ghost use Rattle.normalizer_text.specs.Steps.{IsWellFormed};
@@ -57,8 +58,16 @@ fn split_text_at_cut<'t, N: LawfulItems<Chars<&'t str>>>(
 }
 
 impl<'a> DecomposingNormalizerBorrowed<'a> {
-    /// A text in two parts: the longest front that the decomposed form leaves as it is, whatever it does to the rest,
-    /// and the rest.
+    /// Splits `text` so that its decomposed form is the first part followed by the form of the second, as late as
+    /// possible.
+    ///
+    /// # Errors
+    /// `Memory` if an allocation was refused. None is made unless more than 17 characters are buffered at a time.
+    ///
+    /// # Examples
+    /// ```rust
+    /// let (kept, rest) = normalizer.split_normalized(&text)?;
+    /// ```
     pub fn split_normalized<'t>(&self, text: &'t str) -> Result<(&'t str, &'t str), NormalizeError>
         ensures { AnswersOf (decomposed_by self.now) (chars text.now)
             (λ parts. IsTextSplitAtCut (decomposed_by self.now) text.now parts.0.now parts.1.now) result }
@@ -66,7 +75,11 @@ impl<'a> DecomposingNormalizerBorrowed<'a> {
         split_text_at_cut(self, text)
     }
 
-    /// Bytes in two parts: the longest well-formed front that the decomposed form leaves as it is, and the rest.
+    /// Splits `bytes` so that the first part is well-formed and their decomposed form is the first part followed by
+    /// the form of the second, as late as possible. The second part is empty exactly if `bytes` are normalized.
+    ///
+    /// # Errors
+    /// `Memory` if an allocation was refused. None is made unless more than 17 characters are buffered at a time.
     pub fn split_normalized_utf8<'t>(
         &self,
         bytes: &'t [u8],
@@ -86,7 +99,11 @@ impl<'a> DecomposingNormalizerBorrowed<'a> {
         }
     }
 
-    /// 16-bit units in two parts: the longest well-formed front that the decomposed form leaves as it is, and the rest.
+    /// Splits 16-bit units so that the first part is well-formed and their decomposed form is the first part followed
+    /// by the form of the second, as late as possible. The second part is empty exactly if the units are normalized.
+    ///
+    /// # Errors
+    /// `Memory` if an allocation was refused. None is made unless more than 17 characters are buffered at a time.
     pub fn split_normalized_utf16<'t>(
         &self,
         units: &'t [u16],
@@ -99,8 +116,19 @@ impl<'a> DecomposingNormalizerBorrowed<'a> {
 }
 
 impl<'a> ComposingNormalizerBorrowed<'a> {
-    /// A text in two parts: the longest front that the composed form leaves as it is, whatever it does to the rest,
-    /// and the rest.
+    /// Splits `text` so that its composed form is the first part followed by the form of the second, as late as
+    /// possible.
+    ///
+    /// The first part is not the longest normalized prefix: under NFC, `"a\u{308}"` splits at 0, though `"a"` is
+    /// normalized.
+    ///
+    /// # Errors
+    /// `Memory` if an allocation was refused. None is made unless more than 17 characters are buffered at a time.
+    ///
+    /// # Examples
+    /// ```rust
+    /// let (kept, rest) = normalizer.split_normalized(&text)?;
+    /// ```
     pub fn split_normalized<'t>(&self, text: &'t str) -> Result<(&'t str, &'t str), NormalizeError>
         ensures { AnswersOf (composed_by self.now) (chars text.now)
             (λ parts. IsTextSplitAtCut (composed_by self.now) text.now parts.0.now parts.1.now) result }
@@ -108,7 +136,11 @@ impl<'a> ComposingNormalizerBorrowed<'a> {
         split_text_at_cut(self, text)
     }
 
-    /// Bytes in two parts: the longest well-formed front that the composed form leaves as it is, and the rest.
+    /// Splits `bytes` so that the first part is well-formed and their composed form is the first part followed by the
+    /// form of the second, as late as possible. The second part is empty exactly if `bytes` are normalized.
+    ///
+    /// # Errors
+    /// `Memory` if an allocation was refused. None is made unless more than 17 characters are buffered at a time.
     pub fn split_normalized_utf8<'t>(
         &self,
         bytes: &'t [u8],
@@ -128,7 +160,11 @@ impl<'a> ComposingNormalizerBorrowed<'a> {
         }
     }
 
-    /// 16-bit units in two parts: the longest well-formed front that the composed form leaves as it is, and the rest.
+    /// Splits 16-bit units so that the first part is well-formed and their composed form is the first part followed by
+    /// the form of the second, as late as possible. The second part is empty exactly if the units are normalized.
+    ///
+    /// # Errors
+    /// `Memory` if an allocation was refused. None is made unless more than 17 characters are buffered at a time.
     pub fn split_normalized_utf16<'t>(
         &self,
         units: &'t [u16],

@@ -1,8 +1,4 @@
-//! Normalizing text, bytes and 16-bit units into sinks.
-//!
-//! Each call answers `Sink` where the sink refused a call, and `Memory` where the marks that wait needed more room than
-//! was granted, which they never do where the runs of the text are short. After either a beginning of the form may have
-//! been written; the normalizer is as it was.
+//! Writing the forms of text, bytes and 16-bit units to sinks.
 ghost use Rattle.std.specs.Prelude.{length, chars};
 ghost use Rattle.normalizer_text.specs.Encodings.{Encoding};
 ghost use Rattle.normalizer_text.specs.Utf8.{decoded_utf8};
@@ -17,7 +13,20 @@ use normalizer_text::sink::{Write, Write16};
 impl<'a> DecomposingNormalizerBorrowed<'a> {
     ghost use Rattle.normalizer_calls.specs.FormsWritten.{WritesDecomposed};
 
-    /// Writes the decomposed form of a text, in UTF-8 (The Unicode Standard, D118, D119).
+    /// Writes the decomposed form of `text` to `sink`, in UTF-8 (The Unicode Standard, D118, D119).
+    ///
+    /// # Errors
+    /// - `Sink` if the sink refused a call.
+    /// - `Memory` if an allocation was refused. None is made unless more than 17 characters are buffered at a time.
+    ///
+    /// After either, a beginning of the form was written, if refused calls of the sink take nothing. The normalizer is
+    /// unchanged.
+    ///
+    /// # Examples
+    /// ```rust
+    /// let mut form = String::new(alloc);
+    /// normalizer.normalize_to(text, &mut form)?;
+    /// ```
     pub fn normalize_to<W: Write>(&self, text: &str, sink: &mut W) -> Result<(), NormalizeError>
         ensures { WritesDecomposed self.now Encoding.Utf8 W.taken W.refused W.left
             (chars text.now) sink.old result sink.new }
@@ -25,7 +34,21 @@ impl<'a> DecomposingNormalizerBorrowed<'a> {
         form_to::<&str, Self, W>(self, text, sink)
     }
 
-    /// Writes the decomposed form of the text that bytes decode to, in UTF-8: U+FFFD stands for what is ill-formed.
+    /// Writes the decomposed form of the text that `bytes` decode to, in UTF-8. Each maximal ill-formed subpart reads
+    /// as U+FFFD.
+    ///
+    /// # Errors
+    /// - `Sink` if the sink refused a call.
+    /// - `Memory` if an allocation was refused. None is made unless more than 17 characters are buffered at a time.
+    ///
+    /// After either, a beginning of the form was written, if refused calls of the sink take nothing. The normalizer is
+    /// unchanged.
+    ///
+    /// # Examples
+    /// ```rust
+    /// let mut form = String::new(alloc);
+    /// normalizer.normalize_utf8_to(bytes, &mut form)?;
+    /// ```
     pub fn normalize_utf8_to<W: Write>(
         &self,
         bytes: &[u8],
@@ -40,8 +63,21 @@ impl<'a> DecomposingNormalizerBorrowed<'a> {
         }
     }
 
-    /// Writes the decomposed form of the text that 16-bit units decode to, in UTF-16: U+FFFD stands for each unpaired
-    /// surrogate. The sink is told first how many units there are; where it refuses that, nothing is written.
+    /// Writes the decomposed form of the text that 16-bit units decode to, in UTF-16. Each unpaired surrogate reads as
+    /// U+FFFD. The sink is first given the number of units as a hint; if it refuses that, nothing is written.
+    ///
+    /// # Errors
+    /// - `Sink` if the sink refused a call.
+    /// - `Memory` if an allocation was refused. None is made unless more than 17 characters are buffered at a time.
+    ///
+    /// After either, a beginning of the form was written, if refused calls of the sink take nothing. The normalizer is
+    /// unchanged.
+    ///
+    /// # Examples
+    /// ```rust
+    /// let mut form = Vec::new(alloc);
+    /// normalizer.normalize_utf16_to(units, &mut form)?;
+    /// ```
     pub fn normalize_utf16_to<W: Write16>(
         &self,
         units: &[u16],
@@ -58,7 +94,20 @@ impl<'a> DecomposingNormalizerBorrowed<'a> {
 impl<'a> ComposingNormalizerBorrowed<'a> {
     ghost use Rattle.normalizer_calls.specs.FormsWritten.{WritesComposed};
 
-    /// Writes the composed form of a text, in UTF-8 (The Unicode Standard, D120, D121).
+    /// Writes the composed form of `text` to `sink`, in UTF-8 (The Unicode Standard, D120, D121).
+    ///
+    /// # Errors
+    /// - `Sink` if the sink refused a call.
+    /// - `Memory` if an allocation was refused. None is made unless more than 17 characters are buffered at a time.
+    ///
+    /// After either, a beginning of the form was written, if refused calls of the sink take nothing. The normalizer is
+    /// unchanged.
+    ///
+    /// # Examples
+    /// ```rust
+    /// let mut form = String::new(alloc);
+    /// normalizer.normalize_to(text, &mut form)?;
+    /// ```
     pub fn normalize_to<W: Write>(&self, text: &str, sink: &mut W) -> Result<(), NormalizeError>
         ensures { WritesComposed self.now Encoding.Utf8 W.taken W.refused W.left
             (chars text.now) sink.old result sink.new }
@@ -66,7 +115,21 @@ impl<'a> ComposingNormalizerBorrowed<'a> {
         form_to::<&str, Self, W>(self, text, sink)
     }
 
-    /// Writes the composed form of the text that bytes decode to, in UTF-8: U+FFFD stands for what is ill-formed.
+    /// Writes the composed form of the text that `bytes` decode to, in UTF-8. Each maximal ill-formed subpart reads as
+    /// U+FFFD.
+    ///
+    /// # Errors
+    /// - `Sink` if the sink refused a call.
+    /// - `Memory` if an allocation was refused. None is made unless more than 17 characters are buffered at a time.
+    ///
+    /// After either, a beginning of the form was written, if refused calls of the sink take nothing. The normalizer is
+    /// unchanged.
+    ///
+    /// # Examples
+    /// ```rust
+    /// let mut form = String::new(alloc);
+    /// normalizer.normalize_utf8_to(bytes, &mut form)?;
+    /// ```
     pub fn normalize_utf8_to<W: Write>(
         &self,
         bytes: &[u8],
@@ -81,8 +144,21 @@ impl<'a> ComposingNormalizerBorrowed<'a> {
         }
     }
 
-    /// Writes the composed form of the text that 16-bit units decode to, in UTF-16: U+FFFD stands for each unpaired
-    /// surrogate. The sink is told first how many units there are; where it refuses that, nothing is written.
+    /// Writes the composed form of the text that 16-bit units decode to, in UTF-16. Each unpaired surrogate reads as
+    /// U+FFFD. The sink is first given the number of units as a hint; if it refuses that, nothing is written.
+    ///
+    /// # Errors
+    /// - `Sink` if the sink refused a call.
+    /// - `Memory` if an allocation was refused. None is made unless more than 17 characters are buffered at a time.
+    ///
+    /// After either, a beginning of the form was written, if refused calls of the sink take nothing. The normalizer is
+    /// unchanged.
+    ///
+    /// # Examples
+    /// ```rust
+    /// let mut form = Vec::new(alloc);
+    /// normalizer.normalize_utf16_to(units, &mut form)?;
+    /// ```
     pub fn normalize_utf16_to<W: Write16>(
         &self,
         units: &[u16],

@@ -1,5 +1,4 @@
-//! Canonical data that are taken as they are: the caller answers for what `check_nfd_data` tests. No memory is taken
-//! for the data.
+//! Normalizers over canonical data that their caller has checked. No memory is taken for the data.
 ghost use Rattle.std.specs.Prelude.{◌≡◌, None};
 ghost use Rattle.normalizer_tables.specs.NfdData.{IsSoundNfdData};
 ghost use Rattle.normalizer_tables.specs.Characters.{characters_from};
@@ -12,7 +11,16 @@ use normalizer_tables::{DecompositionData, DecompositionTables};
 impl<'a> DecomposingNormalizerBorrowed<'a> {
     ghost use Rattle.normalizer_calls.specs.Normalizers.{data_of_borrowed};
 
-    /// A normalizer to NFD over these data.
+    /// Makes a normalizer to NFD over canonical data that the caller has checked. Nothing is copied or checked.
+    ///
+    /// The caller owes that [`check_nfd_data`](normalizer_tables::check_nfd_data) returned `Ok` for exactly these
+    /// values.
+    ///
+    /// # Examples
+    /// ```rust
+    /// check_nfd_data(decompositions, tables)?;
+    /// let normalizer = DecomposingNormalizerBorrowed::new_with_data(decompositions, tables);
+    /// ```
     pub fn new_with_data(
         decompositions: &'a DecompositionData,
         tables: &'a DecompositionTables,

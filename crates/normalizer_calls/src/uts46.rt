@@ -26,7 +26,10 @@ use normalizer_tables::{
 /// The class of viramas.
 const VIRAMA: u8 = 9;
 
-/// A mapper of text, for domain names.
+/// A mapper of text for domain names (UTS #46, section 4). Its data were checked when it was made.
+///
+/// It maps and normalizes; STD3 rules, transitional processing, Punycode and the other steps of UTS #46 are left to
+/// the caller.
 #[derive(Drop)]
 pub struct Uts46Mapper {
     decompositions: DecompositionData,
@@ -39,9 +42,14 @@ pub struct Uts46Mapper {
 impl Uts46Mapper {
     ghost use Rattle.normalizer_calls.specs.Mappers.{mapper_data_of, mapper_data_of_borrowed};
 
-    /// A mapper over what the provider holds. The mapper's data are loaded first, then the tables of canonical data,
-    /// the supplementary ones and the pairs; the first load that is refused is the answer, and else the first written
-    /// condition that they break.
+    /// Makes a mapper over the mapper's data and the pairs, which it loads from the provider and checks.
+    ///
+    /// # Errors
+    /// - `Provider` if the provider holds nothing for one of the markers; the data of the first marker are loaded
+    ///   first.
+    /// - `FutureExtension` if the tables have more items than the limit.
+    /// - `Invalid`, with the lowest-numbered condition that fails, if the data break one (`docs/CONDITIONS.md`).
+    /// - `Memory` if a load was refused memory. The check itself takes none.
     pub fn try_new<P>(provider: &P) -> Result<Self, DataError>
     where
         P: DataProvider<NormalizerUts46DataV1>
@@ -87,7 +95,7 @@ impl Uts46Mapper {
         }
     }
 
-    /// The mapper that borrows this one's data.
+    /// Returns the mapper that borrows this one's data.
     pub fn as_borrowed(&self) -> Uts46MapperBorrowed<'_>
         ensures { mapper_data_of_borrowed result ≡ mapper_data_of self.now }
     {
@@ -106,7 +114,7 @@ impl Uts46Mapper {
     }
 }
 
-/// A mapper of text, over borrowed data.
+/// A mapper of text over borrowed data.
 #[derive(Drop)]
 pub struct Uts46MapperBorrowed<'a> {
     characters: CharacterData<'a>,
@@ -120,15 +128,25 @@ impl<'a> Uts46MapperBorrowed<'a> {
     ghost use Rattle.normalizer_iterators.specs.Composition.{data_of_composition, pairs_of_composition};
     ghost use Rattle.normalizer_calls.specs.Mappers.{mapper_data_of_borrowed};
 
-    /// Whether a character has the class of viramas in the mapper's data.
+    /// Returns whether `character` has the combining class of viramas, 9, in the mapper's data.
     pub fn is_virama(&self, character: char) -> bool
         ensures { IsTrue result ↔ (class_of (mapper_data_of_borrowed self.now).0 character ≡ 9) }
     {
         self.characters.class_of(character) == VIRAMA
     }
 
-    /// What `iter` gives, mapped and in Normalization Form C, character by character. Ignored characters are dropped,
-    /// so that marks after them reach the base before them.
+    /// Returns an iterator over what `iter` yields, mapped and in NFC. Ignored characters are dropped, so that marks
+    /// after them reach the base before them; disallowed characters become U+FFFD.
+    ///
+    /// # Errors
+    /// `Memory` if reading up to the first boundary needed memory that was refused. Items are `Result`s for the same
+    /// reason: after one `Err`, only `None` comes. Memory is needed only if more than 17 characters are buffered at a
+    /// time.
+    ///
+    /// # Examples
+    /// ```rust
+    /// let mapped = collected(alloc, mapper.map_normalize(text.chars())?)?;
+    /// ```
     pub fn map_normalize<I: Iterator<Item = char> + Drop>(
         &self,
         iter: I,
@@ -147,7 +165,13 @@ impl<'a> Uts46MapperBorrowed<'a> {
         composed(characters, dropped, self.pairs, self.bounds, iter)
     }
 
-    /// The same with U+FFFD for each ignored character, so that text which has any is not its own form.
+    /// Returns an iterator over what `iter` yields, mapped and in NFC, with U+FFFD for each ignored or disallowed
+    /// character. Mapped text is valid only if this leaves it unchanged.
+    ///
+    /// # Errors
+    /// `Memory` if reading up to the first boundary needed memory that was refused. Items are `Result`s for the same
+    /// reason: after one `Err`, only `None` comes. Memory is needed only if more than 17 characters are buffered at a
+    /// time.
     pub fn normalize_validate<I: Iterator<Item = char> + Drop>(
         &self,
         iter: I,

@@ -1,5 +1,5 @@
-//! The laws of the cut and of the first offence of an input of bytes or 16-bit units, well-formed or not. Each function
-//! does nothing: its contract is the law, over both encodings, every reading and both forms.
+//! The laws of the cut and of the first mismatch of an input of bytes or 16-bit units, well-formed or not. Each
+//! function does nothing: its contract is the law, for both encodings, every reading and both forms.
 
 ghost use Rattle.std.specs.Prelude.{◌≡◌, ◌≢◌, ◌↔◌, ◌⊎◌, ℕ, suc, ◌≤◌, List, [], ◌∷◌, ◌++◌, length, take, drop};
 ghost use Rattle.std.specs.Prelude.{Option, Some, None, slice_get, encode_utf8_all};
@@ -19,14 +19,15 @@ ghost use Rattle.normalizer_input.specs.InputOffence.{IsInputOffence, IsInputOff
 ghost use Rattle.normalizer_input.specs.EncodedForm.{encoded_form, IsEncodedFront};
 ghost use Rattle.normalizer_input.specs.declared.offence.Offence.{Offence};
 
-/// The first n units are well-formed exactly where n is a boundary at or before the first error.
+/// The first n units are well-formed exactly if n is a boundary at or before the first error.
 pub fn well_formed_front_ends_at_boundary()
     ensures { (e : Encoding) (units : List ℕ) (n : ℕ) →
         ((n ≤ length units) × IsWellFormed (first_in e) (take n units)) ↔ IsErrorFreeBoundary e units n }
 {}
 
-/// A number qualifies for the cut exactly where it is a boundary at or before the first error and what stands before it
-/// decodes to a common front of the decoded text and its form. So 0 qualifies, and every boundary before one that does.
+/// A number qualifies for the cut exactly if it is a boundary at or before the first error and what comes before it
+/// decodes to a common front of the decoded text and its form. So 0 qualifies, and every boundary before one that
+/// does.
 pub fn input_cut_is_common_front()
     ensures exactly { (e : Encoding) (d : Reading) (form : Form) → SuitsForm d form → (units : List ℕ) (n : ℕ) →
         QualifiesForInputCut e d form units n ↔ (IsErrorFreeBoundary e units n ×
@@ -40,8 +41,8 @@ pub fn input_cut_is_common_front()
         QualifiesForInputCut e d form units m }
 {}
 
-/// Every input has exactly one cut. It is where the longest common front ends that no error comes before: as many
-/// characters stand before it as before the cut of the decoded text, or fewer, and then an error stands at it.
+/// Every input has exactly one cut: the end of the longest common front before the first error. As many characters
+/// come before it as before the cut of the decoded text, or fewer, and then an error follows it.
 pub fn one_input_cut()
     ensures exists { (e : Encoding) (d : Reading) (form : Form) (units : List ℕ) →
         (n : ℕ) × IsInputCut e d form units n }
@@ -56,7 +57,7 @@ pub fn one_input_cut()
         (characters_before e units n ≤ k) × ((characters_before e units n ≡ k) ⊎ IsErrorAt e units n) }
 {}
 
-/// The prefix at the cut is well-formed and its own form; the rest is empty or is not both.
+/// The prefix at the cut is well-formed and normalized; the rest is empty or is not both.
 pub fn parts_at_input_cut()
     ensures prefix { (e : Encoding) (d : Reading) (form : Form) → SuitsForm d form → (units : List ℕ) (n : ℕ) →
         IsInputCut e d form units n → IsInputNormalized e d form (take n units) }
@@ -64,13 +65,13 @@ pub fn parts_at_input_cut()
         IsInputCut e d form units n → IsInputNormalized e d form (drop n units) → drop n units ≡ [] }
 {}
 
-/// An input is well-formed and its own form exactly where its cut is its length.
+/// An input is well-formed and normalized exactly if its cut is its length.
 pub fn normalized_input_is_cut_at_its_end()
     ensures { (e : Encoding) (d : Reading) (form : Form) (units : List ℕ) →
         IsInputNormalized e d form units ↔ IsInputCut e d form units (length units) }
 {}
 
-/// Where an input is well-formed and its own form, so is each well-formed front of it, and so is the rest behind one.
+/// If an input is well-formed and normalized, so is each well-formed front of it, and so is the rest after one.
 pub fn parts_of_normalized_input()
     ensures front { (e : Encoding) (d : Reading) (form : Form) → SuitsForm d form → (front rest : List ℕ) →
         IsWellFormed (first_in e) front → IsInputNormalized e d form (front ++ rest) →
@@ -80,8 +81,8 @@ pub fn parts_of_normalized_input()
         IsInputNormalized e d form rest }
 {}
 
-/// An input that is not well-formed and its own form has exactly one first offence. The character found there is not
-/// the one wanted, or an error stands there.
+/// An input that is not well-formed and normalized has exactly one first mismatch. The character found there is not
+/// the one expected, or an error is there.
 pub fn first_input_offence()
     ensures exists { (e : Encoding) (d : Reading) (form : Form) → HasInhabitedLists d → (units : List ℕ) →
         (IsInputNormalized e d form units → ⊥) →
@@ -94,8 +95,8 @@ pub fn first_input_offence()
         (found ≢ wanted) ⊎ IsErrorAt e units place }
 {}
 
-/// Every input has exactly one answer to a search for its first offence. The character found is the one of the
-/// decoded text, and the character wanted the one of its form, behind as many characters as stand before the place.
+/// A search for the first mismatch of an input has exactly one result. The character found is the one of the decoded
+/// text, and the one expected that of its form, after as many characters as come before the place.
 pub fn offence_of_input()
     ensures exists { (e : Encoding) (d : Reading) (form : Form) → HasInhabitedLists d → (units : List ℕ) →
         (answer : Option Offence) × IsInputOffenceOf e d form units answer }
@@ -111,8 +112,8 @@ pub fn offence_of_input()
         slice_get (normal_form d form (decoded_in e units)) (characters_before e units place) ≡ Some wanted }
 {}
 
-/// What is put behind a well-formed input mends no offence, well-formed itself or not: the longer input has one too,
-/// at a place no later.
+/// Appending to a well-formed input never removes its first mismatch, whether what is appended is well-formed or not:
+/// the longer input has one too, at a place no later.
 pub fn input_offence_under_continuation()
     ensures cut { (e : Encoding) (d : Reading) (form : Form) → SuitsForm d form → (units more : List ℕ) (n m : ℕ) →
         IsWellFormed (first_in e) units → (IsInputNormalized e d form units → ⊥) →
@@ -126,8 +127,8 @@ pub fn input_offence_under_continuation()
         (m : ℕ) × (found' : ℕ) × (wanted' : ℕ) × IsInputOffence e d form (units ++ more) m found' wanted' × (m ≤ n) }
 {}
 
-/// A well-formed input is its own form exactly where its text is. It is cut, and first differs from its form, where
-/// its text does: behind the units of as many characters.
+/// A well-formed input is normalized exactly if its text is. Its cut and its first mismatch are those of its text:
+/// after the units of as many characters.
 pub fn well_formed_input_goes_by_its_text()
     ensures normalized { (e : Encoding) (d : Reading) (form : Form) (units : List ℕ) → IsWellFormed (first_in e) units →
         IsInputNormalized e d form units ↔ IsNormalized d form (decoded_in e units) }
@@ -146,8 +147,8 @@ pub fn well_formed_input_goes_by_its_text()
         IsFirstOffence d form (decoded_in e units) (characters_before e units n) found wanted }
 {}
 
-/// A `str` is cut after the bytes of as many characters as stand before the cut of its text, and so with its first
-/// offence.
+/// A `str` is cut after the bytes of as many characters as come before the cut of its text, and its first mismatch is
+/// there too.
 pub fn str_goes_by_its_characters(text: &str)
     ensures normalized { (d : Reading) (form : Form) →
         IsInputNormalized Encoding.Utf8 d form text.now ↔ IsNormalized d form (chars text.now) }
@@ -159,15 +160,15 @@ pub fn str_goes_by_its_characters(text: &str)
         (place ≡ length (encode_utf8_all (take k (chars text.now))))) }
 {}
 
-/// An input is well-formed and its own form exactly where the form of what it decodes to, encoded, is the input.
+/// An input is well-formed and normalized exactly if it is the encoding of the form of what it decodes to.
 pub fn normalized_input_is_its_encoded_form()
     ensures { (e : Encoding) (d : Reading) (form : Form) → HasTextLists d → HasScalarResults d → (units : List ℕ) →
         IsInputNormalized e d form units ↔ (encoded_form e d form units ≡ units) }
 {}
 
-/// The first characters of the form, encoded, stand at the front of an input exactly where an error-free boundary
-/// with as many characters before it ends a common front of the decoded text and its form. The longest such front
-/// ends at the cut.
+/// The first characters of the form, encoded, are at the front of an input exactly if an error-free boundary with as
+/// many characters before it ends a common front of the decoded text and its form. The longest such front ends at the
+/// cut.
 pub fn encoded_front_ends_at_boundary()
     ensures exactly { (e : Encoding) (d : Reading) (form : Form) → HasTextLists d → HasScalarResults d →
         (units : List ℕ) (n k : ℕ) →
@@ -186,8 +187,8 @@ pub fn encoded_front_ends_at_boundary()
         IsInputCut e d form units n → IsEncodedFront e d form units n (characters_before e units n) }
 {}
 
-/// An input offered piece by piece: where the form of what a front up to a boundary decodes to, encoded, stands at
-/// the front of the input, that front is well-formed and its own form. So the form of the whole does not end early.
+/// If the encoded form of a front up to a boundary is at the front of the input, that front is well-formed and
+/// normalized. So no input is a proper extension of its encoded form.
 pub fn offered_input()
     ensures front { (e : Encoding) (d : Reading) (form : Form) → SuitsForm d form → HasInhabitedLists d →
         HasTextLists d → HasScalarResults d → (units : List ℕ) (n : ℕ) → IsBoundary (first_in e) units n →
@@ -197,7 +198,7 @@ pub fn offered_input()
         IsFront (encoded_form e d form units) units → encoded_form e d form units ≡ units }
 {}
 
-/// What stands between two boundaries at or before the first error is well-formed and decodes apart.
+/// What is between two boundaries at or before the first error is well-formed and decodes apart.
 pub fn units_between_boundaries()
     ensures well_formed { (e : Encoding) (units : List ℕ) (n m : ℕ) → IsErrorFreeBoundary e units n →
         IsErrorFreeBoundary e units m → n ≤ m → IsWellFormed (first_in e) (slice_range units n m) }
@@ -206,15 +207,15 @@ pub fn units_between_boundaries()
         decoded_in e (take n units) ++ decoded_in e (slice_range units n m) ++ decoded_in e (drop m units) }
 {}
 
-/// Over every reading, bytes that end within a character are not well-formed, and may become so by what is put behind
-/// them: the law of continuations holds of well-formed inputs alone.
+/// For every reading, bytes that end within a character are not well-formed, and may become so by what is appended:
+/// the law of continuations holds only for well-formed inputs.
 pub fn broken_sequence_may_be_completed()
     ensures broken { (d : Reading) (form : Form) → IsInputNormalized Encoding.Utf8 d form (0xE2 ∷ 0x98 ∷ []) → ⊥ }
     ensures completed { (d : Reading) (form : Form) → IsNormalized d form (0x2603 ∷ []) →
         IsInputNormalized Encoding.Utf8 d form (0xE2 ∷ 0x98 ∷ 0x83 ∷ []) }
 {}
 
-/// An error cuts an input whose text is its own form, and there the character found is the one wanted.
+/// An error cuts an input whose text is normalized, and there the character found is the one expected.
 pub fn error_may_be_found_as_wanted()
     ensures { (d : Reading) (form : Form) → SuitsForm d form → IsNormalized d form (0x61 ∷ 0xFFFD ∷ 0x61 ∷ []) →
         IsInputOffence Encoding.Utf8 d form (0x61 ∷ 0xFF ∷ 0x61 ∷ []) 1 0xFFFD 0xFFFD }

@@ -1,12 +1,12 @@
-//! What a search for the first offence of an input finds.
+//! The first mismatch of an input.
 
-/// The first place at which an input is not its own normal form.
+/// The first place where an input differs from its normal form.
 #[derive(Clone, Copy, PartialEq, Eq, Debug)]
 pub struct Offence {
-    /// How many units stand before it: bytes, or 16-bit units.
+    /// Its offset in units of the input: bytes, or 16-bit units.
     pub place: usize,
-    /// The character that the units there decode to.
+    /// The character found there: U+FFFD if the units are ill-formed.
     pub found: char,
-    /// The character that the form has there.
+    /// The character expected there, which the form has.
     pub wanted: char,
 }

@@ -41,10 +41,10 @@ mod passing;
 
 pub use making::composed;
 
-/// The characters of a text, decomposed, in canonical order, and composed.
+/// An iterator over the characters of a text, decomposed, in canonical order, and composed.
 ///
-/// It reads its delegate up to the first character without class form when it is made. After a fault, and once it
-/// ended, it gives `None` for good.
+/// It reads its delegate up to the first boundary when it is made. After an error, and after the end, it returns
+/// `None` forever; after its delegate's first `None` it does not call it again.
 #[derive(Drop)]
 pub struct Composition<'data, I> {
     decomposed: Decomposition<'data, I>,
@@ -127,8 +127,8 @@ impl<'data, I: Iterator<Item = char> + Drop> Composition<'data, I> {
         })
     }
 
-    /// What a starter and a character behind it compose to (D114). Where the pairs keep lists (condition 14, and
-    /// condition 6 for Hangul), the list of what they compose to is that of the two, in canonical order.
+    /// Returns what `starter` and `second` compose to, if they do (D114). If the data meet condition 14, and condition
+    /// 6 for Hangul, the list of the result is the lists of the two, in canonical order. It takes no memory.
     pub fn compose(&self, starter: char, second: char) -> Option<char>
         ensures pair { result ≡ pair_of (pairs_of_composition self.now) starter second }
         ensures lists { let s = data_of_composition self.now in (b : Bounds) (ignored : IgnoredCharacters) →

@@ -27,10 +27,10 @@ use normalizer_tables::condition::GREATEST_BOUNDS;
 use normalizer_tables::{DecompositionData, DecompositionTables};
 use std::alloc::AllocError;
 
-/// The characters of a text, decomposed and in canonical order.
+/// An iterator over the characters of a text, decomposed and in canonical order.
 ///
-/// It reads its delegate up to the first character without class form when it is made. After a fault, and once it
-/// ended, it gives `None` for good.
+/// It reads its delegate up to the first boundary when it is made. After an error, and after the end, it returns
+/// `None` forever; after its delegate's first `None` it does not call it again.
 #[derive(Drop)]
 pub struct Decomposition<'data, I> {
     pub(crate) characters: CharacterData<'data>,
@@ -57,7 +57,14 @@ impl<'data, I: Iterator<Item = char> + Drop> Decomposition<'data, I> {
       items_left,
     };
 
-    /// The characters of the NFD of what `delegate` gives, one by one, by canonical data that the caller answers for.
+    /// Returns an iterator over the NFD of what `delegate` yields, using canonical data that the caller has checked.
+    ///
+    /// The caller owes that [`check_nfd_data`](normalizer_tables::check_nfd_data) returned `Ok` for exactly these
+    /// values.
+    ///
+    /// # Errors
+    /// `Memory` if an allocation was refused, now or from an item. None is made unless more than 17 characters are
+    /// buffered at a time.
     pub fn new(
         delegate: I,
         decompositions: &'data DecompositionData,
@@ -184,7 +191,7 @@ impl<'data, I: Iterator<Item = char> + Drop> Decomposition<'data, I> {
     }
 }
 
-/// The decomposed form of what a delegate gives, character by character, by data that may be read lazily.
+/// Returns an iterator over the decomposed form of what a delegate yields, using data that may be read lazily.
 pub fn decomposed<'data, I: Iterator<Item = char> + Drop>(
     characters: CharacterData<'data>,
     ignored: IgnoredCharacters,

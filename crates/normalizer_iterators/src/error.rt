@@ -1,17 +1,17 @@
-//! Faults of normalization.
+//! Errors of normalization.
 ghost use Rattle.std.specs.Prelude.{◌≡◌};
 
 use normalizer_text::sink::SinkError;
 use std::alloc::AllocError;
 use thiserror::Error;
 
-/// Why text could not be normalized.
+/// Why text could not be normalized. The same call may be made again.
 #[derive(Debug, PartialEq, Eq, Drop, Error)]
 pub enum NormalizeError {
-    /// Memory was refused.
+    /// An allocation was refused.
     #[error("out of memory")]
     Memory,
-    /// The sink refused a write.
+    /// The sink refused a call. A string or vector does so if a growth was refused.
     #[error("the sink refused a write")]
     Sink,
 }

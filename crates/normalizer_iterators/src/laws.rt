@@ -1,10 +1,10 @@
-//! What one call of an iterator gives that spells a text. Each function does nothing: its contract is the law, and its
-//! proof stands in `proofs/`. A loop over the items of such an iterator calls those that it rests on.
+//! What one call returns of an iterator that spells a text. Each function does nothing: its contract is the law, and
+//! its proof is in `proofs/`. A loop that relies on a law calls it.
 ghost use Rattle.std.specs.Prelude.{◌≡◌, ℕ, List, [], ◌∷◌, Option, Some, None, Result, Ok, Err};
 ghost use Rattle.normalizer_iterators.specs.Items.{HasEnded, SpellsOk, SpellsUnless};
 
-/// Where a text comes unless a fault does, one call gives the first of the characters that are left, or nothing where
-/// none is left, or that fault; behind the last two nothing comes.
+/// If an iterator spells a text unless there is a fault, one call returns the first of the remaining characters, or
+/// `None` if none remains, or that fault; after the last two nothing comes.
 pub fn text_comes_unless_a_fault_does<E, I: Iterator<Item = Result<char, E>>>()
     ensures next { (fault : E) (s t : I) (c : ℕ) (x : List ℕ) → I.next_gives s (Some (Ok c)) t →
         SpellsUnless I.next_gives fault s x → (rest : List ℕ) × (x ≡ c ∷ rest) ×
@@ -15,8 +15,8 @@ pub fn text_comes_unless_a_fault_does<E, I: Iterator<Item = Result<char, E>>>()
         SpellsUnless I.next_gives fault s x → (e ≡ fault) × HasEnded I.next_gives t }
 {}
 
-/// Where a text comes without faults, one call gives the first of the characters that are left, or nothing where none
-/// is left; and the text comes, whatever fault were awaited.
+/// If an iterator spells a text without faults, one call returns the first of the remaining characters, or `None` if
+/// none remains; so it also spells the text unless there is a fault, whichever that is.
 pub fn text_comes_without_faults<E, I: Iterator<Item = Result<char, E>>>()
     ensures next { (s t : I) (c : ℕ) (x : List ℕ) → I.next_gives s (Some (Ok c)) t →
         SpellsOk I.next_gives s x → (rest : List ℕ) × (x ≡ c ∷ rest) × SpellsOk I.next_gives t rest }
@@ -27,7 +27,7 @@ pub fn text_comes_without_faults<E, I: Iterator<Item = Result<char, E>>>()
         SpellsOk I.next_gives s x → SpellsUnless I.next_gives fault s x }
 {}
 
-/// Behind the end `None` comes for good.
+/// After the end every call returns `None`.
 pub fn nothing_comes_behind_the_end<E, I: Iterator<Item = Result<char, E>>>()
     ensures { (s t : I) (r : Option (Result ℕ E)) → I.next_gives s r t →
         HasEnded I.next_gives s → (r ≡ None) × HasEnded I.next_gives t }

@@ -1,4 +1,4 @@
-//! Iterators that give text in a normal form character by character (The Unicode Standard, D118 to D121).
+//! Iterators over the characters of a normal form (The Unicode Standard, D118 to D121).
 #![tactic(auto)]
 
 pub mod composition;

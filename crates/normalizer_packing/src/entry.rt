@@ -7,16 +7,20 @@ use std::marker::Model;
 /// The three kinds of decomposition data.
 #[derive(Clone, Copy, Debug, PartialEq, Eq)]
 pub enum Kind {
+    /// Canonical decompositions.
     Canonical,
+    /// Compatibility decompositions.
     Compatibility,
-    /// Of the mapper (UTS #46, section 4).
+    /// The mapper's (UTS #46, section 4).
     Mapper,
 }
 
 /// A canonical mapping as it is recorded, before it is replaced further.
 #[derive(Clone, Copy, Debug, PartialEq, Eq)]
 pub enum Mapping {
+    /// To one character.
     One(char),
+    /// To two characters.
     Two(char, char),
 }
 
@@ -24,12 +28,17 @@ pub enum Mapping {
 /// mapping.
 #[derive(Drop)]
 pub struct Entry {
+    /// The character.
     pub character: char,
+    /// Its canonical combining class.
     pub class: u8,
+    /// Its list in canonical data.
     pub canonical: Vec<char>,
+    /// Its list in compatibility data.
     pub compatibility: Vec<char>,
-    /// Nothing where the mapper ignores the character.
+    /// `None` if the mapper ignores the character.
     pub mapper: Option<Vec<char>>,
+    /// Its recorded canonical mapping, if it has one.
     pub mapping: Option<Mapping>,
 }
 
@@ -50,7 +59,7 @@ impl Model for Entry {
 }
 
 impl Entry {
-    /// The full decomposition in one kind of data. Nothing where the mapper ignores the character.
+    /// Returns the full decomposition in one kind of data, `None` if the mapper ignores the character.
     pub fn list(&self, kind: Kind) -> Option<&[char]>
         ensures { option_copied result ≡ own_list kind self.now }
     {

@@ -28,11 +28,18 @@ pub use stores::PackError;
 /// The data of all markers.
 #[derive(Drop)]
 pub struct Packed {
+    /// Canonical data.
     pub canonical: DecompositionData,
+    /// Compatibility data.
     pub compatibility: DecompositionData,
+    /// The mapper's data.
     pub mapper: DecompositionData,
+    /// The lists of canonical data.
     pub tables: DecompositionTables,
+    /// The further lists of the other two.
     pub supplementary_tables: DecompositionTables,
+    /// The composing pairs.
     pub compositions: CanonicalCompositions,
+    /// The supplement for single canonical decomposition steps.
     pub supplement: NonRecursiveDecompositionSupplement,
 }

@@ -10,7 +10,7 @@ use crate::entries::Entries;
 use crate::entry::{Entry, Kind};
 use crate::stored::{is_narrow, listed_of};
 
-/// Whether entries rise, and a word can tell the length of each list that stands in a table.
+/// Returns whether entries rise, and a word can encode the length of each list that needs a table.
 pub fn are_packable(entries: &[Entry]) -> bool
     ensures { IsTrue result ↔ ArePackable entries.now }
 {

@@ -18,9 +18,12 @@ use crate::words::PackedWords;
 use normalizer_tables::{CanonicalCompositions, DecompositionData, TableError};
 use std::alloc::{AllocError, Global};
 
-/// Packs the entries of characters, and pairs of characters that compose (second, first and result), into data: the
-/// same entries and pairs into the same data. Lists stand in the tables in the order in which characters first need
-/// them, an equal one once. Refuses lists that have more items than words can point to.
+/// Packs the entries of characters, and pairs of characters that compose (second, first and result), into data. The
+/// same entries and pairs make the same data: lists are in the tables in the order in which characters first need
+/// them, an equal one once.
+///
+/// # Errors
+/// `TableFull` if the lists have more items than the limit, 8,191; `Memory` if an allocation was refused.
 pub fn pack(
     alloc: Global,
     entries: &[Entry],

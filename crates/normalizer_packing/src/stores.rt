@@ -14,10 +14,10 @@ use thiserror::Error;
 /// Why entries were not packed.
 #[derive(Debug, Drop, Error)]
 pub enum PackError {
-    /// The distinct lists that no word spells have together more items than words can point to.
+    /// The distinct lists that no word spells have more than 8,191 items together.
     #[error("the lists have more items than words can point to")]
     TableFull,
-    /// A growth was refused.
+    /// An allocation was refused.
     #[error("out of memory")]
     Memory,
 }
@@ -58,7 +58,7 @@ fn filled<'a>(alloc: Global, entries: &Entries<'a>) -> Result<Stores<'a>, AllocE
     })
 }
 
-/// Whether words can point to all items.
+/// Whether the items are within the limit.
 fn is_within(stores: &Stores<'_>) -> bool
     ensures { IsTrue result ↔
         (item_count (tables_in stores.now.canonical) + item_count (tables_in stores.now.supplementary) ≤ item_limit) }

@@ -30,7 +30,7 @@ impl CanonicalCombiningClass {
     pub const Above: CanonicalCombiningClass = CanonicalCombiningClass(230);
 }
 
-/// The canonical combining classes of all characters.
+/// The canonical combining classes of all characters. Its data were checked when it was made.
 #[derive(Drop)]
 pub struct CanonicalCombiningClassMap {
     decompositions: DecompositionData,
@@ -40,8 +40,13 @@ pub struct CanonicalCombiningClassMap {
 impl CanonicalCombiningClassMap {
     ghost use Rattle.normalizer_properties.specs.Properties.{classes_of, classes_of_borrowed};
 
-    /// The classes that the provider's canonical data give. A load that is refused is the answer, and else the first
-    /// written condition on classes that the data break.
+    /// Makes the map of classes from canonical data, which it loads from the provider and checks: only what concerns
+    /// classes.
+    ///
+    /// # Errors
+    /// - `Provider` if the provider holds nothing for the marker.
+    /// - `Invalid`, with the lowest-numbered condition that fails, if the data break one (`docs/CONDITIONS.md`).
+    /// - `Memory` if a load was refused memory.
     pub fn try_new_unstable<P>(provider: &P) -> Result<Self, DataError>
     where
         P: DataProvider<NormalizerNfdDataV1>,
@@ -64,7 +69,7 @@ impl CanonicalCombiningClassMap {
         }
     }
 
-    /// The map that borrows this one's data.
+    /// Returns the map that borrows this one's data.
     pub fn as_borrowed(&self) -> CanonicalCombiningClassMapBorrowed<'_>
         ensures { classes_of_borrowed result ≡ classes_of self.now }
     {
@@ -84,28 +89,28 @@ pub struct CanonicalCombiningClassMapBorrowed<'a> {
 impl<'a> CanonicalCombiningClassMapBorrowed<'a> {
     ghost use Rattle.normalizer_properties.specs.Properties.{classes_of_borrowed};
 
-    /// The class of a character.
+    /// Returns the class of a character.
     pub fn get(&self, character: char) -> CanonicalCombiningClass
         ensures { result.0 ≡ combining_class (classes_of_borrowed self.now) character }
     {
         CanonicalCombiningClass(self.get_u8(character))
     }
 
-    /// The class of any number: 0 for one that is no scalar value.
+    /// Returns the class of a code point: 0 for a number that is no scalar value.
     pub fn get32(&self, number: u32) -> CanonicalCombiningClass
         ensures { result.0 ≡ combining_class (classes_of_borrowed self.now) number }
     {
         CanonicalCombiningClass(self.get32_u8(number))
     }
 
-    /// The class of a character, as a number.
+    /// Returns the class of a character, as a number.
     pub fn get_u8(&self, character: char) -> u8
         ensures { result ≡ combining_class (classes_of_borrowed self.now) character }
     {
         self.get32_u8(character as u32)
     }
 
-    /// The class of any number, as a number: 0 for one that is no scalar value.
+    /// Returns the class of a code point, as a number: 0 for a number that is no scalar value.
     pub fn get32_u8(&self, number: u32) -> u8
         ensures { result ≡ combining_class (classes_of_borrowed self.now) number }
     {

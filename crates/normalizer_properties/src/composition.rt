@@ -12,7 +12,7 @@ use normalizer_tables::{
     CanonicalCompositions, DataError, DataMarkerInfo, DataProvider, NormalizerNfcV1,
 };
 
-/// The pairs of characters that compose.
+/// The pairs of characters that compose. They were checked when it was made.
 #[derive(Drop)]
 pub struct CanonicalComposition {
     pairs: CanonicalCompositions,
@@ -22,8 +22,13 @@ pub struct CanonicalComposition {
 impl CanonicalComposition {
     ghost use Rattle.normalizer_properties.specs.Properties.{pairs_of, pairs_of_borrowed};
 
-    /// The pairs that the provider holds. A load that is refused is the answer, and else condition 11, where the pairs
-    /// don't rise or the arithmetic of Hangul answers one of their seconds.
+    /// Makes it from pairs, which it loads from the provider and checks: of condition 11, that they rise and that no
+    /// second is in U+1161 to U+11FF, which compose by arithmetic.
+    ///
+    /// # Errors
+    /// - `Provider` if the provider holds nothing for the marker.
+    /// - `Invalid`, with the lowest-numbered condition that fails, if the data break one (`docs/CONDITIONS.md`).
+    /// - `Memory` if a load was refused memory.
     pub fn try_new_unstable<P>(provider: &P) -> Result<Self, DataError>
     where
         P: DataProvider<NormalizerNfcV1>,
@@ -46,7 +51,7 @@ impl CanonicalComposition {
         }
     }
 
-    /// The same over borrowed pairs.
+    /// Returns the same over borrowed pairs.
     pub fn as_borrowed(&self) -> CanonicalCompositionBorrowed<'_>
         ensures { pairs_of_borrowed result ≡ pairs_of self.now }
     {
@@ -64,7 +69,7 @@ pub struct CanonicalCompositionBorrowed<'a> {
 impl<'a> CanonicalCompositionBorrowed<'a> {
     ghost use Rattle.normalizer_properties.specs.Properties.{pairs_of_borrowed};
 
-    /// What two characters compose to, Hangul included.
+    /// Returns what two characters compose to, if they do, Hangul included.
     pub fn compose(self, starter: char, second: char) -> Option<char>
         ensures { result ≡ pair_of (pairs_of_borrowed self.entry) starter second }
     {

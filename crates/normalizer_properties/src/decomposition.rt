@@ -23,7 +23,7 @@ use normalizer_tables::{
     NormalizerNfdTablesV1,
 };
 
-/// One step of canonical decomposition.
+/// One step of canonical decomposition. Its data were checked when it was made.
 #[derive(Drop)]
 pub struct CanonicalDecomposition {
     decompositions: DecompositionData,
@@ -35,8 +35,13 @@ pub struct CanonicalDecomposition {
 impl CanonicalDecomposition {
     ghost use Rattle.normalizer_properties.specs.Properties.{steps_of, steps_of_borrowed};
 
-    /// The steps by what the provider holds. The data are loaded first, then their tables, then the supplement; the
-    /// first load that is refused is the answer, and else the first written condition that they break.
+    /// Makes it from canonical data and their supplement, which it loads from the provider and checks.
+    ///
+    /// # Errors
+    /// - `Provider` if the provider holds nothing for one of the markers; the data are loaded first.
+    /// - `Invalid`, with the lowest-numbered condition that fails, if the data break one (`docs/CONDITIONS.md`).
+    /// - `Memory` if a load was refused memory.
+    /// - `FutureExtension` if the tables have more items than the limit.
     pub fn try_new_unstable<P>(provider: &P) -> Result<Self, DataError>
     where
         P: DataProvider<NormalizerNfdDataV1>
@@ -78,7 +83,7 @@ impl CanonicalDecomposition {
         }
     }
 
-    /// The steps by borrowed data.
+    /// Returns the same over borrowed data.
     pub fn as_borrowed(&self) -> CanonicalDecompositionBorrowed<'_>
         ensures { steps_of_borrowed result ≡ steps_of self.now }
     {
@@ -89,7 +94,7 @@ impl CanonicalDecomposition {
     }
 }
 
-/// One step of canonical decomposition, by borrowed data.
+/// One step of canonical decomposition, over borrowed data.
 #[derive(Drop)]
 pub struct CanonicalDecompositionBorrowed<'a> {
     characters: CharacterData<'a>,
@@ -100,8 +105,8 @@ pub struct CanonicalDecompositionBorrowed<'a> {
 impl<'a> CanonicalDecompositionBorrowed<'a> {
     ghost use Rattle.normalizer_properties.specs.Properties.{steps_of_borrowed};
 
-    /// The canonical mapping of a character, not repeated: a Hangul syllable of three jamo maps to one of two and the
-    /// third (The Unicode Standard, section 3.12).
+    /// Returns the canonical mapping of a character, not repeated. A Hangul syllable of three jamo maps to one of two
+    /// and the third (The Unicode Standard, section 3.12). It takes no memory.
     pub fn decompose(&self, character: char) -> Decomposed
         ensures step { let h = steps_of_borrowed self.now in step_of h.0 h.1 character ≡ Some result }
         ensures lists { MeansInLists (steps_of_borrowed self.now).0 character result }

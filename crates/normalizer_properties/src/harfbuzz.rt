@@ -1,4 +1,4 @@
-//! The traits by which a shaper asks for properties of characters, with the answers of the properties.
+//! Traits by which a shaper uses properties of characters. The types of `properties` implement them.
 ghost use Rattle.std.specs.Prelude.{◌≡◌};
 ghost use Rattle.normalizer_properties.specs.Shapers.{shaper_mapping};
 
@@ -7,12 +7,13 @@ use crate::composition::{CanonicalComposition, CanonicalCompositionBorrowed};
 use crate::decomposition::{CanonicalDecomposition, CanonicalDecompositionBorrowed};
 use normalizer_tables::step::Step as Decomposed;
 
-/// What two characters compose to.
+/// Composition of two characters.
 pub trait ComposeFunc {
     ghost use Rattle.std.specs.Prelude.{ℕ, Option};
 
     ghost composite: { Self → ℕ → ℕ → Option ℕ };
 
+    /// Returns what two characters compose to, if they do.
     fn compose(&self, a: char, b: char) -> Option<char>
         ensures { result ≡ composite self.now a b };
 }
@@ -23,7 +24,8 @@ pub trait DecomposeFunc {
 
     ghost mapping: { Self → ℕ → Option (ℕ × ℕ) };
 
-    /// The two characters that it maps to; the one, with U+0000 behind it; or nothing where it has no mapping.
+    /// Returns the two characters that `character` maps to; the one, with U+0000 after it; or `None` if it has no
+    /// mapping.
     fn decompose(&self, character: char) -> Option<(char, char)>
         ensures { result ≡ mapping self.now character };
 }
@@ -34,6 +36,7 @@ pub trait CombiningClassFunc {
 
     ghost class: { Self → ℕ → ℕ };
 
+    /// Returns the class of a character, 0 for a starter.
     fn combining_class(&self, character: char) -> u8
         ensures { result ≡ class self.now character };
 }

@@ -1,5 +1,5 @@
-//! Properties of characters, by data that a provider holds: canonical combining classes, the pairs that compose, and
-//! one step of canonical decomposition; and the traits by which shapers ask for them.
+//! Properties of characters, from the data of a provider: canonical combining classes, the pairs that compose, and one
+//! step of canonical decomposition; and traits by which shapers use them.
 #![tactic(auto)]
 
 mod combining_class;

@@ -1,12 +1,12 @@
-//! The laws of what records mean. Each function does nothing: its contract is the law, its proof stands in `proofs/`.
+//! The laws of what records mean. Each function does nothing: its contract is the law, its proof is in `proofs/`.
 ghost use Rattle.std.specs.Prelude.{◌≡◌, ◌↔◌, ℕ, List, ◌∷◌, [], false, All};
 ghost use Rattle.normalizer_records.specs.declared.records.Mappings.{Mappings};
 ghost use Rattle.normalizer_records.specs.Entry.{Entry, MapperEntry};
 ghost use Rattle.normalizer_records.specs.Faults.{has_fixed_fault, IsOnLongChain};
 ghost use Rattle.normalizer_records.specs.Meaning.{expand_all, expansion, levels, ExpandsTo};
 
-/// Where a character is on no chain of more than 16 records, its expansion is what comes of replacing until nothing
-/// changes, and nothing else does. So it is of a text of such characters, one after another.
+/// If a character is on no chain of more than 16 records, replacing until nothing changes has exactly one result, its
+/// expansion. The same holds for a text of such characters.
 pub fn expansion_is_replacing()
     ensures character { (records : List Entry) (uts46 : List MapperEntry) (mappings : Mappings) →
         has_fixed_fault records uts46 ≡ false → (c : ℕ) (list : List ℕ) → (¬ IsOnLongChain records c) →

@@ -1,4 +1,4 @@
-//! Plain records of characters: what they mean, and every refusal that they alone decide.
+//! Plain records of characters: what they mean, and what may be wrong with them.
 #![tactic(auto)]
 
 mod chains;

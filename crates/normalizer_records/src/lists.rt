@@ -1,4 +1,4 @@
-//! The lists that records give characters.
+//! The lists of characters, as records mean them.
 ghost use Rattle.std.specs.Prelude.{◌≡◌, ◌≤◌, length, IfOk, IfSome};
 ghost use Rattle.std.specs.Option.{option_map};
 ghost use Rattle.normalizer_records.specs.Faults.{AreMapperRising, AreRising};
@@ -27,7 +27,8 @@ fn full_list(
     Ok(list)
 }
 
-/// The canonical list of a character: its canonical mapping replaced until nothing changes, then put in order.
+/// Returns the canonical list of a character: its canonical mapping, replaced until nothing changes, then put in
+/// order.
 pub fn canonical_list(alloc: Global, records: &[Record], c: char) -> Result<Vec<char>, AllocError>
     requires rising { AreRising records.now }
     requires fits { length (canonical_list records.now c) ≤ 18 }
@@ -36,7 +37,7 @@ pub fn canonical_list(alloc: Global, records: &[Record], c: char) -> Result<Vec<
     full_list(alloc, records, Mappings::Canonical, c)
 }
 
-/// The compatibility list of a character: the same by all mappings.
+/// Returns the compatibility list of a character: the same, by all mappings.
 pub fn compatibility_list(
     alloc: Global,
     records: &[Record],
@@ -49,7 +50,7 @@ pub fn compatibility_list(
     full_list(alloc, records, Mappings::All, c)
 }
 
-/// The list of the mapper, none where it ignores the character.
+/// Returns the mapper's list of a character, `None` if it ignores the character.
 pub fn mapper_list(
     alloc: Global,
     records: &[Record],

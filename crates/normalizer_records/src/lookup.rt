@@ -18,7 +18,7 @@ pub(crate) fn record_of(records: &[Record], c: char) -> Option<&Record>
     }
 }
 
-/// The recorded class of a character.
+/// Returns the recorded class of a character, 0 without a record.
 #[tactic(auto, unfolding(crate::specs::Meaning::class_of))]
 pub fn class_of(records: &[Record], c: char) -> u8
     requires { AreRising records.now }
@@ -30,7 +30,7 @@ pub fn class_of(records: &[Record], c: char) -> u8
     }
 }
 
-/// The recorded canonical mapping of a character, empty without one.
+/// Returns the recorded canonical mapping of a character, empty without one.
 #[tactic(auto, unfolding(crate::specs::Meaning::canonical_mapping_of))]
 pub fn canonical_mapping_of(records: &[Record], c: char) -> &[char]
     requires { AreRising records.now }

@@ -42,7 +42,8 @@ fn unsorted_pairs(alloc: Global, records: &[Record]) -> Result<Vec<(char, char, 
         .collect(alloc)
 }
 
-/// The pairs of records, sorted by second, then by first. They strictly rise unless two records give the same pair.
+/// Returns the pairs of records, sorted by second, then by first. They strictly rise unless two records have the same
+/// pair.
 pub fn pairs(alloc: Global, records: &[Record]) -> Result<Vec<(char, char, char)>, AllocError>
     ensures same { IfOk result (λ v. IsPermutation (pairs_of records.now) v.items) }
     ensures sorted { IfOk result (λ v. IsSorted by_second_and_first v.items) }

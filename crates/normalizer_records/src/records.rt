@@ -1,4 +1,4 @@
-//! What is recorded of characters.
+//! Records of characters.
 ghost use Rattle.std.specs.Prelude.{◌≡◌, ◌↔◌, IsTrue};
 ghost use Rattle.std.specs.Cmp.{partial_equiv_from_equiv};
 ghost use Rattle.normalizer_records.specs.Equal.{entry_eq, mapper_entry_eq};
@@ -8,14 +8,18 @@ use normalizer_tables::DataMarkerInfo;
 use std::marker::Model;
 use thiserror::Error;
 
-/// What is recorded of one character. An empty mapping is none, and the two flags are then not looked at; `excluded` is
-/// looked at for canonical mappings of two characters alone.
+/// A record of one character: its class and its mapping, as in a line of `UnicodeData.txt`.
 #[derive(Drop, Clone, Debug)]
 pub struct Record {
+    /// The character.
     pub c: char,
+    /// Its canonical combining class.
     pub class: u8,
+    /// Its decomposition mapping, not replaced further. An empty one is none, and the two flags are then ignored.
     pub mapping: Vec<char>,
+    /// Whether the mapping is a compatibility mapping.
     pub compatibility: bool,
+    /// Whether the character is excluded from composition. Only canonical mappings of two characters use it.
     pub excluded: bool,
 }
 
@@ -54,18 +58,24 @@ impl Eq for Record {
     ghost laws = { entry_equivalence };
 }
 
-/// What the mapper does with a character (UTS #46, section 4).
+/// What the mapper does with a character (UTS #46, section 4): it maps it to others, drops it, or replaces it by
+/// U+FFFD.
 #[derive(Drop, Clone, PartialEq, Eq, Debug)]
 pub enum Uts46Status {
+    /// It is mapped to these characters, at least one.
     Mapped(Vec<char>),
+    /// It is dropped.
     Ignored,
+    /// It is replaced by U+FFFD.
     Disallowed,
 }
 
-/// What is recorded of one character for the mapper.
+/// A record of one character for the mapper.
 #[derive(Drop, Clone, Debug)]
 pub struct Uts46Record {
+    /// The character.
     pub c: char,
+    /// What the mapper does with it.
     pub status: Uts46Status,
 }
 
@@ -96,46 +106,51 @@ impl Eq for Uts46Record {
     ghost laws = { mapper_entry_equivalence };
 }
 
-/// The mappings that are replaced: the canonical ones alone, or all.
+/// Which mappings are replaced: the canonical ones alone, or all.
 #[derive(Clone, Copy, PartialEq, Eq, Debug)]
 pub enum Mappings {
+    /// Canonical mappings.
     Canonical,
+    /// Canonical and compatibility mappings.
     All,
 }
 
-/// Why records were refused.
+/// Why records were refused: the first fault in the order of the variants. `Memory` may come in place of any.
 #[derive(Clone, Copy, PartialEq, Eq, Debug, Error)]
 pub enum BuildError {
     /// The records of a kind don't strictly rise by character.
     #[error("the records don't strictly rise by character")]
     Order,
-    /// A record for a character whose data are fixed.
+    /// A record for a character whose data are fixed: U+FFFD, a conjoining jamo or a Hangul syllable.
     #[error("a record of U+FFFD, a conjoining jamo or a Hangul syllable")]
     Fixed,
-    /// A class of 255, or a mark where a starter has to stand.
+    /// A class of 255, a mark with a mapping, or a list that begins with a mark.
     #[error("a class of 255, or a list that begins with a mark")]
     Class,
-    /// A mapping that is empty, too long, or has a character that none may have there.
+    /// A mapping that is too long or has a character that it may not have, or an empty one of the mapper's.
     #[error("a mapping of a wrong length or with a character that it may not have")]
     Mapping,
     /// More than 16 records, each with the next one's character in its mapping.
     #[error("more than 16 records lead from one to the next")]
     Chain,
-    /// A list that is longer than words can say.
+    /// A list that is longer than words can encode.
     #[error("a list is too long")]
     Length,
     /// Two records give the same pair.
     #[error("two records give the same pair")]
     Pair,
-    /// The data that the records give break a written condition.
+    /// The data that the records make break the written condition of this number (`docs/CONDITIONS.md`).
     #[error("the data of {marker:?} break condition {condition}")]
     Unfit {
+        /// The kind of data.
         marker: DataMarkerInfo,
+        /// The number of the condition.
         condition: u8,
     },
-    /// The lists that need tables have together more items than words can point to.
+    /// The lists that need tables have more than 8,191 items together.
     #[error("the lists have more items than the tables hold")]
     TableFull,
+    /// An allocation was refused.
     #[error("out of memory")]
     Memory,
 }

@@ -1,6 +1,6 @@
-//! Why records are refused for what they say.
+//! What may be wrong with records.
 
-/// What may be wrong with records, the first to be answered first.
+/// What may be wrong with records, in the order in which it is reported.
 #[derive(Clone, Copy, PartialEq, Eq, Debug)]
 pub enum Refusal {
     /// The records of a kind don't strictly rise by character.

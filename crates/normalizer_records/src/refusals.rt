@@ -1,4 +1,4 @@
-//! The first refusal that records alone decide.
+//! The first thing that is wrong with records.
 ghost use Rattle.std.specs.Prelude.{◌≡◌, ◌↔◌, ◌++◌, ◌∷◌, false, length, map, IfOk, IsTrue};
 ghost use Rattle.std.specs.BTreeSet.{contains};
 ghost use Rattle.std.specs.List.{list_any};
@@ -82,7 +82,7 @@ fn list_faults(
     Ok(ListFaults { class, length })
 }
 
-/// The characters of the records, and of those of the mapper.
+/// Returns the characters of the records, and of those of the mapper.
 pub fn recorded_characters(
     alloc: Global,
     records: &[Record],
@@ -135,7 +135,7 @@ fn first_among(class: bool, mapping: bool, chain: bool, length: bool, pair: bool
     }
 }
 
-/// The smallest of the refusals whose fault the records have.
+/// Returns the first thing that is wrong with the records, if anything is.
 pub fn first_refusal(
     alloc: Global,
     records: &[Record],

@@ -1,5 +1,5 @@
-//! The record set `rows`: a few characters of Unicode with their classes and mappings. The program builds data
-//! from it, and rows of worked examples stand over it.
+//! The record set `rows`: 45 characters of Unicode with their classes and mappings. The program builds data from it,
+//! and so do the worked examples.
 #![tactic(auto)]
 
 pub mod row;

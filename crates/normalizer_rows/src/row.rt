@@ -6,14 +6,14 @@ pub type Row = (char, u8, &'static [char], Kind);
 /// A character, what it is mapped to, and what the mapper does with it.
 pub type MapperRow = (char, &'static [char], Treatment);
 
-/// What kind of mapping is recorded of a character.
+/// The kind of mapping that a character has.
 #[derive(Clone, Copy)]
 pub enum Kind {
     /// None.
     Unmapped,
     /// A canonical mapping.
     Canonical,
-    /// A canonical mapping that is not composed again.
+    /// A canonical mapping that is excluded from composition.
     Excluded,
     /// A compatibility mapping.
     Compatibility,

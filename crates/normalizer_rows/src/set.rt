@@ -9,7 +9,7 @@ use crate::table::{MAPPER_ROWS, ROWS};
 use normalizer_records::{Record, Uts46Record, Uts46Status};
 use std::alloc::{AllocError, Global};
 
-/// The records of the set, a record for each row.
+/// Returns the records of the set, a record for each row.
 pub fn records(alloc: Global) -> Result<Vec<Record>, AllocError>
     ensures { IfOk result (λ v. v.items ≡ map (λ row. entry_of row.0 row.1 row.2.now row.3) ROWS) }
 {
@@ -57,7 +57,7 @@ fn is_excluded(kind: Kind) -> bool
     matches!(kind, Kind::Excluded)
 }
 
-/// The records of the mapper, a record for each row.
+/// Returns the records of the mapper, a record for each row.
 pub fn mapper_records(alloc: Global) -> Result<Vec<Uts46Record>, AllocError>
     ensures { IfOk result (λ v. v.items ≡ map (λ row. mapper_entry_of row.0 row.1.now row.2) MAPPER_ROWS) }
 {

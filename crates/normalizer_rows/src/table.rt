@@ -64,7 +64,7 @@ const FDFA: [char; 18] = [
     '\u{0644}', '\u{0645}',
 ];
 
-/// What the mapper maps characters to, or does with them.
+/// Characters with what the mapper maps them to, or does with them.
 pub const MAPPER_ROWS: [MapperRow; 8] = [
     ('\u{0041}', &['\u{0061}'], Mapped),
     ('\u{00C4}', &['\u{00E4}'], Mapped),

@@ -32,19 +32,19 @@ use crate::word::{FLAGS, WordReading, class_of_word, is_class_form, read};
 use std::alloc::Global;
 use std::marker::Model;
 
-/// What stands for a character that the mapper ignores (UTS #46, section 4).
+/// How a character that the mapper ignores reads (UTS #46, section 4).
 #[derive(Clone, Copy, PartialEq, Eq, Debug)]
 pub enum IgnoredCharacters {
-    /// Nothing, as mapping wants it.
+    /// It is dropped, as mapping requires.
     Dropped,
-    /// U+FFFD, as validation wants it.
+    /// It reads as U+FFFD, as validation requires.
     Replaced,
 }
 
 /// How many code points there are.
 pub const CODE_POINTS: u32 = 0x110000;
 
-/// Decomposition data with the tables that their words point into, and below which number characters pass unseen.
+/// Decomposition data with the tables that their words point into, and the number below which no word is looked up.
 #[derive(Drop)]
 pub struct CharacterData<'a> {
     decompositions: &'a DecompositionData,
@@ -73,8 +73,8 @@ impl<'a> Model for CharacterData<'a> {
 }
 
 impl<'a> CharacterData<'a> {
-    /// Data, the tables that come first, the supplementary ones where the data have them, and whether the data are the
-    /// mapper's. No character passes unseen.
+    /// Makes it from data, the tables that come first, the supplementary ones if the data have them, and whether the
+    /// data are the mapper's. Every word is looked up.
     pub fn new(
         decompositions: &'a DecompositionData,
         tables: &'a DecompositionTables,
@@ -97,7 +97,8 @@ impl<'a> CharacterData<'a> {
         }
     }
 
-    /// The same data, of which the characters below this number pass unseen.
+    /// Returns the same data; no word is looked up below `bound`. The caller must establish that each character below
+    /// is its own list, with class 0 and no class form.
     pub fn passing_unseen_below(self, bound: u32) -> Self
         requires { PassUnseenBelow self bound }
         ensures { result ≡ self.entry }
@@ -108,28 +109,28 @@ impl<'a> CharacterData<'a> {
         }
     }
 
-    /// The same data, borrowed once more.
+    /// Returns the same data, borrowed once more.
     pub fn copied(&self) -> CharacterData<'a>
         ensures { result ≡ self.now }
     {
         CharacterData { ..*self }
     }
 
-    /// Whether a character is known to pass unseen: it is its own list, with class 0 and no class form. Its word isn't
-    /// looked up.
+    /// Returns whether a character is below the bound: it is its own list, with class 0 and no class form. Its word
+    /// isn't looked up.
     pub fn passes_unseen(&self, character: char) -> bool
         ensures { IsTrue result → PassesUnseen self.now character }
     {
         (character as u32) < self.unseen_below
     }
 
-    /// The allocator of the tables.
+    /// Returns the allocator of the tables.
     pub fn allocator(&self) -> Global {
         let tables = self.tables;
         tables.scalars16.allocator()
     }
 
-    /// The word of a character.
+    /// Returns the word of a character.
     #[tactic(auto, unfolding(crate::specs::Characters::word_of))]
     pub fn word_of(&self, character: char) -> u32
         ensures { result ≡ word_of self.now character }
@@ -138,7 +139,7 @@ impl<'a> CharacterData<'a> {
         decompositions.table.get(character)
     }
 
-    /// The word of any number.
+    /// Returns the word of any number.
     #[tactic(auto, unfolding(crate::specs::Characters::word_of))]
     pub fn word_of_number(&self, number: u32) -> u32
         ensures word { result ≡ word_of self.now number }
@@ -162,7 +163,7 @@ impl<'a> CharacterData<'a> {
         }
     }
 
-    /// The word of all numbers past the code points.
+    /// Returns the word of all numbers past the code points.
     #[tactic(auto, unfolding(crate::specs::Table::code_points))]
     pub fn past(&self) -> u32
         ensures { result ≡ self.now.decompositions.table.past }
@@ -196,7 +197,7 @@ impl<'a> CharacterData<'a> {
         self.is_mapper
     }
 
-    /// The canonical combining class of a character.
+    /// Returns the canonical combining class of a character.
     #[tactic(auto, using(crate::proofs::CharacterLemmas::of_scalars), unfolding(crate::specs::Words::class_of_word, crate::specs::Characters::class_of))]
     pub fn class_of(&self, character: char) -> u8
         ensures { result ≡ class_of self.now character }
@@ -207,7 +208,7 @@ impl<'a> CharacterData<'a> {
         class_of_word(self.word_of(character))
     }
 
-    /// Whether the word of a character has one of the two class forms.
+    /// Returns whether the word of a character has one of the two class forms.
     #[tactic(auto, unfolding(crate::specs::Characters::has_class_form))]
     pub fn has_class_form(&self, character: char) -> bool
         ensures { result ≡ has_class_form self.now character }
@@ -215,14 +216,14 @@ impl<'a> CharacterData<'a> {
         is_class_form(self.word_of(character))
     }
 
-    /// The list of a character: the character itself where its word doesn't read.
+    /// Returns the list of a character: the character itself if its word doesn't read.
     pub fn members(&self, character: char, ignored: IgnoredCharacters) -> Members<'a>
         ensures { result ≡ list_of self.now (ignored_list ignored) character }
     {
         self.members_by(character, self.word_of(character), ignored)
     }
 
-    /// The list of a character by its word.
+    /// Returns the list of a character, from its word.
     #[tactic(auto, unfolding(crate::specs::Characters::list_of))]
     pub fn members_by(&self, character: char, word: u32, ignored: IgnoredCharacters) -> Members<'a>
         requires { word ≡ word_of self.now character }
@@ -232,7 +233,8 @@ impl<'a> CharacterData<'a> {
             .unwrap_or(Members::one(character))
     }
 
-    /// Whether the list of a character has members, by its word. None has an ignored character that is dropped.
+    /// Returns whether the list of a character has members, from its word: all have but ignored characters that are
+    /// dropped.
     #[tactic(auto, using(crate::proofs::WordLemmas::readings), unfolding(crate::specs::Characters::list_read, crate::specs::Characters::named_list))]
     pub fn has_members(&self, character: char, word: u32, ignored: IgnoredCharacters) -> bool
         requires { word ≡ word_of self.now character }
@@ -244,7 +246,7 @@ impl<'a> CharacterData<'a> {
         }
     }
 
-    /// The class of a character whose word says that it is its own list.
+    /// Returns the class of a character, if its word says that it is its own list.
     #[tactic(auto, using(crate::proofs::WordLemmas::readings), unfolding(crate::specs::Characters::class_of_itself, crate::specs::Characters::list_read, crate::specs::Characters::named_list))]
     pub fn class_of_itself(&self, character: char, word: u32) -> Option<u8>
         requires { word ≡ word_of self.now character }

@@ -22,7 +22,7 @@ pub(crate) mod numbers;
 mod overall;
 mod parts;
 
-/// The first of these conditions that isn't met by what was loaded. It takes no memory.
+/// Returns the first of these conditions that loaded data don't meet, if there is one. It takes no memory.
 #[tactic(auto, unfolding(crate::specs::Table::code_points))]
 pub fn first_failing(data: &LoadedData<'_>, conditions: &[Condition]) -> Option<Condition>
     ensures { IsFirstFailing (IsMet data.now) conditions.now result }

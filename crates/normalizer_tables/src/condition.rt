@@ -9,7 +9,8 @@ pub const ITEM_LIMIT: usize = 0x1FFF;
 /// The greatest cap.
 pub const CAP_LIMIT: u16 = 0x0300;
 
-/// A written condition. What classes alone ask, or pairs alone, has an entry of its own, under the number of the whole.
+/// A written condition. The part of one that concerns classes alone, or pairs alone, is a variant of its own with the
+/// same number.
 #[derive(Clone, Copy, PartialEq, Eq, Debug)]
 pub enum Condition {
     /// The tables together hold at most 0x1FFF items.
@@ -24,7 +25,8 @@ pub enum Condition {
     PastTheEnd,
     /// Hangul syllables have the word 1, and the jamo of which they are made read as themselves with class 0.
     Hangul,
-    /// The word of every character reads.
+    /// The word of every character reads, with a class of 1 to 254 in ordinary class forms; only the nine have the
+    /// special form; class forms have BACKWARD_COMBINING; only mapper data have the ignored marker.
     Words,
     /// Every member of a list reads to itself.
     Members,
@@ -46,19 +48,19 @@ pub enum Condition {
     /// No word outside the Hangul syllables has the form of U+FDFA, that of no surrogate and no number past the code
     /// points either.
     FdfaForms,
-    /// But for Hangul syllables, a character has a step. It is `Default` exactly where the list is the character alone,
-    /// and else the list is the ordered lists of its parts.
+    /// But for Hangul syllables, a character has a step. It is `Default` exactly if the list is the character alone,
+    /// and otherwise the list is the ordered lists of its parts.
     Steps,
-    /// Of `Surrogates`, what classes alone ask: the word of no surrogate has a class form.
+    /// The part of `Surrogates` for classes alone: the word of no surrogate has a class form.
     SurrogateClasses,
-    /// Of `Words`, what classes alone ask: ordinary classes are 1 to 254, and the special form stands on the nine
-    /// characters with a fixed list alone, with their classes.
+    /// The part of `Words` for classes alone: ordinary classes are 1 to 254, and only the nine characters with a fixed
+    /// list have the special form, with their classes.
     WordClasses,
-    /// Of `Pairs`, what pairs alone ask: they strictly rise, and no second lies in U+1161 to U+11FF.
+    /// The part of `Pairs` for pairs alone: they strictly rise, and no second lies in U+1161 to U+11FF.
     PairOrder,
 }
 
-/// Below which numbers characters pass unseen: by a loop that decomposes, and by one that composes.
+/// The numbers below which no word is looked up: by a loop that decomposes, and by one that composes.
 #[derive(Clone, Copy, PartialEq, Eq, Debug)]
 pub struct Bounds {
     pub decomposition: u32,
@@ -72,7 +74,7 @@ pub const GREATEST_BOUNDS: Bounds = Bounds {
 };
 
 impl Bounds {
-    /// The bounds of data with this cap.
+    /// Returns the bounds of data with this cap.
     pub fn of_cap(cap: u16) -> Self
         ensures { result ≡ bounds_of_cap cap }
     {
@@ -84,7 +86,7 @@ impl Bounds {
     }
 }
 
-/// What is asked of data by which text is decomposed.
+/// What is required of data for decomposing.
 pub const DECOMPOSING: [Condition; 10] = [
     Condition::ItemLimit,
     Condition::CapLimit,
@@ -98,7 +100,7 @@ pub const DECOMPOSING: [Condition; 10] = [
     Condition::Passthrough,
 ];
 
-/// What is asked of data and pairs by which text is composed.
+/// What is required of data and pairs for composing.
 pub const COMPOSING: [Condition; 14] = [
     Condition::ItemLimit,
     Condition::CapLimit,
@@ -116,7 +118,7 @@ pub const COMPOSING: [Condition; 14] = [
     Condition::Results,
 ];
 
-/// The same of the mapper's data.
+/// What is required of the mapper's data and pairs.
 pub const MAPPING: [Condition; 13] = [
     Condition::ItemLimit,
     Condition::CapLimit,
@@ -133,7 +135,7 @@ pub const MAPPING: [Condition; 13] = [
     Condition::SafeBeginning,
 ];
 
-/// What is asked of data and supplement by which characters are decomposed one step.
+/// What is required of data and supplement for single decomposition steps.
 pub const STEPPING: [Condition; 8] = [
     Condition::ItemLimit,
     Condition::PastTheEnd,
@@ -145,7 +147,7 @@ pub const STEPPING: [Condition; 8] = [
     Condition::Steps,
 ];
 
-/// All that is asked of canonical data, pairs and supplement.
+/// All that is required of canonical data, pairs and supplement.
 pub const EVERY: [Condition; 16] = [
     Condition::ItemLimit,
     Condition::CapLimit,
@@ -166,7 +168,7 @@ pub const EVERY: [Condition; 16] = [
 ];
 
 impl Condition {
-    /// The number of the condition, by which conditions are ordered.
+    /// Returns the number of the condition, by which conditions are ordered.
     pub fn number(self) -> u8
         ensures { result ≡ number_of self }
     {

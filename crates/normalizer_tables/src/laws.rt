@@ -1,5 +1,5 @@
-//! What data that meet the written conditions give. Each function does nothing: its contract is the law, and its proof
-//! stands in `proofs/`.
+//! What holds of data that meet the written conditions. Each function does nothing: its contract is the law, and its
+//! proof is in `proofs/`.
 #![tactic(auto, using(crate::proofs::InhabitedLists::inhabited_lists, crate::proofs::SoundLists::sound_lists))]
 
 ghost use Rattle.std.specs.Prelude.{◌≡◌, ℕ, ◌⊎◌, false, Option};

@@ -1,4 +1,4 @@
-//! Normalization data handed in: code point tables, the words in them, the pairs, the provider and the complete check.
+//! Normalization data: code point tables, the words in them, the pairs, the provider, and the check of them all.
 #![tactic(auto)]
 
 mod blocks;

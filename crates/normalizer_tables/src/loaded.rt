@@ -8,8 +8,8 @@ use crate::pairs::CanonicalCompositions;
 use crate::provider::NonRecursiveDecompositionSupplement;
 use std::marker::Model;
 
-/// The words with their tables, the pairs and the supplement as far as they were loaded, and below which numbers
-/// characters pass unseen.
+/// What a constructor loaded: the words with their tables, the pairs and the supplement if it loads them, and the
+/// bounds.
 #[derive(Drop)]
 pub struct LoadedData<'a> {
     pub(crate) characters: CharacterData<'a>,

@@ -12,7 +12,7 @@ use crate::hangul::{L_BASE, N_COUNT, S_BASE, T_BASE, T_COUNT, V_BASE};
 use crate::scalars::spell_characters;
 use std::marker::Model;
 
-/// A list of characters that stands elsewhere, or is short.
+/// A list of characters: a borrowed one, or a short one. It takes no memory.
 #[derive(Drop)]
 pub struct Members<'a> {
     shape: Shape<'a>,
@@ -44,6 +44,7 @@ static FDFA: [char; 18] = [
 ];
 
 impl<'a> Members<'a> {
+    /// Returns how many members there are.
     pub fn len(&self) -> usize
         ensures { result ≡ length self.now }
     {
@@ -63,7 +64,7 @@ impl<'a> Members<'a> {
         self.len() == 0
     }
 
-    /// The member at this place, counted from 0.
+    /// Returns the member at this place, counted from 0.
     pub fn get(&self, place: usize) -> Option<char>
         ensures { result ≡ slice_get self.now place }
     {
@@ -77,7 +78,7 @@ impl<'a> Members<'a> {
         }
     }
 
-    /// The member at a place before the end.
+    /// Returns the member at a place before the end.
     pub fn at(&self, place: usize) -> char
         requires { place < length self.now }
         ensures { slice_get self.now place ≡ Some result }

@@ -1,4 +1,4 @@
-//! The check of canonical data that are handed in without a provider.
+//! The check of canonical data that come without a provider.
 ghost use Rattle.std.specs.Prelude.{◌↔◌, IsOk, IfErr};
 ghost use Rattle.normalizer_tables.specs.NfdData.{
   IsSoundNfdData,
@@ -28,8 +28,18 @@ const NFD_DATA: [Condition; 9] = [
     Condition::Passthrough,
 ];
 
-/// Tests what a caller owes of canonical data that a normalizer takes as they are: conditions 1, 3 to 9, and 10 for the
-/// characters below U+00C0. The first that fails is answered. It takes no memory.
+/// Checks canonical data for `DecomposingNormalizerBorrowed::new_with_data` and `Decomposition::new`, which don't
+/// check them: conditions 1, 3 to 9, and 10 for the characters below U+00C0 (`docs/CONDITIONS.md`). It takes no
+/// memory.
+///
+/// # Errors
+/// `FutureExtension` for condition 1; otherwise `Invalid` with the lowest-numbered condition that fails.
+///
+/// # Examples
+/// ```rust
+/// check_nfd_data(decompositions, tables)?;
+/// let normalizer = DecomposingNormalizerBorrowed::new_with_data(decompositions, tables);
+/// ```
 pub fn check_nfd_data<'a>(
     decompositions: &'a DecompositionData,
     tables: &'a DecompositionTables,

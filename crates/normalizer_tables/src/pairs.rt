@@ -19,9 +19,8 @@ use crate::table::TableError;
 use std::alloc::AllocError;
 use std::marker::Model;
 
-/// Composing pairs as triples of second character, first character and result, kept in rows of equal neighbouring
-/// seconds. Look-ups halve the rows of a list that rises, and then the firsts of one row; they go through another list
-/// from its beginning.
+/// The pairs of characters that compose: a list of triples of second character, first character and result. Look-ups
+/// halve a list that rises, and scan another.
 #[derive(Drop)]
 pub struct CanonicalCompositions {
     pairs: PairRows,
@@ -40,7 +39,11 @@ impl Model for CanonicalCompositions {
 }
 
 impl CanonicalCompositions {
-    /// Holds the list as it is handed in: whether it rises is asked by those who use it.
+    /// Makes it from a list of triples of second, first and result, kept as it is. Constructors check whether it
+    /// rises.
+    ///
+    /// # Errors
+    /// `Memory` if an allocation was refused.
     pub fn from_pairs(pairs: Vec<(char, char, char)>) -> Result<Self, TableError>
         ensures held { IfOk result (λ c. c ≡ pairs.items) }
         ensures refused { IsOkUnless result TableError.Memory }
@@ -50,14 +53,14 @@ impl CanonicalCompositions {
         Ok(CanonicalCompositions { pairs, is_rising })
     }
 
-    /// Whether the list strictly rises by second, then by first.
+    /// Returns whether the list strictly rises by second, then by first.
     pub fn is_rising(&self) -> bool
         ensures { IsTrue result ↔ AreRising self.now }
     {
         self.is_rising
     }
 
-    /// How many pairs there are.
+    /// Returns how many pairs there are.
     pub fn len(&self) -> usize
         ensures { result ≡ length self.now }
     {
@@ -70,7 +73,7 @@ impl CanonicalCompositions {
         self.len() == 0
     }
 
-    /// The pair at this place, counted from 0: second, first and result.
+    /// Returns the pair at this place, counted from 0: second, first and result.
     pub fn at(&self, place: usize) -> (char, char, char)
         requires { place < length self.now }
         ensures { slice_get self.now place ≡ Some result }
@@ -78,7 +81,7 @@ impl CanonicalCompositions {
         self.pairs.at(place)
     }
 
-    /// Whether the arithmetic of Hangul answers none of the seconds.
+    /// Returns whether no second is in U+1161 to U+11FF, whose characters compose by arithmetic.
     #[tactic(auto, unfolding(crate::specs::Pairs::pair_at))]
     pub fn has_no_jamo_second(&self) -> bool
         ensures { IsTrue result ↔ All (λ p. is_vowel_or_trailing_jamo p.0 ≡ false) self.now }
@@ -91,8 +94,8 @@ impl CanonicalCompositions {
         true
     }
 
-    /// What two characters compose to: by the arithmetic of Hangul alone where the second is a vowel or a trailing
-    /// consonant of that block, else as listed.
+    /// Returns what two characters compose to, if they do: by the arithmetic of Hangul alone if the second is a vowel
+    /// or a trailing consonant of that block, otherwise as listed.
     #[tactic(auto, unfolding(crate::specs::Pairs::pair_of))]
     pub fn compose(&self, first: char, second: char) -> Option<char>
         ensures { result ≡ pair_of self.now first second }
@@ -104,7 +107,7 @@ impl CanonicalCompositions {
         }
     }
 
-    /// What the list alone gives for two characters.
+    /// Returns what two characters compose to by the list alone.
     pub fn compose_non_hangul(&self, first: char, second: char) -> Option<char>
         ensures { result ≡ listed_result self.now first second }
     {
@@ -115,7 +118,7 @@ impl CanonicalCompositions {
         }
     }
 
-    /// Whether a character composes with none before it.
+    /// Returns whether a character composes with none before it.
     #[tactic(auto, unfolding(crate::specs::Pairs::IsNeverSecond, crate::specs::Pairs::pair_of))]
     pub fn is_never_second(&self, second: char) -> bool
         ensures { IsTrue result ↔ IsNeverSecond self.now second }
@@ -139,14 +142,14 @@ impl CanonicalCompositions {
     }
 }
 
-/// How many rows of equal neighbouring seconds are kept.
+/// Returns how many rows of equal neighbouring seconds are kept.
 pub fn row_count(pairs: &CanonicalCompositions) -> usize
     ensures { result ≡ row_count pairs.now }
 {
     pairs.pairs.count()
 }
 
-/// Equal where the lists that were handed in are.
+/// Equal exactly if the lists are.
 impl PartialEq for CanonicalCompositions {
     ghost use Rattle.std.specs.Cmp.{partial_equiv_from_equiv};
     ghost use Rattle.std.specs.Cmp.Lexicographic.{pointwise};

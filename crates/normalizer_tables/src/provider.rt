@@ -1,4 +1,4 @@
-//! The data that normalisation works on, and the trait by which they are handed in.
+//! The data that normalisation works on, and the trait of their providers.
 ghost use Rattle.std.specs.Prelude.{◌≡◌, ◌↔◌, ◌⊎◌, Option, IfOk, IfErr, IsErrOf, IsNone};
 ghost use Rattle.normalizer_tables.specs.Data.{Decompositions, Lists, Supplement};
 ghost use Rattle.normalizer_tables.specs.declared.provider.DataMarkerInfo.{DataMarkerInfo};
@@ -10,61 +10,79 @@ use crate::table::CodePointTable;
 use std::marker::Model;
 use thiserror::Error;
 
-/// The markers, in their order.
+/// The markers of data, in their order.
 #[derive(Clone, Copy, Debug, PartialEq, Eq)]
 pub enum DataMarkerInfo {
+    /// Canonical decompositions.
     NormalizerNfdDataV1,
+    /// Compatibility decompositions.
     NormalizerNfkdDataV1,
+    /// The mapper's decompositions.
     NormalizerUts46DataV1,
+    /// The lists of canonical decompositions.
     NormalizerNfdTablesV1,
+    /// The further lists of compatibility decompositions and of the mapper's.
     NormalizerNfkdTablesV1,
+    /// The composing pairs.
     NormalizerNfcV1,
+    /// The supplement for single canonical decomposition steps.
     NormalizerNfdSupplementV1,
 }
 
-/// Why data could not be had.
+/// Why data could not be loaded, or were refused.
 #[derive(Clone, Copy, Debug, PartialEq, Eq, Error)]
 pub enum DataError {
     /// The provider holds nothing for this marker.
     #[error("no data are held for {0:?}")]
     Provider(DataMarkerInfo),
-    /// The tables have more items than words can point to.
+    /// The tables have more items than the limit, 8,191 together.
     #[error("the data of {0:?} are too large for this version")]
     FutureExtension(DataMarkerInfo),
-    /// The data break a written condition, the one of this number.
+    /// The data break the written condition of this number (`docs/CONDITIONS.md`), the lowest that fails.
     #[error("the data of {marker:?} break condition {condition}")]
     Invalid {
+        /// The kind of data.
         marker: DataMarkerInfo,
+        /// The number of the condition.
         condition: u8,
     },
+    /// An allocation was refused.
     #[error("out of memory")]
     Memory,
 }
 
-/// A kind of data: its type, and its place among the markers.
+/// A marker: a kind of data, with its type and its place among the markers.
 pub trait DataMarker {
+    /// The type of the data.
     type Data;
 
     ghost INFO: { DataMarkerInfo };
 
+    /// Its place among the markers.
     const INFO: DataMarkerInfo;
 }
 
-/// Where data come from.
+/// A provider of the data of a marker. Constructors check what `load` returns, so a provider need not be trusted.
 pub trait DataProvider<M: DataMarker> {
     ghost held: { Self → Option M.Data };
 
-    /// What is held for the marker.
+    /// Returns what is held for the marker.
+    ///
+    /// # Errors
+    /// `Provider` exactly if nothing is held; otherwise `Memory` alone.
     fn load(&self) -> Result<M::Data, DataError>
         ensures ok { IfOk result (λ d. held self.now ≡ Some d) }
         ensures missing { IsErrOf result (DataError.Provider M.INFO) ↔ IsNone (held self.now) }
         ensures refused { IfErr result (λ e. (e ≡ DataError.Provider M.INFO) ⊎ (e ≡ DataError.Memory)) };
 }
 
-/// Words, and the number below which every character may be passed unseen by a loop that composes.
+/// Decomposition data: the words of all characters, and `passthrough_cap`, the number below which no character changes
+/// by composing.
 #[derive(Drop, Clone, PartialEq, Eq)]
 pub struct DecompositionData {
+    /// The words.
     pub table: CodePointTable,
+    /// The number below which no character changes by composing.
     pub passthrough_cap: u16,
 }
 
@@ -76,10 +94,12 @@ impl Model for DecompositionData {
     ghost inverse = { λ d. record { table = d.table; passthrough_cap = d.cap } };
 }
 
-/// The lists that words point into.
+/// The lists of characters that words point into.
 #[derive(Drop, Clone, PartialEq, Eq)]
 pub struct DecompositionTables {
+    /// The lists of characters up to U+FFFF, one after another.
     pub scalars16: Scalars16,
+    /// The other lists, one after another.
     pub scalars24: Scalars24,
 }
 
@@ -91,10 +111,12 @@ impl Model for DecompositionTables {
     ghost inverse = { λ t. record { scalars16 = t.scalars16; scalars24 = t.scalars24 } };
 }
 
-/// What one step of decomposition needs where the words alone don't say it.
+/// What single decomposition steps need beside the words.
 #[derive(Drop, Clone, PartialEq, Eq)]
 pub struct NonRecursiveDecompositionSupplement {
+    /// The words of the characters that need them.
     pub table: CodePointTable,
+    /// The pairs of characters that they point to.
     pub scalars24: Scalars24,
 }
 
@@ -106,25 +128,25 @@ impl Model for NonRecursiveDecompositionSupplement {
     ghost inverse = { λ s. record { table = s.table; scalars24 = s.scalars24 } };
 }
 
-/// Canonical decompositions.
+/// The marker of canonical decompositions.
 pub struct NormalizerNfdDataV1;
 
-/// Compatibility decompositions.
+/// The marker of compatibility decompositions.
 pub struct NormalizerNfkdDataV1;
 
-/// Decompositions of the mapper (UTS #46, section 4).
+/// The marker of the mapper's decompositions (UTS #46, section 4).
 pub struct NormalizerUts46DataV1;
 
-/// The lists of canonical decompositions.
+/// The marker of the lists of canonical decompositions.
 pub struct NormalizerNfdTablesV1;
 
-/// The further lists of compatibility decompositions and of the mapper's.
+/// The marker of the further lists, which compatibility decompositions and the mapper's need.
 pub struct NormalizerNfkdTablesV1;
 
-/// The composing pairs.
+/// The marker of the composing pairs.
 pub struct NormalizerNfcV1;
 
-/// The supplement for one step of canonical decomposition.
+/// The marker of the supplement for single canonical decomposition steps.
 pub struct NormalizerNfdSupplementV1;
 
 impl DataMarker for NormalizerNfdDataV1 {

@@ -15,11 +15,11 @@ pub struct ReadCharacter<'a> {
     pub reading: WordReading,
     /// Whether the word reads.
     pub reads: bool,
-    /// The character itself where its word doesn't read.
+    /// The list: the character itself if its word doesn't read.
     pub list: Members<'a>,
 }
 
-/// Reads a character.
+/// Returns a character with its reading.
 pub fn read_character<'a>(data: &CharacterData<'a>, character: char) -> ReadCharacter<'a>
     ensures read { IsRead data.now result }
     ensures same { result.character ≡ character }
@@ -27,7 +27,7 @@ pub fn read_character<'a>(data: &CharacterData<'a>, character: char) -> ReadChar
     read_by_word(data, character, data.word_of(character))
 }
 
-/// Reads a character whose word was looked up.
+/// Returns a character with the reading of its word, which was looked up before.
 #[tactic(auto, unfolding(crate::specs::Characters::list_of))]
 pub fn read_by_word<'a>(data: &CharacterData<'a>, character: char, word: u32) -> ReadCharacter<'a>
     requires { word ≡ word_of data.now character }

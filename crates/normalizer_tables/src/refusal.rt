@@ -1,11 +1,11 @@
-//! How data that break a written condition are answered.
+//! The errors for data that break a written condition.
 ghost use Rattle.std.specs.Prelude.{◌≡◌};
 ghost use Rattle.normalizer_tables.specs.Refusals.{marker_of, refusal_of};
 
 use crate::condition::Condition;
 use crate::provider::{DataError, DataMarkerInfo};
 
-/// The marker that is named where a condition fails, if the decomposition data have this one.
+/// Returns the marker that is reported if a condition fails and the decomposition data have this one.
 pub fn marker_of(data_marker: DataMarkerInfo, condition: Condition) -> DataMarkerInfo
     ensures { result ≡ marker_of data_marker condition }
 {
@@ -20,7 +20,7 @@ pub fn marker_of(data_marker: DataMarkerInfo, condition: Condition) -> DataMarke
     }
 }
 
-/// How a condition that fails is answered, if the decomposition data have this marker.
+/// Returns the error for a condition that fails, if the decomposition data have this marker.
 pub fn refusal_of(data_marker: DataMarkerInfo, condition: Condition) -> DataError
     ensures { result ≡ refusal_of data_marker condition }
 {

@@ -9,8 +9,8 @@ ghost use lib.Utf8.{scalar};
 use std::alloc::{AllocError, Global};
 use std::marker::Model;
 
-/// Characters up to U+FFFF, as 16-bit numbers. Whether each of these is that of a character is noted once, when they
-/// are handed in.
+/// A list of characters up to U+FFFF, as 16-bit numbers. It is made from a `Vec`, and turned back into it, without
+/// allocating.
 #[derive(Drop)]
 pub struct Scalars16 {
     units: Vec<u16>,
@@ -111,7 +111,7 @@ pub(crate) fn spell_characters(units: &[u16]) -> bool
         .all(|&unit| char::from_u32(unit as u32).is_some())
 }
 
-/// Characters.
+/// A list of characters. It is made from a `Vec`, and turned back into it, without allocating.
 #[derive(Drop)]
 pub struct Scalars24 {
     scalars: Vec<char>,

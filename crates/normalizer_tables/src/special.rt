@@ -45,7 +45,7 @@ impl FixedList {
     }
 }
 
-/// The fixed list of a character, if it is one of the nine.
+/// Returns the fixed list of a character, if it is one of the nine.
 #[tactic(auto, unfolding(crate::specs::SpecialLists::fixed_list_of))]
 pub fn fixed_list_of(character: char) -> Option<FixedList>
     ensures { result ≡ fixed_list_of character }

@@ -20,7 +20,7 @@ use crate::provider::NonRecursiveDecompositionSupplement;
 use crate::read::{ReadCharacter, read_character};
 use crate::word::{WordReading, is_hangul_syllable};
 
-/// What one step of canonical decomposition makes of a character.
+/// The result of one step of canonical decomposition.
 #[derive(Clone, Copy, PartialEq, Eq, Debug)]
 pub enum Step {
     /// The character has no canonical mapping.
@@ -31,7 +31,7 @@ pub enum Step {
     Expansion(char, char),
 }
 
-/// The canonical mapping of a character, if the words give one or say that there is none. It takes no memory.
+/// Returns the canonical mapping of a character, or that it has none, if the words say which. It takes no memory.
 #[tactic(auto, unfolding(crate::specs::Steps::step_of, crate::specs::Steps::hangul_mapping, crate::specs::Steps::step_by, crate::specs::Hangul::is_hangul_syllable))]
 pub fn step_of(
     data: &CharacterData<'_>,

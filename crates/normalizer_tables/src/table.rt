@@ -17,6 +17,7 @@ pub enum TableError {
     /// A first number above its last, a last above 0x10FFFF, or ranges that overlap or don't rise.
     #[error("the ranges of a table overlap, don't rise, or leave the code points")]
     Ranges,
+    /// An allocation was refused.
     #[error("out of memory")]
     Memory,
 }
@@ -31,8 +32,8 @@ impl From<AllocError> for TableError {
     }
 }
 
-/// A word for every number: one for each code point, and one for all numbers above 0x10FFFF. Tables are equal where
-/// each number has the same word in both.
+/// A 32-bit word for every number: one for each code point, and one for all numbers above 0x10FFFF. Tables are equal
+/// exactly if each number has the same word in both.
 #[derive(Drop, PartialEq, Eq)]
 pub struct CodePointTable {
     words: Blocks,
@@ -53,8 +54,12 @@ impl Model for CodePointTable {
 }
 
 impl CodePointTable {
-    /// The table of triples of first number, last number and word. A code point in no range has the word 0, and every
-    /// number above 0x10FFFF has `past`.
+    /// Makes a table from triples of first code point, last code point and word. A code point in no range has the word
+    /// 0, and every number above 0x10FFFF has `past`.
+    ///
+    /// # Errors
+    /// - `Ranges` if a first is above its last, a last is above 0x10FFFF, or ranges overlap or don't rise.
+    /// - `Memory` if an allocation was refused.
     pub fn from_ranges(ranges: Vec<(u32, u32, u32)>, past: u32) -> Result<Self, TableError>
         ensures table { IfOk result (IsTableOf ranges.items past) }
         ensures accepted { IfOk result (λ _. IsRangeList ranges.items) }
@@ -67,21 +72,21 @@ impl CodePointTable {
         Ok(CodePointTable { words, past })
     }
 
-    /// The word of a character.
+    /// Returns the word of a character.
     pub fn get(&self, c: char) -> u32
         ensures { result ≡ word_at self.now c }
     {
         self.get32(c as u32)
     }
 
-    /// The word of a 16-bit number, surrogates included.
+    /// Returns the word of a 16-bit number, surrogates included.
     pub fn get16(&self, unit: u16) -> u32
         ensures { result ≡ word_at self.now unit }
     {
         self.get32(unit as u32)
     }
 
-    /// The word of any number.
+    /// Returns the word of any number.
     #[tactic(auto, unfolding(crate::specs::Table::code_points, crate::specs::Table::word_at, crate::specs::Ranges::IsComplete))]
     pub fn get32(&self, number: u32) -> u32
         ensures word { result ≡ word_at self.now number }
@@ -96,7 +101,7 @@ impl CodePointTable {
         self.words.word(number)
     }
 
-    /// The least code point from a number on whose word isn't 0 once the bits of `flags` are taken away.
+    /// Returns the least code point from `from` on whose word has bits other than those of `flags`.
     pub fn next_with_word(&self, from: u32, flags: u32) -> Option<u32>
         ensures { IsNextWithWord self.now flags from result }
     {
@@ -104,7 +109,7 @@ impl CodePointTable {
     }
 }
 
-/// How many blocks of 64 code points a table keeps, equal ones once.
+/// Returns how many blocks of 64 code points a table keeps, equal ones once.
 pub fn block_count(table: &CodePointTable) -> usize
     ensures { result ≡ block_count table.now }
 {

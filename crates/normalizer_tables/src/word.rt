@@ -24,7 +24,7 @@ pub const SURROGATE_WORD: u32 = 0xC000_FFFD;
 /// NON_ROUND_TRIP and BACKWARD_COMBINING.
 pub(crate) const FLAGS: u32 = 0xC000_0000;
 
-/// How the word of a character reads.
+/// The reading of a word: what it says of its character.
 #[derive(Clone, Copy, PartialEq, Eq, Debug)]
 pub enum WordReading {
     /// The mapper ignores the character.
@@ -48,7 +48,7 @@ pub enum WordReading {
     Listed(u32, u8, bool),
 }
 
-/// The reading of the word of a character, in the mapper's data or in others.
+/// Returns the reading of the word of a character, in the mapper's data or in others.
 #[tactic(auto, using(crate::proofs::WordLemmas::item_above_zero), unfolding(crate::specs::Words::read, crate::specs::Words::two_characters, crate::specs::Words::listed, crate::specs::Words::read_low))]
 pub fn read(character: char, word: u32, is_mapper: bool) -> WordReading
     ensures { result ≡ read character word is_mapper }
@@ -76,7 +76,7 @@ pub fn read(character: char, word: u32, is_mapper: bool) -> WordReading
     }
 }
 
-/// The class that a word gives: the low byte of a class form, else 0.
+/// Returns the class in a word: the low byte of a class form, otherwise 0.
 #[tactic(auto, unfolding(crate::specs::Words::class_of_word))]
 pub fn class_of_word(word: u32) -> u8
     ensures { result ≡ class_of_word word }
@@ -88,7 +88,7 @@ pub fn class_of_word(word: u32) -> u8
     }
 }
 
-/// Whether a word has one of the two class forms.
+/// Returns whether a word has one of the two class forms.
 #[tactic(auto, unfolding(crate::specs::Words::is_class_form))]
 pub fn is_class_form(word: u32) -> bool
     ensures { result ≡ is_class_form word }
@@ -110,7 +110,7 @@ pub(crate) fn is_special_class_form(word: u32) -> bool
     word & 0x3FFF_FF00 == 0xD900
 }
 
-/// Whether bit 30, NON_ROUND_TRIP, is set: the list doesn't compose to the character alone.
+/// Returns whether bit 30, NON_ROUND_TRIP, is set: the list doesn't compose to the character alone.
 #[tactic(auto, unfolding(crate::specs::Words::is_non_round_trip))]
 pub fn is_non_round_trip(word: u32) -> bool
     ensures { result ≡ is_non_round_trip word }
@@ -118,7 +118,7 @@ pub fn is_non_round_trip(word: u32) -> bool
     word & 0x4000_0000 != 0
 }
 
-/// Whether bit 31, BACKWARD_COMBINING, is set: the list begins with a mark or with the second of a pair.
+/// Returns whether bit 31, BACKWARD_COMBINING, is set: the list begins with a mark or with the second of a pair.
 #[tactic(auto, unfolding(crate::specs::Words::is_backward_combining))]
 pub fn is_backward_combining(word: u32) -> bool
     ensures { result ≡ is_backward_combining word }
@@ -126,7 +126,7 @@ pub fn is_backward_combining(word: u32) -> bool
     word & 0x8000_0000 != 0
 }
 
-/// Whether a number is that of a Hangul syllable.
+/// Returns whether a number is that of a Hangul syllable.
 #[tactic(auto, unfolding(crate::specs::Hangul::is_hangul_syllable))]
 pub fn is_hangul_syllable(number: u32) -> bool
     ensures { result ≡ is_hangul_syllable number }

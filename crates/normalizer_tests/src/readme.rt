@@ -1,25 +1,21 @@
-//! The example of the README, as it stands there.
+//! The example of the README, word for word.
 use icu_normalizer::{ComposingNormalizer, Record, Records};
 use std::alloc::Global;
 
+/// A character with its combining class and its canonical mapping.
+fn record(alloc: Global, c: char, class: u8, mapping: &[char]) -> Option<Record> {
+    Some(Record {
+        c,
+        class,
+        mapping: mapping.to_vec(alloc).ok()?,
+        compatibility: false,
+        excluded: false,
+    })
+}
+
 fn composed(alloc: Global, text: &str) -> Option<String> {
-    let diaeresis = Record {
-        c: '\u{308}',
-        class: 230,
-        mapping: Vec::new(alloc),
-        compatibility: false,
-        excluded: false,
-    };
-    let mut mapping = Vec::new(alloc);
-    mapping.push('a').ok()?;
-    mapping.push('\u{308}').ok()?;
-    let umlaut = Record {
-        c: '\u{E4}',
-        class: 0,
-        mapping,
-        compatibility: false,
-        excluded: false,
-    };
+    let umlaut = record(alloc, '\u{E4}', 0, &['a', '\u{308}'])?;
+    let diaeresis = record(alloc, '\u{308}', 230, &[])?;
     let data = Records::build(alloc, &[umlaut, diaeresis], &[]).ok()?;
     let normalizer = ComposingNormalizer::try_new_nfc_unstable(&data).ok()?;
     let mut form = String::new(alloc);

@@ -1,4 +1,4 @@
-//! The characters that units decode to, one at a time.
+//! Iterators over the characters that units decode to.
 ghost use Rattle.std.specs.Prelude.{◌≡◌, ℕ, List, length, reverse};
 ghost use Rattle.std.specs.Iterator.{at_most};
 ghost use Rattle.normalizer_text.specs.Steps.{TakesFirst, TakesLast, Spells, decoded};
@@ -7,17 +7,18 @@ ghost use Rattle.normalizer_text.specs.Encodings.{first_in};
 use crate::units::Units;
 use std::marker::Model;
 
-/// The characters that units decode to, from the front and from the back: of what is ill-formed, one U+FFFD for the
-/// longest beginning of a character that is cut short, and for each other unit that is part of none.
+/// An iterator over the characters that units decode to, from the front and from the back. Each maximal ill-formed
+/// subpart reads as U+FFFD: the longest beginning of a character that is cut short, or else one unit. It takes no
+/// memory.
 #[derive(Drop)]
 pub struct Chars<U: Units> {
     units: U,
 }
 
-/// The characters that bytes decode to.
+/// An iterator over the characters that bytes decode to, as UTF-8.
 pub type Utf8Chars<'a> = Chars<&'a [u8]>;
 
-/// The characters that 16-bit units decode to.
+/// An iterator over the characters that 16-bit units decode to, as UTF-16.
 pub type Utf16Chars<'a> = Chars<&'a [u16]>;
 
 impl<U: Units> Model for Chars<U> {
@@ -27,7 +28,7 @@ impl<U: Units> Model for Chars<U> {
 }
 
 impl<U: Units> Chars<U> {
-    /// Each run of calls of `next`, or of `next_back`, gives the characters that the units decode to, and ends.
+    /// Makes an iterator over the characters that `units` decode to. Calls of `next` and `next_back` may be mixed.
     pub fn new(units: U) -> Chars<U>
         ensures left { result ≡ U.units units }
         ensures spells { let first = first_in U.encoding in
@@ -38,7 +39,7 @@ impl<U: Units> Chars<U> {
         Chars { units }
     }
 
-    /// The units that are not yet taken.
+    /// Returns the units that aren't taken yet.
     pub fn as_slice(&self) -> U
         ensures { U.units result ≡ self.now }
     {

@@ -1,4 +1,4 @@
-//! Sinks that take only the units that are expected: by them a form is compared with the input that it is made from.
+//! Sinks that take only the units that are expected. They compare a form with the input that it is made from.
 ghost use Rattle.std.specs.Prelude.{◌≡◌, ◌≤◌, ◌∷◌, [], length, Decides};
 ghost use Rattle.normalizer_text.specs.CheckSinks.{
   ChangesNothing,
@@ -14,7 +14,7 @@ use crate::sink::SinkError;
 use crate::units::Units;
 use std::marker::Model;
 
-/// Units that are compared with others from a position on: contents are compared, never addresses.
+/// Units that can be compared with others from a position on: their contents, never their addresses.
 pub trait Expected: Units {
     // Where a piece ends that begins at the position, if it stands there.
     fn end_of_piece(self, position: usize, piece: Self) -> Option<usize>
@@ -40,8 +40,8 @@ fn end_of<T: Copy + Eq>(expected: &[T], position: usize, piece: &[T]) -> Option<
     }
 }
 
-/// A sink that takes units where they are the next of those expected, and refuses all others. It changes nothing where
-/// it refuses, and takes no memory.
+/// A sink that takes units if they are the next ones expected, and refuses all others. If it refuses, it is unchanged.
+/// It takes no memory.
 #[derive(Drop)]
 pub struct IsNormalizedSink<U: Expected> {
     expected: U,
@@ -70,14 +70,14 @@ impl<U: Expected> Model for IsNormalizedSink<U> {
 }
 
 impl<U: Expected> IsNormalizedSink<U> {
-    /// A sink that expects these units.
+    /// Makes a sink that expects these units.
     pub fn new(expected: U) -> Self
         ensures { result ≡ record { came = []; remaining = U.units expected } }
     {
         IsNormalizedSink { expected, place: 0 }
     }
 
-    /// How many units are still to come.
+    /// Returns how many of the expected units are still to come.
     pub fn remaining_len(&self) -> usize
         ensures { result ≡ length self.now.remaining }
     {

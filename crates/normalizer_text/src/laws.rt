@@ -1,5 +1,5 @@
-//! What is known of decoding, as contracts of functions that do nothing. Each holds of every list of numbers, and of
-//! each encoding unless it names one.
+//! The laws of decoding, as contracts of functions that do nothing. Each holds for every list of numbers, and for each
+//! encoding unless it names one.
 ghost use Rattle.std.specs.Prelude.{◌≡◌, ◌↔◌, ℕ, ◌<◌, ◌≤◌, ◌^◌, List, [], ◌++◌, length, take, drop, All};
 ghost use Rattle.std.specs.Prelude.{true, false, ◌∷◌, map, slice_index, encode_utf8_all};
 ghost use Rattle.std.specs.List.{slice_range};
@@ -15,7 +15,7 @@ ghost use Rattle.normalizer_text.specs.Utf8.{first_of_utf8, decoded_utf8};
 ghost use Rattle.normalizer_text.specs.MaximalSubparts.{IsStepOfUtf8};
 ghost use Rattle.normalizer_text.specs.Utf16.{first_of_utf16, decoded_utf16};
 
-/// The steps of units are the step in front and the steps of the units behind it.
+/// The steps of units are the first step and the steps of the units after it.
 pub fn steps_follow_one_another()
     ensures none { (e : Encoding) → steps (first_in e) [] ≡ [] }
     ensures some { (e : Encoding) (units : List ℕ) → 0 < length units →
@@ -54,16 +54,16 @@ pub fn decodes_apart_after_steps()
         decoded_in e (take n units) ++ decoded_in e (slice_range units n m) ++ decoded_in e (drop m units) }
 {}
 
-/// A step begins at each unit that can't stand after the first one of a step: at each byte but those from 80 to BF,
-/// and at each 16-bit unit but the low surrogates.
+/// A step begins at each unit that can't come after the first one of a step: at each byte but those from 80 to BF, and
+/// at each 16-bit unit but the low surrogates.
 pub fn step_begins_at_unit_that_cannot_trail()
     ensures { (e : Encoding) (units : List ℕ) (n : ℕ) → n < length units → trails_in e (slice_index units n) ≡ false →
         IsBoundary (first_in e) units n }
 {}
 
 /// A byte below 80 is its character, and so is a 16-bit unit below D800. In what is well-formed, a byte below C3
-/// begins a character below U+00C0, and one below CC a character below U+0300; no other character stands in bytes
-/// below these.
+/// begins a character below U+00C0, and one below CC a character below U+0300; no other character is in bytes below
+/// these.
 pub fn low_units_begin_low_characters()
     ensures ascii { (byte : ℕ) (rest : List ℕ) → byte < 0x80 → first_of_utf8 (byte ∷ rest) ≡ read byte 1 }
     ensures unit { (unit : ℕ) (rest : List ℕ) → unit < 0xD800 → first_of_utf16 (unit ∷ rest) ≡ read unit 1 }
@@ -77,7 +77,7 @@ pub fn low_units_begin_low_characters()
         All (λ c. c < 0x300) (decoded_utf8 bytes) }
 {}
 
-/// Units below 80 are characters by themselves, whatever stands behind them, and so are 16-bit units below D800.
+/// Units below 80 are characters by themselves, whatever follows, and so are 16-bit units below D800.
 pub fn low_units_are_single_characters()
     ensures ascii { (e : Encoding) (low rest : List ℕ) → All (λ u. u < 0x80) low →
         steps (first_in e) (low ++ rest) ≡ map (λ u. read u 1) low ++ steps (first_in e) rest }
@@ -85,9 +85,9 @@ pub fn low_units_are_single_characters()
         steps first_of_utf16 (low ++ rest) ≡ map (λ u. read u 1) low ++ steps first_of_utf16 rest }
 {}
 
-/// A step ends with the units below a bound, whatever stands behind them: for bounds up to 80 and, in bytes, from C0
-/// on; for 16-bit units up to D800. In what is well-formed, bytes below C3 are characters below U+00C0, and bytes below
-/// CC are characters below U+0300.
+/// A step ends with the units below a bound, whatever follows: for bounds up to 80 and, in bytes, from C0 on; for
+/// 16-bit units up to D800. In what is well-formed, bytes below C3 are characters below U+00C0, and bytes below CC are
+/// characters below U+0300.
 pub fn step_ends_with_low_units()
     ensures below { (bound : ℕ) (units : List ℕ) → All (λ u. u < bound) (take (leading_below bound units) units) }
     ensures ascii { (e : Encoding) (bound : ℕ) (units : List ℕ) → bound ≤ 0x80 →
@@ -102,15 +102,15 @@ pub fn step_ends_with_low_units()
         All (λ c. c < 0x300) (decoded_utf8 (take (leading_below 0xCC bytes) bytes)) }
 {}
 
-/// Calls of `next` and `next_back` in any mixture take the text apart from both ends: where they took the characters
-/// x from the front and y from the back, the characters between them are those that the units left decode to.
+/// Calls of `next` and `next_back` in any mixture take the text apart from both ends: if they took the characters x
+/// from the front and y from the back, the remaining units decode to the characters between them.
 pub fn decodes_from_both_ends()
     ensures { (e : Encoding) (units x rest y : List ℕ) → TakenFrom (first_in e) units x rest y →
         decoded_in e units ≡ x ++ decoded_in e rest ++ y }
 {}
 
-/// The step in front of bytes is the one that the standard names, and no other is: the character of the well-formed
-/// sequence that stands there, or where none does, U+FFFD for the longest beginning of one, or else for the one byte.
+/// The first step of bytes is the one that the Standard names, and no other is: the character of the well-formed
+/// sequence there, or if there is none, U+FFFD for the longest beginning of one, or else for one byte.
 pub fn utf8_steps_are_the_standards()
     ensures is { (bytes : List ℕ) → 0 < length bytes → IsStepOfUtf8 bytes (first_of_utf8 bytes) }
     ensures only { (bytes : List ℕ) (s : Step) → 0 < length bytes → IsStepOfUtf8 bytes s → s ≡ first_of_utf8 bytes }

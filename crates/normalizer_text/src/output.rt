@@ -1,4 +1,4 @@
-//! Where text goes that is made from an input: pieces of the input in its own encoding, and characters.
+//! Outputs of text that is made from an input: they take pieces of the input in its own encoding, and characters.
 ghost use Rattle.std.specs.Prelude.{◌≡◌, ◌∷◌, ℕ, List, [], Result, ⊤, encode_utf8_all};
 ghost use Rattle.normalizer_text.specs.Encodings.{encoded_in, first_in};
 ghost use Rattle.normalizer_text.specs.Outputs.{AnswersHint, AnswersUnits, NothingKnown, NoHint, SinkAnswers};
@@ -8,41 +8,41 @@ ghost use Rattle.normalizer_text.specs.Utf16.{encode_utf16_all};
 use crate::sink::{SinkError, Write, Write16};
 use crate::units::Units;
 
-/// What takes pieces of an input, and characters in the encoding of that input.
+/// An output of pieces of an input, and of characters in the encoding of that input.
 pub trait Output<U: Units> {
     ghost use Rattle.normalizer_text.specs.declared.sink.SinkError.{SinkError};
 
-    /// The units that were taken.
+    /// The units that it has taken.
     ghost taken: { Self → List ℕ };
 
-    /// Holds from the state before a refused call to the state after it, and also from the state before calls that
-    /// succeeded just ahead of it.
+    /// The fault relation: it holds from the state before a refused call to the state after it, and also from the
+    /// state before any calls that succeeded just before that one.
     ghost refused: { Self → Self → Type 0 };
 
-    /// What a refused call leaves, from the state before it to the state after it.
+    /// What a refused call may leave, from the state before it to the state after it.
     ghost left: { Self → Self → Type 0 };
 
-    /// What is known where units are refused, of the state before the call and of the units.
+    /// What is known of the state before a refused call, and of the units refused.
     ghost refuses: { Self → List ℕ → Type 0 };
 
-    /// What a hint of so many units is answered, from the state before it to the state after it.
+    /// What a hint of this many units may return, from the state before it to the state after it.
     ghost hinted: { Self → ℕ → Result ⊤ SinkError → Self → Type 0 };
 
-    /// Is told how many units the input has, before it is given any.
+    /// Receives the number of units of the input, before any of them.
     fn begin(&mut self, len: usize) -> Result<(), SinkError>
         ensures { AnswersHint taken refused left refuses hinted self.old len result self.new };
 
-    /// Takes a piece of the input that is by itself well-formed, or refuses it.
+    /// Appends a piece of the input that is well-formed by itself, or refuses it.
     fn write_piece(&mut self, piece: U) -> Result<(), SinkError>
         requires { IsWellFormed (first_in U.encoding) (U.units piece) }
         ensures { AnswersUnits taken refused left refuses self.old (U.units piece) result self.new };
 
-    /// Takes a character, or refuses it.
+    /// Appends a character, or refuses it.
     fn write_char(&mut self, c: char) -> Result<(), SinkError>
         ensures { AnswersUnits taken refused left refuses self.old (encoded_in U.encoding (c ∷ [])) result self.new };
 }
 
-/// A sink of text is given the pieces of a text.
+/// A sink of text takes the pieces of a text.
 impl<'a, W: Write> Output<&'a str> for W {
     ghost taken = { W.taken };
 
@@ -71,7 +71,7 @@ impl<'a, W: Write> Output<&'a str> for W {
     }
 }
 
-/// A sink of text is given the well-formed pieces of bytes.
+/// A sink of text takes the well-formed pieces of bytes.
 impl<'a, W: Write> Output<&'a [u8]> for W {
     ghost taken = { W.taken };
 
@@ -103,7 +103,7 @@ impl<'a, W: Write> Output<&'a [u8]> for W {
     }
 }
 
-/// A sink of 16-bit units is given the well-formed pieces of such units.
+/// A sink of 16-bit units takes their well-formed pieces.
 impl<'a, W: Write16> Output<&'a [u16]> for W {
     ghost taken = { W.taken };
 

@@ -28,65 +28,65 @@ ghost use Rattle.normalizer_text.specs.Utf16.{first_of_utf16};
 
 use std::alloc::Allocator;
 
-/// A sink refused a call.
+/// The error of a sink that refused a call.
 #[derive(Clone, Copy, Debug, PartialEq, Eq)]
 pub struct SinkError;
 
-/// What takes text in UTF-8.
+/// A sink of text in UTF-8. It may refuse a call.
 pub trait Write {
-    /// The bytes that were taken.
+    /// The bytes that it has taken.
     ghost taken: { Self → List ℕ };
 
-    /// Holds from the state before a refused call to the state after it, and also from the state before calls that
-    /// succeeded just ahead of it.
+    /// The fault relation: it holds from the state before a refused call to the state after it, and also from the
+    /// state before any calls that succeeded just before that one.
     ghost refused: { Self → Self → Type 0 };
 
-    /// What a refused call leaves, from the state before it to the state after it.
+    /// What a refused call may leave, from the state before it to the state after it.
     ghost left: { Self → Self → Type 0 };
 
-    /// Takes a text, or refuses it.
+    /// Appends a text, or refuses it.
     fn write_str(&mut self, text: &str) -> Result<(), SinkError>
         ensures { AnswersWrite taken refused left self.old text.now result self.new };
 
-    /// Takes a character, or refuses it.
+    /// Appends a character, or refuses it.
     fn write_char(&mut self, c: char) -> Result<(), SinkError>
         ensures { AnswersWrite taken refused left self.old (encode_utf8 c) result self.new };
 }
 
-/// What takes text in UTF-16.
+/// A sink of text in UTF-16. It may refuse a call.
 pub trait Write16 {
     ghost use Rattle.normalizer_text.specs.declared.sink.SinkError.{SinkError};
 
-    /// The 16-bit units that were taken.
+    /// The 16-bit units that it has taken.
     ghost taken: { Self → List ℕ };
 
-    /// Holds from the state before a refused call to the state after it, and also from the state before calls that
-    /// succeeded just ahead of it.
+    /// The fault relation: it holds from the state before a refused call to the state after it, and also from the
+    /// state before any calls that succeeded just before that one.
     ghost refused: { Self → Self → Type 0 };
 
-    /// What a refused call leaves, from the state before it to the state after it.
+    /// What a refused call may leave, from the state before it to the state after it.
     ghost left: { Self → Self → Type 0 };
 
-    /// What a hint of so many units is answered, from the state before it to the state after it.
+    /// What a hint of this many units may return, from the state before it to the state after it.
     ghost hinted: { Self → ℕ → Result ⊤ SinkError → Self → Type 0 };
 
-    /// Is told that about so many units will come, or refuses them. It takes none.
+    /// Receives a hint that about `len` units will come, or refuses it. It appends none.
     fn size_hint(&mut self, len: usize) -> Result<(), SinkError>
         ensures answer { AnswersWrite taken refused left self.old [] result self.new }
         ensures none { taken self.new ≡ taken self.old }
         ensures hint { hinted self.old len result self.new };
 
-    /// Takes units that are by themselves well-formed, or refuses them.
+    /// Appends units that are well-formed by themselves, or refuses them.
     fn write_slice(&mut self, units: &[u16]) -> Result<(), SinkError>
         requires { IsWellFormed first_of_utf16 units.now }
         ensures { AnswersWrite taken refused left self.old units.now result self.new };
 
-    /// Takes a character, or refuses it.
+    /// Appends a character, or refuses it.
     fn write_char(&mut self, c: char) -> Result<(), SinkError>
         ensures { AnswersWrite taken refused left self.old (encode_utf16 c) result self.new };
 }
 
-/// It refuses only where a growth was refused, and is then as it was.
+/// A string refuses only if a growth was refused, and is then unchanged.
 impl<A: Allocator> Write for String<A> {
     ghost taken = { string_bytes };
 
@@ -109,7 +109,7 @@ impl<A: Allocator> Write for String<A> {
     }
 }
 
-/// It refuses only where a growth was refused, and is then as it was. A hint makes room.
+/// A vector refuses only if a growth was refused, and is then unchanged. A hint reserves room.
 impl<A: Allocator> Write16 for Vec<u16, A> {
     ghost taken = { λ v. v.items };
 

@@ -1,11 +1,11 @@
-//! What one step of decoding tells.
+//! The result of one step of decoding.
 ghost use Rattle.std.specs.Prelude.{◌≡◌};
 
-/// One step of decoding: the units of one character, or those that U+FFFD stands for.
+/// One step of decoding: the units of one character, or ill-formed units that read as U+FFFD.
 #[derive(Clone, Copy, PartialEq, Eq, Debug)]
 pub struct Step {
     pub character: char,
-    /// How many units were taken.
+    /// How many units it takes.
     pub width: usize,
     /// Whether the units were ill-formed.
     pub is_error: bool,

@@ -21,49 +21,50 @@ const SURROGATES: u32 = 0xD800;
 /// Text in an encoding: a `str`, bytes that may not be UTF-8, or 16-bit units that may not be UTF-16. A position counts
 /// units from the front.
 pub trait Units: Copy {
-    // The units.
+    /// The units.
     ghost units: { Self → List ℕ };
 
-    // Their encoding.
+    /// Their encoding.
     ghost encoding: { Encoding };
 
-    // The unit below which units are of characters below a bound, as far as each unit alone tells.
+    /// The limit below which each unit belongs to a character below a bound.
     ghost low_unit: { ℕ → ℕ };
 
     fn len(self) -> usize
         ensures { result ≡ length (units self) };
 
-    // The step in front of the units from a position on, wherever that stands.
+    /// Returns the first step of the units from a position on, wherever that is.
     fn step_at(self, position: usize) -> Step
         requires { position < length (units self) }
         ensures { result ≡ first_in encoding (drop position (units self)) };
 
-    // Whether the unit at a position can stand after the first one of a step. No character begins with such a unit.
+    /// Returns whether the unit at a position can come after the first one of a step. No character begins with such a
+    /// unit.
     fn trails_at(self, position: usize) -> bool
         requires { position < length (units self) }
         ensures { result ≡ trails_in encoding (slice_index (units self) position) };
 
-    // The unit below which units are of characters below the bound.
+    /// Returns the limit below which each unit belongs to a character below the bound.
     fn low_unit(self, bound: u32) -> u32
         ensures { result ≡ low_unit bound };
 
-    // Where the units end that stand from a position on and are all below a limit.
+    /// Returns the end of the units from a position on that are all below a limit.
     fn end_of_below(self, position: usize, limit: u32) -> usize
         requires { position ≤ length (units self) }
         ensures { result ≡ position + leading_below limit (drop position (units self)) };
 
-    // Where they end, below such a unit, a step ends, and the characters up to there are below the bound.
+    /// A law: where units below such a limit end, a step ends, and the characters up to there are below the bound.
     fn low_units_are_of_low_characters(self)
         ensures { (position bound : ℕ) → IsBoundary (first_in encoding) (units self) position →
             EndsLowCharacters encoding (units self) position bound
             (position + leading_below (low_unit bound) (drop position (units self))) };
 
-    // The units before a position at which a step ends.
+    /// Returns the units before a position at which a step ends.
     fn before(self, position: usize) -> Self
         requires { IsBoundary (first_in encoding) (units self) position }
         ensures { units result ≡ take position (units self) };
 
-    // The units after such a position.
+    /// Returns the units after such a position.
     fn after(self, position: usize) -> Self
         requires { IsBoundary (first_in encoding) (units self) position }
         ensures { units result ≡ drop position (units self) };

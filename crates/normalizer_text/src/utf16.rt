@@ -1,4 +1,4 @@
-//! Decoding 16-bit units that may not be UTF-16, with U+FFFD for what is ill-formed (The Unicode Standard, section
+//! Decoding 16-bit units that may not be UTF-16, with U+FFFD for unpaired surrogates (The Unicode Standard, section
 //! 3.9).
 ghost use Rattle.std.specs.Prelude.{◌≡◌, ◌<◌, ◌≤◌, IsTrue, length};
 ghost use Rattle.normalizer_text.specs.Utf16.{is_high, is_low, pair_value, first_of_utf16};

@@ -1,4 +1,4 @@
-//! Decoding bytes that may not be UTF-8, with U+FFFD for what is ill-formed (The Unicode Standard, section 3.9).
+//! Decoding bytes that may not be UTF-8, with U+FFFD for ill-formed sequences (The Unicode Standard, section 3.9).
 ghost use Rattle.std.specs.Prelude.{◌≡◌, ◌+◌, ◌<◌, ◌≤◌, length, option_map, slice_index_or};
 ghost use Rattle.std.specs.Str.{continuation_len};
 ghost use Rattle.normalizer_text.specs.Scans.{low_byte};

@@ -1,4 +1,4 @@
-//! Text put into normal form by plain records of characters: data are built of the records, and a normalizer over them.
+//! Normalizing text with data built from plain records.
 ghost use Rattle.std.specs.Prelude.{◌≡◌, List, None, IfOk, IsOkUnless, MatchResult};
 ghost use Rattle.normal_forms.specs.declared.Form.{Form};
 ghost use Rattle.normal_forms.specs.Hypotheses.{HasInhabitedLists, SuitsForm};
@@ -29,14 +29,20 @@ use std::alloc::Global;
 /// The four normal forms (UAX #15, section 1.2).
 #[derive(Clone, Copy, Debug, PartialEq, Eq)]
 pub enum NormalForm {
+    /// Canonical decomposition.
     Nfd,
+    /// Canonical decomposition, then canonical composition.
     Nfc,
+    /// Compatibility decomposition.
     Nfkd,
+    /// Compatibility decomposition, then canonical composition.
     Nfkc,
 }
 
-/// The normal form, by plain records, of the text that bytes decode to. Records that can't be built are refused for the
-/// smallest cause, and nothing else is refused but memory. Those of the mapper have no part in the form.
+/// Returns the normal form, by plain records, of the text that bytes decode to. Records of the mapper don't affect it.
+///
+/// # Errors
+/// The smallest fault of the records, or `Memory`.
 #[tactic(auto, unfolding(normalizer_builder::specs::Building::IsSmallest))]
 pub fn form_by_records(
     alloc: Global,
@@ -55,7 +61,8 @@ pub fn form_by_records(
     }
 }
 
-/// What records that build mean suits the laws of the normal forms. The function does nothing: its contract is the law.
+/// What records that build mean satisfies the hypotheses of the laws of the normal forms. The function does nothing:
+/// its contract is the law.
 pub fn what_is_built_suits_the_laws()
     ensures suits { (records : List Entry) (uts46 : List MapperEntry) (p : Packed) → Builds records uts46 p →
         (mappings : Mappings) (form : Form) → SuitsForm (recorded_reading records mappings) form }
@@ -63,7 +70,7 @@ pub fn what_is_built_suits_the_laws()
         (mappings : Mappings) → HasInhabitedLists (recorded_reading records mappings) }
 {}
 
-/// What records that build mean meets all that constructors ask. The function does nothing: its contract is the law.
+/// Built data meet all conditions of the constructors. The function does nothing: its contract is the law.
 pub fn what_is_built_is_accepted()
     ensures { (records : List Entry) (uts46 : List MapperEntry) (p : Packed) → Builds records uts46 p →
         IsFirstUnfit p None }
@@ -149,7 +156,7 @@ fn want_of_memory(error: DataError) -> NormalizeError
     }
 }
 
-/// The pairs that compose, of data that were built: their constructor refuses nothing but memory.
+/// Returns the composing pairs of built data: the constructor refuses nothing but memory.
 pub fn built_composition(built: &Built) -> Result<CanonicalComposition, DataError>
     requires { IsFirstUnfit built.now.packed None }
     ensures held { IfOk result (λ c. properties.pairs_of c ≡ built.now.packed.compositions) }
@@ -158,7 +165,7 @@ pub fn built_composition(built: &Built) -> Result<CanonicalComposition, DataErro
     CanonicalComposition::try_new_unstable(built)
 }
 
-/// The canonical combining classes of data that were built: their constructor refuses nothing but memory.
+/// Returns the canonical combining classes of built data: the constructor refuses nothing but memory.
 pub fn built_combining_classes(built: &Built) -> Result<CanonicalCombiningClassMap, DataError>
     requires { IsFirstUnfit built.now.packed None }
     ensures held { IfOk result (λ m. properties.classes_of m ≡ built.now.packed.canonical) }
@@ -167,7 +174,7 @@ pub fn built_combining_classes(built: &Built) -> Result<CanonicalCombiningClassM
     CanonicalCombiningClassMap::try_new_unstable(built)
 }
 
-/// The mapper over data that were built: its constructor refuses nothing but memory.
+/// Returns the mapper over built data: the constructor refuses nothing but memory.
 pub fn built_mapper(built: &Built) -> Result<Uts46Mapper, DataError>
     requires { IsFirstUnfit built.now.packed None }
     ensures held { IfOk result (λ m. mapper_data_of m ≡
@@ -177,7 +184,7 @@ pub fn built_mapper(built: &Built) -> Result<Uts46Mapper, DataError>
     Uts46Mapper::try_new(built)
 }
 
-/// One step of canonical decomposition by data that were built: its constructor refuses nothing but memory.
+/// Returns single canonical decomposition steps of built data: the constructor refuses nothing but memory.
 pub fn built_decomposition(built: &Built) -> Result<CanonicalDecomposition, DataError>
     requires { IsFirstUnfit built.now.packed None }
     ensures held { IfOk result (λ d. properties.steps_of d ≡

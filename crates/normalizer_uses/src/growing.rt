@@ -1,4 +1,4 @@
-//! A text in composed form that grows.
+//! A text in NFC that grows.
 ghost use Rattle.std.specs.Prelude.{◌≡◌, ◌++◌, chars, string_bytes, IfOk, IsOkUnless, OnOk};
 ghost use Rattle.normal_forms.specs.Forms.{nfc};
 ghost use Rattle.normalizer_calls.specs.Forms.{composed_by};
@@ -6,8 +6,8 @@ ghost use Rattle.normalizer_calls.specs.Forms.{composed_by};
 use icu_normalizer::{ComposingNormalizerBorrowed, NormalizeError};
 use std::alloc::Global;
 
-/// The composed form of a text with another behind it. What stands before the cut of the whole stays where it is, and
-/// the rest alone is normalized: where the text is its own form, that is a little of its end and what is put behind it.
+/// Returns the composed form of `text` followed by `more`. What comes before the cut of the whole stays, and only the
+/// rest is normalized: if `text` is already normalized, a little of its end and `more`.
 pub fn appended(
     alloc: Global,
     normalizer: &ComposingNormalizerBorrowed<'_>,
@@ -27,7 +27,7 @@ pub fn appended(
     Ok(text)
 }
 
-/// The composed form of a text.
+/// Returns the composed form of a text.
 fn form_of(
     alloc: Global,
     normalizer: &ComposingNormalizerBorrowed<'_>,
@@ -44,7 +44,7 @@ fn form_of(
     }
 }
 
-/// Puts a text behind another.
+/// Appends a text to another.
 fn push(text: &mut String, more: &str) -> Result<(), NormalizeError>
     ensures taken { OnOk result (string_bytes text.new ≡ string_bytes text.old ++ more.now) }
     ensures refused { IsOkUnless result NormalizeError.Memory }

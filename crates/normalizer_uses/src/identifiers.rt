@@ -1,4 +1,4 @@
-//! Identifiers, which are texts that are their own composed form (UAX #31, normalized identifiers).
+//! Identifiers: texts that are normalized (UAX #31, normalized identifiers).
 ghost use Rattle.std.specs.Prelude.{◌≡◌, ◌↔◌, chars, IfOk, IsOkUnless, IsTrue, MatchOption};
 ghost use Rattle.normal_forms.specs.declared.Form.TheVariants.{Composing};
 ghost use Rattle.normal_forms.specs.Forms.{IsNormalized};
@@ -8,7 +8,7 @@ ghost use Rattle.normalizer_calls.specs.Forms.{composed_by};
 
 use icu_normalizer::{ComposingNormalizerBorrowed, NormalizeError};
 
-/// Whether a text is an identifier: exactly where it is its own composed form.
+/// Returns whether a text is an identifier: exactly if it is already in its composed form.
 pub fn is_identifier(
     normalizer: &ComposingNormalizerBorrowed<'_>,
     text: &str,
@@ -20,7 +20,7 @@ pub fn is_identifier(
     normalizer.is_normalized(text)
 }
 
-/// The identifier that bytes are, if they are well-formed and their own composed form.
+/// Returns bytes as an identifier, if they are well-formed and already in their composed form.
 pub fn identifier_of_bytes<'t>(
     normalizer: &ComposingNormalizerBorrowed<'_>,
     bytes: &'t [u8],

@@ -1,11 +1,11 @@
-//! Keys of an index, in which equivalent texts are one.
+//! Keys of an index in which equivalent texts are equal.
 ghost use Rattle.std.specs.Prelude.{◌↔◌, chars, IfOk, IsOkUnless, IsTrue};
 ghost use Rattle.normal_forms.specs.Equivalence.{EquivalentTexts};
 ghost use Rattle.normalizer_calls.specs.Forms.{composed_by};
 
 use icu_normalizer::{ComposingNormalizerBorrowed, NormalizeError};
 
-/// Whether two texts have one key, which is their composed form: exactly where they are equivalent.
+/// Returns whether two texts have the same key, their composed form: exactly if they are equivalent.
 pub fn have_one_key(
     normalizer: &ComposingNormalizerBorrowed<'_>,
     text: &str,

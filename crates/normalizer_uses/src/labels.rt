@@ -8,7 +8,7 @@ use icu_normalizer::NormalizeError;
 use icu_normalizer::uts46::Uts46MapperBorrowed;
 use std::alloc::Global;
 
-/// A text mapped, where what it is mapped to is a label.
+/// Returns the mapped text, if that is a label.
 pub fn label(
     alloc: Global,
     mapper: &Uts46MapperBorrowed<'_>,
@@ -27,7 +27,7 @@ pub fn label(
     }
 }
 
-/// Whether mapped text is a label: it has no U+FFFD, and validation leaves it as it is.
+/// Returns whether mapped text is a label: it has no U+FFFD, and validation leaves it unchanged.
 pub fn is_label(
     alloc: Global,
     mapper: &Uts46MapperBorrowed<'_>,

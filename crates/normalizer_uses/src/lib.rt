@@ -45,7 +45,7 @@ use icu_normalizer::{
 use normalizer_iterators::laws::{text_comes_unless_a_fault_does, text_comes_without_faults};
 use std::alloc::Global;
 
-/// The NFD of the text that bytes decode to.
+/// Returns the NFD of the text that bytes decode to.
 pub fn nfd_of_bytes(
     alloc: Global,
     normalizer: &DecomposingNormalizerBorrowed<'_>,
@@ -58,7 +58,7 @@ pub fn nfd_of_bytes(
     collected(alloc, normalizer.normalize_iter(Utf8Chars::new(bytes))?)
 }
 
-/// The NFD of a text.
+/// Returns the NFD of a text.
 pub fn nfd_of_text(
     alloc: Global,
     normalizer: &DecomposingNormalizerBorrowed<'_>,
@@ -71,7 +71,7 @@ pub fn nfd_of_text(
     collected(alloc, normalizer.normalize_iter(text.chars())?)
 }
 
-/// The NFD of the text that bytes decode to, by data that are tested once and then taken as they are.
+/// Returns the NFD of the text that bytes decode to, using data that are checked once and then borrowed.
 pub fn nfd_by_data(
     alloc: Global,
     decompositions: &DecompositionData,
@@ -92,7 +92,7 @@ pub fn nfd_by_data(
     }
 }
 
-/// The NFC of the text that bytes decode to.
+/// Returns the NFC of the text that bytes decode to.
 pub fn nfc_of_bytes(
     alloc: Global,
     normalizer: &ComposingNormalizerBorrowed<'_>,
@@ -106,7 +106,7 @@ pub fn nfc_of_bytes(
     collected(alloc, normalizer.normalize_iter(Utf8Chars::new(bytes))?)
 }
 
-/// The NFKC of the text that bytes decode to, by what a provider holds.
+/// Returns the NFKC of the text that bytes decode to, using the data of a provider.
 pub fn nfkc_of_bytes<P>(alloc: Global, provider: &P, bytes: &[u8]) -> Result<Vec<char>, DataError>
 where
     P: DataProvider<NormalizerNfkdDataV1>
@@ -133,7 +133,7 @@ where
     }
 }
 
-/// All that is still to come, up to the first fault.
+/// Collects the remaining characters, or returns the first error.
 pub fn collected<I: Iterator<Item = Result<char, NormalizeError>> + Drop>(
     alloc: Global,
     items: I,
@@ -158,8 +158,8 @@ pub fn collected<I: Iterator<Item = Result<char, NormalizeError>> + Drop>(
     Ok(characters)
 }
 
-/// The last character of the NFD of the text that bytes decode to. No memory is taken where the runs of the text are
-/// short.
+/// Returns the last character of the NFD of the text that bytes decode to. No memory is taken if the text has short
+/// runs.
 pub fn last_of_nfd(
     normalizer: &DecomposingNormalizerBorrowed<'_>,
     bytes: &[u8],
@@ -173,7 +173,7 @@ pub fn last_of_nfd(
     last_item(normalizer.normalize_iter(Utf8Chars::new(bytes))?)
 }
 
-/// The last of what is still to come.
+/// Returns the last of the remaining characters, or the first error.
 pub fn last_item<I: Iterator<Item = Result<char, NormalizeError>> + Drop>(
     items: I,
 ) -> Result<Option<char>, NormalizeError>

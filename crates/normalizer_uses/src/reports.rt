@@ -1,4 +1,4 @@
-//! Reports of where a text first is not its own composed form.
+//! Reports of the first mismatch of a text.
 ghost use Rattle.std.specs.Prelude.{◌≡◌, chars, MatchResult};
 ghost use Rattle.normal_forms.specs.declared.Form.TheVariants.{Composing};
 ghost use Rattle.normal_forms.specs.Forms.{IsNormalized};
@@ -7,16 +7,16 @@ ghost use Rattle.normalizer_uses.specs.Reports.{Reports};
 
 use icu_normalizer::{ComposingNormalizerBorrowed, Offence};
 
-/// Why a text is not taken.
+/// Why a text is refused.
 #[derive(Debug, PartialEq, Eq, Drop)]
 pub enum Refusal {
-    /// It is not its own composed form: what is found at a place, and what is wanted there.
+    /// It isn't in its composed form: its first mismatch.
     Differs(Offence),
     /// Memory was refused.
     Memory,
 }
 
-/// The text, where it is its own composed form; else where it first differs from it.
+/// Returns the text, if it is in its composed form; otherwise its first mismatch.
 pub fn in_form<'t>(
     normalizer: &ComposingNormalizerBorrowed<'_>,
     text: &'t str,

@@ -1,4 +1,4 @@
-//! What a shaper does by the properties of characters, whoever answers them.
+//! What a shaper does with the properties of characters, whichever type implements them.
 ghost use Rattle.std.specs.Prelude.{◌≡◌, ◌==◌, ◌<◌, Some, None, MatchOption, if◌then◌else◌};
 ghost use Rattle.normalizer_tables.specs.Pairs.{pair_of};
 ghost use Rattle.normalizer_properties.specs.ClassData.{combining_class};
@@ -15,7 +15,7 @@ use icu_normalizer::properties::{
     CanonicalCombiningClassMap, CanonicalComposition, CanonicalDecomposition,
 };
 
-/// The character that a base and the mark behind it are drawn as, if there is one for both.
+/// Returns the character as which a base and the mark after it are drawn, if there is one for both.
 pub fn joined<C: ComposeFunc, K: CombiningClassFunc>(
     compositions: &C,
     classes: &K,
@@ -30,7 +30,7 @@ pub fn joined<C: ComposeFunc, K: CombiningClassFunc>(
     compositions.compose(base, second)
 }
 
-/// The base and the mark that a character is drawn as where a font lacks it, if its mapping ends with a mark.
+/// Returns the base and the mark as which a character is drawn if a font lacks it, if its mapping ends with a mark.
 pub fn parted<D: DecomposeFunc, K: CombiningClassFunc>(
     mappings: &D,
     classes: &K,
@@ -45,7 +45,7 @@ pub fn parted<D: DecomposeFunc, K: CombiningClassFunc>(
     Some((base, second))
 }
 
-/// A base with another mark: the character that it is drawn as once its own mark is taken away.
+/// Returns the character as which a base is drawn with another mark in place of its own.
 pub fn with_mark(
     compositions: &CanonicalComposition,
     mappings: &CanonicalDecomposition,

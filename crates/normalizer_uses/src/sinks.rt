@@ -16,7 +16,7 @@ use icu_normalizer::sink::Write;
 use icu_normalizer::{ComposingNormalizerBorrowed, DecomposingNormalizerBorrowed, NormalizeError};
 use std::alloc::Global;
 
-/// The NFC of a text, as a string.
+/// Returns the NFC of a text, as a string.
 pub fn nfc_string(
     alloc: Global,
     normalizer: &ComposingNormalizerBorrowed<'_>,
@@ -30,7 +30,7 @@ pub fn nfc_string(
     Ok(form)
 }
 
-/// The NFD of the text that bytes decode to, as a string.
+/// Returns the NFD of the text that bytes decode to, as a string.
 pub fn nfd_string_of_bytes(
     alloc: Global,
     normalizer: &DecomposingNormalizerBorrowed<'_>,
@@ -44,7 +44,7 @@ pub fn nfd_string_of_bytes(
     Ok(form)
 }
 
-/// The NFC of the text that 16-bit units decode to, in UTF-16.
+/// Returns the NFC of the text that 16-bit units decode to, in UTF-16.
 pub fn nfc_units(
     alloc: Global,
     normalizer: &ComposingNormalizerBorrowed<'_>,
@@ -58,7 +58,7 @@ pub fn nfc_units(
     Ok(form)
 }
 
-/// Writes the NFD of a text to a sink in which no fault can come about: none is answered.
+/// Writes the NFD of a text to a sink that can't fail: no `Sink` is returned.
 pub fn nfd_without_faults<W: Write>(
     normalizer: &DecomposingNormalizerBorrowed<'_>,
     text: &str,

@@ -15,8 +15,8 @@ use normalizer_tables::CanonicalCompositions;
 use normalizer_tables::characters::{CharacterData, IgnoredCharacters};
 use normalizer_tables::condition::Bounds;
 
-/// The composed form of what a delegate gives, character by character, by data and pairs that may be read and composed
-/// lazily.
+/// Returns an iterator over the composed form of what a delegate yields, using data and pairs that may be read and
+/// composed lazily.
 pub fn composed<'data, I: Iterator<Item = char> + Drop>(
     characters: CharacterData<'data>,
     ignored: IgnoredCharacters,
