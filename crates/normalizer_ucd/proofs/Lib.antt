@@ -1,0 +1,2 @@
+pub mod Cuts
+pub mod Loop

@@ -1,0 +1,47 @@
+use Rattle.std.proofs.Common.{◌≡◌, ◌+◌, ◌++◌, length, Ok, refl}
+use Rattle.std.specs.Option.{option_to_list}
+use Rattle.std.proofs.lemmas.Result.{err_from_is_err_and}
+use Rattle.std.proofs.lemmas.List.{length-map}
+use Rattle.normalizer_ucd.specs.Reading.{Fails}
+use Rattle.normalizer_ucd.specs.UnicodeData.{records_in, read_line, closed, place}
+use Rattle.normalizer_ucd.proofs.Loop.{goes_on, ends, is_done, fails_on, fails_after, texts}
+use Rattle.normalizer_ucd.proofs.unicode_data.records_in.Goals as goal
+
+pub returns-in_err-next : goal.returns-in_err-next
+unfolding records_in
+returns-in_err-next c =
+    let p = err_from_is_err_and c.from_residual.result c.from_residual.ensures.1 in
+    let e = c.in_err-next.field-0.0 in
+    rw (p.1, p.2)
+    (fails_on e _ _
+    (ends e (read_line c.args.exclusions.now) c.loop-index.records.items (c.loop-index.index + 1) c.loop-index.index
+    c.loop-index.position c.args.lines.now _ c.loop-index-test.true c.in_err-next.ensures c.loop-index.invariant))
+
+pub loop-index-preserved : goal.loop-index-preserved
+loop-index-preserved c =
+    let e : c.push_found.new.found.items ≡ c.loop-index.records.items ++ option_to_list c.in_ok-next.record
+    = c.in_ok-push_found.ensures in
+    rw e
+    (goes_on (read_line c.args.exclusions.now) c.loop-index.records.items (c.loop-index.index + 1) c.loop-index.index
+    c.loop-index.position c.in_ok-next.next c.args.lines.now c.in_ok-next.record _ c.loop-index-test.true
+    c.in_ok-next.ensures c.loop-index.invariant)
+
+pub returns-in_err-closed : goal.returns-in_err-closed
+unfolding records_in
+returns-in_err-closed c =
+    let p = err_from_is_err_and c.from_residual-in_err-closed.result c.from_residual-in_err-closed.ensures.1 in
+    let e = c.in_err-closed.field-0.0 in
+    let done = is_done (read_line c.args.exclusions.now) c.loop-index.records.items (c.loop-index.index + 1) c.loop-index.index
+    c.loop-index.position c.args.lines.now _ c.loop-index-test.false c.loop-index.invariant in
+    let open_end : Fails e (closed (place (length (texts c.args.lines.now))) c.loop-index.position)
+    = rw (length-map c.args.lines.now (λ part. part.now)) c.in_err-closed.ensures in
+    rw (p.1, p.2) (fails_after e _ _ _ done (fails_on e _ _ open_end))
+
+pub returns : goal.returns
+unfolding records_in
+returns c =
+    let done = is_done (read_line c.args.exclusions.now) c.loop-index.records.items (c.loop-index.index + 1) c.loop-index.index
+    c.loop-index.position c.args.lines.now _ c.loop-index-test.false c.loop-index.invariant in
+    let end : closed (place (length (texts c.args.lines.now))) c.loop-index.position ≡ Ok tt
+    = rw (length-map c.args.lines.now (λ part. part.now)) c.in_ok-closed.ensures in
+    rw (done, end) refl

@@ -1,0 +1,4 @@
+pub mod Exclusions
+pub mod Fields
+pub mod Reading
+pub mod UnicodeData

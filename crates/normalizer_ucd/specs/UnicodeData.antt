@@ -1,0 +1,158 @@
+-- UnicodeData.txt: a line for each character, or two for a range (Unicode Standard Annex #44, section 4.2.3 and table 9).
+use Rattle.std.specs.Prelude.{ℕ, ◌+◌, ◌==◌, ◌&&◌, nat_lt, nat_eq, Bool, true, false, List, [], ◌∷◌, length}
+use Rattle.std.specs.Prelude.{Option, Some, None, Result, Ok, Err, if◌then◌else◌}
+use Rattle.std.specs.Bool.{beq}
+use Rattle.std.specs.Option.{ok_or, option_and_then}
+use Rattle.std.specs.List.{list_any, starts_with, ends_with, after_first}
+use Rattle.normalizer_records.specs.Entry.{Entry}
+use Rattle.normalizer_ucd.specs.declared.error.LineFault.{LineFault}
+use Rattle.normalizer_ucd.specs.declared.error.Place.{Place}
+use Rattle.normalizer_ucd.specs.declared.error.Problem.TheVariants as problems
+use Rattle.normalizer_ucd.specs.declared.error.UcdFile.TheVariants as files
+use Rattle.normalizer_ucd.specs.declared.unicode_data.Part.{Part}
+use Rattle.normalizer_ucd.specs.declared.unicode_data.Part.TheVariants.{Whole, First, Last}
+use Rattle.normalizer_ucd.specs.declared.unicode_data.Position.{Position}
+use Rattle.normalizer_ucd.specs.Reading.{◌>>=◌, fault, read_each}
+use Rattle.normalizer_ucd.specs.Fields.{lines, data_of, trim, field, number, code_point, is_scalar_value, characters}
+use Rattle.normalizer_ucd.specs.Exclusions.{exclusions_of}
+
+abbrev pub place : ℕ → Place
+place n = record { file = files.UnicodeData; line = n }
+
+abbrev pub field_of : Place → List ℕ → ℕ → Result (List ℕ) LineFault
+field_of at line n = ok_or (field line n) (fault at problems.MissingField)
+
+-- field 0
+abbrev pub code_of : Place → List ℕ → Result ℕ LineFault
+code_of at line = do
+  text ← field_of at line 0
+  ok_or (code_point text) (fault at problems.CodePoint)
+
+-- the ends of the names of a range's two lines: "First>" and "Last>"
+abbrev pub first_mark : List ℕ
+first_mark = 0x46 ∷ 0x69 ∷ 0x72 ∷ 0x73 ∷ 0x74 ∷ 0x3E ∷ []
+
+abbrev pub last_mark : List ℕ
+last_mark = 0x4C ∷ 0x61 ∷ 0x73 ∷ 0x74 ∷ 0x3E ∷ []
+
+abbrev pub part_named : List ℕ → Part
+part_named name =
+    if ends_with nat_eq name first_mark then First else if ends_with nat_eq name last_mark then Last else Whole
+
+-- field 1
+abbrev pub part_of : Place → List ℕ → Result Part LineFault
+part_of at line = do
+  name ← field_of at line 1
+  Ok (part_named name)
+
+abbrev pub combining_class : List ℕ → Option ℕ
+combining_class text = option_and_then (λ n. if nat_lt n 255 then Some n else None) (number 10 text)
+
+-- field 3: the canonical combining class
+abbrev pub class_of : Place → List ℕ → Result ℕ LineFault
+class_of at line = do
+  text ← field_of at line 3
+  ok_or (combining_class text) (fault at problems.Class)
+
+-- a mapping for compatibility has a tag in angle brackets
+abbrev pub is_tagged : List ℕ → Bool
+is_tagged text = starts_with nat_eq text (0x3C ∷ [])
+
+abbrev pub untagged : List ℕ → List ℕ
+untagged text = if is_tagged text then trim (after_first (λ b. b == 0x3E) text) else text
+
+-- whether a mapping is for compatibility, and its characters; an empty text has none
+unfoldable pub mapping_in : LineFault → List ℕ → Result (Bool × List ℕ) LineFault
+mapping_in fault text =
+    if length text == 0 then Ok (false, [])
+    else do
+      mapping ← characters fault (untagged text)
+      Ok (is_tagged text, mapping)
+
+-- field 5: the decomposition mapping
+abbrev pub mapping_of : Place → List ℕ → Result (Bool × List ℕ) LineFault
+mapping_of at line = do
+  text ← field_of at line 5
+  mapping_in (fault at problems.Mapping) text
+
+abbrev pub is_first : Part → Bool
+is_first Whole = false
+is_first First = true
+is_first Last = false
+
+abbrev pub is_last : Part → Bool
+is_last Whole = false
+is_last First = false
+is_last Last = true
+
+-- before the first line
+abbrev pub start : Position
+start = record { next = 0; is_open = false }
+
+-- where a line leads: code points rise, and the last line of a range follows its first
+abbrev pub step : Place → Position → ℕ → Part → Result Position LineFault
+step at position code part =
+    if nat_lt code position.next then Err (fault at problems.Order)
+    else if beq position.is_open (is_last part) then Ok (record { next = code + 1; is_open = is_first part })
+    else Err (fault at problems.Range)
+
+-- the code point of a line that is for one character
+abbrev pub character_of : Place → ℕ → Part → Result ℕ LineFault
+character_of at code Whole = if is_scalar_value code then Ok code else Err (fault at problems.NotACharacter)
+character_of at code First = Err (fault at problems.NotACharacter)
+character_of at code Last = Err (fault at problems.NotACharacter)
+
+-- neither a class nor a mapping
+abbrev pub is_blank : ℕ → List ℕ → Bool
+is_blank class mapping = (class == 0) && (length mapping == 0)
+
+abbrev pub is_listed : List ℕ → ℕ → Bool
+is_listed exclusions code = list_any (λ e. e == code) exclusions
+
+-- what is recorded of a code point, if anything is
+unfoldable pub entry_of : List ℕ → Place → ℕ → Part → ℕ → Bool × List ℕ → Result (Option Entry) LineFault
+entry_of exclusions at code part class mapping =
+    if is_blank class mapping.1 then Ok None
+    else do
+      c ← character_of at code part
+      Ok (Some (record {
+        c = c;
+        class = class;
+        mapping = mapping.1;
+        compatibility = mapping.0;
+        excluded = is_listed exclusions code;
+      }))
+
+-- the fields of a line
+unfoldable pub read_fields : List ℕ → Place → Position → List ℕ → Result (Position × Option Entry) LineFault
+read_fields exclusions at position line = do
+  code ← code_of at line
+  part ← part_of at line
+  class ← class_of at line
+  mapping ← mapping_of at line
+  next ← step at position code part
+  entry ← entry_of exclusions at code part class mapping
+  Ok (next, entry)
+
+-- a line without data says nothing
+unfoldable pub read_line : List ℕ → ℕ → Position → List ℕ → Result (Position × Option Entry) LineFault
+read_line exclusions n position line =
+    if length (data_of line) == 0 then Ok (position, None)
+    else read_fields exclusions (place n) position (data_of line)
+
+-- the last range is closed
+abbrev pub closed : Place → Position → Result (Unit {0}) LineFault
+closed at position = if position.is_open then Err (fault at problems.Range) else Ok tt
+
+-- the records of all lines
+unfoldable pub records_in : List ℕ → List (List ℕ) → Result (List Entry) LineFault
+records_in exclusions parts = do
+  read ← read_each (read_line exclusions) 1 start parts
+  end ← closed (place (length parts)) read.0
+  Ok read.1
+
+-- the records that the two files give
+unfoldable pub records_of : List ℕ → List ℕ → Result (List Entry) LineFault
+records_of unicode_data composition_exclusions = do
+  exclusions ← exclusions_of composition_exclusions
+  records_in exclusions (lines unicode_data)

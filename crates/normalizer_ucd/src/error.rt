@@ -1,0 +1,121 @@
+//! Why a file was refused.
+ghost use Rattle.std.specs.Prelude.{◌≡◌};
+ghost use Rattle.normalizer_ucd.specs.Reading.{fault};
+
+use std::alloc::{AllocError, AllocFailed};
+use std::fmt;
+use thiserror::Error;
+
+/// The files that are read.
+#[derive(Clone, Copy, PartialEq, Eq, Debug)]
+pub enum UcdFile {
+    UnicodeData,
+    CompositionExclusions,
+}
+
+impl fmt::Display for UcdFile {
+    fn fmt<W: fmt::Write>(&self, f: &mut fmt::Formatter<W>) -> fmt::Result {
+        f.write_str(match self {
+            UcdFile::UnicodeData => "UnicodeData.txt",
+            UcdFile::CompositionExclusions => "CompositionExclusions.txt",
+        })
+    }
+}
+
+/// A line of a file. The first line is 1.
+#[derive(Clone, Copy, PartialEq, Eq, Debug)]
+pub struct Place {
+    pub file: UcdFile,
+    pub line: usize,
+}
+
+impl Place {
+    pub(crate) fn fault(self, problem: Problem) -> LineFault
+        ensures { result ≡ fault self problem }
+    {
+        LineFault {
+            place: self,
+            problem,
+        }
+    }
+}
+
+impl fmt::Display for Place {
+    fn fmt<W: fmt::Write>(&self, f: &mut fmt::Formatter<W>) -> fmt::Result {
+        write!(f, "{}:{}", self.file, self.line)
+    }
+}
+
+/// What is wrong with a line.
+#[derive(Clone, Copy, PartialEq, Eq, Debug, Error)]
+pub enum Problem {
+    #[error("the line has too few fields")]
+    MissingField,
+    #[error("the code point is not a hexadecimal number up to 10FFFF")]
+    CodePoint,
+    #[error("the canonical combining class is not a number from 0 to 254")]
+    Class,
+    #[error("the decomposition mapping is not a list of characters, after a tag or without one")]
+    Mapping,
+    #[error("the code points don't strictly rise")]
+    Order,
+    /// The first line of a range has no last line right after it, or the last has no first right before it.
+    #[error("a range of code points is not closed")]
+    Range,
+    /// A surrogate or a range of code points with a class or a mapping.
+    #[error("a class or a mapping of what is not one character")]
+    NotACharacter,
+}
+
+/// What is wrong, and on which line.
+#[derive(Clone, Copy, PartialEq, Eq, Debug)]
+pub struct LineFault {
+    pub place: Place,
+    pub problem: Problem,
+}
+
+impl fmt::Display for LineFault {
+    fn fmt<W: fmt::Write>(&self, f: &mut fmt::Formatter<W>) -> fmt::Result {
+        write!(f, "{}: {}", self.place, self.problem)
+    }
+}
+
+/// Why a file was refused.
+#[derive(Clone, Copy, PartialEq, Eq, Debug, Error)]
+pub enum UcdError {
+    /// The first line that is wrong.
+    #[error("{0}")]
+    Line(LineFault),
+    #[error("out of memory")]
+    Memory,
+}
+
+impl From<LineFault> for UcdError {
+    ghost use Rattle.normalizer_ucd.specs.declared.error.UcdError.TheVariants.{Line};
+
+    ghost from_gives = { λ fault error. error ≡ Line fault };
+
+    fn from(fault: LineFault) -> UcdError {
+        UcdError::Line(fault)
+    }
+}
+
+impl From<AllocError> for UcdError {
+    ghost use Rattle.normalizer_ucd.specs.declared.error.UcdError.TheVariants.{Memory};
+
+    ghost from_gives = { λ _ error. error ≡ Memory };
+
+    fn from(_error: AllocError) -> UcdError {
+        UcdError::Memory
+    }
+}
+
+impl<T: Drop> From<AllocFailed<T>> for UcdError {
+    ghost use Rattle.normalizer_ucd.specs.declared.error.UcdError.TheVariants.{Memory};
+
+    ghost from_gives = { λ _ error. error ≡ Memory };
+
+    fn from(_error: AllocFailed<T>) -> UcdError {
+        UcdError::Memory
+    }
+}

@@ -1,0 +1,172 @@
+//! Lines, their fields, and the numbers and characters in them.
+ghost use Rattle.std.specs.Prelude.{◌≡◌, ◌==◌, ◌≤◌, ◌<◌, ◌∷◌, [], length, map, Some, ◌++◌, IfOk, IfSome, OnOk, position};
+ghost use Rattle.std.specs.Option.{option_copied, option_map_or, option_to_list};
+ghost use Rattle.std.specs.List.{after_first, before_first, slice_split};
+ghost use Rattle.normalizer_ucd.specs.Fields.{
+  character,
+  characters,
+  characters_in,
+  code_point,
+  data_of,
+  field,
+  number,
+  read_character,
+  trim,
+  with_digit,
+};
+ghost use Rattle.normalizer_ucd.specs.Reading.{Gives};
+
+use crate::error::{LineFault, UcdError};
+use std::alloc::{AllocError, Global};
+
+/// The bytes without white space at either end.
+pub(crate) fn trim(text: &[u8]) -> &[u8]
+    ensures { result.now ≡ trim text.now }
+{
+    text.trim_ascii()
+}
+
+fn position(text: &[u8], at: u8) -> Option<usize>
+    ensures { result ≡ position (λ b. b == at) text.now }
+{
+    text.iter().position(|b| *b == at)
+}
+
+/// What is before the first of a byte, and what is after it if there is one.
+fn cut(text: &[u8], at: u8) -> (&[u8], Option<&[u8]>)
+    ensures before { result.0.now ≡ before_first (λ b. b == at) text.now }
+    ensures after { option_map_or (λ rest. rest.now) result.1 [] ≡ after_first (λ b. b == at) text.now }
+    ensures parts { slice_split (λ b. b == at) text.now
+        ≡ result.0.now ∷ option_map_or (λ rest. slice_split (λ b. b == at) rest.now) result.1 [] }
+    ensures shorter { IfSome result.1 (λ rest. length rest.now < length text.now) }
+{
+    match position(text, at) {
+        Some(place) => (&text[..place], Some(&text[place + 1..])),
+        None => (text, None),
+    }
+}
+
+/// What is after the first of a byte.
+pub(crate) fn after_first(text: &[u8], at: u8) -> &[u8]
+    ensures { result.now ≡ after_first (λ b. b == at) text.now }
+{
+    match cut(text, at).1 {
+        Some(rest) => rest,
+        None => &[],
+    }
+}
+
+/// The parts between the places where a byte is.
+pub(crate) fn split(alloc: Global, text: &[u8], at: u8) -> Result<Vec<&[u8]>, AllocError>
+    ensures { IfOk result (λ v. map (λ part. part.now) v.items ≡ slice_split (λ b. b == at) text.now) }
+{
+    let mut parts = Vec::new(alloc);
+    let mut left = Some(text);
+    while let Some(bytes) = left {
+        let (part, rest) = cut(bytes, at);
+        parts.push(part)?;
+        left = rest;
+    }
+    Ok(parts)
+}
+
+/// A line without its comment.
+pub(crate) fn data_of(line: &[u8]) -> &[u8]
+    ensures { result.now ≡ data_of line.now }
+{
+    trim(cut(line, b'#').0)
+}
+
+/// A field of a line.
+pub(crate) fn field(line: &[u8], number: usize) -> Option<&[u8]>
+    ensures { option_copied result ≡ field line.now number }
+{
+    let mut rest = line;
+    for _ in 0..number {
+        rest = cut(rest, b';').1?;
+    }
+    Some(trim(cut(rest, b';').0))
+}
+
+fn with_digit(radix: u32, value: u32, digit: u8) -> Option<u32>
+    requires least { 2 ≤ radix }
+    requires greatest { radix ≤ 36 }
+    ensures { result ≡ with_digit radix value digit }
+{
+    let digit = char::from(digit).to_digit(radix)?;
+    value.checked_mul(radix)?.checked_add(digit)
+}
+
+/// The number that digits write.
+#[tactic(auto, unfolding(crate::specs::Fields::number))]
+pub(crate) fn number(radix: u32, digits: &[u8]) -> Option<u32>
+    requires least { 2 ≤ radix }
+    requires greatest { radix ≤ 36 }
+    ensures { result ≡ number radix digits.now }
+{
+    if digits.is_empty() {
+        return None;
+    }
+    let mut value = 0;
+    for digit in digits {
+        let Some(next) = with_digit(radix, value, *digit) else {
+            return None;
+        };
+        value = next;
+    }
+    Some(value)
+}
+
+/// The code point that a field writes.
+pub(crate) fn code_point(text: &[u8]) -> Option<u32>
+    ensures { result ≡ code_point text.now }
+{
+    let code = number(16, text)?;
+    if code <= 0x10FFFF { Some(code) } else { None }
+}
+
+fn character(text: &[u8]) -> Option<char>
+    ensures { result ≡ character text.now }
+{
+    char::from_u32(number(16, text)?)
+}
+
+/// The characters that a field lists, or the fault.
+pub(crate) fn characters(
+    alloc: Global,
+    fault: LineFault,
+    text: &[u8],
+) -> Result<Vec<char>, UcdError>
+    ensures { Gives (λ v. v.items) result (characters fault text.now) }
+{
+    let parts = split(alloc, text, b' ')?;
+    characters_in(alloc, fault, &parts)
+}
+
+#[tactic(auto, unfolding(crate::specs::Fields::characters_in))]
+fn characters_in(alloc: Global, fault: LineFault, parts: &[&[u8]]) -> Result<Vec<char>, UcdError>
+    ensures { Gives (λ v. v.items) result (characters_in fault (map (λ part. part.now) parts.now)) }
+{
+    let mut found = Vec::new(alloc);
+    for part in parts {
+        let c = read_character(fault, part)?;
+        found.push(c)?;
+    }
+    Ok(found)
+}
+
+fn read_character(fault: LineFault, text: &[u8]) -> Result<char, UcdError>
+    ensures { Gives (λ c. (tt, Some c)) result (read_character fault 0 tt text.now) }
+{
+    Ok(character(text).ok_or(fault)?)
+}
+
+/// Adds what was found, if anything was.
+pub(crate) fn push_found<T: Drop>(found: &mut Vec<T>, item: Option<T>) -> Result<(), AllocError>
+    ensures { OnOk result (found.new.items ≡ found.old.items ++ option_to_list item) }
+{
+    if let Some(item) = item {
+        found.push(item)?;
+    }
+    Ok(())
+}

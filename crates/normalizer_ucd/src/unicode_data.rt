@@ -1,0 +1,298 @@
+//! UnicodeData.txt.
+ghost use Rattle.std.specs.Prelude.{◌≡◌, ◌≤◌, map};
+ghost use Rattle.normalizer_ucd.specs.UnicodeData.{
+  character_of,
+  class_of,
+  closed,
+  code_of,
+  combining_class,
+  entry_of,
+  field_of,
+  is_blank,
+  is_first,
+  is_last,
+  is_listed,
+  is_tagged,
+  mapping_in,
+  mapping_of,
+  part_named,
+  part_of,
+  place,
+  read_fields,
+  read_line,
+  records_in,
+  records_of,
+  step,
+  untagged,
+};
+ghost use Rattle.normalizer_ucd.specs.Reading.{Gives};
+
+use crate::error::{LineFault, Place, Problem, UcdError, UcdFile};
+use crate::exclusions::exclusions_of;
+use crate::text::{
+    after_first, characters, code_point, data_of, field, number, push_found, split, trim,
+};
+use normalizer_records::Record;
+use std::alloc::Global;
+
+/// What a line is for: one code point, or the first or the last of a range.
+#[derive(Clone, Copy)]
+enum Part {
+    Whole,
+    First,
+    Last,
+}
+
+/// Where the lines before have got to: the least code point that may be next, and whether a range is open.
+#[derive(Clone, Copy)]
+struct Position {
+    next: u32,
+    is_open: bool,
+}
+
+/// The records of the characters that have a class above 0 or a mapping, as the two files say. A character is
+/// excluded if the second file lists it. The error is the first line that is wrong, of the second file before the first.
+#[tactic(auto, unfolding(crate::specs::UnicodeData::records_of))]
+pub fn records_of_unicode_data(
+    alloc: Global,
+    unicode_data: &[u8],
+    composition_exclusions: &[u8],
+) -> Result<Vec<Record>, UcdError>
+    ensures { Gives (λ v. v.items) result (records_of unicode_data.now composition_exclusions.now) }
+{
+    let exclusions = exclusions_of(alloc, composition_exclusions)?;
+    let lines = split(alloc, unicode_data, b'\n')?;
+    records_in(alloc, &exclusions, &lines)
+}
+
+#[tactic(auto, unfolding(crate::specs::UnicodeData::records_in))]
+fn records_in(alloc: Global, exclusions: &[u32], lines: &[&[u8]]) -> Result<Vec<Record>, UcdError>
+    ensures { Gives (λ v. v.items) result (records_in exclusions.now (map (λ line. line.now) lines.now)) }
+{
+    let mut records = Vec::new(alloc);
+    let mut position = Position {
+        next: 0,
+        is_open: false,
+    };
+    for (index, line) in lines.iter().enumerate() {
+        let (next, record) = read_line(alloc, exclusions, index + 1, position, line)?;
+        position = next;
+        push_found(&mut records, record)?;
+    }
+    closed(lines.len(), position)?;
+    Ok(records)
+}
+
+fn place(number: usize) -> Place
+    ensures { result ≡ place number }
+{
+    Place {
+        file: UcdFile::UnicodeData,
+        line: number,
+    }
+}
+
+/// An error if a range is open at the end.
+fn closed(number: usize, position: Position) -> Result<(), UcdError>
+    ensures { Gives (λ _. tt) result (closed (place number) position) }
+{
+    if position.is_open {
+        return Err(UcdError::Line(place(number).fault(Problem::Range)));
+    }
+    Ok(())
+}
+
+#[tactic(auto, unfolding(crate::specs::UnicodeData::read_line))]
+fn read_line(
+    alloc: Global,
+    exclusions: &[u32],
+    number: usize,
+    position: Position,
+    line: &[u8],
+) -> Result<(Position, Option<Record>), UcdError>
+    ensures { Gives (λ x. x) result (read_line exclusions.now number position line.now) }
+{
+    let data = data_of(line);
+    if data.is_empty() {
+        return Ok((position, None));
+    }
+    read_fields(alloc, exclusions, place(number), position, data)
+}
+
+#[tactic(auto, unfolding(crate::specs::UnicodeData::read_fields))]
+fn read_fields(
+    alloc: Global,
+    exclusions: &[u32],
+    place: Place,
+    position: Position,
+    line: &[u8],
+) -> Result<(Position, Option<Record>), UcdError>
+    ensures { Gives (λ x. x) result (read_fields exclusions.now place position line.now) }
+{
+    let code = code_of(place, line)?;
+    let part = part_of(place, line)?;
+    let class = class_of(place, line)?;
+    let mapping = mapping_of(alloc, place, line)?;
+    let next = step(place, position, code, part)?;
+    let entry = entry_of(exclusions, place, code, part, class, mapping)?;
+    Ok((next, entry))
+}
+
+fn is_blank(class: u8, mapping: &[char]) -> bool
+    ensures { result ≡ is_blank class mapping.now }
+{
+    class == 0 && mapping.is_empty()
+}
+
+fn is_listed(exclusions: &[u32], code: u32) -> bool
+    ensures { result ≡ is_listed exclusions.now code }
+{
+    exclusions.iter().any(|excluded| *excluded == code)
+}
+
+/// What is recorded of a code point, if anything is.
+#[tactic(auto, unfolding(crate::specs::UnicodeData::entry_of))]
+fn entry_of(
+    exclusions: &[u32],
+    place: Place,
+    code: u32,
+    part: Part,
+    class: u8,
+    mapping: (bool, Vec<char>),
+) -> Result<Option<Record>, UcdError>
+    ensures { Gives (λ x. x) result (entry_of exclusions.now place code part class (mapping.0, mapping.1.items)) }
+{
+    let (compatibility, mapping) = mapping;
+    if is_blank(class, &mapping) {
+        return Ok(None);
+    }
+    let c = character_of(place, code, part)?;
+    Ok(Some(Record {
+        c,
+        class,
+        mapping,
+        compatibility,
+        excluded: is_listed(exclusions, code),
+    }))
+}
+
+fn field_of(place: Place, line: &[u8], number: usize) -> Result<&[u8], UcdError>
+    ensures { Gives (λ text. text.now) result (field_of place line.now number) }
+{
+    Ok(field(line, number).ok_or(place.fault(Problem::MissingField))?)
+}
+
+fn code_of(place: Place, line: &[u8]) -> Result<u32, UcdError>
+    ensures { Gives (λ code. code) result (code_of place line.now) }
+{
+    let text = field_of(place, line, 0)?;
+    Ok(code_point(text).ok_or(place.fault(Problem::CodePoint))?)
+}
+
+fn part_of(place: Place, line: &[u8]) -> Result<Part, UcdError>
+    ensures { Gives (λ part. part) result (part_of place line.now) }
+{
+    let name = field_of(place, line, 1)?;
+    Ok(part_named(name))
+}
+
+fn part_named(name: &[u8]) -> Part
+    ensures { result ≡ part_named name.now }
+{
+    if name.ends_with(b"First>") {
+        Part::First
+    } else if name.ends_with(b"Last>") {
+        Part::Last
+    } else {
+        Part::Whole
+    }
+}
+
+fn combining_class(text: &[u8]) -> Option<u8>
+    ensures { result ≡ combining_class text.now }
+{
+    let class = number(10, text)?;
+    if class < 255 { Some(class as u8) } else { None }
+}
+
+fn class_of(place: Place, line: &[u8]) -> Result<u8, UcdError>
+    ensures { Gives (λ class. class) result (class_of place line.now) }
+{
+    let text = field_of(place, line, 3)?;
+    Ok(combining_class(text).ok_or(place.fault(Problem::Class))?)
+}
+
+/// The mapping of a line, and whether it is for compatibility.
+fn mapping_of(alloc: Global, place: Place, line: &[u8]) -> Result<(bool, Vec<char>), UcdError>
+    ensures { Gives (λ mapping. (mapping.0, mapping.1.items)) result (mapping_of place line.now) }
+{
+    let text = field_of(place, line, 5)?;
+    mapping_in(alloc, place.fault(Problem::Mapping), text)
+}
+
+#[tactic(auto, unfolding(crate::specs::UnicodeData::mapping_in))]
+fn mapping_in(alloc: Global, fault: LineFault, text: &[u8]) -> Result<(bool, Vec<char>), UcdError>
+    ensures { Gives (λ mapping. (mapping.0, mapping.1.items)) result (mapping_in fault text.now) }
+{
+    if text.is_empty() {
+        return Ok((false, Vec::new(alloc)));
+    }
+    let mapping = characters(alloc, fault, untagged(text))?;
+    Ok((is_tagged(text), mapping))
+}
+
+fn is_tagged(text: &[u8]) -> bool
+    ensures { result ≡ is_tagged text.now }
+{
+    text.starts_with(b"<")
+}
+
+/// A mapping without its tag.
+fn untagged(text: &[u8]) -> &[u8]
+    ensures { result.now ≡ untagged text.now }
+{
+    if is_tagged(text) {
+        trim(after_first(text, b'>'))
+    } else {
+        text
+    }
+}
+
+fn is_first(part: Part) -> bool
+    ensures { result ≡ is_first part }
+{
+    matches!(part, Part::First)
+}
+
+fn is_last(part: Part) -> bool
+    ensures { result ≡ is_last part }
+{
+    matches!(part, Part::Last)
+}
+
+/// Where a line leads, if it may follow.
+fn step(place: Place, position: Position, code: u32, part: Part) -> Result<Position, UcdError>
+    requires { code ≤ 0x10FFFF }
+    ensures { Gives (λ next. next) result (step place position code part) }
+{
+    if code < position.next {
+        return Err(UcdError::Line(place.fault(Problem::Order)));
+    }
+    if position.is_open != is_last(part) {
+        return Err(UcdError::Line(place.fault(Problem::Range)));
+    }
+    Ok(Position {
+        next: code + 1,
+        is_open: is_first(part),
+    })
+}
+
+/// The character of a line, if the line is for one.
+fn character_of(place: Place, code: u32, part: Part) -> Result<char, UcdError>
+    ensures { Gives (λ c. c) result (character_of place code part) }
+{
+    match part {
+        Part::Whole => { Ok(char::from_u32(code).ok_or(place.fault(Problem::NotACharacter))?) }
+        Part::First | Part::Last => Err(UcdError::Line(place.fault(Problem::NotACharacter))),
+    }
+}
