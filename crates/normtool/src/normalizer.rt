@@ -17,7 +17,7 @@ use std::alloc::Global;
 
 /// A normalizer of either kind.
 #[derive(Drop)]
-pub(crate) enum Normalizer {
+pub enum Normalizer {
     Decomposing(DecomposingNormalizer),
     Composing(ComposingNormalizer),
 }

@@ -12,7 +12,7 @@ use std::alloc::{AllocError, Global};
 
 /// An answer, with the text that is written before it is given.
 #[derive(Drop)]
-pub(crate) struct Reply {
+pub struct Reply {
     pub(crate) answer: Answer,
     pub(crate) output: String,
 }

@@ -6,7 +6,7 @@ use crate::words::Command;
 
 /// A normalization form (UAX #15, section 1.2).
 #[derive(Clone, Copy)]
-pub(crate) enum NormalForm {
+pub enum NormalForm {
     Nfd,
     Nfc,
     Nfkd,
@@ -15,7 +15,7 @@ pub(crate) enum NormalForm {
 
 /// What is asked of a normal form of the input.
 #[derive(Clone, Copy)]
-pub(crate) enum FormTask {
+pub enum FormTask {
     /// To write the form.
     Write,
     /// Whether the input is well-formed and its own form.
@@ -26,7 +26,7 @@ pub(crate) enum FormTask {
 
 /// What is asked of the mapper (UTS #46, section 4).
 #[derive(Clone, Copy)]
-pub(crate) enum MapperTask {
+pub enum MapperTask {
     /// To write what mapping makes of the input.
     Map,
     /// To write what validation makes of it.
@@ -37,7 +37,7 @@ pub(crate) enum MapperTask {
 
 /// What a command asks.
 #[derive(Clone, Copy)]
-pub(crate) enum Task {
+pub enum Task {
     OfForm(FormTask, NormalForm),
     OfMapper(MapperTask),
 }

@@ -1,6 +1,6 @@
 //! What a command needs to be done.
 ghost use Rattle.std.specs.Prelude.{◌≡◌, ◌⊎◌, IfOk, IfErr, IsErrOf, string_bytes};
-ghost use Rattle.normtool.specs.Needs.{held_for_all, IsServed, LacksData};
+ghost use Rattle.normtool.specs.Needs.{held_for_all, Held, IsServed, LacksData};
 ghost use Rattle.normtool.specs.Normalizers.{work_by};
 ghost use Rattle.normtool.specs.Replies.{IsReply};
 
@@ -17,49 +17,55 @@ use std::alloc::Global;
 
 /// A task with what it is done by.
 #[derive(Drop)]
-pub(crate) enum Worker {
+pub enum Worker {
     OfForm(FormTask, Normalizer),
     OfMapper(MapperTask, Uts46Mapper),
 }
 
-impl Worker {
-    /// What a task needs, made over what the provider holds.
-    pub(crate) fn for_task<P>(provider: &P, task: Task) -> Result<Worker, ToolFault>
-    where
-        P: DataProvider<NormalizerNfdDataV1>
-            + DataProvider<NormalizerNfdTablesV1>
-            + DataProvider<NormalizerNfkdDataV1>
-            + DataProvider<NormalizerNfkdTablesV1>
-            + DataProvider<NormalizerNfcV1>
-            + DataProvider<NormalizerUts46DataV1>,
-        ensures served { IfOk result (λ w. IsServed task (held_for_all
-            (⟦<P as DataProvider<NormalizerNfdDataV1>>⟧.held provider.now)
-            (⟦<P as DataProvider<NormalizerNfdTablesV1>>⟧.held provider.now)
-            (⟦<P as DataProvider<NormalizerNfkdDataV1>>⟧.held provider.now)
-            (⟦<P as DataProvider<NormalizerNfkdTablesV1>>⟧.held provider.now)
-            (⟦<P as DataProvider<NormalizerNfcV1>>⟧.held provider.now)
-            (⟦<P as DataProvider<NormalizerUts46DataV1>>⟧.held provider.now)) (work_by w)) }
-        ensures data { IsErrOf result ToolFault.Data → LacksData task (held_for_all
-            (⟦<P as DataProvider<NormalizerNfdDataV1>>⟧.held provider.now)
-            (⟦<P as DataProvider<NormalizerNfdTablesV1>>⟧.held provider.now)
-            (⟦<P as DataProvider<NormalizerNfkdDataV1>>⟧.held provider.now)
-            (⟦<P as DataProvider<NormalizerNfkdTablesV1>>⟧.held provider.now)
-            (⟦<P as DataProvider<NormalizerNfcV1>>⟧.held provider.now)
-            (⟦<P as DataProvider<NormalizerUts46DataV1>>⟧.held provider.now)) }
-        ensures errors { IfErr result (λ fault. (fault ≡ ToolFault.Data) ⊎ (fault ≡ ToolFault.Memory)) }
-    {
+/// What the data for the commands come from.
+pub trait CommandData {
+    /// What is held for the commands.
+    ghost held_for_commands: { Self → Held };
+
+    /// What a task needs, made over what is held.
+    fn worker(&self, task: Task) -> Result<Worker, ToolFault>
+        ensures served { IfOk result (λ w. IsServed task (held_for_commands self.now) (work_by w)) }
+        ensures data { IsErrOf result ToolFault.Data → LacksData task (held_for_commands self.now) }
+        ensures errors { IfErr result (λ fault. (fault ≡ ToolFault.Data) ⊎ (fault ≡ ToolFault.Memory)) };
+}
+
+impl<P> CommandData for P
+where
+    P: DataProvider<NormalizerNfdDataV1>
+        + DataProvider<NormalizerNfdTablesV1>
+        + DataProvider<NormalizerNfkdDataV1>
+        + DataProvider<NormalizerNfkdTablesV1>
+        + DataProvider<NormalizerNfcV1>
+        + DataProvider<NormalizerUts46DataV1>,
+{
+    ghost held_for_commands = { λ p. held_for_all
+        (⟦<P as DataProvider<NormalizerNfdDataV1>>⟧.held p)
+        (⟦<P as DataProvider<NormalizerNfdTablesV1>>⟧.held p)
+        (⟦<P as DataProvider<NormalizerNfkdDataV1>>⟧.held p)
+        (⟦<P as DataProvider<NormalizerNfkdTablesV1>>⟧.held p)
+        (⟦<P as DataProvider<NormalizerNfcV1>>⟧.held p)
+        (⟦<P as DataProvider<NormalizerUts46DataV1>>⟧.held p) };
+
+    fn worker(&self, task: Task) -> Result<Worker, ToolFault> {
         match task {
             Task::OfForm(task, form) => {
-                let normalizer = Normalizer::for_form(provider, form)?;
+                let normalizer = Normalizer::for_form(self, form)?;
                 Ok(Worker::OfForm(task, normalizer))
             }
             Task::OfMapper(task) => {
-                let mapper = Uts46Mapper::try_new(provider)?;
+                let mapper = Uts46Mapper::try_new(self)?;
                 Ok(Worker::OfMapper(task, mapper))
             }
         }
     }
+}
 
+impl Worker {
     /// The reply to bytes.
     pub(crate) fn reply(&self, alloc: Global, input: &[u8]) -> Result<Reply, ToolFault>
         ensures reply { IfOk result (λ r. IsReply (work_by self.now) input.now r.answer (string_bytes r.output)) }
