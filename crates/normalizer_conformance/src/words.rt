@@ -28,15 +28,10 @@ fn push_times<'a>(words: &mut Vec<&'a str>, count: u32, pieces: &'a str) -> Resu
 }
 
 fn push_pieces<'a>(words: &mut Vec<&'a str>, pieces: &'a str) -> Result<(), Fault> {
-    match pieces.split_once(',') {
-        Some((first, second)) => push_both(words, first, second),
-        None => Ok(words.push(pieces)?),
+    for piece in pieces.split(',') {
+        words.push(piece)?;
     }
-}
-
-fn push_both<'a>(words: &mut Vec<&'a str>, first: &'a str, second: &'a str) -> Result<(), Fault> {
-    words.push(first)?;
-    Ok(words.push(second)?)
+    Ok(())
 }
 
 /// The words with a space between each two.

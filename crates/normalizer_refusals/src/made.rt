@@ -2,13 +2,15 @@
 use crate::answer::{Answer, Fault};
 use crate::built::{Normalizers, Rows};
 use crate::call::{Call, Constructor};
+use crate::items::items_by_tested_data;
 use icu_normalizer::properties::{
     CanonicalCombiningClassMap, CanonicalComposition, CanonicalDecomposition,
 };
 use icu_normalizer::uts46::Uts46Mapper;
 use icu_normalizer::{
-    Built, CanonicalCompositions, CodePointTable, ComposingNormalizer, DataError,
-    DecomposingNormalizer, Records, TableError,
+    Built, CanonicalCompositions, CodePointTable, ComposingNormalizer, DataError, DataProvider,
+    DecomposingNormalizer, NormalizerNfdDataV1, NormalizerNfdSupplementV1, NormalizerNfdTablesV1,
+    Records, TableError,
 };
 use std::alloc::Global;
 
@@ -19,15 +21,24 @@ pub enum Stage {
     Call,
 }
 
+/// The forms whose normalizers are asked.
+#[derive(Clone, Copy, Debug, PartialEq, Eq)]
+pub enum Forms {
+    Canonical,
+    Compatibility,
+}
+
 /// Makes a call, and says its answer. One that was refused is made once more, and is to be right then.
-pub fn answer(alloc: Global, call: Call, stage: Stage) -> Answer {
+pub fn answer(alloc: Global, call: Call, forms: Forms, stage: Stage) -> Answer {
     let made = match call {
         Call::Table | Call::Pairs | Call::CopyOfTable | Call::CopyOfPairs => of_tables(
             alloc, call, stage,
         ),
+        Call::CopyOfWords | Call::CopyOfLists | Call::CopyOfSupplement | Call::ItemsByTestedData =>
+            of_parts(alloc, call, stage),
         Call::Build => of_records(alloc, stage),
         Call::Constructor(constructor) => of_data(alloc, constructor, stage),
-        _ => of_normalizers(alloc, call, stage),
+        _ => of_normalizers(alloc, call, forms, stage),
     };
     made.unwrap_or(Answer::NotMade)
 }
@@ -97,6 +108,56 @@ fn of_tables(alloc: Global, call: Call, stage: Stage) -> Option<Answer> {
     Some(asked_again(made(), made()))
 }
 
+/// The calls on parts of data that were built.
+fn of_parts(alloc: Global, call: Call, stage: Stage) -> Option<Answer> {
+    let data = Rows::new(alloc)?.built(alloc)?;
+    match call {
+        Call::CopyOfWords => of_words(&data, stage),
+        Call::CopyOfLists => of_lists(&data, stage),
+        Call::CopyOfSupplement => of_supplement(&data, stage),
+        _ => of_tested_data(&data, stage),
+    }
+}
+
+fn of_words(data: &Built, stage: Stage) -> Option<Answer> {
+    let words = <Built as DataProvider<NormalizerNfdDataV1>>::load(data).ok()?;
+    if stage == Stage::Before {
+        return Some(Answer::Right);
+    }
+    let made = || told(words.clone().map(|copy| copy == words));
+    Some(asked_again(made(), made()))
+}
+
+fn of_lists(data: &Built, stage: Stage) -> Option<Answer> {
+    let lists = <Built as DataProvider<NormalizerNfdTablesV1>>::load(data).ok()?;
+    if stage == Stage::Before {
+        return Some(Answer::Right);
+    }
+    let made = || told(lists.clone().map(|copy| copy == lists));
+    Some(asked_again(made(), made()))
+}
+
+fn of_supplement(data: &Built, stage: Stage) -> Option<Answer> {
+    let supplement = <Built as DataProvider<NormalizerNfdSupplementV1>>::load(data).ok()?;
+    if stage == Stage::Before {
+        return Some(Answer::Right);
+    }
+    let made = || told(supplement.clone().map(|copy| copy == supplement));
+    Some(asked_again(made(), made()))
+}
+
+fn of_tested_data(data: &Built, stage: Stage) -> Option<Answer> {
+    let words = <Built as DataProvider<NormalizerNfdDataV1>>::load(data).ok()?;
+    let lists = <Built as DataProvider<NormalizerNfdTablesV1>>::load(data).ok()?;
+    if stage == Stage::Before {
+        return Some(Answer::Right);
+    }
+    Some(asked_again(
+        items_by_tested_data(&words, &lists),
+        items_by_tested_data(&words, &lists),
+    ))
+}
+
 fn of_records(alloc: Global, stage: Stage) -> Option<Answer> {
     let rows = Rows::new(alloc)?;
     if stage == Stage::Before {
@@ -137,8 +198,8 @@ fn made<T: Drop>(given: Result<T, DataError>) -> Answer {
     }
 }
 
-fn of_normalizers(alloc: Global, call: Call, stage: Stage) -> Option<Answer> {
-    let normalizers = Normalizers::new(alloc)?;
+fn of_normalizers(alloc: Global, call: Call, forms: Forms, stage: Stage) -> Option<Answer> {
+    let normalizers = Normalizers::new(alloc, forms)?;
     if stage == Stage::Before {
         return Some(Answer::Right);
     }
@@ -166,9 +227,12 @@ impl Normalizers {
             Call::WrittenText => self.written_text(alloc),
             Call::WrittenBytes => self.written_bytes(alloc),
             Call::WrittenUnits => self.written_units(alloc),
-            Call::Check => self.check(),
-            Call::Split => self.split(),
-            Call::Offence => self.offence(),
+            Call::DecomposingCheck => self.decomposing_check(),
+            Call::ComposingCheck => self.composing_check(),
+            Call::DecomposingSplit => self.decomposing_split(),
+            Call::ComposingSplit => self.composing_split(),
+            Call::DecomposingOffence => self.decomposing_offence(),
+            Call::ComposingOffence => self.composing_offence(),
             _ => Answer::NotMade,
         }
     }
