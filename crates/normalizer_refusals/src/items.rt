@@ -63,10 +63,10 @@ pub(crate) fn items_by_tested_data(
     words: &DecompositionData,
     tables: &DecompositionTables,
 ) -> Answer {
-    if check_nfd_data(words, tables).is_err() {
-        return Answer::NotMade;
+    match check_nfd_data(words, tables) {
+        Ok(()) => wanted_by_items(Decomposition::new(MARKED.chars(), words, tables), MARKED),
+        Err(_) => Answer::NotMade,
     }
-    wanted_by_items(Decomposition::new(MARKED.chars(), words, tables), MARKED)
 }
 
 /// The answer of an iterator that is to be made, and whose items want memory.
