@@ -5,7 +5,7 @@
 //! `no pairs`.
 use crate::fault::Fault;
 use crate::ranges::{Range, with_range};
-use crate::words::{character, characters, hexadecimal, unit, units, words};
+use crate::words::{Read, all, character, hexadecimal, words};
 use icu_normalizer::{
     CanonicalCompositions, CodePointTable, DecompositionData, DecompositionTables,
     NonRecursiveDecompositionSupplement, Scalars16, Scalars24,
@@ -78,7 +78,7 @@ impl Words {
     fn take(&mut self, alloc: Global, name: &str, rest: &[&str]) -> Result<(), Fault> {
         match name {
             "range" => self.take_range(alloc, rest)?,
-            "cap" => self.cap = unit(only(rest)?)?,
+            "cap" => self.cap = u16::read(only(rest)?)?,
             "past" => self.past = hexadecimal(only(rest)?)?,
             "no" => return self.take_none(alloc, only(rest)?),
             _ => return Ok(()),
@@ -142,8 +142,8 @@ impl Lists {
     /// Takes one more row.
     fn take(&mut self, alloc: Global, name: &str, rest: &[&str]) -> Result<(), Fault> {
         match name {
-            "scalars16" => self.scalars16 = units(alloc, rest)?,
-            "scalars24" => self.scalars24 = characters(alloc, rest)?,
+            "scalars16" => self.scalars16 = all(alloc, rest)?,
+            "scalars24" => self.scalars24 = all(alloc, rest)?,
             "no" => return self.take_none(alloc, only(rest)?),
             _ => return Ok(()),
         }
@@ -195,9 +195,9 @@ fn next_pairs(
     match row {
         [name, characters @ ..] if *name == "pairs" => Ok(Some(pairs(alloc, characters)?)),
         [name, second, first, composite] if *name == "pair" => {
-            let mut all = found.unwrap_or(Vec::new(alloc));
-            all.push((character(second)?, character(first)?, character(composite)?))?;
-            Ok(Some(all))
+            let mut pairs = found.unwrap_or(Vec::new(alloc));
+            pairs.push((character(second)?, character(first)?, character(composite)?))?;
+            Ok(Some(pairs))
         }
         [name, part] if *name == "no" && *part == "pairs" => Ok(None),
         _ => Ok(found),
@@ -206,14 +206,14 @@ fn next_pairs(
 
 /// Pairs, three characters each.
 fn pairs(alloc: Global, characters: &[&str]) -> Result<Vec<Pair>, Fault> {
-    let mut all = Vec::new(alloc);
+    let mut pairs = Vec::new(alloc);
     for three in characters.chunks(3) {
         let [second, first, composite] = three else {
             return Err(Fault::Unreadable);
         };
-        all.push((character(second)?, character(first)?, character(composite)?))?;
+        pairs.push((character(second)?, character(first)?, character(composite)?))?;
     }
-    Ok(all)
+    Ok(pairs)
 }
 
 /// What rows give of words, as data.

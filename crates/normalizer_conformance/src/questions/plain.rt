@@ -4,7 +4,7 @@ use crate::fault::Fault;
 use crate::held::Held;
 use crate::setting::Setting;
 use crate::spelling::spelled_all;
-use crate::words::characters;
+use crate::words::all;
 use icu_normalizer::Record;
 use normal_forms::Form;
 use normal_forms::plain::{CharacterRow, PairRow, Rows, cut, normal_form};
@@ -109,7 +109,7 @@ pub fn asked(
         return Err(Fault::Unreadable);
     };
     let form = canonical_form_named(form)?;
-    let text = characters(alloc, text)?;
+    let text: Vec<char> = all(alloc, text)?;
     asked_of_data(alloc, setting, name, form, &text)
 }
 
