@@ -5,9 +5,7 @@ ghost use Rattle.normalizer_text.specs.Sinks.{AnyFault};
 use crate::letters::repeated;
 use crate::over_rows::{nfc, nfd};
 use icu_normalizer::sink::{SinkError, Write, Write16};
-use icu_normalizer::{
-    ComposingNormalizerBorrowed, DecomposingNormalizerBorrowed, NormalizeError,
-};
+use icu_normalizer::{ComposingNormalizerBorrowed, DecomposingNormalizerBorrowed, NormalizeError};
 use std::alloc::Global;
 
 // Takes so many bytes, and refuses all of a text that would pass them.
@@ -277,21 +275,23 @@ macro_rules! in_two_writes {
         let mut text = Counting::new(String::new($alloc));
         let mut bytes = Counting::new(String::new($alloc));
         let mut units = Counting::new(Vec::new($alloc));
-        $normalizer.normalize_to($text, &mut text).ok()?;
-        $normalizer.normalize_utf8_to($text.as_bytes(), &mut bytes).ok()?;
-        $normalizer.normalize_utf16_to($units, &mut units).ok()?;
-        Some(took_text(&text, $text) && took_text(&bytes, $text) && took_units(&units, $units))
+        $normalizer.normalize_to($text, &mut text).is_ok()
+            && $normalizer.normalize_utf8_to($text.as_bytes(), &mut bytes).is_ok()
+            && $normalizer.normalize_utf16_to($units, &mut units).is_ok()
+            && took_text(&text, $text)
+            && took_text(&bytes, $text)
+            && took_units(&units, $units)
     }};
 }
 
 fn decomposes_in_two_writes(alloc: Global, text: &str, units: &[u16]) -> Option<bool> {
     let normalizer = nfd(alloc)?;
-    in_two_writes!(alloc, normalizer.as_borrowed(), text, units)
+    Some(in_two_writes!(alloc, normalizer.as_borrowed(), text, units))
 }
 
 fn composes_in_two_writes(alloc: Global, text: &str, units: &[u16]) -> Option<bool> {
     let normalizer = nfc(alloc)?;
-    in_two_writes!(alloc, normalizer.as_borrowed(), text, units)
+    Some(in_two_writes!(alloc, normalizer.as_borrowed(), text, units))
 }
 
 // Whether both forms of a text that nothing changes are written in two pieces at most.

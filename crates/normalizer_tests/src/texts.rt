@@ -21,7 +21,13 @@ fn faults_of_tables_have_a_text(rt: HostRuntime) {
 #[test]
 fn faults_of_normalizing_have_a_text(rt: HostRuntime) {
     assert!(rt; is_shown_as(rt.alloc(), &NormalizeError::Memory, "out of memory"));
-    assert!(rt; is_shown_as(rt.alloc(), &NormalizeError::Sink, "the sink refused a write"));
+    assert!(rt;
+        is_shown_as(
+            rt.alloc(),
+            &NormalizeError::Sink,
+            "the sink refused a write"
+        )
+    );
 }
 
 const MARKER: DataMarkerInfo = DataMarkerInfo::NormalizerNfdTablesV1;
