@@ -12,10 +12,34 @@ use icu_normalizer::{
 };
 use std::str::Chars;
 
+/// The answer of an iterator that is to be made, and whose items want memory: nothing comes after a fault, however often it
+/// is asked.
+macro_rules! wanted_once {
+    ($made:expr, $wanted:expr) => {
+        match $made {
+            Ok(mut items) => match items.next() {
+                Some(Err(fault)) => {
+                    if items.next().is_none() && items.next().is_none() && items.next().is_none() {
+                        fault.answer()
+                    } else {
+                        Answer::Wrong
+                    }
+                }
+                Some(Ok(first)) => {
+                    let mut wanted = $wanted.chars();
+                    Answer::of(wanted.next() == Some(first) && are(items, wanted))
+                }
+                None => Answer::Wrong,
+            },
+            Err(_) => Answer::Wrong,
+        }
+    };
+}
+
 impl Normalizers {
     pub fn decomposed_items(&self) -> Answer {
         let normalizer = self.decomposing.as_borrowed();
-        wanted_by_items(normalizer.normalize_iter(MARKED.chars()), MARKED)
+        wanted_once!(normalizer.normalize_iter(MARKED.chars()), MARKED)
     }
 
     pub fn decomposed_items_of_marks(&self) -> Answer {
@@ -30,7 +54,7 @@ impl Normalizers {
 
     pub fn composed_items(&self) -> Answer {
         let normalizer = self.composing.as_borrowed();
-        wanted_by_items(normalizer.normalize_iter(MARKED.chars()), MARKED_NFC)
+        wanted_once!(normalizer.normalize_iter(MARKED.chars()), MARKED_NFC)
     }
 
     pub fn composed_items_of_marks(&self) -> Answer {
@@ -64,7 +88,7 @@ pub(crate) fn items_by_tested_data(
     tables: &DecompositionTables,
 ) -> Answer {
     match check_nfd_data(words, tables) {
-        Ok(()) => wanted_by_items(Decomposition::new(MARKED.chars(), words, tables), MARKED),
+        Ok(()) => wanted_once!(Decomposition::new(MARKED.chars(), words, tables), MARKED),
         Err(_) => Answer::NotMade,
     }
 }
@@ -103,13 +127,10 @@ where
     requires ends { IsFinite (I.remaining items) }
 {
     match items.next() {
-        Some(Err(fault)) => {
-            if items.next().is_none() && items.next().is_none() && items.next().is_none() {
-                fault.answer()
-            } else {
-                Answer::Wrong
-            }
-        }
+        Some(Err(fault)) => match items.next() {
+            None => fault.answer(),
+            Some(_) => Answer::Wrong,
+        },
         Some(Ok(first)) => Answer::of(wanted.next() == Some(first) && are(items, wanted)),
         None => Answer::of(wanted.next().is_none()),
     }
