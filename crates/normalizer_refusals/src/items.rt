@@ -83,9 +83,9 @@ impl Normalizers {
 }
 
 /// The items over data that the caller tested.
-pub(crate) fn items_by_tested_data(
-    words: &DecompositionData,
-    tables: &DecompositionTables,
+pub(crate) fn items_by_tested_data<'a>(
+    words: &'a DecompositionData,
+    tables: &'a DecompositionTables,
 ) -> Answer {
     match check_nfd_data(words, tables) {
         Ok(()) => wanted_once!(Decomposition::new(MARKED.chars(), words, tables), MARKED),
