@@ -39,10 +39,14 @@ impl Normalizers {
     /// The normalizers of the canonical forms, or of the compatibility forms.
     pub fn new(alloc: Global, forms: Forms) -> Option<Self> {
         let data = Rows::new(alloc)?.built(alloc)?;
-        match forms {
-            Forms::Canonical => canonical_normalizers(&data),
-            Forms::Compatibility => compatibility_normalizers(&data),
-        }
+        normalizers_of(&data, forms)
+    }
+}
+
+fn normalizers_of(data: &Built, forms: Forms) -> Option<Normalizers> {
+    match forms {
+        Forms::Canonical => canonical_normalizers(data),
+        Forms::Compatibility => compatibility_normalizers(data),
     }
 }
 

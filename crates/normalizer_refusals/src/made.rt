@@ -169,13 +169,17 @@ fn of_records(alloc: Global, stage: Stage) -> Option<Answer> {
 
 fn of_data(alloc: Global, constructor: Constructor, stage: Stage) -> Option<Answer> {
     let data = Rows::new(alloc)?.built(alloc)?;
-    if stage == Stage::Before {
-        return Some(Answer::Right);
+    Some(constructed_at(&data, constructor, stage))
+}
+
+fn constructed_at(data: &Built, constructor: Constructor, stage: Stage) -> Answer {
+    match stage {
+        Stage::Before => Answer::Right,
+        Stage::Call => asked_again(
+            constructed(data, constructor),
+            constructed(data, constructor),
+        ),
     }
-    Some(asked_again(
-        constructed(&data, constructor),
-        constructed(&data, constructor),
-    ))
 }
 
 fn constructed(data: &Built, constructor: Constructor) -> Answer {
@@ -200,16 +204,17 @@ fn made<T: Drop>(given: Result<T, DataError>) -> Answer {
 
 fn of_normalizers(alloc: Global, call: Call, forms: Forms, stage: Stage) -> Option<Answer> {
     let normalizers = Normalizers::new(alloc, forms)?;
-    if stage == Stage::Before {
-        return Some(Answer::Right);
-    }
-    Some(asked_again(
-        normalizers.answer(alloc, call),
-        normalizers.answer(alloc, call),
-    ))
+    Some(normalizers.answer_at(alloc, call, stage))
 }
 
 impl Normalizers {
+    fn answer_at(&self, alloc: Global, call: Call, stage: Stage) -> Answer {
+        match stage {
+            Stage::Before => Answer::Right,
+            Stage::Call => asked_again(self.answer(alloc, call), self.answer(alloc, call)),
+        }
+    }
+
     fn answer(&self, alloc: Global, call: Call) -> Answer {
         match call {
             Call::DecomposedItems => self.decomposed_items(),
