@@ -1,6 +1,7 @@
-/* Loaded before the C library, it refuses one call of a program: REFUSE_GROWTH=n the n-th growth of memory, REFUSE_READ=n
-   the n-th read of standard input, REFUSE_WRITE=n the n-th write to standard output, SHORT=1 makes every such read and
-   write move one byte at most. With COUNT_TO=FILE the numbers of growths, reads and writes are written there at the end. */
+/* Loaded before the C library, it refuses one call of a program: REFUSE_GROWTH=n the n-th growth of memory by any allocation
+   function of the C library, REFUSE_READ=n the n-th read of standard input, REFUSE_WRITE=n the n-th write to standard output,
+   SHORT=1 makes every such read and write move one byte at most. With COUNT_TO=FILE the numbers of growths, reads, writes and
+   refusals are written there at the end. */
 #define _GNU_SOURCE
 #include <dlfcn.h>
 #include <errno.h>
@@ -8,7 +9,7 @@
 #include <stdlib.h>
 #include <unistd.h>
 
-static unsigned long growths, reads, writes;
+static unsigned long growths, reads, writes, refused;
 
 static unsigned long wanted(const char *name) {
     const char *value = getenv(name);
@@ -19,24 +20,64 @@ static int refuses(unsigned long *count, const char *name) {
     return ++*count == wanted(name);
 }
 
-/* The program's own calls alone: those of the C library and of this file are bound to its own names. */
+/* What the C library calls its own allocation functions. */
 extern void *__libc_malloc(size_t);
+extern void *__libc_calloc(size_t, size_t);
 extern void *__libc_realloc(void *, size_t);
+extern void *__libc_memalign(size_t, size_t);
+extern void *__libc_valloc(size_t);
+extern void *__libc_pvalloc(size_t);
+
+static int refuses_growth(void) {
+    if (!refuses(&growths, "REFUSE_GROWTH")) return 0;
+    refused++;
+    errno = ENOMEM;
+    return 1;
+}
 
 void *malloc(size_t size) {
-    if (refuses(&growths, "REFUSE_GROWTH")) {
-        errno = ENOMEM;
-        return NULL;
-    }
-    return __libc_malloc(size);
+    return refuses_growth() ? NULL : __libc_malloc(size);
+}
+
+void *calloc(size_t count, size_t size) {
+    return refuses_growth() ? NULL : __libc_calloc(count, size);
 }
 
 void *realloc(void *old, size_t size) {
-    if (refuses(&growths, "REFUSE_GROWTH")) {
+    return refuses_growth() ? NULL : __libc_realloc(old, size);
+}
+
+void *reallocarray(void *old, size_t count, size_t size) {
+    size_t whole;
+    if (__builtin_mul_overflow(count, size, &whole)) {
         errno = ENOMEM;
         return NULL;
     }
-    return __libc_realloc(old, size);
+    return realloc(old, whole);
+}
+
+void *memalign(size_t alignment, size_t size) {
+    return refuses_growth() ? NULL : __libc_memalign(alignment, size);
+}
+
+void *aligned_alloc(size_t alignment, size_t size) {
+    return memalign(alignment, size);
+}
+
+int posix_memalign(void **made, size_t alignment, size_t size) {
+    if (alignment == 0 || alignment % sizeof(void *) || alignment & (alignment - 1)) return EINVAL;
+    void *found = memalign(alignment, size);
+    if (!found) return ENOMEM;
+    *made = found;
+    return 0;
+}
+
+void *valloc(size_t size) {
+    return refuses_growth() ? NULL : __libc_valloc(size);
+}
+
+void *pvalloc(size_t size) {
+    return refuses_growth() ? NULL : __libc_pvalloc(size);
 }
 
 ssize_t read(int file, void *buffer, size_t size) {
@@ -44,6 +85,7 @@ ssize_t read(int file, void *buffer, size_t size) {
     if (!next) next = dlsym(RTLD_NEXT, "read");
     if (file == 0) {
         if (refuses(&reads, "REFUSE_READ")) {
+            refused++;
             errno = EIO;
             return -1;
         }
@@ -57,6 +99,7 @@ ssize_t write(int file, const void *buffer, size_t size) {
     if (!next) next = dlsym(RTLD_NEXT, "write");
     if (file == 1) {
         if (refuses(&writes, "REFUSE_WRITE")) {
+            refused++;
             errno = EIO;
             return -1;
         }
@@ -66,10 +109,10 @@ ssize_t write(int file, const void *buffer, size_t size) {
 }
 
 __attribute__((destructor)) static void tell(void) {
-    unsigned long grew = growths;
+    unsigned long grew = growths, had_refused = refused;
     const char *path = getenv("COUNT_TO");
     FILE *file = path ? fopen(path, "w") : NULL;
     if (!file) return;
-    fprintf(file, "%lu %lu %lu\n", grew, reads, writes);
+    fprintf(file, "%lu %lu %lu %lu\n", grew, reads, writes, had_refused);
     fclose(file);
 }

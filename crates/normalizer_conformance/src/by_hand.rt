@@ -5,24 +5,26 @@
 //! `no pairs`.
 use crate::fault::Fault;
 use crate::ranges::{Range, with_range};
-use crate::words::{character, characters, hexadecimal, unit, units, words};
+use crate::words::{Read, all, character, hexadecimal, words};
 use icu_normalizer::{
     CanonicalCompositions, CodePointTable, DecompositionData, DecompositionTables,
     NonRecursiveDecompositionSupplement, Scalars16, Scalars24,
 };
 use std::alloc::Global;
 
-/// The words of one kind of data.
+/// The words that rows give of one kind, if they give any.
 #[derive(Drop)]
 struct Words {
+    is_given: bool,
     ranges: Vec<Range>,
     past: u32,
     cap: u16,
 }
 
-/// The lists that words of one kind point into.
+/// The lists that words of one kind point into, if rows give any.
 #[derive(Drop)]
 struct Lists {
+    is_given: bool,
     scalars16: Vec<u16>,
     scalars24: Vec<char>,
 }
@@ -62,62 +64,62 @@ pub fn numbers(word: &str) -> Result<(u32, u32), Fault> {
     }
 }
 
-/// The words that rows give of a kind.
-fn words_of(alloc: Global, rows: &[&str], kind: &str) -> Result<Option<Words>, Fault> {
-    let mut found = None;
-    for row in rows {
-        if let [name, of, rest @ ..] = words(alloc, row)?.as_slice() {
-            if *of == kind {
-                found = next_words(alloc, found, name, rest)?;
-            }
-        }
-    }
-    Ok(found)
-}
-
-/// The words after one more row.
-fn next_words(
-    alloc: Global,
-    found: Option<Words>,
-    name: &str,
-    rest: &[&str],
-) -> Result<Option<Words>, Fault> {
-    match name {
-        "range" => Ok(Some(with_word(alloc, given(alloc, found), rest)?)),
-        "cap" => {
-            let cap = unit(only(rest)?)?;
-            let Words { ranges, past, .. } = given(alloc, found);
-            Ok(Some(Words { ranges, past, cap }))
-        }
-        "past" => {
-            let past = hexadecimal(only(rest)?)?;
-            let Words { ranges, cap, .. } = given(alloc, found);
-            Ok(Some(Words { ranges, past, cap }))
-        }
-        "no" if only(rest)? == "words" => Ok(None),
-        _ => Ok(found),
-    }
-}
-
-fn given(alloc: Global, found: Option<Words>) -> Words {
-    match found {
-        Some(words) => words,
-        None => Words {
+impl Words {
+    fn none(alloc: Global) -> Words {
+        Words {
+            is_given: false,
             ranges: Vec::new(alloc),
             past: 0,
             cap: 0,
-        },
+        }
+    }
+
+    /// Takes one more row.
+    fn take(&mut self, alloc: Global, name: &str, rest: &[&str]) -> Result<(), Fault> {
+        match name {
+            "range" => self.take_range(alloc, rest)?,
+            "cap" => self.cap = u16::read(only(rest)?)?,
+            "past" => self.past = hexadecimal(only(rest)?)?,
+            "no" => return self.take_none(alloc, only(rest)?),
+            _ => return Ok(()),
+        }
+        self.is_given = true;
+        Ok(())
+    }
+
+    fn take_range(&mut self, alloc: Global, rest: &[&str]) -> Result<(), Fault> {
+        let [range, word] = rest else {
+            return Err(Fault::Unreadable);
+        };
+        let (first, last) = numbers(range)?;
+        self.ranges = with_range(alloc, &self.ranges, (first, last, hexadecimal(word)?))?;
+        Ok(())
+    }
+
+    fn take_none(&mut self, alloc: Global, part: &str) -> Result<(), Fault> {
+        if part == "words" {
+            *self = Words::none(alloc);
+        }
+        Ok(())
     }
 }
 
-fn with_word(alloc: Global, words: Words, rest: &[&str]) -> Result<Words, Fault> {
-    let [range, word] = rest else {
-        return Err(Fault::Unreadable);
-    };
-    let (first, last) = numbers(range)?;
-    let Words { ranges, past, cap } = words;
-    let ranges = with_range(alloc, &ranges, (first, last, hexadecimal(word)?))?;
-    Ok(Words { ranges, past, cap })
+/// The words that rows give of a kind.
+fn words_of(alloc: Global, rows: &[&str], kind: &str) -> Result<Words, Fault> {
+    let mut given = Words::none(alloc);
+    take_words(alloc, &mut given, rows, kind)?;
+    Ok(given)
+}
+
+fn take_words(alloc: Global, given: &mut Words, rows: &[&str], kind: &str) -> Result<(), Fault> {
+    for row in rows {
+        if let [name, of, rest @ ..] = words(alloc, row)?.as_slice() {
+            if *of == kind {
+                given.take(alloc, name, rest)?;
+            }
+        }
+    }
+    Ok(())
 }
 
 /// The one word.
@@ -128,44 +130,51 @@ fn only<'a>(rest: &[&'a str]) -> Result<&'a str, Fault> {
     }
 }
 
+impl Lists {
+    fn none(alloc: Global) -> Lists {
+        Lists {
+            is_given: false,
+            scalars16: Vec::new(alloc),
+            scalars24: Vec::new(alloc),
+        }
+    }
+
+    /// Takes one more row.
+    fn take(&mut self, alloc: Global, name: &str, rest: &[&str]) -> Result<(), Fault> {
+        match name {
+            "scalars16" => self.scalars16 = all(alloc, rest)?,
+            "scalars24" => self.scalars24 = all(alloc, rest)?,
+            "no" => return self.take_none(alloc, only(rest)?),
+            _ => return Ok(()),
+        }
+        self.is_given = true;
+        Ok(())
+    }
+
+    fn take_none(&mut self, alloc: Global, part: &str) -> Result<(), Fault> {
+        if part == "lists" {
+            *self = Lists::none(alloc);
+        }
+        Ok(())
+    }
+}
+
 /// The lists that rows give of a kind.
-fn lists_of(alloc: Global, rows: &[&str], kind: &str) -> Result<Option<Lists>, Fault> {
-    let mut found = None;
+fn lists_of(alloc: Global, rows: &[&str], kind: &str) -> Result<Lists, Fault> {
+    let mut given = Lists::none(alloc);
+    take_lists(alloc, &mut given, rows, kind)?;
+    Ok(given)
+}
+
+fn take_lists(alloc: Global, given: &mut Lists, rows: &[&str], kind: &str) -> Result<(), Fault> {
     for row in rows {
         if let [name, of, rest @ ..] = words(alloc, row)?.as_slice() {
             if *of == kind {
-                found = next_lists(alloc, found, name, rest)?;
+                given.take(alloc, name, rest)?;
             }
         }
     }
-    Ok(found)
-}
-
-/// The lists after one more row.
-fn next_lists(
-    alloc: Global,
-    found: Option<Lists>,
-    name: &str,
-    rest: &[&str],
-) -> Result<Option<Lists>, Fault> {
-    match name {
-        "scalars16" => Ok(Some(Lists {
-            scalars16: units(alloc, rest)?,
-            scalars24: match found {
-                Some(lists) => lists.scalars24,
-                None => Vec::new(alloc),
-            },
-        })),
-        "scalars24" => Ok(Some(Lists {
-            scalars16: match found {
-                Some(lists) => lists.scalars16,
-                None => Vec::new(alloc),
-            },
-            scalars24: characters(alloc, rest)?,
-        })),
-        "no" if only(rest)? == "lists" => Ok(None),
-        _ => Ok(found),
-    }
+    Ok(())
 }
 
 /// The pairs that rows give.
@@ -186,9 +195,9 @@ fn next_pairs(
     match row {
         [name, characters @ ..] if *name == "pairs" => Ok(Some(pairs(alloc, characters)?)),
         [name, second, first, composite] if *name == "pair" => {
-            let mut all = found.unwrap_or(Vec::new(alloc));
-            all.push((character(second)?, character(first)?, character(composite)?))?;
-            Ok(Some(all))
+            let mut pairs = found.unwrap_or(Vec::new(alloc));
+            pairs.push((character(second)?, character(first)?, character(composite)?))?;
+            Ok(Some(pairs))
         }
         [name, part] if *name == "no" && *part == "pairs" => Ok(None),
         _ => Ok(found),
@@ -197,14 +206,14 @@ fn next_pairs(
 
 /// Pairs, three characters each.
 fn pairs(alloc: Global, characters: &[&str]) -> Result<Vec<Pair>, Fault> {
-    let mut all = Vec::new(alloc);
+    let mut pairs = Vec::new(alloc);
     for three in characters.chunks(3) {
         let [second, first, composite] = three else {
             return Err(Fault::Unreadable);
         };
-        all.push((character(second)?, character(first)?, character(composite)?))?;
+        pairs.push((character(second)?, character(first)?, character(composite)?))?;
     }
-    Ok(all)
+    Ok(pairs)
 }
 
 /// What rows give of words, as data.
@@ -213,12 +222,13 @@ pub fn decomposition_data(
     rows: &[&str],
     kind: &str,
 ) -> Result<Option<DecompositionData>, Fault> {
-    let Some(words) = words_of(alloc, rows, kind)? else {
+    let given = words_of(alloc, rows, kind)?;
+    if !given.is_given {
         return Ok(None);
-    };
+    }
     Ok(Some(DecompositionData {
-        table: CodePointTable::from_ranges(words.ranges, words.past)?,
-        passthrough_cap: words.cap,
+        table: CodePointTable::from_ranges(given.ranges, given.past)?,
+        passthrough_cap: given.cap,
     }))
 }
 
@@ -228,13 +238,14 @@ pub fn decomposition_tables(
     rows: &[&str],
     kind: &str,
 ) -> Result<Option<DecompositionTables>, Fault> {
-    Ok(match lists_of(alloc, rows, kind)? {
-        Some(lists) => Some(DecompositionTables {
-            scalars16: Scalars16::from(lists.scalars16),
-            scalars24: Scalars24::from(lists.scalars24),
-        }),
-        None => None,
-    })
+    let given = lists_of(alloc, rows, kind)?;
+    if !given.is_given {
+        return Ok(None);
+    }
+    Ok(Some(DecompositionTables {
+        scalars16: Scalars16::from(given.scalars16),
+        scalars24: Scalars24::from(given.scalars24),
+    }))
 }
 
 /// What rows give of pairs.
@@ -250,15 +261,14 @@ pub fn supplement(
     alloc: Global,
     rows: &[&str],
 ) -> Result<Option<NonRecursiveDecompositionSupplement>, Fault> {
-    let Some(words) = words_of(alloc, rows, "supplement")? else {
+    let given = words_of(alloc, rows, "supplement")?;
+    if !given.is_given {
         return Ok(None);
-    };
-    let scalars24 = match lists_of(alloc, rows, "supplement")? {
-        Some(lists) => lists.scalars24,
-        None => Vec::new(alloc),
-    };
+    }
+    let table = CodePointTable::from_ranges(given.ranges, given.past)?;
+    let lists = lists_of(alloc, rows, "supplement")?;
     Ok(Some(NonRecursiveDecompositionSupplement {
-        table: CodePointTable::from_ranges(words.ranges, words.past)?,
-        scalars24: Scalars24::from(scalars24),
+        table,
+        scalars24: Scalars24::from(lists.scalars24),
     }))
 }

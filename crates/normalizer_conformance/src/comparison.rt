@@ -26,16 +26,45 @@ impl fmt::Display for Difference<'_> {
 
 /// The rows of a text whose answer is another than the one wanted, or that can't be read.
 pub fn differences(alloc: Global, text: &str) -> Result<Vec<Difference<'_>>, AllocError> {
-    let mut setting = Setting::new(alloc);
     let mut found = Vec::new(alloc);
+    push_differences(alloc, &mut found, text)?;
+    Ok(found)
+}
+
+fn push_differences<'a>(
+    alloc: Global,
+    found: &mut Vec<Difference<'a>>,
+    text: &'a str,
+) -> Result<(), AllocError> {
+    let mut setting = Setting::new(alloc);
+    push_differences_from(alloc, &mut setting, found, text)
+}
+
+fn push_differences_from<'a>(
+    alloc: Global,
+    setting: &mut Setting<'a>,
+    found: &mut Vec<Difference<'a>>,
+    text: &'a str,
+) -> Result<(), AllocError> {
     for (place, line) in text.lines().enumerate() {
         let row = without_comment(line);
-        if let Some(answer) = what_differs(alloc, &mut setting, row)? {
+        if let Some(answer) = what_differs(alloc, setting, row)? {
             let line = place.saturating_add(1);
             found.push(Difference { line, row, answer })?;
         }
     }
-    Ok(found)
+    Ok(())
+}
+
+/// How many rows a text has.
+pub fn row_count(text: &str) -> usize {
+    let mut count = 0usize;
+    for line in text.lines() {
+        if !without_comment(line).is_empty() {
+            count = count.saturating_add(1);
+        }
+    }
+    count
 }
 
 fn without_comment(line: &str) -> &str {
@@ -72,6 +101,10 @@ fn other_answer<'a>(
     }
 }
 
+fn wanted_answer(alloc: Global, wanted: &str) -> Result<String, Fault> {
+    joined(alloc, &words(alloc, wanted)?)
+}
+
 fn taken<'a>(
     alloc: Global,
     setting: &mut Setting<'a>,
@@ -79,8 +112,8 @@ fn taken<'a>(
 ) -> Result<Option<String>, Fault> {
     match row.split_once('=') {
         Some((question, wanted)) => {
+            let wanted = wanted_answer(alloc, wanted)?;
             let answer = answered(alloc, setting, question)?;
-            let wanted = joined(alloc, &words(alloc, wanted)?)?;
             Ok(if answer.as_str() == wanted.as_str() {
                 None
             } else {
@@ -103,10 +136,18 @@ fn answered<'a>(
 ) -> Result<String, Fault> {
     match question.split_once(" with ") {
         Some((question, edits)) => {
-            let edits: Vec<&'a str> = edits.split(" and ").collect(alloc)?;
-            let mut edited = setting.edited(&edits)?;
-            answer(alloc, &mut edited, &words(alloc, question)?)
+            answered_with(alloc, setting, &words(alloc, question)?, edits)
         }
         None => answer(alloc, setting, &words(alloc, question)?),
     }
+}
+
+fn answered_with<'a>(
+    alloc: Global,
+    setting: &Setting<'a>,
+    question: &[&str],
+    edits: &'a str,
+) -> Result<String, Fault> {
+    let mut edited = setting.edited(edits)?;
+    answer(alloc, &mut edited, question)
 }

@@ -21,30 +21,61 @@ pub struct Held {
 }
 
 impl Held {
-    /// What rows give by hand.
-    pub fn by_hand(alloc: Global, rows: &[&str]) -> Result<Held, Fault> {
-        Ok(Held {
-            canonical: decomposition_data(alloc, rows, "nfd")?,
-            compatibility: decomposition_data(alloc, rows, "nfkd")?,
-            mapper: decomposition_data(alloc, rows, "uts46")?,
-            tables: decomposition_tables(alloc, rows, "nfd")?,
-            supplementary: decomposition_tables(alloc, rows, "nfkd")?,
-            pairs: compositions(alloc, rows)?,
-            supplement: supplement(alloc, rows)?,
-        })
+    /// No part.
+    pub fn nothing() -> Held {
+        Held {
+            canonical: None,
+            compatibility: None,
+            mapper: None,
+            tables: None,
+            supplementary: None,
+            pairs: None,
+            supplement: None,
+        }
     }
 
-    /// All that was built.
-    pub fn of_built(built: &Built) -> Result<Held, Fault> {
-        Ok(Held {
-            canonical: Some(<Built as DataProvider<NormalizerNfdDataV1>>::load(built)?),
-            compatibility: Some(<Built as DataProvider<NormalizerNfkdDataV1>>::load(built)?),
-            mapper: Some(<Built as DataProvider<NormalizerUts46DataV1>>::load(built)?),
-            tables: Some(<Built as DataProvider<NormalizerNfdTablesV1>>::load(built)?),
-            supplementary: Some(<Built as DataProvider<NormalizerNfkdTablesV1>>::load(built)?),
-            pairs: Some(<Built as DataProvider<NormalizerNfcV1>>::load(built)?),
-            supplement: Some(<Built as DataProvider<NormalizerNfdSupplementV1>>::load(built)?),
-        })
+    /// Takes what rows give by hand.
+    pub fn take_rows(&mut self, alloc: Global, rows: &[&str]) -> Result<(), Fault> {
+        self.take_words(alloc, rows)?;
+        self.take_lists(alloc, rows)?;
+        self.pairs = compositions(alloc, rows)?;
+        self.supplement = supplement(alloc, rows)?;
+        Ok(())
+    }
+
+    fn take_words(&mut self, alloc: Global, rows: &[&str]) -> Result<(), Fault> {
+        self.canonical = decomposition_data(alloc, rows, "nfd")?;
+        self.compatibility = decomposition_data(alloc, rows, "nfkd")?;
+        self.mapper = decomposition_data(alloc, rows, "uts46")?;
+        Ok(())
+    }
+
+    fn take_lists(&mut self, alloc: Global, rows: &[&str]) -> Result<(), Fault> {
+        self.tables = decomposition_tables(alloc, rows, "nfd")?;
+        self.supplementary = decomposition_tables(alloc, rows, "nfkd")?;
+        Ok(())
+    }
+
+    /// Takes all that was built.
+    pub fn take_built(&mut self, built: &Built) -> Result<(), Fault> {
+        self.take_built_words(built)?;
+        self.take_built_lists(built)?;
+        self.pairs = Some(<Built as DataProvider<NormalizerNfcV1>>::load(built)?);
+        self.supplement = Some(<Built as DataProvider<NormalizerNfdSupplementV1>>::load(built)?);
+        Ok(())
+    }
+
+    fn take_built_words(&mut self, built: &Built) -> Result<(), Fault> {
+        self.canonical = Some(<Built as DataProvider<NormalizerNfdDataV1>>::load(built)?);
+        self.compatibility = Some(<Built as DataProvider<NormalizerNfkdDataV1>>::load(built)?);
+        self.mapper = Some(<Built as DataProvider<NormalizerUts46DataV1>>::load(built)?);
+        Ok(())
+    }
+
+    fn take_built_lists(&mut self, built: &Built) -> Result<(), Fault> {
+        self.tables = Some(<Built as DataProvider<NormalizerNfdTablesV1>>::load(built)?);
+        self.supplementary = Some(<Built as DataProvider<NormalizerNfkdTablesV1>>::load(built)?);
+        Ok(())
     }
 }
 

@@ -1,6 +1,6 @@
 //! Inputs as rows write them: characters `0061 0308`, or `bytes 61 CC 88`, or `units 0061 0308`.
 use crate::fault::Fault;
-use crate::words::{bytes, character, units};
+use crate::words::{all, character};
 use std::alloc::{AllocError, Global};
 
 /// An input in one of the three encodings.
@@ -16,10 +16,10 @@ impl Input {
     pub fn read(alloc: Global, words: &[&str]) -> Result<Input, Fault> {
         match words {
             [encoding, input @ ..] if *encoding == "bytes" => {
-                Ok(Input::Bytes(bytes(alloc, input)?))
+                Ok(Input::Bytes(all(alloc, input)?))
             }
             [encoding, input @ ..] if *encoding == "units" => {
-                Ok(Input::Units(units(alloc, input)?))
+                Ok(Input::Units(all(alloc, input)?))
             }
             characters => Ok(Input::Text(text(alloc, characters)?)),
         }

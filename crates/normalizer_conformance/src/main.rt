@@ -1,6 +1,6 @@
 //! Compares what the library answers with rows of data. The arguments name files; each row says what is asked, the input
-//! and the answer wanted, as `nfc 0061 0308 = 00E4`, and the rows whose answer is another are written. A row without `=`
-//! gives what later questions are asked of (`setting`); `questions` has the words of the others.
+//! and the answer wanted, as `nfc 0061 0308 = 00E4`. The rows whose answer is another are written, and how many rows each
+//! file has. A row without `=` gives what later questions are asked of (`setting`); `questions` has the words of the others.
 #![tactic(auto)]
 
 mod by_hand;
@@ -16,7 +16,7 @@ mod setting;
 mod spelling;
 mod words;
 
-pub use comparison::{Difference, differences};
+pub use comparison::{Difference, differences, row_count};
 use std::alloc::Global;
 use std::process::ExitCode;
 use std::{env, fs, io};
@@ -38,10 +38,12 @@ fn compared(rt: &HostRuntime) -> io::Result<usize> {
     Ok(count)
 }
 
-/// Writes the rows of a file that differ, and answers how many.
+/// Writes how many rows a file has and those that differ, and returns how many differ.
 fn compared_file(rt: &HostRuntime, alloc: Global, file: &str) -> io::Result<usize> {
     let text = fs::read_to_string(rt, file)?;
     let found = differences(alloc, text.as_str())?;
+    let count = row_count(text.as_str());
+    println!(rt; "{file}: {count} rows")?;
     for difference in &found {
         println!(rt; "{file}:{difference}")?;
     }

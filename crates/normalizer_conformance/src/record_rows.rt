@@ -2,7 +2,7 @@
 //! `mapped 03B9`, `ignored`, `disallowed`.
 use crate::fault::Fault;
 use crate::spelling::spelled_all;
-use crate::words::{character, characters, decimal, hexadecimal};
+use crate::words::{all, character, decimal, hexadecimal};
 use icu_normalizer::{Record, Uts46Record, Uts46Status};
 use std::alloc::Global;
 
@@ -60,7 +60,7 @@ fn record(
     Ok(Record {
         c,
         class,
-        mapping: characters(alloc, mapping)?,
+        mapping: all(alloc, mapping)?,
         compatibility: matches!(kind, Some(Kind::Compatibility)),
         excluded: matches!(kind, Some(Kind::Excluded)),
     })
@@ -127,7 +127,7 @@ pub fn mapper_record_of(alloc: Global, c: char, words: &[&str]) -> Result<Uts46R
         return Err(Fault::Unreadable);
     };
     let status = match *name {
-        "mapped" => Uts46Status::Mapped(characters(alloc, mapping)?),
+        "mapped" => Uts46Status::Mapped(all(alloc, mapping)?),
         "ignored" => Uts46Status::Ignored,
         "disallowed" => Uts46Status::Disallowed,
         _ => return Err(Fault::Unreadable),

@@ -25,7 +25,8 @@ pub struct Setting<'a> {
     mapper: Vec<Uts46Record>,
     rows: Vec<&'a str>,
     source: Source,
-    held: Option<Held>,
+    held: Held,
+    is_held: bool,
     normalizer: Option<(NormalForm, Normalizer)>,
 }
 
@@ -38,44 +39,49 @@ impl<'a> Setting<'a> {
             mapper: Vec::new(alloc),
             rows: Vec::new(alloc),
             source: Source::Records,
-            held: None,
+            held: Held::nothing(),
+            is_held: false,
             normalizer: None,
         }
     }
 
     /// The setting for one question: data by hand with further rows.
-    pub fn edited(&self, edits: &[&'a str]) -> Result<Setting<'a>, Fault> {
+    pub fn edited(&self, edits: &'a str) -> Result<Setting<'a>, Fault> {
+        let rows = self.edited_rows(edits)?;
+        Ok(Setting {
+            alloc: self.alloc,
+            records: Vec::new(self.alloc),
+            mapper: Vec::new(self.alloc),
+            rows,
+            source: Source::ByHand,
+            held: Held::nothing(),
+            is_held: false,
+            normalizer: None,
+        })
+    }
+
+    fn edited_rows(&self, edits: &'a str) -> Result<Vec<&'a str>, Fault> {
         let mut rows = self.rows.to_vec(self.alloc)?;
-        for edit in edits {
+        for edit in edits.split(" and ") {
             if !gives_data(&words(self.alloc, edit)?) {
                 return Err(Fault::Unreadable);
             }
-            rows.push(*edit)?;
+            rows.push(edit)?;
         }
-        let mut setting = Setting::new(self.alloc);
-        setting.rows = rows;
-        setting.source = Source::ByHand;
-        Ok(setting)
+        Ok(rows)
     }
 
     /// Takes a row that gives something: a record, records, or a part of data by hand.
     pub fn give(&mut self, row: &'a str) -> Result<(), Fault> {
-        self.held = None;
+        self.is_held = false;
         self.normalizer = None;
-        let words = words(self.alloc, row)?;
-        match words.as_slice() {
-            [name, first, rest @ ..] if *name == "record" => {
-                self.source = Source::Records;
-                let record = record_of(self.alloc, character(first)?, rest)?;
-                self.records.push(record)?;
-                Ok(())
-            }
-            [name, first, rest @ ..] if *name == "mapper" => {
-                self.source = Source::Records;
-                let record = mapper_record_of(self.alloc, character(first)?, rest)?;
-                self.mapper.push(record)?;
-                Ok(())
-            }
+        self.take(row, &words(self.alloc, row)?)
+    }
+
+    fn take(&mut self, row: &'a str, words: &[&str]) -> Result<(), Fault> {
+        match words {
+            [name, first, rest @ ..] if *name == "record" => self.take_record(first, rest),
+            [name, first, rest @ ..] if *name == "mapper" => self.take_mapper_record(first, rest),
             [name, set] if *name == "records" => self.take_set(set),
             [name, range, rest @ ..] if *name == "records" => {
                 self.source = Source::Records;
@@ -93,6 +99,20 @@ impl<'a> Setting<'a> {
             }
             _ => Err(Fault::Unreadable),
         }
+    }
+
+    fn take_record(&mut self, c: &str, words: &[&str]) -> Result<(), Fault> {
+        self.source = Source::Records;
+        self.records
+            .push(record_of(self.alloc, character(c)?, words)?)?;
+        Ok(())
+    }
+
+    fn take_mapper_record(&mut self, c: &str, words: &[&str]) -> Result<(), Fault> {
+        self.source = Source::Records;
+        self.mapper
+            .push(mapper_record_of(self.alloc, character(c)?, words)?)?;
+        Ok(())
     }
 
     /// Takes the records of a set in the place of all before.
@@ -126,11 +146,12 @@ impl<'a> Setting<'a> {
         Records::build(self.alloc, &self.records, &self.mapper).err()
     }
 
-    fn made(&self) -> Result<Held, Fault> {
+    /// Makes the data.
+    fn make(&mut self) -> Result<(), Fault> {
         match self.source {
-            Source::ByHand => Held::by_hand(self.alloc, &self.rows),
+            Source::ByHand => self.held.take_rows(self.alloc, &self.rows),
             Source::Records => match Records::build(self.alloc, &self.records, &self.mapper) {
-                Ok(built) => Held::of_built(&built),
+                Ok(built) => self.held.take_built(&built),
                 Err(_) => Err(Fault::Unreadable),
             },
         }
@@ -138,18 +159,20 @@ impl<'a> Setting<'a> {
 
     /// The data, which are made once.
     pub fn held(&mut self) -> Result<&Held, Fault> {
-        Ok(self.held_and_records()?.0)
+        if !self.is_held {
+            self.make()?;
+            self.is_held = true;
+        }
+        Ok(&self.held)
     }
 
     /// The data, and the records.
     pub fn held_and_records(&mut self) -> Result<(&Held, &[Record]), Fault> {
-        if self.held.is_none() {
-            self.held = Some(self.made()?);
+        if !self.is_held {
+            self.make()?;
+            self.is_held = true;
         }
-        match &self.held {
-            Some(held) => Ok((held, &self.records)),
-            None => Err(Fault::Unreadable),
-        }
+        Ok((&self.held, &self.records))
     }
 
     /// The normalizer to a form, which is made once while the form is the same.

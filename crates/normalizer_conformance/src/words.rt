@@ -1,6 +1,4 @@
 //! Words of a row, and the characters, bytes and numbers that they say.
-ghost use Rattle.std.specs.Prelude.{◌≤◌};
-
 use crate::fault::Fault;
 use std::alloc::Global;
 
@@ -28,15 +26,10 @@ fn push_times<'a>(words: &mut Vec<&'a str>, count: u32, pieces: &'a str) -> Resu
 }
 
 fn push_pieces<'a>(words: &mut Vec<&'a str>, pieces: &'a str) -> Result<(), Fault> {
-    match pieces.split_once(',') {
-        Some((first, second)) => push_both(words, first, second),
-        None => Ok(words.push(pieces)?),
+    for piece in pieces.split(',') {
+        words.push(piece)?;
     }
-}
-
-fn push_both<'a>(words: &mut Vec<&'a str>, first: &'a str, second: &'a str) -> Result<(), Fault> {
-    words.push(first)?;
-    Ok(words.push(second)?)
+    Ok(())
 }
 
 /// The words with a space between each two.
@@ -56,70 +49,55 @@ pub fn push_word(text: &mut String, word: &str) -> Result<(), Fault> {
     Ok(())
 }
 
-/// The number that digits of a radix say.
-fn number(digits: &str, radix: u32) -> Option<u32>
-    requires least { 2 ≤ radix }
-    requires most { radix ≤ 36 }
-{
-    if digits.is_empty() {
-        return None;
-    }
-    let mut number = 0u32;
-    for digit in digits.chars() {
-        number = number
-            .checked_mul(radix)?
-            .checked_add(digit.to_digit(radix)?)?;
-    }
-    Some(number)
-}
-
 /// The number of decimal digits.
 pub fn decimal(digits: &str) -> Result<u32, Fault> {
-    number(digits, 10).ok_or(Fault::Unreadable)
+    u32::from_str_radix(digits, 10)
+        .ok()
+        .ok_or(Fault::Unreadable)
 }
 
 /// The number of hexadecimal digits.
 pub fn hexadecimal(digits: &str) -> Result<u32, Fault> {
-    number(digits, 16).ok_or(Fault::Unreadable)
+    u32::from_str_radix(digits, 16)
+        .ok()
+        .ok_or(Fault::Unreadable)
+}
+
+/// What a word says by hexadecimal digits.
+pub trait Read: Copy + Drop {
+    fn read(digits: &str) -> Result<Self, Fault>;
+}
+
+impl Read for char {
+    fn read(digits: &str) -> Result<char, Fault> {
+        char::from_u32(hexadecimal(digits)?).ok_or(Fault::Unreadable)
+    }
+}
+
+impl Read for u8 {
+    fn read(digits: &str) -> Result<u8, Fault> {
+        u8::from_str_radix(digits, 16).ok().ok_or(Fault::Unreadable)
+    }
+}
+
+impl Read for u16 {
+    fn read(digits: &str) -> Result<u16, Fault> {
+        u16::from_str_radix(digits, 16)
+            .ok()
+            .ok_or(Fault::Unreadable)
+    }
 }
 
 /// The character of a number in hexadecimal digits.
 pub fn character(digits: &str) -> Result<char, Fault> {
-    char::from_u32(hexadecimal(digits)?).ok_or(Fault::Unreadable)
+    char::read(digits)
 }
 
-pub fn characters(alloc: Global, words: &[&str]) -> Result<Vec<char>, Fault> {
+/// The characters, bytes or units that words say.
+pub fn all<T: Read>(alloc: Global, words: &[&str]) -> Result<Vec<T>, Fault> {
     let mut all = Vec::new(alloc);
     for word in words {
-        all.push(character(word)?)?;
-    }
-    Ok(all)
-}
-
-fn byte(digits: &str) -> Result<u8, Fault> {
-    u8::try_from(hexadecimal(digits)?)
-        .ok()
-        .ok_or(Fault::Unreadable)
-}
-
-pub fn bytes(alloc: Global, words: &[&str]) -> Result<Vec<u8>, Fault> {
-    let mut all = Vec::new(alloc);
-    for word in words {
-        all.push(byte(word)?)?;
-    }
-    Ok(all)
-}
-
-pub fn unit(digits: &str) -> Result<u16, Fault> {
-    u16::try_from(hexadecimal(digits)?)
-        .ok()
-        .ok_or(Fault::Unreadable)
-}
-
-pub fn units(alloc: Global, words: &[&str]) -> Result<Vec<u16>, Fault> {
-    let mut all = Vec::new(alloc);
-    for word in words {
-        all.push(unit(word)?)?;
+        all.push(T::read(word)?)?;
     }
     Ok(all)
 }

@@ -1,4 +1,5 @@
 //! What the calls are asked of: records, data built of them, and normalizers over the data.
+use crate::made::Forms;
 use icu_normalizer::uts46::Uts46Mapper;
 use icu_normalizer::{
     Built, ComposingNormalizer, DecomposingNormalizer, Record, Records, Uts46Record,
@@ -26,21 +27,41 @@ impl Rows {
     }
 }
 
-/// A normalizer of each form, and the mapper.
+/// A normalizer of each kind, and the mapper.
 #[derive(Drop)]
 pub(crate) struct Normalizers {
-    pub nfd: DecomposingNormalizer,
-    pub nfc: ComposingNormalizer,
+    pub decomposing: DecomposingNormalizer,
+    pub composing: ComposingNormalizer,
     pub mapper: Uts46Mapper,
 }
 
 impl Normalizers {
-    pub fn new(alloc: Global) -> Option<Self> {
+    /// The normalizers of the canonical forms, or of the compatibility forms.
+    pub fn new(alloc: Global, forms: Forms) -> Option<Self> {
         let data = Rows::new(alloc)?.built(alloc)?;
-        Some(Normalizers {
-            nfd: DecomposingNormalizer::try_new_nfd_unstable(&data).ok()?,
-            nfc: ComposingNormalizer::try_new_nfc_unstable(&data).ok()?,
-            mapper: Uts46Mapper::try_new(&data).ok()?,
-        })
+        normalizers_of(&data, forms)
     }
+}
+
+fn normalizers_of(data: &Built, forms: Forms) -> Option<Normalizers> {
+    match forms {
+        Forms::Canonical => canonical_normalizers(data),
+        Forms::Compatibility => compatibility_normalizers(data),
+    }
+}
+
+fn canonical_normalizers(data: &Built) -> Option<Normalizers> {
+    Some(Normalizers {
+        decomposing: DecomposingNormalizer::try_new_nfd_unstable(data).ok()?,
+        composing: ComposingNormalizer::try_new_nfc_unstable(data).ok()?,
+        mapper: Uts46Mapper::try_new(data).ok()?,
+    })
+}
+
+fn compatibility_normalizers(data: &Built) -> Option<Normalizers> {
+    Some(Normalizers {
+        decomposing: DecomposingNormalizer::try_new_nfkd_unstable(data).ok()?,
+        composing: ComposingNormalizer::try_new_nfkc_unstable(data).ok()?,
+        mapper: Uts46Mapper::try_new(data).ok()?,
+    })
 }

@@ -7,8 +7,12 @@ pub enum Call {
     Pairs,
     CopyOfTable,
     CopyOfPairs,
+    CopyOfWords,
+    CopyOfLists,
+    CopyOfSupplement,
     Build,
     Constructor(Constructor),
+    ItemsByTestedData,
     DecomposedItems,
     DecomposedItemsOfMarks,
     DecomposedItemsOfShortRuns,
@@ -24,9 +28,31 @@ pub enum Call {
     WrittenText,
     WrittenBytes,
     WrittenUnits,
-    Check,
-    Split,
-    Offence,
+    DecomposingCheck,
+    ComposingCheck,
+    DecomposingSplit,
+    ComposingSplit,
+    DecomposingOffence,
+    ComposingOffence,
+}
+
+impl Call {
+    /// Whether it is a call of the normalizers, which are of canonical or of compatibility forms.
+    pub fn is_of_normalizers(self) -> bool {
+        !matches!(
+            self,
+            Call::Table
+                | Call::Pairs
+                | Call::CopyOfTable
+                | Call::CopyOfPairs
+                | Call::CopyOfWords
+                | Call::CopyOfLists
+                | Call::CopyOfSupplement
+                | Call::Build
+                | Call::Constructor(_)
+                | Call::ItemsByTestedData
+        )
+    }
 }
 
 /// What loads data of a provider and checks them.
@@ -43,11 +69,14 @@ pub enum Constructor {
 }
 
 /// All calls, each with its name.
-pub const CALLS: [(&str, Call); 31] = [
+pub const CALLS: [(&str, Call); 38] = [
     ("table", Call::Table),
     ("pairs", Call::Pairs),
     ("copy-of-table", Call::CopyOfTable),
     ("copy-of-pairs", Call::CopyOfPairs),
+    ("copy-of-words", Call::CopyOfWords),
+    ("copy-of-lists", Call::CopyOfLists),
+    ("copy-of-supplement", Call::CopyOfSupplement),
     ("build", Call::Build),
     ("nfd", Call::Constructor(Constructor::Nfd)),
     ("nfkd", Call::Constructor(Constructor::Nfkd)),
@@ -60,6 +89,7 @@ pub const CALLS: [(&str, Call); 31] = [
     ),
     ("class", Call::Constructor(Constructor::CombiningClass)),
     ("mapper", Call::Constructor(Constructor::Mapper)),
+    ("items-by-tested-data", Call::ItemsByTestedData),
     ("decomposed-items", Call::DecomposedItems),
     ("decomposed-items-of-marks", Call::DecomposedItemsOfMarks),
     (
@@ -81,7 +111,10 @@ pub const CALLS: [(&str, Call); 31] = [
     ("written-text", Call::WrittenText),
     ("written-bytes", Call::WrittenBytes),
     ("written-units", Call::WrittenUnits),
-    ("check", Call::Check),
-    ("split", Call::Split),
-    ("offence", Call::Offence),
+    ("decomposing-check", Call::DecomposingCheck),
+    ("composing-check", Call::ComposingCheck),
+    ("decomposing-split", Call::DecomposingSplit),
+    ("composing-split", Call::ComposingSplit),
+    ("decomposing-offence", Call::DecomposingOffence),
+    ("composing-offence", Call::ComposingOffence),
 ];

@@ -25,13 +25,20 @@ pub(crate) const LONG_NFC_UNITS: [u16; 19] = [
     0x308, 0x308, 0x308, 0x308, 0x308, 0x308,
 ];
 
+/// A letter and eighteen times one mark.
+pub(crate) const MARKED: &str =
+    "a\u{308}\u{308}\u{308}\u{308}\u{308}\u{308}\u{308}\u{308}\u{308}\u{308}\u{308}\u{308}\u{308}\u{308}\u{308}\u{308}\u{308}\u{308}";
+
+pub(crate) const MARKED_NFC: &str =
+    "\u{E4}\u{308}\u{308}\u{308}\u{308}\u{308}\u{308}\u{308}\u{308}\u{308}\u{308}\u{308}\u{308}\u{308}\u{308}\u{308}\u{308}\u{308}";
+
 /// Eighteen marks and a letter: the marks are read when an iterator is made.
 pub(crate) const MARKS: &str =
     "\u{308}\u{308}\u{308}\u{308}\u{308}\u{308}\u{308}\u{308}\u{308}\u{308}\u{308}\u{308}\u{308}\u{308}\u{308}\u{308}\u{308}\u{308}a";
 
-/// A letter and seventeen marks.
+/// A letter and seventeen times one mark.
 pub(crate) const SHORT: &str =
-    "a\u{323}\u{308}\u{308}\u{308}\u{308}\u{308}\u{308}\u{308}\u{308}\u{308}\u{308}\u{308}\u{308}\u{308}\u{308}\u{308}\u{308}";
+    "a\u{308}\u{308}\u{308}\u{308}\u{308}\u{308}\u{308}\u{308}\u{308}\u{308}\u{308}\u{308}\u{308}\u{308}\u{308}\u{308}\u{308}";
 
 pub(crate) const SHORT_NFC: &str =
-    "\u{E4}\u{323}\u{308}\u{308}\u{308}\u{308}\u{308}\u{308}\u{308}\u{308}\u{308}\u{308}\u{308}\u{308}\u{308}\u{308}\u{308}";
+    "\u{E4}\u{308}\u{308}\u{308}\u{308}\u{308}\u{308}\u{308}\u{308}\u{308}\u{308}\u{308}\u{308}\u{308}\u{308}\u{308}\u{308}";

@@ -1,60 +1,95 @@
 //! Iterators whose items are asked one by one. A refused growth is answered once: where an iterator is made, and none
-//! is then, or in the place of its first item, with nothing behind it.
+//! is then, or in the place of its first item, with
+//! nothing after it however often it is asked.
 ghost use Rattle.std.specs.Prelude.{IfOk};
 ghost use Rattle.std.specs.Iterator.{IsFinite};
 
 use crate::answer::{Answer, Fault};
 use crate::built::Normalizers;
-use crate::handed_in::{LONG, LONG_NFC, LONG_NFD, MARKS, SHORT, SHORT_NFC};
-use icu_normalizer::NormalizeError;
+use crate::handed_in::{MARKED, MARKED_NFC, MARKS, SHORT, SHORT_NFC};
+use icu_normalizer::{
+    Decomposition, DecompositionData, DecompositionTables, NormalizeError, check_nfd_data,
+};
 use std::str::Chars;
+
+/// The answer of an iterator that is to be made, and whose items want memory: nothing comes after a fault, however often it
+/// is asked.
+macro_rules! wanted_once {
+    ($made:expr, $wanted:expr) => {
+        match $made {
+            Ok(mut items) => match items.next() {
+                Some(Err(fault)) => {
+                    if items.next().is_none() && items.next().is_none() && items.next().is_none() {
+                        fault.answer()
+                    } else {
+                        Answer::Wrong
+                    }
+                }
+                Some(Ok(first)) => {
+                    let mut wanted = $wanted.chars();
+                    Answer::of(wanted.next() == Some(first) && are(items, wanted))
+                }
+                None => Answer::Wrong,
+            },
+            Err(_) => Answer::Wrong,
+        }
+    };
+}
 
 impl Normalizers {
     pub fn decomposed_items(&self) -> Answer {
-        wanted_by_items(
-            self.nfd.as_borrowed().normalize_iter(LONG.chars()),
-            LONG_NFD,
-        )
+        let normalizer = self.decomposing.as_borrowed();
+        wanted_once!(normalizer.normalize_iter(MARKED.chars()), MARKED)
     }
 
     pub fn decomposed_items_of_marks(&self) -> Answer {
-        wanted_when_made(self.nfd.as_borrowed().normalize_iter(MARKS.chars()), MARKS)
+        let normalizer = self.decomposing.as_borrowed();
+        wanted_when_made(normalizer.normalize_iter(MARKS.chars()), MARKS)
     }
 
     pub fn decomposed_items_of_short_runs(&self) -> Answer {
-        wanted_by_items(self.nfd.as_borrowed().normalize_iter(SHORT.chars()), SHORT)
+        let normalizer = self.decomposing.as_borrowed();
+        wanted_by_items(normalizer.normalize_iter(SHORT.chars()), SHORT)
     }
 
     pub fn composed_items(&self) -> Answer {
-        wanted_by_items(
-            self.nfc.as_borrowed().normalize_iter(LONG.chars()),
-            LONG_NFC,
-        )
+        let normalizer = self.composing.as_borrowed();
+        wanted_once!(normalizer.normalize_iter(MARKED.chars()), MARKED_NFC)
     }
 
     pub fn composed_items_of_marks(&self) -> Answer {
-        wanted_when_made(self.nfc.as_borrowed().normalize_iter(MARKS.chars()), MARKS)
+        let normalizer = self.composing.as_borrowed();
+        wanted_when_made(normalizer.normalize_iter(MARKS.chars()), MARKS)
     }
 
     pub fn composed_items_of_short_runs(&self) -> Answer {
-        wanted_by_items(
-            self.nfc.as_borrowed().normalize_iter(SHORT.chars()),
-            SHORT_NFC,
-        )
+        let normalizer = self.composing.as_borrowed();
+        wanted_by_items(normalizer.normalize_iter(SHORT.chars()), SHORT_NFC)
     }
 
     pub fn mapped_items(&self) -> Answer {
         wanted_by_items(
-            self.mapper.as_borrowed().map_normalize(LONG.chars()),
-            LONG_NFC,
+            self.mapper.as_borrowed().map_normalize(MARKED.chars()),
+            MARKED_NFC,
         )
     }
 
     pub fn validated_items(&self) -> Answer {
         wanted_by_items(
-            self.mapper.as_borrowed().normalize_validate(LONG.chars()),
-            LONG_NFC,
+            self.mapper.as_borrowed().normalize_validate(MARKED.chars()),
+            MARKED_NFC,
         )
+    }
+}
+
+/// The items over data that the caller tested.
+pub(crate) fn items_by_tested_data<'a>(
+    words: &'a DecompositionData,
+    tables: &'a DecompositionTables,
+) -> Answer {
+    match check_nfd_data(words, tables) {
+        Ok(()) => wanted_once!(Decomposition::new(MARKED.chars(), words, tables), MARKED),
+        Err(_) => Answer::NotMade,
     }
 }
 

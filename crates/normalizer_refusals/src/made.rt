@@ -2,13 +2,15 @@
 use crate::answer::{Answer, Fault};
 use crate::built::{Normalizers, Rows};
 use crate::call::{Call, Constructor};
+use crate::items::items_by_tested_data;
 use icu_normalizer::properties::{
     CanonicalCombiningClassMap, CanonicalComposition, CanonicalDecomposition,
 };
 use icu_normalizer::uts46::Uts46Mapper;
 use icu_normalizer::{
-    Built, CanonicalCompositions, CodePointTable, ComposingNormalizer, DataError,
-    DecomposingNormalizer, Records, TableError,
+    Built, CanonicalCompositions, CodePointTable, ComposingNormalizer, DataError, DataProvider,
+    DecomposingNormalizer, NormalizerNfdDataV1, NormalizerNfdSupplementV1, NormalizerNfdTablesV1,
+    Records, TableError,
 };
 use std::alloc::Global;
 
@@ -19,15 +21,24 @@ pub enum Stage {
     Call,
 }
 
+/// The forms whose normalizers are asked.
+#[derive(Clone, Copy, Debug, PartialEq, Eq)]
+pub enum Forms {
+    Canonical,
+    Compatibility,
+}
+
 /// Makes a call, and says its answer. One that was refused is made once more, and is to be right then.
-pub fn answer(alloc: Global, call: Call, stage: Stage) -> Answer {
+pub fn answer(alloc: Global, call: Call, forms: Forms, stage: Stage) -> Answer {
     let made = match call {
         Call::Table | Call::Pairs | Call::CopyOfTable | Call::CopyOfPairs => of_tables(
             alloc, call, stage,
         ),
+        Call::CopyOfWords | Call::CopyOfLists | Call::CopyOfSupplement | Call::ItemsByTestedData =>
+            of_parts(alloc, call, stage),
         Call::Build => of_records(alloc, stage),
         Call::Constructor(constructor) => of_data(alloc, constructor, stage),
-        _ => of_normalizers(alloc, call, stage),
+        _ => of_normalizers(alloc, call, forms, stage),
     };
     made.unwrap_or(Answer::NotMade)
 }
@@ -97,6 +108,56 @@ fn of_tables(alloc: Global, call: Call, stage: Stage) -> Option<Answer> {
     Some(asked_again(made(), made()))
 }
 
+/// The calls on parts of data that were built.
+fn of_parts(alloc: Global, call: Call, stage: Stage) -> Option<Answer> {
+    let data = Rows::new(alloc)?.built(alloc)?;
+    match call {
+        Call::CopyOfWords => of_words(&data, stage),
+        Call::CopyOfLists => of_lists(&data, stage),
+        Call::CopyOfSupplement => of_supplement(&data, stage),
+        _ => of_tested_data(&data, stage),
+    }
+}
+
+fn of_words(data: &Built, stage: Stage) -> Option<Answer> {
+    let words = <Built as DataProvider<NormalizerNfdDataV1>>::load(data).ok()?;
+    if stage == Stage::Before {
+        return Some(Answer::Right);
+    }
+    let made = || told(words.clone().map(|copy| copy == words));
+    Some(asked_again(made(), made()))
+}
+
+fn of_lists(data: &Built, stage: Stage) -> Option<Answer> {
+    let lists = <Built as DataProvider<NormalizerNfdTablesV1>>::load(data).ok()?;
+    if stage == Stage::Before {
+        return Some(Answer::Right);
+    }
+    let made = || told(lists.clone().map(|copy| copy == lists));
+    Some(asked_again(made(), made()))
+}
+
+fn of_supplement(data: &Built, stage: Stage) -> Option<Answer> {
+    let supplement = <Built as DataProvider<NormalizerNfdSupplementV1>>::load(data).ok()?;
+    if stage == Stage::Before {
+        return Some(Answer::Right);
+    }
+    let made = || told(supplement.clone().map(|copy| copy == supplement));
+    Some(asked_again(made(), made()))
+}
+
+fn of_tested_data(data: &Built, stage: Stage) -> Option<Answer> {
+    let words = <Built as DataProvider<NormalizerNfdDataV1>>::load(data).ok()?;
+    let lists = <Built as DataProvider<NormalizerNfdTablesV1>>::load(data).ok()?;
+    if stage == Stage::Before {
+        return Some(Answer::Right);
+    }
+    Some(asked_again(
+        items_by_tested_data(&words, &lists),
+        items_by_tested_data(&words, &lists),
+    ))
+}
+
 fn of_records(alloc: Global, stage: Stage) -> Option<Answer> {
     let rows = Rows::new(alloc)?;
     if stage == Stage::Before {
@@ -108,13 +169,17 @@ fn of_records(alloc: Global, stage: Stage) -> Option<Answer> {
 
 fn of_data(alloc: Global, constructor: Constructor, stage: Stage) -> Option<Answer> {
     let data = Rows::new(alloc)?.built(alloc)?;
-    if stage == Stage::Before {
-        return Some(Answer::Right);
+    Some(constructed_at(&data, constructor, stage))
+}
+
+fn constructed_at(data: &Built, constructor: Constructor, stage: Stage) -> Answer {
+    match stage {
+        Stage::Before => Answer::Right,
+        Stage::Call => asked_again(
+            constructed(data, constructor),
+            constructed(data, constructor),
+        ),
     }
-    Some(asked_again(
-        constructed(&data, constructor),
-        constructed(&data, constructor),
-    ))
 }
 
 fn constructed(data: &Built, constructor: Constructor) -> Answer {
@@ -137,18 +202,19 @@ fn made<T: Drop>(given: Result<T, DataError>) -> Answer {
     }
 }
 
-fn of_normalizers(alloc: Global, call: Call, stage: Stage) -> Option<Answer> {
-    let normalizers = Normalizers::new(alloc)?;
-    if stage == Stage::Before {
-        return Some(Answer::Right);
-    }
-    Some(asked_again(
-        normalizers.answer(alloc, call),
-        normalizers.answer(alloc, call),
-    ))
+fn of_normalizers(alloc: Global, call: Call, forms: Forms, stage: Stage) -> Option<Answer> {
+    let normalizers = Normalizers::new(alloc, forms)?;
+    Some(normalizers.answer_at(alloc, call, stage))
 }
 
 impl Normalizers {
+    fn answer_at(&self, alloc: Global, call: Call, stage: Stage) -> Answer {
+        match stage {
+            Stage::Before => Answer::Right,
+            Stage::Call => asked_again(self.answer(alloc, call), self.answer(alloc, call)),
+        }
+    }
+
     fn answer(&self, alloc: Global, call: Call) -> Answer {
         match call {
             Call::DecomposedItems => self.decomposed_items(),
@@ -166,9 +232,12 @@ impl Normalizers {
             Call::WrittenText => self.written_text(alloc),
             Call::WrittenBytes => self.written_bytes(alloc),
             Call::WrittenUnits => self.written_units(alloc),
-            Call::Check => self.check(),
-            Call::Split => self.split(),
-            Call::Offence => self.offence(),
+            Call::DecomposingCheck => self.decomposing_check(),
+            Call::ComposingCheck => self.composing_check(),
+            Call::DecomposingSplit => self.decomposing_split(),
+            Call::ComposingSplit => self.composing_split(),
+            Call::DecomposingOffence => self.decomposing_offence(),
+            Call::ComposingOffence => self.composing_offence(),
             _ => Answer::NotMade,
         }
     }

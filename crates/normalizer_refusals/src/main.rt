@@ -1,6 +1,7 @@
 //! Makes the calls that may want memory, so that a script can refuse each growth of each call in turn. Without arguments
 //! every call is made, its name and answer are written, and the status is 0 where all are right. `NAME call` makes one
-//! call and says its answer by the status, `NAME before` only what comes before it.
+//! call and says its answer by the status, `NAME before` only what comes before it. Calls of normalizers are made of those of
+//! the canonical forms, and after `compatibility-` of those of the compatibility forms.
 #![tactic(auto)]
 
 mod answer;
@@ -14,7 +15,8 @@ mod written;
 
 pub use answer::Answer;
 pub use call::{CALLS, Call};
-pub use made::{Stage, answer};
+pub use made::{Forms, Stage, answer};
+use std::alloc::Global;
 use std::process::ExitCode;
 use std::{env, io};
 
@@ -25,35 +27,49 @@ fn main(rt: HostRuntime) -> ExitCode {
     }
 }
 
+/// What stands before the name of a call that is made of normalizers of compatibility forms.
+const COMPATIBILITY: &str = "compatibility-";
+
 /// The status for what the arguments ask.
 fn asked(rt: &HostRuntime) -> io::Result<u8> {
     let mut arguments = env::args(rt)?.skip(1);
     let (Some(name), Some(stage)) = (arguments.next(), arguments.next()) else {
         return all(rt);
     };
-    let found = CALLS.iter().find(|known| known.0 == name.as_str());
-    Ok(match found {
-        Some(&(_, call)) if stage.as_str() == "call" => answer(
-            rt.alloc(),
-            call,
-            Stage::Call,
-        ).status(),
-        Some(&(_, call)) if stage.as_str() == "before" => {
-            answer(rt.alloc(), call, Stage::Before).status()
-        }
-        _ => Answer::NotMade.status(),
-    })
+    Ok(asked_call(rt.alloc(), name.as_str(), stage.as_str()).status())
+}
+
+/// The answer of the call of this name.
+fn asked_call(alloc: Global, name: &str, stage: &str) -> Answer {
+    let (name, forms) = match name.strip_prefix(COMPATIBILITY) {
+        Some(name) => (name, Forms::Compatibility),
+        None => (name, Forms::Canonical),
+    };
+    let found = CALLS.iter().find(|known| known.0 == name);
+    match (found, stage) {
+        (Some(&(_, call)), "call") => answer(alloc, call, forms, Stage::Call),
+        (Some(&(_, call)), "before") => answer(alloc, call, forms, Stage::Before),
+        _ => Answer::NotMade,
+    }
 }
 
 /// Makes every call and writes its answer.
 fn all(rt: &HostRuntime) -> io::Result<u8> {
     let mut status = Answer::Right.status();
     for &(name, call) in &CALLS {
-        let answer = answer(rt.alloc(), call, Stage::Call);
-        println!(rt; "{name} {answer}")?;
-        if answer != Answer::Right {
-            status = answer.status();
+        status = status.max(told(rt, "", name, call, Forms::Canonical)?);
+    }
+    for &(name, call) in &CALLS {
+        if call.is_of_normalizers() {
+            status = status.max(told(rt, COMPATIBILITY, name, call, Forms::Compatibility)?);
         }
     }
     Ok(status)
+}
+
+/// Makes a call, writes its answer, and returns its status.
+fn told(rt: &HostRuntime, prefix: &str, name: &str, call: Call, forms: Forms) -> io::Result<u8> {
+    let answer = answer(rt.alloc(), call, forms, Stage::Call);
+    println!(rt; "{prefix}{name} {answer}")?;
+    Ok(answer.status())
 }

@@ -31,82 +31,103 @@ fn told<T: PartialEq + Drop>(told: Result<T, NormalizeError>, wanted: T) -> Answ
 
 impl Normalizers {
     pub fn owned_text(&self) -> Answer {
-        text(self.nfd.as_borrowed().normalize(LONG), LONG_NFD).and(text(
-            self.nfc.as_borrowed().normalize(LONG),
+        text(self.decomposing.as_borrowed().normalize(LONG), LONG_NFD).and(text(
+            self.composing.as_borrowed().normalize(LONG),
             LONG_NFC,
         ))
     }
 
     pub fn owned_bytes(&self) -> Answer {
         let bytes = LONG.as_bytes();
-        text(self.nfd.as_borrowed().normalize_utf8(bytes), LONG_NFD).and(text(
-            self.nfc.as_borrowed().normalize_utf8(bytes),
-            LONG_NFC,
-        ))
+        text(
+            self.decomposing.as_borrowed().normalize_utf8(bytes),
+            LONG_NFD,
+        )
+        .and(text(self.composing.as_borrowed().normalize_utf8(bytes), LONG_NFC))
     }
 
     pub fn owned_units(&self) -> Answer {
         units(
-            self.nfd.as_borrowed().normalize_utf16(&LONG_UNITS),
+            self.decomposing.as_borrowed().normalize_utf16(&LONG_UNITS),
             &LONG_NFD_UNITS,
         )
         .and(units(
-            self.nfc.as_borrowed().normalize_utf16(&LONG_UNITS),
+            self.composing.as_borrowed().normalize_utf16(&LONG_UNITS),
             &LONG_NFC_UNITS,
         ))
     }
 
     /// A text with long runs that is its own form.
     pub fn borrowed_text(&self) -> Answer {
-        match self.nfd.as_borrowed().normalize(LONG_NFD) {
+        match self.decomposing.as_borrowed().normalize(LONG_NFD) {
             Ok(CowStr::Borrowed(form)) => Answer::of(form == LONG_NFD),
             Ok(CowStr::Owned(_)) => Answer::Wrong,
             Err(fault) => fault.answer(),
         }
     }
 
-    pub fn check(&self) -> Answer {
-        told(self.nfd.as_borrowed().is_normalized(LONG), false)
-            .and(told(
-                self.nfd
-                    .as_borrowed()
-                    .is_normalized_utf8(LONG_NFD.as_bytes()),
-                true,
-            ))
-            .and(told(
-                self.nfc.as_borrowed().is_normalized_utf16(&LONG_NFC_UNITS),
-                true,
-            ))
+    pub fn decomposing_check(&self) -> Answer {
+        let normalizer = self.decomposing.as_borrowed();
+        told(normalizer.is_normalized(LONG), false)
+            .and(told(normalizer.is_normalized_utf8(LONG_NFD.as_bytes()), true))
+            .and(told(normalizer.is_normalized_utf16(&LONG_NFD_UNITS), true))
     }
 
-    pub fn split(&self) -> Answer {
-        let bytes = LONG.as_bytes();
+    pub fn composing_check(&self) -> Answer {
+        let normalizer = self.composing.as_borrowed();
+        told(normalizer.is_normalized(LONG), false)
+            .and(told(normalizer.is_normalized_utf8(LONG_NFC.as_bytes()), true))
+            .and(told(normalizer.is_normalized_utf16(&LONG_NFC_UNITS), true))
+    }
+
+    pub fn decomposing_split(&self) -> Answer {
+        let normalizer = self.decomposing.as_borrowed();
         let (letter, marks) = LONG.split_at(1);
-        told(
-            self.nfd.as_borrowed().split_normalized_utf8(bytes),
-            (letter, marks.as_bytes()),
-        )
-        .and(told(self.nfc.as_borrowed().split_normalized(LONG), ("", LONG)))
+        told(normalizer.split_normalized(LONG), (letter, marks))
+            .and(told(
+                normalizer.split_normalized_utf8(LONG.as_bytes()),
+                (letter, marks.as_bytes()),
+            ))
+            .and(told(
+                normalizer.split_normalized_utf16(&LONG_UNITS),
+                LONG_UNITS.split_at(1),
+            ))
     }
 
-    pub fn offence(&self) -> Answer {
-        let decomposing = Offence {
+    pub fn composing_split(&self) -> Answer {
+        let normalizer = self.composing.as_borrowed();
+        told(normalizer.split_normalized(LONG), ("", LONG))
+            .and(told(
+                normalizer.split_normalized_utf8(LONG.as_bytes()),
+                ("", LONG.as_bytes()),
+            ))
+            .and(told(
+                normalizer.split_normalized_utf16(&LONG_UNITS),
+                LONG_UNITS.split_at(0),
+            ))
+    }
+
+    pub fn decomposing_offence(&self) -> Answer {
+        let normalizer = self.decomposing.as_borrowed();
+        let wanted = Some(Offence {
             place: 1,
             found: '\u{308}',
             wanted: '\u{323}',
-        };
-        let composing = Offence {
+        });
+        told(normalizer.first_offence(LONG), wanted)
+            .and(told(normalizer.first_offence_utf8(LONG.as_bytes()), wanted))
+            .and(told(normalizer.first_offence_utf16(&LONG_UNITS), wanted))
+    }
+
+    pub fn composing_offence(&self) -> Answer {
+        let normalizer = self.composing.as_borrowed();
+        let wanted = Some(Offence {
             place: 0,
             found: 'a',
             wanted: '\u{E4}',
-        };
-        told(
-            self.nfd.as_borrowed().first_offence(LONG),
-            Some(decomposing),
-        )
-        .and(told(
-            self.nfc.as_borrowed().first_offence_utf16(&LONG_UNITS),
-            Some(composing),
-        ))
+        });
+        told(normalizer.first_offence(LONG), wanted)
+            .and(told(normalizer.first_offence_utf8(LONG.as_bytes()), wanted))
+            .and(told(normalizer.first_offence_utf16(&LONG_UNITS), wanted))
     }
 }

@@ -41,8 +41,8 @@ impl Normalizers {
         ) else {
             return Answer::Memory;
         };
-        let decomposed = self.nfd.as_borrowed().normalize_to(LONG, &mut nfd);
-        let composed = self.nfc.as_borrowed().normalize_to(LONG, &mut nfc);
+        let decomposed = self.decomposing.as_borrowed().normalize_to(LONG, &mut nfd);
+        let composed = self.composing.as_borrowed().normalize_to(LONG, &mut nfc);
         text(decomposed, &nfd, LONG_NFD).and(text(composed, &nfc, LONG_NFC))
     }
 
@@ -54,8 +54,14 @@ impl Normalizers {
             return Answer::Memory;
         };
         let bytes = LONG.as_bytes();
-        let decomposed = self.nfd.as_borrowed().normalize_utf8_to(bytes, &mut nfd);
-        let composed = self.nfc.as_borrowed().normalize_utf8_to(bytes, &mut nfc);
+        let decomposed = self
+            .decomposing
+            .as_borrowed()
+            .normalize_utf8_to(bytes, &mut nfd);
+        let composed = self
+            .composing
+            .as_borrowed()
+            .normalize_utf8_to(bytes, &mut nfc);
         text(decomposed, &nfd, LONG_NFD).and(text(composed, &nfc, LONG_NFC))
     }
 
@@ -64,11 +70,11 @@ impl Normalizers {
             return Answer::Memory;
         };
         let decomposed = self
-            .nfd
+            .decomposing
             .as_borrowed()
             .normalize_utf16_to(&LONG_UNITS, &mut nfd);
         let composed = self
-            .nfc
+            .composing
             .as_borrowed()
             .normalize_utf16_to(&LONG_UNITS, &mut nfc);
         units(decomposed, &nfd, &LONG_NFD_UNITS).and(units(composed, &nfc, &LONG_NFC_UNITS))

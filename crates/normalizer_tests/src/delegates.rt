@@ -1,5 +1,6 @@
 //! How often a delegate is asked, and ended iterators, over the record set `rows`.
 use crate::over_rows::{nfc, nfd};
+use icu_normalizer::{ComposingNormalizerBorrowed, DecomposingNormalizerBorrowed};
 use std::alloc::Global;
 use std::cell::Cell;
 
@@ -37,9 +38,17 @@ type Step = (Option<char>, usize);
 /// How often the delegate was asked when a decomposition was made, and the steps that follow.
 fn decomposing_steps(alloc: Global, answers: &[Option<char>], items: usize) -> Option<Vec<Step>> {
     let normalizer = nfd(alloc)?;
+    steps_by_decomposing(alloc, &normalizer.as_borrowed(), answers, items)
+}
+
+fn steps_by_decomposing(
+    alloc: Global,
+    normalizer: &DecomposingNormalizerBorrowed,
+    answers: &[Option<char>],
+    items: usize,
+) -> Option<Vec<Step>> {
     let count = Cell::new(0);
     let mut decomposition = normalizer
-        .as_borrowed()
         .normalize_iter(Asked {
             answers,
             next: 0,
@@ -70,9 +79,17 @@ fn is_decomposed_by(alloc: Global, answers: &[Option<char>], steps: &[Step]) -> 
 /// The same of a composition.
 fn composing_steps(alloc: Global, answers: &[Option<char>], items: usize) -> Option<Vec<Step>> {
     let normalizer = nfc(alloc)?;
+    steps_by_composing(alloc, &normalizer.as_borrowed(), answers, items)
+}
+
+fn steps_by_composing(
+    alloc: Global,
+    normalizer: &ComposingNormalizerBorrowed,
+    answers: &[Option<char>],
+    items: usize,
+) -> Option<Vec<Step>> {
     let count = Cell::new(0);
     let mut composition = normalizer
-        .as_borrowed()
         .normalize_iter(Asked {
             answers,
             next: 0,

@@ -2,13 +2,11 @@
 #![tactic(auto)]
 
 #[cfg(test)]
-mod builder;
-#[cfg(test)]
 mod decoding;
 #[cfg(test)]
 mod delegates;
 #[cfg(test)]
-mod forms;
+mod handed_in;
 #[cfg(test)]
 mod letters;
 #[cfg(test)]
@@ -16,8 +14,16 @@ mod over_rows;
 #[cfg(test)]
 mod packing;
 #[cfg(test)]
+mod pairs;
+#[cfg(test)]
+mod parts;
+#[cfg(test)]
 mod readme;
 #[cfg(test)]
-mod records;
-#[cfg(test)]
 mod sinks;
+#[cfg(test)]
+mod step;
+#[cfg(test)]
+mod tables;
+#[cfg(test)]
+mod texts;

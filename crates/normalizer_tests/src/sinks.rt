@@ -5,7 +5,7 @@ ghost use Rattle.normalizer_text.specs.Sinks.{AnyFault};
 use crate::letters::repeated;
 use crate::over_rows::{nfc, nfd};
 use icu_normalizer::sink::{SinkError, Write, Write16};
-use icu_normalizer::{DecomposingNormalizerBorrowed, NormalizeError};
+use icu_normalizer::{ComposingNormalizerBorrowed, DecomposingNormalizerBorrowed, NormalizeError};
 use std::alloc::Global;
 
 // Takes so many bytes, and refuses all of a text that would pass them.
@@ -164,6 +164,47 @@ fn a_sink_is_told_the_length_first(rt: HostRuntime) {
     assert!(rt; is_ended_by_hint(alloc, &normalizer, &[0x61]));
 }
 
+// The same of a normalizer that composes.
+fn is_told_first_by_composing(
+    alloc: Global,
+    normalizer: &ComposingNormalizerBorrowed,
+    units: &[u16],
+    want: &[u16],
+) -> bool {
+    let mut sink = noting_sink(alloc, false);
+    normalizer.normalize_utf16_to(units, &mut sink).is_ok()
+        && sink.hints.as_slice() == [(units.len(), 0)].as_slice()
+        && sink.units.as_slice() == want
+}
+
+fn is_composing_ended_by_hint(
+    alloc: Global,
+    normalizer: &ComposingNormalizerBorrowed,
+    units: &[u16],
+) -> bool {
+    let mut sink = noting_sink(alloc, true);
+    let answer = normalizer.normalize_utf16_to(units, &mut sink);
+    matches!(answer, Err(NormalizeError::Sink)) && sink.units.is_empty()
+}
+
+#[test]
+fn a_sink_is_told_the_length_first_by_composing(rt: HostRuntime) {
+    let alloc = rt.alloc();
+    let normalizer = nfc(alloc).expect(&rt, "data for NFC");
+    let normalizer = normalizer.as_borrowed();
+    assert!(rt; is_told_first_by_composing(alloc, &normalizer, &[], &[]));
+    assert!(rt;
+        is_told_first_by_composing(
+            alloc,
+            &normalizer,
+            &[0x65, 0x302, 0x323, 0x61],
+            &[0x1EC7, 0x61]
+        )
+    );
+    assert!(rt; is_composing_ended_by_hint(alloc, &normalizer, &[]));
+    assert!(rt; is_composing_ended_by_hint(alloc, &normalizer, &[0x61]));
+}
+
 // Counts the writes.
 #[derive(Drop)]
 struct Counting<T> {
@@ -234,21 +275,23 @@ macro_rules! in_two_writes {
         let mut text = Counting::new(String::new($alloc));
         let mut bytes = Counting::new(String::new($alloc));
         let mut units = Counting::new(Vec::new($alloc));
-        $normalizer.normalize_to($text, &mut text).ok()?;
-        $normalizer.normalize_utf8_to($text.as_bytes(), &mut bytes).ok()?;
-        $normalizer.normalize_utf16_to($units, &mut units).ok()?;
-        Some(took_text(&text, $text) && took_text(&bytes, $text) && took_units(&units, $units))
+        $normalizer.normalize_to($text, &mut text).is_ok()
+            && $normalizer.normalize_utf8_to($text.as_bytes(), &mut bytes).is_ok()
+            && $normalizer.normalize_utf16_to($units, &mut units).is_ok()
+            && took_text(&text, $text)
+            && took_text(&bytes, $text)
+            && took_units(&units, $units)
     }};
 }
 
 fn decomposes_in_two_writes(alloc: Global, text: &str, units: &[u16]) -> Option<bool> {
     let normalizer = nfd(alloc)?;
-    in_two_writes!(alloc, normalizer.as_borrowed(), text, units)
+    Some(in_two_writes!(alloc, normalizer.as_borrowed(), text, units))
 }
 
 fn composes_in_two_writes(alloc: Global, text: &str, units: &[u16]) -> Option<bool> {
     let normalizer = nfc(alloc)?;
-    in_two_writes!(alloc, normalizer.as_borrowed(), text, units)
+    Some(in_two_writes!(alloc, normalizer.as_borrowed(), text, units))
 }
 
 // Whether both forms of a text that nothing changes are written in two pieces at most.

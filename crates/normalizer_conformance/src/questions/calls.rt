@@ -180,18 +180,38 @@ pub fn owned(alloc: Global, setting: &mut Setting<'_>, question: &[&str]) -> Res
 
 fn owned_of_text(alloc: Global, normalizer: &Normalizer, text: &str) -> Result<String, Fault> {
     let form = normalizer.normalize(text)?;
-    let of_bytes = normalizer.normalize_utf8(text.as_bytes())?;
-    let units = utf16(alloc, text)?;
-    let of_units = normalizer.normalize_utf16(&units)?;
-    if kind(&form) == kind(&of_bytes)
-        && form.as_str() == of_bytes.as_str()
-        && kind(&form) == kind_of_units(&of_units)
-        && utf16(alloc, form.as_str())?.as_slice() == of_units.as_slice()
+    if is_owned_of_bytes(normalizer, text.as_bytes(), &form)?
+        && is_owned_of_units(alloc, normalizer, &utf16(alloc, text)?, &form)?
     {
         spelled_form(alloc, &form)
     } else {
         Err(Fault::Divided)
     }
+}
+
+fn is_owned_of_bytes(
+    normalizer: &Normalizer,
+    bytes: &[u8],
+    form: &CowStr<'_, Global>,
+) -> Result<bool, Fault> {
+    let of_bytes = normalizer.normalize_utf8(bytes)?;
+    Ok(kind(form) == kind(&of_bytes) && form.as_str() == of_bytes.as_str())
+}
+
+fn is_owned_of_units(
+    alloc: Global,
+    normalizer: &Normalizer,
+    units: &[u16],
+    form: &CowStr<'_, Global>,
+) -> Result<bool, Fault> {
+    let of_units = normalizer.normalize_utf16(units)?;
+    Ok(
+        kind(form) == kind_of_units(&of_units)
+            && form
+                .as_str()
+                .encode_utf16()
+                .eq(of_units.as_slice().iter().copied()),
+    )
 }
 
 fn kind(form: &CowStr<'_, Global>) -> &'static str {

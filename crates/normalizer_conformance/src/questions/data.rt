@@ -30,13 +30,33 @@ fn table_named<'a>(held: &'a Held, kind: &str) -> Result<&'a CodePointTable, Fau
     }
 }
 
-/// The word of a number.
+/// The word of a number, in each way to ask.
 pub fn word(alloc: Global, setting: &mut Setting<'_>, question: &[&str]) -> Result<String, Fault> {
     let [kind, number] = question else {
         return Err(Fault::Unreadable);
     };
-    let word = table_named(setting.held()?, kind)?.get32(hexadecimal(number)?);
-    Ok(format!(in alloc; "{:08X}", word)?)
+    let number = hexadecimal(number)?;
+    let table = table_named(setting.held()?, kind)?;
+    let word = table.get32(number);
+    if is_word_of_character(table, number, word) && is_word_of_unit(table, number, word) {
+        Ok(format!(in alloc; "{:08X}", word)?)
+    } else {
+        Err(Fault::Divided)
+    }
+}
+
+fn is_word_of_character(table: &CodePointTable, number: u32, word: u32) -> bool {
+    match char::from_u32(number) {
+        Some(character) => table.get(character) == word,
+        None => true,
+    }
+}
+
+fn is_word_of_unit(table: &CodePointTable, number: u32, word: u32) -> bool {
+    match u16::try_from(number) {
+        Ok(unit) => table.get16(unit) == word,
+        Err(_) => true,
+    }
 }
 
 /// The number below which a loop that composes may pass every character unseen.

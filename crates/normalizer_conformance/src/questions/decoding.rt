@@ -3,7 +3,7 @@
 use crate::fault::Fault;
 use crate::input::Input;
 use crate::spelling::spelled_all;
-use crate::words::bytes;
+use crate::words::all;
 use normalizer_text::{Chars, Units};
 use std::alloc::{AllocError, Global};
 
@@ -58,7 +58,7 @@ fn next_in_turn<U: Units>(chars: &mut Chars<U>, place: usize) -> Option<char> {
 
 /// What bytes decode to, if they do so in each place.
 pub fn head(alloc: Global, input: &[&str]) -> Result<String, Fault> {
-    let head = bytes(alloc, input)?;
+    let head: Vec<u8> = all(alloc, input)?;
     let alone = from_everywhere(alloc, head.as_slice())?;
     if stands_between(alloc, b"", (&head, &alone), b"b")?
         && stands_between(alloc, b"a", (&head, &alone), b"")?

@@ -52,23 +52,50 @@ fn spell(text: &str, characters: &[char]) -> bool {
 
 fn form_of_text(alloc: Global, normalizer: &Normalizer, text: &str) -> Result<Vec<char>, Fault> {
     let form = form_of_bytes(alloc, normalizer, text.as_bytes())?;
+    let others_agree = is_form_of_text(alloc, normalizer, text, &form)?;
+    agreed(form, others_agree)
+}
+
+fn is_form_of_text(
+    alloc: Global,
+    normalizer: &Normalizer,
+    text: &str,
+    form: &[char],
+) -> Result<bool, Fault> {
     let by_units = form_of_units(alloc, normalizer, &utf16(alloc, text)?)?;
+    Ok(
+        by_units.as_slice() == form
+            && is_written_text(alloc, normalizer, text, form)?
+            && spell(&normalizer.normalize(text)?, form),
+    )
+}
+
+fn is_written_text(
+    alloc: Global,
+    normalizer: &Normalizer,
+    text: &str,
+    form: &[char],
+) -> Result<bool, Fault> {
     let mut written = String::new(alloc);
     normalizer.normalize_to(text, &mut written)?;
-    let handed_out = normalizer.normalize(text)?;
-    let others_agree = form.as_slice() == by_units.as_slice()
-        && spell(&written, &form)
-        && spell(&handed_out, &form);
-    agreed(form, others_agree)
+    Ok(spell(&written, form))
 }
 
 fn form_of_bytes(alloc: Global, normalizer: &Normalizer, bytes: &[u8]) -> Result<Vec<char>, Fault> {
     let form = normalizer.items_of_bytes(alloc, bytes)?;
+    let others_agree = is_form_of_bytes(alloc, normalizer, bytes, &form)?;
+    agreed(form, others_agree)
+}
+
+fn is_form_of_bytes(
+    alloc: Global,
+    normalizer: &Normalizer,
+    bytes: &[u8],
+    form: &[char],
+) -> Result<bool, Fault> {
     let mut written = String::new(alloc);
     normalizer.normalize_utf8_to(bytes, &mut written)?;
-    let handed_out = normalizer.normalize_utf8(bytes)?;
-    let others_agree = spell(&written, &form) && spell(&handed_out, &form);
-    agreed(form, others_agree)
+    Ok(spell(&written, form) && spell(&normalizer.normalize_utf8(bytes)?, form))
 }
 
 fn form_of_units(
@@ -77,13 +104,19 @@ fn form_of_units(
     units: &[u16],
 ) -> Result<Vec<char>, Fault> {
     let form = normalizer.items_of_units(alloc, units)?;
-    let encoded = encoded(alloc, &form)?;
+    let others_agree = is_form_of_units(alloc, normalizer, units, &encoded(alloc, &form)?)?;
+    agreed(form, others_agree)
+}
+
+fn is_form_of_units(
+    alloc: Global,
+    normalizer: &Normalizer,
+    units: &[u16],
+    form: &[u16],
+) -> Result<bool, Fault> {
     let mut written = Vec::new(alloc);
     normalizer.normalize_utf16_to(units, &mut written)?;
-    let handed_out = normalizer.normalize_utf16(units)?;
-    let others_agree = written.as_slice() == encoded.as_slice()
-        && handed_out.as_slice() == encoded.as_slice();
-    agreed(form, others_agree)
+    Ok(written.as_slice() == form && normalizer.normalize_utf16(units)?.as_slice() == form)
 }
 
 /// The UTF-16 of characters.
@@ -104,8 +137,12 @@ pub fn unchecked(
 ) -> Result<String, Fault> {
     let text = text(alloc, characters)?;
     let held = setting.held()?;
-    let by_normalizer = unchecked_form(alloc, held, &text)?;
-    let by_iterator = unchecked_decomposition(alloc, held, &text)?;
+    spelled_unchecked(alloc, held, &text)
+}
+
+fn spelled_unchecked(alloc: Global, held: &Held, text: &str) -> Result<String, Fault> {
+    let by_normalizer = unchecked_form(alloc, held, text)?;
+    let by_iterator = unchecked_decomposition(alloc, held, text)?;
     if by_normalizer.as_slice() == by_iterator.as_slice() {
         spelled_all(alloc, &by_normalizer)
     } else {

@@ -4,10 +4,10 @@ use crate::fault::Fault;
 use crate::held::Held;
 use crate::setting::Setting;
 use crate::spelling::spelled_all;
-use crate::words::characters;
+use crate::words::all;
 use icu_normalizer::Record;
 use normal_forms::Form;
-use normal_forms::plain::{self, CharacterRow, PairRow, Rows, normal_form};
+use normal_forms::plain::{CharacterRow, PairRow, Rows, cut, normal_form};
 use normalizer_records::pairs;
 use normalizer_tables::characters::{CharacterData, IgnoredCharacters};
 use std::alloc::Global;
@@ -98,37 +98,51 @@ fn canonical_form_named(name: &str) -> Result<Form, Fault> {
     }
 }
 
-/// The form of a text.
-pub fn form(alloc: Global, setting: &mut Setting<'_>, question: &[&str]) -> Result<String, Fault> {
-    let [name, text @ ..] = question else {
+/// The form of a text (`plain`), or how many of its characters may be cut off (`plain-cut`).
+pub fn asked(
+    alloc: Global,
+    setting: &mut Setting<'_>,
+    name: &str,
+    question: &[&str],
+) -> Result<String, Fault> {
+    let [form, text @ ..] = question else {
         return Err(Fault::Unreadable);
     };
-    let form = canonical_form_named(name)?;
-    let text = characters(alloc, text)?;
-    let lines = lines_at(alloc, setting)?;
-    let characters = character_rows(alloc, &lines)?;
-    let pairs = pair_rows(alloc, setting.records())?;
-    let rows = Rows {
-        characters: &characters,
-        pairs: &pairs,
-    };
-    spelled_all(alloc, &normal_form(alloc, &rows, form, &text)?)
+    let form = canonical_form_named(form)?;
+    let text: Vec<char> = all(alloc, text)?;
+    asked_of_data(alloc, setting, name, form, &text)
 }
 
-/// How many characters of a text may be cut off.
-pub fn cut(alloc: Global, setting: &mut Setting<'_>, question: &[&str]) -> Result<String, Fault> {
-    let [name, text @ ..] = question else {
-        return Err(Fault::Unreadable);
-    };
-    let form = canonical_form_named(name)?;
-    let text = characters(alloc, text)?;
+fn asked_of_data(
+    alloc: Global,
+    setting: &mut Setting<'_>,
+    name: &str,
+    form: Form,
+    text: &[char],
+) -> Result<String, Fault> {
     let lines = lines_at(alloc, setting)?;
-    let characters = character_rows(alloc, &lines)?;
     let pairs = pair_rows(alloc, setting.records())?;
+    let characters = character_rows(alloc, &lines)?;
     let rows = Rows {
         characters: &characters,
         pairs: &pairs,
     };
-    let count = plain::cut(alloc, &rows, form, &text)?;
+    match name {
+        "plain" => spelled_form(alloc, &rows, form, text),
+        _ => spelled_cut(alloc, &rows, form, text),
+    }
+}
+
+fn spelled_form(
+    alloc: Global,
+    rows: &Rows<'_>,
+    form: Form,
+    text: &[char],
+) -> Result<String, Fault> {
+    spelled_all(alloc, &normal_form(alloc, rows, form, text)?)
+}
+
+fn spelled_cut(alloc: Global, rows: &Rows<'_>, form: Form, text: &[char]) -> Result<String, Fault> {
+    let count = cut(alloc, rows, form, text)?;
     Ok(format!(in alloc; "{count}")?)
 }

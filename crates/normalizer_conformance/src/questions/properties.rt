@@ -2,8 +2,9 @@
 //! decomposition; `shaped 2126 = 03A9 0000`: what a shaper is told of it. `compose 0061 0308 = 00E4`: what two
 //! characters compose to. Each is asked in every way, of owned and of borrowed properties, and by the shaper traits.
 use crate::fault::Fault;
+use crate::held::Held;
 use crate::setting::Setting;
-use crate::spelling::Spelled;
+use crate::spelling::{Spelled, spelled_all};
 use crate::words::{character, hexadecimal};
 use icu_normalizer::harfbuzz::{CombiningClassFunc, ComposeFunc, DecomposeFunc};
 use icu_normalizer::properties::{
@@ -18,13 +19,17 @@ pub fn class(alloc: Global, setting: &mut Setting<'_>, question: &[&str]) -> Res
     let [number] = question else {
         return Err(Fault::Unreadable);
     };
-    let number = hexadecimal(number)?;
-    let classes = CanonicalCombiningClassMap::try_new_unstable(setting.held()?)?;
+    let class = class_of_number(setting.held()?, hexadecimal(number)?)?;
+    Ok(format!(in alloc; "{class}")?)
+}
+
+fn class_of_number(held: &Held, number: u32) -> Result<u8, Fault> {
+    let classes = CanonicalCombiningClassMap::try_new_unstable(held)?;
     let class = classes.as_borrowed().get32_u8(number);
     if classes.as_borrowed().get32(number) == CanonicalCombiningClass(class)
         && char::from_u32(number).is_none_or(|character| is_class(&classes, character, class))
     {
-        Ok(format!(in alloc; "{class}")?)
+        Ok(class)
     } else {
         Err(Fault::Divided)
     }
@@ -43,47 +48,53 @@ fn is_told_class<C: CombiningClassFunc>(classes: &C, character: char, class: u8)
     classes.combining_class(character) == class
 }
 
-/// One step of the canonical decomposition of a character.
-pub fn step(alloc: Global, setting: &mut Setting<'_>, question: &[&str]) -> Result<String, Fault> {
+/// One step of the canonical decomposition of a character (`decompose`), or what a shaper is told of it.
+pub fn step(
+    alloc: Global,
+    setting: &mut Setting<'_>,
+    name: &str,
+    question: &[&str],
+) -> Result<String, Fault> {
     let [digits] = question else {
         return Err(Fault::Unreadable);
     };
-    let steps = CanonicalDecomposition::try_new_unstable(setting.held()?)?;
-    match steps.as_borrowed().decompose(character(digits)?) {
+    step_of_data(alloc, setting.held()?, name, character(digits)?)
+}
+
+fn step_of_data(alloc: Global, held: &Held, name: &str, character: char) -> Result<String, Fault> {
+    let steps = CanonicalDecomposition::try_new_unstable(held)?;
+    match name {
+        "decompose" => spelled_step(alloc, steps.as_borrowed().decompose(character)),
+        _ => shaped(alloc, &steps, character),
+    }
+}
+
+fn spelled_step(alloc: Global, step: Decomposed) -> Result<String, Fault> {
+    match step {
         Decomposed::Default => Ok(String::from_str(alloc, "default")?),
         Decomposed::Singleton(a) => {
             let a = a.spelled(alloc)?;
             Ok(format!(in alloc; "singleton {a}")?)
         }
         Decomposed::Expansion(a, b) => {
-            let (a, b) = (a.spelled(alloc)?, b.spelled(alloc)?);
-            Ok(format!(in alloc; "expansion {a} {b}")?)
+            let both = spelled_all(alloc, &[a, b])?;
+            Ok(format!(in alloc; "expansion {both}")?)
         }
     }
 }
 
 /// What a shaper is told of the step of a character.
-pub fn shaped(
-    alloc: Global,
-    setting: &mut Setting<'_>,
-    question: &[&str],
-) -> Result<String, Fault> {
-    let [digits] = question else {
-        return Err(Fault::Unreadable);
-    };
-    let steps = CanonicalDecomposition::try_new_unstable(setting.held()?)?;
-    let character = character(digits)?;
-    let mapping = told_step(&steps, character);
-    if told_step(&&steps, character) != mapping
+fn shaped(alloc: Global, steps: &CanonicalDecomposition, character: char) -> Result<String, Fault> {
+    let mapping = told_step(steps, character);
+    if told_step(&steps, character) != mapping
         || told_step(&steps.as_borrowed(), character) != mapping
     {
         return Err(Fault::Divided);
     }
-    let Some((first, second)) = mapping else {
-        return Ok(String::from_str(alloc, "none")?);
-    };
-    let (first, second) = (first.spelled(alloc)?, second.spelled(alloc)?);
-    Ok(format!(in alloc; "{first} {second}")?)
+    match mapping {
+        Some((first, second)) => spelled_all(alloc, &[first, second]),
+        None => Ok(String::from_str(alloc, "none")?),
+    }
 }
 
 fn told_step<D: DecomposeFunc>(steps: &D, character: char) -> Option<(char, char)> {
@@ -99,14 +110,23 @@ pub fn composite(alloc: Global, setting: &mut Setting<'_>, pair: &[&str]) -> Res
     let composite = setting
         .normalizer(NormalForm::Nfc)?
         .composite(first, second)?;
-    let pairs = CanonicalComposition::try_new_unstable(setting.held()?)?;
-    if !is_composite(&pairs, first, second, composite) {
+    if !is_composite_of_data(setting.held()?, first, second, composite)? {
         return Err(Fault::Divided);
     }
     match composite {
         Some(composite) => composite.spelled(alloc),
         None => Ok(String::from_str(alloc, "none")?),
     }
+}
+
+fn is_composite_of_data(
+    held: &Held,
+    first: char,
+    second: char,
+    composite: Option<char>,
+) -> Result<bool, Fault> {
+    let pairs = CanonicalComposition::try_new_unstable(held)?;
+    Ok(is_composite(&pairs, first, second, composite))
 }
 
 fn is_composite(

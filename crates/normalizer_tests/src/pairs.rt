@@ -1,9 +1,9 @@
-//! The pairs of characters that compose.
+//! The pairs of characters that compose: how they are held, and which characters are never second.
 use normalizer_tables::{CanonicalCompositions, row_count};
 use std::alloc::Global;
 
 /// Second, first and result.
-pub(crate) type Pair = (char, char, char);
+type Pair = (char, char, char);
 
 /// Pairs of The Unicode Standard, and one whose second the arithmetic of Hangul answers.
 const PAIRS: [Pair; 6] = [
@@ -15,24 +15,9 @@ const PAIRS: [Pair; 6] = [
     ('\u{3099}', '\u{30D8}', '\u{30D9}'),
 ];
 
-pub(crate) fn compositions(alloc: Global, pairs: &[Pair]) -> Option<CanonicalCompositions> {
+fn compositions(alloc: Global, pairs: &[Pair]) -> Option<CanonicalCompositions> {
     let pairs = pairs.to_vec(alloc).ok()?;
     CanonicalCompositions::from_pairs(pairs).ok()
-}
-
-/// First, second and what they compose to.
-type Composing = (char, char, Option<char>);
-
-fn composes_to(alloc: Global, pairs: &[Pair], row: Composing) -> bool {
-    match compositions(alloc, pairs) {
-        Some(compositions) => compositions.compose(row.0, row.1) == row.2,
-        None => false,
-    }
-}
-
-/// The first row that composes otherwise.
-fn wrong_result(alloc: Global, pairs: &[Pair], rows: &[Composing]) -> Option<usize> {
-    rows.iter().position(|row| !composes_to(alloc, pairs, *row))
 }
 
 fn composes_to_as_listed(
@@ -47,53 +32,10 @@ fn composes_to_as_listed(
     }
 }
 
-const LISTED: [Composing; 14] = [
-    ('\u{3B1}', '\u{301}', Some('\u{3AC}')),
-    ('A', '\u{308}', Some('\u{C4}')),
-    ('a', '\u{308}', Some('\u{E4}')),
-    ('A', '\u{30A}', Some('\u{C5}')),
-    ('\u{30D8}', '\u{3099}', Some('\u{30D9}')),
-    ('\u{3B2}', '\u{301}', None),
-    ('\u{3B0}', '\u{301}', None),
-    ('A', '\u{300}', None),
-    ('B', '\u{308}', None),
-    ('a', '\u{30A}', None),
-    ('A', '\u{309}', None),
-    ('\u{30D8}', '\u{309A}', None),
-    ('\u{308}', 'A', None),
-    ('A', '\u{1176}', None),
-];
-
 #[test]
-fn finds_listed_pairs(rt: HostRuntime) {
-    assert_eq!(rt; wrong_result(rt.alloc(), &PAIRS, &LISTED), None);
+fn pairs_are_found_as_they_are_listed(rt: HostRuntime) {
     assert!(rt; composes_to_as_listed(rt.alloc(), 'A', '\u{1176}', Some('B')));
     assert!(rt; composes_to_as_listed(rt.alloc(), '\u{1100}', '\u{1161}', None));
-}
-
-const HANGUL: [Composing; 17] = [
-    ('\u{1100}', '\u{1161}', Some('\u{AC00}')),
-    ('\u{1112}', '\u{1175}', Some('\u{D788}')),
-    ('\u{1111}', '\u{1171}', Some('\u{D4CC}')),
-    ('\u{D4CC}', '\u{11B6}', Some('\u{D4DB}')),
-    ('\u{AC00}', '\u{11A8}', Some('\u{AC01}')),
-    ('\u{D788}', '\u{11C2}', Some('\u{D7A3}')),
-    ('\u{AC00}', '\u{11A7}', None),
-    ('\u{AC00}', '\u{11C3}', None),
-    ('\u{AC01}', '\u{11A8}', None),
-    ('\u{D7A4}', '\u{11A8}', None),
-    ('\u{1100}', '\u{1100}', None),
-    ('\u{1100}', '\u{1160}', None),
-    ('\u{1100}', '\u{1176}', None),
-    ('\u{10FF}', '\u{1161}', None),
-    ('\u{1113}', '\u{1161}', None),
-    ('\u{1100}', '\u{11A8}', None),
-    ('\u{AC00}', '\u{1161}', None),
-];
-
-#[test]
-fn composes_hangul(rt: HostRuntime) {
-    assert_eq!(rt; wrong_result(rt.alloc(), &[], &HANGUL), None);
 }
 
 /// Characters, and whether each composes with none before it.
