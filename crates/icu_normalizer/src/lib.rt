@@ -1,6 +1,7 @@
 //! Unicode normalization over data handed in (Unicode Standard Annex #15).
 #![tactic(auto)]
 
+pub mod laws;
 pub mod properties;
 pub mod provider;
 pub mod uts46;
