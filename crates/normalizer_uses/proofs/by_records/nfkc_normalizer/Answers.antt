@@ -8,4 +8,5 @@ use Rattle.normalizer_uses.proofs.by_records.nfkc_normalizer.Goals as goal
 pub want_of_memory-requires : goal.want_of_memory-requires
 want_of_memory-requires c =
     let met = c.what_is_built_is_accepted.ensures.nfkc c.requires.0 c.requires.1 _ c.requires.2 in
-    memory_alone (RefusesToCompose NormalizerNfkdDataV1 (characters_of c.args.built.now.packed Compatibility, c.args.built.now.packed.compositions)) _ (c.data_that_meet_conditions_are_accepted.ensures.refused _ _ NormalizerNfkdDataV1 _ met) c.in-Err.ensures.1
+    memory_alone (RefusesToCompose NormalizerNfkdDataV1 (characters_of c.args.built.now.packed Compatibility, c.args.built.now.packed.compositions)) _
+    (c.data_that_meet_conditions_are_accepted.ensures.refused _ _ NormalizerNfkdDataV1 _ met) c.in-Err.ensures.1
