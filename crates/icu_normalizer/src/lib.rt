@@ -26,6 +26,7 @@
 //! The README has it whole, and `docs/GUIDE.md` an example for each task.
 #![tactic(auto)]
 
+pub mod laws;
 pub mod properties;
 pub mod provider;
 pub mod uts46;

@@ -1,3 +1,4 @@
+pub mod AcceptedData
 pub mod BuiltMeaning
 pub mod EntriesOfRecords
 pub mod FirstUnfit
@@ -6,4 +7,5 @@ pub mod NoRefusal
 pub mod OneAnswer
 pub mod PackableEntries
 pub mod ReadableEntries
+pub mod RecordedLaws
 pub mod SameParts

@@ -1,6 +1,7 @@
 -- What records are and mean of which none of their own refusals holds.
 use Rattle.std.proofs.Common.{◌≡◌, ◌∙◌, ◌⊎◌, inl, inr, Bool, ℕ, zero, suc, ◌<◌, ◌≤◌, true, false, ◌==◌, List, [], ◌∷◌, ◌++◌, length, map, flat_map, find, get_or, All, Option, Some, None, IfSome}
-use Rattle.std.proofs.Common.{IsSomeAnd, refl, ap, sym, arith, length-append, eqb-true, if◌then◌else◌}
+use Rattle.std.proofs.Common.{◌||◌, not, IsSomeAnd, refl, ap, sym, arith, length-append, eqb-true, if◌then◌else◌}
+use Rattle.std.specs.Int.{is_in_range}
 use Rattle.std.specs.List.{list_any, AllByRecursion}
 use Rattle.std.specs.Option.{option_map}
 use Rattle.std.proofs.lemmas.Bool.{cases_lt, cond_both, false_from_ne_true, or_parts, true≢false}
@@ -22,7 +23,7 @@ use Rattle.normalizer_records.specs.declared.records.Mappings.TheVariants.{Canon
 use Rattle.normalizer_records.specs.declared.refusal.Refusal.TheVariants as refusal
 use Rattle.normalizer_records.specs.Entry.{Entry, MapperEntry, Status, MapsTo, IsIgnored, IsDisallowed}
 use Rattle.normalizer_records.specs.Faults.{AreRising, AreMapperRising, HasFault, HasOrderFault, HasClassFault, HasWrongClass, HasChainFault, has_fixed_fault, HasLengthFault, HasLongList}
-use Rattle.normalizer_records.specs.Faults.{HasPairFault, IsAsked, IsFirstRefusal, IsOnLongChain, IsTooLong, IsWrong, has_mapping_fault, has_zero, is_bad_mapping, is_bad_status, is_fixed}
+use Rattle.normalizer_records.specs.Faults.{HasPairFault, IsAsked, IsFirstRefusal, IsOnLongChain, IsTooLong, IsWrong, has_mapping_fault, has_zero, is_bad_mapping, is_bad_status, is_disallowed, is_fixed}
 use Rattle.normalizer_records.specs.Faults.{is_fixed_for_mapper, is_mark, mapped_to}
 use Rattle.normalizer_records.specs.Meaning.{canonical_list, class_of, compatibility_list, entry_of, expand_all, expansion, full_list, levels, list_of_status, mapped_list, mapper_list}
 use Rattle.normalizer_records.specs.Meaning.{mapping_among, recorded_classes, replace_by, replacement, status_of}
@@ -105,15 +106,35 @@ module _ (Q : ℕ → Type 0) (given : (m : ℕ) → 0 < m → Q m) where
 
 unfixed_syllable : (c : ℕ) → is_fixed c ≡ false → is_hangul_syllable c ≡ false
 unfolding is_fixed
-unfixed_syllable c h = grind (arith, nat_tests)
+unfixed_syllable c h = (or_parts ((c == 0xFFFD) || is_in_range 0x1100 0x11FF c) (is_hangul_syllable c) h).1
+
+no_replacement_character : (c : ℕ) → is_hangul_syllable c ≡ true → (c == 0xFFFD) ≡ false
+unfolding is_hangul_syllable
+no_replacement_character c h = grind (arith, nat_tests)
+
+no_jamo : (c : ℕ) → is_hangul_syllable c ≡ true → is_in_range 0x1100 0x11FF c ≡ false
+unfolding is_hangul_syllable
+no_jamo c h = grind (arith, nat_tests)
+
+no_filler : (c : ℕ) → is_hangul_syllable c ≡ true → is_in_range 0x115F 0x1160 c ≡ false
+unfolding is_hangul_syllable
+no_filler c h = grind (arith, nat_tests)
+
+fixed_mapper_syllable : (r : MapperEntry) → is_hangul_syllable r.c ≡ true → is_fixed_for_mapper r ≡ true
+unfolding is_fixed_for_mapper is_fixed
+fixed_mapper_syllable r h = rw (h, no_replacement_character r.c h, no_jamo r.c h, no_filler r.c h) refl
 
 unfixed_mapper_syllable : (r : MapperEntry) → is_fixed_for_mapper r ≡ false → is_hangul_syllable r.c ≡ false
-unfolding is_fixed_for_mapper is_fixed is_hangul_syllable
-unfixed_mapper_syllable r h = grind (arith, nat_tests)
+unfixed_mapper_syllable r h = false_from_ne_true _ (λ syllable. true≢false (sym (fixed_mapper_syllable r syllable) ∙ h))
+
+disallowed : (s : Status) → not (is_disallowed s) ≡ false → s ≡ IsDisallowed
+disallowed IsDisallowed h = refl
+disallowed IsIgnored h = absurd (true≢false h)
+disallowed (MapsTo x) h = absurd (true≢false h)
 
 disallowed_replacement : (r : MapperEntry) → r.c ≡ 0xFFFD → is_fixed_for_mapper r ≡ false → r.status ≡ IsDisallowed
 unfolding is_fixed_for_mapper is_fixed
-disallowed_replacement r here h = grind (arith, nat_tests)
+disallowed_replacement r here h = disallowed r.status (rw here at h)
 
 module _ (records : List Entry) (uts46 : List MapperEntry) (none : IsFirstRefusal records uts46 None) where
   pub rising : AreRising records

@@ -1,6 +1,9 @@
+pub mod Accepted
 pub mod Building
+pub mod Built
 pub mod Demands
 pub mod Fitness
 pub mod Ranks
+pub mod Readings
 pub mod Recorded
 pub mod inner

@@ -2,6 +2,7 @@
 ghost use Rattle.std.specs.Prelude.{◌≡◌, None, IfOk, MatchResult};
 ghost use Rattle.normalizer_records.specs.Faults.{IsFirstRefusal};
 ghost use Rattle.normalizer_builder.specs.Building.{Builds, IsSmallest, error_of};
+ghost use Rattle.normalizer_builder.specs.Built.{data_in};
 ghost use Rattle.normalizer_builder.specs.inner.Parts.{AreParts, PacksCharacters};
 
 use crate::built::Built;
@@ -36,7 +37,8 @@ impl Records {
         records: &[Record],
         uts46: &[Uts46Record],
     ) -> Result<Built, BuildError>
-        ensures { MatchResult result (λ b. Builds records.now uts46.now b.packed) (IsSmallest records.now uts46.now) }
+        ensures { MatchResult result (λ b. Builds records.now uts46.now (data_in b))
+            (IsSmallest records.now uts46.now) }
     {
         match first_refusal(alloc, records, uts46) {
             Ok(None) => build_unrefused(alloc, records, uts46),
@@ -69,7 +71,7 @@ fn build_unrefused(
     uts46: &[Uts46Record],
 ) -> Result<Built, BuildError>
     requires { IsFirstRefusal records.now uts46.now None }
-    ensures { MatchResult result (λ b. Builds records.now uts46.now b.packed) (IsSmallest records.now uts46.now) }
+    ensures { MatchResult result (λ b. Builds records.now uts46.now (data_in b)) (IsSmallest records.now uts46.now) }
 {
     let packed = packed_of(alloc, records, uts46)?;
     match first_unfit_of_records(records, &packed) {

@@ -1,6 +1,7 @@
 pub mod AlikeWords
 pub mod EntryLemmas
 pub mod FlagLemmas
+pub mod MadeLists
 pub mod PackableLemmas
 pub mod PackingLemmas
 pub mod PlaceLemmas

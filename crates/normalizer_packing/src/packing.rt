@@ -1,8 +1,10 @@
 //! Packs entries and pairs into normalization data.
 ghost use Rattle.std.specs.Prelude.{◌≡◌, ◌<◌, IfOk, IsErrOf};
 ghost use Rattle.normalizer_tables.specs.Conditions.{item_limit};
+ghost use Rattle.normalizer_packing.specs.inner.Kinds.{PackKinds};
 ghost use Rattle.normalizer_packing.specs.inner.PackedWords.{CanPoint};
 ghost use Rattle.normalizer_packing.specs.Packing.{ArePackable, Packs, PacksKind};
+ghost use Rattle.normalizer_packing.specs.Steps.{PacksSteps};
 ghost use Rattle.normalizer_packing.specs.Stored.{needed_items};
 ghost use Rattle.normalizer_packing.specs.inner.Stretches.{ListsTold};
 
@@ -15,7 +17,9 @@ use crate::steps::supplement_of;
 use crate::stores::{PackError, Stores, stores_of};
 use crate::told::told_characters;
 use crate::words::PackedWords;
-use normalizer_tables::{CanonicalCompositions, DecompositionData, TableError};
+use normalizer_tables::{
+    CanonicalCompositions, DecompositionData, NonRecursiveDecompositionSupplement, TableError,
+};
 use std::alloc::{AllocError, Global};
 
 /// Packs the entries of characters, and pairs of characters that compose (second, first and result), into data. The
@@ -48,34 +52,77 @@ fn packed_with<'e>(
     requires { CanPoint entries stores }
     ensures packed { IfOk result (Packs entries.entry pairs.items) }
 {
-    let told = told_characters(alloc, entries.as_slice(), &pairs)?;
-    let compositions = compositions_of(pairs)?;
-    let canonical = data_of(
-        alloc,
-        &entries,
-        &compositions,
-        &stores,
-        &told,
-        Kind::Canonical,
-    )?;
-    let compatibility = data_of(
-        alloc,
-        &entries,
-        &compositions,
-        &stores,
-        &told,
-        Kind::Compatibility,
-    )?;
-    let mapper = data_of(alloc, &entries, &compositions, &stores, &told, Kind::Mapper)?;
-    let supplement = supplement_of(alloc, &entries, &told)?;
+    let (kinds, compositions, supplement) = parts_of(alloc, &entries, pairs, &stores)?;
     Ok(Packed {
-        canonical,
-        compatibility,
-        mapper,
+        canonical: kinds.canonical,
+        compatibility: kinds.compatibility,
+        mapper: kinds.mapper,
         tables: stores.canonical.into_tables(),
         supplementary_tables: stores.supplementary.into_tables(),
         compositions,
         supplement,
+    })
+}
+
+/// All of these data but the tables of lists: those of each kind, the pairs, and the supplement.
+fn parts_of<'e>(
+    alloc: Global,
+    entries: &Entries<'e>,
+    pairs: Vec<(char, char, char)>,
+    stores: &Stores<'e>,
+) -> Result<
+    (
+        Kinds,
+        CanonicalCompositions,
+        NonRecursiveDecompositionSupplement,
+    ),
+    AllocError,
+>
+    requires { CanPoint entries.now stores.now }
+    ensures kinds { IfOk result (λ parts. PackKinds entries.now pairs.items parts.0) }
+    ensures pairs { IfOk result (λ parts. parts.1 ≡ pairs.items) }
+    ensures steps { IfOk result (λ parts. PacksSteps entries.now parts.2) }
+{
+    let told = told_characters(alloc, entries.as_slice(), &pairs)?;
+    let compositions = compositions_of(pairs)?;
+    let kinds = kinds_of(alloc, entries, &compositions, stores, &told)?;
+    let supplement = supplement_of(alloc, entries, &told)?;
+    Ok((kinds, compositions, supplement))
+}
+
+/// The data of each kind.
+#[derive(Drop)]
+struct Kinds {
+    canonical: DecompositionData,
+    compatibility: DecompositionData,
+    mapper: DecompositionData,
+}
+
+fn kinds_of<'e>(
+    alloc: Global,
+    entries: &Entries<'e>,
+    compositions: &CanonicalCompositions,
+    stores: &Stores<'e>,
+    told: &[char],
+) -> Result<Kinds, AllocError>
+    requires stored { CanPoint entries.now stores.now }
+    requires told { ListsTold entries.now compositions.now told.now }
+    ensures { IfOk result (PackKinds entries.now compositions.now) }
+{
+    let canonical = data_of(alloc, entries, compositions, stores, told, Kind::Canonical)?;
+    let compatibility = data_of(
+        alloc,
+        entries,
+        compositions,
+        stores,
+        told,
+        Kind::Compatibility,
+    )?;
+    let mapper = data_of(alloc, entries, compositions, stores, told, Kind::Mapper)?;
+    Ok(Kinds {
+        canonical,
+        compatibility,
+        mapper,
     })
 }
 

@@ -58,11 +58,13 @@ fn stored_step(step: Option<Mapping>) -> Option<[char; 2]>
 fn stored_steps(alloc: Global, entries: &Entries<'_>) -> Result<Vec<[char; 2]>, AllocError>
     ensures { IfOk result (λ v. v.items ≡ stored_steps entries.now) }
 {
-    entries
-        .as_slice()
-        .iter()
-        .filter_map(|entry| stored_step(asked_step(entries, entry)))
-        .collect(alloc)
+    let mut steps = Vec::new(alloc);
+    for entry in entries.as_slice() {
+        if let Some(step) = stored_step(asked_step(entries, entry)) {
+            steps.push(step)?;
+        }
+    }
+    Ok(steps)
 }
 
 /// The store of lists of two, an equal one once.

@@ -35,9 +35,14 @@ fn unsorted_characters(
 ) -> Result<Vec<char>, AllocError>
     ensures { IfOk result (λ v. v.items ≡ told_numbers entries.now pairs.now) }
 {
-    let mut told: Vec<char> = entries.iter().map(|entry| entry.character).collect(alloc)?;
-    let seconds: Vec<char> = pairs.iter().map(|pair| pair.0).collect(alloc)?;
-    told.extend_from_slice(&seconds)?;
+    // (`collect` would ask again where a growth is refused)
+    let mut told = Vec::new(alloc);
+    for entry in entries {
+        told.push(entry.character)?;
+    }
+    for pair in pairs {
+        told.push(pair.0)?;
+    }
     told.extend_from_slice(&EDGES)?;
     Ok(told)
 }

@@ -2,6 +2,7 @@ pub mod ChainLemmas
 pub mod CutLemmas
 pub mod ExpansionLemmas
 pub mod LookupLemmas
+pub mod MadeLists
 pub mod OrLemmas
 pub mod PairFaultLemmas
 pub mod RefusalLemmas

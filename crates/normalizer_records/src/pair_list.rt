@@ -36,10 +36,13 @@ fn pair_of_mapping(c: char, mapping: &[char]) -> Option<(char, char, char)>
 fn unsorted_pairs(alloc: Global, records: &[Record]) -> Result<Vec<(char, char, char)>, AllocError>
     ensures { IfOk result (λ v. v.items ≡ pairs_of records.now) }
 {
-    records
-        .iter()
-        .filter_map(|record| pair_of_record(record))
-        .collect(alloc)
+    let mut pairs = Vec::new(alloc);
+    for entry in records {
+        if let Some(pair) = pair_of_record(entry) {
+            pairs.push(pair)?;
+        }
+    }
+    Ok(pairs)
 }
 
 /// Returns the pairs of records, sorted by second, then by first. They strictly rise unless two records have the same

@@ -90,9 +90,14 @@ pub fn recorded_characters(
 ) -> Result<Vec<char>, AllocError>
     ensures { IfOk result (λ v. v.items ≡ map (λ r. r.c) records.now ++ map (λ r. r.c) uts46.now) }
 {
-    let mut characters: Vec<char> = records.iter().map(|record| record.c).collect(alloc)?;
-    let mapped: Vec<char> = uts46.iter().map(|record| record.c).collect(alloc)?;
-    characters.extend_from_slice(&mapped)?;
+    // (`collect` would ask again where a growth is refused)
+    let mut characters = Vec::new(alloc);
+    for entry in records {
+        characters.push(entry.c)?;
+    }
+    for mapped in uts46 {
+        characters.push(mapped.c)?;
+    }
     Ok(characters)
 }
 

@@ -2,4 +2,3 @@ pub mod AcceptedData
 pub mod CallerLemmas
 pub mod FormsOfData
 pub mod LastLemmas
-pub mod RecordedLaws

@@ -2,25 +2,16 @@
 use Rattle.std.specs.Prelude.{ℕ, List, []}
 use Rattle.normal_forms.specs.declared.Form.TheVariants.{Decomposing, Composing}
 use Rattle.normal_forms.specs.Forms.{nfc, nfd, normal_form}
-use Rattle.normal_forms.specs.Reading.{Reading}
-use Rattle.normalizer_tables.specs.Pairs.{pair_of}
 use Rattle.normalizer_tables.specs.Readings.{reading_by}
 use Rattle.normalizer_tables.specs.declared.characters.IgnoredCharacters.TheVariants.{Dropped}
 use Rattle.normalizer_packing.specs.declared.Packed.{Packed}
 use Rattle.normalizer_packing.specs.declared.entry.Kind.TheVariants as kind
 use Rattle.normalizer_packing.specs.ReadBack.{characters_of}
-use Rattle.normalizer_records.specs.declared.records.Mappings.{Mappings}
 use Rattle.normalizer_records.specs.declared.records.Mappings.TheVariants.{Canonical, All}
 use Rattle.normalizer_records.specs.Entry.{Entry}
-use Rattle.normalizer_records.specs.Meaning.{class_of, full_list, pairs_of}
+use Rattle.normalizer_builder.specs.Readings.{recorded_reading}
 use Rattle.normalizer_uses.specs.declared.by_records.NormalForm.{NormalForm}
 use Rattle.normalizer_uses.specs.declared.by_records.NormalForm.TheVariants.{Nfd, Nfc, Nfkd, Nfkc}
-
--- what the records mean: full decompositions by canonical mappings or by all (D65, D68), classes (D104), and primary
--- composites, Hangul ones included (D114)
-abbrev pub recorded_reading : List Entry → Mappings → Reading
-recorded_reading records mappings =
-    record { list = full_list records mappings; class = class_of records; pair = pair_of (pairs_of records) }
 
 -- D118 to D121
 abbrev pub recorded_form : List Entry → NormalForm → List ℕ → List ℕ

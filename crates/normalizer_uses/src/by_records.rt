@@ -1,20 +1,15 @@
 //! Normalizing text with data built from plain records.
-ghost use Rattle.std.specs.Prelude.{◌≡◌, List, None, IfOk, IsOkUnless, MatchResult};
-ghost use Rattle.normal_forms.specs.declared.Form.{Form};
-ghost use Rattle.normal_forms.specs.Hypotheses.{HasInhabitedLists, SuitsForm};
-ghost use Rattle.normalizer_packing.specs.declared.Packed.{Packed};
+ghost use Rattle.std.specs.Prelude.{◌≡◌, IfOk, IsOkUnless, MatchResult};
 ghost use Rattle.normalizer_packing.specs.declared.entry.Kind.TheVariants.{Canonical, Compatibility, Mapper};
 ghost use Rattle.normalizer_packing.specs.ReadBack.{characters_of};
-ghost use Rattle.normalizer_records.specs.declared.records.Mappings.{Mappings};
-ghost use Rattle.normalizer_records.specs.Entry.{Entry, MapperEntry};
 ghost use Rattle.normalizer_text.specs.Utf8.{decoded_utf8};
 ghost use Rattle.normalizer_calls.specs.ComposingNormalizers.{composing_data_of, pairs_of};
 ghost use Rattle.normalizer_calls.specs.Mappers.{mapper_data_of};
 ghost use Rattle.normalizer_calls.specs.Normalizers.{data_of};
 ghost use Rattle.normalizer_properties.specs.Properties as properties;
-ghost use Rattle.normalizer_builder.specs.Building.{Builds, IsSmallest};
-ghost use Rattle.normalizer_builder.specs.Fitness.{IsFirstUnfit};
-ghost use Rattle.normalizer_uses.specs.RecordedForms.{form_of_data, recorded_form, recorded_reading};
+ghost use Rattle.normalizer_builder.specs.Building.{IsSmallest};
+ghost use Rattle.normalizer_builder.specs.Built.{AreBuilt, data_in};
+ghost use Rattle.normalizer_uses.specs.RecordedForms.{form_of_data, recorded_form};
 
 use crate::{nfc_of_bytes, nfd_of_bytes};
 use icu_normalizer::properties::{
@@ -22,6 +17,7 @@ use icu_normalizer::properties::{
 };
 use icu_normalizer::uts46::Uts46Mapper;
 use icu_normalizer::{ComposingNormalizer, DataError, DecomposingNormalizer, NormalizeError};
+use normalizer_builder::laws::{data_that_meet_conditions_are_accepted, what_is_built_is_accepted};
 use normalizer_builder::{Built, Records};
 use normalizer_records::{BuildError, Record, Uts46Record};
 use std::alloc::Global;
@@ -61,21 +57,6 @@ pub fn form_by_records(
     }
 }
 
-/// What records that build mean satisfies the hypotheses of the laws of the normal forms. The function does nothing:
-/// its contract is the law.
-pub fn what_is_built_suits_the_laws()
-    ensures suits { (records : List Entry) (uts46 : List MapperEntry) (p : Packed) → Builds records uts46 p →
-        (mappings : Mappings) (form : Form) → SuitsForm (recorded_reading records mappings) form }
-    ensures inhabited { (records : List Entry) (uts46 : List MapperEntry) (p : Packed) → Builds records uts46 p →
-        (mappings : Mappings) → HasInhabitedLists (recorded_reading records mappings) }
-{}
-
-/// Built data meet all conditions of the constructors. The function does nothing: its contract is the law.
-pub fn what_is_built_is_accepted()
-    ensures { (records : List Entry) (uts46 : List MapperEntry) (p : Packed) → Builds records uts46 p →
-        IsFirstUnfit p None }
-{}
-
 /// The normal form by data that were built.
 fn form_by_built(
     alloc: Global,
@@ -83,8 +64,8 @@ fn form_by_built(
     form: NormalForm,
     bytes: &[u8],
 ) -> Result<Vec<char>, NormalizeError>
-    requires { IsFirstUnfit built.now.packed None }
-    ensures form { IfOk result (λ v. v.items ≡ form_of_data built.now.packed form (decoded_utf8 bytes.now)) }
+    requires { AreBuilt (data_in built.now) }
+    ensures form { IfOk result (λ v. v.items ≡ form_of_data (data_in built.now) form (decoded_utf8 bytes.now)) }
     ensures refused { IsOkUnless result NormalizeError.Memory }
 {
     match form {
@@ -97,10 +78,12 @@ fn form_by_built(
 
 /// The normalizer to NFD over data that were built, which it doesn't refuse.
 fn nfd_normalizer(built: &Built) -> Result<DecomposingNormalizer, NormalizeError>
-    requires { IsFirstUnfit built.now.packed None }
-    ensures held { IfOk result (λ n. data_of n ≡ characters_of built.now.packed Canonical) }
+    requires { AreBuilt (data_in built.now) }
+    ensures held { IfOk result (λ n. data_of n ≡ characters_of (data_in built.now) Canonical) }
     ensures refused { IsOkUnless result NormalizeError.Memory }
 {
+    what_is_built_is_accepted();
+    data_that_meet_conditions_are_accepted();
     match DecomposingNormalizer::try_new_nfd_unstable(built) {
         Ok(normalizer) => Ok(normalizer),
         Err(error) => Err(want_of_memory(error)),
@@ -108,10 +91,12 @@ fn nfd_normalizer(built: &Built) -> Result<DecomposingNormalizer, NormalizeError
 }
 
 fn nfkd_normalizer(built: &Built) -> Result<DecomposingNormalizer, NormalizeError>
-    requires { IsFirstUnfit built.now.packed None }
-    ensures held { IfOk result (λ n. data_of n ≡ characters_of built.now.packed Compatibility) }
+    requires { AreBuilt (data_in built.now) }
+    ensures held { IfOk result (λ n. data_of n ≡ characters_of (data_in built.now) Compatibility) }
     ensures refused { IsOkUnless result NormalizeError.Memory }
 {
+    what_is_built_is_accepted();
+    data_that_meet_conditions_are_accepted();
     match DecomposingNormalizer::try_new_nfkd_unstable(built) {
         Ok(normalizer) => Ok(normalizer),
         Err(error) => Err(want_of_memory(error)),
@@ -120,11 +105,13 @@ fn nfkd_normalizer(built: &Built) -> Result<DecomposingNormalizer, NormalizeErro
 
 /// The normalizer to NFC over data that were built, which it doesn't refuse.
 fn nfc_normalizer(built: &Built) -> Result<ComposingNormalizer, NormalizeError>
-    requires { IsFirstUnfit built.now.packed None }
-    ensures held { IfOk result (λ n. composing_data_of n ≡ characters_of built.now.packed Canonical) }
-    ensures pairs { IfOk result (λ n. pairs_of n ≡ built.now.packed.compositions) }
+    requires { AreBuilt (data_in built.now) }
+    ensures held { IfOk result (λ n. composing_data_of n ≡ characters_of (data_in built.now) Canonical) }
+    ensures pairs { IfOk result (λ n. pairs_of n ≡ (data_in built.now).compositions) }
     ensures refused { IsOkUnless result NormalizeError.Memory }
 {
+    what_is_built_is_accepted();
+    data_that_meet_conditions_are_accepted();
     match ComposingNormalizer::try_new_nfc_unstable(built) {
         Ok(normalizer) => Ok(normalizer),
         Err(error) => Err(want_of_memory(error)),
@@ -132,11 +119,13 @@ fn nfc_normalizer(built: &Built) -> Result<ComposingNormalizer, NormalizeError>
 }
 
 fn nfkc_normalizer(built: &Built) -> Result<ComposingNormalizer, NormalizeError>
-    requires { IsFirstUnfit built.now.packed None }
-    ensures held { IfOk result (λ n. composing_data_of n ≡ characters_of built.now.packed Compatibility) }
-    ensures pairs { IfOk result (λ n. pairs_of n ≡ built.now.packed.compositions) }
+    requires { AreBuilt (data_in built.now) }
+    ensures held { IfOk result (λ n. composing_data_of n ≡ characters_of (data_in built.now) Compatibility) }
+    ensures pairs { IfOk result (λ n. pairs_of n ≡ (data_in built.now).compositions) }
     ensures refused { IsOkUnless result NormalizeError.Memory }
 {
+    what_is_built_is_accepted();
+    data_that_meet_conditions_are_accepted();
     match ComposingNormalizer::try_new_nfkc_unstable(built) {
         Ok(normalizer) => Ok(normalizer),
         Err(error) => Err(want_of_memory(error)),
@@ -158,38 +147,45 @@ fn want_of_memory(error: DataError) -> NormalizeError
 
 /// Returns the composing pairs of built data: the constructor refuses nothing but memory.
 pub fn built_composition(built: &Built) -> Result<CanonicalComposition, DataError>
-    requires { IsFirstUnfit built.now.packed None }
-    ensures held { IfOk result (λ c. properties.pairs_of c ≡ built.now.packed.compositions) }
+    requires { AreBuilt (data_in built.now) }
+    ensures held { IfOk result (λ c. properties.pairs_of c ≡ (data_in built.now).compositions) }
     ensures refused { IsOkUnless result DataError.Memory }
 {
+    what_is_built_is_accepted();
     CanonicalComposition::try_new_unstable(built)
 }
 
 /// Returns the canonical combining classes of built data: the constructor refuses nothing but memory.
 pub fn built_combining_classes(built: &Built) -> Result<CanonicalCombiningClassMap, DataError>
-    requires { IsFirstUnfit built.now.packed None }
-    ensures held { IfOk result (λ m. properties.classes_of m ≡ built.now.packed.canonical) }
+    requires { AreBuilt (data_in built.now) }
+    ensures held { IfOk result (λ m. properties.classes_of m ≡ (data_in built.now).canonical) }
     ensures refused { IsOkUnless result DataError.Memory }
 {
+    what_is_built_is_accepted();
+    data_that_meet_conditions_are_accepted();
     CanonicalCombiningClassMap::try_new_unstable(built)
 }
 
 /// Returns the mapper over built data: the constructor refuses nothing but memory.
 pub fn built_mapper(built: &Built) -> Result<Uts46Mapper, DataError>
-    requires { IsFirstUnfit built.now.packed None }
+    requires { AreBuilt (data_in built.now) }
     ensures held { IfOk result (λ m. mapper_data_of m ≡
-        (characters_of built.now.packed Mapper, built.now.packed.compositions)) }
+        (characters_of (data_in built.now) Mapper, (data_in built.now).compositions)) }
     ensures refused { IsOkUnless result DataError.Memory }
 {
+    what_is_built_is_accepted();
+    data_that_meet_conditions_are_accepted();
     Uts46Mapper::try_new(built)
 }
 
 /// Returns single canonical decomposition steps of built data: the constructor refuses nothing but memory.
 pub fn built_decomposition(built: &Built) -> Result<CanonicalDecomposition, DataError>
-    requires { IsFirstUnfit built.now.packed None }
+    requires { AreBuilt (data_in built.now) }
     ensures held { IfOk result (λ d. properties.steps_of d ≡
-        (characters_of built.now.packed Canonical, built.now.packed.supplement)) }
+        (characters_of (data_in built.now) Canonical, (data_in built.now).supplement)) }
     ensures refused { IsOkUnless result DataError.Memory }
 {
+    what_is_built_is_accepted();
+    data_that_meet_conditions_are_accepted();
     CanonicalDecomposition::try_new_unstable(built)
 }

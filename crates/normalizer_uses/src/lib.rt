@@ -34,7 +34,7 @@ pub mod sinks;
 
 pub use by_records::{
     NormalForm, built_combining_classes, built_composition, built_decomposition, built_mapper,
-    form_by_records, what_is_built_is_accepted, what_is_built_suits_the_laws,
+    form_by_records,
 };
 use icu_normalizer::{
     ComposingNormalizer, ComposingNormalizerBorrowed, DataError, DataProvider,

@@ -1,5 +1,12 @@
-use Rattle.normalizer_uses.proofs.AcceptedData.{memory_alone_nfkc}
+use Rattle.normalizer_tables.specs.declared.provider.DataMarkerInfo.TheVariants.{NormalizerNfkdDataV1}
+use Rattle.normalizer_calls.specs.ComposingAcceptance.{RefusesToCompose}
+use Rattle.normalizer_packing.specs.declared.entry.Kind.TheVariants.{Compatibility}
+use Rattle.normalizer_packing.specs.ReadBack.{characters_of}
+use Rattle.normalizer_uses.proofs.AcceptedData.{memory_alone}
 use Rattle.normalizer_uses.proofs.by_records.nfkc_normalizer.Goals as goal
 
 pub want_of_memory-requires : goal.want_of_memory-requires
-want_of_memory-requires c = memory_alone_nfkc c.args.built.now.packed c.requires _ _ c.in-Err.ensures.1
+want_of_memory-requires c =
+    let met = c.what_is_built_is_accepted.ensures.nfkc c.requires.0 c.requires.1 _ c.requires.2 in
+    memory_alone (RefusesToCompose NormalizerNfkdDataV1 (characters_of c.args.built.now.packed Compatibility, c.args.built.now.packed.compositions)) _
+    (c.data_that_meet_conditions_are_accepted.ensures.refused _ _ NormalizerNfkdDataV1 _ met) c.in-Err.ensures.1

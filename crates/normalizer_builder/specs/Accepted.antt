@@ -1,0 +1,16 @@
+-- What is loaded of data that were built, where not all of one kind is.
+use Rattle.std.specs.Prelude.{None, Some}
+use Rattle.normalizer_tables.specs.Loaded.{Loaded}
+use Rattle.normalizer_tables.specs.NfdData.{nfd_bounds}
+use Rattle.normalizer_packing.specs.declared.Packed.{Packed}
+use Rattle.normalizer_packing.specs.declared.entry.Kind.TheVariants.{Canonical}
+use Rattle.normalizer_packing.specs.ReadBack.{characters_of}
+
+-- canonical data and the supplement, by which characters are decomposed one step
+abbrev pub steps_loaded : Packed → Loaded
+steps_loaded p = record {
+  characters = characters_of p Canonical;
+  bounds = nfd_bounds;
+  pairs = None;
+  supplement = Some p.supplement;
+}
