@@ -5,8 +5,8 @@ ghost use Rattle.normalizer_packing.specs.Caps.{BeginsPassed, IsCap, MayPass, Ma
 use crate::entries::Entries;
 use crate::entry::Kind;
 use crate::flags::composes_to;
-use normalizer_tables::CanonicalCompositions;
 use normalizer_tables::condition::CAP_LIMIT;
+use normalizer_tables::{CanonicalCompositions, is_never_second};
 
 /// The least character that a composing loop may not pass unseen, but at most the limit.
 pub fn cap_of(entries: &Entries<'_>, compositions: &CanonicalCompositions, kind: Kind) -> u16
@@ -59,7 +59,7 @@ fn begins_passed(entries: &Entries<'_>, compositions: &CanonicalCompositions, li
     ensures { IsTrue result ↔ BeginsPassed entries.now compositions.now list.now }
 {
     match list.first() {
-        Some(&first) => entries.class_of(first) == 0 && compositions.is_never_second(first),
+        Some(&first) => entries.class_of(first) == 0 && is_never_second(compositions, first),
         None => false,
     }
 }

@@ -6,8 +6,8 @@ ghost use Rattle.normalizer_packing.specs.Entries.{reading_of_entries};
 ghost use Rattle.normalizer_packing.specs.Flags.{without_flags, BeginsUnpaired, IsFlagged};
 
 use crate::entries::Entries;
-use normalizer_tables::CanonicalCompositions;
 use normalizer_tables::word::is_class_form;
+use normalizer_tables::{CanonicalCompositions, compose, is_never_second};
 
 /// The list of the character doesn't compose to it alone.
 const NON_ROUND_TRIP: u32 = 0x4000_0000;
@@ -51,7 +51,7 @@ pub fn begins_unpaired(compositions: &CanonicalCompositions, list: &[char]) -> b
     ensures { IsTrue result ↔ BeginsUnpaired compositions.now list.now }
 {
     list.first()
-        .map_or(true, |first| compositions.is_never_second(*first))
+        .map_or(true, |first| is_never_second(compositions, *first))
 }
 
 /// Whether a list composes to this character alone: all behind the first join.
@@ -88,7 +88,7 @@ fn joined(
     ensures { result ≡ joined (reading_of_entries entries.now compositions.now) first [] second }
 {
     if entries.class_of(first) == 0 {
-        compositions.compose(first, second)
+        compose(compositions, first, second)
     } else {
         None
     }

@@ -9,7 +9,7 @@ use normalizer_tables::condition::Condition;
 use normalizer_tables::pair_check::are_sound_pairs;
 use normalizer_tables::refusal::refusal_of;
 use normalizer_tables::{
-    CanonicalCompositions, DataError, DataMarkerInfo, DataProvider, NormalizerNfcV1,
+    CanonicalCompositions, DataError, DataMarkerInfo, DataProvider, NormalizerNfcV1, compose,
 };
 
 /// The pairs of characters that compose. They were checked when it was made.
@@ -73,6 +73,6 @@ impl<'a> CanonicalCompositionBorrowed<'a> {
     pub fn compose(self, starter: char, second: char) -> Option<char>
         ensures { result ≡ pair_of (pairs_of_borrowed self.entry) starter second }
     {
-        self.pairs.compose(starter, second)
+        compose(self.pairs, starter, second)
     }
 }

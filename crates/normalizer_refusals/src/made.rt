@@ -78,13 +78,6 @@ fn is_table(table: &CodePointTable) -> bool {
         && table.get32(0x110000) == 3
 }
 
-fn are_pairs(pairs: &CanonicalCompositions) -> bool {
-    pairs.len() == 3
-        && pairs.compose('e', '\u{302}') == Some('\u{EA}')
-        && pairs.compose('\u{1EB9}', '\u{302}') == Some('\u{1EC7}')
-        && pairs.compose('a', '\u{308}') == Some('\u{E4}')
-}
-
 /// Whether what was made is right, or its fault, as an answer.
 fn told<E: Fault>(given: Result<bool, E>) -> Answer {
     match given {
@@ -101,9 +94,9 @@ fn of_tables(alloc: Global, call: Call, stage: Stage) -> Option<Answer> {
     }
     let made = || match call {
         Call::Table => told(table(alloc).map(|table| is_table(&table))),
-        Call::Pairs => told(pairs(alloc).map(|pairs| are_pairs(&pairs))),
+        Call::Pairs => told(pairs(alloc).map(|pairs| pairs == pairs_held)),
         Call::CopyOfTable => told(table_held.clone().map(|table| is_table(&table))),
-        _ => told(pairs_held.clone().map(|pairs| are_pairs(&pairs))),
+        _ => told(pairs_held.clone().map(|copy| copy == pairs_held)),
     };
     Some(asked_again(made(), made()))
 }

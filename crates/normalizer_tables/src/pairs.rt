@@ -1,5 +1,5 @@
 //! The pairs of characters that compose.
-ghost use Rattle.std.specs.Prelude.{◌≡◌, ◌↔◌, ◌<◌, [], length, slice_get, All, false, ℕ, IfOk, IsOkUnless, IsTrue};
+ghost use Rattle.std.specs.Prelude.{◌≡◌, ◌↔◌, ◌<◌, length, slice_get, All, false, ℕ, IfOk, IsOkUnless, IsTrue};
 ghost use Rattle.normalizer_tables.specs.Pairs.{
   is_before,
   is_of,
@@ -53,37 +53,31 @@ impl CanonicalCompositions {
         Ok(CanonicalCompositions { pairs, is_rising })
     }
 
-    /// Returns whether the list strictly rises by second, then by first.
-    pub fn is_rising(&self) -> bool
+    /// Whether the list strictly rises by second, then by first.
+    pub(crate) fn is_rising(&self) -> bool
         ensures { IsTrue result ↔ AreRising self.now }
     {
         self.is_rising
     }
 
-    /// Returns how many pairs there are.
-    pub fn len(&self) -> usize
+    /// How many pairs there are.
+    pub(crate) fn len(&self) -> usize
         ensures { result ≡ length self.now }
     {
         self.pairs.len()
     }
 
-    pub fn is_empty(&self) -> bool
-        ensures { IsTrue result ↔ (self.now ≡ []) }
-    {
-        self.len() == 0
-    }
-
-    /// Returns the pair at this place, counted from 0: second, first and result.
-    pub fn at(&self, place: usize) -> (char, char, char)
+    /// The pair at this place, counted from 0: second, first and result.
+    pub(crate) fn at(&self, place: usize) -> (char, char, char)
         requires { place < length self.now }
         ensures { slice_get self.now place ≡ Some result }
     {
         self.pairs.at(place)
     }
 
-    /// Returns whether no second is in U+1161 to U+11FF, whose characters compose by arithmetic.
+    /// Whether no second is in U+1161 to U+11FF, whose characters compose by arithmetic.
     #[tactic(auto, unfolding(crate::specs::Pairs::pair_at))]
-    pub fn has_no_jamo_second(&self) -> bool
+    pub(crate) fn has_no_jamo_second(&self) -> bool
         ensures { IsTrue result ↔ All (λ p. is_vowel_or_trailing_jamo p.0 ≡ false) self.now }
     {
         for place in 0..self.len() {
@@ -94,39 +88,14 @@ impl CanonicalCompositions {
         true
     }
 
-    /// Returns what two characters compose to, if they do: by the arithmetic of Hangul alone if the second is a vowel
-    /// or a trailing consonant of that block, otherwise as listed.
-    #[tactic(auto, unfolding(crate::specs::Pairs::pair_of))]
-    pub fn compose(&self, first: char, second: char) -> Option<char>
-        ensures { result ≡ pair_of self.now first second }
-    {
-        if is_vowel_or_trailing_jamo(second) {
-            compose_hangul(first, second)
-        } else {
-            self.compose_non_hangul(first, second)
-        }
-    }
-
-    /// Returns what two characters compose to by the list alone.
-    pub fn compose_non_hangul(&self, first: char, second: char) -> Option<char>
+    /// What two characters compose to by the list alone.
+    fn compose_non_hangul(&self, first: char, second: char) -> Option<char>
         ensures { result ≡ listed_result self.now first second }
     {
         if self.is_rising {
             self.pairs.result_by_halving(first, second)
         } else {
             first_result(&self.pairs, first, second)
-        }
-    }
-
-    /// Returns whether a character composes with none before it.
-    #[tactic(auto, unfolding(crate::specs::Pairs::IsNeverSecond, crate::specs::Pairs::pair_of))]
-    pub fn is_never_second(&self, second: char) -> bool
-        ensures { IsTrue result ↔ IsNeverSecond self.now second }
-    {
-        if is_vowel_or_trailing_jamo(second) {
-            is_never_hangul_second(second)
-        } else {
-            self.is_never_listed_second(second)
         }
     }
 
@@ -139,6 +108,31 @@ impl CanonicalCompositions {
         } else {
             has_no_second(&self.pairs, second)
         }
+    }
+}
+
+/// Returns what two characters compose to, if they do: by the arithmetic of Hangul alone if the second is a vowel or
+/// a trailing consonant of that block, otherwise as listed.
+#[tactic(auto, unfolding(crate::specs::Pairs::pair_of))]
+pub fn compose(pairs: &CanonicalCompositions, first: char, second: char) -> Option<char>
+    ensures { result ≡ pair_of pairs.now first second }
+{
+    if is_vowel_or_trailing_jamo(second) {
+        compose_hangul(first, second)
+    } else {
+        pairs.compose_non_hangul(first, second)
+    }
+}
+
+/// Returns whether a character composes with none before it.
+#[tactic(auto, unfolding(crate::specs::Pairs::IsNeverSecond, crate::specs::Pairs::pair_of))]
+pub fn is_never_second(pairs: &CanonicalCompositions, second: char) -> bool
+    ensures { IsTrue result ↔ IsNeverSecond pairs.now second }
+{
+    if is_vowel_or_trailing_jamo(second) {
+        is_never_hangul_second(second)
+    } else {
+        pairs.is_never_listed_second(second)
     }
 }
 

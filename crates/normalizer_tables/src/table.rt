@@ -101,8 +101,8 @@ impl CodePointTable {
         self.words.word(number)
     }
 
-    /// Returns the least code point from `from` on whose word has bits other than those of `flags`.
-    pub fn next_with_word(&self, from: u32, flags: u32) -> Option<u32>
+    /// The least code point from `from` on whose word has bits other than those of `flags`.
+    pub(crate) fn next_with_word(&self, from: u32, flags: u32) -> Option<u32>
         ensures { IsNextWithWord self.now flags from result }
     {
         self.words.next_with_word(from, flags)

@@ -1,5 +1,6 @@
 //! The pairs of characters that compose: how they are held, and which characters are never second.
-use normalizer_tables::{CanonicalCompositions, row_count};
+use normalizer_tables::pair_check::are_sound_pairs;
+use normalizer_tables::{CanonicalCompositions, compose, is_never_second, row_count};
 use std::alloc::Global;
 
 /// Second, first and result.
@@ -20,22 +21,18 @@ fn compositions(alloc: Global, pairs: &[Pair]) -> Option<CanonicalCompositions> 
     CanonicalCompositions::from_pairs(pairs).ok()
 }
 
-fn composes_to_as_listed(
-    alloc: Global,
-    first: char,
-    second: char,
-    composite: Option<char>,
-) -> bool {
+fn composes_to(alloc: Global, first: char, second: char, composite: Option<char>) -> bool {
     match compositions(alloc, &PAIRS) {
-        Some(compositions) => compositions.compose_non_hangul(first, second) == composite,
+        Some(compositions) => compose(&compositions, first, second) == composite,
         None => false,
     }
 }
 
 #[test]
-fn pairs_are_found_as_they_are_listed(rt: HostRuntime) {
-    assert!(rt; composes_to_as_listed(rt.alloc(), 'A', '\u{1176}', Some('B')));
-    assert!(rt; composes_to_as_listed(rt.alloc(), '\u{1100}', '\u{1161}', None));
+fn seconds_of_hangul_compose_by_arithmetic_alone(rt: HostRuntime) {
+    assert!(rt; composes_to(rt.alloc(), 'A', '\u{308}', Some('\u{C4}')));
+    assert!(rt; composes_to(rt.alloc(), 'A', '\u{1176}', None));
+    assert!(rt; composes_to(rt.alloc(), '\u{1100}', '\u{1161}', Some('\u{AC00}')));
 }
 
 /// Characters, and whether each composes with none before it.
@@ -58,9 +55,9 @@ const SECONDS: [(char, bool); 16] = [
     ('\u{10FFFF}', true),
 ];
 
-fn is_never_second(alloc: Global, second: char, never: bool) -> bool {
+fn is_told_second(alloc: Global, second: char, never: bool) -> bool {
     match compositions(alloc, &PAIRS) {
-        Some(compositions) => compositions.is_never_second(second) == never,
+        Some(compositions) => is_never_second(&compositions, second) == never,
         None => false,
     }
 }
@@ -69,7 +66,7 @@ fn is_never_second(alloc: Global, second: char, never: bool) -> bool {
 fn wrong_second(alloc: Global) -> Option<usize> {
     SECONDS
         .iter()
-        .position(|row| !is_never_second(alloc, row.0, row.1))
+        .position(|row| !is_told_second(alloc, row.0, row.1))
 }
 
 #[test]
@@ -99,7 +96,7 @@ fn copied(alloc: Global, pairs: &[Pair]) -> Option<CanonicalCompositions> {
 
 fn is_rising(compositions: Option<CanonicalCompositions>, rising: bool) -> bool {
     match compositions {
-        Some(compositions) => compositions.is_rising() == rising,
+        Some(compositions) => are_sound_pairs(&compositions) == rising,
         None => false,
     }
 }
@@ -128,22 +125,21 @@ const FALLING: [Pair; 3] = [
     ('\u{308}', 'a', 'e'),
 ];
 
-fn has_falling_pairs(copy: &CanonicalCompositions) -> bool {
-    copy.len() == 3
-        && copy.at(0) == FALLING[0]
-        && copy.at(1) == FALLING[1]
-        && copy.at(2) == FALLING[2]
+/// Whether a copy equals what is made of the same pairs, and not what is made of all but the last.
+fn has_falling_pairs(alloc: Global, copy: &CanonicalCompositions) -> bool {
+    compositions(alloc, &FALLING).as_ref() == Some(copy)
+        && compositions(alloc, &FALLING[..2]).as_ref() != Some(copy)
 }
 
 fn composes_falling_pairs(copy: &CanonicalCompositions) -> bool {
-    copy.compose('a', '\u{308}') == Some('ä')
-        && copy.compose('e', '\u{302}') == Some('ê')
-        && copy.compose('e', '\u{308}').is_none()
-        && copy.compose('\u{1100}', '\u{1161}') == Some('\u{AC00}')
+    compose(copy, 'a', '\u{308}') == Some('ä')
+        && compose(copy, 'e', '\u{302}') == Some('ê')
+        && compose(copy, 'e', '\u{308}').is_none()
+        && compose(copy, '\u{1100}', '\u{1161}') == Some('\u{AC00}')
 }
 
 fn tells_falling_seconds(copy: &CanonicalCompositions) -> bool {
-    !copy.is_never_second('\u{302}') && copy.is_never_second('\u{301}')
+    !is_never_second(copy, '\u{302}') && is_never_second(copy, '\u{301}')
 }
 
 #[test]
@@ -151,7 +147,7 @@ fn holds_lists_that_fall(rt: HostRuntime) {
     let Some(copy) = copied(rt.alloc(), &FALLING) else {
         panic!(rt; "out of memory");
     };
-    assert!(rt; has_falling_pairs(&copy));
+    assert!(rt; has_falling_pairs(rt.alloc(), &copy));
     assert!(rt; composes_falling_pairs(&copy));
     assert!(rt; tells_falling_seconds(&copy));
 }

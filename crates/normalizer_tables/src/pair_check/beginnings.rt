@@ -18,7 +18,7 @@ ghost use Rattle.normalizer_tables.specs.Ignored.{Dropped};
 use crate::characters::CharacterData;
 use crate::condition::Bounds;
 use crate::members::Members;
-use crate::pairs::CanonicalCompositions;
+use crate::pairs::{CanonicalCompositions, compose, is_never_second};
 use crate::read::{ReadCharacter, read_by_word};
 use crate::word::{is_backward_combining, is_non_round_trip, is_plain};
 
@@ -65,7 +65,7 @@ pub fn keeps_beginning(
         || (read.character as u32) < bounds.composition;
     match read.list.get(0) {
         _ if !is_taken => true,
-        Some(first) => data.class_of(first) == 0 && compositions.is_never_second(first),
+        Some(first) => data.class_of(first) == 0 && is_never_second(compositions, first),
         None => false,
     }
 }
@@ -128,7 +128,7 @@ fn joined(
     ensures { result ≡ joined (reading_by data.now Dropped compositions.now) first [] second }
 {
     if data.class_of(first) == 0 {
-        compositions.compose(first, second)
+        compose(compositions, first, second)
     } else {
         None
     }
