@@ -31,9 +31,9 @@ use crate::decomposition::Decomposition;
 use crate::error::NormalizeError;
 use crate::marks::StayingMarks;
 use crate::waiting::Classed;
-use normalizer_tables::CanonicalCompositions;
 use normalizer_tables::characters::{CharacterData, IgnoredCharacters};
 use normalizer_tables::condition::Bounds;
+use normalizer_tables::{CanonicalCompositions, compose};
 use std::alloc::AllocError;
 
 mod making;
@@ -138,7 +138,7 @@ impl<'data, I: Iterator<Item = char> + Drop> Composition<'data, I> {
             order (reading_by s Dropped [])
             (list_of s (ignored_list ignored) starter ++ list_of s (ignored_list ignored) second)) }
     {
-        self.pairs.compose(starter, second)
+        compose(self.pairs, starter, second)
     }
 
     /// Composes a starter with what follows it.
@@ -270,7 +270,7 @@ fn join(
         result ≡ join d starter (staying marks.now) given.character }
 {
     if marks.lets_pass(given.class) {
-        pairs.compose(starter, given.character)
+        compose(pairs, starter, given.character)
     } else {
         None
     }
