@@ -167,6 +167,7 @@ impl<'data, I: Iterator<Item = char> + Drop> Composition<'data, I> {
     }
 
     /// Gives a character that is passed as it is, or composes it with what follows it.
+    #[inline(always)]
     fn pass(&mut self) -> Option<Result<char, NormalizeError>>
         requires can { CanCompose I.can_next I.remaining self.old }
         requires marks { staying self.old.marks ≡ [] }
@@ -287,6 +288,7 @@ impl<'data, I: Iterator<Item = char> + Drop> Iterator for Composition<'data, I> 
 
     ghost remaining = { λ s. at_most (items_left I.remaining s) };
 
+    #[inline(always)]
     fn next(&mut self) -> Option<Result<char, NormalizeError>> {
         if let Some(mark) = self.marks.pop_front() {
             return Some(Ok(mark));

@@ -112,6 +112,7 @@ impl<'data, I: Iterator<Item = char> + Drop> Decomposition<'data, I> {
     }
 
     /// The first member of the list of the character that was pending. The one behind it was read.
+    #[inline(always)]
     pub(crate) fn next_chunk(
         &mut self,
         read: ReadCharacter,
@@ -161,6 +162,7 @@ impl<'data, I: Iterator<Item = char> + Drop> Decomposition<'data, I> {
     }
 
     /// The next character with its canonical combining class.
+    #[inline(always)]
     pub(crate) fn next_with_class(&mut self) -> Option<Result<Classed, NormalizeError>>
         requires { CanDecompose I.can_next I.remaining self.old }
         ensures class { IfSome result (λ item. IfOk item (λ given.
@@ -202,6 +204,7 @@ pub fn decomposed<'data, I: Iterator<Item = char> + Drop>(
 }
 
 /// Whether a character is its own list, and what was read behind it begins anew.
+#[inline(always)]
 fn stands_alone(
     characters: &CharacterData<'_>,
     ignored: IgnoredCharacters,
@@ -270,6 +273,7 @@ impl<'data, I: Iterator<Item = char> + Drop> Iterator for Decomposition<'data, I
 
     ghost remaining = { λ s. at_most (items_left I.remaining s) };
 
+    #[inline(always)]
     fn next(&mut self) -> Option<Result<char, NormalizeError>> {
         match self.next_with_class() {
             Some(Ok(given)) => Some(Ok(given.character)),
