@@ -10,9 +10,10 @@ ghost use Rattle.normalizer_tables.specs.NfdData.{IsSoundNfdData};
 ghost use Rattle.normalizer_tables.specs.Readings.{reading_by};
 ghost use Rattle.normalizer_tables.specs.declared.characters.IgnoredCharacters.TheVariants.{Dropped};
 ghost use Rattle.normalizer_text.specs.Steps.{Spells};
-ghost use Rattle.normalizer_iterators.specs.Delegate.{HasRead, IsReadyBehind};
+ghost use Rattle.normalizer_iterators.specs.Delegate.{HasRead, IsReadyBehind, MayGive};
 ghost use Rattle.normalizer_iterators.specs.Items.{GivesForm};
 ghost use Rattle.normalizer_iterators.specs.LazyReading.{SuitsLazyReading};
+ghost use Rattle.normalizer_iterators.specs.NextItem.{IsFormOfSource};
 ghost use Rattle.normalizer_iterators.specs.WaitingList.{AgreesWith, ordered, unordered};
 ghost use Rattle.normalizer_iterators.specs.Waiting.{HasClassesOf};
 ghost use Rattle.normalizer_iterators.specs.Reads.{character_of, HasOwnWord, HasOwnWords};
@@ -86,7 +87,9 @@ impl<'data, I: Iterator<Item = char> + Drop> Decomposition<'data, I> {
         requires ends { IsFinite (I.remaining delegate) }
         requires suits { SuitsLazyReading (has_class_form characters) (reading_by characters ignored []) }
         ensures text { IfOk result (λ it. (x : List ℕ) → Spells I.next_gives delegate x →
-            WillGive I.next_gives it (nfd (reading_by characters.entry ignored []) x)) }
+            WillGive (Spells I.next_gives) it (nfd (reading_by characters.entry ignored []) x)) }
+        ensures came { IfOk result (IsFormOfSource I.next_gives (λ e. WillGive (MayGive I.next_gives e))
+            (nfd (reading_by characters.entry ignored [])) delegate) }
         ensures short { IfOk result (λ it. (x : List ℕ) → Spells I.next_gives delegate x →
             HasShortRuns (has_class_form characters.entry) (reading_by characters.entry ignored []) x →
             StaysShort I.next_gives it) }

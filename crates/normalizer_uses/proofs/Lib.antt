@@ -3,3 +3,4 @@ pub mod CallerLemmas
 pub mod FormsOfData
 pub mod LastLemmas
 pub mod RecordedLaws
+pub mod RunLemmas
