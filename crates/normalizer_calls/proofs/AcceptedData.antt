@@ -1,19 +1,20 @@
 -- Data that a constructor accepts serve the calls.
-use Rattle.std.proofs.Common.{◌≡◌, ℕ, List, [], arith, false, None}
-use Rattle.std.specs.Prelude.{min}
+use Rattle.std.proofs.Common.{◌≡◌, ◌++◌, ℕ, List, [], arith, false, None, subst}
+use Rattle.std.specs.Prelude.{All}
 use Rattle.std.specs.Char.{IsScalar}
 use Rattle.normal_forms.specs.Order.{order}
 use Rattle.normal_forms.specs.declared.Form.TheVariants.{Composing}
-use Rattle.normalizer_tables.specs.declared.condition.Condition.TheVariants.{Order}
+use Rattle.normalizer_tables.specs.declared.condition.Condition.TheVariants.{Order, Results}
+use Rattle.normalizer_tables.specs.AcceptedData.{AreAcceptedPairs, pair_conditions}
 use Rattle.normalizer_tables.specs.declared.condition.Bounds.{Bounds}
 use Rattle.normalizer_tables.specs.Conditions.{Holds, HoldsAt}
-use Rattle.normalizer_tables.specs.Characters.{Characters, characters_from}
+use Rattle.normalizer_tables.specs.Characters.{Characters, characters_from, list_of}
 use Rattle.normalizer_tables.specs.Data.{Decompositions, Lists}
 use Rattle.normalizer_tables.specs.Loaded.{IsMet}
 use Rattle.normalizer_tables.specs.NfdData.{IsSoundNfdData, nfd_bounds}
 use Rattle.normalizer_tables.specs.Pairs.{Pair}
 use Rattle.normalizer_tables.specs.Readings.{reading_by}
-use Rattle.normalizer_tables.specs.Unseen.{PassUnseenBelow}
+use Rattle.normalizer_tables.specs.PairConditions.{HasOrderedLists, HoldsOfPairs, PairsHoldOverall}
 use Rattle.normalizer_tables.specs.declared.characters.IgnoredCharacters.TheVariants.{Dropped}
 use Rattle.normalizer_tables.proofs.LoadedLemmas.{IsAccepted-met, parts_met}
 use Rattle.normalizer_tables.proofs.AcceptedLaws.{SuitsTexts-accepted, SuitsTexts-accepted_pairs, SuitsTexts-handed_in}
@@ -29,10 +30,15 @@ list_ordered : (s : Characters) (b : Bounds) → Holds s b Order → (c : ℕ) �
 unfolding Holds HoldsAt
 list_ordered s b holds c scalar = (holds.1 c scalar).ordered
 
-below_least : (s : Characters) (cap limit : ℕ) → PassUnseenBelow s limit → PassUnseenBelow s (min cap limit)
-below_least s cap limit unseen = λ c scalar below. unseen c scalar (omega arith)
+-- the list of what a pair composes to is the lists of the pair, in canonical order: condition 14
+results_ordered : (s : Characters) (b : Bounds) (pairs : List Pair) → s.is_mapper ≡ false → AreAcceptedPairs s b pairs
+    → All (λ p. list_of s [] p.2 ≡ order (reading_by s Dropped []) (list_of s [] p.1 ++ list_of s [] p.0)) pairs
+unfolding HoldsOfPairs PairsHoldOverall HasOrderedLists
+results_ordered s b pairs plain accepted =
+    let conditions : All (HoldsOfPairs s b pairs) (pair_conditions false) = subst (λ m. All (HoldsOfPairs s b pairs) (pair_conditions m)) plain accepted in
+    (conditions 3 Results (omega arith)).0
 
-pub ServesDecomposing-met : (s : Characters) → s.is_mapper ≡ false → SuitsDecomposing s → ServesDecomposing s
+pub ServesDecomposing-met : (s : Characters) → s.is_mapper ≡ false → SuitsDecomposing s → ServesDecomposing s (bounds_of s.decompositions)
 ServesDecomposing-met s plain met =
     let accepted = IsAccepted-met s met in
     record {
@@ -49,15 +55,16 @@ ServesComposing-met s pairs plain met =
       reading = SuitsLazyReading-sound s _ (parts.0 8 Order (omega arith));
       composing = SuitsLazyComposing-met s pairs parts.0 parts.1;
       unseen = PassUnseenBelow-accepted s (bounds_of s.decompositions) parts.0;
+      results = results_ordered s (bounds_of s.decompositions) pairs plain parts.1;
       laws = SuitsTexts-accepted_pairs s (bounds_of s.decompositions) pairs parts.0 plain parts.1 Composing;
     }
 
 -- canonical data that a caller answers for
-pub ServesDecomposing-handed_in : (decompositions : Decompositions) (tables : Lists) → IsSoundNfdData decompositions tables → ServesDecomposing (characters_from decompositions tables None)
+pub ServesDecomposing-handed_in : (decompositions : Decompositions) (tables : Lists) → IsSoundNfdData decompositions tables → ServesDecomposing (characters_from decompositions tables None) nfd_bounds
 unfolding IsMet
 ServesDecomposing-handed_in decompositions tables sound = record {
   reading = SuitsLazyReading-nfd decompositions tables sound;
-  unseen = below_least (characters_from decompositions tables None) decompositions.cap 0xC0 (PassUnseenBelow-handed_in decompositions tables sound);
+  unseen = PassUnseenBelow-handed_in decompositions tables sound;
   ordered = list_ordered (characters_from decompositions tables None) nfd_bounds (sound 7 Order (omega arith)).0;
   laws = SuitsTexts-handed_in decompositions tables sound;
 }

@@ -25,7 +25,6 @@ use Rattle.normalizer_tables.specs.Readings.{reading_by}
 use Rattle.normalizer_tables.specs.Unseen.{PassUnseenBelow}
 use Rattle.normalizer_tables.proofs.ConditionLemmas.{class_of-plain}
 use Rattle.normalizer_tables.proofs.PlainCharacters.{list_of-plain_word}
-use Rattle.normalizer_calls.specs.Acceptance.{bounds_of}
 use Rattle.normalizer_calls.specs.Serving.{ServesDecomposing}
 use Rattle.normalizer_iterators.specs.LazyComposing.{SuitsLazyComposing}
 use Rattle.normalizer_iterators.proofs.PassingLemmas.{BeginsSafely-apart}
@@ -60,23 +59,23 @@ first_begins d [] starters = tt
 first_begins d (first ∷ others) starters = starters first others refl
 
 -- a character below the bound, or without class form, begins apart where text is decomposed
-pub BeginsApart-decomposed : (s : Characters) → ServesDecomposing s → (c : ℕ) → IsScalar c
-    → (nat_lt c (bounds_of s.decompositions).decomposition || not (has_class_form s c)) ≡ true → BeginsApart (reading_by s Dropped []) Decomposing c
+pub BeginsApart-decomposed : (s : Characters) (b : Bounds) → ServesDecomposing s b → (c : ℕ) → IsScalar c
+    → (nat_lt c b.decomposition || not (has_class_form s c)) ≡ true → BeginsApart (reading_by s Dropped []) Decomposing c
 unfolding normal_form
-BeginsApart-decomposed s serves c scalar begins = elim (cases_lt c (bounds_of s.decompositions).decomposition) [
+BeginsApart-decomposed s b serves c scalar begins = elim (cases_lt c b.decomposition) [
   | inl low ↦ let low_starter = serves.unseen c scalar low in (MayPass-itself (reading_by s Dropped []) c (low_starter.itself []) low_starter.starter).begins
   | inr high ↦
       let d = reading_by s Dropped [] in
-      let other : not (has_class_form s c) ≡ true = sym (ap (λ b. b || not (has_class_form s c)) (le-ltb c (bounds_of s.decompositions).decomposition high)) ∙ begins in
+      let other : not (has_class_form s c) ≡ true = sym (ap (λ l. l || not (has_class_form s c)) (le-ltb c b.decomposition high)) ∙ begins in
       let anew : has_class_form s c ≡ false = not-true (has_class_form s c) other in
       λ front x. nfd-boundary d front (c ∷ x)
       (BeginsWithStarter-expand d c x (serves.laws.inhabited.inhabited c) (first_begins d (d.list c) (λ first others is. serves.reading.starters c first others anew is)))
 ]
 
 -- the form of a character alone is its list
-pub form_of_one : (s : Characters) → ServesDecomposing s → (c : ℕ) → IsScalar c → normal_form (reading_by s Dropped []) Decomposing (c ∷ []) ≡ list_of s [] c
+pub form_of_one : (s : Characters) (b : Bounds) → ServesDecomposing s b → (c : ℕ) → IsScalar c → normal_form (reading_by s Dropped []) Decomposing (c ∷ []) ≡ list_of s [] c
 unfolding normal_form nfd expand
-form_of_one s serves c scalar = ap (order (reading_by s Dropped [])) (append-nil (list_of s [] c)) ∙ serves.ordered c scalar
+form_of_one s b serves c scalar = ap (order (reading_by s Dropped [])) (append-nil (list_of s [] c)) ∙ serves.ordered c scalar
 
 pub below_passes : (s : Characters) (bound c : ℕ) → c < bound → (nat_lt c bound || is_plain (word_of s c)) ≡ true
 below_passes s bound c below = ap (λ b. b || is_plain (word_of s c)) (lt-ltb c bound below)

@@ -1,15 +1,17 @@
 -- Data and pairs that meet the written conditions may be composed.
 use Rattle.std.proofs.Common.{◌≡◌, ℕ, [], ◌∷◌, List, subst, arith, Some}
 use Rattle.std.proofs.Math.Nat.{min-le_right}
+use Rattle.std.proofs.lemmas.List.Elements.{All-nil}
 use Rattle.normal_forms.specs.Boundary.{BeginsSafely}
 use Rattle.normal_forms.specs.Reading.{Reading, IsStarter}
 use Rattle.normalizer_tables.specs.declared.condition.Condition.TheVariants.{Hangul, Words, Order, Pairs, RoundTrip, SafeBeginning}
 use Rattle.normalizer_tables.specs.AcceptedData.{AreAcceptedPairs, IsAccepted}
 use Rattle.normalizer_tables.specs.Characters.{Characters, list_of}
 use Rattle.normalizer_tables.specs.Ignored.{ignored_list}
+use Rattle.normalizer_tables.specs.PairConditions.{HasOrderedLists}
 use Rattle.normalizer_tables.specs.Pairs.{Pair}
 use Rattle.normalizer_tables.specs.Readings.{reading_by}
-use Rattle.normalizer_tables.proofs.PairLaws.{HasStarterResults-reading_of, IsNormalized-passed, BeginsSafely-passed, inhabited-passed}
+use Rattle.normalizer_tables.proofs.PairLaws.{HasFaithfulResults-reading_of, HasStarterResults-reading_of, IsNormalized-passed, BeginsSafely-passed, inhabited-passed}
 use Rattle.normalizer_calls.specs.Acceptance.{bounds_of}
 use Rattle.normalizer_iterators.specs.LazyComposing.{SuitsLazyComposing}
 use Rattle.normalizer_iterators.proofs.PassedClasses.{no_class_form-passed}
@@ -25,6 +27,7 @@ SuitsLazyComposing-met s pairs accepted accepted_pairs =
     let begins = accepted_pairs 2 SafeBeginning (omega arith) in
     record {
       starters = HasStarterResults-reading_of s b (accepted 5 Hangul (omega arith)) pairs (accepted_pairs 0 Pairs (omega arith)) [];
+      hangul = λ ignored. HasFaithfulResults-reading_of s b (accepted 5 Hangul (omega arith)) [] (ignored_list ignored) (All-nil (HasOrderedLists s (ignored_list ignored)));
       apart = λ ignored c h. record {
         form = IsNormalized-passed s b pairs (accepted 8 Order (omega arith)) trips (ignored_list ignored) c h.scalar h.passed;
         anew =

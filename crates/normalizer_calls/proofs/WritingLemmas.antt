@@ -175,7 +175,7 @@ pub WritesForm-text : {S : Type 0} {offered : List ℕ → List ℕ → Type 0} 
     → x ≡ y → WritesText e taken refused left refuses offered (normal_form d form x) old answer new → (HasShortRuns has_class_form d x → ¬ IsErrOf answer Memory)
     → WritesForm e taken refused left has_class_form d form y old answer new
 WritesForm-text {S = S} {offered = offered} e taken refused left refuses has_class_form d form x y old answer new same h room =
-    subst (λ z. WritesForm e taken refused left has_class_form d form z old answer new) same (record { written = h.written; fault = h.fault; room = room; begun = begun answer h })
+    subst (λ z. WritesForm e taken refused left has_class_form d form z old answer new) same (record { written = h.written; ahead = h.ahead; fault = h.fault; room = room; begun = begun answer h })
   where
     begun : (answer : Result ⊤ NormalizeError) → WritesText e taken refused left refuses offered (normal_form d form x) old answer new
         → OnErr answer (((s t : S) → left s t → TakesNothing taken s t) → TookBeginning e taken (normal_form d form x) old new)

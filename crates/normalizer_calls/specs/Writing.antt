@@ -18,12 +18,14 @@ module _ {S : Type 0} (e : Encoding) (taken : S → List ℕ) where
     pub parts : text ≡ front ++ rest
     pub took : taken new ≡ taken old ++ encoded_in e front
 
-  -- The normal form of the text x was written: it stands behind what was taken before. `Sink` comes only with a fault
-  -- of the sink, and `Memory` never where the text has short runs. After either a beginning of the form was taken, if
+  -- The normal form of the text x was written: it stands behind what was taken before, and a later fault of the sink is
+  -- one from before this call too. `Sink` comes only with a fault of the sink, and `Memory` never where the text has short
+  -- runs. After either a beginning of the form was taken, if
   -- calls that are refused take nothing.
   pub record WritesForm (refused left : S → S → Type 0) (has_class_form : ℕ → Bool) (d : Reading) (form : Form)
       (x : List ℕ) (old : S) (answer : Result ⊤ NormalizeError) (new : S) : Type 0 where
     pub written : OnOk answer (taken new ≡ taken old ++ encoded_in e (normal_form d form x))
+    pub ahead : OnOk answer ((later : S) → refused new later → refused old later)
     pub fault : IsErrOf answer Sink → refused old new
     pub room : HasShortRuns has_class_form d x → ¬ IsErrOf answer Memory
     pub begun : OnErr answer (((s t : S) → left s t → TakesNothing taken s t)

@@ -1,8 +1,10 @@
 //! Composing normalizers over the data of a provider.
-ghost use Rattle.std.specs.Prelude.{◌≡◌, IfOk, IfErr};
+ghost use Rattle.std.specs.Prelude.{◌≡◌, All, IfOk, IfErr};
 ghost use Rattle.std.specs.Iterator.{IsFinite};
 ghost use Rattle.normal_forms.specs.Forms.{nfc};
 ghost use Rattle.normalizer_tables.specs.Characters.{has_class_form, characters_from};
+ghost use Rattle.normalizer_tables.specs.Ignored.{ignored_list};
+ghost use Rattle.normalizer_tables.specs.PairConditions.{HasOrderedLists};
 ghost use Rattle.normalizer_tables.specs.Readings.{reading_by};
 ghost use Rattle.normalizer_tables.specs.declared.characters.IgnoredCharacters.TheVariants.{Dropped};
 ghost use Rattle.normalizer_iterators.specs.Items.{GivesForm};
@@ -191,6 +193,8 @@ impl<'a> ComposingNormalizerBorrowed<'a> {
         ensures ready { IfOk result ⟦<Composition<'a, I> as Iterator>⟧.can_next }
         ensures held { IfOk result (λ it. (data_of_composition it ≡ composing_data_of_borrowed self.now) ×
             (pairs_of_composition it ≡ pairs_of_borrowed self.now)) }
+        ensures results { IfOk result (λ it.
+            All (HasOrderedLists (data_of_composition it) (ignored_list Dropped)) (pairs_of_composition it)) }
     {
         let characters = self.characters.copied();
         composed(

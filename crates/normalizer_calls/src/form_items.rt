@@ -11,13 +11,11 @@ ghost use Rattle.normalizer_tables.specs.Words.{is_plain};
 ghost use Rattle.normalizer_tables.specs.Readings.{reading_by};
 ghost use Rattle.normalizer_tables.specs.declared.characters.IgnoredCharacters.TheVariants.{Dropped};
 ghost use Rattle.normalizer_iterators.specs.Items.{GivesForm};
-ghost use Rattle.normalizer_calls.specs.Acceptance.{bounds_of};
 ghost use Rattle.normalizer_calls.specs.inner.Passing.{BeginsApart, MayPass};
 
 use crate::{ComposingNormalizerBorrowed, DecomposingNormalizerBorrowed};
 use normalizer_iterators::{Composition, Decomposition, NormalizeError};
 use normalizer_tables::characters::IgnoredCharacters;
-use normalizer_tables::condition::Bounds;
 use normalizer_tables::members::Members;
 use normalizer_tables::word::{is_backward_combining, is_non_round_trip};
 
@@ -91,27 +89,25 @@ impl<'a, I: Iterator<Item = char> + Drop> FormItems<I> for DecomposingNormalizer
 
     ghost form = { Decomposing };
 
-    ghost passing = { λ n c. let s = data_of_borrowed n in
-        nat_lt c (bounds_of s.decompositions).decomposition || is_plain (word_of s c) };
+    ghost passing = { λ n c. nat_lt c n.bounds.decomposition || is_plain (word_of (data_of_borrowed n) c) };
 
-    ghost bound = { λ n. (bounds_of (data_of_borrowed n).decompositions).decomposition };
+    ghost bound = { λ n. n.bounds.decomposition };
 
     ghost held_back = { false };
 
-    ghost beginning = { λ n c. let s = data_of_borrowed n in
-        nat_lt c (bounds_of s.decompositions).decomposition || not (has_class_form s c) };
+    ghost beginning = { λ n c. nat_lt c n.bounds.decomposition || not (has_class_form (data_of_borrowed n) c) };
 
     fn items(&self, characters: I) -> Result<Decomposition<'a, I>, NormalizeError> {
         self.normalize_iter(characters)
     }
 
     fn passes(&self, character: char) -> bool {
-        (character as u32) < Bounds::of_cap(self.characters.cap()).decomposition
+        (character as u32) < self.bounds.decomposition
             || is_plain(self.characters.word_of(character))
     }
 
     fn passing_bound(&self) -> u32 {
-        Bounds::of_cap(self.characters.cap()).decomposition
+        self.bounds.decomposition
     }
 
     fn holds_back(&self) -> bool {
@@ -119,8 +115,7 @@ impl<'a, I: Iterator<Item = char> + Drop> FormItems<I> for DecomposingNormalizer
     }
 
     fn begins(&self, character: char) -> bool {
-        (character as u32) < Bounds::of_cap(self.characters.cap()).decomposition
-            || !self.characters.has_class_form(character)
+        (character as u32) < self.bounds.decomposition || !self.characters.has_class_form(character)
     }
 
     fn form_of_one(&self, character: char) -> Option<Members<'_>> {

@@ -7,6 +7,7 @@ ghost use Rattle.normalizer_tables.specs.Readings.{reading_by};
 ghost use Rattle.normalizer_tables.specs.declared.characters.IgnoredCharacters.TheVariants.{Dropped};
 ghost use Rattle.normalizer_iterators.specs.Items.{GivesForm};
 ghost use Rattle.normalizer_calls.specs.Acceptance.{
+  bounds_of,
   nfd_data,
   nfkd_data,
   AnswersHeld,
@@ -35,7 +36,8 @@ pub struct DecomposingNormalizer {
     decompositions: DecompositionData,
     tables: DecompositionTables,
     supplementary: Option<DecompositionTables>,
-    ghost serves: { ServesDecomposing (characters_from decompositions tables supplementary) },
+    ghost serves: { ServesDecomposing (characters_from decompositions tables supplementary)
+        (bounds_of decompositions) },
 }
 
 impl DecomposingNormalizer {
@@ -129,6 +131,7 @@ impl DecomposingNormalizer {
         let bounds = Bounds::of_cap(characters.cap());
         DecomposingNormalizerBorrowed {
             characters: characters.passing_unseen_below(bounds.decomposition),
+            bounds,
         }
     }
 }
@@ -137,7 +140,8 @@ impl DecomposingNormalizer {
 #[derive(Drop)]
 pub struct DecomposingNormalizerBorrowed<'a> {
     pub(crate) characters: CharacterData<'a>,
-    ghost serves: { ServesDecomposing characters },
+    pub(crate) bounds: Bounds,
+    ghost serves: { ServesDecomposing characters bounds },
 }
 
 impl<'a> DecomposingNormalizerBorrowed<'a> {

@@ -10,6 +10,7 @@ use normalizer_text::{Chars, Step, Units};
 const REPLACEMENT: u32 = char::REPLACEMENT_CHARACTER as u32;
 
 /// Whether a step is a character that is handed on as it is.
+#[inline(always)]
 fn step_passes<U: Units, N: FormItems<Chars<U>>>(normalizer: &N, step: Step) -> bool
     ensures { result ≡ step_passes (N.passing normalizer.now) step }
 {
@@ -35,6 +36,7 @@ fn run_end<U: Units, N: FormItems<Chars<U>>>(normalizer: &N, units: U) -> usize
 }
 
 /// Where the segment ends that begins with the first character: before the next one that begins apart.
+#[inline(always)]
 pub(crate) fn segment_end<U: Units, N: FormItems<Chars<U>>>(normalizer: &N, units: U) -> usize
     requires { 0 < length (U.units units) }
     ensures { IsSegmentEnd (N.beginning normalizer.now) U.encoding (U.units units) result }

@@ -31,6 +31,7 @@ impl<'a> DecomposingNormalizerBorrowed<'a> {
         let characters = CharacterData::new(decompositions, tables, None, false);
         DecomposingNormalizerBorrowed {
             characters: characters.passing_unseen_below(GREATEST_BOUNDS.decomposition),
+            bounds: GREATEST_BOUNDS,
         }
     }
 }

@@ -1,9 +1,10 @@
 -- What is still to come of a composition, from one item to the next.
-use Rattle.std.proofs.Common.{◌≡◌, ℕ, ◌+◌, ◌<◌, List, [], ◌++◌, length, Option, Some, None, Result, Ok, Err, OnSome, MatchResult, refl, sym, ap, ◌∙◌, ◌∷◌, subst, arith}
+use Rattle.std.proofs.Common.{◌≡◌, ℕ, ◌+◌, ◌<◌, List, [], ◌++◌, length, Option, Some, None, Result, Ok, Err, OnSome, MatchResult, IfOk, refl, sym, ap, ◌∙◌, ◌∷◌, subst, arith}
 use Rattle.std.specs.Iterator.{Count, IsFinite, at_most, MakesProgress}
 use Rattle.normal_forms.specs.Reading.{Reading, IsStarter, IsMark}
 use Rattle.normal_forms.specs.CompositionByStarters.{compose_after, compose_by_starters}
 use Rattle.normal_forms.proofs.ComposeLemmas.{compose_by_starters-nil, compose_by_starters-starter, compose_by_starters-mark}
+use Rattle.normalizer_text.specs.Steps.{Spells}
 use Rattle.normalizer_iterators.specs.declared.composition.Ahead.{Ahead}
 use Rattle.normalizer_iterators.specs.declared.composition.Ahead.TheVariants.{NoStarter, Passed, Starter, Ended}
 use Rattle.normalizer_iterators.specs.declared.composition.Composition.{Composition}
@@ -11,7 +12,8 @@ use Rattle.normalizer_iterators.specs.declared.decomposition.Decomposition.{Deco
 use Rattle.normalizer_iterators.specs.declared.error.NormalizeError.{NormalizeError}
 use Rattle.normalizer_iterators.specs.declared.error.NormalizeError.TheVariants.{Memory}
 use Rattle.normalizer_iterators.specs.Decomposition as decomposition
-use Rattle.normalizer_iterators.specs.NextItem.{GaveFirst}
+use Rattle.normalizer_iterators.specs.Delegate.{Extent, MayGive}
+use Rattle.normalizer_iterators.specs.NextItem.{CameFirst, GaveFirst}
 use Rattle.normalizer_iterators.specs.StayingMarks.{staying}
 use Rattle.normalizer_iterators.specs.MarkRuns.{HasShortMarkRuns}
 use Rattle.normalizer_iterators.specs.inner.Passing.{PassesOn, GivesStarter}
@@ -41,8 +43,9 @@ module _ {I : Type 0} where
 module _ {I : Type 0} (can : I → Type 0) (gives : I → Option ℕ → I → Type 0) (left : I → Count) where
   -- ---- the same reading under another name
 
-  pub behind_by : (d e : Reading) (marks : List ℕ) (ahead : Ahead) (n : Decomposition I) (out : List ℕ) → d ≡ e → WillGiveBehind gives e marks ahead n out → WillGiveBehind gives d marks ahead n out
-  behind_by d e marks ahead n out same h = subst (λ k. WillGiveBehind gives k marks ahead n out) (sym same) h
+  pub behind_by : (d e : Reading) (marks : List ℕ) (ahead : Ahead) (n : Decomposition I) (out : List ℕ) → d ≡ e → WillGiveBehind (Spells gives) e marks ahead n out
+      → WillGiveBehind (Spells gives) d marks ahead n out
+  behind_by d e marks ahead n out same h = subst (λ k. WillGiveBehind (Spells gives) k marks ahead n out) (sym same) h
 
   pub short_by : (d e : Reading) (ahead : Ahead) (n : Decomposition I) → d ≡ e → UnlessEnded ahead (GivesShort gives e n) → UnlessEnded ahead (GivesShort gives d n)
   short_by d e ahead n same h = subst (λ k. UnlessEnded ahead (GivesShort gives k n)) (sym same) h
@@ -53,11 +56,32 @@ module _ {I : Type 0} (can : I → Type 0) (gives : I → Option ℕ → I → T
   pairing_by-kept s t kept = ap (λ k. reading_by k Dropped t.pairs.now) kept.0 ∙ ap (reading_by s.decomposed.characters Dropped) kept.1
 
   WillGive-by : (s t : Composition I) (front : List ℕ) (behind : Ahead) → Becomes s front behind t → (out : List ℕ)
-      → WillGiveBehind gives (pairing_by s) front behind t.decomposed out → WillGive gives t out
+      → WillGiveBehind (Spells gives) (pairing_by s) front behind t.decomposed out → WillGive (Spells gives) t out
   WillGive-by s t front behind parts out h =
       behind_by (pairing_by t) (pairing_by s) (staying t.marks) t.ahead t.decomposed out (pairing_by-kept s t parts.kept)
-      (subst (λ l. WillGiveBehind gives (pairing_by s) l t.ahead t.decomposed out) (sym parts.marks)
-      (subst (λ a. WillGiveBehind gives (pairing_by s) front a t.decomposed out) (sym parts.ahead) h))
+      (subst (λ l. WillGiveBehind (Spells gives) (pairing_by s) l t.ahead t.decomposed out) (sym parts.marks)
+      (subst (λ a. WillGiveBehind (Spells gives) (pairing_by s) front a t.decomposed out) (sym parts.ahead) h))
+
+  WillGive-parts : (Comes : I → List ℕ → Type 0) (s t : Composition I) (front : List ℕ) (behind : Ahead) → Becomes s front behind t → (out : List ℕ)
+      → WillGive Comes t out → WillGiveBehind Comes (pairing_by s) front behind t.decomposed out
+  WillGive-parts Comes s t front behind parts out h =
+      subst (λ a. WillGiveBehind Comes (pairing_by s) front a t.decomposed out) parts.ahead
+      (subst (λ l. WillGiveBehind Comes (pairing_by s) l t.ahead t.decomposed out) parts.marks
+      (subst (λ k. WillGiveBehind Comes k (staying t.marks) t.ahead t.decomposed out) (pairing_by-kept s t parts.kept) h))
+
+  -- what is known of one state holds of another behind which as much may come
+  CameFirst-by : (MayCome : Composition I → List ℕ → Type 0) (s u : Composition I) (r : Option (Result ℕ NormalizeError)) (t : Composition I)
+      → ((out : List ℕ) → MayCome u out → MayCome s out) → CameFirst MayCome u r t → CameFirst MayCome s r t
+  CameFirst-by MayCome s u None t back h = back [] h
+  CameFirst-by MayCome s u (Some (Ok c)) t back h = λ out later. back (c ∷ out) (h out later)
+  CameFirst-by MayCome s u (Some (Err e)) t back h = tt
+
+  -- a starter was composed
+  CameFirst-composed : (s t : Composition I) (e : Extent) (n : Decomposition I) (d : Reading) (a : ℕ) (r : Result ℕ NormalizeError)
+      → IfOk r (λ c. (rest : List ℕ) → WillGive (MayGive gives e) t rest → (y : List ℕ) × decomposition.WillGive (MayGive gives e) n y × (compose_after d a [] y ≡ c ∷ rest))
+      → ((y out : List ℕ) → decomposition.WillGive (MayGive gives e) n y → compose_after d a [] y ≡ out → WillGive (MayGive gives e) s out) → CameFirst (WillGive (MayGive gives e)) s (Some r) t
+  CameFirst-composed s t e n d a (Ok c) on back = λ out h. let y = on out h in back y.0 (c ∷ out) y.1 y.2
+  CameFirst-composed s t e n d a (Err k) on back = tt
 
   StaysShort-by : (s t : Composition I) (front : List ℕ) (behind : Ahead) → Becomes s front behind t → UnlessEnded behind (GivesShort gives (pairing_by s) t.decomposed) → StaysShort gives t
   StaysShort-by s t front behind parts h =
@@ -68,7 +92,7 @@ module _ {I : Type 0} (can : I → Type 0) (gives : I → Option ℕ → I → T
   items_left-by s t front behind parts = rw (parts.marks, parts.ahead) refl
 
   -- nothing is to come
-  WillGive-end : (s t : Composition I) → Becomes s [] Ended t → WillGive gives t []
+  WillGive-end : (s t : Composition I) → Becomes s [] Ended t → WillGive (Spells gives) t []
   WillGive-end s t parts = WillGive-by s t [] Ended parts [] (record { unread = []; source = tt; text = refl })
 
   -- ---- a starter is composed, or a fault comes
@@ -78,6 +102,7 @@ module _ {I : Type 0} (can : I → Type 0) (gives : I → Option ℕ → I → T
       → ComposesOn can gives left starter s.decomposed s.pairs.now (Ok composite) t
   ComposesOn-given starter s t composite marks ahead parts composes ready = record {
     first = λ y h. let text = composes.text y h in (text.0, text.1, WillGive-by s t marks ahead parts text.0 text.2);
+    came = λ e rest h. composes.came e rest (WillGive-parts (MayGive gives e) s t marks ahead parts rest h);
     fault = tt;
     room = λ h. (refl, StaysShort-by s t marks ahead parts (composes.short h));
     ends = tt;
@@ -90,6 +115,7 @@ module _ {I : Type 0} (can : I → Type 0) (gives : I → Option ℕ → I → T
       → ComposesOn can gives left starter s.decomposed s.pairs.now (Err e) t
   ComposesOn-fault starter s t e parts memory long ready = record {
     first = λ y h. WillGive-end s t parts;
+    came = λ e. tt;
     fault = memory;
     room = λ h. absurd (long h);
     ends = (parts.ahead, parts.marks);
@@ -115,6 +141,12 @@ module _ {I : Type 0} (can : I → Type 0) (gives : I → Option ℕ → I → T
           ends = tt;
           stays = λ h. cc (h.1, front);
         };
+        came = λ e out h.
+            let d = pairing_by s in
+            let b : WillGiveBehind (MayGive gives e) d (staying t.marks) s.ahead s.decomposed out =
+            subst (λ n. WillGiveBehind (MayGive gives e) d (staying t.marks) s.ahead n out) same.decomposed
+            (WillGive-parts (MayGive gives e) s t (staying t.marks) s.ahead parts out h) in
+            record { unread = b.unread; source = b.source; text = ap (λ l. c ∷ l) b.text ∙ ap (λ l. l ++ composed_ahead d s.ahead b.unread) (sym front) };
         ready = λ h. rw same.decomposed h;
         kept = parts.kept;
       }
@@ -133,6 +165,11 @@ module _ {I : Type 0} (can : I → Type 0) (gives : I → Option ℕ → I → T
           ends = (after.ahead, none_left);
           stays = λ h. refl;
         };
+        came = λ e. record {
+          unread = [];
+          source = subst (λ a. UnlessEnded a (decomposition.WillGive (MayGive gives e) s.decomposed [])) (sym is) tt;
+          text = sym (ap (λ a. staying s.marks ++ composed_ahead (pairing_by s) a []) is ∙ ap (λ l. l ++ []) none);
+        };
         ready = λ h. rw same.decomposed h;
         kept = parts.kept;
       }
@@ -146,14 +183,19 @@ module _ {I : Type 0} (can : I → Type 0) (gives : I → Option ℕ → I → T
       record {
         item = record {
           first = λ out h.
-              let source = subst (λ b. UnlessEnded b (decomposition.WillGive gives s.decomposed h.unread)) is h.source in
+              let source = subst (λ b. UnlessEnded b (decomposition.WillGive (Spells gives) s.decomposed h.unread)) is h.source in
               let text : out ≡ compose_after d a [] h.unread = h.text ∙ ap (λ b. staying s.marks ++ composed_ahead d b h.unread) is ∙ ap (λ l. l ++ compose_after d a [] h.unread) none in
-              subst (λ o. MatchResult r (GaveFirst (WillGive gives) o t) (λ _. WillGive gives t [])) (sym text) (on.first h.unread source);
+              subst (λ o. MatchResult r (GaveFirst (WillGive (Spells gives)) o t) (λ _. WillGive (Spells gives) t [])) (sym text) (on.first h.unread source);
           fault = on.fault;
           room = λ h. on.room (subst (λ b. UnlessEnded b (GivesShort gives d s.decomposed)) is h);
           ends = on.ends;
           stays = λ h. cc (h.0, is);
         };
+        came = λ e. CameFirst-composed s t e s.decomposed d a r (on.came e) (λ y out h composed. record {
+          unread = y;
+          source = subst (λ b. UnlessEnded b (decomposition.WillGive (MayGive gives e) s.decomposed y)) (sym is) h;
+          text = sym (ap (λ b. staying s.marks ++ composed_ahead d b y) is ∙ ap (λ l. l ++ compose_after d a [] y) none ∙ composed);
+        });
         ready = λ _. on.ready;
         kept = on.kept;
       }
@@ -170,6 +212,13 @@ module _ {I : Type 0} (can : I → Type 0) (gives : I → Option ℕ → I → T
     without_marks : Becomes s [] s.ahead u
     without_marks = record { kept = (ap (λ n. n.characters) same.decomposed, same.pairs); marks = none_left; ahead = same.ahead }
 
+    without_marks_back : (Comes : I → List ℕ → Type 0) (out : List ℕ) → WillGive Comes u out → WillGive Comes s out
+    without_marks_back Comes out h =
+        let d = pairing_by s in
+        let b : WillGiveBehind Comes d [] s.ahead s.decomposed out =
+        subst (λ n. WillGiveBehind Comes d [] s.ahead n out) same.decomposed (WillGive-parts Comes s u [] s.ahead without_marks out h) in
+        record { unread = b.unread; source = b.source; text = b.text ∙ ap (λ l. l ++ composed_ahead d s.ahead b.unread) (sym none) }
+
     pub Steps-marks : (r : Option (Result ℕ NormalizeError)) (t : Composition I) → CompositionSteps can gives left u r t → CompositionSteps can gives left s r t
     Steps-marks r t step = record {
       item = record {
@@ -180,6 +229,7 @@ module _ {I : Type 0} (can : I → Type 0) (gives : I → Option ℕ → I → T
         ends = step.item.ends;
         stays = λ h. step.item.stays (same.ahead ∙ h.0, none_left);
       };
+      came = λ e. CameFirst-by (WillGive (MayGive gives e)) s u r t (without_marks_back (MayGive gives e)) (step.came e);
       ready = λ h. step.ready (rw same.decomposed h);
       kept = (step.kept.0 ∙ without_marks.kept.0, step.kept.1 ∙ same.pairs);
     }
@@ -210,6 +260,12 @@ module _ {I : Type 0} (can : I → Type 0) (gives : I → Option ℕ → I → T
   asked_before (Starter a) before P h = h
   asked_before Ended before P h = absurd before
 
+  given_before : (ahead : Ahead) → IsBeforeStarter ahead → (P : Type 0) → P → UnlessEnded ahead P
+  given_before NoStarter before P h = h
+  given_before Passed before P h = h
+  given_before (Starter a) before P h = h
+  given_before Ended before P h = absurd before
+
   left_before : (ahead : Ahead) → IsBeforeStarter ahead → (n : ℕ) → ahead_left ahead n ≡ n
   left_before NoStarter before n = refl
   left_before Passed before n = refl
@@ -220,16 +276,26 @@ module _ {I : Type 0} (can : I → Type 0) (gives : I → Option ℕ → I → T
     not_ended : s.ahead ≡ Ended → ⊥
     not_ended is = subst IsBeforeStarter is before
 
-    source_before : {out : List ℕ} → (h : WillGive gives s out) → decomposition.WillGive gives s.decomposed h.unread
-    source_before h = asked_before s.ahead before (decomposition.WillGive gives s.decomposed h.unread) h.source
+    source_before : {out : List ℕ} → (h : WillGive (Spells gives) s out) → decomposition.WillGive (Spells gives) s.decomposed h.unread
+    source_before h = asked_before s.ahead before (decomposition.WillGive (Spells gives) s.decomposed h.unread) h.source
 
     short_before : StaysShort gives s → GivesShort gives (pairing_by s) s.decomposed
     short_before h = asked_before s.ahead before (GivesShort gives (pairing_by s) s.decomposed) h
 
-    text_before : (out : List ℕ) (h : WillGive gives s out) → out ≡ compose_by_starters (pairing_by s) h.unread
+    text_before : (out : List ℕ) (h : WillGive (Spells gives) s out) → out ≡ compose_by_starters (pairing_by s) h.unread
     text_before out h =
         let d = pairing_by s in
         h.text ∙ ap (λ l. staying s.marks ++ l) (composed_before d s.ahead before h.unread) ∙ ap (λ l. l ++ compose_by_starters d h.unread) none
+
+    -- what the decomposition may give is composed
+    may_come : (Comes : I → List ℕ → Type 0) (y out : List ℕ) → decomposition.WillGive Comes s.decomposed y → compose_by_starters (pairing_by s) y ≡ out → WillGive Comes s out
+    may_come Comes y out h composed =
+        let d = pairing_by s in
+        record {
+          unread = y;
+          source = given_before s.ahead before (decomposition.WillGive Comes s.decomposed y) h;
+          text = sym (ap (λ l. staying s.marks ++ l) (composed_before d s.ahead before y) ∙ ap (λ l. l ++ compose_by_starters d y) none ∙ composed);
+        }
 
     left_in_source : items_left left s ≡ decomposition.items_left left s.decomposed
     left_in_source = omega (arith, ap length none, left_before s.ahead before (decomposition.items_left left s.decomposed))
@@ -246,12 +312,14 @@ module _ {I : Type 0} (can : I → Type 0) (gives : I → Option ℕ → I → T
             first = λ out h.
                 let next = step.item.first h.unread (source_before h) in
                 let text : out ≡ compose_after d c [] next.0 = text_before out h ∙ ap (compose_by_starters d) next.1 ∙ compose_by_starters-starter d c next.0 starter in
-                subst (λ o. MatchResult r (GaveFirst (WillGive gives) o t) (λ _. WillGive gives t [])) (sym (text ∙ same_after next.0)) (on.first next.0 next.2);
+                subst (λ o. MatchResult r (GaveFirst (WillGive (Spells gives)) o t) (λ _. WillGive (Spells gives) t [])) (sym (text ∙ same_after next.0)) (on.first next.0 next.2);
             fault = on.fault;
             room = λ h. on.room (subst (λ k. GivesShort gives (reading_by k Dropped s.pairs.now) n) (sym step.kept.0) (GivesShort-next can gives left d s.decomposed c n step (short_before h)).0);
             ends = on.ends;
             stays = λ h. absurd (not_ended h.0);
           };
+          came = λ e. CameFirst-composed s t e n (reading_by n.characters Dropped s.pairs.now) c r (on.came e)
+              (λ y out h composed. may_come (MayGive gives e) (c ∷ y) out (step.came e y h) (compose_by_starters-starter d c y starter ∙ same_after y ∙ composed));
           ready = λ _. on.ready;
           kept = (on.kept.0 ∙ step.kept.0, on.kept.1);
         }
@@ -271,6 +339,7 @@ module _ {I : Type 0} (can : I → Type 0) (gives : I → Option ℕ → I → T
           ends = (parts.ahead, parts.marks);
           stays = λ h. absurd (not_ended h.0);
         };
+        came = λ k. tt;
         ready = step.ready;
         kept = parts.kept;
       }
@@ -292,6 +361,7 @@ module _ {I : Type 0} (can : I → Type 0) (gives : I → Option ℕ → I → T
               ends = (parts.ahead, parts.marks);
               stays = λ h. refl;
             };
+            came = λ e. may_come (MayGive gives e) [] [] (step.came e) (compose_by_starters-nil d);
             ready = step.ready;
             kept = parts.kept;
           }
@@ -323,6 +393,10 @@ module _ {I : Type 0} (can : I → Type 0) (gives : I → Option ℕ → I → T
               ends = tt;
               stays = λ h. absurd (not_ended h.0);
             };
+            came = λ e out h.
+                let b = WillGive-parts (MayGive gives e) s t [] Passed parts out h in
+                let y = on.came e b.unread b.source in
+                may_come (MayGive gives e) y.0 (c ∷ out) y.1 (y.2 ∙ ap (λ l. c ∷ l) (sym b.text));
             ready = λ _. on.ready;
             kept = parts.kept;
           }
@@ -349,6 +423,10 @@ module _ {I : Type 0} (can : I → Type 0) (gives : I → Option ℕ → I → T
               ends = tt;
               stays = λ h. absurd (not_ended h.0);
             };
+            came = λ e out h.
+                let b = WillGive-parts (MayGive gives e) s t [] NoStarter parts out h in
+                may_come (MayGive gives e) (c ∷ b.unread) (c ∷ out) (step.came e b.unread b.source)
+                (compose_by_starters-mark d c b.unread mark ∙ ap (λ l. c ∷ l) (sym b.text));
             ready = step.ready;
             kept = parts.kept;
           }

@@ -1,7 +1,8 @@
 -- The steps of a decomposition.
-use Rattle.std.proofs.Common.{◌≡◌, ℕ, ◌+◌, ◌*◌, List, [], length, refl, ap, ◌∙◌, subst, arith, sym, Option, Some, None, IfSome, IfOk, IfErr, Ok, Err, Result}
+use Rattle.std.proofs.Common.{◌≡◌, ℕ, ◌+◌, ◌*◌, List, [], ◌∷◌, length, refl, ap, ◌∙◌, subst, arith, sym, Option, Some, None, IfSome, IfOk, IfErr, Ok, Err, Result}
 use Rattle.std.specs.Iterator.{Count, size, at_most, IsFinite, MakesProgress}
 use Rattle.normal_forms.specs.Forms.{nfd}
+use Rattle.normalizer_text.specs.Steps.{Spells}
 use Rattle.normalizer_tables.specs.Characters.{class_of, has_class_form}
 use Rattle.normalizer_iterators.specs.declared.decomposition.Decomposition.{Decomposition}
 use Rattle.normalizer_iterators.specs.declared.error.NormalizeError.{NormalizeError}
@@ -11,12 +12,13 @@ use Rattle.normalizer_iterators.specs.Reads.{character_of}
 use Rattle.normalizer_iterators.proofs.LazyLemmas.{anew-parts}
 use Rattle.normalizer_iterators.specs.declared.error.NormalizeError.TheVariants.{Memory}
 use Rattle.normalizer_iterators.specs.Decomposition.{CanDecompose, DecompositionSteps, IsEnded, StaysShort, WillGive, items_left, pending_of, reading_of}
-use Rattle.normalizer_iterators.specs.Delegate.{HasRead, IsReadyBehind}
+use Rattle.normalizer_iterators.specs.Delegate.{HasRead, IsReadyBehind, MayGive}
 use Rattle.normalizer_iterators.specs.LazyReading.{longest_list}
 use Rattle.normalizer_iterators.specs.inner.ReadingOn.{ReadsChunk, ChunkDidNotFit}
 use Rattle.normalizer_iterators.specs.ToCome.{IsToCome, AreShortToCome, reads_left}
 use Rattle.normalizer_iterators.specs.WaitingList.{ordered}
-use Rattle.normalizer_iterators.proofs.ToComeLemmas.{nfd-nil, IsToCome-none, IsToCome-ended, AreShortToCome-ended, IsToCome-chunk, AreShortToCome-chunk, short_chunk_fits, chunk_size}
+use Rattle.normalizer_iterators.proofs.ToComeLemmas.{nfd-nil, IsToCome-front, IsToCome-back, IsToCome-none, IsToCome-ended, AreShortToCome-ended}
+use Rattle.normalizer_iterators.proofs.ToComeLemmas.{IsToCome-chunk, came_chunk, AreShortToCome-chunk, short_chunk_fits, chunk_size}
 
 -- what a value says of the variant that it is
 pub at_some : {X : Type 0} (o : Option X) (P : X → Type 0) → IfSome o P → (x : X) → o ≡ Some x → P x
@@ -40,19 +42,42 @@ module _ {I : Type 0} (can : I → Type 0) (gives : I → Option ℕ → I → T
       let parts = anew-parts (has_class_form s.characters) (reading_of s) c (s.anew c here) in
       sym (s.suits.starters c first r.others parts.0 r.members)
 
-  ended : (s : Decomposition I) → pending_of s ≡ None → ordered s.waiting ≡ [] → WillGive gives s []
-  ended s none empty = IsToCome-ended gives (nfd (reading_of s)) (pending_of s) s.delegate (ordered s.waiting) (nfd-nil (reading_of s)) none empty
+  ended : (Comes : I → List ℕ → Type 0) (s : Decomposition I) → pending_of s ≡ None → ordered s.waiting ≡ [] → WillGive Comes s []
+  ended Comes s none empty = IsToCome-ended Comes (nfd (reading_of s)) (pending_of s) s.delegate (ordered s.waiting) (nfd-nil (reading_of s)) none empty
+
+  -- a character that waits is given
+  pub Steps-front : (s t : Decomposition I) (c : ℕ) → t.characters ≡ s.characters → t.ignored ≡ s.ignored → t.pending ≡ s.pending → t.delegate ≡ s.delegate
+      → ordered s.waiting ≡ c ∷ ordered t.waiting → DecompositionSteps can gives left s (Some (Ok c)) t
+  Steps-front s t c characters ignored pending delegate front = record {
+    item = record {
+      first = λ out h.
+          let next = IsToCome-front (Spells gives) (nfd (reading_of s)) (pending_of s) s.delegate (ordered s.waiting) (ordered t.waiting) out c front h in
+          (next.0, next.1, rw (characters, ignored, pending, delegate) next.2);
+      fault = tt;
+      room = λ h. (refl, rw (characters, ignored, pending, delegate) h);
+      ends = tt;
+      stays = λ h. cc (h.1, front);
+    };
+    came = λ e out h.
+        IsToCome-back (MayGive gives e) (nfd (reading_of s)) (pending_of s) s.delegate (ordered s.waiting) (ordered t.waiting) out c front (rw (characters, ignored, pending, delegate) at h);
+    ready = λ h. rw (pending, delegate) h;
+    kept = (characters, ignored);
+  }
 
   pub Steps-ended : (s t : Decomposition I) → t.characters ≡ s.characters → t.ignored ≡ s.ignored → pending_of s ≡ None → pending_of t ≡ None → ordered s.waiting ≡ [] → ordered t.waiting ≡ []
       → DecompositionSteps can gives left s None t
   Steps-ended s t characters ignored before after empty empty_after = record {
     item = record {
-      first = λ out h. (IsToCome-none gives (nfd (reading_of s)) (pending_of s) s.delegate (ordered s.waiting) out (nfd-nil (reading_of s)) before empty h, ended t after empty_after);
+      first = λ out h. (
+        IsToCome-none (Spells gives) (nfd (reading_of s)) (pending_of s) s.delegate (ordered s.waiting) out (nfd-nil (reading_of s)) before empty h,
+        ended (Spells gives) t after empty_after,
+      );
       fault = tt;
       room = λ h. (tt, short h);
       ends = (after, empty_after);
       stays = λ h. refl;
     };
+    came = λ e. ended (MayGive gives e) s before empty;
     ready = λ h. rw after tt;
     kept = (characters, ignored);
   }
@@ -63,8 +88,8 @@ module _ {I : Type 0} (can : I → Type 0) (gives : I → Option ℕ → I → T
           (subst (λ p. AreShortToCome gives (has_class_form s.characters) (reading_of s) p s.delegate) before h))
 
   module _ (s : Decomposition I) (c : ℕ) (pending : pending_of s ≡ Some c) (empty : ordered s.waiting ≡ []) where
-    to_come : (out : List ℕ) → WillGive gives s out → IsToCome gives (nfd (reading_of s)) (Some c) s.delegate (ordered s.waiting) out
-    to_come out h = subst (λ p. IsToCome gives (nfd (reading_of s)) p s.delegate (ordered s.waiting) out) pending h
+    to_come : (out : List ℕ) → WillGive (Spells gives) s out → IsToCome (Spells gives) (nfd (reading_of s)) (Some c) s.delegate (ordered s.waiting) out
+    to_come out h = subst (λ p. IsToCome (Spells gives) (nfd (reading_of s)) p s.delegate (ordered s.waiting) out) pending h
 
     short_to_come : StaysShort gives s → AreShortToCome gives (has_class_form s.characters) (reading_of s) (Some c) s.delegate
     short_to_come h = subst (λ p. AreShortToCome gives (has_class_form s.characters) (reading_of s) p s.delegate) pending h
@@ -87,6 +112,10 @@ module _ {I : Type 0} (can : I → Type 0) (gives : I → Option ℕ → I → T
         ends = tt;
         stays = λ h. cc (h.0, pending);
       };
+      came = λ e out h.
+          subst (λ p. IsToCome (MayGive gives e) (nfd (reading_of s)) p s.delegate (ordered s.waiting) (first ∷ out)) (sym pending)
+          (came_chunk gives can left (has_class_form s.characters) (reading_of s) s.suits e c s.delegate t.delegate first (pending_of t) t.waiting (ordered s.waiting) out empty
+          (s.anew c pending) r (rw (characters, ignored) at h));
       ready = λ h. r.ready;
       kept = (characters, ignored);
     }
@@ -95,12 +124,13 @@ module _ {I : Type 0} (can : I → Type 0) (gives : I → Option ℕ → I → T
         → ChunkDidNotFit gives (has_class_form s.characters) (reading_of s) c s.delegate → DecompositionSteps can gives left s (Some (Err Memory)) t
     Steps-refused t characters ignored after empty_after long = record {
       item = record {
-        first = λ out h. ended t after empty_after;
+        first = λ out h. ended (Spells gives) t after empty_after;
         fault = refl;
         room = λ h. absurd (short_chunk_fits gives can left (has_class_form s.characters) (reading_of s) c s.delegate (s.anew c pending) long (short_to_come h));
         ends = (after, empty_after);
         stays = λ h. cc (h.0, pending);
       };
+      came = λ e. tt;
       ready = λ h. rw after tt;
       kept = (characters, ignored);
     }

@@ -1,19 +1,28 @@
 -- What an iterator of normalized text gives, from what is to come of it.
-use Rattle.std.proofs.Common.{◌≡◌, ℕ, Bool, IfOk, IsOk, IsOkUnless, List, [], ◌∷◌, Option, Some, None, Result, Ok, Err, All, MatchOption, MatchResult, refl, sym, ap, subst}
+use Rattle.std.proofs.Common.{◌≡◌, ℕ, Bool, IfOk, IsOk, IsOkUnless, List, [], ◌∷◌, ◌++◌, map, Option, Some}
+use Rattle.std.proofs.Common.{None, Result, Ok, Err, All, MatchOption, MatchResult, option_to_list, refl, sym, ap, subst, append-nil, ◌∙◌}
 use Rattle.std.proofs.lemmas.List.Elements.{All-nil, All-cons, All-head, All-tail}
-use Rattle.std.specs.Iterator.{Count}
+use Rattle.std.specs.Iterator.{Count, Drains, Yields}
+use Rattle.normal_forms.specs.Forms.{nfd}
 use Rattle.normal_forms.specs.Reading.{Reading}
 use Rattle.normal_forms.specs.ShortRuns.{HasShortRuns}
 use Rattle.normalizer_text.specs.Steps.{Spells}
-use Rattle.normalizer_iterators.specs.Decomposition.{WillGive, StaysShort, IsEnded, DecompositionSteps}
+use Rattle.normalizer_iterators.specs.Decomposition.{WillGive, StaysShort, IsEnded, DecompositionSteps, pending_of, reading_of}
 use Rattle.normalizer_iterators.specs.Composition as composition
-use Rattle.normalizer_iterators.specs.Composition.{CompositionSteps}
+use Rattle.normalizer_iterators.specs.Composition.{CompositionSteps, pairing_by}
+use Rattle.normalizer_iterators.specs.StayingMarks.{staying}
+use Rattle.normalizer_iterators.specs.WaitingList.{ordered}
+use Rattle.normalizer_iterators.specs.declared.composition.Ahead.{Ahead}
+use Rattle.normalizer_iterators.specs.declared.composition.Ahead.TheVariants.{NoStarter, Passed, Starter, Ended}
 use Rattle.normalizer_iterators.specs.declared.composition.Composition.{Composition}
 use Rattle.normalizer_iterators.specs.declared.decomposition.Decomposition.{Decomposition}
 use Rattle.normalizer_iterators.specs.declared.error.NormalizeError.{NormalizeError}
 use Rattle.normalizer_iterators.specs.declared.error.NormalizeError.TheVariants.{Memory}
-use Rattle.normalizer_iterators.specs.NextItem.{GivesNext}
-use Rattle.normalizer_iterators.specs.Items.{Answers, GivesForm, HasEnded, SpellsOk, SpellsUnless}
+use Rattle.normalizer_iterators.specs.Composing.{composed_ahead, UnlessEnded}
+use Rattle.normalizer_iterators.specs.Delegate.{ComesBehind, Extent, MayGive}
+use Rattle.normalizer_iterators.specs.Delegate.Extent.{to_end, so_far}
+use Rattle.normalizer_iterators.specs.NextItem.{CameFirst, GivesNext, IsFormOfSource}
+use Rattle.normalizer_iterators.specs.Items.{Answers, GivesForm, GivesFormOfRun, HasEnded, SpellsOk, SpellsUnless}
 
 -- ---- what an iterator gives next
 
@@ -127,18 +136,84 @@ module _ {S : Type 0} (WillGive : S → List ℕ → Type 0) (StaysShort IsEnded
 
 module _ {I : Type 0} (can : I → Type 0) (gives : I → Option ℕ → I → Type 0) (left : I → Count) where
   -- a decomposition spells what is to come of it
-  pub SpellsUnless-decomposition : (s : Decomposition I) (x : List ℕ) → WillGive gives s x → SpellsUnless (DecompositionSteps can gives left) Memory s x
-  SpellsUnless-decomposition = SpellsUnless-to_come (WillGive gives) (StaysShort gives) IsEnded (DecompositionSteps can gives left) (λ s r t steps. steps.item)
+  pub SpellsUnless-decomposition : (s : Decomposition I) (x : List ℕ) → WillGive (Spells gives) s x → SpellsUnless (DecompositionSteps can gives left) Memory s x
+  SpellsUnless-decomposition = SpellsUnless-to_come (WillGive (Spells gives)) (StaysShort gives) IsEnded (DecompositionSteps can gives left) (λ s r t steps. steps.item)
 
-  pub SpellsOk-decomposition : (s : Decomposition I) (x : List ℕ) → WillGive gives s x → StaysShort gives s → SpellsOk (DecompositionSteps can gives left) s x
-  SpellsOk-decomposition = SpellsOk-to_come (WillGive gives) (StaysShort gives) IsEnded (DecompositionSteps can gives left) (λ s r t steps. steps.item)
+  pub SpellsOk-decomposition : (s : Decomposition I) (x : List ℕ) → WillGive (Spells gives) s x → StaysShort gives s → SpellsOk (DecompositionSteps can gives left) s x
+  SpellsOk-decomposition = SpellsOk-to_come (WillGive (Spells gives)) (StaysShort gives) IsEnded (DecompositionSteps can gives left) (λ s r t steps. steps.item)
 
   -- a composition spells what is to come of it
-  pub SpellsUnless-composition : (s : Composition I) (x : List ℕ) → composition.WillGive gives s x → SpellsUnless (CompositionSteps can gives left) Memory s x
-  SpellsUnless-composition = SpellsUnless-to_come (composition.WillGive gives) (composition.StaysShort gives) composition.IsEnded (CompositionSteps can gives left) (λ s r t steps. steps.item)
+  pub SpellsUnless-composition : (s : Composition I) (x : List ℕ) → composition.WillGive (Spells gives) s x → SpellsUnless (CompositionSteps can gives left) Memory s x
+  SpellsUnless-composition = SpellsUnless-to_come (composition.WillGive (Spells gives)) (composition.StaysShort gives) composition.IsEnded (CompositionSteps can gives left) (λ s r t steps. steps.item)
 
-  pub SpellsOk-composition : (s : Composition I) (x : List ℕ) → composition.WillGive gives s x → composition.StaysShort gives s → SpellsOk (CompositionSteps can gives left) s x
-  SpellsOk-composition = SpellsOk-to_come (composition.WillGive gives) (composition.StaysShort gives) composition.IsEnded (CompositionSteps can gives left) (λ s r t steps. steps.item)
+  pub SpellsOk-composition : (s : Composition I) (x : List ℕ) → composition.WillGive (Spells gives) s x → composition.StaysShort gives s → SpellsOk (CompositionSteps can gives left) s x
+  SpellsOk-composition = SpellsOk-to_come (composition.WillGive (Spells gives)) (composition.StaysShort gives) composition.IsEnded (CompositionSteps can gives left) (λ s r t steps. steps.item)
+
+-- ---- what a run gave
+
+module _ {I S : Type 0} (source_gives : I → Option ℕ → I → Type 0) (MayCome : Extent → S → List ℕ → Type 0) (WillGive : S → List ℕ → Type 0) (StaysShort IsEnded : S → Type 0)
+    (steps : S → Option (Result ℕ NormalizeError) → S → Type 0)
+    (item : (s : S) (r : Option (Result ℕ NormalizeError)) (t : S) → steps s r t → GivesNext WillGive StaysShort IsEnded s r t)
+    (came : (s : S) (r : Option (Result ℕ NormalizeError)) (t : S) → steps s r t → (e : Extent) → CameFirst (MayCome e) s r t) where
+  -- what may come behind a run may come before it, behind what the run gave
+  may_come_before : (e : Extent) (s : S) (xs : List ℕ) (t : S) (out : List ℕ) → Yields steps s (map Ok xs) t → MayCome e t out → MayCome e s (xs ++ out)
+  may_come_before e s [] t out run h = subst (λ u. MayCome e u out) (sym run) h
+  may_come_before e s (x ∷ xs) t out run h = came s (Some (Ok x)) run.0 run.1 e (xs ++ out) (may_come_before e run.0 xs t out run.2 h)
+
+  GivesFormOfRun-made : ((s : S) → (out : List ℕ) × MayCome so_far s out) → (form : List ℕ → List ℕ) (source : I) (it : S) → IsFormOfSource source_gives MayCome form source it
+      → GivesFormOfRun source_gives steps form source it
+  GivesFormOfRun-made some form source it is = record {
+    whole = λ out run.
+        let (after, all) = run in
+        let (last, yields, end) = all in
+        let x = is to_end (out ++ []) (may_come_before to_end it out last [] yields (came last None after end to_end)) in
+        (x.0, x.1, sym (append-nil out) ∙ x.2);
+    front = λ out now yields.
+        let more = some now in
+        let x = is so_far (out ++ more.0) (may_come_before so_far it out now more.0 yields more.1) in
+        let (after, run) = x.1 in
+        (x.0, after, run, (more.0, sym x.2));
+    fault = λ out e now all.
+        let (last, yields, step) = all in
+        let gave = item last (Some (Err e)) now step in
+        (gave.fault, HasEnded-ended WillGive StaysShort IsEnded steps item now gave.ends);
+  }
+
+module _ {I : Type 0} (can : I → Type 0) (gives : I → Option ℕ → I → Type 0) (left : I → Count) where
+  behind_may_come : (pending : Option ℕ) (u : I) → ComesBehind (MayGive gives so_far) pending u []
+  behind_may_come None u = refl
+  behind_may_come (Some c) u = (u, refl)
+
+  some_decomposed : (s : Decomposition I) → (out : List ℕ) × WillGive (MayGive gives so_far) s out
+  some_decomposed s = (
+    ordered s.waiting ++ nfd (reading_of s) (option_to_list (pending_of s) ++ []),
+    record { unread = []; source = behind_may_come (pending_of s) s.delegate; text = refl },
+  )
+
+  unless_ended : (ahead : Ahead) (P : Type 0) → P → UnlessEnded ahead P
+  unless_ended NoStarter P h = h
+  unless_ended Passed P h = h
+  unless_ended (Starter a) P h = h
+  unless_ended Ended P h = tt
+
+  some_composed : (s : Composition I) → (out : List ℕ) × composition.WillGive (MayGive gives so_far) s out
+  some_composed s =
+      let y = some_decomposed s.decomposed in (
+        staying s.marks ++ composed_ahead (pairing_by s) s.ahead y.0,
+        record { unread = y.0; source = unless_ended s.ahead (WillGive (MayGive gives so_far) s.decomposed y.0) y.1; text = refl },
+      )
+
+  pub GivesFormOfRun-decomposition : (form : List ℕ → List ℕ) (source : I) (it : Decomposition I) → IsFormOfSource gives (λ e. WillGive (MayGive gives e)) form source it
+      → GivesFormOfRun gives (DecompositionSteps can gives left) form source it
+  GivesFormOfRun-decomposition =
+      GivesFormOfRun-made gives (λ e. WillGive (MayGive gives e)) (WillGive (Spells gives)) (StaysShort gives) IsEnded (DecompositionSteps can gives left)
+      (λ s r t step. step.item) (λ s r t step. step.came) some_decomposed
+
+  pub GivesFormOfRun-composition : (form : List ℕ → List ℕ) (source : I) (it : Composition I) → IsFormOfSource gives (λ e. composition.WillGive (MayGive gives e)) form source it
+      → GivesFormOfRun gives (CompositionSteps can gives left) form source it
+  GivesFormOfRun-composition =
+      GivesFormOfRun-made gives (λ e. composition.WillGive (MayGive gives e)) (composition.WillGive (Spells gives)) (composition.StaysShort gives) composition.IsEnded
+      (CompositionSteps can gives left) (λ s r t step. step.item) (λ s r t step. step.came) some_composed
 
 -- ---- what a maker answers
 
@@ -146,12 +221,16 @@ module _ {I S : Type 0} (source_gives : I → Option ℕ → I → Type 0) (Will
     (unless : (s : S) (x : List ℕ) → WillGive s x → SpellsUnless steps Memory s x) (always : (s : S) (x : List ℕ) → WillGive s x → StaysShort s → SpellsOk steps s x) (f : ℕ
     → Bool) (d : Reading) (form : Reading → List ℕ → List ℕ) (source : I) where
   -- the runs of a text may be short by any reading that has the same lists
-  pub GivesForm-made : (IsShort : List ℕ → Type 0) → ((x : List ℕ) → HasShortRuns f d x → IsShort x) → (made : Result S NormalizeError)
+  pub GivesForm-made : (IsMade : S → Type 0) → ((it : S) → IsMade it → GivesFormOfRun source_gives steps (form d) source it)
+      → (IsShort : List ℕ → Type 0) → ((x : List ℕ) → HasShortRuns f d x → IsShort x) → (made : Result S NormalizeError)
       → IfOk made (λ it. (x : List ℕ) → Spells source_gives source x → WillGive it (form d x)) → IfOk made (λ it. (x : List ℕ) → Spells source_gives source x → IsShort x → StaysShort it)
-      → ((x : List ℕ) → Spells source_gives source x → IsShort x → IsOk made) → IsOkUnless made Memory → GivesForm source_gives steps f d form source made
-  GivesForm-made IsShort is_short (Ok it) text short succeeds refused = record {
+      → ((x : List ℕ) → Spells source_gives source x → IsShort x → IsOk made) → IfOk made IsMade → IsOkUnless made Memory
+      → GivesForm source_gives steps f d form source made
+  GivesForm-made IsMade ran IsShort is_short (Ok it) text short succeeds came refused = record {
     text = λ x h. unless it (form d x) (text x h);
     short = λ x h runs. always it (form d x) (text x h) (short x h (is_short x runs));
+    run = ran it came;
     refused = refused;
   }
-  GivesForm-made IsShort is_short (Err e) text short succeeds refused = record { text = tt; short = λ x h runs. absurd (cc (succeeds x h (is_short x runs))); refused = refused }
+  GivesForm-made IsMade ran IsShort is_short (Err e) text short succeeds came refused =
+      record { text = tt; short = λ x h runs. absurd (cc (succeeds x h (is_short x runs))); run = tt; refused = refused }

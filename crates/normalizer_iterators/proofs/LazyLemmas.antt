@@ -10,7 +10,8 @@ use Rattle.normalizer_tables.specs.Ignored.{ignored_list}
 use Rattle.normalizer_tables.specs.Pairs.{Pair}
 use Rattle.normalizer_tables.specs.Readings.{reading_by}
 use Rattle.normalizer_text.specs.Steps.{Spells}
-use Rattle.normalizer_iterators.specs.Delegate.{SpellsBehind}
+use Rattle.normalizer_iterators.specs.Delegate.{ComesBehind, Extent, MayGive, SpellsBehind}
+use Rattle.normalizer_iterators.specs.Delegate.Extent.{to_end, so_far}
 use Rattle.normalizer_iterators.specs.LazyReading.{HasClassesFrom}
 
 -- ---- the reading that the data give
@@ -102,3 +103,28 @@ module _ {I : Type 0} (gives : I → Option ℕ → I → Type 0) where
       let before = spelled_behind s xs run.0 x run.1 spells in
       let next = spelled_next run.0 pending u before.0 run.2 before.2 in
       (next.0, before.1 ∙ ap (λ l. xs ++ l) next.1, next.2)
+
+  -- ---- what may be given behind a call may be given before it, behind what the call gave
+
+  MayGive-some : (e : Extent) (t : I) (c : ℕ) (u : I) (x : List ℕ) → gives t (Some c) u → MayGive gives e u x → MayGive gives e t (c ∷ x)
+  MayGive-some to_end t c u x step h =
+      let (after, run) = h in
+      let (last, yields, end) = run in
+      (after, (last, (u, step, yields), end))
+  MayGive-some so_far t c u x step h = (h.0, (u, step, h.1))
+
+  MayGive-none : (e : Extent) (t u : I) → gives t None u → MayGive gives e t []
+  MayGive-none to_end t u step = (u, (t, refl, step))
+  MayGive-none so_far t u step = (t, refl)
+
+  pub MayGive-next : (e : Extent) (t : I) (pending : Option ℕ) (u : I) (x : List ℕ) → gives t pending u → ComesBehind (MayGive gives e) pending u x → MayGive gives e t (option_to_list pending ++ x)
+  MayGive-next e t None u x step h = subst (MayGive gives e t) (sym h) (MayGive-none e t u step)
+  MayGive-next e t (Some c) u x step h = MayGive-some e t c u x step h
+
+  MayGive-behind : (e : Extent) (s : I) (xs : List ℕ) (t : I) (x : List ℕ) → Yields gives s xs t → MayGive gives e t x → MayGive gives e s (xs ++ x)
+  MayGive-behind e s [] t x run h = subst (λ j. MayGive gives e j x) (sym run) h
+  MayGive-behind e s (y ∷ ys) t x run h = MayGive-some e s y run.0 (ys ++ x) run.1 (MayGive-behind e run.0 ys t x run.2 h)
+
+  pub MayGive-then : (e : Extent) (s : I) (xs : List ℕ) (pending : Option ℕ) (u : I) (x : List ℕ) → YieldsThen gives s xs pending u → ComesBehind (MayGive gives e) pending u x
+      → MayGive gives e s (xs ++ (option_to_list pending ++ x))
+  MayGive-then e s xs pending u x run h = MayGive-behind e s xs run.0 (option_to_list pending ++ x) run.1 (MayGive-next e run.0 pending u x run.2 h)

@@ -22,17 +22,17 @@ use Rattle.normalizer_tables.specs.Pairs.{Pair}
 use Rattle.normalizer_tables.specs.Readings.{reading_by}
 use Rattle.normalizer_tables.specs.declared.characters.IgnoredCharacters.TheVariants.{Dropped}
 use Rattle.normalizer_iterators.specs.declared.decomposition.Decomposition.{Decomposition}
-use Rattle.normalizer_iterators.specs.Delegate.{SpellsBehind, IsReadyBehind}
+use Rattle.normalizer_iterators.specs.Delegate.{ComesBehind, Extent, IsReadyBehind, MayGive, SpellsBehind}
 use Rattle.normalizer_iterators.specs.Decomposition.{StaysShort, WillGive, pending_of, reading_of}
 use Rattle.normalizer_iterators.specs.LazyComposing.{IsPassed, StandsApart, StandsApartIn, PassedBeginAnew, SuitsLazyComposing}
 use Rattle.normalizer_iterators.specs.LazyReading.{longest_list}
 use Rattle.normalizer_iterators.specs.inner.Passing.{AllPassed, StandsAtPassed, IsAtPassed, PassesOn, GivesStarter}
 use Rattle.normalizer_iterators.specs.inner.ReadingOn.{ReadsChunk}
-use Rattle.normalizer_iterators.specs.ToCome.{reads_left}
+use Rattle.normalizer_iterators.specs.ToCome.{IsToCome, reads_left}
 use Rattle.normalizer_iterators.specs.WaitingList.{ordered}
 use Rattle.normalizer_iterators.proofs.ComposingLemmas.{nfd-reading_by, nfc-reading_by}
 use Rattle.normalizer_iterators.proofs.DecompositionLemmas.{at_some, Steps-chunk, Goes-chunk}
-use Rattle.normalizer_iterators.proofs.LazyLemmas.{continues-anew, spelled_next}
+use Rattle.normalizer_iterators.proofs.LazyLemmas.{continues-anew, spelled_next, MayGive-next}
 
 -- ---- what stands apart
 
@@ -81,13 +81,13 @@ BeginsSafely-apart f d c apart = by (d.list c) refl
     by (first ∷ others) e = let h = apart.safely first others e in (h.0, λ a. none_of (d.pair a first) (h.1 a))
 
 -- what stands apart and what is behind it begin safely
-begins_apart : {I : Type 0} (gives : I → Option ℕ → I → Type 0) (s : Characters) (pairs : List Pair) (ignored : IgnoredCharacters) (following : Option ℕ) (u : I) (rest : List ℕ)
-    → ForSome following (StandsApartIn s pairs ignored) → SpellsBehind gives following u rest
+begins_apart : {I : Type 0} (Comes : I → List ℕ → Type 0) (s : Characters) (pairs : List Pair) (ignored : IgnoredCharacters) (following : Option ℕ) (u : I) (rest : List ℕ)
+    → ForSome following (StandsApartIn s pairs ignored) → ComesBehind Comes following u rest
     → BeginsSafely (reading_by s ignored pairs) (expand (reading_by s ignored pairs) (option_to_list following ++ rest))
 unfolding expand
-begins_apart gives s pairs ignored None u rest apart source =
+begins_apart Comes s pairs ignored None u rest apart source =
     subst (λ l. BeginsSafely (reading_by s ignored pairs) (expand (reading_by s ignored pairs) l)) (sym source) tt
-begins_apart gives s pairs ignored (Some e) u rest apart source =
+begins_apart Comes s pairs ignored (Some e) u rest apart source =
     let stands = apart e refl in
     BeginsSafely-expand (reading_by s ignored pairs) e rest stands.inhabited
     (BeginsSafely-apart (has_class_form s) (reading_by s ignored pairs) e stands)
@@ -114,11 +114,11 @@ compose_after-boundary d a p (c ∷ y) begins =
 
 module _ {I : Type 0} (can : I → Type 0) (gives : I → Option ℕ → I → Type 0) (left : I → Count) (pairs : List Pair) (s : Decomposition I) (here : IsAtPassed pairs s) where
   -- what is to come begins safely
-  pub BeginsSafely-to_come : (y : List ℕ) → WillGive gives s y → BeginsSafely (reading_by s.characters Dropped pairs) y
-  BeginsSafely-to_come y h =
+  pub BeginsSafely-to_come : (Comes : I → List ℕ → Type 0) (y : List ℕ) → WillGive Comes s y → BeginsSafely (reading_by s.characters Dropped pairs) y
+  BeginsSafely-to_come Comes y h =
       let x = option_to_list (pending_of s) ++ h.unread in
       subst (BeginsSafely (reading_by s.characters Dropped pairs)) (sym (h.text ∙ ap (λ l. l ++ nfd (reading_of s) x) here.waiting))
-      (nfd-begins s.characters pairs s.ignored x (begins_apart gives s.characters pairs s.ignored (pending_of s) s.delegate h.unread here.apart h.source))
+      (nfd-begins s.characters pairs s.ignored x (begins_apart Comes s.characters pairs s.ignored (pending_of s) s.delegate h.unread here.apart h.source))
 
   module _ (b : Bounds) (suits : SuitsLazyComposing s.characters b pairs) (c : ℕ) (pending : pending_of s ≡ Some c) where
     first_apart : StandsApartIn s.characters pairs s.ignored c
@@ -128,15 +128,15 @@ module _ {I : Type 0} (can : I → Type 0) (gives : I → Option ℕ → I → T
         (near : OnSome following (can t.delegate × IsFinite (left t.delegate) × (size (left t.delegate) < size (left s.delegate))))
         (apart : ForSome following (StandsApartIn s.characters pairs s.ignored)) (reads : pending_of t ≡ following) (empty : ordered t.waiting ≡ []) (characters : t.characters ≡ s.characters)
         (ignored : t.ignored ≡ s.ignored) where
-      to_come : (y : List ℕ) → WillGive gives s y → (own : List ℕ) × (rest : List ℕ) × (y ≡ own ++ rest)
-          × (compose_by_starters (reading_by s.characters Dropped pairs) y ≡ c ∷ compose_by_starters (reading_by s.characters Dropped pairs) rest) × WillGive gives t rest
+      to_come : (y : List ℕ) → WillGive (Spells gives) s y → (own : List ℕ) × (rest : List ℕ) × (y ≡ own ++ rest)
+          × (compose_by_starters (reading_by s.characters Dropped pairs) y ≡ c ∷ compose_by_starters (reading_by s.characters Dropped pairs) rest) × WillGive (Spells gives) t rest
       to_come y h =
           let d = reading_of s in
           let D = reading_by s.characters s.ignored pairs in
           let source : Spells gives s.delegate h.unread = subst (λ o. SpellsBehind gives o s.delegate h.unread) pending h.source in
           let next = spelled_next gives s.delegate following t.delegate h.unread step source in
           let rest = option_to_list following ++ next.0 in
-          let begins = begins_apart gives s.characters pairs s.ignored following t.delegate next.0 apart next.2 in
+          let begins = begins_apart (Spells gives) s.characters pairs s.ignored following t.delegate next.0 apart next.2 in
           let all : y ≡ nfd d (c ∷ rest) =
           h.text ∙ ap (λ l. l ++ nfd d (option_to_list (pending_of s) ++ h.unread)) here.waiting ∙ ap (λ o. nfd d (option_to_list o ++ h.unread)) pending
           ∙ ap (λ l. nfd d (c ∷ l)) next.1 in
@@ -149,6 +149,27 @@ module _ {I : Type 0} (can : I → Type 0) (gives : I → Option ℕ → I → T
             ap (compose_by_starters (reading_by s.characters Dropped pairs)) all ∙ sym (composed (c ∷ rest)) ∙ composed_form-boundary D (c ∷ []) rest begins
                 ∙ ap (λ l. l ++ composed_form D rest) (own_form s.characters b pairs suits s.ignored c first_apart) ∙ ap (λ l. c ∷ l) (composed rest),
             rw (characters, ignored, reads, empty) (record { unread = next.0; source = next.2; text = refl }),
+          )
+
+      came_to_come : (e : Extent) (out : List ℕ) → WillGive (MayGive gives e) t out → (y : List ℕ) × WillGive (MayGive gives e) s y
+          × (compose_by_starters (reading_by s.characters Dropped pairs) y ≡ c ∷ compose_by_starters (reading_by s.characters Dropped pairs) out)
+      came_to_come e out later =
+          let d = reading_of s in
+          let D = reading_by s.characters s.ignored pairs in
+          let R = reading_by s.characters Dropped pairs in
+          let h : IsToCome (MayGive gives e) (nfd d) following t.delegate [] out = rw (characters, ignored, reads, empty) at later in
+          let rest = option_to_list following ++ h.unread in
+          let begins = begins_apart (MayGive gives e) s.characters pairs s.ignored following t.delegate h.unread apart h.source in
+          let composed = λ (x : List ℕ). composed_form-is s.characters s.ignored pairs x in (
+            nfd d (c ∷ rest),
+            subst (λ o. IsToCome (MayGive gives e) (nfd d) o s.delegate (ordered s.waiting) (nfd d (c ∷ rest))) (sym pending) (record {
+              unread = rest;
+              source = MayGive-next gives e s.delegate following t.delegate h.unread step h.source;
+              text = sym (ap (λ l. l ++ nfd d (c ∷ rest)) here.waiting);
+            }),
+            sym (composed (c ∷ rest)) ∙ composed_form-boundary D (c ∷ []) rest begins
+                ∙ ap (λ l. l ++ composed_form D rest) (own_form s.characters b pairs suits s.ignored c first_apart) ∙ ap (λ l. c ∷ l) (composed rest)
+                ∙ ap (λ l. c ∷ compose_by_starters R l) (sym h.text),
           )
 
       short_to_come : StaysShort gives s → StaysShort gives t
@@ -179,6 +200,7 @@ module _ {I : Type 0} (can : I → Type 0) (gives : I → Option ℕ → I → T
           let both = ready_by following near in
           record {
             text = to_come;
+            came = came_to_come;
             short = short_to_come;
             ready = rw reads both.0;
             at_passed = record { waiting = empty; apart = rw (reads, characters, ignored) apart };

@@ -6,11 +6,13 @@ use Rattle.normal_forms.specs.CompositionByStarters.{join, compose_after, compos
 use Rattle.normal_forms.specs.Boundary.{BeginsSafely}
 use Rattle.normal_forms.specs.ShortRuns.{places}
 use Rattle.normal_forms.proofs.ComposeLemmas.{starter_or_mark, compose_after-nil, compose_after-join, compose_after-starter, compose_after-mark}
+use Rattle.normalizer_text.specs.Steps.{Spells}
 use Rattle.normalizer_iterators.specs.declared.composition.Ahead.TheVariants.{Starter, Passed, Ended}
 use Rattle.normalizer_iterators.specs.declared.decomposition.Decomposition.{Decomposition}
 use Rattle.normalizer_iterators.specs.declared.error.NormalizeError.{NormalizeError}
 use Rattle.normalizer_iterators.specs.declared.marks.StayingMarks.{StayingMarks}
 use Rattle.normalizer_iterators.specs.Decomposition as decomposition
+use Rattle.normalizer_iterators.specs.Delegate.{Extent, MayGive}
 use Rattle.normalizer_iterators.specs.MarkRuns.{leading_marks, HasShortMarkRuns}
 use Rattle.normalizer_iterators.specs.StayingMarks.{staying, used, BlocksBelow}
 use Rattle.normalizer_iterators.specs.Composing.{GivesShort, ComposesStarter}
@@ -21,7 +23,10 @@ use Rattle.normalizer_iterators.proofs.MarkRunLemmas.{leading_marks-mark, HasSho
 -- the starter has become `composite`, and these marks stay behind it
 pub record ComposedSoFar {I : Type 0} (can : I → Type 0) (gives : I → Option ℕ → I → Type 0) (left : I → Count) (d : Reading) (starter : ℕ) (old : Decomposition I) (composite : ℕ)
     (now : Decomposition I) (marks : StayingMarks) : Type 0 where
-  pub text : (all : List ℕ) → decomposition.WillGive gives old all → (y : List ℕ) × (compose_after d starter [] all ≡ compose_after d composite (staying marks) y) × decomposition.WillGive gives now y
+  pub text : (all : List ℕ) → decomposition.WillGive (Spells gives) old all → (y : List ℕ)
+      × (compose_after d starter [] all ≡ compose_after d composite (staying marks) y) × decomposition.WillGive (Spells gives) now y
+  pub came : (e : Extent) (y : List ℕ) → decomposition.WillGive (MayGive gives e) now y → (all : List ℕ) × decomposition.WillGive (MayGive gives e) old all
+      × (compose_after d starter [] all ≡ compose_after d composite (staying marks) y)
   pub short : GivesShort gives d old → (h : GivesShort gives d now) × (length (staying marks) + leading_marks d h.unread ≤ places)
   pub blocking : BlocksBelow d marks
   pub in_use : used marks ≡ length (staying marks)
@@ -60,6 +65,7 @@ module _ {I : Type 0} (can : I → Type 0) (gives : I → Option ℕ → I → T
       → ComposedSoFar can gives left d starter old starter old marks
   ComposedSoFar-none starter old marks none unused blocking ready = record {
     text = λ all h. (all, ap (λ p. compose_after d starter p all) (sym none), h);
+    came = λ e y h. (y, h, ap (λ p. compose_after d starter p y) (sym none));
     short = λ h. (h, omega (arith, ap length none, HasShortMarkRuns-leading d h.unread h.runs));
     blocking = blocking;
     in_use = omega (arith, ap length none);
@@ -77,6 +83,9 @@ module _ {I : Type 0} (can : I → Type 0) (gives : I → Option ℕ → I → T
             let b = before.text all h in
             let first = step.item.first b.0 b.2 in
             (first.0, b.1 ∙ ap (compose_after d composite (staying marks)) first.1 ∙ compose_after-join d composite (staying marks) c r first.0 joins, first.2);
+        came = λ e y h.
+            let b = before.came e (c ∷ y) (step.came e y h) in
+            (b.0, b.1, b.2 ∙ compose_after-join d composite (staying marks) c r y joins);
         short = λ h.
             let b = before.short h in
             let n = GivesShort-next now c next step b.0 in
@@ -103,6 +112,9 @@ module _ {I : Type 0} (can : I → Type 0) (gives : I → Option ℕ → I → T
                   ∙ ap (λ p. compose_after d composite p first.0) (sym longer),
               first.2,
             );
+        came = λ e y h.
+            let b = before.came e (c ∷ y) (step.came e y h) in
+            (b.0, b.1, b.2 ∙ compose_after-mark d composite (staying marks) c y apart mark ∙ ap (λ p. compose_after d composite p y) (sym longer));
         short = λ h.
             let b = before.short h in
             let n = GivesShort-next now c next step b.0 in
@@ -136,6 +148,12 @@ module _ {I : Type 0} (can : I → Type 0) (gives : I → Option ℕ → I → T
               b.1 ∙ ap (compose_after d composite (staying marks)) first.1 ∙ compose_after-starter d composite (staying marks) c first.0 apart starts,
               record { unread = first.0; source = first.2; text = refl },
             );
+        came = λ e rest h.
+            let b = before.came e (c ∷ h.unread) (step.came e h.unread h.source) in (
+              b.0,
+              b.1,
+              b.2 ∙ compose_after-starter d composite (staying marks) c h.unread apart starts ∙ ap (λ l. composite ∷ l) (sym h.text),
+            );
         short = λ h. (GivesShort-next now c next step (before.short h).0).0;
         fewer = omega (arith, before.fewer);
       })
@@ -151,19 +169,28 @@ module _ {I : Type 0} (can : I → Type 0) (gives : I → Option ℕ → I → T
           b.1 ∙ ap (compose_after d composite (staying marks)) end.0 ∙ compose_after-nil d composite (staying marks),
           record { unread = []; source = tt; text = sym (append-nil (staying marks)) },
         );
+    came = λ e rest h.
+        let b = before.came e [] (step.came e) in
+        (b.0, b.1, b.2 ∙ compose_after-nil d composite (staying marks) ∙ ap (λ l. composite ∷ l) (sym (h.text ∙ append-nil (staying marks))));
     short = λ h. tt;
     fewer = omega (arith, before.fewer);
   }
 
   -- what begins safely is not composed with what stands before it
   pub ComposesStarter-passes : (starter : ℕ) (old : Decomposition I) (composite : ℕ) (now : Decomposition I) (marks : StayingMarks) → ComposedSoFar can gives left d starter old composite now marks
-      → ((y : List ℕ) → decomposition.WillGive gives now y → BeginsSafely d y) → ComposesStarter gives left d starter old composite (staying marks) Passed now
+      → ((Comes : I → List ℕ → Type 0) (y : List ℕ) → decomposition.WillGive Comes now y → BeginsSafely d y) → ComposesStarter gives left d starter old composite (staying marks) Passed now
   ComposesStarter-passes starter old composite now marks before begins = record {
     text = λ all h.
         let b = before.text all h in (
           staying marks ++ compose_by_starters d b.0,
-          b.1 ∙ compose_after-boundary d composite (staying marks) b.0 (begins b.0 b.2),
+          b.1 ∙ compose_after-boundary d composite (staying marks) b.0 (begins (Spells gives) b.0 b.2),
           record { unread = b.0; source = b.2; text = refl },
+        );
+    came = λ e rest h.
+        let b = before.came e h.unread h.source in (
+          b.0,
+          b.1,
+          b.2 ∙ compose_after-boundary d composite (staying marks) h.unread (begins (MayGive gives e) h.unread h.source) ∙ ap (λ l. composite ∷ l) (sym h.text),
         );
     short = λ h. (before.short h).0;
     fewer = before.fewer;

@@ -11,12 +11,12 @@ use Rattle.normal_forms.proofs.OrderLemmas.{order-nil, length-order}
 use Rattle.normal_forms.proofs.ChunkLemmas.{nfd-before_chunk, nfd-chunk, HasShortRuns-rest, leading_fits, chunk_fits}
 use Rattle.normalizer_text.specs.Steps.{Spells}
 use Rattle.normalizer_iterators.specs.declared.waiting.WaitingList.{WaitingList}
-use Rattle.normalizer_iterators.specs.Delegate.{SpellsBehind}
+use Rattle.normalizer_iterators.specs.Delegate.{ComesBehind, Extent, MayGive}
 use Rattle.normalizer_iterators.specs.LazyReading.{SuitsLazyReading, longest_list}
 use Rattle.normalizer_iterators.specs.inner.ReadingOn.{ReadsOn, DidNotFit, ReadsChunk, ChunkDidNotFit}
 use Rattle.normalizer_iterators.specs.ToCome.{IsToCome, AreShortToCome, reads_left}
 use Rattle.normalizer_iterators.specs.WaitingList.{ordered, unordered, held}
-use Rattle.normalizer_iterators.proofs.LazyLemmas.{anew-parts, spelled_behind, spelled_then}
+use Rattle.normalizer_iterators.proofs.LazyLemmas.{anew-parts, spelled_behind, spelled_then, MayGive-then}
 use Rattle.normalizer_iterators.proofs.ReadingLemmas.{reordered-nothing}
 
 pub nfd-nil : (d : Reading) → nfd d [] ≡ []
@@ -24,11 +24,11 @@ unfolding nfd expand
 nfd-nil d = order-nil d
 
 -- what is read last and what stands behind it begin with a starter
-begins_chunk : (f : ℕ → Bool) (d : Reading) → SuitsLazyReading f d → {I : Type 0} (gives : I → Option ℕ → I → Type 0) (pending : Option ℕ) (u : I) (rest : List ℕ)
-    → IfSome pending (λ c. continues f d c ≡ false) → SpellsBehind gives pending u rest → BeginsChunk d (option_to_list pending ++ rest)
-begins_chunk f d suits gives None u [] anew source = tt
-begins_chunk f d suits gives None u (c ∷ rest) anew source = cc
-begins_chunk f d suits gives (Some c) u rest anew source =
+begins_chunk : (f : ℕ → Bool) (d : Reading) → SuitsLazyReading f d → {I : Type 0} (Comes : I → List ℕ → Type 0) (pending : Option ℕ) (u : I) (rest : List ℕ)
+    → IfSome pending (λ c. continues f d c ≡ false) → ComesBehind Comes pending u rest → BeginsChunk d (option_to_list pending ++ rest)
+begins_chunk f d suits Comes None u [] anew source = tt
+begins_chunk f d suits Comes None u (c ∷ rest) anew source = cc
+begins_chunk f d suits Comes (Some c) u rest anew source =
     let parts = anew-parts f d c anew in
     (parts.1, (parts.2, parts.3), suits.starters c parts.1 parts.2 parts.0 parts.3)
 
@@ -37,27 +37,36 @@ unfolding expand
 length-expand d [] short = omega arith
 length-expand d (c ∷ x) short = omega (arith, short c, length-expand d x short, length-append (d.list c) (expand d x))
 
-module _ {I : Type 0} (gives : I → Option ℕ → I → Type 0) where
+module _ {I : Type 0} (Comes : I → List ℕ → Type 0) where
   -- ---- a character that waits is given
 
-  pub IsToCome-front : (form : List ℕ → List ℕ) (pending : Option ℕ) (u : I) (front behind out : List ℕ) (c : ℕ) → front ≡ c ∷ behind → IsToCome gives form pending u front out → (rest : List ℕ)
-      × (out ≡ c ∷ rest) × IsToCome gives form pending u behind rest
+  pub IsToCome-front : (form : List ℕ → List ℕ) (pending : Option ℕ) (u : I) (front behind out : List ℕ) (c : ℕ) → front ≡ c ∷ behind → IsToCome Comes form pending u front out → (rest : List ℕ)
+      × (out ≡ c ∷ rest) × IsToCome Comes form pending u behind rest
   IsToCome-front form pending u front behind out c e h = (
     behind ++ form (option_to_list pending ++ h.unread),
     h.text ∙ ap (λ l. l ++ form (option_to_list pending ++ h.unread)) e,
     record { unread = h.unread; source = h.source; text = refl },
   )
 
+  pub IsToCome-back : (form : List ℕ → List ℕ) (pending : Option ℕ) (u : I) (front behind rest : List ℕ) (c : ℕ) → front ≡ c ∷ behind → IsToCome Comes form pending u behind rest
+      → IsToCome Comes form pending u front (c ∷ rest)
+  IsToCome-back form pending u front behind rest c e h = record {
+    unread = h.unread;
+    source = h.source;
+    text = ap (λ l. c ∷ l) h.text ∙ ap (λ l. l ++ form (option_to_list pending ++ h.unread)) (sym e);
+  }
+
   -- ---- nothing is pending and nothing waits
 
-  pub IsToCome-none : (form : List ℕ → List ℕ) (pending : Option ℕ) (u : I) (front out : List ℕ) → form [] ≡ [] → pending ≡ None → front ≡ [] → IsToCome gives form pending u front out → out ≡ []
+  pub IsToCome-none : (form : List ℕ → List ℕ) (pending : Option ℕ) (u : I) (front out : List ℕ) → form [] ≡ [] → pending ≡ None → front ≡ [] → IsToCome Comes form pending u front out → out ≡ []
   IsToCome-none form None u front out nil e none h = h.text ∙ ap (λ l. l ++ form h.unread) none ∙ ap form h.source ∙ nil
   IsToCome-none form (Some c) u front out nil e none h = cc e
 
-  pub IsToCome-ended : (form : List ℕ → List ℕ) (pending : Option ℕ) (u : I) (front : List ℕ) → form [] ≡ [] → pending ≡ None → front ≡ [] → IsToCome gives form pending u front []
+  pub IsToCome-ended : (form : List ℕ → List ℕ) (pending : Option ℕ) (u : I) (front : List ℕ) → form [] ≡ [] → pending ≡ None → front ≡ [] → IsToCome Comes form pending u front []
   IsToCome-ended form None u front nil e none = record { unread = []; source = refl; text = sym (ap (λ l. l ++ form []) none ∙ nil) }
   IsToCome-ended form (Some c) u front nil e none = cc e
 
+module _ {I : Type 0} (gives : I → Option ℕ → I → Type 0) where
   pub AreShortToCome-ended : (f : ℕ → Bool) (d : Reading) (pending : Option ℕ) (u v : I) → pending ≡ None → AreShortToCome gives f d pending u → AreShortToCome gives f d pending v
   AreShortToCome-ended f d None u v e h = record { unread = h.unread; source = h.source; short = h.short }
   AreShortToCome-ended f d (Some c) u v e h = cc e
@@ -66,16 +75,26 @@ module _ {I : Type 0} (gives : I → Option ℕ → I → Type 0) where
     -- ---- the first characters are read
 
     pub IsToCome-start : SuitsLazyReading f d → (delegate u : I) (w b : WaitingList) (pending : Option ℕ) (x : List ℕ) → ordered w ≡ [] → unordered w ≡ []
-        → ReadsOn can gives left f d delegate w pending u b → Spells gives delegate x → IsToCome gives (nfd d) pending u (ordered b) (nfd d x)
+        → ReadsOn can gives left f d delegate w pending u b → Spells gives delegate x → IsToCome (Spells gives) (nfd d) pending u (ordered b) (nfd d x)
     IsToCome-start suits delegate u w b pending x front open_marks r spells =
         let parts = spelled_then gives delegate r.read pending u x r.run spells in
         record {
           unread = parts.0;
           source = parts.2;
           text =
-              ap (nfd d) parts.1 ∙ nfd-before_chunk d r.read (option_to_list pending ++ parts.0) (begins_chunk f d suits gives pending u parts.0 r.anew parts.2)
+              ap (nfd d) parts.1 ∙ nfd-before_chunk d r.read (option_to_list pending ++ parts.0) (begins_chunk f d suits (Spells gives) pending u parts.0 r.anew parts.2)
               ∙ ap (λ l. l ++ nfd d (option_to_list pending ++ parts.0)) (sym (r.text ∙ reordered-nothing d w (expand d r.read) front open_marks));
         }
+
+    pub came_start : SuitsLazyReading f d → (e : Extent) (delegate u : I) (w b : WaitingList) (pending : Option ℕ) (out : List ℕ) → ordered w ≡ [] → unordered w ≡ []
+        → ReadsOn can gives left f d delegate w pending u b → IsToCome (MayGive gives e) (nfd d) pending u (ordered b) out → (x : List ℕ) × MayGive gives e delegate x × (out ≡ nfd d x)
+    came_start suits e delegate u w b pending out front open_marks r h =
+        let behind = option_to_list pending ++ h.unread in (
+          r.read ++ behind,
+          MayGive-then gives e delegate r.read pending u h.unread r.run h.source,
+          h.text ∙ sym (nfd-before_chunk d r.read behind (begins_chunk f d suits (MayGive gives e) pending u h.unread r.anew h.source)
+              ∙ ap (λ l. l ++ nfd d behind) (sym (r.text ∙ reordered-nothing d w (expand d r.read) front open_marks))),
+        )
 
     pub AreShortToCome-start : (delegate u : I) (w b : WaitingList) (pending : Option ℕ) (x : List ℕ) → ReadsOn can gives left f d delegate w pending u b → Spells gives delegate x
         → HasShortRuns f d x → AreShortToCome gives f d pending u
@@ -91,18 +110,31 @@ module _ {I : Type 0} (gives : I → Option ℕ → I → Type 0) where
     -- ---- the pending character and those that continue it are read
 
     pub IsToCome-chunk : SuitsLazyReading f d → (c : ℕ) (delegate u : I) (first : ℕ) (pending : Option ℕ) (b : WaitingList) (front out : List ℕ) → front ≡ [] → continues f d c ≡ false
-        → ReadsChunk can gives left f d c delegate first pending u b → IsToCome gives (nfd d) (Some c) delegate front out → (rest : List ℕ) × (out ≡ first ∷ rest)
-        × IsToCome gives (nfd d) pending u (ordered b) rest
+        → ReadsChunk can gives left f d c delegate first pending u b → IsToCome (Spells gives) (nfd d) (Some c) delegate front out → (rest : List ℕ) × (out ≡ first ∷ rest)
+        × IsToCome (Spells gives) (nfd d) pending u (ordered b) rest
     IsToCome-chunk suits c delegate u first pending b front out none anew r h =
         let parts = spelled_then gives delegate r.read pending u h.unread r.run h.source in
         let behind = nfd d (option_to_list pending ++ parts.0) in
         let starter = suits.starters c first r.others ((anew-parts f d c anew).0) r.members in (
           ordered b ++ behind,
           h.text ∙ ap (λ l. l ++ nfd d (c ∷ h.unread)) none ∙ ap (λ l. nfd d (c ∷ l)) parts.1
-              ∙ nfd-chunk d c first r.others r.read (option_to_list pending ++ parts.0) r.members starter (begins_chunk f d suits gives pending u parts.0 r.anew parts.2)
+              ∙ nfd-chunk d c first r.others r.read (option_to_list pending ++ parts.0) r.members starter (begins_chunk f d suits (Spells gives) pending u parts.0 r.anew parts.2)
               ∙ ap (λ l. first ∷ (l ++ behind)) (sym r.text),
           record { unread = parts.0; source = parts.2; text = refl },
         )
+
+    pub came_chunk : SuitsLazyReading f d → (e : Extent) (c : ℕ) (delegate u : I) (first : ℕ) (pending : Option ℕ) (b : WaitingList) (front rest : List ℕ) → front ≡ [] → continues f d c ≡ false
+        → ReadsChunk can gives left f d c delegate first pending u b → IsToCome (MayGive gives e) (nfd d) pending u (ordered b) rest
+        → IsToCome (MayGive gives e) (nfd d) (Some c) delegate front (first ∷ rest)
+    came_chunk suits e c delegate u first pending b front rest none anew r h =
+        let behind = option_to_list pending ++ h.unread in
+        let starter = suits.starters c first r.others ((anew-parts f d c anew).0) r.members in record {
+          unread = r.read ++ behind;
+          source = MayGive-then gives e delegate r.read pending u h.unread r.run h.source;
+          text = sym (ap (λ l. l ++ nfd d (c ∷ (r.read ++ behind))) none
+              ∙ nfd-chunk d c first r.others r.read behind r.members starter (begins_chunk f d suits (MayGive gives e) pending u h.unread r.anew h.source)
+              ∙ ap (λ l. first ∷ (l ++ nfd d behind)) (sym r.text) ∙ ap (λ l. first ∷ l) (sym h.text));
+        }
 
     pub AreShortToCome-chunk : (c : ℕ) (delegate u : I) (first : ℕ) (pending : Option ℕ) (b : WaitingList) → ReadsChunk can gives left f d c delegate first pending u b
         → AreShortToCome gives f d (Some c) delegate → AreShortToCome gives f d pending u

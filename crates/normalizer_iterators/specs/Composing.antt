@@ -3,6 +3,7 @@ use Rattle.std.specs.Prelude.{◌≡◌, ℕ, ◌+◌, ◌≤◌, List, [], ◌�
 use Rattle.std.specs.Iterator.{Count}
 use Rattle.normal_forms.specs.Reading.{Reading, IsStarter, IsMark}
 use Rattle.normal_forms.specs.CompositionByStarters.{join, compose_after, compose_by_starters}
+use Rattle.normalizer_text.specs.Steps.{Spells}
 use Rattle.normalizer_iterators.specs.declared.composition.Ahead.{Ahead}
 use Rattle.normalizer_iterators.specs.declared.composition.Ahead.TheVariants.{NoStarter, Passed, Starter, Ended}
 use Rattle.normalizer_iterators.specs.declared.composition.Visited.{Visited}
@@ -10,6 +11,7 @@ use Rattle.normalizer_iterators.specs.declared.composition.Visited.TheVariants.{
 use Rattle.normalizer_iterators.specs.declared.decomposition.Decomposition.{Decomposition}
 use Rattle.normalizer_iterators.specs.declared.marks.StayingMarks.{StayingMarks}
 use Rattle.normalizer_iterators.specs.Decomposition as decomposition
+use Rattle.normalizer_iterators.specs.Delegate.{Extent, MayGive}
 use Rattle.normalizer_iterators.specs.MarkRuns.{HasShortMarkRuns}
 use Rattle.normalizer_iterators.specs.StayingMarks.{staying, used, BlocksBelow}
 
@@ -50,23 +52,25 @@ IsBeforeStarter _ = ⊥
 
 module _ {I : Type 0} where
   -- these characters, where memory suffices: some marks, and then what stands ahead
-  pub record WillGiveBehind (gives : I → Option ℕ → I → Type 0) (d : Reading) (marks : List ℕ) (ahead : Ahead)
+  pub record WillGiveBehind (Comes : I → List ℕ → Type 0) (d : Reading) (marks : List ℕ) (ahead : Ahead)
       (s : Decomposition I) (out : List ℕ) : Type 0 where
     pub unread : List ℕ
-    pub source : UnlessEnded ahead (decomposition.WillGive gives s unread)
+    pub source : UnlessEnded ahead (decomposition.WillGive Comes s unread)
     pub text : out ≡ marks ++ composed_ahead d ahead unread
 
   -- a decomposition gives these characters, and the runs that are still to come are short
   pub record GivesShort (gives : I → Option ℕ → I → Type 0) (d : Reading) (s : Decomposition I) : Type 0 where
     pub unread : List ℕ
-    pub source : decomposition.WillGive gives s unread
+    pub source : decomposition.WillGive (Spells gives) s unread
     pub short : decomposition.StaysShort gives s
     pub runs : HasShortMarkRuns d unread
 
   -- a starter became a composite by what followed it; the marks that stay come next, and then what is ahead
   pub record ComposesStarter (gives : I → Option ℕ → I → Type 0) (left : I → Count) (d : Reading) (starter : ℕ)
       (old : Decomposition I) (composite : ℕ) (marks : List ℕ) (ahead : Ahead) (new : Decomposition I) : Type 0 where
-    pub text : (y : List ℕ) → decomposition.WillGive gives old y → (rest : List ℕ)
-        × (compose_after d starter [] y ≡ composite ∷ rest) × WillGiveBehind gives d marks ahead new rest
+    pub text : (y : List ℕ) → decomposition.WillGive (Spells gives) old y → (rest : List ℕ)
+        × (compose_after d starter [] y ≡ composite ∷ rest) × WillGiveBehind (Spells gives) d marks ahead new rest
+    pub came : (e : Extent) (rest : List ℕ) → WillGiveBehind (MayGive gives e) d marks ahead new rest → (y : List ℕ)
+        × decomposition.WillGive (MayGive gives e) old y × (compose_after d starter [] y ≡ composite ∷ rest)
     pub short : GivesShort gives d old → UnlessEnded ahead (GivesShort gives d new)
     pub fewer : length marks + ahead_left ahead (decomposition.items_left left new) ≤ decomposition.items_left left old

@@ -1,5 +1,5 @@
 -- What is still to come of a composition.
-use Rattle.std.specs.Prelude.{◌≡◌, ℕ, ◌+◌, ◌≤◌, List, [], length, Option, Result, MatchResult, IfErr, IsOk, OnErr}
+use Rattle.std.specs.Prelude.{◌≡◌, ℕ, ◌+◌, ◌≤◌, List, [], ◌∷◌, length, Option, Result, MatchResult, IfErr, IfOk, IsOk, OnErr}
 use Rattle.std.specs.Iterator.{Count}
 use Rattle.normal_forms.specs.Reading.{Reading}
 use Rattle.normal_forms.specs.CompositionByStarters.{compose_after}
@@ -7,6 +7,7 @@ use Rattle.normalizer_tables.specs.Characters.{Characters}
 use Rattle.normalizer_tables.specs.Pairs.{Pair}
 use Rattle.normalizer_tables.specs.Readings.{reading_by}
 use Rattle.normalizer_tables.specs.declared.characters.IgnoredCharacters.TheVariants.{Dropped}
+use Rattle.normalizer_text.specs.Steps.{Spells}
 use Rattle.normalizer_iterators.specs.declared.composition.Ahead.TheVariants.{Ended}
 use Rattle.normalizer_iterators.specs.declared.composition.Composition.{Composition}
 use Rattle.normalizer_iterators.specs.declared.decomposition.Decomposition.{Decomposition}
@@ -14,7 +15,8 @@ use Rattle.normalizer_iterators.specs.declared.error.NormalizeError.{NormalizeEr
 use Rattle.normalizer_iterators.specs.declared.error.NormalizeError.TheVariants.{Memory}
 use Rattle.normalizer_iterators.specs.Composing.{UnlessEnded, WillGiveBehind, GivesShort, ahead_left}
 use Rattle.normalizer_iterators.specs.Decomposition as decomposition
-use Rattle.normalizer_iterators.specs.NextItem.{GaveFirst, GivesNext}
+use Rattle.normalizer_iterators.specs.Delegate.{Extent, MayGive}
+use Rattle.normalizer_iterators.specs.NextItem.{CameFirst, GaveFirst, GivesNext}
 use Rattle.normalizer_iterators.specs.StayingMarks.{staying}
 
 module _ {I : Type 0} where
@@ -28,9 +30,9 @@ module _ {I : Type 0} where
   abbrev pub pairing_by : Composition I → Reading
   pairing_by s = reading_by (data_of_composition s) Dropped (pairs_of_composition s)
 
-  -- these characters, where memory suffices
-  abbrev pub WillGive : (I → Option ℕ → I → Type 0) → Composition I → List ℕ → Type 0
-  WillGive gives s out = WillGiveBehind gives (pairing_by s) (staying s.marks) s.ahead s.decomposed out
+  -- these characters, by what comes of the delegate, where memory suffices
+  abbrev pub WillGive : (I → List ℕ → Type 0) → Composition I → List ℕ → Type 0
+  WillGive Comes s out = WillGiveBehind Comes (pairing_by s) (staying s.marks) s.ahead s.decomposed out
 
   -- the runs that are still to come are short
   abbrev pub StaysShort : (I → Option ℕ → I → Type 0) → Composition I → Type 0
@@ -49,9 +51,12 @@ module _ {I : Type 0} where
   -- a starter was composed with what was decomposed behind it, and given, or a fault came
   pub record ComposesOn (can : I → Type 0) (gives : I → Option ℕ → I → Type 0) (left : I → Count) (starter : ℕ)
       (old : Decomposition I) (pairs : List Pair) (r : Result ℕ NormalizeError) (t : Composition I) : Type 0 where
-    pub first : (y : List ℕ) → decomposition.WillGive gives old y → MatchResult r
-        (GaveFirst (WillGive gives) (compose_after (reading_by old.characters Dropped pairs) starter [] y) t)
-        (λ _. WillGive gives t [])
+    pub first : (y : List ℕ) → decomposition.WillGive (Spells gives) old y → MatchResult r
+        (GaveFirst (WillGive (Spells gives)) (compose_after (reading_by old.characters Dropped pairs) starter [] y) t)
+        (λ _. WillGive (Spells gives) t [])
+    pub came : (e : Extent) → IfOk r (λ c. (rest : List ℕ) → WillGive (MayGive gives e) t rest → (y : List ℕ)
+        × decomposition.WillGive (MayGive gives e) old y
+        × (compose_after (reading_by old.characters Dropped pairs) starter [] y ≡ c ∷ rest))
     pub fault : IfErr r (λ e. e ≡ Memory)
     pub room : GivesShort gives (reading_by old.characters Dropped pairs) old → IsOk r × StaysShort gives t
     pub ends : OnErr r (IsEnded t)
@@ -61,6 +66,7 @@ module _ {I : Type 0} where
 
   pub record CompositionSteps (can : I → Type 0) (gives : I → Option ℕ → I → Type 0) (left : I → Count)
       (s : Composition I) (r : Option (Result ℕ NormalizeError)) (t : Composition I) : Type 0 where
-    pub item : GivesNext (WillGive gives) (StaysShort gives) IsEnded s r t
+    pub item : GivesNext (WillGive (Spells gives)) (StaysShort gives) IsEnded s r t
+    pub came : (e : Extent) → CameFirst (WillGive (MayGive gives e)) s r t
     pub ready : CanCompose can left s → CanCompose can left t
     pub kept : (t.decomposed.characters ≡ s.decomposed.characters) × (t.pairs.now ≡ s.pairs.now)

@@ -5,12 +5,13 @@ use Rattle.normal_forms.specs.Reading.{Reading}
 use Rattle.normal_forms.specs.Forms.{nfd}
 use Rattle.normalizer_tables.specs.Characters.{has_class_form}
 use Rattle.normalizer_tables.specs.Readings.{reading_by}
+use Rattle.normalizer_text.specs.Steps.{Spells}
 use Rattle.normalizer_iterators.specs.declared.decomposition.Decomposition.{Decomposition}
 use Rattle.normalizer_iterators.specs.declared.error.NormalizeError.{NormalizeError}
 use Rattle.normalizer_iterators.specs.declared.waiting.Classed.{Classed}
-use Rattle.normalizer_iterators.specs.Delegate.{IsReadyBehind}
+use Rattle.normalizer_iterators.specs.Delegate.{Extent, IsReadyBehind, MayGive}
 use Rattle.normalizer_iterators.specs.LazyReading.{longest_list}
-use Rattle.normalizer_iterators.specs.NextItem.{GivesNext}
+use Rattle.normalizer_iterators.specs.NextItem.{CameFirst, GivesNext}
 use Rattle.normalizer_iterators.specs.Reads.{character_of}
 use Rattle.normalizer_iterators.specs.ToCome.{IsToCome, AreShortToCome, reads_left}
 use Rattle.normalizer_iterators.specs.WaitingList.{ordered}
@@ -29,9 +30,9 @@ module _ {I : Type 0} where
   abbrev pub reading_of : Decomposition I → Reading
   reading_of s = reading_by s.characters s.ignored []
 
-  -- these characters, where memory suffices
-  abbrev pub WillGive : (I → Option ℕ → I → Type 0) → Decomposition I → List ℕ → Type 0
-  WillGive gives s out = IsToCome gives (nfd (reading_of s)) (pending_of s) s.delegate (ordered s.waiting) out
+  -- these characters, by what comes of the delegate, where memory suffices
+  abbrev pub WillGive : (I → List ℕ → Type 0) → Decomposition I → List ℕ → Type 0
+  WillGive Comes s out = IsToCome Comes (nfd (reading_of s)) (pending_of s) s.delegate (ordered s.waiting) out
 
   -- the runs that are still to come are short
   abbrev pub StaysShort : (I → Option ℕ → I → Type 0) → Decomposition I → Type 0
@@ -49,6 +50,7 @@ module _ {I : Type 0} where
 
   pub record DecompositionSteps (can : I → Type 0) (gives : I → Option ℕ → I → Type 0) (left : I → Count)
       (s : Decomposition I) (r : Option (Result ℕ NormalizeError)) (t : Decomposition I) : Type 0 where
-    pub item : GivesNext (WillGive gives) (StaysShort gives) IsEnded s r t
+    pub item : GivesNext (WillGive (Spells gives)) (StaysShort gives) IsEnded s r t
+    pub came : (e : Extent) → CameFirst (WillGive (MayGive gives e)) s r t
     pub ready : CanDecompose can left s → CanDecompose can left t
     pub kept : (t.characters ≡ s.characters) × (t.ignored ≡ s.ignored)

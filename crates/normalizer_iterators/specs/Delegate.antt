@@ -1,11 +1,25 @@
 -- Iterators of characters that others read from.
 use Rattle.std.specs.Prelude.{◌≡◌, ℕ, ◌<◌, List, [], Option, MatchOption, OnSome, ⊤}
-use Rattle.std.specs.Iterator.{Count, IsFinite, size}
+use Rattle.std.specs.Iterator.{Count, Drains, IsFinite, Yields, size}
 use Rattle.normalizer_text.specs.Steps.{Spells}
 
--- what an iterator spells behind the character that it gave last; nothing where it gave `None`
+-- how far the calls of an iterator are followed: up to its first `None`, or so far
+pub data Extent : Type 0 where
+  to_end : Extent
+  so_far : Extent
+
+-- calls of an iterator may give these characters
+abbrev pub MayGive : {I : Type 0} → (I → Option ℕ → I → Type 0) → Extent → I → List ℕ → Type 0
+MayGive {I = I} gives to_end it x = Drains gives it x
+MayGive {I = I} gives so_far it x = (after : I) × Yields gives it x after
+
+-- what comes of an iterator behind the character that it gave last; nothing where it gave `None`
+abbrev pub ComesBehind : {I : Type 0} → (I → List ℕ → Type 0) → Option ℕ → I → List ℕ → Type 0
+ComesBehind Comes last it x = MatchOption last (x ≡ []) (λ _. Comes it x)
+
+-- what it spells there
 abbrev pub SpellsBehind : {I : Type 0} → (I → Option ℕ → I → Type 0) → Option ℕ → I → List ℕ → Type 0
-SpellsBehind gives last it x = MatchOption last (x ≡ []) (λ _. Spells gives it x)
+SpellsBehind gives last it x = ComesBehind (Spells gives) last it x
 
 -- it may be called, and ends; nothing is asked of it where it gave `None`
 abbrev pub IsReadyBehind : {I : Type 0} → (I → Type 0) → (I → Count) → Option ℕ → I → Type 0

@@ -1,6 +1,8 @@
 -- What an iterator gives whose calls may fail: the characters of a text, a fault, the end.
-use Rattle.std.specs.Prelude.{◌≡◌, ℕ, Bool, List, [], ◌∷◌, Option, Some, None, Result, Ok, All, MatchOption}
+use Rattle.std.specs.Prelude.{◌≡◌, ℕ, Bool, List, [], ◌∷◌, map, Option, Some, None, Result, Ok, Err, All, MatchOption}
 use Rattle.std.specs.Prelude.{MatchResult, IfOk, IsOkAnd, IsOkUnless}
+use Rattle.std.specs.Iterator.{Drains, Yields, YieldsThen}
+use Rattle.normal_forms.specs.Cut.{IsFront}
 use Rattle.normal_forms.specs.Reading.{Reading}
 use Rattle.normal_forms.specs.ShortRuns.{HasShortRuns}
 use Rattle.normalizer_text.specs.Steps.{Spells}
@@ -34,12 +36,25 @@ module _ {S E : Type 0} (gives : S → Option (Result ℕ E) → S → Type 0) w
       (λ e. (e ≡ fault) × HasEnded t))
 
 -- An iterator was made over a source: of each text that this spells it gives the form, unless memory is refused. Where
--- the text has short runs nothing is refused, when the iterator is made or later.
+-- the text has short runs nothing is refused, when the iterator is made or later. Whatever the source gives, a run of
+-- the iterator gives the form of that.
 module _ {I S : Type 0} (source_gives : I → Option ℕ → I → Type 0)
     (gives : S → Option (Result ℕ NormalizeError) → S → Type 0) where
+  -- characters that came up to the first `None` are the form of what the source gave up to its own; other characters,
+  -- as those before a fault, are the front of the form of what it gave so far. A fault is `Memory`, and then comes
+  -- `None` for good.
+  pub record GivesFormOfRun (form : List ℕ → List ℕ) (source : I) (it : S) : Type 0 where
+    pub whole : (out : List ℕ) → Drains gives it (map Ok out) → (x : List ℕ)
+        × Drains source_gives source x × (out ≡ form x)
+    pub front : (out : List ℕ) (now : S) → Yields gives it (map Ok out) now → (x : List ℕ)
+        × (source_now : I) × Yields source_gives source x source_now × IsFront out (form x)
+    pub fault : (out : List ℕ) (e : NormalizeError) (now : S) → YieldsThen gives it (map Ok out) (Some (Err e)) now
+        → (e ≡ Memory) × HasEnded gives now
+
   pub record GivesForm (has_class_form : ℕ → Bool) (d : Reading) (form : Reading → List ℕ → List ℕ) (source : I)
       (made : Result S NormalizeError) : Type 0 where
     pub text : IfOk made (λ it. (x : List ℕ) → Spells source_gives source x → SpellsUnless gives Memory it (form d x))
     pub short : (x : List ℕ) → Spells source_gives source x → HasShortRuns has_class_form d x
         → IsOkAnd made (λ it. SpellsOk gives it (form d x))
+    pub run : IfOk made (GivesFormOfRun (form d) source)
     pub refused : IsOkUnless made Memory

@@ -4,7 +4,7 @@ use Rattle.std.specs.Char.{IsScalar}
 use Rattle.normal_forms.specs.Reading.{Reading, IsStarter}
 use Rattle.normal_forms.specs.declared.Form.TheVariants.{Composing}
 use Rattle.normal_forms.specs.Forms.{IsNormalized}
-use Rattle.normal_forms.specs.Hypotheses.{HasStarterResults}
+use Rattle.normal_forms.specs.Hypotheses.{HasFaithfulResults, HasStarterResults}
 use Rattle.normal_forms.specs.ShortRuns.{continues}
 use Rattle.normalizer_tables.specs.declared.characters.IgnoredCharacters.{IgnoredCharacters}
 use Rattle.normalizer_tables.specs.declared.condition.Bounds.{Bounds}
@@ -34,7 +34,9 @@ StandsApartIn s pairs ignored = StandsApart (has_class_form s) (reading_by s ign
 pub record PassedBeginAnew (s : Characters) (b : Bounds) (ignored : IgnoredCharacters) : Type 0 where
   pub anew : (c : ℕ) → IsPassed s b c → continues (has_class_form s) (reading_by s ignored []) c ≡ false
 
--- what pairs compose to are starters, and each character that is passed stands apart
+-- what pairs compose to are starters, what Hangul composes to has the lists of its parts, and each character that is
+-- passed stands apart
 pub record SuitsLazyComposing (s : Characters) (b : Bounds) (pairs : List Pair) : Type 0 where
   pub starters : HasStarterResults (reading_by s Dropped pairs)
+  pub hangul : (ignored : IgnoredCharacters) → HasFaithfulResults (reading_by s ignored [])
   pub apart : (ignored : IgnoredCharacters) (c : ℕ) → IsPassed s b c → StandsApartIn s pairs ignored c

@@ -2,13 +2,13 @@
 use Rattle.std.specs.Prelude.{◌≡◌, ℕ, ◌+◌, Bool, List, ◌++◌, Option, Some, None, option_to_list}
 use Rattle.normal_forms.specs.Reading.{Reading}
 use Rattle.normal_forms.specs.ShortRuns.{HasShortRuns}
-use Rattle.normalizer_iterators.specs.Delegate.{SpellsBehind}
+use Rattle.normalizer_iterators.specs.Delegate.{ComesBehind, SpellsBehind}
 
--- what waits in front, and then the form of the character that was read last and of what the delegate spells
-pub record IsToCome {I : Type 0} (gives : I → Option ℕ → I → Type 0) (form : List ℕ → List ℕ) (pending : Option ℕ)
+-- what waits in front, and then the form of the character that was read last and of what comes of the delegate
+pub record IsToCome {I : Type 0} (Comes : I → List ℕ → Type 0) (form : List ℕ → List ℕ) (pending : Option ℕ)
     (delegate : I) (front out : List ℕ) : Type 0 where
   pub unread : List ℕ
-  pub source : SpellsBehind gives pending delegate unread
+  pub source : ComesBehind Comes pending delegate unread
   pub text : out ≡ front ++ form (option_to_list pending ++ unread)
 
 -- the runs that are still to come are short

@@ -9,20 +9,19 @@ ghost use Rattle.normal_forms.specs.Reading.{Reading};
 ghost use Rattle.normal_forms.specs.ShortRuns.{places, HasShortRuns};
 ghost use Rattle.normalizer_tables.specs.declared.characters.IgnoredCharacters.{IgnoredCharacters};
 ghost use Rattle.normalizer_tables.specs.Characters.{Characters, class_of, has_class_form, list_of};
-ghost use Rattle.normalizer_tables.specs.Conditions.{Holds};
 ghost use Rattle.normalizer_tables.specs.Ignored.{ignored_list};
 ghost use Rattle.normalizer_tables.specs.PairConditions.{HasOrderedLists};
-ghost use Rattle.normalizer_tables.specs.declared.condition.Bounds.{Bounds};
-ghost use Rattle.normalizer_tables.specs.declared.condition.Condition.TheVariants as condition;
 ghost use Rattle.normalizer_tables.specs.Pairs.{pair_of};
 ghost use Rattle.normalizer_tables.specs.Readings.{reading_by};
 ghost use Rattle.normalizer_tables.specs.declared.characters.IgnoredCharacters.TheVariants.{Dropped};
 ghost use Rattle.normalizer_text.specs.Steps.{Spells};
 ghost use Rattle.normalizer_iterators.specs.declared.composition.Ahead.TheVariants.{Passed};
 ghost use Rattle.normalizer_iterators.specs.Decomposition.{CanDecompose};
+ghost use Rattle.normalizer_iterators.specs.Delegate.{MayGive};
 ghost use Rattle.normalizer_iterators.specs.LazyComposing.{SuitsLazyComposing};
 ghost use Rattle.normalizer_iterators.specs.inner.Passing.{IsAtPassed};
 ghost use Rattle.normalizer_iterators.specs.LazyReading.{SuitsLazyReading};
+ghost use Rattle.normalizer_iterators.specs.NextItem.{IsFormOfSource};
 ghost use Rattle.normalizer_iterators.specs.StayingMarks.{staying, used, BlocksBelow};
 ghost use Rattle.normalizer_iterators.specs.Composing.{ComposesStarter, GivesShort, HasVisited, IsBeforeStarter};
 
@@ -105,7 +104,9 @@ impl<'data, I: Iterator<Item = char> + Drop> Composition<'data, I> {
         requires reading { SuitsLazyReading (has_class_form characters) (reading_by characters ignored []) }
         requires composing { SuitsLazyComposing characters bounds pairs.now }
         ensures text { IfOk result (λ it. (x : List ℕ) → Spells I.next_gives delegate x →
-            WillGive I.next_gives it (nfc (reading_by characters.entry ignored pairs.now) x)) }
+            WillGive (Spells I.next_gives) it (nfc (reading_by characters.entry ignored pairs.now) x)) }
+        ensures came { IfOk result (IsFormOfSource I.next_gives (λ e. WillGive (MayGive I.next_gives e))
+            (nfc (reading_by characters.entry ignored pairs.now)) delegate) }
         ensures short { IfOk result (λ it. (x : List ℕ) → Spells I.next_gives delegate x →
             HasShortRuns (has_class_form characters.entry) (reading_by characters.entry ignored []) x →
             StaysShort I.next_gives it) }
@@ -127,12 +128,11 @@ impl<'data, I: Iterator<Item = char> + Drop> Composition<'data, I> {
         })
     }
 
-    /// Returns what `starter` and `second` compose to, if they do (D114). If the data meet condition 14, and condition
-    /// 6 for Hangul, the list of the result is the lists of the two, in canonical order. It takes no memory.
+    /// Returns what `starter` and `second` compose to, if they do (D114). If the data meet condition 14, the list of the
+    /// result is the lists of the two, in canonical order. It takes no memory.
     pub fn compose(&self, starter: char, second: char) -> Option<char>
         ensures pair { result ≡ pair_of (pairs_of_composition self.now) starter second }
-        ensures lists { let s = data_of_composition self.now in (b : Bounds) (ignored : IgnoredCharacters) →
-            Holds s b condition.Hangul →
+        ensures lists { let s = data_of_composition self.now in (ignored : IgnoredCharacters) →
             All (HasOrderedLists s (ignored_list ignored)) (pairs_of_composition self.now) →
             IfSome result (λ c. list_of s (ignored_list ignored) c ≡
             order (reading_by s Dropped [])
@@ -167,6 +167,7 @@ impl<'data, I: Iterator<Item = char> + Drop> Composition<'data, I> {
     }
 
     /// Gives a character that is passed as it is, or composes it with what follows it.
+    #[inline(always)]
     fn pass(&mut self) -> Option<Result<char, NormalizeError>>
         requires can { CanCompose I.can_next I.remaining self.old }
         requires marks { staying self.old.marks ≡ [] }
@@ -287,6 +288,7 @@ impl<'data, I: Iterator<Item = char> + Drop> Iterator for Composition<'data, I> 
 
     ghost remaining = { λ s. at_most (items_left I.remaining s) };
 
+    #[inline(always)]
     fn next(&mut self) -> Option<Result<char, NormalizeError>> {
         if let Some(mark) = self.marks.pop_front() {
             return Some(Ok(mark));

@@ -10,9 +10,10 @@ ghost use Rattle.normalizer_tables.specs.NfdData.{IsSoundNfdData};
 ghost use Rattle.normalizer_tables.specs.Readings.{reading_by};
 ghost use Rattle.normalizer_tables.specs.declared.characters.IgnoredCharacters.TheVariants.{Dropped};
 ghost use Rattle.normalizer_text.specs.Steps.{Spells};
-ghost use Rattle.normalizer_iterators.specs.Delegate.{HasRead, IsReadyBehind};
+ghost use Rattle.normalizer_iterators.specs.Delegate.{HasRead, IsReadyBehind, MayGive};
 ghost use Rattle.normalizer_iterators.specs.Items.{GivesForm};
 ghost use Rattle.normalizer_iterators.specs.LazyReading.{SuitsLazyReading};
+ghost use Rattle.normalizer_iterators.specs.NextItem.{IsFormOfSource};
 ghost use Rattle.normalizer_iterators.specs.WaitingList.{AgreesWith, ordered, unordered};
 ghost use Rattle.normalizer_iterators.specs.Waiting.{HasClassesOf};
 ghost use Rattle.normalizer_iterators.specs.Reads.{character_of, HasOwnWord, HasOwnWords};
@@ -93,7 +94,9 @@ impl<'data, I: Iterator<Item = char> + Drop> Decomposition<'data, I> {
         requires ends { IsFinite (I.remaining delegate) }
         requires suits { SuitsLazyReading (has_class_form characters) (reading_by characters ignored []) }
         ensures text { IfOk result (λ it. (x : List ℕ) → Spells I.next_gives delegate x →
-            WillGive I.next_gives it (nfd (reading_by characters.entry ignored []) x)) }
+            WillGive (Spells I.next_gives) it (nfd (reading_by characters.entry ignored []) x)) }
+        ensures came { IfOk result (IsFormOfSource I.next_gives (λ e. WillGive (MayGive I.next_gives e))
+            (nfd (reading_by characters.entry ignored [])) delegate) }
         ensures short { IfOk result (λ it. (x : List ℕ) → Spells I.next_gives delegate x →
             HasShortRuns (has_class_form characters.entry) (reading_by characters.entry ignored []) x →
             StaysShort I.next_gives it) }
@@ -119,6 +122,7 @@ impl<'data, I: Iterator<Item = char> + Drop> Decomposition<'data, I> {
     }
 
     /// The first member of the list of the character that was pending. The one behind it was read.
+    #[inline(always)]
     pub(crate) fn next_chunk(
         &mut self,
         read: ReadCharacter,
@@ -168,6 +172,7 @@ impl<'data, I: Iterator<Item = char> + Drop> Decomposition<'data, I> {
     }
 
     /// The next character with its canonical combining class.
+    #[inline(always)]
     pub(crate) fn next_with_class(&mut self) -> Option<Result<Classed, NormalizeError>>
         requires { CanDecompose I.can_next I.remaining self.old }
         ensures class { IfSome result (λ item. IfOk item (λ given.
@@ -209,6 +214,7 @@ pub fn decomposed<'data, I: Iterator<Item = char> + Drop>(
 }
 
 /// Whether a character is its own list, and what was read behind it begins anew.
+#[inline(always)]
 fn stands_alone(
     characters: &CharacterData<'_>,
     ignored: IgnoredCharacters,
@@ -277,6 +283,7 @@ impl<'data, I: Iterator<Item = char> + Drop> Iterator for Decomposition<'data, I
 
     ghost remaining = { λ s. at_most (items_left I.remaining s) };
 
+    #[inline(always)]
     fn next(&mut self) -> Option<Result<char, NormalizeError>> {
         match self.next_with_class() {
             Some(Ok(given)) => Some(Ok(given.character)),

@@ -35,6 +35,7 @@ impl StayingMarks {
     }
 
     #[tactic(auto, unfolding(crate::specs::StayingMarks::staying, crate::specs::StayingMarks::used))]
+    #[inline(always)]
     pub(crate) fn clear(&mut self)
         ensures staying { staying self.new ≡ [] }
         ensures used { used self.new ≡ 0 }
@@ -46,6 +47,7 @@ impl StayingMarks {
     }
 
     /// The next of them, if one is left.
+    #[inline(always)]
     pub(crate) fn pop_front(&mut self) -> Option<char>
         ensures some { IfSome result (λ c. staying self.old ≡ c ∷ staying self.new) }
         ensures none { IfNone result ((staying self.old ≡ []) × (staying self.new ≡ [])) }
@@ -61,6 +63,7 @@ impl StayingMarks {
 
     /// Whether none of them blocks a character of this class.
     #[tactic(auto, unfolding(crate::specs::StayingMarks::BlocksBelow))]
+    #[inline(always)]
     pub(crate) fn lets_pass(&self, class: u8) -> bool
         ensures { (d : Reading) (c : ℕ) → BlocksBelow d self.now → class ≡ d.class c →
             result ≡ is_above d (staying self.now) c }

@@ -19,6 +19,7 @@ pub(crate) struct ReadCharacter {
 
 impl ReadCharacter {
     /// The word of the character. It is looked up if it wasn't before.
+    #[inline(always)]
     pub(crate) fn word_by(self, characters: &CharacterData<'_>) -> u32
         requires { HasOwnWord characters.now self }
         ensures { result ≡ word_of characters.now self.character }
@@ -31,6 +32,7 @@ impl ReadCharacter {
 
     /// Whether the character begins anew: it has no class form, and its list has members.
     #[tactic(auto, unfolding(normalizer_tables::specs::Characters::has_class_form))]
+    #[inline(always)]
     pub(crate) fn begins_anew(
         self,
         characters: &CharacterData<'_>,
@@ -48,6 +50,7 @@ impl ReadCharacter {
     }
 
     /// The class of the character if it is its own list.
+    #[inline(always)]
     pub(crate) fn class_of_itself(self, characters: &CharacterData<'_>) -> Option<u8>
         requires { HasOwnWord characters.now self }
         ensures itself { (ignored : List ℕ) →
@@ -61,6 +64,7 @@ impl ReadCharacter {
     }
 
     /// The list of the character.
+    #[inline(always)]
     pub(crate) fn members<'a>(
         self,
         characters: &CharacterData<'a>,
@@ -77,6 +81,7 @@ impl ReadCharacter {
 }
 
 /// A character that was read, if one was. Its word is looked up from this number on, unless it passes unseen.
+#[inline(always)]
 pub(crate) fn read_from(
     characters: &CharacterData<'_>,
     bound: u32,

@@ -1,8 +1,8 @@
 //! Uses of `icu_normalizer`, as a caller writes them.
 #![tactic(auto)]
 
-ghost use Rattle.std.specs.Prelude.{◌≡◌, ◌⊎◌, ℕ, List, IfOk, IfErr, IsOk, IsOkUnless, chars, [], None};
-ghost use Rattle.std.specs.Iterator.{IsFinite};
+ghost use Rattle.std.specs.Prelude.{◌≡◌, ◌⊎◌, ℕ, List, IfOk, IfErr, IsOk, IsOkUnless, MatchResult, Ok, chars, map, [], None};
+ghost use Rattle.std.specs.Iterator.{Drains, IsFinite};
 ghost use Rattle.normal_forms.specs.Forms.{nfc, nfd};
 ghost use Rattle.normal_forms.specs.ShortRuns.{HasShortRuns};
 ghost use Rattle.normalizer_tables.specs.declared.provider.DataMarkerInfo.TheVariants as marker;
@@ -22,8 +22,10 @@ ghost use Rattle.normalizer_calls.specs.ComposingNormalizers.{
 ghost use Rattle.normalizer_calls.specs.Normalizers.{data_of_borrowed};
 ghost use Rattle.normalizer_iterators.specs.Items.{SpellsOk, SpellsUnless};
 ghost use Rattle.normalizer_uses.specs.Last.{last_of};
+ghost use Rattle.normalizer_uses.specs.Runs.{GaveFault, IsFormOfDrained};
 
 mod by_records;
+pub mod composites;
 pub mod growing;
 pub mod identifiers;
 pub mod keys;
@@ -106,6 +108,36 @@ pub fn nfc_of_bytes(
     collected(alloc, normalizer.normalize_iter(Utf8Chars::new(bytes))?)
 }
 
+/// Returns the NFD of whatever an iterator of characters yields.
+pub fn nfd_of_characters<I: Iterator<Item = char> + Drop>(
+    alloc: Global,
+    normalizer: &DecomposingNormalizerBorrowed<'_>,
+    characters: I,
+) -> Result<Vec<char>, NormalizeError>
+    requires can { I.can_next characters }
+    requires ends { IsFinite (I.remaining characters) }
+    ensures form { IfOk result (λ v. IsFormOfDrained I.next_gives characters
+        (nfd (reading_by (data_of_borrowed normalizer.now) Dropped [])) v.items) }
+    ensures refused { IsOkUnless result NormalizeError.Memory }
+{
+    collected(alloc, normalizer.normalize_iter(characters)?)
+}
+
+/// Returns the NFC of whatever an iterator of characters yields.
+pub fn nfc_of_characters<I: Iterator<Item = char> + Drop>(
+    alloc: Global,
+    normalizer: &ComposingNormalizerBorrowed<'_>,
+    source: I,
+) -> Result<Vec<char>, NormalizeError>
+    requires can { I.can_next source }
+    requires ends { IsFinite (I.remaining source) }
+    ensures form { IfOk result (λ v. IsFormOfDrained I.next_gives source (nfc
+        (reading_by (composing_data_of_borrowed normalizer.now) Dropped (pairs_of_borrowed normalizer.now))) v.items) }
+    ensures refused { IsOkUnless result NormalizeError.Memory }
+{
+    collected(alloc, normalizer.normalize_iter(source)?)
+}
+
 /// Returns the NFKC of the text that bytes decode to, using the data of a provider.
 pub fn nfkc_of_bytes<P>(alloc: Global, provider: &P, bytes: &[u8]) -> Result<Vec<char>, DataError>
 where
@@ -142,6 +174,8 @@ pub fn collected<I: Iterator<Item = Result<char, NormalizeError>> + Drop>(
     requires ends { IsFinite (I.remaining items) }
     ensures all { (x : List ℕ) → SpellsUnless I.next_gives NormalizeError.Memory items x →
         IfOk result (λ v. v.items ≡ x) × IsOkUnless result NormalizeError.Memory }
+    ensures run { MatchResult result (λ v. Drains I.next_gives items (map Ok v.items))
+        (λ e. (e ≡ NormalizeError.Memory) ⊎ GaveFault I.next_gives items e) }
 {
     text_comes_unless_a_fault_does::<NormalizeError, I>();
     let mut characters = Vec::new(alloc);

@@ -1,5 +1,5 @@
 //! Normal forms written to sinks.
-ghost use Rattle.std.specs.Prelude.{◌≡◌, IfOk, IsOkUnless, chars, encode_utf8_all, string_bytes, []};
+ghost use Rattle.std.specs.Prelude.{◌≡◌, ◌++◌, IfOk, IsErrOf, IsOkUnless, OnOk, chars, encode_utf8_all, string_bytes, []};
 ghost use Rattle.normal_forms.specs.declared.Form.TheVariants.{Composing, Decomposing};
 ghost use Rattle.normal_forms.specs.Forms.{normal_form};
 ghost use Rattle.normalizer_text.specs.Utf8.{decoded_utf8};
@@ -68,4 +68,22 @@ pub fn nfd_without_faults<W: Write>(
     ensures { IsOkUnless result NormalizeError.Memory }
 {
     normalizer.normalize_to(text, sink)
+}
+
+/// Writes the NFD of a text to a sink, and the NFD of another text behind it. A fault of the sink is one from before
+/// the first.
+pub fn nfd_of_both<W: Write>(
+    normalizer: &DecomposingNormalizerBorrowed<'_>,
+    text: &str,
+    more: &str,
+    sink: &mut W,
+) -> Result<(), NormalizeError>
+    ensures written { let d = reading_by (data_of_borrowed normalizer.now) Dropped [] in
+        OnOk result (W.taken sink.new ≡
+        (W.taken sink.old ++ encode_utf8_all (normal_form d Decomposing (chars text.now))) ++
+        encode_utf8_all (normal_form d Decomposing (chars more.now))) }
+    ensures fault { IsErrOf result NormalizeError.Sink → W.refused sink.old sink.new }
+{
+    normalizer.normalize_to(text, sink)?;
+    normalizer.normalize_to(more, sink)
 }

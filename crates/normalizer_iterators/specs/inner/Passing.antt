@@ -10,12 +10,14 @@ use Rattle.normalizer_tables.specs.Characters.{Characters}
 use Rattle.normalizer_tables.specs.Pairs.{Pair}
 use Rattle.normalizer_tables.specs.Readings.{reading_by}
 use Rattle.normalizer_tables.specs.declared.characters.IgnoredCharacters.TheVariants.{Dropped}
+use Rattle.normalizer_text.specs.Steps.{Spells}
 use Rattle.normalizer_iterators.specs.declared.decomposition.Decomposition.{Decomposition}
 use Rattle.normalizer_iterators.specs.declared.composition.passing.Given.{Given}
 use Rattle.normalizer_iterators.specs.declared.composition.passing.Given.TheVariants.{Itself, FirstMember}
 use Rattle.normalizer_iterators.specs.declared.error.NormalizeError.{NormalizeError}
 use Rattle.normalizer_iterators.specs.Decomposition.{CanDecompose, DecompositionSteps, StaysShort, WillGive}
 use Rattle.normalizer_iterators.specs.Decomposition.{items_left, pending_of}
+use Rattle.normalizer_iterators.specs.Delegate.{Extent, MayGive}
 use Rattle.normalizer_iterators.specs.LazyComposing.{IsPassed, StandsApartIn}
 use Rattle.normalizer_iterators.specs.WaitingList.{ordered}
 
@@ -36,9 +38,12 @@ module _ {I : Type 0} where
   -- c was given as it is: what was to come for it composes to c alone, apart from the rest
   pub record PassesOn (can : I → Type 0) (gives : I → Option ℕ → I → Type 0) (left : I → Count) (pairs : List Pair)
       (s : Decomposition I) (c : ℕ) (t : Decomposition I) : Type 0 where
-    pub text : (y : List ℕ) → WillGive gives s y → (own : List ℕ) × (rest : List ℕ) × (y ≡ own ++ rest)
+    pub text : (y : List ℕ) → WillGive (Spells gives) s y → (own : List ℕ) × (rest : List ℕ) × (y ≡ own ++ rest)
         × (compose_by_starters (reading_by s.characters Dropped pairs) y
-        ≡ c ∷ compose_by_starters (reading_by s.characters Dropped pairs) rest) × WillGive gives t rest
+        ≡ c ∷ compose_by_starters (reading_by s.characters Dropped pairs) rest) × WillGive (Spells gives) t rest
+    pub came : (e : Extent) (rest : List ℕ) → WillGive (MayGive gives e) t rest → (y : List ℕ)
+        × WillGive (MayGive gives e) s y × (compose_by_starters (reading_by s.characters Dropped pairs) y
+        ≡ c ∷ compose_by_starters (reading_by s.characters Dropped pairs) rest)
     pub short : StaysShort gives s → StaysShort gives t
     pub ready : CanDecompose can left t
     pub at_passed : IsAtPassed pairs t

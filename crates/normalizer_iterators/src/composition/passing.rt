@@ -24,6 +24,7 @@ pub(crate) enum Given {
 }
 
 /// Whether nothing waits, and a composing loop passes the character that is read next.
+#[inline(always)]
 pub(crate) fn is_at_passed<I: Iterator<Item = char> + Drop>(
     decomposed: &Decomposition<'_, I>,
     bounds: Bounds,
@@ -39,6 +40,7 @@ pub(crate) fn is_at_passed<I: Iterator<Item = char> + Drop>(
 }
 
 /// The next character: as it is if the one behind it is passed too, or none is; else the first member of its list.
+#[inline(always)]
 pub(crate) fn pass_next<I: Iterator<Item = char> + Drop>(
     decomposed: &mut Decomposition<'_, I>,
     bounds: Bounds,
@@ -67,6 +69,7 @@ pub(crate) fn pass_next<I: Iterator<Item = char> + Drop>(
 }
 
 /// Whether a composing loop passes a character, or there is none.
+#[inline(always)]
 fn are_passed(characters: &CharacterData<'_>, bounds: Bounds, read: Option<ReadCharacter>) -> bool
     requires { HasOwnWords characters.now read }
     ensures { IsTrue result ↔ AllPassed characters.now bounds (character_of read) }
@@ -79,6 +82,7 @@ fn are_passed(characters: &CharacterData<'_>, bounds: Bounds, read: Option<ReadC
 
 /// Whether a composing loop passes a character: it lies below the bound, or its word has neither flag.
 #[tactic(auto, unfolding(normalizer_tables::specs::PairConditions::is_passed))]
+#[inline(always)]
 fn is_passed(characters: &CharacterData<'_>, bounds: Bounds, read: ReadCharacter) -> bool
     requires { HasOwnWord characters.now read }
     ensures { IsTrue result ↔ IsPassed characters.now bounds read.character }

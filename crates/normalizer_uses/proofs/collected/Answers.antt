@@ -1,4 +1,5 @@
-use Rattle.std.proofs.Common.{rules, ◌++◌, append_assoc, append-nil, sym, ap, ◌∙◌}
+use Rattle.std.proofs.Common.{rules, ◌++◌, append_assoc, append-nil, sym, ap, ◌∙◌, inr}
+use Rattle.normalizer_uses.proofs.RunLemmas.{Yields-more}
 use Rattle.normalizer_iterators.specs.declared.error.NormalizeError.TheVariants.{Memory}
 use Rattle.normalizer_uses.proofs.collected.Goals as goal
 
@@ -17,6 +18,8 @@ loop-item-preserved g c =
                 ∙ sym (append_assoc c.loop-item.characters.items _ _)
                 ∙ ap (λ cs. cs ++ next.0) (sym c.in-Ok-push.ensures.items),
           );
+      run = rw c.in-Ok-push.ensures.items
+          (Yields-more g.I.Iterator.next_gives c.args.items c.loop-item.characters.items _ _ _ c.loop-item.invariant.run came);
     }
 
 pub returns-in-Err : goal.returns-in-Err
@@ -24,6 +27,7 @@ returns-in-Err g c = record {
   all = λ x h.
       let before = c.loop-item.invariant.text x h in
       (tt, (c.text_comes_unless_a_fault_does.ensures.refused Memory _ _ _ before.0 (rw c.in-Err.is at c.in-Some.ensures.steps) before.1).0);
+  run = inr (c.loop-item.characters.items, _, (_, c.loop-item.invariant.run, rw c.in-Err.is at c.in-Some.ensures.steps));
 }
 
 pub returns : goal.returns
@@ -32,4 +36,5 @@ returns g c = record {
       let before = c.loop-item.invariant.text x h in
       let ended = (c.text_comes_unless_a_fault_does.ensures.end Memory _ _ before.0 c.in-None.ensures.steps before.1).0 in
       (sym (before.2 ∙ ap (λ cs. c.loop-item.characters.items ++ cs) ended ∙ append-nil _), tt);
+  run = (_, (_, c.loop-item.invariant.run, c.in-None.ensures.steps));
 }

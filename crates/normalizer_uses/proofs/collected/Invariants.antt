@@ -1,4 +1,5 @@
-use Rattle.std.proofs.Common.{◌≡◌, ◌++◌, ℕ, List}
+use Rattle.std.proofs.Common.{◌≡◌, ◌++◌, ℕ, List, Ok, map}
+use Rattle.std.specs.Iterator.{Yields}
 use Rattle.normalizer_iterators.specs.Items.{SpellsUnless}
 use Rattle.normalizer_iterators.specs.declared.error.NormalizeError.TheVariants.{Memory}
 use Rattle.normalizer_uses.proofs.collected.Given as goal
@@ -9,4 +10,5 @@ invariant-loop-item g l = record {
   ends : (goal.iterator-loop-item g).is_finite l.item-iterator;
   text : (x : List ℕ) → SpellsUnless g.I.Iterator.next_gives Memory l.fn.items x → (rest : List ℕ) × SpellsUnless g.I.Iterator.next_gives Memory l.item-iterator rest
       × (x ≡ l.characters.items ++ rest);
+  run : Yields g.I.Iterator.next_gives l.fn.items (map Ok l.characters.items) l.item-iterator;
 }

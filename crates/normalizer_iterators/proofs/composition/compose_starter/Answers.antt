@@ -72,8 +72,8 @@ returns-clause-steps g c =
     let suits = subst (λ k. SuitsLazyComposing k c.args.bounds c.args.pairs.now) (sym same) c.requires.suits in
     let here = IsAtPassed-stands c.args.bounds c.args.pairs.now c.loop-bounds.decomposed suits (c.is_at_passed.ensures.0 c.loop-bounds-test.false) in
     ComposesStarter-passes g.I.Iterator.can_next g.I.Iterator.next_gives g.I.Iterator.remaining _ _ _ _ c.loop-bounds.decomposed _ before
-    (λ y h. subst (λ k. BeginsSafely (reading_by k Dropped c.args.pairs.now) y) same
-    (BeginsSafely-to_come g.I.Iterator.can_next g.I.Iterator.next_gives g.I.Iterator.remaining c.args.pairs.now c.loop-bounds.decomposed here y h))
+    (λ Comes y h. subst (λ k. BeginsSafely (reading_by k Dropped c.args.pairs.now) y) same
+    (BeginsSafely-to_come g.I.Iterator.can_next g.I.Iterator.next_gives g.I.Iterator.remaining c.args.pairs.now c.loop-bounds.decomposed here Comes y h))
 
 pub returns-clause-passed : goal.returns-clause-passed
 returns-clause-passed g c = λ _.

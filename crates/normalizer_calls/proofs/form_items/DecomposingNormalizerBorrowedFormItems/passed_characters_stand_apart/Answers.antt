@@ -8,4 +8,4 @@ pub returns-clause-below : goal.returns-clause-below
 returns-clause-below g c = below_passes _ _
 
 pub returns-clause-begins : goal.returns-clause-begins
-returns-clause-begins g c = BeginsApart-decomposed _ c.args.self.now.serves
+returns-clause-begins g c = BeginsApart-decomposed _ _ c.args.self.now.serves

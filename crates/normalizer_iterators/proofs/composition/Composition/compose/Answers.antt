@@ -3,4 +3,5 @@ use Rattle.normalizer_iterators.proofs.composition.Composition.compose.Goals as 
 
 pub returns-clause-lists : goal.returns-clause-lists
 returns-clause-lists g c =
-    λ b ignored hangul pairs. lists-compose c.args.self.now.decomposed.characters b hangul c.args.self.now.pairs.now ignored pairs c.args.starter c.args.second c.compose.result c.compose.ensures
+    let s = c.args.self.now in
+    λ ignored pairs. lists-compose s.decomposed.characters s.pairs.now ignored (s.suits.hangul ignored) pairs c.args.starter c.args.second c.compose.result c.compose.ensures

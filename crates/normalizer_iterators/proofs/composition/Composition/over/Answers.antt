@@ -25,6 +25,20 @@ returns-clause-text g c = λ x spelled.
           ∙ ap (λ l. l ++ compose_by_starters (reading_by s Dropped pairs) y) (sym c.new-marks.ensures.staying);
     })
 
+pub returns-clause-came : goal.returns-clause-came
+returns-clause-came g c = λ e out h.
+    let s = c.args.characters in
+    let ignored = c.args.ignored in
+    let pairs = c.args.pairs.now in
+    let source = c.in_ok-over.ensures.came e h.unread h.source in (
+      source.0,
+      source.1,
+      h.text ∙ ap (λ l. l ++ compose_by_starters (reading_by c.in_ok-over.field-0.characters Dropped pairs) h.unread) c.new-marks.ensures.staying
+          ∙ ap (λ k. compose_by_starters (reading_by k Dropped pairs) h.unread) c.in_ok-over.ensures.kept.0
+          ∙ ap (compose_by_starters (reading_by s Dropped pairs)) source.2
+          ∙ sym (nfc-reading_by s ignored pairs c.requires.composing.starters source.0),
+    )
+
 pub returns-clause-short : goal.returns-clause-short
 returns-clause-short g c = λ x spelled runs.
     let s = c.args.characters in

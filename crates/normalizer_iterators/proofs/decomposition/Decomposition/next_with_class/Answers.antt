@@ -1,7 +1,7 @@
 use Rattle.std.proofs.Common.{refl, sym, ap, ◌∙◌, Ok, Err, []}
 use Rattle.normalizer_iterators.specs.Reads.{character_of}
 use Rattle.normalizer_iterators.specs.WaitingList.{AgreesWith}
-use Rattle.normalizer_iterators.proofs.DecompositionLemmas.{Steps-ended, Steps-read, Goes-read, class-first, nothing_read, ready_behind}
+use Rattle.normalizer_iterators.proofs.DecompositionLemmas.{Steps-ended, Steps-front, Steps-read, Goes-read, class-first, nothing_read, ready_behind}
 use Rattle.normalizer_iterators.proofs.ReadingLemmas.{HasRead-as}
 use Rattle.normalizer_tables.specs.Readings.{reading_by}
 use Rattle.normalizer_iterators.proofs.decomposition.Decomposition.next_with_class.Goals as goal
@@ -21,6 +21,10 @@ invariant_of-self g c =
 pub returns-in-Some-clause-class : goal.returns-in-Some-clause-class
 unfolding AgreesWith
 returns-in-Some-clause-class g c = let s = c.args.self.now in c.in-Some.ensures.class (reading_by s.characters s.ignored []) s.classes
+
+pub returns-in-Some-clause-steps : goal.returns-in-Some-clause-steps
+returns-in-Some-clause-steps g c =
+    Steps-front g.I.Iterator.can_next g.I.Iterator.next_gives g.I.Iterator.remaining c.args.self.now _ _ refl refl refl refl c.in-Some.ensures.some
 
 pub invariant_of-self-in-Break-1 : goal.invariant_of-self-in-Break-1
 unfolding AgreesWith

@@ -6,7 +6,7 @@ use Rattle.normalizer_iterators.specs.Reads.{character_of}
 use Rattle.normalizer_iterators.specs.WaitingList.{AgreesWith}
 use Rattle.normalizer_iterators.proofs.DecompositionLemmas.{at_some}
 use Rattle.normalizer_iterators.proofs.ReadingLemmas.{HasRead-as, IsReadyBehind-next}
-use Rattle.normalizer_iterators.proofs.ToComeLemmas.{IsToCome-start, AreShortToCome-start, short_start_fits}
+use Rattle.normalizer_iterators.proofs.ToComeLemmas.{IsToCome-start, came_start, AreShortToCome-start, short_start_fits}
 use Rattle.normalizer_iterators.proofs.decomposition.Decomposition.over.Goals as goal
 
 pub read_on-requires-clause-ready : goal.read_on-requires-clause-ready
@@ -20,6 +20,14 @@ returns-in-Ok-clause-text g c = λ x spells.
     (c.next.ensures.goes.on c.requires.ends) in
     IsToCome-start g.I.Iterator.next_gives g.I.Iterator.can_next g.I.Iterator.remaining (has_class_form c.args.characters) _ c.requires.suits c.args.delegate _ _ _ _ x
     c.new-waiting.ensures.ordered c.new-waiting.ensures.unordered (c.in-Ok.ensures.ok _ read) spells
+
+pub returns-in-Ok-clause-came : goal.returns-in-Ok-clause-came
+returns-in-Ok-clause-came g c = λ e out h.
+    let read =
+    HasRead-as g.I.Iterator.can_next g.I.Iterator.next_gives g.I.Iterator.remaining _ _ _ _ c.read_from-first.ensures.character c.next.ensures.steps
+    (c.next.ensures.goes.on c.requires.ends) in
+    came_start g.I.Iterator.next_gives g.I.Iterator.can_next g.I.Iterator.remaining (has_class_form c.args.characters) _ c.requires.suits e c.args.delegate _ _ _ _ out
+    c.new-waiting.ensures.ordered c.new-waiting.ensures.unordered (c.in-Ok.ensures.ok _ read) h
 
 pub returns-in-Ok-clause-short : goal.returns-in-Ok-clause-short
 returns-in-Ok-clause-short g c = λ x spells short.

@@ -1,0 +1,22 @@
+//! Pairs of characters, composed.
+ghost use Rattle.std.specs.Prelude.{◌≡◌, ◌++◌, [], IfOk, IfSome};
+ghost use Rattle.normal_forms.specs.Order.{order};
+ghost use Rattle.normalizer_calls.specs.ComposingNormalizers.{composing_data_of_borrowed};
+ghost use Rattle.normalizer_tables.specs.Characters.{list_of};
+ghost use Rattle.normalizer_tables.specs.Readings.{reading_by};
+ghost use Rattle.normalizer_tables.specs.declared.characters.IgnoredCharacters.TheVariants.{Dropped};
+
+use icu_normalizer::{ComposingNormalizerBorrowed, NormalizeError};
+
+/// What a character and one behind it compose to, if they do: its decomposition is that of the two, in canonical order.
+pub fn composed_pair(
+    normalizer: &ComposingNormalizerBorrowed<'_>,
+    first: char,
+    second: char,
+) -> Result<Option<char>, NormalizeError>
+    ensures { let s = composing_data_of_borrowed normalizer.now in IfOk result (λ answer. IfSome answer (λ c.
+        list_of s [] c ≡ order (reading_by s Dropped []) (list_of s [] first ++ list_of s [] second))) }
+{
+    let composition = normalizer.normalize_iter("".chars())?;
+    Ok(composition.compose(first, second))
+}
