@@ -9,6 +9,7 @@ pub mod PassedClasses
 pub mod PassingLemmas
 pub mod ReadingLemmas
 pub mod ShortChunkLemmas
+pub mod SortedMarkLemmas
 pub mod SoundData
 pub mod StarterLemmas
 pub mod ToComeLemmas

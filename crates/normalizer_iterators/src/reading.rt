@@ -44,13 +44,13 @@ pub(crate) fn read_on<I: Iterator<Item = char> + Drop>(
     let mut next = first;
     while let Some(read) = next {
         if read.begins_anew(characters, ignored) {
-            waiting.put_in_order();
+            waiting.put_in_order()?;
             return Ok(Some(read));
         }
         push_list(characters, ignored, read, waiting)?;
         next = read_from(characters, 0, delegate.next());
     }
-    waiting.put_in_order();
+    waiting.put_in_order()?;
     Ok(None)
 }
 

@@ -43,7 +43,7 @@ returns-in_err-push_list-clause-err g c =
     let members = list-reading_by s c.args.ignored [] c.in-Some.read.character in
     let continuing : continues f d c.in-Some.read.character ≡ true = continues-else f d c.in-Some.read.character (λ anew. sym c.if-begins_anew.false ∙ c.begins_anew.ensures.1 anew) in
     let long = too_many _ places c.in_err-push_list.ensures.succeeds in
-    let exit = err_from_is_err_and c.from_residual.result c.from_residual.ensures.1 in
+    let exit = err_from_is_err_and c.from_residual-in_err-push_list.result c.from_residual-in_err-push_list.ensures.1 in
     rw exit.1
     (ReadsAhead-refused g.I.Iterator.can_next g.I.Iterator.next_gives g.I.Iterator.remaining f d _ _ _ c.in-Some.read.character _ _ ahead continuing
     (omega (arith, long, ap length members)))
