@@ -2,34 +2,14 @@
 //! to, tells whether they are their own form or where they first are not, or maps the text for domain names.
 #![tactic(auto)]
 
-mod building;
-mod characters;
-mod device;
-mod ending;
-mod mapping;
-mod normalizer;
-mod program;
-mod reply;
-mod run;
-mod set_run;
 mod standard;
-mod task;
-mod transfer;
-mod words;
-mod worker;
 
-pub use building::built;
-pub use device::{DeviceError, Source, Target};
-pub use ending::{Answer, ToolFault, ending};
-pub use program::program;
-pub use run::run;
-pub use set_run::run_over;
+use normalizer_program::ending::{ToolFault, ending};
+use normalizer_program::program::program;
 use standard::{Input, Output};
 use std::env;
 use std::io::ErrorKind;
 use std::process::ExitCode;
-pub use transfer::{read_all, write_all};
-pub use words::{Command, RecordSet, USAGE, words};
 
 fn main(rt: HostRuntime) -> ExitCode {
     let (status, line) = ended(&rt);

@@ -1,7 +1,7 @@
 //! Standard input and output as devices.
 ghost use Rattle.std.specs.Prelude.{⊤};
 
-use crate::device::{DeviceError, Source, Target};
+use normalizer_program::{DeviceError, Source, Target};
 use std::io::{Read, Write};
 
 /// A reader as a source. It tells the bytes that the reader tells. An interrupted read counts as refused.

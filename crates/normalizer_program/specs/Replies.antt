@@ -1,0 +1,45 @@
+-- What a command answers to the bytes that it reads, and what it writes.
+use Rattle.std.specs.Prelude.{◌≡◌, ◌↔◌, ℕ, List, [], Option, encode_utf8_all}
+use Rattle.normal_forms.specs.declared.Form.{Form}
+use Rattle.normal_forms.specs.Reading.{Reading}
+use Rattle.normalizer_text.specs.Encodings.{Encoding}
+use Rattle.normalizer_text.specs.Utf8.{decoded_utf8}
+use Rattle.normalizer_input.specs.declared.offence.Offence.{Offence}
+use Rattle.normalizer_input.specs.EncodedForm.{encoded_form}
+use Rattle.normalizer_input.specs.InputCut.{IsInputNormalized}
+use Rattle.normalizer_input.specs.InputOffence.{IsInputOffenceOf}
+use Rattle.normalizer_calls.specs.Uts46.{MapperData}
+use Rattle.normalizer_program.specs.declared.ending.Answer.{Answer}
+use Rattle.normalizer_program.specs.declared.ending.Answer.TheVariants.{Done}
+use Rattle.normalizer_program.specs.declared.task.FormTask.{FormTask}
+use Rattle.normalizer_program.specs.declared.task.FormTask.TheVariants.{Write, Check, Locate}
+use Rattle.normalizer_program.specs.declared.task.MapperTask.{MapperTask}
+use Rattle.normalizer_program.specs.declared.task.MapperTask.TheVariants.{Map, Validate, Label}
+use Rattle.normalizer_program.specs.Labels.{fields, mapped, validated, TellsKept}
+use Rattle.normalizer_program.specs.Needs.{Work, OfForm, OfMapper}
+use Rattle.normalizer_program.specs.OffenceLines.{TellsOffence}
+
+-- the UTF-8 of the form of the decoded bytes; whether they are well-formed and their own form; or where they first are
+-- not
+abbrev pub IsReplyOfForm : FormTask → Form → Reading → (input : List ℕ) → Answer → (output : List ℕ) → Type 0
+IsReplyOfForm Write form d input answer output =
+    (answer ≡ Done) × (output ≡ encoded_form Encoding.Utf8 d form input)
+IsReplyOfForm Check form d input answer output =
+    ((answer ≡ Done) ↔ IsInputNormalized Encoding.Utf8 d form input) × (output ≡ [])
+IsReplyOfForm Locate form d input answer output =
+    (offence : Option Offence) × IsInputOffenceOf Encoding.Utf8 d form input offence
+    × TellsOffence offence answer output
+
+-- the UTF-8 of what mapping or validation makes of the decoded bytes, or of the lines of the fields that are kept
+abbrev pub IsReplyOfMapper : MapperTask → MapperData → (input : List ℕ) → Answer → (output : List ℕ) → Type 0
+IsReplyOfMapper Map h input answer output =
+    (answer ≡ Done) × (output ≡ encode_utf8_all (mapped h (decoded_utf8 input)))
+IsReplyOfMapper Validate h input answer output =
+    (answer ≡ Done) × (output ≡ encode_utf8_all (validated h (decoded_utf8 input)))
+IsReplyOfMapper Label h input answer output =
+    (lines : List ℕ) × TellsKept h (fields (mapped h (decoded_utf8 input))) answer lines
+    × (output ≡ encode_utf8_all lines)
+
+abbrev pub IsReply : Work → (input : List ℕ) → Answer → (output : List ℕ) → Type 0
+IsReply (OfForm t form d) input answer output = IsReplyOfForm t form d input answer output
+IsReply (OfMapper t h) input answer output = IsReplyOfMapper t h input answer output

@@ -1,0 +1,37 @@
+-- What a run of a command over a record set answers.
+use Rattle.std.specs.Prelude.{ℕ, List, Option, Some, Result, Ok, Err, ⊤, ◌⊎◌}
+use Rattle.normalizer_builder.specs.Building.{Builds}
+use Rattle.normalizer_packing.specs.declared.Packed.{Packed}
+use Rattle.normalizer_program.specs.declared.ending.Answer.{Answer}
+use Rattle.normalizer_program.specs.declared.ending.ToolFault.{ToolFault}
+use Rattle.normalizer_program.specs.declared.ending.ToolFault.TheVariants.{Read, Write, Memory, Data}
+use Rattle.normalizer_program.specs.declared.words.Command.{Command}
+use Rattle.normalizer_program.specs.declared.words.RecordSet.{RecordSet}
+use Rattle.normalizer_program.specs.Needs.{Held, held_for_all}
+use Rattle.normalizer_program.specs.Outcome.{IsOutcome}
+use Rattle.normalizer_program.specs.RecordSets.{AreRefused, mapper_records_of, records_of}
+
+-- what built data hold
+abbrev pub held_by : Packed → Held
+held_by p = held_for_all (Some p.canonical) (Some p.tables) (Some p.compatibility) (Some p.supplementary_tables)
+    (Some p.compositions) (Some p.mapper)
+
+-- the records build data, and this is the outcome of the command over them
+abbrev pub IsOutcomeOfBuilt : RecordSet → Command → (left before after : Option (List ℕ)) → Result Answer ToolFault
+    → Type 0
+IsOutcomeOfBuilt set command left before after result =
+    (p : Packed) × Builds (records_of set) (mapper_records_of set) p
+    × IsOutcome command (held_by p) left before after result
+
+-- no data are built
+abbrev pub IsUnbuilt : RecordSet → Result Answer ToolFault → Type 0
+IsUnbuilt set (Ok answer) = ⊥
+IsUnbuilt set (Err Read) = ⊥
+IsUnbuilt set (Err Write) = ⊥
+IsUnbuilt set (Err Memory) = ⊤
+IsUnbuilt set (Err Data) = AreRefused (records_of set) (mapper_records_of set)
+
+abbrev pub IsOutcomeOver : RecordSet → Command → (left before after : Option (List ℕ)) → Result Answer ToolFault
+    → Type 0
+IsOutcomeOver set command left before after result =
+    IsOutcomeOfBuilt set command left before after result ⊎ IsUnbuilt set result

@@ -1,0 +1,87 @@
+//! What the program answers, and how it ends.
+ghost use Rattle.std.specs.Prelude.{◌≡◌};
+ghost use Rattle.normalizer_program.specs.Endings.{status_of, line_of};
+
+use icu_normalizer::{DataError, NormalizeError};
+use std::alloc::{AllocError, AllocFailed};
+
+/// What a command answered.
+#[derive(Clone, Copy, Debug, PartialEq, Eq)]
+pub enum Answer {
+    /// The result was written, or the answer is yes.
+    Done,
+    /// The answer is no.
+    No,
+}
+
+/// Why a command gave no answer.
+#[derive(Clone, Copy, Debug, PartialEq, Eq)]
+pub enum ToolFault {
+    /// A read of the input was refused.
+    Read,
+    /// A write of the output was refused.
+    Write,
+    /// There was not enough memory.
+    Memory,
+    /// The records give no data, the data are missing, or a constructor refused them.
+    Data,
+}
+
+impl From<AllocError> for ToolFault {
+    ghost use Rattle.normalizer_program.specs.declared.ending.ToolFault.TheVariants.{Memory};
+
+    ghost from_gives = { λ _ fault. fault ≡ Memory };
+
+    fn from(_error: AllocError) -> ToolFault {
+        ToolFault::Memory
+    }
+}
+
+impl<T: Drop> From<AllocFailed<T>> for ToolFault {
+    ghost use Rattle.normalizer_program.specs.declared.ending.ToolFault.TheVariants.{Memory};
+
+    ghost from_gives = { λ _ fault. fault ≡ Memory };
+
+    fn from(_error: AllocFailed<T>) -> ToolFault {
+        ToolFault::Memory
+    }
+}
+
+impl From<DataError> for ToolFault {
+    ghost use Rattle.normalizer_program.specs.Faults.{fault_of};
+
+    ghost from_gives = { λ error fault. fault ≡ fault_of error };
+
+    fn from(error: DataError) -> ToolFault {
+        match error {
+            DataError::Memory => ToolFault::Memory,
+            _ => ToolFault::Data,
+        }
+    }
+}
+
+// A call that writes to no sink, or to a text in memory, faults only for want of memory.
+impl From<NormalizeError> for ToolFault {
+    ghost use Rattle.normalizer_program.specs.declared.ending.ToolFault.TheVariants.{Memory};
+
+    ghost from_gives = { λ _ fault. fault ≡ Memory };
+
+    fn from(_error: NormalizeError) -> ToolFault {
+        ToolFault::Memory
+    }
+}
+
+/// The exit status, and the line for standard error without its line feed: empty where there is none.
+pub fn ending(outcome: &Result<Answer, ToolFault>) -> (u8, &'static str)
+    ensures status { result.0 ≡ status_of outcome.now }
+    ensures line { result.1.now ≡ line_of outcome.now }
+{
+    match outcome {
+        Ok(Answer::Done) => (0, ""),
+        Ok(Answer::No) => (1, ""),
+        Err(ToolFault::Read) => (2, "normtool: read"),
+        Err(ToolFault::Write) => (2, "normtool: write"),
+        Err(ToolFault::Memory) => (2, "normtool: memory"),
+        Err(ToolFault::Data) => (2, "normtool: data"),
+    }
+}

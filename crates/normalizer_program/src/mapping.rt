@@ -1,0 +1,123 @@
+//! What is asked of the mapper.
+ghost use Rattle.std.specs.Prelude.{◌≡◌, ◌==◌, IfOk, IfErr, map, string_bytes};
+ghost use Rattle.std.specs.List.{list_any};
+ghost use Rattle.normalizer_text.specs.Utf8.{decoded_utf8};
+ghost use Rattle.normalizer_calls.specs.Mappers.{mapper_data_of, mapper_data_of_borrowed};
+ghost use Rattle.normalizer_program.specs.Labels.{fields, is_kept, mapped, validated, TellsKept};
+ghost use Rattle.normalizer_program.specs.Replies.{IsReplyOfMapper};
+
+use crate::characters::{collected, encoded};
+use crate::ending::{Answer, ToolFault};
+use crate::reply::Reply;
+use crate::task::MapperTask;
+use icu_normalizer::Utf8Chars;
+use icu_normalizer::uts46::{Uts46Mapper, Uts46MapperBorrowed};
+use std::alloc::{AllocError, Global};
+
+impl MapperTask {
+    /// The reply to bytes, by a mapper.
+    pub(crate) fn reply(
+        self,
+        alloc: Global,
+        mapper: &Uts46Mapper,
+        input: &[u8],
+    ) -> Result<Reply, ToolFault>
+        ensures reply { IfOk result (λ r. IsReplyOfMapper self (mapper_data_of mapper.now)
+            input.now r.answer (string_bytes r.output)) }
+        ensures errors { IfErr result (λ fault. fault ≡ ToolFault.Memory) }
+    {
+        let mapper = mapper.as_borrowed();
+        let (answer, characters) = match self {
+            MapperTask::Map => (Answer::Done, mapped(alloc, &mapper, input)?),
+            MapperTask::Validate => (Answer::Done, validated(alloc, &mapper, input)?),
+            MapperTask::Label => {
+                let text = mapped(alloc, &mapper, input)?;
+                labelled(alloc, &mapper, &text)?
+            }
+        };
+        let output = encoded(alloc, &characters)?;
+        Ok(Reply { answer, output })
+    }
+}
+
+// What mapping makes of the text that bytes decode to.
+fn mapped(
+    alloc: Global,
+    mapper: &Uts46MapperBorrowed<'_>,
+    bytes: &[u8],
+) -> Result<Vec<char>, ToolFault>
+    ensures text { IfOk result (λ m. m.items
+        ≡ mapped (mapper_data_of_borrowed mapper.now) (decoded_utf8 bytes.now)) }
+    ensures errors { IfErr result (λ fault. fault ≡ ToolFault.Memory) }
+{
+    let characters = mapper.map_normalize(Utf8Chars::new(bytes))?;
+    collected(alloc, characters)
+}
+
+// What validation makes of the text that bytes decode to.
+fn validated(
+    alloc: Global,
+    mapper: &Uts46MapperBorrowed<'_>,
+    bytes: &[u8],
+) -> Result<Vec<char>, ToolFault>
+    ensures text { IfOk result (λ v. v.items
+        ≡ validated (mapper_data_of_borrowed mapper.now) (decoded_utf8 bytes.now)) }
+    ensures errors { IfErr result (λ fault. fault ≡ ToolFault.Memory) }
+{
+    let characters = mapper.normalize_validate(Utf8Chars::new(bytes))?;
+    collected(alloc, characters)
+}
+
+/// Whether all fields of a text are kept, and those that are, each followed by a line feed.
+fn labelled(
+    alloc: Global,
+    mapper: &Uts46MapperBorrowed<'_>,
+    text: &[char],
+) -> Result<(Answer, Vec<char>), ToolFault>
+    ensures labels { IfOk result (λ r. TellsKept (mapper_data_of_borrowed mapper.now) (fields text.now) r.0 r.1.items) }
+    ensures errors { IfErr result (λ fault. fault ≡ ToolFault.Memory) }
+{
+    let mut answer = Answer::Done;
+    let mut lines = Vec::new(alloc);
+    let fields = fields(alloc, text)?;
+    for field in &fields {
+        if is_kept(alloc, mapper, field)? {
+            lines.extend_from_slice(field)?;
+            lines.push('\n')?;
+        } else {
+            answer = Answer::No;
+        }
+    }
+    Ok((answer, lines))
+}
+
+/// What stands between the full stops of a text.
+fn fields(alloc: Global, text: &[char]) -> Result<Vec<&[char]>, AllocError>
+    ensures { IfOk result (λ parts. map (λ part. part.now) parts.items ≡ fields text.now) }
+{
+    text.split(|c| *c == '.').collect(alloc)
+}
+
+// Whether a field holds no U+FFFD, and validation gives it back.
+fn is_kept(
+    alloc: Global,
+    mapper: &Uts46MapperBorrowed<'_>,
+    field: &[char],
+) -> Result<bool, ToolFault>
+    ensures kept { IfOk result (λ kept. kept ≡ is_kept (mapper_data_of_borrowed mapper.now) field.now) }
+    ensures errors { IfErr result (λ fault. fault ≡ ToolFault.Memory) }
+{
+    if holds_replacement(field) {
+        return Ok(false);
+    }
+    let characters = mapper.normalize_validate(field.iter().copied())?;
+    let valid = collected(alloc, characters)?;
+    Ok(valid.as_slice() == field)
+}
+
+// Whether a field holds U+FFFD.
+fn holds_replacement(field: &[char]) -> bool
+    ensures { result ≡ list_any (λ c. c == 0xFFFD) field.now }
+{
+    field.iter().any(|c| *c == char::REPLACEMENT_CHARACTER)
+}

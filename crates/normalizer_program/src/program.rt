@@ -1,0 +1,40 @@
+//! The program but for its streams: what its words ask for, how it ends, and what it then prints.
+ghost use Rattle.std.specs.Prelude.{◌≡◌, ◌≢◌, Result, map, string_bytes, IfErr, IsErrOf};
+ghost use Rattle.normalizer_program.specs.Endings.{EndsWith, IsUsage};
+ghost use Rattle.normalizer_program.specs.SetOutcome.{IsOutcomeOver};
+ghost use Rattle.normalizer_program.specs.Words.{AskForNothing, AsksFor};
+ghost use Rattle.normalizer_program.specs.declared.ending.Answer.{Answer};
+ghost use Rattle.normalizer_program.specs.declared.ending.ToolFault.{ToolFault};
+ghost use Rattle.normalizer_program.specs.declared.words.Command.{Command};
+ghost use Rattle.normalizer_program.specs.declared.words.RecordSet.{RecordSet};
+
+use crate::device::{Source, Target};
+use crate::ending::ending;
+use crate::set_run::run_over;
+use crate::words::{USAGE, words};
+use std::alloc::Global;
+
+/// Does what the words after the program's name ask for. It gives the exit status, and the line for standard error
+/// without its line feed: empty where there is none. Words that ask for nothing leave both devices as they are.
+pub fn program<R: Source, W: Target>(
+    alloc: Global,
+    all: &[String],
+    reader: &mut R,
+    writer: &mut W,
+) -> (u8, &'static str)
+    ensures usage { AskForNothing (map string_bytes all.now) → IsUsage result.0 result.1.now }
+    ensures unread { AskForNothing (map string_bytes all.now) → reader.new ≡ reader.old }
+    ensures unwritten { AskForNothing (map string_bytes all.now) → writer.new ≡ writer.old }
+    ensures ends { (records : RecordSet) (command : Command) → AsksFor (map string_bytes all.now) records command →
+        (outcome : Result Answer ToolFault) × EndsWith outcome result.0 result.1.now
+        × IsOutcomeOver records command (R.left reader.old) (W.taken writer.old) (W.taken writer.new) outcome
+        × (IsErrOf outcome ToolFault.Read → R.refused reader.old reader.new)
+        × (IsErrOf outcome ToolFault.Write → W.refused writer.old writer.new)
+        × IfErr outcome (λ fault. fault ≢ ToolFault.Write → writer.new ≡ writer.old)
+        × (IsErrOf outcome ToolFault.Data → reader.new ≡ reader.old) }
+{
+    match words(all) {
+        None => (2, USAGE),
+        Some((records, command)) => ending(&run_over(alloc, records, command, reader, writer)),
+    }
+}

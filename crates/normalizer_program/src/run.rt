@@ -1,0 +1,54 @@
+//! A command, from the bytes of a source to the bytes of a target.
+ghost use Rattle.std.specs.Prelude.{◌≡◌, ◌≢◌, IfErr, IsErrOf};
+ghost use Rattle.normalizer_program.specs.Needs.{Held, IsServed};
+ghost use Rattle.normalizer_program.specs.Normalizers.{work_by};
+ghost use Rattle.normalizer_program.specs.Outcome.{IsOutcome};
+ghost use Rattle.normalizer_program.specs.Tasks.{task_of};
+ghost use Rattle.normalizer_program.specs.declared.words.Command.{Command};
+
+use crate::device::{Source, Target};
+use crate::ending::{Answer, ToolFault};
+use crate::transfer::{read_all, write_all};
+use crate::words::Command;
+use crate::worker::{CommandData, Worker};
+use std::alloc::Global;
+
+/// Makes what the command needs, reads the input to its end, computes, and only then writes.
+pub fn run<P: CommandData, R: Source, W: Target>(
+    alloc: Global,
+    provider: &P,
+    command: Command,
+    reader: &mut R,
+    writer: &mut W,
+) -> Result<Answer, ToolFault>
+    ensures outcome { IsOutcome command (P.held_for_commands provider.now)
+        (R.left reader.old) (W.taken writer.old) (W.taken writer.new) result }
+    ensures read { IsErrOf result ToolFault.Read → R.refused reader.old reader.new }
+    ensures write { IsErrOf result ToolFault.Write → W.refused writer.old writer.new }
+    ensures unwritten { IfErr result (λ fault. fault ≢ ToolFault.Write → writer.new ≡ writer.old) }
+    ensures unread { IsErrOf result ToolFault.Data → reader.new ≡ reader.old }
+{
+    let worker = provider.worker(command.task())?;
+    answer(alloc, &worker, reader, writer)
+}
+
+// Reads the input to its end, computes the reply, and only then writes it. (It borrows the worker, so that the worker
+// is dropped in one place.)
+fn answer<R: Source, W: Target>(
+    alloc: Global,
+    worker: &Worker,
+    reader: &mut R,
+    writer: &mut W,
+) -> Result<Answer, ToolFault>
+    ensures outcome { (command : Command) (held : Held) → IsServed (task_of command) held (work_by worker.now) →
+        IsOutcome command held (R.left reader.old) (W.taken writer.old) (W.taken writer.new) result }
+    ensures data { IfErr result (λ fault. fault ≢ ToolFault.Data) }
+    ensures read { IsErrOf result ToolFault.Read → R.refused reader.old reader.new }
+    ensures write { IsErrOf result ToolFault.Write → W.refused writer.old writer.new }
+    ensures unwritten { IfErr result (λ fault. fault ≢ ToolFault.Write → writer.new ≡ writer.old) }
+{
+    let input = read_all(alloc, reader)?;
+    let reply = worker.reply(alloc, &input)?;
+    write_all(writer, reply.output.as_bytes())?;
+    Ok(reply.answer)
+}

@@ -1,0 +1,29 @@
+//! A command over a record set, from the bytes of a source to the bytes of a target.
+ghost use Rattle.std.specs.Prelude.{◌≡◌, ◌≢◌, IfErr, IsErrOf};
+ghost use Rattle.normalizer_program.specs.SetOutcome.{IsOutcomeOver};
+
+use crate::building::built;
+use crate::device::{Source, Target};
+use crate::ending::{Answer, ToolFault};
+use crate::run::run;
+use crate::words::{Command, RecordSet};
+use std::alloc::Global;
+
+/// Builds the data of the records, and runs the command over them.
+pub fn run_over<R: Source, W: Target>(
+    alloc: Global,
+    records: RecordSet,
+    command: Command,
+    reader: &mut R,
+    writer: &mut W,
+) -> Result<Answer, ToolFault>
+    ensures outcome { IsOutcomeOver records command
+        (R.left reader.old) (W.taken writer.old) (W.taken writer.new) result }
+    ensures read { IsErrOf result ToolFault.Read → R.refused reader.old reader.new }
+    ensures write { IsErrOf result ToolFault.Write → W.refused writer.old writer.new }
+    ensures unwritten { IfErr result (λ fault. fault ≢ ToolFault.Write → writer.new ≡ writer.old) }
+    ensures unread { IsErrOf result ToolFault.Data → reader.new ≡ reader.old }
+{
+    let data = built(alloc, records)?;
+    run(alloc, &data, command, reader, writer)
+}

@@ -1,0 +1,68 @@
+//! What a command asks: something of a normal form of the input, or something of the mapper.
+ghost use Rattle.std.specs.Prelude.{◌≡◌};
+ghost use Rattle.normalizer_program.specs.Tasks.{task_of};
+
+use crate::words::Command;
+
+/// A normalization form (UAX #15, section 1.2).
+#[derive(Clone, Copy)]
+pub enum NormalForm {
+    Nfd,
+    Nfc,
+    Nfkd,
+    Nfkc,
+}
+
+/// What is asked of a normal form of the input.
+#[derive(Clone, Copy)]
+pub enum FormTask {
+    /// To write the form.
+    Write,
+    /// Whether the input is well-formed and its own form.
+    Check,
+    /// Where it first is not.
+    Locate,
+}
+
+/// What is asked of the mapper (UTS #46, section 4).
+#[derive(Clone, Copy)]
+pub enum MapperTask {
+    /// To write what mapping makes of the input.
+    Map,
+    /// To write what validation makes of it.
+    Validate,
+    /// To write the fields of the mapped input that are valid.
+    Label,
+}
+
+/// What a command asks.
+#[derive(Clone, Copy)]
+pub enum Task {
+    OfForm(FormTask, NormalForm),
+    OfMapper(MapperTask),
+}
+
+impl Command {
+    /// What the command asks.
+    pub(crate) fn task(self) -> Task
+        ensures { result ≡ task_of self }
+    {
+        match self {
+            Command::Nfd => Task::OfForm(FormTask::Write, NormalForm::Nfd),
+            Command::Nfc => Task::OfForm(FormTask::Write, NormalForm::Nfc),
+            Command::Nfkd => Task::OfForm(FormTask::Write, NormalForm::Nfkd),
+            Command::Nfkc => Task::OfForm(FormTask::Write, NormalForm::Nfkc),
+            Command::IsNfd => Task::OfForm(FormTask::Check, NormalForm::Nfd),
+            Command::IsNfc => Task::OfForm(FormTask::Check, NormalForm::Nfc),
+            Command::IsNfkd => Task::OfForm(FormTask::Check, NormalForm::Nfkd),
+            Command::IsNfkc => Task::OfForm(FormTask::Check, NormalForm::Nfkc),
+            Command::WhereNfd => Task::OfForm(FormTask::Locate, NormalForm::Nfd),
+            Command::WhereNfc => Task::OfForm(FormTask::Locate, NormalForm::Nfc),
+            Command::WhereNfkd => Task::OfForm(FormTask::Locate, NormalForm::Nfkd),
+            Command::WhereNfkc => Task::OfForm(FormTask::Locate, NormalForm::Nfkc),
+            Command::Map => Task::OfMapper(MapperTask::Map),
+            Command::Validate => Task::OfMapper(MapperTask::Validate),
+            Command::Label => Task::OfMapper(MapperTask::Label),
+        }
+    }
+}

@@ -1,0 +1,79 @@
+//! What a command needs to be done.
+ghost use Rattle.std.specs.Prelude.{◌≡◌, ◌⊎◌, IfOk, IfErr, IsErrOf, string_bytes};
+ghost use Rattle.normalizer_program.specs.Needs.{held_for_all, Held, IsServed, LacksData};
+ghost use Rattle.normalizer_program.specs.Normalizers.{work_by};
+ghost use Rattle.normalizer_program.specs.Replies.{IsReply};
+
+use crate::ending::ToolFault;
+use crate::normalizer::Normalizer;
+use crate::reply::Reply;
+use crate::task::{FormTask, MapperTask, Task};
+use icu_normalizer::uts46::Uts46Mapper;
+use icu_normalizer::{
+    DataProvider, NormalizerNfcV1, NormalizerNfdDataV1, NormalizerNfdTablesV1,
+    NormalizerNfkdDataV1, NormalizerNfkdTablesV1, NormalizerUts46DataV1,
+};
+use std::alloc::Global;
+
+/// A task with what it is done by.
+#[derive(Drop)]
+pub enum Worker {
+    OfForm(FormTask, Normalizer),
+    OfMapper(MapperTask, Uts46Mapper),
+}
+
+/// What the data for the commands come from.
+pub trait CommandData {
+    /// What is held for the commands.
+    ghost held_for_commands: { Self → Held };
+
+    /// What a task needs, made over what is held.
+    fn worker(&self, task: Task) -> Result<Worker, ToolFault>
+        ensures served { IfOk result (λ w. IsServed task (held_for_commands self.now) (work_by w)) }
+        ensures data { IsErrOf result ToolFault.Data → LacksData task (held_for_commands self.now) }
+        ensures errors { IfErr result (λ fault. (fault ≡ ToolFault.Data) ⊎ (fault ≡ ToolFault.Memory)) };
+}
+
+impl<P> CommandData for P
+where
+    P: DataProvider<NormalizerNfdDataV1>
+        + DataProvider<NormalizerNfdTablesV1>
+        + DataProvider<NormalizerNfkdDataV1>
+        + DataProvider<NormalizerNfkdTablesV1>
+        + DataProvider<NormalizerNfcV1>
+        + DataProvider<NormalizerUts46DataV1>,
+{
+    ghost held_for_commands = { λ p. held_for_all
+        (⟦<P as DataProvider<NormalizerNfdDataV1>>⟧.held p)
+        (⟦<P as DataProvider<NormalizerNfdTablesV1>>⟧.held p)
+        (⟦<P as DataProvider<NormalizerNfkdDataV1>>⟧.held p)
+        (⟦<P as DataProvider<NormalizerNfkdTablesV1>>⟧.held p)
+        (⟦<P as DataProvider<NormalizerNfcV1>>⟧.held p)
+        (⟦<P as DataProvider<NormalizerUts46DataV1>>⟧.held p) };
+
+    fn worker(&self, task: Task) -> Result<Worker, ToolFault> {
+        match task {
+            Task::OfForm(task, form) => {
+                let normalizer = Normalizer::for_form(self, form)?;
+                Ok(Worker::OfForm(task, normalizer))
+            }
+            Task::OfMapper(task) => {
+                let mapper = Uts46Mapper::try_new(self)?;
+                Ok(Worker::OfMapper(task, mapper))
+            }
+        }
+    }
+}
+
+impl Worker {
+    /// The reply to bytes.
+    pub(crate) fn reply(&self, alloc: Global, input: &[u8]) -> Result<Reply, ToolFault>
+        ensures reply { IfOk result (λ r. IsReply (work_by self.now) input.now r.answer (string_bytes r.output)) }
+        ensures errors { IfErr result (λ fault. fault ≡ ToolFault.Memory) }
+    {
+        match self {
+            Worker::OfForm(task, normalizer) => task.reply(alloc, normalizer, input),
+            Worker::OfMapper(task, mapper) => task.reply(alloc, mapper, input),
+        }
+    }
+}
