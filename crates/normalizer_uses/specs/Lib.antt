@@ -4,3 +4,4 @@ pub mod RecordedForms
 pub mod Reports
 pub mod Runs
 pub mod Shaping
+pub mod UnicodeForms

@@ -25,6 +25,7 @@ ghost use Rattle.normalizer_uses.specs.Last.{last_of};
 ghost use Rattle.normalizer_uses.specs.Runs.{GaveFault, IsFormOfDrained};
 
 mod by_records;
+mod by_unicode_data;
 pub mod composites;
 pub mod growing;
 pub mod identifiers;
@@ -38,6 +39,7 @@ pub use by_records::{
     NormalForm, built_combining_classes, built_composition, built_decomposition, built_mapper,
     form_by_records,
 };
+pub use by_unicode_data::{UnicodeFault, form_by_unicode_data};
 use icu_normalizer::{
     ComposingNormalizer, ComposingNormalizerBorrowed, DataError, DataProvider,
     DecomposingNormalizerBorrowed, Decomposition, DecompositionData, DecompositionTables,
