@@ -16,10 +16,19 @@ use icu_normalizer::{
 use std::alloc::Global;
 
 /// A task with what it is done by.
-#[derive(Drop)]
 pub enum Worker {
     OfForm(FormTask, Normalizer),
     OfMapper(MapperTask, Uts46Mapper),
+}
+
+// Written out, so that each place that drops a worker makes one call.
+impl Drop for Worker {
+    fn drop(self) {
+        match self {
+            Worker::OfForm(_, _normalizer) => {}
+            Worker::OfMapper(_, _mapper) => {}
+        }
+    }
 }
 
 /// What the data for the commands come from.
