@@ -2,7 +2,11 @@
 //! to, tells whether they are their own form or where they first are not, or maps the text for domain names.
 #![tactic(auto)]
 
+#[cfg(test)]
+mod memory;
 mod standard;
+#[cfg(test)]
+mod tests;
 
 use normalizer_program::ending::{ToolFault, ending};
 use normalizer_program::program::program;
