@@ -4,7 +4,7 @@ ghost use Rattle.std.specs.Prelude.{◌≡◌, ◌<◌, ⊤, Some, true};
 use normalizer_program::{DeviceError, Source, Target};
 use std::alloc::Global;
 
-/// Bytes in memory. A read gives a few at most, and is refused once they are used up where the source breaks off.
+/// Bytes in memory. A read gives a few at most, and is refused once they are used up if the source breaks off.
 #[derive(Drop)]
 pub struct Pieces<'a> {
     rest: &'a [u8],

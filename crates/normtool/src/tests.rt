@@ -17,7 +17,7 @@ fn strings(alloc: Global, texts: &[&str]) -> Option<Vec<String>> {
     Some(all)
 }
 
-/// What the words ask for, where there is memory for them.
+/// What the words ask for, if there is memory for them.
 fn asked(alloc: Global, texts: &[&str]) -> Option<Option<(RecordSet, Command)>> {
     match strings(alloc, texts) {
         Some(all) => Some(words(&all)),
