@@ -3,4 +3,4 @@ use Rattle.normalizer_uses.proofs.composites.composed_pair.Goals as goal
 
 pub returns : goal.returns
 returns c =
-    rw c.in_ok-composition.ensures.held.0 at c.compose.ensures.lists Dropped c.in_ok-composition.ensures.results
+    rw c.in_ok-composition.ensures.held.0 at (c.compose.ensures.lists Dropped c.in_ok-composition.ensures.results)
