@@ -15,7 +15,7 @@ use thiserror::Error;
 #[derive(Debug, Drop, Error)]
 pub enum PackError {
     /// The distinct lists that no word spells have more than 8,191 items together.
-    #[error("the lists have more items than words can point to")]
+    #[error("the lists have more items than the limit")]
     TableFull,
     /// An allocation was refused.
     #[error("out of memory")]
