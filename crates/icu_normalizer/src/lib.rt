@@ -1,5 +1,5 @@
-//! Unicode normalization forms NFC, NFD, NFKC and NFKD (Unicode Standard Annex #15), over data that are handed in and
-//! checked. No Unicode data come with the crate.
+//! Unicode normalization forms NFC, NFD, NFKC and NFKD (Unicode Standard Annex #15), over data that callers supply and
+//! that are checked. No Unicode data come with the crate.
 //!
 //! [`ComposingNormalizer`] makes NFC and NFKC, [`DecomposingNormalizer`] NFD and NFKD; their borrowed types have the
 //! calls. Inputs are `&str`, bytes that may not be UTF-8 and 16-bit units that may not be UTF-16 (ill-formed sequences

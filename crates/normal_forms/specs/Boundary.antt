@@ -1,4 +1,4 @@
--- Where a text may be divided so that each part is normalized apart (UAX #15, sections 1.4 and 9.1).
+-- Positions at which a text may be divided so that each part is normalized apart (UAX #15, sections 1.4 and 9.1).
 use Rattle.std.specs.Prelude.{◌≡◌, ℕ, List, [], ◌∷◌, None}
 use Rattle.normal_forms.specs.Reading.{Reading, IsStarter}
 

@@ -4,15 +4,15 @@ use Rattle.std.specs.Prelude.{ℕ, Bool, nat_lt, List, [], ◌∷◌, ◌++◌, 
 use Rattle.std.specs.List.{list_all}
 use Rattle.normal_forms.specs.Reading.{Reading, is_starter}
 
--- every waiting mark has a class below that of c
+-- every buffered mark has a class below that of c
 unfoldable pub is_above : Reading → List ℕ → ℕ → Bool
 is_above d waiting c = list_all (λ m. nat_lt (d.class m) (d.class c)) waiting
 
--- what the starter a becomes by c, behind the marks that wait between the two
+-- what the starter a and c compose to, after the marks buffered between the two
 unfoldable pub join : Reading → ℕ → List ℕ → ℕ → Option ℕ
 join d a waiting c = if is_above d waiting c then d.pair a c else None
 
--- what a starter, the marks that wait behind it and the rest compose to: c joins, or is the next starter, or waits
+-- what a starter, the marks buffered after it and the rest compose to: c joins, or is the next starter, or is buffered
 unfoldable pub compose_after : Reading → ℕ → List ℕ → List ℕ → List ℕ
 compose_after d a waiting [] = a ∷ waiting
 compose_after d a waiting (c ∷ rest) =

@@ -1,4 +1,4 @@
--- Where a text may be cut so that the front stays as it is (UAX #15, section 1.4).
+-- The positions at which a text may be cut so that the front stays as it is (UAX #15, section 1.4).
 use Rattle.std.specs.Prelude.{◌≡◌, ℕ, ◌≤◌, List, ◌++◌, length, take, drop}
 use Rattle.normal_forms.specs.Reading.{Reading}
 use Rattle.normal_forms.specs.Forms.{Form, normal_form}
@@ -13,7 +13,7 @@ pub record IsCut (d : Reading) (form : Form) (x : List ℕ) (n : ℕ) : Type 0 w
   pub qualifies : QualifiesForCut d form x n
   pub greatest : (m : ℕ) → QualifiesForCut d form x m → m ≤ n
 
--- the first n characters of x stand at the front of y
+-- the first n characters of x are those of y
 pub record IsCommonFront (x y : List ℕ) (n : ℕ) : Type 0 where
   pub within_first : n ≤ length x
   pub within_second : n ≤ length y

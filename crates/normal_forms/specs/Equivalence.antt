@@ -1,4 +1,4 @@
--- Equivalence by steps. The Unicode Standard says it of decompositions: texts are canonical equivalents where their
+-- Equivalence by steps. The Unicode Standard defines it by decompositions: texts are canonical equivalents if their
 -- full canonical ones are equal (D70; over compatibility data D67). `laws::canonicity` says that the two are the same.
 use Rattle.std.specs.Prelude.{◌≢◌, ℕ, List, ◌∷◌, ◌++◌, All}
 use Rattle.std.specs.Char.{IsScalar}
@@ -26,6 +26,6 @@ pub data EquivalentAmong (P : ℕ → Type 0) (d : Reading) : List ℕ → List 
 abbrev pub Equivalent : Reading → List ℕ → List ℕ → Type 0
 Equivalent d = EquivalentAmong (λ c. Unit {0}) d
 
--- among texts: all that stand between the two are texts too
+-- among texts: all lists in the chain between the two are texts too
 abbrev pub EquivalentTexts : Reading → List ℕ → List ℕ → Type 0
 EquivalentTexts d = EquivalentAmong IsScalar d

@@ -1,5 +1,5 @@
--- A small reading, to show that the laws speak of something: U+00E4 is U+0061 with U+0308 above it, and U+0327 stands
--- below.
+-- A small reading, to show that the hypotheses of the laws can be met: U+00E4 is U+0061 with U+0308 above it, and
+-- U+0327 is a mark below.
 use Rattle.std.specs.Prelude.{ℕ, ◌==◌, ◌&&◌, List, [], ◌∷◌, Option, Some, None, if◌then◌else◌}
 use Rattle.normal_forms.specs.Reading.{Reading}
 

@@ -1,4 +1,4 @@
--- What the laws of the normal forms ask of a reading. Each law takes those that it needs.
+-- What the laws of the normal forms require of a reading. Each law takes those that it needs.
 use Rattle.std.specs.Prelude.{◌≡◌, ◌≢◌, ℕ, [], ◌++◌, Some, All}
 use Rattle.std.specs.Char.{IsScalar}
 use Rattle.normal_forms.specs.Reading.{Reading, IsStarter, ReadsAsItself, IsText}
@@ -29,7 +29,7 @@ pub record HasTextLists (d : Reading) : Type 0 where
 pub record HasScalarResults (d : Reading) : Type 0 where
   pub scalars : (a c r : ℕ) → IsScalar a → IsScalar c → d.pair a c ≡ Some r → IsScalar r
 
--- what the laws of canonicity and of the cut ask for a form: nothing is asked of pairs where nothing is composed
+-- what the laws of canonicity and of the cut require for a form: nothing of pairs if nothing is composed
 abbrev pub SuitsForm : Reading → Form → Type 0
 SuitsForm d Decomposing = HasFullLists d
 SuitsForm d Composing = HasFullLists d × HasStarterResults d × HasFaithfulResults d

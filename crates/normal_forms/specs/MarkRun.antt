@@ -3,7 +3,7 @@ use Rattle.std.specs.Prelude.{◌≡◌, ℕ, ◌<◌, List, [], ◌∷◌, ◌+
 use Rattle.normal_forms.specs.Reading.{Reading}
 use Rattle.normal_forms.specs.CompositionByStarters.{join}
 
--- what the starter a becomes by the marks still to come, and the marks that stay: each joins, or stays behind others
+-- what the starter a becomes with the remaining marks, and the marks that stay: each joins, or stays after others
 unfoldable pub compose_marks : Reading → ℕ → List ℕ → List ℕ → ℕ × List ℕ
 compose_marks d a staying [] = (a, staying)
 compose_marks d a staying (m ∷ coming) =

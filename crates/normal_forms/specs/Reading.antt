@@ -2,7 +2,7 @@
 use Rattle.std.specs.Prelude.{◌≡◌, ℕ, ◌<◌, Bool, List, [], ◌∷◌, Option, All, ◌==◌}
 use Rattle.std.specs.Char.{IsScalar}
 
--- `list c` is the full decomposition of c (D64), whether its marks stand in canonical order or not; `class c` its
+-- `list c` is the full decomposition of c (D64), whether its marks are in canonical order or not; `class c` its
 -- canonical combining class (D104); `pair a c` the primary composite of a followed by c (D114). Each is total on all
 -- numbers.
 pub record Reading : Type 0 where

@@ -1,4 +1,4 @@
--- What is loaded of data that were built, where not all of one kind is.
+-- What is loaded of built data if a constructor doesn't load all of one kind.
 use Rattle.std.specs.Prelude.{None, Some}
 use Rattle.normalizer_tables.specs.Loaded.{Loaded}
 use Rattle.normalizer_tables.specs.NfdData.{nfd_bounds}

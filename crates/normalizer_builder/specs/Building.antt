@@ -55,7 +55,7 @@ KeepsMapping records p n =
 
 -- the data say of every character, and of every two, what the records mean
 pub record MeansRecords (records : List Entry) (uts46 : List MapperEntry) (p : Packed) : Type 0 where
-  -- the full decompositions. In the mapper's data `ignored` stands for characters that it ignores.
+  -- the full decompositions. In the mapper's data `ignored` is the list of characters that it ignores.
   pub canonical : (n : ℕ) → list_of (characters_of p Canonical) [] n ≡ canonical_list records n
   pub compatibility : (n : ℕ) → list_of (characters_of p Compatibility) [] n ≡ compatibility_list records n
   pub mapper : (ignored : List ℕ) (n : ℕ) →
@@ -68,7 +68,7 @@ pub record MeansRecords (records : List Entry) (uts46 : List MapperEntry) (p : P
   pub pairs : (first second : ℕ) → pair_of p.compositions first second ≡ pair_of (pairs_of records) first second
   pub steps : (n : ℕ) → KeepsMapping records p n
 
--- what is demanded of data that pack records: what constructors ask, and that one step keeps the recorded mappings
+-- what is required of data that pack records: by constructors, and that one step keeps the recorded mappings
 pub data RecordDemand : Type 0 where
   OfConstructors : Demand → RecordDemand
   OfMappings : RecordDemand
@@ -89,7 +89,7 @@ abbrev pub answer_of_records : RecordDemand → Unfit
 answer_of_records (OfConstructors d) = answer_to d
 answer_of_records OfMappings = answer_to_mappings
 
--- all that is demanded is met, or this is the least answer to what isn't
+-- all requirements are met, or this is the least error for those that aren't
 abbrev pub IsFirstUnfitOfRecords : List Entry → Packed → Option Unfit → Type 0
 IsFirstUnfitOfRecords records p r = IsFirstUnmet IsMadeOfRecords answer_of_records (MeetsRecords records p) r
 
@@ -116,8 +116,8 @@ error_of refusal.Chain = error.Chain
 error_of refusal.Length = error.Length
 error_of refusal.Pair = error.Pair
 
--- the smallest refusal: the first of the records themselves, then too many items, then the least demand that data that
--- pack them don't meet. Want of memory may come anywhere.
+-- the smallest fault: the first of the records themselves, then too many items, then the least requirement that data
+-- that pack them don't meet. `Memory` may come anywhere.
 unfoldable pub IsSmallest : List Entry → List MapperEntry → BuildError → Type 0
 IsSmallest records uts46 error.Memory = Unit {0}
 IsSmallest records uts46 error.TableFull = IsFirstRefusal records uts46 None × HasTooManyItems records uts46

@@ -35,8 +35,8 @@ loaded_of p kind = record {
   supplement = supplement_of p kind;
 }
 
--- the conditions that constructors ask of it. What is asked for classes alone, or of pairs alone, is part of these,
--- under their numbers and markers.
+-- the conditions that constructors require of it. What is required for classes alone, or of pairs alone, is part of
+-- these, under their numbers and markers.
 abbrev pub conditions_of : Kind → List Condition
 conditions_of Canonical = composing_conditions false ++ FdfaForms ∷ Steps ∷ []
 conditions_of Compatibility = composing_conditions false

@@ -8,7 +8,7 @@ use Rattle.normalizer_builder.specs.declared.rank.Unfit.{Unfit}
 use Rattle.normalizer_builder.specs.Demands.{Demand, Asks, IsMade, Meets, answer_to, conditions_of}
 use Rattle.normalizer_builder.specs.Ranks.{IsFirstUnmet}
 
--- all demands are met, or this is the least answer to one that isn't
+-- all requirements are met, or this is the least error for those that aren't
 abbrev pub IsFirstUnfit : Packed → Option Unfit → Type 0
 IsFirstUnfit p r = IsFirstUnmet IsMade answer_to (Meets p) r
 

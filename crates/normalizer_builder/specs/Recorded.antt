@@ -46,8 +46,8 @@ pub record AreMadeOf (records : List Entry) (uts46 : List MapperEntry) (entries 
   pub listed : ListsCharacters records uts46 characters
   pub made : entries ≡ map (entry_for records uts46) characters
 
--- the class that the mapper's data have of a character: 0 where its list is neither its fixed one nor itself alone,
--- since its word has then no room for a class
+-- the class that the mapper's data have of a character: 0 if its list is neither its fixed one nor itself alone, since
+-- its word has then no room for a class
 unfoldable pub mapper_class_of : List Entry → List MapperEntry → ℕ → ℕ
 mapper_class_of records uts46 n =
     let list = unwrap_or (mapper_list records uts46 n) [] in

@@ -16,8 +16,8 @@ use normalizer_records::{Record, canonical_mapping_of};
 use normalizer_tables::DataMarkerInfo;
 use normalizer_tables::step::{Step, step_of};
 
-/// The first demand that data that pack records don't meet: what constructors ask, and that one step keeps the recorded
-/// mappings.
+/// The first requirement that data that pack records don't meet: those of constructors, and that one step keeps the
+/// recorded mappings.
 #[tactic(auto, using(crate::proofs::FirstUnfit::first_unfit_of_both))]
 pub(crate) fn first_unfit_of_records(records: &[Record], packed: &Packed) -> Option<Unfit>
     requires { AreRising records.now }

@@ -12,7 +12,7 @@ pub struct Unfit {
 }
 
 impl Unfit {
-    /// Whether this one is answered where both are: the smaller condition, and of one condition the earlier marker.
+    /// Whether this one is reported if both apply: the smaller condition, and of one condition the earlier marker.
     #[tactic(auto, unfolding(crate::specs::Ranks::IsBefore))]
     fn is_before(self, other: Self) -> bool
         ensures { IsTrue result ↔ IsBefore self other }
@@ -22,7 +22,7 @@ impl Unfit {
     }
 }
 
-/// The one of two answers that stands before the other, where there are any.
+/// The lesser of two errors, if there are any.
 #[tactic(auto, unfolding(crate::specs::Ranks::IsLeast))]
 pub(crate) fn least(a: Option<Unfit>, b: Option<Unfit>) -> Option<Unfit>
     ensures { IsLeast a b result }

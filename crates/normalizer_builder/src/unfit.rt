@@ -1,4 +1,4 @@
-//! Whether packed data can be used: the first written condition that they break, of all that constructors ask.
+//! Whether packed data can be used: the first written condition that they break, of all that constructors require.
 ghost use Rattle.std.specs.Prelude.{◌≡◌, option_map};
 ghost use Rattle.normalizer_tables.specs.Conditions.{IsFirstFailing};
 ghost use Rattle.normalizer_tables.specs.Loaded.{IsMet};
@@ -21,8 +21,8 @@ use normalizer_tables::condition::{Bounds, COMPOSING, Condition, EVERY, MAPPING}
 use normalizer_tables::loaded::LoadedData;
 use normalizer_tables::refusal::marker_of;
 
-/// The first condition that the data break, of all that constructors ask: the least by its number, and of one number
-/// the one of the earliest marker. It takes no memory.
+/// The first condition that the data break, of all that constructors require: the least by its number, and of one
+/// number the one of the earliest marker. It takes no memory.
 #[tactic(auto, using(crate::proofs::FirstUnfit::first_unfit_of_texts, crate::proofs::FirstUnfit::first_unfit_of_kinds))]
 pub fn first_unfit(packed: &Packed) -> Option<Unfit>
     ensures { IsFirstUnfit packed.now result }

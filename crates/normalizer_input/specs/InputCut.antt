@@ -1,5 +1,5 @@
--- Where an input of units, well-formed or not, may be cut so that its front stays as it is (UAX #15, section 1.4; The
--- Unicode Standard, section 3.9).
+-- The positions at which an input of units, well-formed or not, may be cut so that its front stays as it is (UAX #15,
+-- section 1.4; The Unicode Standard, section 3.9).
 use Rattle.std.specs.Prelude.{◌≡◌, ℕ, ◌≤◌, ◌<◌, true, false, List, ◌++◌, length, take, drop, All}
 use Rattle.normal_forms.specs.Reading.{Reading}
 use Rattle.normal_forms.specs.declared.Form.{Form}
@@ -7,7 +7,7 @@ use Rattle.normal_forms.specs.Forms.{normal_form, IsNormalized}
 use Rattle.normalizer_text.specs.Steps.{IsWellFormed, IsBoundary}
 use Rattle.normalizer_text.specs.Encodings.{Encoding, first_in, decoded_in}
 
--- the units are well-formed (D85), and what they decode to is its own form
+-- the units are well-formed (D85), and what they decode to is normalized
 pub record IsInputNormalized (e : Encoding) (d : Reading) (form : Form) (units : List ℕ) : Type 0 where
   pub well_formed : IsWellFormed (first_in e) units
   pub own : IsNormalized d form (decoded_in e units)
@@ -34,7 +34,7 @@ pub record IsErrorFreeBoundary (e : Encoding) (units : List ℕ) (n : ℕ) : Typ
   pub boundary : IsBoundary (first_in e) units n
   pub error_free : All (λ s. s.is_error ≡ false) boundary.before
 
--- what stands at the place is ill-formed (D84)
+-- the units at the place begin with an ill-formed sequence (D84)
 pub record IsErrorAt (e : Encoding) (units : List ℕ) (place : ℕ) : Type 0 where
   pub within : place < length units
   pub error : (first_in e (drop place units)).is_error ≡ true

@@ -9,8 +9,8 @@ use Rattle.normalizer_text.specs.Encodings.{Encoding, decoded_in}
 use Rattle.normalizer_input.specs.declared.offence.Offence.{Offence}
 use Rattle.normalizer_input.specs.InputCut.{IsInputNormalized, IsInputCut}
 
--- the units are not both well-formed and their own form; the place is the cut, `found` the first character that the
--- rest there decodes to, and `wanted` the first of the form of what it decodes to
+-- the units are not both well-formed and normalized; the place is the cut, `found` the first character that the rest
+-- there decodes to, and `wanted` the first of the form of what it decodes to
 pub record IsInputOffence (e : Encoding) (d : Reading) (form : Form) (units : List ℕ) (place found wanted : ℕ)
     : Type 0 where
   pub differs : IsInputNormalized e d form units → ⊥
@@ -18,7 +18,7 @@ pub record IsInputOffence (e : Encoding) (d : Reading) (form : Form) (units : Li
   pub is_found : IsFirst (decoded_in e (drop place units)) found
   pub is_wanted : IsFirst (normal_form d form (decoded_in e (drop place units))) wanted
 
--- the first offence of the units, or none where they are well-formed and their own form
+-- the first mismatch of the units, or none if they are well-formed and normalized
 abbrev pub IsInputOffenceOf : Encoding → Reading → Form → List ℕ → Option Offence → Type 0
 IsInputOffenceOf e d form units answer = MatchOption answer (IsInputNormalized e d form units)
     (λ o. IsInputOffence e d form units o.place o.found o.wanted)

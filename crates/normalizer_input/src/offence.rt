@@ -1,6 +1,6 @@
 //! The first mismatch of an input.
 
-/// The first place where an input differs from its normal form.
+/// The first place at which an input differs from its normal form.
 #[derive(Clone, Copy, PartialEq, Eq, Debug)]
 pub struct Offence {
     /// Its offset in units of the input: bytes, or 16-bit units.

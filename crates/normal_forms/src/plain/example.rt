@@ -1,4 +1,4 @@
-//! A reading that meets what the laws of the normal forms ask: they speak of something.
+//! A reading that satisfies the hypotheses of the laws of the normal forms, which shows that they can be met.
 ghost use Rattle.std.specs.Prelude.{[], ◌∷◌};
 ghost use Rattle.normal_forms.specs.Cut.{IsFront, QualifiesForCut};
 ghost use Rattle.normal_forms.specs.Example.{example, unfaithful};
@@ -13,8 +13,9 @@ pub fn example_is_lawful()
     ensures inhabited { HasInhabitedLists example }
 {}
 
-/// The laws of the cut need faithful results. Over a reading that has all else, a text stands at the front of its form
-/// and isn't it; and of a text that is its own form the whole qualifies for the cut, but not its first character.
+/// The laws of the cut need faithful results. Over a reading that satisfies all other hypotheses, a text is at the
+/// front of its form and isn't normalized; and of a normalized text the whole qualifies for the cut, but not its first
+/// character.
 pub fn faithful_results_are_needed()
     ensures full { HasFullLists unfaithful }
     ensures starters { HasStarterResults unfaithful }
