@@ -13,8 +13,8 @@ abbrev pub BeginsUnpaired : List Pair → List ℕ → Type 0
 BeginsUnpaired pairs [] = Unit {0}
 BeginsUnpaired pairs (s ∷ x) = IsNeverSecond pairs s
 
--- the flags of the word w of a character n with the list x: NON_ROUND_TRIP where the list doesn't compose to n alone,
--- BACKWARD_COMBINING on class forms and where the list's first is second in a pair
+-- the flags of the word w of a character n with the list x: NON_ROUND_TRIP if the list doesn't compose to n alone,
+-- BACKWARD_COMBINING on class forms and if the list's first is second in a pair
 pub record IsFlagged (d : Reading) (pairs : List Pair) (n : ℕ) (x : List ℕ) (w : ℕ) : Type 0 where
   pub within : w < 2 ^ 32
   pub round_trip : (is_non_round_trip w ≡ false) ↔ (compose d x ≡ n ∷ [])

@@ -40,7 +40,7 @@ pub record PacksKind (kind : Kind) (entries : List CharacterEntry) (pairs : List
   pub words : HasWords (IsPackedWord kind entries pairs) d.table
   pub cap : IsCap kind entries pairs d.cap
 
--- the entries can be packed: they rise, and a word can tell the length of each list that stands in a table
+-- the entries can be packed: they rise, and a word has room for the length of each list in a table
 pub record ArePackable (entries : List CharacterEntry) : Type 0 where
   pub rising : AreRising entries
   pub lengths : (kind : Kind) → All HasLengthOfWord (listed_in entries kind)

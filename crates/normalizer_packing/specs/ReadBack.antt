@@ -45,7 +45,7 @@ characters_of p kind = record {
 }
 
 -- the list that data of one kind have of a character: that of a Hangul syllable by arithmetic, else what the entries
--- say; none where the character is ignored
+-- say; none if the character is ignored
 unfoldable pub list_by : Kind → List CharacterEntry → ℕ → Option (List ℕ)
 list_by kind entries n = if is_hangul_syllable n then Some (hangul_decomposition n) else list_in kind entries n
 
@@ -54,11 +54,11 @@ unfoldable pub tells_class : Kind → List CharacterEntry → ℕ → Bool
 tells_class kind entries n =
     has_fixed_list (class_in entries) n (kept_list kind entries n) || list_eq (kept_list kind entries n) (n ∷ [])
 
--- the class that data of one kind have of a character: 0 where its word can't tell it
+-- the class that data of one kind have of a character: 0 if its word has no room for it
 unfoldable pub class_by : Kind → List CharacterEntry → ℕ → ℕ
 class_by kind entries n = if tells_class kind entries n then class_in entries n else 0
 
--- the word is one that tells a class: of a fixed list, or of a mark that decomposes to itself
+-- the word has room for a class: that of a fixed list, or of a mark that decomposes to itself
 unfoldable pub has_class_word : Kind → List CharacterEntry → ℕ → Bool
 has_class_word kind entries n =
     has_fixed_list (class_in entries) n (kept_list kind entries n)
@@ -94,10 +94,10 @@ IsTold kind entries n (Listed item low rest_are_marks) =
 
 -- what packed data read to
 pub record ReadsBack (kind : Kind) (entries : List CharacterEntry) (s : Characters) : Type 0 where
-  -- the list of each character, `ignored` where the mapper ignores it
+  -- the list of each character, `ignored` if the mapper ignores it
   pub lists : (ignored : List ℕ) (n : ℕ) → IsScalar n →
       list_read s ignored n ≡ Some (unwrap_or (list_by kind entries n) ignored)
-  -- its class, where its word tells it, and whether its word has a class form
+  -- its class, if its word has room for it, and whether its word has a class form
   pub classes : (n : ℕ) → IsScalar n → class_of s n ≡ class_by kind entries n
   pub class_forms : (n : ℕ) → IsScalar n → has_class_form s n ≡ has_class_word kind entries n
   -- what its word says besides: the very members, and promises of classes

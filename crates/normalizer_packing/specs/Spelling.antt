@@ -58,7 +58,7 @@ spelling_by_list class n x =
     else if list_eq x (n ∷ []) then Short (if class n == 0 then 0 else 0xD800 + class n)
     else spelling_of_list class n x
 
--- where the mapper ignores a character without a list
+-- the ignored marker if the mapper ignores the character, which then has no list
 unfoldable pub spelling_or_ignored : (ℕ → ℕ) → ℕ → Option (List ℕ) → Spelling
 spelling_or_ignored class n None = Final ignored_marker
 spelling_or_ignored class n (Some x) = spelling_by_list class n x

@@ -1,4 +1,4 @@
--- The words of the supplement: one step of decomposition, where the word of canonical data doesn't tell it.
+-- The words of the supplement: one step of decomposition, if the word of canonical data doesn't determine it.
 use Rattle.std.specs.Prelude.{◌≡◌, ℕ, ◌+◌, ◌*◌, Bool, false, not, ◌&&◌, ◌==◌, nat_lt, nat_le, List, [], ◌∷◌, length}
 use Rattle.std.specs.Prelude.{take, filter_map, Option, Some, None, if◌then◌else◌}
 use Rattle.std.specs.Int.{is_in_range}
@@ -16,8 +16,8 @@ use Rattle.normalizer_packing.specs.Words.{HasWords}
 abbrev pub step_limit : ℕ
 step_limit = 0xFFFE
 
--- one step asks the supplement: of a word that spells two characters in a part of the Greek block, and of a longer list
--- in the tables than one step may have. One step of U+212B is told without it, whatever its list.
+-- one step needs the supplement: for a word that spells two characters in a part of the Greek block, and for a longer
+-- list in the tables than one step may have. One step of U+212B is known without it, whatever its list.
 unfoldable pub asks_supplement : (ℕ → ℕ) → CharacterEntry → Bool
 asks_supplement class e = elim (spelling class e.character (Some e.canonical)) [
   | Final w ↦ false
@@ -25,7 +25,7 @@ asks_supplement class e = elim (spelling class e.character (Some e.canonical)) [
   | Listed ↦ not (e.character == 0x212B) && nat_lt 2 (length e.canonical)
 ]
 
--- the mapping that one step asks the supplement for
+-- the mapping for which one step needs the supplement
 unfoldable pub asked_step : List CharacterEntry → CharacterEntry → Option Mapping
 asked_step entries e = if asks_supplement (class_in entries) e then e.mapping else None
 
@@ -33,36 +33,36 @@ asked_step entries e = if asks_supplement (class_in entries) e then e.mapping el
 unfoldable pub are_narrow : ℕ → ℕ → Bool
 are_narrow a b = nat_le a 0xFFFF && nat_le b 0xFFFF
 
--- the step, where it is of two characters that only the table can hold
+-- the step, if it is of two characters that only the table can hold
 unfoldable pub stored_step : Option Mapping → Option (List ℕ)
 stored_step None = None
 stored_step (Some (One a)) = None
 stored_step (Some (Two a b)) = if are_narrow a b then None else Some (a ∷ b ∷ [])
 
--- those that characters ask for, as they rise
+-- those that characters need, by rising character
 unfoldable pub stored_steps : List CharacterEntry → List (List ℕ)
 stored_steps entries = filter_map (λ e. stored_step (asked_step entries e)) entries
 
--- the same, an equal one once: in the order in which characters first ask for them
+-- the same, an equal one once: in the order in which characters first need them
 unfoldable pub step_lists : List CharacterEntry → List (List ℕ)
 step_lists entries = first_come (stored_steps entries)
 
--- the word that points to a place, or none where two characters there stand past what the supplement's table may have
+-- the word that points to a place, or none if two characters there are past what the supplement's table may have
 abbrev pub word_of_place : ℕ → ℕ
 word_of_place place = if nat_le (place + 2) step_limit then (place + 1) * 0x10000 else 0
 
--- the word of a step, where the table holds these lists
+-- the word of a step, if the table holds these lists
 unfoldable pub word_of_step : List (List ℕ) → Option Mapping → ℕ
 word_of_step lists None = 0
 word_of_step lists (Some (One a)) = if nat_le a 0xFFFF then a else 0
 word_of_step lists (Some (Two a b)) =
     if are_narrow a b then a + b * 0x10000 else word_of_place (place_of lists (a ∷ b ∷ []))
 
--- the step that is asked of a number
+-- the step that the supplement has of a number
 unfoldable pub step_in : List CharacterEntry → ℕ → Option Mapping
 step_in entries n = elim (entry_of entries n) [ Some e ↦ asked_step entries e | None ↦ None ]
 
--- a word for each step that is asked, and the table as far as it may have items: a step that stands past it has no word
+-- a word for each step that is needed, and the table as far as it may have items: a step past it has no word
 pub record PacksSteps (entries : List CharacterEntry) (s : Supplement) : Type 0 where
   pub words : HasWords (λ n w. w ≡ word_of_step (step_lists entries) (step_in entries n)) s.table
   pub items : s.scalars24 ≡ take step_limit (items_of false (step_lists entries))

@@ -1,4 +1,4 @@
--- Where lists that no word spells stand in the tables.
+-- The places in the tables of lists that no word spells.
 use Rattle.std.specs.Prelude.{ℕ, ◌+◌, ◌-◌, ◌*◌, ◌<◌, ◌≤◌, Bool, true, false, not, ◌&&◌, nat_lt, nat_le, List, [], ◌∷◌}
 use Rattle.std.specs.Prelude.{◌++◌, length, drop, filter, if◌then◌else◌, Option, None, filter_map}
 use Rattle.std.specs.List.{before_first, concat, list_all, list_any}
@@ -10,7 +10,7 @@ use Rattle.normalizer_packing.specs.declared.spelling.Spelling.TheVariants.{Fina
 use Rattle.normalizer_packing.specs.Entries.{CharacterEntry, class_in, own_list}
 use Rattle.normalizer_packing.specs.Spelling.{list_eq, spelling}
 
--- the list stands in a table of 16-bit numbers
+-- the list goes into a table of 16-bit numbers
 unfoldable pub is_narrow : List ℕ → Bool
 is_narrow x = nat_le 2 (length x) && list_all (λ c. nat_le c 0xFFFF) x
 
@@ -19,7 +19,7 @@ unfoldable pub HasLengthOfWord : List ℕ → Type 0
 HasLengthOfWord x =
     elim (is_narrow x) as (λ _. Type 0) [ true ↦ length x ≤ 17 | false ↦ (0 < length x) × (length x ≤ 16) ]
 
--- the list of an entry, where its word doesn't spell it
+-- the list of an entry, if its word doesn't spell it
 unfoldable pub listed_of : (ℕ → ℕ) → Kind → CharacterEntry → Option (List ℕ)
 listed_of class kind e = elim (spelling class e.character (own_list kind e)) [
   | Final w ↦ None
@@ -39,7 +39,7 @@ unfoldable pub first_come : List (List ℕ) → List (List ℕ)
 first_come [] = []
 first_come (x ∷ lists) = x ∷ filter (λ y. not (list_eq y x)) (first_come lists)
 
--- the lists but for those that stand among the ones before
+-- the lists but for those among the ones before
 unfoldable pub apart_from : List (List ℕ) → List (List ℕ) → List (List ℕ)
 apart_from before lists = filter (λ x. not (is_among x before)) lists
 
@@ -52,19 +52,19 @@ unfoldable pub supplementary_lists : List CharacterEntry → List (List ℕ)
 supplementary_lists entries =
     apart_from (listed_in entries Canonical) (first_come (listed_in entries Compatibility ++ listed_in entries Mapper))
 
--- the list stands in this one of two tables: of 16-bit numbers, or of characters
+-- the list goes into this one of two tables: of 16-bit numbers, or of characters
 abbrev pub stands_in : Bool → List ℕ → Bool
 stands_in true x = is_narrow x
 stands_in false x = not (is_narrow x)
 
--- the items of one table, where the lists stand one after another
+-- the items of one table, in which the lists follow one another
 unfoldable pub items_of : Bool → List (List ℕ) → List ℕ
 items_of narrow lists = concat (filter (stands_in narrow) lists)
 
 abbrev pub tables_of : List (List ℕ) → Lists
 tables_of lists = record { scalars16 = items_of true lists; scalars24 = items_of false lists }
 
--- the place of a list in its table: behind the items of the lists before it
+-- the place of a list in its table: after the items of the lists before it
 unfoldable pub place_of : List (List ℕ) → List ℕ → ℕ
 place_of lists x = length (items_of (is_narrow x) (before_first (list_eq x) lists))
 
@@ -73,14 +73,14 @@ abbrev pub needed_items : List CharacterEntry → ℕ
 needed_items entries =
     item_count (tables_of (canonical_lists entries)) + item_count (tables_of (supplementary_lists entries))
 
--- the item of a place of a list, where the two tables are put one after the other
+-- the item of a place of a list, if the two tables are put one after the other
 unfoldable pub item_at : Lists → List ℕ → ℕ → ℕ
 item_at t x place = if is_narrow x then place else length t.scalars16 + place
 
 abbrev pub item_in : List (List ℕ) → List ℕ → ℕ
 item_in lists x = item_at (tables_of lists) x (place_of lists x)
 
--- the item from which on a list stands in the four tables, put one after another
+-- the first item of a list in the four tables, put one after another
 unfoldable pub item_of : List CharacterEntry → List ℕ → ℕ
 item_of entries x =
     if is_among x (canonical_lists entries) then item_in (canonical_lists entries) x

@@ -57,8 +57,8 @@ impl<'a> Entries<'a> {
         self.entry_of(character).map_or(0, |entry| entry.class)
     }
 
-    /// The list of a character in one kind of data, where `alone` is that of a character without an entry. Nothing
-    /// where the mapper ignores the character.
+    /// The list of a character in one kind of data, or `alone` if the character has no entry. None if the mapper
+    /// ignores the character.
     #[tactic(auto, unfolding(crate::specs::Entries::list_in))]
     pub fn list_of<'b>(
         &'b self,

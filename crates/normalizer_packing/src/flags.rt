@@ -54,7 +54,7 @@ pub fn begins_unpaired(compositions: &CanonicalCompositions, list: &[char]) -> b
         .map_or(true, |first| is_never_second(compositions, *first))
 }
 
-/// Whether a list composes to this character alone: all behind the first join.
+/// Whether a list composes to this character alone: all after the first join.
 #[tactic(auto, using(normalizer_tables::proofs::CompositionLemmas::compositions, std::proofs::lemmas::Option::slice_get_read))]
 pub fn composes_to(
     entries: &Entries<'_>,
@@ -77,7 +77,7 @@ pub fn composes_to(
     composite == character
 }
 
-/// What a character becomes by the one right behind it.
+/// What a character and the one right after it compose to.
 #[tactic(auto, unfolding(normal_forms::specs::Composition::joined, normal_forms::specs::Composition::is_blocked))]
 fn joined(
     entries: &Entries<'_>,

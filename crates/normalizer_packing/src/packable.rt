@@ -29,7 +29,7 @@ fn are_rising(entries: &[Entry]) -> bool
     entries.is_sorted_by(|entry, next| entry.character < next.character)
 }
 
-/// Whether a word can tell the length of each list of one kind of data that stands in a table.
+/// Whether a word has room for the length of each list of one kind of data that goes into a table.
 fn have_lengths(entries: &Entries<'_>, kind: Kind) -> bool
     ensures { IsTrue result ↔ All HasLengthOfWord (listed_in entries.now kind) }
 {
@@ -43,7 +43,7 @@ fn all_have_lengths(entries: &Entries<'_>, kind: Kind, items: &[Entry]) -> bool
     items.iter().all(|entry| has_length(entries, kind, entry))
 }
 
-/// Whether a word can tell the length of an entry's list, where it stands in a table.
+/// Whether a word has room for the length of an entry's list, if it goes into a table.
 #[tactic(auto, unfolding(crate::specs::inner::Packable::has_length_if_any))]
 fn has_length(entries: &Entries<'_>, kind: Kind, entry: &Entry) -> bool
     ensures { result ≡ has_length_if_any (listed_of (class_in entries.now) kind entry.now) }

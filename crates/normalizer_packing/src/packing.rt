@@ -42,7 +42,7 @@ pub fn pack(
     packed_with(alloc, entries, pairs, stores).map_err(|_| PackError::Memory)
 }
 
-/// The data whose lists stand in these stores.
+/// The data whose lists are in these stores.
 fn packed_with<'e>(
     alloc: Global,
     entries: Entries<'e>,
@@ -126,7 +126,7 @@ fn kinds_of<'e>(
     })
 }
 
-/// The pairs as they are handed in: only want of memory refuses them.
+/// The pairs as they are: the only error is a refused allocation.
 fn compositions_of(pairs: Vec<(char, char, char)>) -> Result<CanonicalCompositions, AllocError>
     ensures { IfOk result (λ c. c ≡ pairs.items) }
 {

@@ -27,7 +27,7 @@ pub trait Words {
         ensures { is_word self.now number result };
 }
 
-/// The table of the words of all code points, where those between two told characters have one word.
+/// The table of the words of all code points, if those between two listed characters have one word.
 pub fn table_of<W: Words>(
     alloc: Global,
     words: &W,
@@ -46,7 +46,7 @@ pub fn table_of<W: Words>(
     }
 }
 
-/// Ranges of one word each, one after another, that have all code points: each told character, and all between two.
+/// Ranges of one word each, one after another, that have all code points: each listed character, and all between two.
 #[tactic(auto, using(crate::proofs::Tilings::IsStretch_one), unfolding(normalizer_tables::specs::Table::code_points))]
 fn ranges_of<W: Words>(
     alloc: Global,

@@ -18,7 +18,7 @@ pub enum Spelling {
     Final(u32),
     /// The word, without its flags.
     Short(u32),
-    /// The list stands in a table.
+    /// The list is in a table.
     Listed,
 }
 
@@ -119,7 +119,7 @@ fn spelling_of_list(entries: &Entries<'_>, character: char, list: &[char]) -> Sp
     }
 }
 
-/// How a list of two characters is spelled: in one word where both have 15 bits and it is no other form of word.
+/// How a list of two characters is spelled: in one word if both have 15 bits and it is no other form of word.
 #[tactic(auto, unfolding(crate::specs::Spelling::spells_two, normalizer_tables::specs::Words::has_high_zeros, normalizer_tables::specs::Words::has_low_zeros))]
 fn spelling_of_two(entries: &Entries<'_>, character: char, first: char, second: char) -> Spelling
     ensures line { result ≡ spelling_of_two (class_in entries.now) character first second }

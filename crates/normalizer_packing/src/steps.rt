@@ -1,4 +1,4 @@
-//! The supplement: one step of decomposition, where the word of canonical data doesn't tell it.
+//! The supplement: one step of decomposition, if the word of canonical data doesn't determine it.
 ghost use Rattle.std.specs.Prelude.{◌≡◌, true, false, [], ◌∷◌, List, Some, IfOk};
 ghost use Rattle.normalizer_packing.specs.Entries.{class_in, entry_of};
 ghost use Rattle.normalizer_tables.specs.Pairs.{Pair};
@@ -17,7 +17,7 @@ use normalizer_tables::NonRecursiveDecompositionSupplement;
 use normalizer_tables::word::is_class_form;
 use std::alloc::{AllocError, Global};
 
-/// The mapping that one step of a character asks the supplement for.
+/// The mapping for which one step of a character needs the supplement.
 #[tactic(auto, unfolding(crate::specs::Steps::asked_step, crate::specs::Steps::asks_supplement))]
 fn asked_step(entries: &Entries<'_>, entry: &Entry) -> Option<Mapping>
     ensures { result ≡ asked_step entries.now entry.now }
@@ -107,7 +107,7 @@ impl Words for StepWords<'_, '_, '_> {
 }
 
 impl StepWords<'_, '_, '_> {
-    /// The step that is asked of a character.
+    /// The step that the supplement has of a character.
     #[tactic(auto, unfolding(crate::specs::Steps::step_in))]
     fn step_of(&self, character: char) -> Option<Mapping>
         ensures { result ≡ step_in self.now.entries.now character }
@@ -130,7 +130,7 @@ impl StepWords<'_, '_, '_> {
         }
     }
 
-    /// The word that points to a step in the table, or none where it stands past what the table may have.
+    /// The word that points to a step in the table, or none if it is past what the table may have.
     fn word_of_stored(&self, first: char, second: char) -> u32
         requires ready { Holds (step_lists self.now.entries.now) self.now.store }
         requires stored { is_among (first ∷ second ∷ []) (step_lists self.now.entries.now) ≡ true }

@@ -13,7 +13,7 @@ use normalizer_tables::DecompositionTables;
 use std::alloc::{AllocError, Global};
 use std::collections::BTreeMap;
 
-/// Lists in two tables, an equal one once, and where each stands in its table.
+/// Lists in two tables, an equal one once, and the place of each in its table.
 #[derive(Drop)]
 pub struct Store<'a> {
     scalars16: Vec<u16>,
@@ -33,7 +33,7 @@ impl<'a> Store<'a> {
         }
     }
 
-    /// Where a list stands in its table.
+    /// The place of a list in its table.
     #[tactic(auto, unfolding(crate::specs::inner::Stores::place_in))]
     pub fn place_of(&self, list: &[char]) -> Option<usize>
         ensures { result ≡ place_in self.now list.now }
@@ -41,7 +41,7 @@ impl<'a> Store<'a> {
         self.places.get(list).copied()
     }
 
-    /// The item of a place of a list, where the two tables are put one after the other.
+    /// The item of a place of a list, if the two tables are put one after the other.
     #[tactic(auto, using(crate::proofs::PlaceLemmas::place_within), unfolding(crate::specs::Stored::item_at))]
     pub fn item_at(&self, list: &[char], place: usize) -> usize
         requires { StandsAt (tables_in self.now) list.now place }
@@ -54,7 +54,7 @@ impl<'a> Store<'a> {
         }
     }
 
-    /// Puts a list behind the others of its table, if it doesn't stand there.
+    /// Appends a list to its table, if it isn't there.
     pub fn put(&mut self, list: &'a [char]) -> Result<(), AllocError>
         ensures { OnOk result (HoldsMore self.old list.now self.new) }
     {
@@ -96,7 +96,7 @@ impl<'a> Store<'a> {
     }
 }
 
-/// Whether a list stands in the table of 16-bit numbers.
+/// Whether a list goes into the table of 16-bit numbers.
 #[tactic(auto, unfolding(crate::specs::Stored::is_narrow))]
 pub fn is_narrow(list: &[char]) -> bool
     ensures { result ≡ is_narrow list.now }
@@ -111,7 +111,7 @@ fn fits_units(list: &[char]) -> bool
     list.iter().all(|member| *member <= '\u{FFFF}')
 }
 
-/// Puts a list behind a table of 16-bit numbers, and answers its place.
+/// Appends a list to a table of 16-bit numbers, and returns its place.
 #[tactic(auto, using(crate::proofs::StoreLemmas::narrow_member))]
 fn append_narrow(units: &mut Vec<u16>, list: &[char]) -> Result<usize, AllocError>
     requires { is_narrow list.now ≡ true }
@@ -125,7 +125,7 @@ fn append_narrow(units: &mut Vec<u16>, list: &[char]) -> Result<usize, AllocErro
     Ok(place)
 }
 
-/// Puts a list behind a table of characters, and answers its place.
+/// Appends a list to a table of characters, and returns its place.
 fn append_wide(scalars: &mut Vec<char>, list: &[char]) -> Result<usize, AllocError>
     ensures place { IfOk result (λ n. n ≡ length scalars.old.items) }
     ensures appended { OnOk result (scalars.new.items ≡ scalars.old.items ++ list.now) }
@@ -135,7 +135,7 @@ fn append_wide(scalars: &mut Vec<char>, list: &[char]) -> Result<usize, AllocErr
     Ok(place)
 }
 
-/// The list of an entry, where its word doesn't spell it.
+/// The list of an entry, if its word doesn't spell it.
 #[tactic(auto, unfolding(crate::specs::Stored::listed_of))]
 pub fn listed_of<'a>(entries: &Entries<'_>, kind: Kind, entry: &'a Entry) -> Option<&'a [char]>
     ensures { option_copied result ≡ listed_of (class_in entries.now) kind entry.now }
@@ -147,7 +147,7 @@ pub fn listed_of<'a>(entries: &Entries<'_>, kind: Kind, entry: &'a Entry) -> Opt
     }
 }
 
-/// Puts the lists of one kind of data that no word spells into a store, but for those that stand in the one before.
+/// Puts the lists of one kind of data that no word spells into a store, but for those in the one before.
 pub fn put_lists<'a>(
     entries: &Entries<'a>,
     kind: Kind,

@@ -1,13 +1,13 @@
-//! The characters of which something is told: all numbers between two of them have one word.
+//! The characters at which the word may change: all numbers between two of them have one word.
 ghost use Rattle.std.specs.Prelude.{◌≡◌, IfOk, map};
 ghost use Rattle.normalizer_packing.specs.inner.Stretches.{ListsTold, told_numbers};
 
 use crate::entry::Entry;
 use std::alloc::{AllocError, Global};
 
-/// Where composing vowels and trailing consonants of Hangul begin, and the first characters behind them and behind
-/// their block; the first syllable and the first character behind them; the last character before surrogates and the
-/// first behind them; U+FFFD.
+/// The characters at which words may change whatever the entries say: the first composing vowel and trailing consonant
+/// of Hangul, and the first characters after them and after their block; the first syllable and the first character
+/// after the syllables; the last character before surrogates and the first after them; U+FFFD.
 const EDGES: [char; 10] = [
     '\u{1161}', '\u{1176}', '\u{11A8}', '\u{11C3}', '\u{1200}', '\u{AC00}', '\u{D7A4}', '\u{D7FF}',
     '\u{E000}', '\u{FFFD}',
@@ -35,7 +35,7 @@ fn unsorted_characters(
 ) -> Result<Vec<char>, AllocError>
     ensures { IfOk result (λ v. v.items ≡ told_numbers entries.now pairs.now) }
 {
-    // (`collect` would ask again where a growth is refused)
+    // (`collect` would try again after a refused growth)
     let mut told = Vec::new(alloc);
     for entry in entries {
         told.push(entry.character)?;

@@ -58,7 +58,7 @@ impl PackedWords<'_, '_> {
         }
     }
 
-    /// The item from which on a list stands in the four tables, put one after another.
+    /// The first item of a list in the four tables, put one after another.
     #[tactic(auto, using(crate::proofs::PlaceLemmas::listed_places))]
     fn item_of(&self, list: &[char]) -> u32
         requires ready { CanPoint self.now.entries.now self.now.stores.now }

@@ -12,7 +12,7 @@ use Rattle.normalizer_tables.specs.Refusals.{refusal_of}
 use Rattle.normalizer_tables.specs.Table.{word_at}
 use Rattle.normalizer_tables.specs.Words.{is_class_form}
 
--- the class that data give a number, 0 where it is no scalar value; the tables have no part in it
+-- the class that data have of a number, 0 if it is no scalar value; it doesn't depend on the tables
 abbrev pub combining_class : Decompositions → ℕ → ℕ
 combining_class d n = class_of (characters_from d (lists_or_none None) None) n
 
@@ -22,7 +22,7 @@ pub record SuitsClasses (d : Decompositions) : Type 0 where
   pub past : is_class_form d.table.past ≡ false
   pub words : (n : ℕ) → IsScalar n → IsSoundClass n (word_at d.table n)
 
--- the answer for the first of them that fails
+-- the error for the first of them that fails
 abbrev pub RefusesClasses : DataMarkerInfo → Decompositions → DataError → Type 0
 RefusesClasses kind d e =
     (c : Condition) × IsFirstFailing (HoldsOfClasses d.table) class_conditions (Some c)

@@ -1,4 +1,4 @@
--- Pairs by themselves, of which only a part of condition 11 is asked.
+-- Pairs by themselves, of which only a part of condition 11 is required.
 use Rattle.std.specs.Prelude.{◌≡◌, List}
 use Rattle.normalizer_tables.specs.declared.provider.DataError.{DataError}
 use Rattle.normalizer_tables.specs.declared.condition.Condition.TheVariants.{PairOrder}
@@ -7,6 +7,6 @@ use Rattle.normalizer_tables.specs.PairConditions.{AreSoundPairs}
 use Rattle.normalizer_tables.specs.Pairs.{Pair}
 use Rattle.normalizer_tables.specs.Refusals.{refusal_of}
 
--- pairs that don't rise, or have a second that the arithmetic of Hangul answers, break condition 11
+-- pairs that don't rise, or have a second of the Hangul arithmetic, break condition 11
 abbrev pub RefusesPairs : DataMarkerInfo → List Pair → DataError → Type 0
 RefusesPairs kind pairs e = (¬ AreSoundPairs pairs) × (e ≡ refusal_of kind PairOrder)

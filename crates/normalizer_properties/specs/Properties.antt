@@ -34,6 +34,6 @@ steps_of d = steps_from d.decompositions d.tables d.supplement
 abbrev pub steps_of_borrowed : CanonicalDecompositionBorrowed → StepData
 steps_of_borrowed d = (d.characters, d.supplement.now)
 
--- what shapers are told of the step of a character
+-- what is returned to shapers for the step of a character
 abbrev pub shaper_step : StepData → ℕ → Option (ℕ × ℕ)
 shaper_step h c = option_and_then shaper_mapping (step_of h.0 h.1 c)

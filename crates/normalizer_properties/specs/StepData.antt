@@ -32,6 +32,6 @@ steps_loaded h = record { characters = h.0; bounds = nfd_bounds; pairs = None; s
 abbrev pub SuitsSteps : StepData → Type 0
 SuitsSteps h = All (IsMet (steps_loaded h)) step_conditions
 
--- the answer for the first of them that fails
+-- the error for the first of them that fails
 abbrev pub RefusesSteps : DataMarkerInfo → StepData → DataError → Type 0
 RefusesSteps kind h e = RefusesFirstFailing kind (steps_loaded h) step_conditions e

@@ -58,7 +58,7 @@ impl CanonicalCombiningClassMap {
         Self::over(DataMarkerInfo::NormalizerNfdDataV1, decompositions)
     }
 
-    /// The classes that data of this marker give, where they meet the written conditions.
+    /// The classes of data of this marker, if they meet the written conditions.
     fn over(marker: DataMarkerInfo, decompositions: DecompositionData) -> Result<Self, DataError>
         ensures ok { IfOk result (λ m. (classes_of m ≡ decompositions) × SuitsClasses decompositions) }
         ensures err { IfErr result (RefusesClasses marker decompositions) }

@@ -39,7 +39,7 @@ impl CanonicalComposition {
         Self::over(DataMarkerInfo::NormalizerNfcV1, pairs)
     }
 
-    /// The pairs of this marker, where they are sound.
+    /// The pairs of this marker, if they are sound.
     fn over(marker: DataMarkerInfo, pairs: CanonicalCompositions) -> Result<Self, DataError>
         ensures ok { IfOk result (λ c. (pairs_of c ≡ pairs) × AreSoundPairs pairs) }
         ensures err { IfErr result (RefusesPairs marker pairs) }

@@ -59,7 +59,7 @@ impl CanonicalDecomposition {
         Self::over(marker, decompositions, tables, supplement)
     }
 
-    /// The steps by data that were loaded, where they meet the written conditions.
+    /// The steps over loaded data, if they meet the written conditions.
     fn over(
         marker: DataMarkerInfo,
         decompositions: DecompositionData,
@@ -71,7 +71,7 @@ impl CanonicalDecomposition {
         ensures err { IfErr result (RefusesSteps marker (steps_from decompositions tables supplement)) }
     {
         let characters = CharacterData::new(&decompositions, &tables, None, false);
-        // No condition that is asked here looks at the bounds.
+        // No condition that is checked here depends on the bounds.
         let loaded = LoadedData::new(characters, GREATEST_BOUNDS, None, Some(&supplement));
         match first_failing(&loaded, &STEPPING) {
             Some(condition) => Err(refusal_of(marker, condition)),

@@ -75,7 +75,7 @@ impl<'a> ComposeFunc for CanonicalCompositionBorrowed<'a> {
     }
 }
 
-/// What a shaper is told of a step.
+/// What is returned to a shaper for a step.
 fn shaper_mapping(step: Decomposed) -> Option<(char, char)>
     ensures { result ≡ shaper_mapping step }
 {

@@ -1,4 +1,4 @@
--- A test of all fields tells whether records are equal.
+-- A test of all fields decides whether records are equal.
 use Rattle.std.proofs.Common.{◌≡◌, ℕ, Bool, true, false, List, [], refl, ap, sym}
 use Rattle.std.proofs.lemmas.Bool.{true≢false}
 use Rattle.std.proofs.lemmas.Bool.Decides.{Decides-and}
@@ -8,7 +8,7 @@ use Rattle.std.specs.Cmp.Lexicographic.{bytes_decides}
 use Rattle.normalizer_records.specs.Entry.{Entry, Status, MapsTo, IsIgnored, IsDisallowed, MapperEntry}
 use Rattle.normalizer_records.specs.Equal.{entry_eq, status_eq, mapper_entry_eq}
 
--- what is told of some facts is told of what they are together
+-- a test that decides some facts decides what they are together
 Decides-by : {P Q : Type 0} → (r : Bool) → Decides r P → (P → Q) → (Q → P) → Decides r Q
 Decides-by r d there back = (λ e. there (d.0 e), λ q. d.1 (back q))
 

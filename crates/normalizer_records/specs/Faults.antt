@@ -1,4 +1,4 @@
--- What is wrong with records, told from the records alone.
+-- What is wrong with records, by the records alone.
 use Rattle.std.specs.Prelude.{◌≡◌, ◌≢◌, ℕ, ◌<◌, Bool, true, false, not, ◌&&◌, ◌||◌, ◌⊎◌, ◌==◌, nat_lt, List, [], ◌∷◌}
 use Rattle.std.specs.Prelude.{◌++◌, length, map, All, AllPairs, Contains, IsSomeAnd, count_by, Option, Some, None}
 use Rattle.std.specs.Prelude.{is_some, if◌then◌else◌}
@@ -108,7 +108,7 @@ mapped_to (Some IsIgnored) = []
 mapped_to (Some IsDisallowed) = []
 mapped_to (Some (MapsTo mapping)) = mapping
 
--- the class and the lists of c are asked: neither it nor what the mapper maps it to is on such a chain
+-- the class and the lists of c are checked: neither it nor what the mapper maps it to is on such a chain
 pub record IsAsked (records : List Entry) (uts46 : List MapperEntry) (c : ℕ) : Type 0 where
   pub off_chain : ¬ IsOnLongChain records c
   pub mapped_off_chain : All (λ m. ¬ IsOnLongChain records m) (mapped_to (status_of uts46 c))
@@ -169,7 +169,7 @@ HasLengthFault records uts46 = (c : ℕ) × IsAsked records uts46 c × HasLongLi
 
 -- Pair
 
--- two records give a pair of the same two characters
+-- two records have a pair of the same two characters
 unfoldable pub HasPairFault : List Entry → Type 0
 HasPairFault records = (first second : ℕ) × (1 < count_by (λ p. (p.0 == second) && (p.1 == first)) (pairs_of records))
 
@@ -195,7 +195,7 @@ rank_of Chain = 5
 rank_of Length = 6
 rank_of Pair = 7
 
--- none where nothing is wrong, else the smallest refusal whose fault the records have
+-- none if nothing is wrong, else the smallest refusal whose fault the records have
 unfoldable pub IsFirstRefusal : List Entry → List MapperEntry → Option Refusal → Type 0
 IsFirstRefusal records uts46 None = (r : Refusal) → ¬ HasFault records uts46 r
 IsFirstRefusal records uts46 (Some r) =

@@ -1,4 +1,4 @@
--- What records mean: the classes, the full decompositions (The Unicode Standard, D68) and the pairs that they give.
+-- What records mean: the classes, the full decompositions (The Unicode Standard, D68) and the pairs.
 use Rattle.std.specs.Prelude.{◌≡◌, ◌≢◌, ℕ, ◌+◌, zero, suc, not, ◌&&◌, ◌==◌, List, [], ◌∷◌, ◌++◌, find, flat_map}
 use Rattle.std.specs.Prelude.{filter_map, Option, Some, None, is_some, if◌then◌else◌}
 use Rattle.std.specs.Option.{option_map_or, option_map}
@@ -38,7 +38,7 @@ replacement records mappings c =
     if is_hangul_syllable c then hangul_decomposition c
     else option_map_or (mapping_among mappings) (entry_of records c) []
 
--- x becomes y where its characters are replaced until nothing changes
+-- x becomes y if its characters are replaced until nothing changes
 pub data ExpandsTo (records : List Entry) (mappings : Mappings) : List ℕ → List ℕ → Type 0 where
   done : ExpandsTo records mappings [] []
   stays : {x y : List ℕ} (c : ℕ) → replacement records mappings c ≡ [] → ExpandsTo records mappings x y →
@@ -46,12 +46,12 @@ pub data ExpandsTo (records : List Entry) (mappings : Mappings) : List ℕ → L
   replaced : {x y : List ℕ} (c : ℕ) → replacement records mappings c ≢ [] →
       ExpandsTo records mappings (replacement records mappings c ++ x) y → ExpandsTo records mappings (c ∷ x) y
 
--- what replaces a character, each member by its own list; the character itself where nothing does
+-- what replaces a character, each member by its own list; the character itself if nothing does
 unfoldable pub replace_by : (ℕ → List ℕ) → List ℕ → ℕ → List ℕ
 replace_by list_of [] c = c ∷ []
 replace_by list_of (m ∷ members) c = flat_map list_of (m ∷ members)
 
--- a character replaced, and what comes of it, so many levels deep
+-- a character replaced, and what comes of it, this many levels deep
 unfoldable pub expansion : List Entry → Mappings → ℕ → ℕ → List ℕ
 expansion records mappings zero c = c ∷ []
 expansion records mappings (suc n) c = replace_by (expansion records mappings n) (replacement records mappings c) c
@@ -60,7 +60,7 @@ expansion records mappings (suc n) c = replace_by (expansion records mappings n)
 abbrev pub chain_limit : ℕ
 chain_limit = 16
 
--- deep enough where no more records lead from one to the next: one level for each, and one for Hangul
+-- deep enough if no more records lead from one to the next: one level for each, and one for Hangul
 abbrev pub levels : ℕ
 levels = chain_limit + 1
 
@@ -86,13 +86,13 @@ compatibility_list records c = full_list records AllMappings c
 unfoldable pub status_of : List MapperEntry → ℕ → Option Status
 status_of uts46 c = option_map (λ r. r.status) (find (λ r. r.c == c) uts46)
 
--- the list of what the mapper maps a character to: none where it ignores the character, U+FFFD where it disallows it
+-- the list of what the mapper maps a character to: none if it ignores the character, U+FFFD if it disallows it
 unfoldable pub list_of_status : List Entry → Status → Option (List ℕ)
 list_of_status records IsIgnored = None
 list_of_status records IsDisallowed = Some (0xFFFD ∷ [])
 list_of_status records (MapsTo mapping) = Some (order (recorded_classes records) (expand_all records Canonical mapping))
 
--- the canonical list where nothing is recorded for the mapper
+-- the canonical list if nothing is recorded for the mapper
 unfoldable pub mapped_list : List Entry → ℕ → Option Status → Option (List ℕ)
 mapped_list records c None = Some (canonical_list records c)
 mapped_list records c (Some status) = list_of_status records status
@@ -105,7 +105,7 @@ abbrev pub pair_of_mapping : ℕ → List ℕ → Option Pair
 pair_of_mapping c (first ∷ second ∷ []) = Some (second, first, c)
 pair_of_mapping c _ = None
 
--- the pair that a record gives, unless it is excluded or its character has a fixed list
+-- the pair of a record, unless it is excluded or its character has a fixed list
 unfoldable pub pair_of_record : Entry → Option Pair
 pair_of_record r =
     if not r.compatibility && not r.excluded && not (is_some (fixed_list_of r.c)) then pair_of_mapping r.c r.mapping

@@ -90,7 +90,8 @@ fn add_common(
     Ok(())
 }
 
-/// The characters from which so many records lead on. Those to which so many lead are given, and what is between is found.
+/// The characters from which `count` records lead on. `led` are those to which some number of records lead; the
+/// characters between are added to `found`.
 fn leading_on(
     alloc: Global,
     records: &[Record],

@@ -34,7 +34,7 @@ pub(crate) struct ListFaults {
     pub(crate) length: bool,
 }
 
-/// The full decomposition of a character, or what stands for it where it is too long.
+/// The full decomposition of a character, or a cut of it if it is too long.
 pub(crate) fn cut_list(
     alloc: Global,
     records: &[Record],

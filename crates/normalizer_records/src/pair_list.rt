@@ -1,4 +1,4 @@
-//! The pairs that records give.
+//! The pairs of records.
 ghost use Rattle.std.specs.Prelude.{◌≡◌, ◌↔◌, IfOk, IsTrue};
 ghost use Rattle.std.specs.List.{IsAllAdjacentAnswer};
 ghost use Rattle.std.specs.List.Sorted.{IsPermutation, IsSorted};
@@ -11,7 +11,7 @@ use crate::records::Record;
 use normalizer_tables::special::fixed_list_of;
 use std::alloc::{AllocError, Global};
 
-/// The pair that a record gives: second, first, and what they compose to.
+/// The pair of a record: second, first, and what they compose to.
 #[tactic(auto, unfolding(crate::specs::Meaning::pair_of_record))]
 fn pair_of_record(record: &Record) -> Option<(char, char, char)>
     ensures { result ≡ pair_of_record record.now }
@@ -70,7 +70,7 @@ fn are_rising(pairs: &[(char, char, char)]) -> bool
     pairs.is_sorted_by(|pair, next| is_before(pair, next))
 }
 
-/// Whether two records give the same pair.
+/// Whether two records have the same pair.
 pub(crate) fn has_pair_fault(alloc: Global, records: &[Record]) -> Result<bool, AllocError>
     ensures { IfOk result (λ b. IsTrue b ↔ HasPairFault records.now) }
 {

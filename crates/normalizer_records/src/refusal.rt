@@ -15,6 +15,6 @@ pub enum Refusal {
     Chain,
     /// A list that is too long.
     Length,
-    /// Two records give the same pair.
+    /// Two records have the same pair.
     Pair,
 }

@@ -51,7 +51,7 @@ fn is_among(long: &BTreeSet<char>, uts46: &[Uts46Record], c: char) -> bool
     long.contains(&c) || has_any(long, mapped_to(uts46, c))
 }
 
-/// The faults that these characters show, as far as they are asked.
+/// The faults of these characters, as far as they are checked.
 fn list_faults(
     alloc: Global,
     records: &[Record],
@@ -90,7 +90,7 @@ pub fn recorded_characters(
 ) -> Result<Vec<char>, AllocError>
     ensures { IfOk result (λ v. v.items ≡ map (λ r. r.c) records.now ++ map (λ r. r.c) uts46.now) }
 {
-    // (`collect` would ask again where a growth is refused)
+    // (`collect` would try again after a refused growth)
     let mut characters = Vec::new(alloc);
     for entry in records {
         characters.push(entry.c)?;

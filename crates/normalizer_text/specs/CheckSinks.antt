@@ -19,11 +19,11 @@ ExpectsTheSame old new = new.came ++ new.remaining ≡ old.came ++ old.remaining
 abbrev pub ChangesNothing : Expectation → Expectation → Type 0
 ChangesNothing old new = new ≡ old
 
--- a piece stands at a position
+-- a piece is at a position of a list
 abbrev pub StandsAt : {X : Type 0} → List X → ℕ → List X → Type 0
 StandsAt {X = X} units position piece = (rest : List X) × (drop position units ≡ piece ++ rest)
 
--- where a piece ends that begins at a position, if it stands there
+-- the end of a piece that begins at a position, if it is there
 abbrev pub IsEndOfPiece : {X : Type 0} → List X → ℕ → List X → Option ℕ → Type 0
 IsEndOfPiece units position piece answer = MatchOption answer (StandsAt units position piece → ⊥)
     (λ end. (end ≡ position + length piece) × StandsAt units position piece)

@@ -1,4 +1,4 @@
--- The encodings, each with what stands in front of its units.
+-- The encodings, each with the first step of its units.
 use Rattle.std.specs.Prelude.{ℕ, Bool, List, encode_utf8_all}
 use Rattle.normalizer_text.specs.declared.step.Step.{Step}
 use Rattle.normalizer_text.specs.Steps.{decoded}
@@ -22,7 +22,7 @@ encoded_in Encoding.Utf16 x = encode_utf16_all x
 abbrev pub decoded_in : Encoding → List ℕ → List ℕ
 decoded_in e units = decoded (first_in e) units
 
--- a unit can stand after the first one of a step: no character begins with it
+-- a unit can come after the first one of a step: no character begins with it
 abbrev pub trails_in : Encoding → ℕ → Bool
 trails_in Encoding.Utf8 = allows continuation
 trails_in Encoding.Utf16 = is_low

@@ -1,5 +1,5 @@
--- Which step stands in front of bytes, as the standard says it (The Unicode Standard, section 3.9: D92, and U+FFFD
--- substitution of maximal subparts).
+-- The first step of bytes, as the standard states it (The Unicode Standard, section 3.9: D92, and U+FFFD substitution
+-- of maximal subparts).
 use Rattle.std.specs.Prelude.{◌≡◌, ℕ, ◌<◌, ◌≤◌, ◌⊎◌, List, [], ◌∷◌, ◌++◌, length, take}
 use Rattle.std.specs.List.{Contains}
 use Rattle.normalizer_text.specs.declared.step.Step.{Step}
@@ -32,7 +32,7 @@ pub record IsMaximalSubpart (bytes : List ℕ) (n : ℕ) : Type 0 where
   pub begins : (n ≡ 1) ⊎ BeginsSequence (take n bytes)
   pub longest : (m : ℕ) → m ≤ length bytes → BeginsSequence (take m bytes) → m ≤ n
 
--- in front of the bytes stands the character of a well-formed sequence, or where there is none, U+FFFD for the maximal
+-- the first step of the bytes is the character of a well-formed sequence, or if there is none, U+FFFD for the maximal
 -- subpart
 pub data IsStepOfUtf8 (bytes : List ℕ) : Step → Type 0 where
   sequence : (n : ℕ) → n ≤ length bytes → IsWellFormedSequence (take n bytes)

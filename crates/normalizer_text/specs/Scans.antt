@@ -4,7 +4,7 @@ use Rattle.std.specs.List.{prefix_len, slice_range}
 use Rattle.normalizer_text.specs.Encodings.{Encoding, first_in, decoded_in}
 use Rattle.normalizer_text.specs.Steps.{IsBoundary}
 
--- how many units stand before the first one that is not below the bound
+-- the number of units before the first one that is not below the bound
 abbrev pub leading_below : ℕ → List ℕ → ℕ
 leading_below bound units = prefix_len (λ unit. nat_lt unit bound) units
 

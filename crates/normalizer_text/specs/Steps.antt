@@ -1,4 +1,4 @@
--- Decoding step by step, over a rule `first` that says what stands in front of units of which there are some.
+-- Decoding step by step, over a rule `first` that states the first step of units that aren't empty.
 use Rattle.std.specs.Prelude.{◌≡◌, ℕ, zero, suc, ◌+◌, ◌-◌, ◌<◌, ◌≤◌, true, false, List, [], ◌∷◌, ◌++◌, length}
 use Rattle.std.specs.Prelude.{take, drop, map, Option, Some, MatchOption, All}
 use Rattle.std.specs.Iterator.{AlwaysYields}
@@ -19,8 +19,8 @@ pub data Decodes (first : List ℕ → Step) : List ℕ → List ℕ → Type 0 
   step : (u : ℕ) (us x : List ℕ) → Decodes first (drop (first (u ∷ us)).width (u ∷ us)) x
       → Decodes first (u ∷ us) ((first (u ∷ us)).character ∷ x)
 
--- the steps of the units behind the first n, which the step before took: the step that stands in front of them, and
--- those behind the units that it takes. (The units are gone through one by one, so that the recursion ends.)
+-- the steps of the units after the first n, which the step before took: the first step of them, and those after the
+-- units that it takes. (The units are gone through one by one, so that the recursion ends.)
 unfoldable pub steps_past : (List ℕ → Step) → ℕ → List ℕ → List Step
 steps_past first n [] = []
 steps_past first zero (u ∷ us) = first (u ∷ us) ∷ steps_past first ((first (u ∷ us)).width - 1) us
@@ -50,7 +50,7 @@ pub record IsBoundary (first : List ℕ → Step) (units : List ℕ) (n : ℕ) :
   pub apart : steps first units ≡ before ++ after
   pub taken : width_of before ≡ n
 
--- ---- a call on some units that are left, what it gave, and the units that it left
+-- ---- a call on the remaining units, its result, and the units that it left
 
 -- the character of the step in front, without its units
 abbrev pub TakesFirst : (List ℕ → Step) → List ℕ → Option ℕ → List ℕ → Type 0
@@ -80,6 +80,6 @@ pub data TakenFrom (first : List ℕ → Step) (units : List ℕ) : List ℕ →
   back : (x rest y : List ℕ) (c : ℕ) (left : List ℕ) → TakenFrom first units x rest y
       → TakesLast first rest (Some c) left → TakenFrom first units x left (c ∷ y)
 
--- each run of calls of an iterator of characters gives these
+-- each run of calls of an iterator of characters returns these
 abbrev pub Spells : {I : Type 0} → (I → Option ℕ → I → Type 0) → I → List ℕ → Type 0
 Spells gives it x = AlwaysYields gives (λ c. c) it x

@@ -26,7 +26,7 @@ pair_value high low = 0x10000 + (high - 0xD800) * 0x400 + (low - 0xDC00)
 abbrev pub unpaired : ℕ → Step
 unpaired u = if is_single u then read u 1 else replaced 1
 
--- what stands in front
+-- the first step
 abbrev pub first_of_utf16 : List ℕ → Step
 first_of_utf16 [] = replaced 0
 first_of_utf16 (u ∷ []) = unpaired u

@@ -5,7 +5,7 @@ use Rattle.std.specs.Int.{is_in_range}
 use Rattle.normalizer_text.specs.declared.step.Step.{Step}
 use Rattle.normalizer_text.specs.Steps.{read, replaced, decoded}
 
--- the least and the greatest byte that may stand at a place
+-- the least and the greatest byte that may be at a place
 pub record ByteRange : Type 0 where
   pub least : ℕ
   pub greatest : ℕ
@@ -46,7 +46,7 @@ well_formed_sequences =
 unfoldable pub row_of : ℕ → Option Row
 row_of b = find (λ r. allows r.lead b) well_formed_sequences
 
--- at how many of the places, from the first on, a byte stands that may stand there
+-- the number of leading places that have a byte that may be there
 abbrev pub matched : List ByteRange → List ℕ → ℕ
 matched [] bytes = 0
 matched (r ∷ rs) [] = 0
@@ -60,9 +60,9 @@ scalar_value (a ∷ b ∷ c ∷ []) = ((a - 0xE0) * 64 + (b - 0x80)) * 64 + (c -
 scalar_value (a ∷ b ∷ c ∷ d ∷ []) = (((a - 0xF0) * 64 + (b - 0x80)) * 64 + (c - 0x80)) * 64 + (d - 0x80)
 scalar_value bytes = 0
 
--- what stands in front, where the first byte is b and the row that begins with it is given: the character of a
--- sequence of the row, or U+FFFD for the longest beginning of one, or for the byte alone where it begins no row
--- ('U+FFFD substitution of maximal subparts')
+-- the first step if the first byte is b and this is the row that begins with it: the character of a sequence of the
+-- row, or U+FFFD for the longest beginning of one, or, if b begins no row, for the byte alone ('U+FFFD substitution of
+-- maximal subparts')
 abbrev pub first_by_row : Option Row → ℕ → List ℕ → Step
 first_by_row None b bs = replaced 1
 first_by_row (Some r) b bs = if matched r.trail bs == length r.trail

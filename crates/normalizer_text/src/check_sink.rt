@@ -16,18 +16,18 @@ use std::marker::Model;
 
 /// Units that can be compared with others from a position on: their contents, never their addresses.
 pub trait Expected: Units {
-    // Where a piece ends that begins at the position, if it stands there.
+    // Returns the end of a piece that begins at the position, if it is there.
     fn end_of_piece(self, position: usize, piece: Self) -> Option<usize>
         requires { position ≤ length (Self.units self) }
         ensures { IsEndOfPiece (Self.units self) position (Self.units piece) result };
 
-    // Where a character ends that begins at the position, if it stands there.
+    // Returns the end of a character that begins at the position, if it is there.
     fn end_of_char(self, position: usize, c: char) -> Option<usize>
         requires { position ≤ length (Self.units self) }
         ensures { IsEndOfPiece (Self.units self) position (encoded_in Self.encoding (c ∷ [])) result };
 }
 
-// Where a piece ends that begins at the position, if it stands there.
+// Returns the end of a piece that begins at the position, if it is there.
 fn end_of<T: Copy + Eq>(expected: &[T], position: usize, piece: &[T]) -> Option<usize>
     requires within { position ≤ length expected.now }
     requires decides { (a b : T) → Decides (T.eq a b) (a ≡ b) }

@@ -130,7 +130,7 @@ pub fn utf8_is_well_formed_as_in_std()
     ensures { (bytes : List ℕ) → IsWellFormed first_of_utf8 bytes ↔ IsUtf8 bytes }
 {}
 
-/// A `str` is well-formed, and decodes to its characters; its steps end where it may be cut.
+/// A `str` is well-formed, and decodes to its characters; its steps end at its character boundaries.
 pub fn str_decodes_to_its_characters(text: &str)
     ensures well_formed { IsWellFormed first_of_utf8 text.now }
     ensures characters { decoded_utf8 text.now ≡ chars text.now }

@@ -21,13 +21,13 @@ pub(crate) trait Lanes: Copy {
         requires { position < length (units self) }
         ensures { result ≡ nat_lt (slice_index (units self) position) bound };
 
-    // How many units of the vector at a position stand before the first one that is not below the bound.
+    // Returns how many units of the vector at a position come before the first one that is not below the bound.
     fn lanes_below(self, position: usize, bound: u32) -> usize
         requires { position + LANES ≤ length (units self) }
         ensures { result ≡ leading_below bound (take LANES (drop position (units self))) };
 }
 
-// Where the units end that stand from a position on and are all below the bound.
+// Returns the end of the units from a position on that are all below the bound.
 #[inline(always)]
 pub(crate) fn end_of_below<L: Lanes>(units: L, position: usize, bound: u32) -> usize
     requires { position ≤ length (L.units units) }
@@ -51,7 +51,7 @@ pub(crate) fn end_of_below<L: Lanes>(units: L, position: usize, bound: u32) -> u
     end
 }
 
-// How many lanes stand before the first one whose bit is set.
+// Returns how many lanes come before the first one whose bit is set.
 #[inline(always)]
 fn lanes_before_set(mask: u64) -> usize
     ensures { result ≡ (if mask == 0 then LANES else trailing_zeros w64 mask) }

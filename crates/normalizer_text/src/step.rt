@@ -14,7 +14,7 @@ pub struct Step {
 impl Step {
     ghost use Rattle.normalizer_text.specs.Steps.{read, replaced};
 
-    // The character of so many units.
+    // The step of a character that takes this many units.
     #[inline(always)]
     pub(crate) fn read(character: char, width: usize) -> Step
         ensures { result ≡ read character width }
@@ -26,7 +26,7 @@ impl Step {
         }
     }
 
-    // U+FFFD for so many units.
+    // The step of U+FFFD for this many ill-formed units.
     #[inline(always)]
     pub(crate) fn replaced(width: usize) -> Step
         ensures { result ≡ replaced width }

@@ -53,7 +53,7 @@ pub trait Units: Copy {
         requires { position ≤ length (units self) }
         ensures { result ≡ position + leading_below limit (drop position (units self)) };
 
-    /// A law: where units below such a limit end, a step ends, and the characters up to there are below the bound.
+    /// A law: a step ends with units below such a limit, and the characters up to there are below the bound.
     fn low_units_are_of_low_characters(self)
         ensures { (position bound : ℕ) → IsBoundary (first_in encoding) (units self) position →
             EndsLowCharacters encoding (units self) position bound
@@ -103,7 +103,7 @@ pub trait Units: Copy {
     }
 }
 
-// Where the last step begins, if it takes more than one unit.
+// Returns the beginning of the last step, if it takes more than one unit.
 fn last_start<U: Units>(units: U) -> usize
     requires { 0 < length (U.units units) }
     ensures { IsLastStart (trails_in U.encoding) (U.units units) result }

@@ -8,7 +8,7 @@ ghost use Rattle.normalizer_text.specs.MaximalSubparts.{IsWellFormedSequence};
 
 use crate::step::Step;
 
-// A byte that may stand after the first one of a character.
+// A byte that may come after the first one of a character.
 #[inline(always)]
 pub(crate) fn is_continuation(byte: u8) -> bool
     ensures { result ≡ allows continuation byte }
@@ -27,7 +27,7 @@ struct Trail {
 impl Trail {
     ghost use Rattle.normalizer_text.specs.inner.Trails.{places};
 
-    // The byte may stand at place n.
+    // Whether the byte may be at place n.
     fn allows(self, n: usize, byte: u8) -> bool
         requires { n < self.length }
         ensures { result ≡ allows (slice_index_or (places self) n continuation) byte }
@@ -39,7 +39,7 @@ impl Trail {
         }
     }
 
-    // At how many places, from the first on, a byte stands that may.
+    // Returns the number of leading places that have a byte that may be there.
     fn matched(self, bytes: &[u8]) -> usize
         ensures { result ≡ matched (places self) bytes.now }
     {
@@ -145,7 +145,7 @@ pub(crate) fn first_step(bytes: &[u8]) -> Step
     }
 }
 
-// The same where the first byte is no character by itself.
+// Returns the first step if the first byte is no character by itself.
 fn first_step_of_more(bytes: &[u8]) -> Step
     requires { 0 < length bytes.now }
     ensures { result ≡ first_of_utf8 bytes.now }

@@ -10,11 +10,11 @@ use Rattle.normalizer_calls.specs.Uts46.{MapperData}
 abbrev pub mapped : MapperData → List ℕ → List ℕ
 mapped h x = nfc (reading_by h.0 Dropped h.1) x
 
--- a text validated: U+FFFD stands for each ignored character
+-- a text validated: each ignored character becomes U+FFFD
 abbrev pub validated : MapperData → List ℕ → List ℕ
 validated h x = nfc (reading_by h.0 Replaced h.1) x
 
--- mapped text that may stand as a label: it has no U+FFFD, and validation leaves it as it is
+-- mapped text that may be a label: it has no U+FFFD, and validation leaves it as it is
 pub record IsLabel (h : MapperData) (x : List ℕ) : Type 0 where
   pub no_replacement : ¬ Contains x 0xFFFD
   pub unchanged : validated h x ≡ x

@@ -1,4 +1,4 @@
--- The normal forms by plain records of characters, and by data.
+-- The normal forms by plain records of characters, and over data.
 use Rattle.std.specs.Prelude.{ℕ, List, []}
 use Rattle.normal_forms.specs.declared.Form.TheVariants.{Decomposing, Composing}
 use Rattle.normal_forms.specs.Forms.{nfc, nfd, normal_form}
@@ -20,7 +20,7 @@ recorded_form records Nfc x = normal_form (recorded_reading records Canonical) C
 recorded_form records Nfkd x = normal_form (recorded_reading records All) Decomposing x
 recorded_form records Nfkc x = normal_form (recorded_reading records All) Composing x
 
--- the forms that normalizers over packed data give
+-- the forms of normalizers over packed data
 abbrev pub form_of_data : Packed → NormalForm → List ℕ → List ℕ
 form_of_data p Nfd x = nfd (reading_by (characters_of p kind.Canonical) Dropped []) x
 form_of_data p Nfc x = nfc (reading_by (characters_of p kind.Canonical) Dropped p.compositions) x

@@ -1,4 +1,4 @@
--- What a report of the first offence shows.
+-- What a report of the first mismatch shows.
 use Rattle.std.specs.Prelude.{◌≡◌, ◌≢◌, ℕ, List, ◌∷◌, ◌++◌, length, encode_utf8_all, ⊤}
 use Rattle.normal_forms.specs.Forms.{nfc}
 use Rattle.normal_forms.specs.Reading.{Reading}
@@ -6,7 +6,7 @@ use Rattle.normalizer_input.specs.declared.offence.Offence.{Offence}
 use Rattle.normalizer_uses.specs.declared.reports.Refusal.{Refusal}
 use Rattle.normalizer_uses.specs.declared.reports.Refusal.TheVariants.{Differs, Memory}
 
--- behind the same characters the text has what is found, and its form what is wanted, which is another character
+-- after the same characters the text has the character found, and its form the one expected, which is another
 pub record ShowsDifference (d : Reading) (x : List ℕ) (o : Offence) : Type 0 where
   pub front : List ℕ
   pub rest : List ℕ

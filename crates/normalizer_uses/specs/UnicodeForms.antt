@@ -9,7 +9,7 @@ use Rattle.normalizer_uses.specs.declared.by_records.NormalForm.{NormalForm}
 use Rattle.normalizer_uses.specs.declared.by_unicode_data.UnicodeFault.{UnicodeFault}
 use Rattle.normalizer_uses.specs.declared.by_unicode_data.UnicodeFault.TheVariants.{File, Records}
 
--- the form of a text by the records that the two files give
+-- the form of a text by the records of the two files
 abbrev pub IsFormByFiles : List ℕ → List ℕ → NormalForm → List ℕ → List ℕ → Type 0
 IsFormByFiles unicode_data exclusions form x result =
     (records : List Entry) × (records_of unicode_data exclusions ≡ Ok records) × (result ≡ recorded_form records form x)

@@ -57,7 +57,7 @@ pub fn form_by_records(
     }
 }
 
-/// The normal form by data that were built.
+/// The normal form over built data.
 fn form_by_built(
     alloc: Global,
     built: &Built,

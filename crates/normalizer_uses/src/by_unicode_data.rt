@@ -8,7 +8,7 @@ use normalizer_records::BuildError;
 use normalizer_ucd::{UcdError, records_of_unicode_data};
 use std::alloc::Global;
 
-/// Why Unicode's files gave no normal form.
+/// Why Unicode's files yielded no normal form.
 #[derive(Clone, Copy, Debug, PartialEq, Eq)]
 pub enum UnicodeFault {
     /// A line of a file is wrong, or memory was refused.

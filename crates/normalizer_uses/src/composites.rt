@@ -8,7 +8,7 @@ ghost use Rattle.normalizer_tables.specs.declared.characters.IgnoredCharacters.T
 
 use icu_normalizer::{ComposingNormalizerBorrowed, NormalizeError};
 
-/// What a character and one behind it compose to, if they do: its decomposition is that of the two, in canonical order.
+/// What a character and one after it compose to, if they do: its decomposition is that of the two, in canonical order.
 pub fn composed_pair(
     normalizer: &ComposingNormalizerBorrowed<'_>,
     first: char,

@@ -70,7 +70,7 @@ pub fn nfd_without_faults<W: Write>(
     normalizer.normalize_to(text, sink)
 }
 
-/// Writes the NFD of a text to a sink, and the NFD of another text behind it. A fault of the sink is one from before
+/// Writes the NFD of a text to a sink, and after it the NFD of another text. A fault of the sink is one since before
 /// the first.
 pub fn nfd_of_both<W: Write>(
     normalizer: &DecomposingNormalizerBorrowed<'_>,

@@ -5,7 +5,7 @@ use Rattle.normalizer_tables.specs.Pairs.{Pair}
 use Rattle.normalizer_tables.specs.Ranges.{IsRangeList, WordRange, word_in}
 use Rattle.normalizer_packing.specs.Entries.{CharacterEntry}
 
--- ranges before `end`, one after another, that give each number there its word
+-- ranges before `end`, one after another, with the word of each number there
 pub record CoverUpTo (is_word : ℕ → ℕ → Type 0) (rs : List WordRange) (end : ℕ) : Type 0 where
   pub list : IsRangeList rs
   pub before : All (λ r. r.1 < end) rs
@@ -15,14 +15,14 @@ pub record CoverUpTo (is_word : ℕ → ℕ → Type 0) (rs : List WordRange) (e
 unfoldable pub IsStretch : (ℕ → ℕ → Type 0) → ℕ → ℕ → Type 0
 IsStretch is_word from end = (n w : ℕ) → from ≤ n → n < end → is_word from w → is_word n w
 
--- two neighbours have one word, unless one of them is told
+-- two neighbours have one word, unless one of them is listed in `told`
 unfoldable pub AreAlike : (ℕ → ℕ → Type 0) → List ℕ → Type 0
 AreAlike is_word told =
     (n w : ℕ) → ¬ Contains told n → ¬ Contains told (n + 1) → is_word n w → is_word (n + 1) w
 
--- where composing vowels and trailing consonants of Hangul begin, and the first characters behind them and behind their
--- block; the first syllable and the first character behind them; the last character before surrogates and the first
--- behind them; U+FFFD
+-- the numbers at which the words of packed data may change whatever the entries say: the first composing vowel and
+-- trailing consonant of Hangul, and the first characters after them and after their block; the first syllable and the
+-- first character after the syllables; the last character before surrogates and the first after them; U+FFFD
 abbrev pub edges : List ℕ
 edges = 0x1161 ∷ 0x1176 ∷ 0x11A8 ∷ 0x11C3 ∷ 0x1200 ∷ 0xAC00 ∷ 0xD7A4 ∷ 0xD7FF ∷ 0xE000 ∷ 0xFFFD ∷ []
 

@@ -11,12 +11,12 @@ use Rattle.normalizer_records.specs.Faults.{IsRecorded}
 abbrev pub IsSetOf : (ℕ → Type 0) → BTreeSet ℕ → Type 0
 IsSetOf P set = (c : ℕ) → IsTrue (contains nat_cmp set c) ↔ P c
 
--- so many records lead on from c, each to the next, the last to one that is recorded
+-- this many records lead on from c, each to the next, the last to one that is recorded
 unfoldable pub LeadsOn : List Entry → ℕ → ℕ → Type 0
 LeadsOn records zero c = IsRecorded records c
 LeadsOn records (suc n) c = (d : ℕ) × Contains (mapping_of records c) d × LeadsOn records n d
 
--- so many records lead to c, each from the one before
+-- this many records lead to c, each from the one before
 unfoldable pub IsLedTo : List Entry → ℕ → ℕ → Type 0
 IsLedTo records zero c = IsRecorded records c
 IsLedTo records (suc n) c = (b : ℕ) × Contains (mapping_of records b) c × IsLedTo records n b

@@ -1,4 +1,4 @@
--- Lists that are cut where they are too long anyway.
+-- Lists that are cut because they are too long anyway.
 use Rattle.std.specs.Prelude.{◌≡◌, ◌↔◌, ℕ, ◌≤◌, Bool, List, length, slice_index, ◌<◌, Option, Some, None}
 use Rattle.normalizer_records.specs.Entry.{Entry}
 use Rattle.normalizer_records.specs.Faults.{IsTooLong, IsWrong}
