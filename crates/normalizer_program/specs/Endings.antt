@@ -23,6 +23,6 @@ line_of (Err Data) = codes "normtool: data"
 abbrev pub EndsWith : Result Answer ToolFault → ℕ → List ℕ → Type 0
 EndsWith outcome status line = (status ≡ status_of outcome) × (line ≡ line_of outcome)
 
--- the exit status and the line, without its line feed, where the words ask for nothing
+-- the exit status and the line, without its line feed, if the words name no command
 abbrev pub IsUsage : ℕ → List ℕ → Type 0
 IsUsage status line = (status ≡ 2) × (line ≡ codes "normtool: usage: normtool RECORDS COMMAND")

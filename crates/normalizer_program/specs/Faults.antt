@@ -1,4 +1,4 @@
--- How faults of the library are told.
+-- How faults of the library are reported.
 use Rattle.normalizer_tables.specs.declared.provider.DataError.{DataError}
 use Rattle.normalizer_tables.specs.declared.provider.DataError.TheVariants as error
 use Rattle.normalizer_records.specs.declared.records.BuildError.{BuildError}
@@ -6,12 +6,12 @@ use Rattle.normalizer_records.specs.declared.records.BuildError.TheVariants as b
 use Rattle.normalizer_program.specs.declared.ending.ToolFault.{ToolFault}
 use Rattle.normalizer_program.specs.declared.ending.ToolFault.TheVariants.{Memory, Data}
 
--- want of memory, or data that can't serve
+-- a refused allocation, or data that can't be used
 abbrev pub fault_of : DataError → ToolFault
 fault_of error.Memory = Memory
 fault_of e = Data
 
--- want of memory, or records that give no data
+-- a refused allocation, or records that build no data
 abbrev pub fault_of_build : BuildError → ToolFault
 fault_of_build build_error.Memory = Memory
 fault_of_build e = Data

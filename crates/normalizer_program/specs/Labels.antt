@@ -10,20 +10,20 @@ use Rattle.normalizer_program.specs.declared.ending.Answer.{Answer}
 use Rattle.normalizer_program.specs.declared.ending.Answer.TheVariants.{Done}
 use Rattle.normalizer_program.specs.OffenceLines.{line_feed}
 
--- what mapping makes of a text, where ignored characters are dropped
+-- the mapping of a text, which drops ignored characters
 abbrev pub mapped : MapperData → List ℕ → List ℕ
 mapped h x = nfc (reading_by h.0 Dropped h.1) x
 
--- what validation makes of it, where U+FFFD stands for each of them
+-- the validation of it, in which each of them becomes U+FFFD
 abbrev pub validated : MapperData → List ℕ → List ℕ
 validated h x = nfc (reading_by h.0 Replaced h.1) x
 
--- what stands between the full stops of a text: one field more than there are full stops
+-- what is between the full stops of a text: one field more than there are full stops
 abbrev pub fields : List ℕ → List (List ℕ)
 fields x = slice_split (λ c. c == 0x2E) x
 
--- the field holds no U+FFFD, and validation gives it back (bytes_eq tells of any two lists of numbers whether they are
--- the same)
+-- the field has no U+FFFD, and validation leaves it as it is (bytes_eq decides of any two lists of numbers whether they
+-- are the same)
 abbrev pub is_kept : MapperData → List ℕ → Bool
 is_kept h field = not (list_any (λ c. c == 0xFFFD) field) && bytes_eq (validated h field) field
 
@@ -31,7 +31,7 @@ is_kept h field = not (list_any (λ c. c == 0xFFFD) field) && bytes_eq (validate
 abbrev pub kept_lines : MapperData → List (List ℕ) → List ℕ
 kept_lines h parts = flat_map (λ field. field ++ (line_feed ∷ [])) (filter (is_kept h) parts)
 
--- yes where all of the fields are kept, and the lines of those that are
+-- yes if all of the fields are kept, and the lines of those that are
 pub record TellsKept (h : MapperData) (parts : List (List ℕ)) (answer : Answer) (lines : List ℕ) : Type 0 where
   pub all : (answer ≡ Done) ↔ All (λ field. IsTrue (is_kept h field)) parts
   pub kept : lines ≡ kept_lines h parts

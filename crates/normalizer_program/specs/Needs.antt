@@ -56,11 +56,11 @@ kind_of Nfc = Composing
 kind_of Nfkd = Decomposing
 kind_of Nfkc = Composing
 
--- data are held and meet their conditions where text is decomposed, and this is their reading
+-- data are held and meet the conditions for decomposing text, and this is their reading
 abbrev pub DecomposesBy : Result Characters DataMarkerInfo → Reading → Type 0
 DecomposesBy held d = (s : Characters) × AcceptsHeld SuitsDecomposing held s × (d ≡ reading_by s Dropped [])
 
--- the same of data and pairs, where text is composed
+-- the same of data and pairs, for composing text
 abbrev pub ComposesBy : Result (Characters × List Pair) DataMarkerInfo → Reading → Type 0
 ComposesBy held d = (h : Characters × List Pair) × AcceptsHeld SuitsComposing held h × (d ≡ reading_by h.0 Dropped h.1)
 

@@ -1,4 +1,4 @@
--- What is told of the first place at which an input is not its own form.
+-- What is reported of the first place at which an input is not normalized.
 use Rattle.std.specs.Prelude.{◌≡◌, ℕ, ◌-◌, List, [], ◌∷◌, ◌++◌, length, replicate, false, decimal}
 use Rattle.std.specs.Prelude.{Option, Some, None}
 use Rattle.std.specs.Fmt.{digits}
@@ -21,7 +21,7 @@ abbrev pub offence_line : Offence → List ℕ
 offence_line o = decimal o.place ++ (space ∷ (code_point_digits o.found
     ++ (space ∷ (code_point_digits o.wanted ++ (line_feed ∷ [])))))
 
--- no, and one line; or yes, and nothing, where there is no offence
+-- no, and one line; or yes, and nothing, if there is no mismatch
 abbrev pub TellsOffence : Option Offence → Answer → List ℕ → Type 0
 TellsOffence None answer output = (answer ≡ Done) × (output ≡ [])
 TellsOffence (Some o) answer output = (answer ≡ No) × (output ≡ offence_line o)

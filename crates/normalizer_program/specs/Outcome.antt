@@ -1,4 +1,4 @@
--- What a run of a command answers.
+-- The result of a run of a command.
 use Rattle.std.specs.Prelude.{◌≡◌, ℕ, List, Option, Result, Ok, Err, ⊤, IfSome}
 use Rattle.std.specs.Io.KnownBytes.{Appends}
 use Rattle.normalizer_program.specs.declared.ending.Answer.{Answer}
@@ -10,7 +10,7 @@ use Rattle.normalizer_program.specs.Replies.{IsReply}
 use Rattle.normalizer_program.specs.Tasks.{task_of}
 use Rattle.normalizer_program.specs.Transfer.{AppendsFront}
 
--- the command has this reply to all the bytes of a source, where the source tells them, by data that are held and
+-- the command has this reply to all the bytes of a source, if the source reports them, over data that are held and
 -- accepted
 pub record Replies (command : Command) (held : Held) (left : Option (List ℕ)) (answer : Answer) (output : List ℕ)
     : Type 0 where
@@ -20,9 +20,9 @@ pub record Replies (command : Command) (held : Held) (left : Option (List ℕ)) 
   pub whole : IfSome left (λ bytes. input ≡ bytes)
   pub reply : IsReply work input answer output
 
--- Of what a provider holds and of the bytes that were left in the source, and the bytes that the target took before and
--- after: the command's output was written, and its answer is given; or a front of it, and a write was refused; or the
--- data are why there is no answer; or a read or the memory are.
+-- By what a provider holds, the bytes that were left in the source, and the bytes that the target took before and
+-- after: the command's output was written, and its answer returned; or a beginning of it, and a write was refused; or
+-- the data, a read or memory are why there is no answer.
 abbrev pub IsOutcome : Command → Held → (left before after : Option (List ℕ)) → Result Answer ToolFault → Type 0
 IsOutcome command held left before after (Ok answer) =
     (output : List ℕ) × Replies command held left answer output × Appends before after output

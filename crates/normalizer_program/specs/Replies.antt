@@ -1,4 +1,4 @@
--- What a command answers to the bytes that it reads, and what it writes.
+-- A command's answer to the bytes that it reads, and what it writes.
 use Rattle.std.specs.Prelude.{◌≡◌, ◌↔◌, ℕ, List, [], Option, encode_utf8_all}
 use Rattle.normal_forms.specs.declared.Form.{Form}
 use Rattle.normal_forms.specs.Reading.{Reading}
@@ -19,8 +19,8 @@ use Rattle.normalizer_program.specs.Labels.{fields, mapped, validated, TellsKept
 use Rattle.normalizer_program.specs.Needs.{Work, OfForm, OfMapper}
 use Rattle.normalizer_program.specs.OffenceLines.{TellsOffence}
 
--- the UTF-8 of the form of the decoded bytes; whether they are well-formed and their own form; or where they first are
--- not
+-- the UTF-8 of the form of the decoded bytes; whether they are well-formed and normalized; or the first place at which
+-- they are not
 abbrev pub IsReplyOfForm : FormTask → Form → Reading → (input : List ℕ) → Answer → (output : List ℕ) → Type 0
 IsReplyOfForm Write form d input answer output =
     (answer ≡ Done) × (output ≡ encoded_form Encoding.Utf8 d form input)

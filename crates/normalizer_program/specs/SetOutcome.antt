@@ -1,4 +1,4 @@
--- What a run of a command over a record set answers.
+-- The result of a run of a command over a record set.
 use Rattle.std.specs.Prelude.{ℕ, List, Option, Some, Result, Ok, Err, ⊤, ◌⊎◌}
 use Rattle.normalizer_builder.specs.Building.{Builds}
 use Rattle.normalizer_packing.specs.declared.Packed.{Packed}

@@ -1,4 +1,4 @@
--- What the commands ask.
+-- The task of each command.
 use Rattle.normalizer_program.specs.declared.words.Command.{Command}
 use Rattle.normalizer_program.specs.declared.words.Command.TheVariants as command
 use Rattle.normalizer_program.specs.declared.task.NormalForm.TheVariants.{Nfd, Nfc, Nfkd, Nfkc}

@@ -1,4 +1,4 @@
-//! Characters that an iterator gives, and their UTF-8.
+//! The characters of an iterator, and their UTF-8.
 ghost use Rattle.std.specs.Prelude.{◌≡◌, List, ℕ, IfOk, IfErr, string_bytes, encode_utf8_all};
 ghost use Rattle.std.specs.Iterator.{IsFinite};
 ghost use Rattle.normalizer_iterators.specs.Items.{SpellsUnless};
@@ -8,7 +8,7 @@ use icu_normalizer::NormalizeError;
 use normalizer_iterators::laws::text_comes_unless_a_fault_does;
 use std::alloc::{AllocError, Global};
 
-/// The characters, up to the first error, which is want of memory.
+/// The characters, up to the first error, which is `Memory`.
 pub(crate) fn collected<I: Iterator<Item = Result<char, NormalizeError>> + Drop>(
     alloc: Global,
     items: I,

@@ -8,14 +8,14 @@ pub struct DeviceError;
 
 /// What bytes are read from.
 pub trait Source {
-    /// The bytes that are left, where the source tells them.
+    /// The bytes that are left, if the source reports them.
     ghost left: { Self → Option (List ℕ) };
 
     /// Holds from the state before a refused read to the state after it, and also from the state before reads that
     /// succeeded just ahead of it.
     ghost refused: { Self → Self → Type 0 };
 
-    /// Puts a front of what is left at the beginning of the buffer, and answers how many bytes that are: none only at
+    /// Puts a front of what is left at the beginning of the buffer, and returns how many bytes that are: none only at
     /// the end, or for an empty buffer. A refused read moves no byte.
     fn read(&mut self, buffer: &mut [u8]) -> Result<usize, DeviceError>
         ensures count { IfOk result (λ n. n ≤ length buffer.new) }
@@ -26,15 +26,15 @@ pub trait Source {
 
 /// What bytes are written to.
 pub trait Target {
-    /// The bytes that were taken, where the target tells them.
+    /// The bytes that were taken, if the target reports them.
     ghost taken: { Self → Option (List ℕ) };
 
     /// Holds from the state before a refused write to the state after it, and also from the state before writes that
     /// succeeded just ahead of it.
     ghost refused: { Self → Self → Type 0 };
 
-    /// Takes a beginning of the bytes, at least one byte where there is one, and answers how many it took. A refused
-    /// write takes no byte.
+    /// Takes a beginning of the bytes, at least one byte if there is one, and returns how many it took. A refused write
+    /// takes no byte.
     fn write(&mut self, bytes: &[u8]) -> Result<usize, DeviceError>
         ensures count { IfOk result (λ n. n ≤ length bytes.now) }
         ensures progress { 0 < length bytes.now → IfOk result (λ n. 0 < n) }

@@ -1,4 +1,4 @@
-//! What the program answers, and how it ends.
+//! The result of the program, and how it ends.
 ghost use Rattle.std.specs.Prelude.{◌≡◌};
 ghost use Rattle.normalizer_program.specs.Endings.{status_of, line_of};
 
@@ -14,7 +14,7 @@ pub enum Answer {
     No,
 }
 
-/// Why a command gave no answer.
+/// Why a command has no answer.
 #[derive(Clone, Copy, Debug, PartialEq, Eq)]
 pub enum ToolFault {
     /// A read of the input was refused.
@@ -23,7 +23,7 @@ pub enum ToolFault {
     Write,
     /// There was not enough memory.
     Memory,
-    /// The records give no data, the data are missing, or a constructor refused them.
+    /// The records build no data, the data are missing, or a constructor refused them.
     Data,
 }
 
@@ -60,7 +60,7 @@ impl From<DataError> for ToolFault {
     }
 }
 
-// A call that writes to no sink, or to a text in memory, faults only for want of memory.
+// A call that writes to no sink, or to a text in memory, fails only if an allocation is refused.
 impl From<NormalizeError> for ToolFault {
     ghost use Rattle.normalizer_program.specs.declared.ending.ToolFault.TheVariants.{Memory};
 
@@ -71,7 +71,7 @@ impl From<NormalizeError> for ToolFault {
     }
 }
 
-/// The exit status, and the line for standard error without its line feed: empty where there is none.
+/// Returns the exit status, and the line for standard error without its line feed: empty if there is none.
 pub fn ending(outcome: &Result<Answer, ToolFault>) -> (u8, &'static str)
     ensures status { result.0 ≡ status_of outcome.now }
     ensures line { result.1.now ≡ line_of outcome.now }

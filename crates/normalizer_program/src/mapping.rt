@@ -1,4 +1,4 @@
-//! What is asked of the mapper.
+//! The calls on the mapper.
 ghost use Rattle.std.specs.Prelude.{◌≡◌, ◌==◌, IfOk, IfErr, map, string_bytes};
 ghost use Rattle.std.specs.List.{list_any};
 ghost use Rattle.normalizer_text.specs.Utf8.{decoded_utf8};
@@ -91,14 +91,14 @@ fn labelled(
     Ok((answer, lines))
 }
 
-/// What stands between the full stops of a text.
+/// What is between the full stops of a text.
 fn fields(alloc: Global, text: &[char]) -> Result<Vec<&[char]>, AllocError>
     ensures { IfOk result (λ parts. map (λ part. part.now) parts.items ≡ fields text.now) }
 {
     text.split(|c| *c == '.').collect(alloc)
 }
 
-// Whether a field holds no U+FFFD, and validation gives it back.
+// Whether a field has no U+FFFD, and validation leaves it as it is.
 fn is_kept(
     alloc: Global,
     mapper: &Uts46MapperBorrowed<'_>,

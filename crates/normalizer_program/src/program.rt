@@ -1,4 +1,4 @@
-//! The program but for its streams: what its words ask for, how it ends, and what it then prints.
+//! The program but for its streams: which command its words name, how it ends, and what it then prints.
 ghost use Rattle.std.specs.Prelude.{◌≡◌, ◌≢◌, Result, map, string_bytes, IfErr, IsErrOf};
 ghost use Rattle.normalizer_program.specs.Endings.{EndsWith, IsUsage};
 ghost use Rattle.normalizer_program.specs.SetOutcome.{IsOutcomeOver};
@@ -14,8 +14,8 @@ use crate::set_run::run_over;
 use crate::words::{USAGE, words};
 use std::alloc::Global;
 
-/// Does what the words after the program's name ask for. It gives the exit status, and the line for standard error
-/// without its line feed: empty where there is none. Words that ask for nothing leave both devices as they are.
+/// Runs the command that the words after the program's name name. Returns the exit status, and the line for standard
+/// error without its line feed: empty if there is none. Words that name no command leave both devices as they are.
 pub fn program<R: Source, W: Target>(
     alloc: Global,
     all: &[String],

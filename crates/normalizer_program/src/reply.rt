@@ -1,4 +1,4 @@
-//! What a command answers, and what it writes.
+//! A command's answer, and what it writes.
 ghost use Rattle.std.specs.Prelude.{◌≡◌, IfErr, IfOk, string_bytes};
 ghost use Rattle.normalizer_program.specs.OffenceLines.{code_point_digits, offence_line, TellsOffence};
 ghost use Rattle.normalizer_program.specs.Replies.{IsReplyOfForm};
@@ -10,7 +10,7 @@ use crate::task::FormTask;
 use icu_normalizer::Offence;
 use std::alloc::{AllocError, Global};
 
-/// An answer, with the text that is written before it is given.
+/// An answer, with the text that is written before it is returned.
 #[derive(Drop)]
 pub struct Reply {
     pub(crate) answer: Answer,
@@ -52,7 +52,7 @@ impl FormTask {
     }
 }
 
-// No, with the line of the offence; yes, with nothing, where there is none.
+// No, with the line of the mismatch; yes, with nothing, if there is none.
 fn offence_told(alloc: Global, offence: Option<Offence>) -> Result<Reply, AllocError>
     ensures { IfOk result (λ r. TellsOffence offence r.answer (string_bytes r.output)) }
 {

@@ -1,4 +1,4 @@
-//! What a command asks: something of a normal form of the input, or something of the mapper.
+//! The task of a command: something about a normal form of the input, or a call of the mapper.
 ghost use Rattle.std.specs.Prelude.{◌≡◌};
 ghost use Rattle.normalizer_program.specs.Tasks.{task_of};
 
@@ -13,29 +13,29 @@ pub enum NormalForm {
     Nfkc,
 }
 
-/// What is asked of a normal form of the input.
+/// What to do with a normal form of the input.
 #[derive(Clone, Copy)]
 pub enum FormTask {
-    /// To write the form.
+    /// Write the form.
     Write,
-    /// Whether the input is well-formed and its own form.
+    /// Report whether the input is well-formed and normalized.
     Check,
-    /// Where it first is not.
+    /// Report the first place at which it is not.
     Locate,
 }
 
-/// What is asked of the mapper (UTS #46, section 4).
+/// Which call of the mapper to make (UTS #46, section 4).
 #[derive(Clone, Copy)]
 pub enum MapperTask {
-    /// To write what mapping makes of the input.
+    /// Write what mapping makes of the input.
     Map,
-    /// To write what validation makes of it.
+    /// Write what validation makes of it.
     Validate,
-    /// To write the fields of the mapped input that are valid.
+    /// Write the fields of the mapped input that are valid.
     Label,
 }
 
-/// What a command asks.
+/// The task of a command.
 #[derive(Clone, Copy)]
 pub enum Task {
     OfForm(FormTask, NormalForm),
@@ -43,7 +43,7 @@ pub enum Task {
 }
 
 impl Command {
-    /// What the command asks.
+    /// Returns the task of the command.
     pub(crate) fn task(self) -> Task
         ensures { result ≡ task_of self }
     {

@@ -7,7 +7,7 @@ use crate::device::{Source, Target};
 use crate::ending::ToolFault;
 use std::alloc::Global;
 
-// How many bytes one read may give.
+// The most bytes that one read returns.
 const CHUNK: usize = 8192;
 
 /// Reads to the end. The bytes that were read before a fault are lost.

@@ -4,13 +4,13 @@ ghost use Rattle.normalizer_program.specs.Words.{AsksFor};
 ghost use Rattle.normalizer_program.specs.declared.words.RecordSet.{RecordSet};
 ghost use Rattle.normalizer_program.specs.declared.words.Command.{Command};
 
-/// What is printed where the words are not the name of a record set and of a command.
+/// What is printed if the words are not the name of a record set and of a command.
 pub const USAGE: &str = "normtool: usage: normtool RECORDS COMMAND";
 
 /// The records that the data are built from.
 #[derive(Clone, Copy, Debug, PartialEq, Eq)]
 pub enum RecordSet {
-    /// The rows that stand in the program.
+    /// The rows built into the program.
     Rows,
     /// No record at all.
     Nothing,
@@ -27,21 +27,21 @@ pub enum Command {
     Nfkd,
     /// Normalization Form KC.
     Nfkc,
-    /// Whether the input is its own Normalization Form D.
+    /// Whether the input is in Normalization Form D.
     IsNfd,
-    /// Whether the input is its own Normalization Form C.
+    /// Whether the input is in Normalization Form C.
     IsNfc,
-    /// Whether the input is its own Normalization Form KD.
+    /// Whether the input is in Normalization Form KD.
     IsNfkd,
-    /// Whether the input is its own Normalization Form KC.
+    /// Whether the input is in Normalization Form KC.
     IsNfkc,
-    /// Where the input first is not its own Normalization Form D.
+    /// The first place at which the input is not in Normalization Form D.
     WhereNfd,
-    /// Where the input first is not its own Normalization Form C.
+    /// The first place at which the input is not in Normalization Form C.
     WhereNfc,
-    /// Where the input first is not its own Normalization Form KD.
+    /// The first place at which the input is not in Normalization Form KD.
     WhereNfkd,
-    /// Where the input first is not its own Normalization Form KC.
+    /// The first place at which the input is not in Normalization Form KC.
     WhereNfkc,
     /// What mapping makes of the input (UTS #46, section 4).
     Map,
@@ -96,7 +96,7 @@ impl Command {
     }
 }
 
-/// What the words ask for, if they are the name of a record set and the name of a command, in this order, and no more.
+/// The record set and the command that the words name, if they are these two names, in this order, and no more.
 pub fn words(words: &[String]) -> Option<(RecordSet, Command)>
     ensures { (records : RecordSet) (command : Command) →
         (result ≡ Some (records, command)) ↔ AsksFor (map string_bytes words.now) records command }

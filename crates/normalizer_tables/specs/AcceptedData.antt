@@ -12,34 +12,34 @@ use Rattle.normalizer_tables.specs.Conditions.{Holds}
 use Rattle.normalizer_tables.specs.PairConditions.{HoldsOfPairs}
 use Rattle.normalizer_tables.specs.Pairs.{Pair}
 
--- the conditions that are asked of data by which text is decomposed: 1 to 10
+-- the conditions on data for decomposing text: 1 to 10
 abbrev pub decomposing_conditions : List Condition
 decomposing_conditions =
     condition.ItemLimit ∷ condition.CapLimit ∷ condition.ReplacementCharacter ∷ condition.Surrogates
     ∷ condition.PastTheEnd ∷ condition.Hangul ∷ condition.Words ∷ condition.Members ∷ condition.Order
     ∷ condition.Passthrough ∷ []
 
--- the conditions that are asked of pairs with these data: 11 to 14, of the mapper's data 11 to 13
+-- the conditions on pairs with these data: 11 to 14, for the mapper's data 11 to 13
 abbrev pub pair_conditions : Bool → List Condition
 pair_conditions is_mapper =
     condition.Pairs ∷ condition.RoundTrip ∷ condition.SafeBeginning
     ∷ (if is_mapper then [] else condition.Results ∷ [])
 
--- the conditions that are asked of data by which text is composed: 1 to 14, of the mapper's data 1 to 13
+-- the conditions on data for composing text: 1 to 14, for the mapper's data 1 to 13
 abbrev pub composing_conditions : Bool → List Condition
 composing_conditions is_mapper = decomposing_conditions ++ pair_conditions is_mapper
 
--- the conditions that are asked of data by which characters are decomposed one step: 1, 5 to 9, 15 and 16
+-- the conditions on data for single decomposition steps: 1, 5 to 9, 15 and 16
 abbrev pub step_conditions : List Condition
 step_conditions =
     condition.ItemLimit ∷ condition.PastTheEnd ∷ condition.Hangul ∷ condition.Words ∷ condition.Members
     ∷ condition.Order ∷ condition.FdfaForms ∷ condition.Steps ∷ []
 
--- data that meet all that is asked where text is decomposed
+-- data that meet all conditions for decomposing text
 abbrev pub IsAccepted : Characters → Bounds → Type 0
 IsAccepted s b = All (Holds s b) decomposing_conditions
 
--- pairs that meet, with the data, the conditions that are asked of both
+-- pairs that meet, with the data, the conditions on both
 abbrev pub AreAcceptedPairs : Characters → Bounds → List Pair → Type 0
 AreAcceptedPairs s b pairs = All (HoldsOfPairs s b pairs) (pair_conditions s.is_mapper)
 

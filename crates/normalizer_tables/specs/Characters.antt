@@ -31,7 +31,7 @@ reading_of_word s n = read n (word_of s n) s.is_mapper
 unfoldable pub as_text : List ℕ → Option (List ℕ)
 as_text x = if list_all scalar x then Some x else None
 
--- n items from a place on, where they lie within the table
+-- n items from a place on, if they lie within the table
 unfoldable pub items_at : {A : Type 0} → List A → ℕ → ℕ → Option (List A)
 items_at table place n = if nat_le (place + n) (length table) then Some (take n (drop place table)) else None
 
@@ -43,7 +43,7 @@ narrow_at units low place = option_and_then as_text (items_at units place (low +
 unfoldable pub wide_at : List ℕ → ℕ → ℕ → Option (List ℕ)
 wide_at scalars low place = items_at scalars place (low + 1)
 
--- what this table gives at a place, or the tables after it at the places past it
+-- what this table has at a place, or the tables after it at the places past it
 unfoldable pub placed_in : List ℕ → (ℕ → Option (List ℕ)) → (ℕ → Option (List ℕ)) → ℕ → Option (List ℕ)
 placed_in table gives after item = if nat_lt item (length table) then gives item else after (item - length table)
 
@@ -56,7 +56,7 @@ listed_in t low after =
 unfoldable pub listed_at : Characters → ℕ → ℕ → Option (List ℕ)
 listed_at s item low = listed_in s.tables low (listed_in s.supplementary low (λ past. None)) item
 
--- the list that a reading names; none where a member is no scalar value, or it lies outside the tables
+-- the list that a reading names; none if a member is no scalar value, or it lies outside the tables
 unfoldable pub named_list : Characters → List ℕ → ℕ → WordReading → Option (List ℕ)
 named_list s ignored n Ignored = Some ignored
 named_list s ignored n Itself = Some (n ∷ [])
@@ -68,12 +68,12 @@ named_list s ignored n Fdfa = Some fdfa_list
 named_list s ignored n (OneCharacter a) = as_text (a ∷ [])
 named_list s ignored n (Listed item low rest_are_marks) = listed_at s item low
 
--- the list that the word of a character reads to; none where it doesn't read, as for numbers that are no scalar values
+-- the list that the word of a character reads to; none if it doesn't read, as for numbers that are no scalar values
 unfoldable pub list_read : Characters → List ℕ → ℕ → Option (List ℕ)
 list_read s ignored n = if scalar n then named_list s ignored n (reading_of_word s n) else None
 
--- the list of a character, in which the ignored marker stands for `ignored`. Every number has one: its own where it is
--- no scalar value, or its word doesn't read.
+-- the list of a character; that of the ignored marker is `ignored`. Every number has one: its own if it is no scalar
+-- value, or its word doesn't read.
 unfoldable pub list_of : Characters → List ℕ → ℕ → List ℕ
 list_of s ignored n = unwrap_or (list_read s ignored n) (n ∷ [])
 
@@ -90,7 +90,7 @@ class_of_itself _ = None
 unfoldable pub has_class_form : Characters → ℕ → Bool
 has_class_form s n = is_class_form (word_of s n)
 
--- what data that are no mapper's say of characters, with the tables of compatibility data where there are some
+-- what data that are no mapper's say of characters, with the tables of compatibility data if there are some
 abbrev pub characters_from : Decompositions → Lists → Option Lists → Characters
 characters_from decompositions tables supplementary = record {
   decompositions = decompositions;

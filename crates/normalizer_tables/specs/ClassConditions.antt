@@ -1,4 +1,4 @@
--- The written conditions on data, as far as they are asked for classes alone.
+-- The written conditions on data, as far as classes alone require them.
 use Rattle.std.specs.Prelude.{◌≡◌, ℕ, ◌<◌, true, false, List, [], ◌∷◌, Some}
 use Rattle.std.specs.Char.{IsScalar}
 use Rattle.std.specs.Option.{option_map}

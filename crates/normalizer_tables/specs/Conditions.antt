@@ -35,7 +35,7 @@ item_limit = 0x1FFF
 abbrev pub cap_limit : ℕ
 cap_limit = 0x0300
 
--- the number of a condition. What classes alone ask, or pairs alone, has that of the whole.
+-- the number of a condition. What is required for classes alone, or for pairs alone, has that of the whole.
 abbrev pub number_of : Condition → ℕ
 number_of ItemLimit = 1
 number_of CapLimit = 2
@@ -93,7 +93,7 @@ pub record IsSoundClassForm (n w : ℕ) : Type 0 where
   pub special : is_special_class_form w ≡ true → option_map (λ f. f.class) (fixed_list_of n) ≡ Some (low_byte w)
   pub flagged : is_class_form w ≡ true → is_backward_combining w ≡ true
 
--- the word of n reads, a class form is sound, and the ignored marker stands in the mapper's data alone
+-- the word of n reads, a class form is sound, and only the mapper's data have the ignored marker
 pub record IsSoundWord (s : Characters) (n : ℕ) : Type 0 where
   pub reads : IsSome (list_read s [] n)
   pub class_form : IsSoundClassForm n (word_of s n)
@@ -112,8 +112,7 @@ KeepsPromise s n (SpecialForm k) =
 KeepsPromise s n Fdfa = All (IsStarter (reading_by s Dropped [])) (list_of s [] n)
 KeepsPromise s n _ = Unit {0}
 
--- the list of n is in canonical order, begins with a starter where n has no class form, and keeps the promise of its
--- word
+-- the list of n is in canonical order, begins with a starter if n has no class form, and keeps the promise of its word
 pub record IsOrderedList (s : Characters) (n : ℕ) : Type 0 where
   pub ordered : order (reading_by s Dropped []) (list_of s [] n) ≡ list_of s [] n
   pub first : has_class_form s n ≡ false → BeginsWithStarter (reading_by s Dropped []) (list_of s [] n)
@@ -141,7 +140,7 @@ HoldsAt s b _ n = Unit {0}
 unfoldable pub Holds : Characters → Bounds → Condition → Type 0
 Holds s b c = HoldsOverall s c × ((n : ℕ) → HoldsAt s b c n)
 
--- the place of the first condition that fails, or their number where none does
+-- the place of the first condition that fails, or their number if none does
 pub record IsPlaceOfFirstFailing (holds : Condition → Type 0) (conditions : List Condition) (place : ℕ) : Type 0 where
   pub within : place ≤ length conditions
   pub before : AllWithin holds conditions 0 place

@@ -17,7 +17,7 @@ pub record Supplement : Type 0 where
   pub table : Table
   pub scalars24 : List ℕ
 
--- the tables where there are some, else empty ones
+-- the tables if there are some, else empty ones
 abbrev pub lists_or_none : Option Lists → Lists
 lists_or_none None = record { scalars16 = []; scalars24 = [] }
 lists_or_none (Some t) = t

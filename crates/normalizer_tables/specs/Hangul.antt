@@ -2,7 +2,7 @@
 use Rattle.std.specs.Prelude.{ℕ, ◌+◌, ◌-◌, ◌/◌, ◌%◌, Bool, ◌==◌, List, [], ◌∷◌, if◌then◌else◌}
 use Rattle.std.specs.Int.{is_in_range}
 
--- where the syllables and the three kinds of jamo begin
+-- the first syllable and the first jamo of the three kinds
 abbrev pub s_base : ℕ
 s_base = 0xAC00
 
@@ -12,7 +12,7 @@ l_base = 0x1100
 abbrev pub v_base : ℕ
 v_base = 0x1161
 
--- the trailing consonant of this place stands for none
+-- the trailing consonant of this place means none
 abbrev pub t_base : ℕ
 t_base = 0x11A7
 
@@ -26,7 +26,7 @@ n_count = 588
 unfoldable pub is_hangul_syllable : ℕ → Bool
 is_hangul_syllable c = is_in_range 0xAC00 0xD7A3 c
 
--- the leading consonant and the vowel, and the trailing consonant where there is one
+-- the leading consonant and the vowel, and the trailing consonant if there is one
 unfoldable pub hangul_decomposition : ℕ → List ℕ
 hangul_decomposition c =
     let index = c - s_base in

@@ -9,7 +9,7 @@ is_leading_consonant c = is_in_range 0x1100 0x1112 c
 unfoldable pub is_vowel : ℕ → Bool
 is_vowel c = is_in_range 0x1161 0x1175 c
 
--- t_base itself stands for none
+-- t_base itself means none
 unfoldable pub is_trailing_consonant : ℕ → Bool
 is_trailing_consonant c = is_in_range 0x11A8 0x11C2 c
 

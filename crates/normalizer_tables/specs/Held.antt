@@ -1,11 +1,11 @@
--- What a constructor answers, by what its provider holds for its loads.
+-- The result of a constructor, by what its provider holds for its loads.
 use Rattle.std.specs.Prelude.{◌≡◌, ◌⊎◌, Option, Some, None, Result, Ok, Err, IfOk, IfErr, IsErrOf}
 use Rattle.normalizer_tables.specs.declared.provider.DataError.{DataError}
 use Rattle.normalizer_tables.specs.declared.provider.DataError.TheVariants.{Provider, Memory}
 use Rattle.normalizer_tables.specs.declared.provider.DataMarkerInfo.{DataMarkerInfo}
 
 module _ {H : Type 0} where
-  -- what a load holds, or its marker where it holds nothing
+  -- what a load holds, or its marker if it holds nothing
   abbrev pub held_or : DataMarkerInfo → Option H → Result H DataMarkerInfo
   held_or kind None = Err kind
   held_or kind (Some held) = Ok held
@@ -20,8 +20,8 @@ module _ {H : Type 0} where
   RefusesHeld Refuses (Ok held) e = Refuses held e
   RefusesHeld Refuses (Err missing) e = e ≡ Provider missing
 
-  -- A constructor's answer by what is held, where `first` is loaded first: data that suit; or else the refusal of what
-  -- is held, or want of memory. Where the first load holds nothing, just that is answered.
+  -- A constructor's result by what is held, if `first` is loaded first: data that suit, or the refusal of what is held,
+  -- or `Memory`. If the first load holds nothing, exactly that is returned.
   abbrev pub AnswersHeld : {A : Type 0} → (H → Type 0) → (DataMarkerInfo → H → DataError → Type 0)
       → DataMarkerInfo → (A → H)
       → Result H DataMarkerInfo → Result A DataError → Type 0

@@ -1,4 +1,4 @@
--- What stands for a character that the mapper ignores.
+-- The list of a character that the mapper ignores.
 use Rattle.std.specs.Prelude.{ℕ, List, [], ◌∷◌}
 pub use Rattle.normalizer_tables.specs.declared.characters.IgnoredCharacters.{IgnoredCharacters}
 pub use Rattle.normalizer_tables.specs.declared.characters.IgnoredCharacters.TheVariants.{Dropped, Replaced}

@@ -1,4 +1,4 @@
--- Canonical data that a caller may hand in unchecked.
+-- Canonical data that a caller may pass in unchecked.
 use Rattle.std.specs.Prelude.{List, [], ◌∷◌, None, All}
 use Rattle.normalizer_tables.specs.declared.condition.Bounds.{Bounds}
 use Rattle.normalizer_tables.specs.declared.condition.Condition.{Condition}
@@ -22,7 +22,7 @@ nfd_loaded decompositions tables = record {
   supplement = None;
 }
 
--- what is asked of them: all conditions but the one on the cap
+-- what is required of them: all conditions but the one on the cap
 abbrev pub nfd_conditions : List Condition
 nfd_conditions =
     ItemLimit ∷ ReplacementCharacter ∷ Surrogates ∷ PastTheEnd ∷ Hangul ∷ Words ∷ Members ∷ Order ∷ Passthrough ∷ []

@@ -14,7 +14,7 @@ use Rattle.normalizer_tables.specs.Pairs.{Pair, AreRising, is_vowel_or_trailing_
 use Rattle.normalizer_tables.specs.Readings.{reading_by}
 use Rattle.normalizer_tables.specs.Ignored.{Dropped}
 
--- pairs strictly rise, and the arithmetic of Hangul answers none of their seconds
+-- pairs strictly rise, and none of their seconds is one of the Hangul arithmetic
 pub record AreSoundPairs (pairs : List Pair) : Type 0 where
   pub rising : AreRising pairs
   pub seconds : All (λ p. is_vowel_or_trailing_jamo p.0 ≡ false) pairs
@@ -54,7 +54,7 @@ KeepsRoundTrip s b pairs n = IsScalar n → is_taken_to_round_trip s b n ≡ tru
 unfoldable pub KeepsBeginning : Characters → Bounds → List Pair → ℕ → Type 0
 KeepsBeginning s b pairs n = IsScalar n → is_taken_to_begin_safely s b n ≡ true → HasSafeBeginning s pairs n
 
--- a result has the ordered lists of first and second, where `ignored` stands for an ignored character
+-- a result has the ordered lists of first and second; `ignored` is the list of an ignored character
 unfoldable pub HasOrderedLists : Characters → List ℕ → Pair → Type 0
 HasOrderedLists s ignored p =
     list_of s ignored p.2 ≡ order (reading_by s Dropped []) (list_of s ignored p.1 ++ list_of s ignored p.0)

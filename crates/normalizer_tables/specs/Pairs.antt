@@ -14,7 +14,7 @@ Pair = ℕ × ℕ × ℕ
 abbrev pub same_pair : Pair → Pair → Bool
 same_pair p q = (nat_eq p.0 q.0 && nat_eq p.1 q.1) && nat_eq p.2 q.2
 
--- the triple stands before those of this second and this first
+-- the triple comes before those of this second and this first
 unfoldable pub is_before : Pair → ℕ → ℕ → Bool
 is_before p second first = nat_lt p.0 second || ((p.0 == second) && nat_lt p.1 first)
 
@@ -33,13 +33,13 @@ listed_result pairs first second = option_map (λ p. p.2) (find (λ p. is_of p f
 unfoldable pub is_vowel_or_trailing_jamo : ℕ → Bool
 is_vowel_or_trailing_jamo c = is_in_range 0x1161 0x11FF c
 
--- what two characters compose to: by the arithmetic of Hangul alone where the second is a vowel or a trailing
--- consonant, else as listed
+-- what two characters compose to: by the arithmetic of Hangul alone if the second is a vowel or a trailing consonant,
+-- else as listed
 unfoldable pub pair_of : List Pair → ℕ → ℕ → Option ℕ
 pair_of pairs first second =
     if is_vowel_or_trailing_jamo second then compose_hangul first second else listed_result pairs first second
 
--- no character composes with this one behind it
+-- no character composes with this one after it
 unfoldable pub IsNeverSecond : List Pair → ℕ → Type 0
 IsNeverSecond pairs second = (first : ℕ) → pair_of pairs first second ≡ None
 

@@ -10,6 +10,6 @@ use Rattle.normalizer_tables.specs.Pairs.{Pair, pair_of}
 abbrev pub reading_of : Characters → List ℕ → (ℕ → ℕ → Option ℕ) → Reading
 reading_of s ignored pairing = record { list = list_of s ignored; class = class_of s; pair = pairing }
 
--- the reading of data: two characters compose as the pairs say. Where nothing is composed, the list of pairs is empty.
+-- the reading of data: two characters compose as the pairs say. If nothing is composed, the list of pairs is empty.
 abbrev pub reading_by : Characters → IgnoredCharacters → List Pair → Reading
 reading_by s ignored pairs = reading_of s (ignored_list ignored) (pair_of pairs)

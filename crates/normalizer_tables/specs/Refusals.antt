@@ -1,4 +1,4 @@
--- How data that break a written condition are answered.
+-- How data that break a written condition are reported.
 use Rattle.std.specs.Prelude.{◌≡◌, List, Some}
 use Rattle.normalizer_tables.specs.declared.condition.Condition.{Condition}
 use Rattle.normalizer_tables.specs.declared.condition.Condition.TheVariants.{ItemLimit, Pairs, Results, FdfaForms}
@@ -12,7 +12,7 @@ use Rattle.normalizer_tables.specs.declared.provider.DataMarkerInfo.TheVariants.
 use Rattle.normalizer_tables.specs.Conditions.{IsFirstFailing, number_of}
 use Rattle.normalizer_tables.specs.Loaded.{IsMet, Loaded}
 
--- the marker that is named where a condition fails, if the decomposition data have the marker `data_marker`
+-- the marker that is reported if a condition fails; the decomposition data have the marker `data_marker`
 abbrev pub marker_of : DataMarkerInfo → Condition → DataMarkerInfo
 marker_of data_marker ItemLimit = NormalizerNfdTablesV1
 marker_of data_marker Pairs = NormalizerNfcV1
@@ -27,7 +27,7 @@ abbrev pub refusal_of : DataMarkerInfo → Condition → DataError
 refusal_of data_marker ItemLimit = FutureExtension NormalizerNfdTablesV1
 refusal_of data_marker c = Invalid (marker_of data_marker c) (number_of c)
 
--- e answers the first of these conditions that isn't met
+-- e reports the first of these conditions that isn't met
 abbrev pub RefusesFirstFailing : DataMarkerInfo → Loaded → List Condition → DataError → Type 0
 RefusesFirstFailing data_marker d conditions e =
     (c : Condition) × IsFirstFailing (IsMet d) conditions (Some c) × (e ≡ refusal_of data_marker c)

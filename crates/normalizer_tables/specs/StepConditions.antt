@@ -18,7 +18,7 @@ use Rattle.normalizer_tables.specs.Ignored.{Dropped}
 unfoldable pub IsInOrder : Characters → ℕ → List ℕ → Type 0
 IsInOrder s n x = (list_of s [] n ≢ n ∷ []) × (list_of s [] n ≡ order (reading_by s Dropped []) x)
 
--- a step of n is `Default` exactly where the list of n is n alone, and else that list is the ordered lists of its parts
+-- a step of n is `Default` exactly if the list of n is n alone, and else that list is the ordered lists of its parts
 unfoldable pub IsSoundStep : Characters → ℕ → Step → Type 0
 IsSoundStep s n Default = list_of s [] n ≡ n ∷ []
 IsSoundStep s n (Singleton a) = IsInOrder s n (list_of s [] a)

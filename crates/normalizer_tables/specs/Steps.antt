@@ -19,7 +19,7 @@ step_to (a ∷ []) = Some (Singleton a)
 step_to (a ∷ b ∷ []) = Some (Expansion a b)
 step_to x = None
 
--- where there is such a mapping
+-- the step of a mapping, if there is one
 unfoldable pub step_by : Option (List ℕ) → Option Step
 step_by mapping = option_and_then step_to mapping
 
@@ -30,8 +30,8 @@ hangul_mapping c =
     let trailing = (c - s_base) % t_count in
     if trailing == 0 then hangul_decomposition c else (c - trailing) ∷ (t_base + trailing) ∷ []
 
--- what a word of the supplement names: the lead in its low 16 bits and the trail in its high 16, the lead alone, or,
--- where the trail stands alone, the two characters at the places trail - 1 and trail of the supplement's list
+-- what a word of the supplement names: the lead in its low 16 bits and the trail in its high 16, the lead alone, or, if
+-- there is only the trail, the two characters at the places trail - 1 and trail of the supplement's list
 unfoldable pub supplementary_mapping : List ℕ → ℕ → Option (List ℕ)
 supplementary_mapping scalars w =
     let lead = bit_and w 0xFFFF in
@@ -45,7 +45,7 @@ supplementary_mapping scalars w =
 unfoldable pub supplementary_step : Supplement → ℕ → Option Step
 supplementary_step t n = step_by (supplementary_mapping t.scalars24 (word_at t.table n))
 
--- among these stand the characters with oxia, which map to those with tonos
+-- among these are the characters with oxia, which map to those with tonos
 unfoldable pub may_have_oxia : ℕ → Bool
 may_have_oxia n = is_in_range 0x1F71 0x1FFB n
 
@@ -60,8 +60,7 @@ listed_step t n x =
 unfoldable pub two_characters_step : Characters → Supplement → ℕ → Option Step
 two_characters_step s t n = if may_have_oxia n then supplementary_step t n else step_by (list_read s [] n)
 
--- by the reading of the word; no step where it doesn't read, or reads to the list of U+FDFA, which is no canonical
--- mapping
+-- by the reading of the word; no step if it doesn't read, or reads to the list of U+FDFA, which is no canonical mapping
 unfoldable pub step_of_reading : Characters → Supplement → ℕ → WordReading → Option Step
 step_of_reading s t n Itself = Some Default
 step_of_reading s t n (ClassForm k) = Some Default

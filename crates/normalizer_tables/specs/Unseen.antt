@@ -3,7 +3,7 @@ use Rattle.std.specs.Prelude.{◌≡◌, ℕ, ◌<◌, false, List, [], ◌∷�
 use Rattle.std.specs.Char.{IsScalar}
 use Rattle.normalizer_tables.specs.Characters.{Characters, class_of, has_class_form, list_of}
 
--- c is its own list, whatever stands for ignored characters, and has class 0 and no class form
+-- c is its own list, whatever the list of ignored characters is, and has class 0 and no class form
 pub record PassesUnseen (s : Characters) (c : ℕ) : Type 0 where
   pub itself : (ignored : List ℕ) → list_of s ignored c ≡ c ∷ []
   pub starter : class_of s c ≡ 0

@@ -33,7 +33,7 @@ is_class_form w = is_ordinary_class_form w || is_special_class_form w
 unfoldable pub low_byte : ℕ → ℕ
 low_byte w = bit_and w 0xFF
 
--- the class that a word gives
+-- the class in a word
 unfoldable pub class_of_word : ℕ → ℕ
 class_of_word w = if is_class_form w then low_byte w else 0
 

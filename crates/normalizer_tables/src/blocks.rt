@@ -20,7 +20,7 @@ const PLACES: u32 = 17_408;
 pub(crate) struct Blocks {
     /// The blocks, each once, in the order of their first use.
     blocks: Vec<[u32; 64]>,
-    /// Which block stands for each 64 code points.
+    /// The number of the block of each 64 code points.
     numbers: Vec<u16>,
 }
 
@@ -36,7 +36,7 @@ impl Model for Blocks {
 }
 
 impl Blocks {
-    /// The words that ranges give.
+    /// The words of ranges.
     pub(crate) fn from_ranges(alloc: Global, ranges: &[(u32, u32, u32)]) -> Result<Self, AllocError>
         requires { IsRangeList ranges.now }
         ensures { IfOk result (λ words. words ≡ words_of ranges.now) }
@@ -125,7 +125,7 @@ impl PartialEq for Blocks {
     }
 }
 
-/// The number of a block, which joins those that are kept where it is none of them.
+/// The number of a block, which is added to those that are kept if it is none of them.
 fn joined(blocks: &mut Vec<[u32; 64]>, block: [u32; 64]) -> Result<usize, AllocError>
     ensures { IfOk result (IsJoined blocks.old.items block blocks.new.items) }
 {

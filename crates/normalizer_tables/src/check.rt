@@ -48,7 +48,7 @@ fn asks_hangul(conditions: &[Condition]) -> bool
         .any(|&condition| condition == Condition::Hangul)
 }
 
-/// Whether one of these conditions says something of words that aren't 0, beyond what was asked apart.
+/// Whether one of these conditions depends on words that aren't 0, beyond what was checked apart.
 #[tactic(auto, unfolding(crate::specs::inner::Walk::is_asked_of_words))]
 fn are_asked_of_words(conditions: &[Condition]) -> bool
     ensures { result ≡ list_any is_asked_of_words conditions.now }
@@ -68,8 +68,8 @@ fn are_asked_of_words(conditions: &[Condition]) -> bool
     })
 }
 
-/// The end of the numbers for which this one answers. Where Hangul is sound, a syllable does for those behind it with
-/// the same leading consonant.
+/// The end of the numbers for which it suffices to check this one. If Hangul is sound, that is all syllables after it
+/// with the same leading consonant.
 #[tactic(auto, unfolding(crate::specs::Hangul::is_hangul_syllable, crate::specs::Table::code_points))]
 fn end_of_alike(number: u32, hangul_is_sound: bool) -> u32
     requires { number ≤ code_points }

@@ -126,7 +126,7 @@ impl<'a> Members<'a> {
         Some(Members::two(char::from_u32(a)?, char::from_u32(b)?))
     }
 
-    /// Characters up to U+FFFF, where these numbers are all those of characters.
+    /// Characters up to U+FFFF, if these numbers are all those of characters.
     #[tactic(auto, unfolding(crate::specs::Characters::as_text))]
     pub(crate) fn of_units(units: &'a [u16]) -> Option<Self>
         ensures { result ≡ as_text units.now }

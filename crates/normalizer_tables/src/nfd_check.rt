@@ -15,7 +15,7 @@ use crate::loaded::LoadedData;
 use crate::provider::{DataError, DataMarkerInfo, DecompositionData, DecompositionTables};
 use crate::refusal::refusal_of;
 
-/// What is asked of canonical data that are handed in: nothing of their cap.
+/// What is required of canonical data that a caller passes in: nothing of their cap.
 const NFD_DATA: [Condition; 9] = [
     Condition::ItemLimit,
     Condition::ReplacementCharacter,

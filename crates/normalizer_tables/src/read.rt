@@ -1,4 +1,4 @@
-//! A character with what was read of it, once for all that ask.
+//! A character with its word and reading, which are looked up once.
 ghost use Rattle.std.specs.Prelude.{◌≡◌};
 ghost use Rattle.normalizer_tables.specs.Characters.{word_of};
 ghost use Rattle.normalizer_tables.specs.inner.Read.{IsRead};

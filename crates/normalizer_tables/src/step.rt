@@ -78,7 +78,7 @@ pub(crate) fn step_by_reading(
     }
 }
 
-/// Whether a character stands where those with oxia are.
+/// Whether a character is in the part of the Greek block that has those with oxia.
 #[tactic(auto, unfolding(crate::specs::Steps::may_have_oxia))]
 fn may_have_oxia(character: char) -> bool
     ensures { result ≡ may_have_oxia character }
@@ -86,7 +86,7 @@ fn may_have_oxia(character: char) -> bool
     '\u{1F71}' <= character && character <= '\u{1FFB}'
 }
 
-/// The step of a character whose list stands in the tables.
+/// The step of a character whose list is in the tables.
 #[tactic(auto, unfolding(crate::specs::Steps::listed_step))]
 fn listed_step(
     supplement: &NonRecursiveDecompositionSupplement,

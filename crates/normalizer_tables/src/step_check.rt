@@ -70,7 +70,7 @@ fn has_sound_step(
     }
 }
 
-/// Whether a step of a character is `Default` exactly where the list is the character alone, and else the list is the
+/// Whether a step of a character is `Default` exactly if the list is the character alone, and else the list is the
 /// ordered lists of its parts.
 #[tactic(auto, unfolding(crate::specs::StepConditions::IsSoundStep, crate::specs::StepConditions::IsInOrder))]
 fn is_sound_step(data: &CharacterData<'_>, read: &ReadCharacter<'_>, step: Step) -> bool

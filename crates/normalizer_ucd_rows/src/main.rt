@@ -1,5 +1,5 @@
-//! Writes the records that files of the Unicode Character Database give, or why they were refused. Each argument names
-//! two files, as `UnicodeData.txt+CompositionExclusions.txt`.
+//! Writes the records of files of the Unicode Character Database, or why they were refused. Each argument names two
+//! files, as `UnicodeData.txt+CompositionExclusions.txt`.
 #![tactic(auto)]
 
 use normalizer_records::Record;

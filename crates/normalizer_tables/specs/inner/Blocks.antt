@@ -22,15 +22,15 @@ stored_words blocks numbers = map (stored_word blocks numbers) (range_with_len 0
 abbrev pub block_of : List ℕ → ℕ → Block
 block_of words place = map (slice_index words) (range_with_len (64 * place) 64)
 
--- the place of a block among those kept, or behind them
+-- the place of a block among those kept, or after them
 abbrev pub number_in : List Block → Block → ℕ
 number_in blocks block = position_or_len (pointwise nat_eq block) blocks
 
--- the blocks, and this one behind them where it is none of them
+-- the blocks, with this one appended if it is none of them
 abbrev pub joined : List Block → Block → List Block
 joined blocks block = cond (nat_lt (number_in blocks block) (length blocks)) blocks (blocks ++ block ∷ [])
 
--- the number of the block among those kept, which it joins where it is none of them
+-- the number of the block among those kept, to which it is added if it is none of them
 abbrev pub IsJoined : List Block → Block → List Block → ℕ → Type 0
 IsJoined old block new number = (new ≡ joined old block) × (number ≡ number_in old block)
 
@@ -57,7 +57,7 @@ pub record AreFrom (n : ℕ) (ranges : List WordRange) : Type 0 where
   pub list : IsRangeList ranges
   pub ends : All (λ r. n ≤ r.1) ranges
 
--- so do those that are left, and from the number on they give the words of all
+-- so do the remaining ones, and from the number on they have the words of all
 pub record AreLeft (ranges : List WordRange) (n : ℕ) (left : List WordRange) : Type 0 where
   pub from : AreFrom n left
   pub words : (m : ℕ) → n ≤ m → word_in left m ≡ word_in ranges m

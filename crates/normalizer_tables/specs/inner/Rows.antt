@@ -20,7 +20,7 @@ Member = ℕ × ℕ
 abbrev pub member_of : Pair → Member
 member_of p = (p.1, p.2)
 
--- what is read where there is no row
+-- what is read if there is no row
 abbrev pub no_row : Row
 no_row = record { second = 0; start = 0 }
 

@@ -1,4 +1,4 @@
--- How the check goes over the numbers: from one word that isn't 0 to the next. What it has asked of all others before.
+-- How the check goes over the numbers, from one word that isn't 0 to the next, and what it checks of all others before.
 use Rattle.std.specs.Prelude.{◌≡◌, ℕ, ◌+◌, ◌-◌, ◌/◌, ◌<◌, ◌≤◌, Bool, true, false, List, IfSome}
 use Rattle.normalizer_tables.specs.declared.condition.Bounds.{Bounds}
 use Rattle.normalizer_tables.specs.declared.condition.Condition.{Condition}
@@ -21,17 +21,17 @@ pub record IsSyllableBehind (m n : ℕ) : Type 0 where
   pub behind : m ≤ n
   pub leading : (m - s_base) / n_count ≡ (n - s_base) / n_count
 
--- the numbers behind n and before `end`, of which there are some only where Hangul is sound, are syllables behind it
+-- the numbers after n and before `end`, of which there are some only if Hangul is sound, are syllables after it
 pub record IsEndOfAlike (hangul_is_sound : Bool) (n end : ℕ) : Type 0 where
   pub above : n < end
   pub within : n ≤ code_points → end ≤ code_points + 1
   pub alike : (m : ℕ) → n < m → m < end → (hangul_is_sound ≡ true) × IsSyllableBehind n m
 
--- n has another word, or nothing composes across its beginning where a composing loop relies on it
+-- n has another word, or nothing composes across its beginning if a composing loop relies on it
 unfoldable pub KeepsPlainBeginning : Characters → Bounds → List Pair → ℕ → Type 0
 KeepsPlainBeginning s b pairs n = is_plain (word_of s n) ≡ true → KeepsBeginning s b pairs n
 
--- what a condition asks of numbers apart from that walk: of surrogates and of Hangul whatever their words, else where
+-- what a condition requires of numbers apart from that walk: of surrogates and of Hangul whatever their words, else if
 -- the word is 0, flags aside, and there of beginnings alone
 unfoldable pub IsMetApartAt : Loaded → Condition → Type 0
 IsMetApartAt d Surrogates = (n : ℕ) → is_surrogate n ≡ true → word_of d.characters n ≡ 0xC000FFFD
@@ -39,7 +39,7 @@ IsMetApartAt d Hangul = (n : ℕ) → IsSoundHangul d.characters n
 IsMetApartAt d SafeBeginning = IfSome d.pairs (λ pairs. (n : ℕ) → KeepsPlainBeginning d.characters d.bounds pairs n)
 IsMetApartAt d _ = Unit {0}
 
--- a condition says something of words that aren't 0, beyond what was asked apart
+-- a condition depends on words that aren't 0, beyond what was checked apart
 unfoldable pub is_asked_of_words : Condition → Bool
 is_asked_of_words Words = true
 is_asked_of_words Members = true

@@ -1,4 +1,4 @@
-//! What data that a constructor accepts are to the laws of the normal forms, and to those who ask less of them.
+//! What the laws of the normal forms require, and users that require less, holds of data that a constructor accepts.
 ghost use Rattle.std.specs.Prelude.{◌≡◌, ℕ, List, false, All, [], None};
 ghost use Rattle.std.specs.Char.{IsScalar};
 ghost use Rattle.normal_forms.specs.declared.Form.{Form};
@@ -23,8 +23,8 @@ ghost use Rattle.normalizer_tables.specs.Readings.{reading_by, reading_of};
 ghost use Rattle.normalizer_tables.specs.Unseen.{PassUnseenBelow};
 ghost use Rattle.normalizer_tables.specs.declared.condition.Condition.TheVariants as condition;
 
-/// Accepted data that are no mapper's suit the laws of the decomposing form, and with accepted pairs those of both
-/// forms. Canonical data that are handed in unchecked suit them by their own conditions.
+/// Accepted data that are no mapper's satisfy the hypotheses of the decomposing form, and with accepted pairs those of
+/// both forms. Canonical data that a caller passes in unchecked satisfy them by their own conditions.
 pub fn accepted_data_suit_texts()
     ensures decomposing { (s : Characters) (b : Bounds) → s.is_mapper ≡ false → IsAccepted s b →
         SuitsTexts (reading_by s Dropped []) Decomposing }
@@ -34,41 +34,41 @@ pub fn accepted_data_suit_texts()
         SuitsTexts (reading_by (characters_from decompositions tables None) Dropped []) Decomposing }
 {}
 
-/// Accepted data with accepted pairs suit a mapper, however it treats ignored characters.
+/// Accepted data with accepted pairs satisfy what a mapper requires, however it treats ignored characters.
 pub fn accepted_data_suit_mappers()
     ensures { (s : Characters) (b : Bounds) (pairs : List Pair) → IsAccepted s b → AreAcceptedPairs s b pairs →
         (i : IgnoredCharacters) → SuitsMapper (reading_by s i pairs) }
 {}
 
-/// Accepted data are sound: of their lists the laws of the normal forms may be used.
+/// Accepted data are sound: the laws of lists apply to them.
 pub fn accepted_data_are_sound()
     ensures accepted { (s : Characters) (b : Bounds) → IsAccepted s b → IsSoundData s b }
     ensures handed_in { (decompositions : Decompositions) (tables : Lists) → IsSoundNfdData decompositions tables →
         IsSoundData (characters_from decompositions tables None) nfd_bounds }
 {}
 
-/// By accepted data the characters below the bound of decomposing pass unseen: conditions 7 and 10.
+/// A loop may pass on the characters of accepted data below the bound of decomposing unread: conditions 7 and 10.
 pub fn low_characters_pass_unseen()
     ensures accepted { (s : Characters) (b : Bounds) → IsAccepted s b → PassUnseenBelow s b.decomposition }
     ensures handed_in { (decompositions : Decompositions) (tables : Lists) → IsSoundNfdData decompositions tables →
         PassUnseenBelow (characters_from decompositions tables None) nfd_bounds.decomposition }
 {}
 
-/// What characters compose to are characters where the pairs hold characters alone; Hangul syllables are characters.
+/// What characters compose to are characters if the pairs hold characters alone; Hangul syllables are characters.
 #[tactic(auto, using(crate::proofs::AcceptedLaws::scalar_results))]
 pub fn results_are_characters()
     ensures { (s : Characters) (ignored : List ℕ) (pairs : List Pair) → All (λ p. IsScalar p.2) pairs →
         HasScalarResults (reading_of s ignored (pair_of pairs)) }
 {}
 
-/// What is asked for classes alone is part of what is asked of whole data: conditions 4, 5 and 7.
+/// What is required for classes alone is part of what is required of whole data: conditions 4, 5 and 7.
 pub fn accepted_data_have_sound_classes()
     ensures { (s : Characters) (b : Bounds) →
         Holds s b condition.Surrogates → Holds s b condition.PastTheEnd → Holds s b condition.Words →
         All (HoldsOfClasses s.decompositions.table) class_conditions }
 {}
 
-/// What is asked of pairs alone is part of what is asked of data with pairs: condition 11.
+/// What is required of pairs alone is part of what is required of data with pairs: condition 11.
 #[tactic(auto, unfolding(crate::specs::PairConditions::HoldsOfPairs, crate::specs::PairConditions::PairsHoldOverall))]
 pub fn accepted_pairs_are_sound()
     ensures { (s : Characters) (b : Bounds) (pairs : List Pair) → HoldsOfPairs s b pairs condition.Pairs →

@@ -1,4 +1,4 @@
-//! What data and pairs that meet the written conditions give.
+//! What holds of data and pairs that meet the written conditions.
 #![tactic(auto, using(crate::proofs::PairLaws::pair_laws))]
 
 ghost use Rattle.std.specs.Prelude.{◌≡◌, ◌≢◌, ℕ, List, [], ◌∷◌, true, All};
@@ -34,8 +34,8 @@ pub fn results_are_faithful()
         HasFaithfulResults (reading_by s Dropped pairs) }
 {}
 
-/// A character that a composing loop passes is its own form, and nothing is reordered or composed across its
-/// beginning: conditions 9, 12 and 13.
+/// A character that a composing loop passes is its own form, and nothing is reordered or composed across its beginning:
+/// conditions 9, 12 and 13.
 pub fn passed_characters_stand_apart()
     ensures form { (s : Characters) (b : Bounds) (pairs : List Pair) →
         Holds s b condition.Order → HoldsOfPairs s b pairs condition.RoundTrip →

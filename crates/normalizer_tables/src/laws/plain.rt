@@ -11,8 +11,8 @@ ghost use Rattle.normalizer_tables.specs.Characters.{Characters, has_class_form,
 ghost use Rattle.normalizer_tables.specs.Readings.{reading_of};
 ghost use Rattle.normalizer_tables.specs.Words.{is_plain};
 
-/// A character whose word is 0, flags aside, is a starter that reads as itself, is its own form, and begins anew: it
-/// doesn't wait with what stands before it.
+/// A character whose word is 0, flags aside, is a starter that reads as itself and is its own form, and it doesn't
+/// continue what comes before it.
 pub fn plain_characters_are_their_forms()
     ensures itself { (s : Characters) (ignored : List ℕ) (pairing : ℕ → ℕ → Option ℕ) (c : ℕ) →
         IsScalar c → is_plain (word_of s c) ≡ true → ReadsAsItself (reading_of s ignored pairing) c }

@@ -1,4 +1,4 @@
-//! What is asked of the characters that a composing loop passes.
+//! What is required of the characters that a composing loop passes.
 ghost use Rattle.std.specs.Prelude.{◌≡◌, ◌↔◌, ℕ, [], ◌∷◌, true, IsTrue, All};
 ghost use Rattle.normal_forms.specs.Composition.{compose, joined};
 ghost use Rattle.normalizer_tables.specs.PairConditions.{
@@ -22,7 +22,7 @@ use crate::pairs::{CanonicalCompositions, compose, is_never_second};
 use crate::read::{ReadCharacter, read_by_word};
 use crate::word::{is_backward_combining, is_non_round_trip, is_plain};
 
-/// Whether the list of a character composes to it alone if a composing loop relies on it: all behind the first join.
+/// Whether the list of a character composes to it alone if a composing loop relies on it: all after the first join.
 #[tactic(auto, using(crate::proofs::PairLaws::trips), unfolding(crate::specs::PairConditions::KeepsRoundTrip, crate::specs::PairConditions::RoundTrips))]
 pub fn keeps_round_trip(
     data: &CharacterData<'_>,
@@ -117,7 +117,7 @@ fn keeps_plain_beginning(
         )
 }
 
-/// What a character becomes by the one right behind it.
+/// What a character and the one right after it compose to.
 #[tactic(auto, unfolding(normal_forms::specs::Composition::joined, normal_forms::specs::Composition::is_blocked))]
 fn joined(
     data: &CharacterData<'_>,

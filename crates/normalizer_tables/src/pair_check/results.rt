@@ -33,7 +33,7 @@ pub(crate) fn is_ordered_lists(
     is_spelled(list, ordered)
 }
 
-/// Writes a list where it just has room.
+/// Writes a list to room of exactly its length.
 pub(crate) fn write(list: &Members<'_>, room: &mut [char])
     requires { length room.old ≡ length list.now }
     ensures { room.new ≡ list.now }
@@ -55,7 +55,7 @@ pub(crate) fn is_spelled(list: &Members<'_>, characters: &[char]) -> bool
     list.len() == characters.len()
 }
 
-/// Puts characters in canonical order: from the last on, each is put before those behind it.
+/// Puts characters in canonical order: from the last on, each is inserted into those after it.
 #[tactic(auto, using(crate::proofs::PairConditionLemmas::ordered_lists))]
 pub(crate) fn put_in_order(data: &CharacterData<'_>, characters: &mut [char])
     ensures { characters.new ≡ order (reading_by data.now Dropped []) characters.old }

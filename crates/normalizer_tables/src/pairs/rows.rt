@@ -18,7 +18,7 @@ struct Row {
 /// A list of triples of second character, first character and result.
 #[derive(Drop)]
 pub(crate) struct PairRows {
-    /// The rows in the order of the list: each ends where the next one starts.
+    /// The rows in the order of the list: each ends at the start of the next one.
     rows: Vec<Row>,
     /// The first and the result of each pair.
     members: Vec<(char, char)>,
@@ -84,7 +84,7 @@ impl PairRows {
         (self.rows[behind - 1].second, first, result)
     }
 
-    /// What a rising list gives for two characters, by halving the rows, and then the firsts of one.
+    /// What two characters compose to by a rising list: halves the rows, and then the firsts of one.
     pub(crate) fn result_by_halving(&self, first: char, second: char) -> Option<char>
         requires { AreRising self.now }
         ensures { result ≡ listed_result self.now first second }
