@@ -81,7 +81,7 @@ unfolding normal_form
 normal_form-alike d e alike Decomposing x = nfd-alike d e alike.lists alike.classes x
 normal_form-alike d e alike Composing x = nfc-alike d e alike.lists alike.classes alike.pairs x
 
--- what the laws ask of a reading, they may ask of one that says the same
+-- if a reading satisfies the hypotheses of the laws, so does one that says the same
 module _ (d e : Reading) (alike : AreAlike d e) where
   HasFullLists-alike : HasFullLists d → HasFullLists e
   HasFullLists-alike full = record {

@@ -35,8 +35,8 @@ IsOther d k m = ReadsAsItself d m × (d.class m ≢ d.class k)
 others_of_later : (d : Reading) (k : ℕ) (x : List ℕ) → AllByRecursion (IsLater d k) x → AllByRecursion (IsOther d k) x
 others_of_later d k x later = AllByRecursion-both _ _ _ (λ m a b. (a.0, λ e. omega arith)) x later later
 
--- ---- behind a starter and the marks p and q: characters of classes above that of k join and stay alike, whether k waits
--- between p and q or not
+-- ---- after a starter and the marks p and q: characters of classes above that of k join and stay alike, whether k is
+-- buffered between p and q or not
 
 is_above-later : (d : Reading) (k : ℕ) (p q : List ℕ) (c : ℕ) → d.class k < d.class c → is_above d (p ++ k ∷ q) c ≡ is_above d (p ++ q) c
 unfolding is_above
@@ -88,7 +88,7 @@ compose_after-later d k a p q (c ∷ y) later =
           }
     ]
 
--- ---- the composition of a text with k put into it begins as that of the text; behind the next character, each reads as
+-- ---- the composition of a text with k put into it begins as that of the text; after the next character, each reads as
 -- itself and has another class than k
 
 record SharesFront (d : Reading) (k : ℕ) (longer shorter : List ℕ) : Type 0 where
@@ -100,7 +100,7 @@ record SharesFront (d : Reading) (k : ℕ) (longer shorter : List ℕ) : Type 0 
   shorter_parts : shorter ≡ front ++ remains
   others : AllByRecursion (IsOther d k) rest
 
--- what stands before both is a part of the common front
+-- what comes before both is a part of the common front
 SharesFront-behind : (d : Reading) (k : ℕ) (u x y longer shorter : List ℕ) → longer ≡ u ++ x → shorter ≡ u ++ y → SharesFront d k x y → SharesFront d k longer shorter
 SharesFront-behind d k u x y longer shorter e f shares = record {
   front = u ++ shares.front;
@@ -112,7 +112,7 @@ SharesFront-behind d k u x y longer shorter e f shares = record {
   others = shares.others;
 }
 
--- k comes next behind the starter a and the marks p that wait
+-- k comes next after the starter a and the marks p that are buffered
 compose_after-put_first : (d : Reading) (k a : ℕ) (p y : List ℕ) → AreMarks d p → AreSelf d p → AllByRecursion (IsLater d k) y → (IsStarter d k → y ≡ [])
     → SharesFront d k (compose_after d a p (k ∷ y)) (compose_after d a p y)
 unfolding AreMarksBelow AreSelf
@@ -156,7 +156,7 @@ compose_after-put_first d k a p y marks p_self later last =
           }
     ]
 
--- k comes behind x
+-- k comes after x
 compose_after-put : (d : Reading) (k a : ℕ) (p x y : List ℕ) → AreMarks d p → AreSelf d p → AreSelf d x → AllByRecursion (IsLater d k) y → (IsStarter d k → y ≡ [])
     → SharesFront d k (compose_after d a p (x ++ k ∷ y)) (compose_after d a p (x ++ y))
 unfolding AreMarks AreSelf
@@ -208,7 +208,7 @@ compose_by_starters-put d k (c ∷ x) y self later last =
           (compose_by_starters-put d k x y self.1 later last)
     ]
 
--- the append lemma: one more character behind a text in order
+-- the append lemma: one more character after a text in order
 compose_by_starters-push : (d : Reading) (k : ℕ) (y : List ℕ) → AreSelf d y → IsOrdered d y → SharesFront d k (compose_by_starters d (order d (y ++ k ∷ []))) (compose_by_starters d y)
 unfolding AreSelf AreAbove
 compose_by_starters-push d k y self ordered =
@@ -218,7 +218,7 @@ compose_by_starters-push d k y self ordered =
     SharesFront-behind d k [] _ _ _ _ (ap (compose_by_starters d) at.put) (ap (compose_by_starters d) at.parts)
     (compose_by_starters-put d k front behind (AllByRecursion-front _ front behind parts_self) later at.starter_last)
 
--- a front of the longer is a front of the shorter, or only others stand behind it
+-- a front of the longer is a front of the shorter, or only others come after it
 front_or_others : (d : Reading) (k : ℕ) (longer shorter q s : List ℕ) → SharesFront d k longer shorter → longer ≡ q ++ s → IsFront q shorter ⊎ AllByRecursion (IsOther d k) s
 front_or_others d k longer shorter q s shares e =
     elim (split_append shares.front (shares.next ∷ shares.rest) q s (sym shares.longer_parts ∙ e)) [
@@ -240,7 +240,7 @@ of_class-one : (d : Reading) (k : ℕ) → of_class d (d.class k) (k ∷ []) ≡
 unfolding of_class
 of_class-one d k = cond-true _ _ _ (eq-eqb (d.class k) (d.class k) refl)
 
--- behind q, what q with w and k composes to has not only others: in canonical order they would be w and k
+-- after q, what q with w and k composes to has not only others: in canonical order they would be w and k
 not_only_others : (d : Reading) → HasFullLists d → HasFaithfulResults d → (q w s : List ℕ) (k : ℕ) → AreSelf d w → ReadsAsItself d k → AllByRecursion (IsOther d k) s
     → compose_by_starters d (order d (nfd d q ++ (w ++ k ∷ []))) ≢ q ++ s
 unfolding AreSelf nfd
@@ -281,14 +281,14 @@ front_without_more d full faithful q w (k ∷ more) w_self more_self stays =
     let regrouped = subst (StaysBefore d q) (sym (append_assoc w (k ∷ []) more)) stays in
     front_without_last d full faithful q w k w_self more_self.0 (front_without_more d full faithful q (w ++ k ∷ []) more one_more_self more_self.1 regrouped)
 
--- what stands at the front of the form of a longer text stands at the front of its own
+-- what a text has at its front in common with the form of a longer text, it has with its own form
 pub front_without_continuation : (d : Reading) → HasFullLists d → HasFaithfulResults d → (q r t : List ℕ) → IsFront q (composed_form d (q ++ (r ++ t))) → IsFront q (composed_form d (q ++ r))
 unfolding composed_form
 front_without_continuation d full faithful q r t front =
     let stays : StaysBefore d q (expand d r ++ expand d t) = rw (nfd-append d q (r ++ t), expand-append d r t) at front in
     rw (nfd-append d q r) (front_without_more d full faithful q (expand d r) (expand d t) (AreSelf-expand d full r) (AreSelf-expand d full t) stays)
 
--- every front of a form is its own form
+-- every front of a form is normalized
 pub front_of_form_is_form : (d : Reading) → HasFullLists d → HasFaithfulResults d → (x q s : List ℕ) → composed_form d x ≡ q ++ s → composed_form d q ≡ q
 front_of_form_is_form d full faithful x q s e =
     let own = front_without_continuation d full faithful q [] s (s, cc (composed_form-composed_form d full faithful x)) in

@@ -1,4 +1,4 @@
--- Safe boundaries: where the form of a text is that of its front followed by that of its rest.
+-- Safe boundaries, at which the form of a text is that of its front followed by that of its rest.
 use Rattle.std.proofs.Common.{◌≡◌, ◌≢◌, ℕ, List, [], ◌∷◌, ◌++◌, refl, sym, ap, subst, ◌∙◌, append-nil}
 use Rattle.std.specs.List.{AllByRecursion}
 use Rattle.normal_forms.specs.Reading.{Reading, IsStarter}
@@ -40,7 +40,7 @@ compose_by_starters-boundary d x [] begins =
     ∙ ap (λ l. compose_by_starters d x ++ l) (sym (compose_by_starters-nil d))
 compose_by_starters-boundary d x (s ∷ w) begins = compose_by_starters-at_starter d x s w begins.0 begins.1
 
--- nothing is composed across it where that starter is second in no pair
+-- nothing is composed across it if that starter is second in no pair
 pub composed_form-boundary : (d : Reading) (u v : List ℕ) → BeginsSafely d (expand d v) → composed_form d (u ++ v) ≡ composed_form d u ++ composed_form d v
 unfolding composed_form nfd
 composed_form-boundary d u v begins =
@@ -78,7 +78,7 @@ module _ (d : Reading) (Begins : List ℕ → Type 0) (same_first : (s : ℕ) (x
           boundary (c ∷ []) (run ++ v) (begins-expand_run (λ c. f (c ∷ []) ≡ c ∷ []) run v all.1 begins)
           ∙ ap (λ l. l ++ f (run ++ v)) all.0.0 ∙ ap (λ l. c ∷ l) (stays run all.1)
 
--- a text decomposes to such a beginning where its first character does
+-- a text decomposes to such a beginning if its first character does
 pub BeginsWithStarter-expand : (d : Reading) (c : ℕ) (x : List ℕ) → d.list c ≢ [] → BeginsWithStarter d (d.list c) → BeginsWithStarter d (expand d (c ∷ x))
 BeginsWithStarter-expand d = begins-expand_cons d (BeginsWithStarter d) (λ s x y h. h)
 

@@ -12,7 +12,7 @@ use Rattle.normal_forms.specs.ShortRuns.{places, continues, leading_length, HasS
 use Rattle.normal_forms.proofs.OrderLemmas.{insert-starter, order-at_starter}
 use Rattle.normal_forms.proofs.ExpandLemmas.{expand-append}
 
--- ---- the form of a chunk stands apart
+-- ---- a chunk is normalized apart from the rest
 
 nfd-first : (d : Reading) (c s : ℕ) (t x : List ℕ) → d.list c ≡ s ∷ t → IsStarter d s → nfd d (c ∷ x) ≡ s ∷ order d (t ++ expand d x)
 unfolding nfd expand order
@@ -25,12 +25,12 @@ order-before_chunk d u (c ∷ x) h =
     ap (λ l. order d (u ++ (l ++ expand d x))) h.1.1 ∙ order-at_starter d u h.0 (h.1.0 ++ expand d x) h.2
     ∙ ap (λ l. order d u ++ l) (sym (nfd-first d c h.0 h.1.0 x h.1.1 h.2))
 
--- what stands before a chunk has its form apart from it
+-- what comes before a chunk is normalized apart from it
 pub nfd-before_chunk : (d : Reading) (l rest : List ℕ) → BeginsChunk d rest → nfd d (l ++ rest) ≡ order d (expand d l) ++ nfd d rest
 unfolding nfd
 nfd-before_chunk d l rest h = ap (order d) (expand-append d l rest) ∙ order-before_chunk d (expand d l) rest h
 
--- a chunk gives its starter at once; the rest of its first list is put in order with the lists behind it
+-- a chunk yields its starter at once; the rest of its first list is put in order with the lists after it
 pub nfd-chunk : (d : Reading) (c s : ℕ) (t l rest : List ℕ) → d.list c ≡ s ∷ t → IsStarter d s → BeginsChunk d rest → nfd d (c ∷ (l ++ rest)) ≡ s ∷ (order d (t ++ expand d l) ++ nfd d rest)
 nfd-chunk d c s t l rest e starter h =
     nfd-first d c s t (l ++ rest) e starter
@@ -61,12 +61,12 @@ leading_length-append f d (c ∷ l) rest h =
 pub length-expand-leading : (f : ℕ → Bool) (d : Reading) (l rest : List ℕ) → AllPass (continues f d) l → BeginsAnew f d rest → length (expand d l) ≡ leading_length f d (l ++ rest)
 length-expand-leading f d l rest h anew = omega (arith, leading_length-append f d l rest h, leading_length-anew f d rest anew)
 
--- a chunk leaves at most that many characters waiting
+-- of a chunk at most this many characters are buffered
 pub chunk_bound : (f : ℕ → Bool) (d : Reading) (c : ℕ) (x : List ℕ) → HasShortRuns f d (c ∷ x) → continues f d c ≡ false → length (d.list c) - 1 + leading_length f d x ≤ places
 unfolding HasShortChunks
 chunk_bound f d c x h anew = h.chunks.0 anew
 
--- what has short runs has them behind its first character
+-- a text with short runs has them after its first character too
 pub HasShortRuns-tail : (f : ℕ → Bool) (d : Reading) (c : ℕ) (x : List ℕ) → HasShortRuns f d (c ∷ x) → HasShortRuns f d x
 unfolding HasShortChunks
 HasShortRuns-tail f d c x h =
@@ -83,7 +83,7 @@ HasShortRuns-rest f d (c ∷ l) rest h = HasShortRuns-rest f d l rest (HasShortR
 pub leading_fits : (f : ℕ → Bool) (d : Reading) (l rest : List ℕ) → HasShortRuns f d (l ++ rest) → AllPass (continues f d) l → length (expand d l) ≤ places
 leading_fits f d l rest h all = omega (arith, h.leading, leading_length-append f d l rest all)
 
--- what waits behind the starter of a chunk fits, all of it or what was read so far
+-- what is buffered after the starter of a chunk fits, all of it or what was read so far
 pub chunk_fits : (f : ℕ → Bool) (d : Reading) (c s : ℕ) (t l rest : List ℕ) → HasShortRuns f d (c ∷ (l ++ rest)) → continues f d c ≡ false → d.list c ≡ s ∷ t
     → AllPass (continues f d) l → length (t ++ expand d l) ≤ places
 chunk_fits f d c s t l rest h anew e all =

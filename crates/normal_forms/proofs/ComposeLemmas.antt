@@ -87,7 +87,7 @@ step_cases d a p c Q joins starts stays =
       | inr some ↦ joins some.0 some.1
     ]
 
--- the same, of what the step gives
+-- the same, for the result of the step
 pub compose_after-cases : (d : Reading) (a : ℕ) (p : List ℕ) (c : ℕ) (y : List ℕ) (Q : List ℕ → Type 0) → ((r : ℕ) → join d a p c ≡ Some r → Q (compose_after d r p y))
     → (join d a p c ≡ None → IsStarter d c → Q ((a ∷ p) ++ compose_after d c [] y)) → (join d a p c ≡ None → IsMark d c → Q (compose_after d a (p ++ c ∷ []) y)) → Q (compose_after d a p (c ∷ y))
 compose_after-cases d a p c y Q joins starts stays =

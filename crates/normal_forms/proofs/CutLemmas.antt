@@ -43,7 +43,7 @@ AreSelf-nil : (d : Reading) → AreSelf d []
 unfolding AreSelf
 AreSelf-nil d = tt
 
--- one of several that stand together may be left out
+-- one of several such characters may be left out
 AreSelf-remove : (d : Reading) (p : List ℕ) (c : ℕ) (y : List ℕ) → AreSelf d (p ++ c ∷ y) → AreSelf d (p ++ y)
 unfolding AreSelf
 AreSelf-remove d p c y self =
@@ -86,7 +86,7 @@ expand-empty d inhabited (c ∷ x) e =
 
 -- ---- suffixes
 
--- what a text in order composes to, behind marks that stood before it, is its own form
+-- what a text in order composes to, after marks that came before it, is normalized
 marks_before_composed : (d : Reading) (t y z : List ℕ) → AreMarks d t → AreSelf d (t ++ y) → IsOrdered d (t ++ y) → order d (expand d z) ≡ order d y
     → compose_by_starters d y ≡ z → composed_form d (t ++ z) ≡ t ++ z
 unfolding composed_form nfd
@@ -97,7 +97,7 @@ marks_before_composed d t y z marks self ordered expands composes =
     ap (order d) expanded ∙ order-append_same d t (expand d z) y expands ∙ order_of_ordered d (t ++ y) ordered in
     ap (compose_by_starters d) form ∙ compose_by_starters-marks d t y marks ∙ ap (λ l. t ++ l) composes
 
--- marks in order that read as themselves are their own form
+-- marks in order that read as themselves are normalized
 composed_form_of_marks : (d : Reading) (s : List ℕ) → AreMarks d s → AreSelf d s → IsOrdered d s → composed_form d s ≡ s
 composed_form_of_marks d s marks self ordered =
     let whole : s ++ [] ≡ s = append-nil s in
@@ -106,7 +106,7 @@ composed_form_of_marks d s marks self ordered =
     (ap (order d) (expand_of_self d [] (AreSelf-nil d))) (compose_by_starters-nil d) in
     subst (λ l. composed_form d l ≡ l) whole form
 
--- what a starter and the rest compose to, behind marks that stood before it, is its own form
+-- what a starter and the rest compose to, after marks that came before it, is normalized
 marks_before_starter : (d : Reading) → HasFaithfulResults d → (t : List ℕ) (c : ℕ) (y : List ℕ) → AreMarks d t → IsStarter d c → AreSelf d (t ++ c ∷ y)
     → IsOrdered d (t ++ c ∷ y) → composed_form d (t ++ compose_after d c [] y) ≡ t ++ compose_after d c [] y
 marks_before_starter d faithful t c y marks starter self ordered =
@@ -115,7 +115,7 @@ marks_before_starter d faithful t c y marks starter self ordered =
     marks_before_composed d t (c ∷ y) (compose_after d c [] y) marks self ordered
     (ap (λ l. order d (expand d l)) (sym composes) ∙ order-expand-compose d faithful (c ∷ y) rest) composes
 
--- every suffix of what a starter, its marks and the rest compose to is its own form
+-- every suffix of what a starter, its marks and the rest compose to is normalized
 pub suffix_of_compose_after : (d : Reading) → HasFaithfulResults d → (a : ℕ) (p y : List ℕ) → AreMarks d p → AreSelf d (p ++ y) → IsOrdered d (p ++ y)
     → (q s : List ℕ) → compose_after d a p y ≡ q ++ s → q ≢ [] → composed_form d s ≡ s
 suffix_of_compose_after d faithful a p y marks self ordered [] s e inhabited = absurd (inhabited refl)
@@ -177,14 +177,14 @@ suffix_of_compose d faithful (c ∷ y) self ordered (x ∷ q) s e =
           (x ∷ q) s (sym (compose_by_starters-starter d c y starter) ∙ e) (λ f. cc)
     ]
 
--- every suffix of a form is its own form
+-- every suffix of a form is normalized
 pub suffix_of_form : (d : Reading) → HasFullLists d → HasFaithfulResults d → (x q s : List ℕ) → composed_form d x ≡ q ++ s → composed_form d s ≡ s
 suffix_of_form d full faithful x q s e =
     suffix_of_compose d faithful (nfd d x) (AreSelf-nfd d full x) (IsOrdered-nfd d x) q s (sym (composed_form-is d x) ∙ e)
 
 -- ---- common fronts
 
--- behind a common front of a text and its form stands the form of the rest
+-- after a common front of a text and its form comes the form of the rest
 pub rest_of_common_front : (d : Reading) → HasFullLists d → HasFaithfulResults d → (p r s : List ℕ) → composed_form d (p ++ r) ≡ p ++ s → composed_form d r ≡ s
 rest_of_common_front d full faithful p r s e =
     let whole : nfd d (p ++ r) ≡ nfd d (p ++ s) = sym (nfd-composed_form d full faithful (p ++ r)) ∙ ap (nfd d) e in
@@ -200,7 +200,7 @@ pub composed_form-empty : (d : Reading) → HasFullLists d → HasFaithfulResult
 composed_form-empty d full faithful inhabited r e =
     expand-empty d inhabited r (sym (length-nfd d r) ∙ ap length (sym (nfd-composed_form d full faithful r) ∙ ap (nfd d) e ∙ nfd-nil d))
 
--- a front of a text whose form is a front of the text is its own form
+-- a front of a text whose form is a front of the text is normalized
 pub form_of_offered_front : (d : Reading) → HasFullLists d → HasFaithfulResults d → HasInhabitedLists d → (u v w : List ℕ) → u ++ v ≡ composed_form d u ++ w → composed_form d u ≡ u
 form_of_offered_front d full faithful inhabited u v w e =
     elim (split_append u v (composed_form d u) w e) [

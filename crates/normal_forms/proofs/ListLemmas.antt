@@ -3,7 +3,7 @@ use Rattle.std.proofs.Common.{◌≡◌, ℕ, ◌⊎◌, List, [], ◌∷◌, �
 use Rattle.std.proofs.lemmas.List.{append_cancel_left}
 use Rattle.std.specs.List.{AllByRecursion}
 
--- a list split in two ways: one front goes on where the other ends
+-- a list split in two ways: one front continues the other
 pub split_append : (u v q s : List ℕ) → u ++ v ≡ q ++ s → ((w : List ℕ) × (u ≡ q ++ w) × (s ≡ w ++ v)) ⊎ ((w : List ℕ) × (q ≡ u ++ w) × (v ≡ w ++ s))
 split_append [] v q s e = inr (q, refl, e)
 split_append (c ∷ u) v [] s e = inl (c ∷ u, refl, sym e)
@@ -18,7 +18,7 @@ split_append (c ∷ u) v (f ∷ q) s e =
 pub append_cancel : (u v w : List ℕ) → u ++ v ≡ u ++ w → v ≡ w
 append_cancel u v w e = append_cancel_left u v w e
 
--- a front that leaves everything leaves nothing behind it
+-- a front that leaves everything leaves nothing after it
 pub append_self : (u v : List ℕ) → u ≡ u ++ v → v ≡ []
 append_self u v e = sym (append_cancel u [] v (append-nil u ∙ e))
 

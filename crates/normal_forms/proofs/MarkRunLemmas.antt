@@ -36,7 +36,7 @@ compose_after-marks d a p (m ∷ ms) y marks =
           ∙ sym (ap (λ r. compose_after d r.0 r.1 y) (compose_marks-join d a p m some.0 ms some.1))
     ]
 
--- what stays is marks in order, where the run and the marks before it are
+-- what stays is marks in order, if the run and the marks before it are
 pub compose_marks-ordered : (d : Reading) (a : ℕ) (p ms : List ℕ) → AreMarks d (p ++ ms) → IsOrdered d (p ++ ms) → AreMarks d (compose_marks d a p ms).1 × IsOrdered d (compose_marks d a p ms).1
 unfolding AreMarks compose_marks
 compose_marks-ordered d a p [] marks ordered = (subst (AreMarks d) (append-nil p) marks, subst (IsOrdered d) (append-nil p) ordered)

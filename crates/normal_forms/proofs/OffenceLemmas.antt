@@ -1,4 +1,4 @@
--- The cut and the first offence of a text, and of the text with a continuation.
+-- The cut and the first mismatch of a text, and of the text with a continuation.
 use Rattle.std.proofs.Common.{◌≡◌, ◌≢◌, ℕ, zero, suc, ◌≤◌, ◌↔◌, List, [], ◌∷◌, ◌++◌, length, take, drop, inl, inr, refl, sym, ap, subst, ◌∙◌, arith}
 use Rattle.std.proofs.Common.{append_assoc, append-nil, length-append, take-append-drop, length-take-le, take-take, take_at}
 use Rattle.std.proofs.lemmas.Bool.{cases_eq, cases_lt}
@@ -24,7 +24,7 @@ common_front_from x y p r s n h first second = record {
   same = ap (take n) (sym first) ∙ take_at p r n h ∙ sym (take_at p s n h) ∙ ap (take n) second;
 }
 
--- the second list goes on behind the common front
+-- the second list goes on after the common front
 pub common_front-parts : (x y : List ℕ) (n : ℕ) → IsCommonFront x y n → y ≡ take n x ++ drop n y
 common_front-parts x y n front = sym (take-append-drop n y) ∙ ap (λ l. l ++ drop n y) (sym front.same)
 
@@ -78,14 +78,14 @@ longest_common_front (a ∷ x) (b ∷ y) =
 
 -- ---- fronts and suffixes of forms
 
--- behind a common front of a text and its form stands the form of the rest
+-- after a common front of a text and its form comes the form of the rest
 pub normal_form_behind_front : (d : Reading) (form : Form) → SuitsForm d form → (p r s : List ℕ) → normal_form d form (p ++ r) ≡ p ++ s → normal_form d form r ≡ s
 normal_form_behind_front d form suits p r s e =
     normal_form-composed d form suits r
     ∙ rest_of_common_front (pairs_for d form) (pairs_for-full d form suits) (pairs_for-faithful d form suits) p r s
     (sym (normal_form-composed d form suits (p ++ r)) ∙ e)
 
--- every front and every suffix of a form is its own form
+-- every front and every suffix of a form is normalized
 pub parts_of_form : (d : Reading) (form : Form) → SuitsForm d form → (x q s : List ℕ) → normal_form d form x ≡ q ++ s → IsNormalized d form q × IsNormalized d form s
 parts_of_form d form suits x q s e =
     let full = pairs_for-full d form suits in
@@ -95,7 +95,7 @@ parts_of_form d form suits x q s e =
       normal_form-composed d form suits s ∙ suffix_of_form (pairs_for d form) full faithful x q s parts,
     )
 
--- a text is its own form exactly where it is a front of its form
+-- a text is normalized exactly if it is a front of its form
 pub is_normalized_iff_front : (d : Reading) (form : Form) → SuitsForm d form → (x : List ℕ) → IsNormalized d form x ↔ IsFront x (normal_form d form x)
 is_normalized_iff_front d form suits x = (
   λ own. ([], own ∙ sym (append-nil x)),
@@ -106,7 +106,7 @@ is_normalized_iff_front d form suits x = (
       front.1 ∙ ap (λ l. x ++ l) none ∙ append-nil x,
 )
 
--- what stands at the front of the form of a longer text stands at the front of its own
+-- what a text has at its front in common with the form of a longer text, it has with its own form
 pub normal_form_front_without_continuation : (d : Reading) (form : Form) → SuitsForm d form → (q r t : List ℕ) → IsFront q (normal_form d form (q ++ (r ++ t)))
     → IsFront q (normal_form d form (q ++ r))
 normal_form_front_without_continuation d form suits q r t front =
@@ -115,7 +115,7 @@ normal_form_front_without_continuation d form suits q r t front =
     (front.0, sym (normal_form-composed d form suits (q ++ (r ++ t))) ∙ front.1) in
     (without.0, normal_form-composed d form suits (q ++ r) ∙ without.1)
 
--- a text whose form stands at the front of the text and what follows it is its own form
+-- a text whose form is at the front of the text and what follows it is normalized
 pub offered_front_is_normalized : (d : Reading) (form : Form) → SuitsForm d form → HasInhabitedLists d → (u v : List ℕ) → IsFront (normal_form d form u) (u ++ v) → IsNormalized d form u
 offered_front_is_normalized d form suits inhabited u v front =
     let composed = normal_form-composed d form suits u in
@@ -130,7 +130,7 @@ form_ends_with_text d form suits inhabited x front =
 
 -- ---- the cut
 
--- a number qualifies for the cut exactly where so many characters are a common front of the text and its form
+-- a number qualifies for the cut exactly if that many characters are a common front of the text and its form
 pub cut_iff : (d : Reading) (form : Form) → SuitsForm d form → (x : List ℕ) (n : ℕ) → QualifiesForCut d form x n ↔ IsCommonFront x (normal_form d form x) n
 cut_iff d form suits x n = (
   λ q.
@@ -167,11 +167,11 @@ cut_iff_longest d form suits x n = (
   },
 )
 
--- the front before each number that qualifies is its own form
+-- the front before each number that qualifies is normalized
 pub front_at_cut : (d : Reading) (form : Form) → SuitsForm d form → (x : List ℕ) (n : ℕ) → QualifiesForCut d form x n → normal_form d form (take n x) ≡ take n x
 front_at_cut d form suits x n q = (parts_of_form d form suits x (take n x) (normal_form d form (drop n x)) (sym q.keeps)).0
 
--- ---- the first offence
+-- ---- the first mismatch
 
 -- what is found is not what is wanted: else one more character would qualify
 pub found_differs : (d : Reading) (form : Form) → SuitsForm d form → (x : List ℕ) (place found wanted : ℕ) → IsFirstOffence d form x place found wanted → found ≢ wanted
@@ -211,11 +211,11 @@ qualifies_without_continuation d form suits x y n within q =
     (cut_iff d form suits x n).1
     (common_front_from x (normal_form d form x) (take n x) (drop n x) front.0 n (length-take-le n x within) (take-append-drop n x) (sym front.1))
 
--- where a text is not its own form, no continuation makes it so
+-- if a text is not normalized, no continuation makes it so
 pub continued_differs : (d : Reading) (form : Form) → SuitsForm d form → (x y : List ℕ) → normal_form d form x ≢ x → normal_form d form (x ++ y) ≢ x ++ y
 continued_differs d form suits x y differs own = differs (parts_of_form d form suits (x ++ y) x y own).0
 
--- where a text is not its own form, no continuation moves its cut behind
+-- if a text is not normalized, no continuation moves its cut to a later place
 pub continued_cut : (d : Reading) (form : Form) → SuitsForm d form → (x y : List ℕ) (n m : ℕ) → normal_form d form x ≢ x → IsCut d form x n → IsCut d form (x ++ y) m → m ≤ n
 continued_cut d form suits x y n m differs cut longer =
     elim (cases_lt (length x) m) [
@@ -229,7 +229,7 @@ continued_cut d form suits x y n m differs cut longer =
       | inr within ↦ cut.greatest m (qualifies_without_continuation d form suits x y m within longer.qualifies)
     ]
 
--- where a text has a first offence, it has one no later with every continuation
+-- if a text has a first mismatch, it has one no later with every continuation
 pub continued_offence : (d : Reading) (form : Form) → SuitsForm d form → HasInhabitedLists d → (x y : List ℕ) (place found wanted : ℕ)
     → IsFirstOffence d form x place found wanted → (place' : ℕ) × (found' : ℕ) × (wanted' : ℕ) × IsFirstOffence d form (x ++ y) place' found' wanted' × (place' ≤ place)
 continued_offence d form suits inhabited x y place found wanted offence =

@@ -1,4 +1,4 @@
--- The cut and the first offence of a text over any reading: what asks nothing of it, or inhabited lists alone.
+-- The cut and the first mismatch of a text over any reading: what needs no hypothesis, or inhabited lists alone.
 use Rattle.std.proofs.Common.{◌≡◌, ◌≢◌, ℕ, zero, suc, ◌<◌, ◌≤◌, ◌⊎◌, ◌↔◌, List, [], ◌∷◌, ◌++◌, length, take, drop, Option, Some, None, slice_get, inl}
 use Rattle.std.proofs.Common.{inr, refl, sym, ap, subst, ◌∙◌, arith, append-nil, take-append-drop, length-take-le, drop_of_length-le}
 use Rattle.std.proofs.lemmas.Bool.{cases_eq, cases_lt}
@@ -49,18 +49,18 @@ unfolding normal_form nfc
 form_is_nothing d Decomposing inhabited x e = nfd-empty d inhabited x e
 form_is_nothing d Composing inhabited x e = nfd-empty d inhabited x (compose-empty d (nfd d x) e)
 
--- ---- where a text is its own form
+-- ---- normalized texts
 
--- where the rest behind a number that qualifies is its own form, so is the text
+-- if the rest after a number that qualifies is normalized, so is the text
 pub normalized_from_rest : (d : Reading) (form : Form) (x : List ℕ) (n : ℕ) → QualifiesForCut d form x n → IsNormalized d form (drop n x) → IsNormalized d form x
 normalized_from_rest d form x n q own = sym q.keeps ∙ ap (λ l. take n x ++ l) own ∙ take-append-drop n x
 
--- where there is no rest behind a number that qualifies, the text is its own form
+-- if there is no rest after a number that qualifies, the text is normalized
 pub normalized_from_whole : (d : Reading) (form : Form) (x : List ℕ) (n : ℕ) → QualifiesForCut d form x n → drop n x ≡ [] → IsNormalized d form x
 normalized_from_whole d form x n q none =
     normalized_from_rest d form x n q (ap (normal_form d form) none ∙ form_of_nothing d form ∙ sym none)
 
--- a text is its own form exactly where the cut is its length
+-- a text is normalized exactly if the cut is its length
 pub normalized_iff_cut : (d : Reading) (form : Form) (x : List ℕ) → IsNormalized d form x ↔ IsCut d form x (length x)
 normalized_iff_cut d form x = (
   λ own. record {
@@ -127,14 +127,14 @@ pub cut_unique : (d : Reading) (form : Form) (x : List ℕ) (m n : ℕ) → IsCu
 cut_unique d form x m n a b =
     let up = b.greatest m a.qualifies in let down = a.greatest n b.qualifies in omega arith
 
--- the rest behind the cut is its own form only where there is none
+-- the rest after the cut is normalized only if there is none
 pub rest_is_nothing : (d : Reading) (form : Form) (x : List ℕ) (n : ℕ) → IsCut d form x n → IsNormalized d form (drop n x) → drop n x ≡ []
 rest_is_nothing d form x n cut own =
     let whole = (normalized_iff_cut d form x).0 (normalized_from_rest d form x n cut.qualifies own) in
     let same = cut_unique d form x n (length x) cut whole in
     drop_of_length-le x (omega arith)
 
--- the cut of a text that is not its own form is below its length
+-- the cut of a text that is not normalized is below its length
 pub cut_below : (d : Reading) (form : Form) (x : List ℕ) (n : ℕ) → normal_form d form x ≢ x → IsCut d form x n → n < length x
 cut_below d form x n differs cut =
     elim (cases_lt n (length x)) [
@@ -142,13 +142,13 @@ cut_below d form x n differs cut =
       | inr past ↦ absurd (differs (normalized_from_whole d form x n cut.qualifies (drop_of_length-le x past)))
     ]
 
--- ---- the first offence
+-- ---- the first mismatch
 
 pub cases_first : (x : List ℕ) → (x ≡ []) ⊎ ((c : ℕ) × IsFirst x c)
 cases_first [] = inl refl
 cases_first (c ∷ x) = inr (c, (x, refl))
 
--- a text that is not its own form has a first offence
+-- a text that is not normalized has a first mismatch
 pub offence_of : (d : Reading) (form : Form) → HasInhabitedLists d → (x : List ℕ) → normal_form d form x ≢ x → (place : ℕ) × (found : ℕ) × (wanted : ℕ) × IsFirstOffence d form x place found wanted
 offence_of d form inhabited x differs =
     let at = cut_of d form x in
@@ -176,7 +176,7 @@ offence_unique d form x place found wanted place' found' wanted' a b =
           (subst (λ n. IsFirst (normal_form d form (drop n x)) wanted) same a.is_wanted) b.is_wanted,
     )
 
--- every text has one answer: its first offence, or none
+-- every text has one result: its first mismatch, or none
 pub answer_of : (d : Reading) (form : Form) → HasInhabitedLists d → (x : List ℕ) → (o : Option (ℕ × ℕ × ℕ)) × IsOffenceOf d form x o
 answer_of d form inhabited x =
     elim (normalized_or_not d form x) [
@@ -199,14 +199,14 @@ pub none_iff_normalized : (d : Reading) (form : Form) (x : List ℕ) (o : Option
 none_iff_normalized d form x None a = (λ e. a, λ own. refl)
 none_iff_normalized d form x (Some q) a = (λ e. cc, λ own. absurd (a.differs own))
 
--- what stands behind a front of this length stands at this place
+-- what comes after a front of this length is at this place
 pub at_seam : (p rest : List ℕ) (n c : ℕ) → length p ≡ n → slice_get (p ++ c ∷ rest) n ≡ Some c
 at_seam [] rest zero c h = refl
 at_seam [] rest (suc n) c h = cc
 at_seam (a ∷ p) rest zero c h = cc
 at_seam (a ∷ p) rest (suc n) c h = at_seam p rest n c (omega arith)
 
--- both characters stand at the place: one in the text, the other in its form
+-- both characters are at the place: one in the text, the other in its form
 pub found_at_place : (d : Reading) (form : Form) (x : List ℕ) (place found wanted : ℕ) → IsFirstOffence d form x place found wanted → slice_get x place ≡ Some found
 found_at_place d form x place found wanted o =
     ap (λ l. slice_get l place) (sym (take-append-drop place x) ∙ ap (λ l. take place x ++ l) o.is_found.1)

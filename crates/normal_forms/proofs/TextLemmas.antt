@@ -1,4 +1,4 @@
--- What holds of each character of a text holds of each character of its forms, where lists and what pairs join to keep it.
+-- What holds of each character of a text holds of each character of its forms, if lists and what pairs join to keep it.
 use Rattle.std.proofs.Common.{◌≡◌, ℕ, not, ◌&&◌, List, [], ◌∷◌, All, Option, Some, None, refl}
 use Rattle.std.specs.Char.{IsScalar}
 use Rattle.std.proofs.lemmas.Bool.{cond_both}

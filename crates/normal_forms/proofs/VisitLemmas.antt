@@ -114,7 +114,7 @@ compose_after-no_pairs d none a p (c ∷ y) =
           compose_after-mark d a p c y apart mark ∙ compose_after-no_pairs d none a (p ++ c ∷ []) y ∙ append_assoc (a ∷ p) (c ∷ []) y
     ]
 
--- where no pair joins, composition changes nothing
+-- if no pair joins, composition changes nothing
 pub compose_by_starters-no_pairs : (d : Reading) → ((c : ℕ) → IsSecondInNoPair d c) → (x : List ℕ) → compose_by_starters d x ≡ x
 compose_by_starters-no_pairs d none [] = compose_by_starters-nil d
 compose_by_starters-no_pairs d none (c ∷ x) =

@@ -36,7 +36,7 @@ module _ (e : Encoding) (d : Reading) (form : Form) (units : List ℕ) where
   IsText-form : HasTextForms d form → IsText (normal_form d form (decoded_in e units))
   IsText-form texts = texts (decoded_in e units) (decoded-IsText (first_in e) (IsDecoding-first e) units)
 
-  -- units are their own form exactly where they are the encoding of the form of what they decode to
+  -- units are normalized exactly if they are the encoding of the form of what they decode to
   pub is_normalized_iff_encoded_form : HasTextForms d form → IsInputNormalized e d form units ↔ (encoded_form e d form units ≡ units)
   is_normalized_iff_encoded_form texts = (
     λ own. ap (encoded_in e) own.own ∙ encoded-decoded e units own.well_formed,
@@ -47,7 +47,7 @@ module _ (e : Encoding) (d : Reading) (form : Form) (units : List ℕ) where
 
   -- ---- fronts
 
-  -- a front of the form stands at the front of the units exactly where a common front ends at a boundary
+  -- a front of the form is at the front of the units exactly if a common front ends at a boundary
   pub boundary_of_encoded : HasTextForms d form → (n k : ℕ) → IsEncodedFront e d form units n k → IsErrorFreeBoundary e units n × (characters_before e units n ≡ k) × IsCommonFront text form_of_text k
   boundary_of_encoded texts n k f =
       let front : List ℕ = take k form_of_text in
@@ -148,7 +148,7 @@ module _ (e : Encoding) (d : Reading) (form : Form) (suits : SuitsForm d form) (
       let own : IsNormalized d form x =
       offered_front_is_normalized d form suits inhabited x (decoded_in e (drop n units))
       (decoded_in e (drop m units), sym (decoded-take-drop (first_in e) (IsDecoding-first e) units n b) ∙ decoded-parts e units m w ∙ ap (λ l. l ++ decoded_in e (drop m units)) text) in
-      -- as many characters stand before the two boundaries
+      -- as many characters come before the two boundaries
       let there = (boundary_of_front e units m (omega (arith, ap length offered.1, length-append (encoded_in e y) offered.0)) w).boundary in
       let count : characters_before e units m ≡ characters_before e units n = ap length (text ∙ own) in
       let low = boundary-fewer e units m n there b (omega arith) in

@@ -1,4 +1,4 @@
--- Boundaries of steps that no error comes before: where they lie, and what stands before and behind them.
+-- Boundaries at or before the first error: their places, and what comes before and after them.
 use Rattle.std.proofs.Common.{◌≡◌, ℕ, ◌+◌, ◌-◌, ◌≤◌, ◌⊎◌, false, List, []}
 use Rattle.std.proofs.Common.{◌++◌, get_or, length, take, drop, inl, inr, sym, ap, subst, ◌∙◌, arith, take-append-drop}
 use Rattle.std.specs.Prelude.{All}
@@ -58,7 +58,7 @@ module _ (e : Encoding) where
   decoded-parts units n w =
       ap (decoded_in e) (sym (take-append-drop n units)) ∙ decoded-append (first_in e) (IsDecoding-first e) (take n units) (drop n units) w
 
-  -- ---- where the boundaries lie
+  -- ---- the places of boundaries
 
   pub boundary_of_front : (units : List ℕ) (n : ℕ) → n ≤ length units → IsWellFormed (first_in e) (take n units) → IsErrorFreeBoundary e units n
   boundary_of_front units n within w =
@@ -71,7 +71,7 @@ module _ (e : Encoding) where
     All-same (λ s. s.is_error ≡ false) _ _ (steps-parts (first_in e) (IsDecoding-first e) units n b.boundary).0 b.error_free,
   )
 
-  -- what stands between two boundaries that no error comes before is well-formed
+  -- what is between two boundaries at or before the first error is well-formed
   pub well_formed-between : (units : List ℕ) (n m : ℕ) → IsErrorFreeBoundary e units n → IsErrorFreeBoundary e units m → n ≤ m → IsWellFormed (first_in e) (slice_range units n m)
   well_formed-between units n m a b le =
       let front = front_of_boundary units m b in

@@ -24,7 +24,7 @@ use Rattle.normalizer_input.proofs.InputBoundaryLemmas.{length-decoded, IsWellFo
 module _ (e : Encoding) where
   -- ---- characters before a boundary
 
-  -- as many characters stand before a boundary as steps
+  -- as many characters come before a boundary as steps
   pub characters_before-steps : (units : List ℕ) (n : ℕ) (b : IsBoundary (first_in e) units n) → characters_before e units n ≡ length b.before
   characters_before-steps units n b =
       length-decoded e (take n units) ∙ ap length (steps-parts (first_in e) (IsDecoding-first e) units n b).0
@@ -39,7 +39,7 @@ module _ (e : Encoding) where
       let tb = b.taken in
       omega arith
 
-  -- no fewer characters stand before the one that comes later
+  -- no fewer characters come before the later one
   characters-fewer : (units : List ℕ) (m n : ℕ) → m ≤ n → IsErrorFreeBoundary e units m → IsErrorFreeBoundary e units n → characters_before e units m ≤ characters_before e units n
   characters-fewer units m n le a b =
       elim (cases_lt (characters_before e units n) (characters_before e units m)) [
@@ -50,7 +50,7 @@ module _ (e : Encoding) where
         | inr at_most ↦ at_most
       ]
 
-  -- the text of a well-formed front, and of the rest behind it
+  -- the text of a well-formed front, and of the rest after it
   pub take-characters_before : (units : List ℕ) (n : ℕ) → IsWellFormed (first_in e) (take n units) → take (characters_before e units n) (decoded_in e units) ≡ decoded_in e (take n units)
   take-characters_before units n w =
       let p = decoded_in e (take n units) in
@@ -61,7 +61,7 @@ module _ (e : Encoding) where
       let p = decoded_in e (take n units) in
       ap (drop (length p)) (decoded-parts e units n w) ∙ drop-append_seam p (decoded_in e (drop n units))
 
-  -- in well-formed units a boundary stands behind each number of characters
+  -- well-formed units have a boundary after each number of characters
   boundary_of_characters : (units : List ℕ) (k : ℕ) → IsWellFormed (first_in e) units → k ≤ length (decoded_in e units)
       → (n : ℕ) × IsErrorFreeBoundary e units n × (characters_before e units n ≡ k)
   boundary_of_characters units k w within =
@@ -72,7 +72,8 @@ module _ (e : Encoding) where
       } in
       (width_of (take k ss), b, characters_before-steps units (width_of (take k ss)) b.boundary ∙ length-take-le k ss (omega (arith, length-decoded e units)))
 
-  -- behind a boundary that no error comes before stands an error, or a further such boundary with one character more before it
+  -- after a boundary at or before the first error comes that error, or a further such boundary with one more character
+  -- before it
   goes_on : (units : List ℕ) (n : ℕ) → n < length units → IsErrorFreeBoundary e units n
       → ((m : ℕ) × IsErrorFreeBoundary e units m × (characters_before e units m ≡ characters_before e units n + 1)) ⊎ IsErrorAt e units n
   goes_on units n inside b =
@@ -108,8 +109,8 @@ module _ (e : Encoding) where
       keeps = ap (λ l. l ++ normal_form d form (decoded_in e units)) (decoded-nil (first_in e));
     }
 
-    -- a number qualifies where it is a boundary at or before the first error, and so many characters as stand before it
-    -- qualify for the cut of the decoded text
+    -- a number qualifies if it is a boundary at or before the first error, and the number of characters before it
+    -- qualifies for the cut of the decoded text
     pub qualifies_iff_characters : (units : List ℕ) (n : ℕ)
         → QualifiesForInputCut e d form units n ↔ (IsErrorFreeBoundary e units n × QualifiesForCut d form (decoded_in e units) (characters_before e units n))
     qualifies_iff_characters units n = (
@@ -129,7 +130,7 @@ module _ (e : Encoding) where
           },
     )
 
-    -- so it does where so many characters are a common front of the decoded text and its form
+    -- so it does if the characters before it are a common front of the decoded text and its form
     pub qualifies_iff_front : SuitsForm d form → (units : List ℕ) (n : ℕ)
         → QualifiesForInputCut e d form units n ↔ (IsErrorFreeBoundary e units n × IsCommonFront (decoded_in e units) (normal_form d form (decoded_in e units)) (characters_before e units n))
     qualifies_iff_front suits units n =
@@ -173,7 +174,7 @@ module _ (e : Encoding) where
         let found = greatest_up_to (QualifiesForInputCut e d form units) (zero_input_qualifies units) (cases_qualifies units) (length units) in
         (found.0, record { qualifies = found.1; greatest = λ m q. found.2 m q.within q })
 
-    -- before the cut stand as many characters as before that of the text, or fewer and an error stands at it
+    -- as many characters come before the cut as before that of the text, or fewer, and then an error is at it
     pub cut_ends : SuitsForm d form → (units : List ℕ) (n k : ℕ) → IsInputCut e d form units n → IsCut d form (decoded_in e units) k
         → (characters_before e units n ≤ k) × ((characters_before e units n ≡ k) ⊎ IsErrorAt e units n)
     cut_ends suits units n k input text =
@@ -208,7 +209,7 @@ module _ (e : Encoding) where
       own = (parts_of_form d form suits (decoded_in e units) (decoded_in e (take n units)) (normal_form d form (decoded_in e (drop n units))) (sym q.keeps)).0;
     }
 
-    -- where the rest behind a number that qualifies is its own form, so is the input
+    -- if the rest after a number that qualifies is normalized, so is the input
     pub normalized_from_rest : (units : List ℕ) (n : ℕ) → QualifiesForInputCut e d form units n → IsInputNormalized e d form (drop n units) → IsInputNormalized e d form units
     normalized_from_rest units n q rest =
         let parts = decoded-parts e units n q.well_formed in
@@ -217,7 +218,7 @@ module _ (e : Encoding) where
           own = sym q.keeps ∙ ap (λ l. decoded_in e (take n units) ++ l) rest.own ∙ sym parts;
         }
 
-    -- an input is its own form exactly where its cut is its length
+    -- an input is normalized exactly if its cut is its length
     pub is_normalized_iff_input_cut : (units : List ℕ) → IsInputNormalized e d form units ↔ IsInputCut e d form units (length units)
     is_normalized_iff_input_cut units = (
       λ own. record {
@@ -233,14 +234,14 @@ module _ (e : Encoding) where
           record { well_formed = subst (IsWellFormed (first_in e)) (take-length units) cut.qualifies.well_formed; own = sym keeps ∙ append-nil (decoded_in e units) },
     )
 
-    -- the rest at the cut is empty or not its own form
+    -- the rest at the cut is empty or not normalized
     pub rest_at_input_cut : (units : List ℕ) (n : ℕ) → IsInputCut e d form units n → IsInputNormalized e d form (drop n units) → drop n units ≡ []
     rest_at_input_cut units n cut own =
         let whole = (is_normalized_iff_input_cut units).0 (normalized_from_rest units n cut.qualifies own) in
         let same = input_cut_unique units n (length units) cut whole in
         drop_of_length-le units (omega arith)
 
-    -- the cut of an input that is not its own form is below its length
+    -- the cut of an input that is not normalized is below its length
     pub input_cut_below : (units : List ℕ) (n : ℕ) → (IsInputNormalized e d form units → ⊥) → IsInputCut e d form units n → n < length units
     input_cut_below units n differs cut =
         elim (cases_eq n (length units)) [

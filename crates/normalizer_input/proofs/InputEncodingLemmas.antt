@@ -1,4 +1,5 @@
--- Well-formed inputs: their cut and their first offence stand where the units of the characters before those of the text end.
+-- Well-formed inputs: their cut and their first mismatch come after the units of the characters before those of the
+-- text.
 use Rattle.std.proofs.Common.{◌≡◌, ℕ, ◌≤◌, ◌↔◌, List, length, take, drop, sym, ap, subst, ◌∙◌, length-take-le}
 use Rattle.normal_forms.specs.Reading.{Reading}
 use Rattle.normal_forms.specs.declared.Form.{Form}
@@ -14,7 +15,7 @@ use Rattle.normalizer_input.specs.InputOffence.{IsInputOffence}
 use Rattle.normalizer_input.proofs.InputCutLemmas.{take-characters_before, drop-characters_before, input_cut_exists, cut_of_well_formed}
 use Rattle.normalizer_input.proofs.InputOffenceLemmas.{offence_of_well_formed}
 
--- a well-formed input is its own form exactly where its text is
+-- a well-formed input is normalized exactly if its text is
 pub is_normalized_iff_text : (e : Encoding) (d : Reading) (form : Form) (units : List ℕ) → IsWellFormed (first_in e) units → IsInputNormalized e d form units ↔ IsNormalized d form (decoded_in e units)
 is_normalized_iff_text e d form units w = (λ own. own.own, λ own. record { well_formed = w; own = own })
 
@@ -32,7 +33,7 @@ module _ (e : Encoding) (d : Reading) (form : Form) (units : List ℕ) (well_for
       let same : k ≡ characters_before e units n = cut_unique d form (decoded_in e units) k (characters_before e units n) text (cut_of_well_formed e d form units n well_formed cut) in
       (same, rw same (length-front e units n cut.qualifies.within cut.qualifies.well_formed))
 
-  -- the cut comes after the units of as many characters as stand before the cut of the text
+  -- the cut comes after the units of as many characters as come before the cut of the text
   pub input_cut_iff_text : (n k : ℕ) → IsCut d form (decoded_in e units) k → IsInputCut e d form units n ↔ (n ≡ length (encoded_in e (take k (decoded_in e units))))
   input_cut_iff_text n k text = (
     λ cut. (cut_from_text n k text cut).1,
@@ -41,7 +42,7 @@ module _ (e : Encoding) (d : Reading) (form : Form) (units : List ℕ) (well_for
         subst (IsInputCut e d form units) ((cut_from_text cut.0 k text cut.1).1 ∙ sym same) cut.1,
   )
 
-  -- the first offence comes after the units of as many characters as stand before that of the text
+  -- the first mismatch comes after the units of as many characters as come before that of the text
   pub input_offence_iff_text : (place found wanted : ℕ)
       → IsInputOffence e d form units place found wanted ↔ ((k : ℕ) × IsFirstOffence d form (decoded_in e units) k found wanted × (place ≡ length (encoded_in e (take k (decoded_in e units)))))
   input_offence_iff_text place found wanted = (

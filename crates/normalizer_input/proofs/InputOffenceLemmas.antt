@@ -1,4 +1,4 @@
--- The first offence of an input of units, and of the input with a continuation.
+-- The first mismatch of an input of units, and of the input with a continuation.
 use Rattle.std.proofs.Common.{◌≡◌, ◌≢◌, ℕ, ◌≤◌, ◌⊎◌, ◌↔◌, List, [], ◌∷◌, ◌++◌, length, take, drop}
 use Rattle.std.proofs.Common.{Option, Some, None, slice_get, inl, inr, refl, sym, ap, subst, ◌∙◌, arith, length-append, length-drop}
 use Rattle.std.proofs.lemmas.Bool.{cases_eq}
@@ -36,7 +36,7 @@ module _ (e : Encoding) (d : Reading) (form : Form) where
             (subst (λ n. IsFirst (normal_form d form (decoded_in e (drop n units))) wanted) same a.is_wanted) b.is_wanted,
       )
 
-  -- ---- the first offence
+  -- ---- the first mismatch
 
   pub input_offence_exists : HasInhabitedLists d → (units : List ℕ) → (IsInputNormalized e d form units → ⊥)
       → (place : ℕ) × (found : ℕ) × (wanted : ℕ) × IsInputOffence e d form units place found wanted
@@ -56,9 +56,9 @@ module _ (e : Encoding) (d : Reading) (form : Form) where
         )
       ]
 
-  -- ---- the first offence of the decoded text
+  -- ---- the first mismatch of the decoded text
 
-  -- where as many characters stand before an input offence as before the cut of the text, it is the text's
+  -- if as many characters come before an input mismatch as before the cut of the text, it is the text's
   text_offence : (units : List ℕ) (place found wanted : ℕ) → IsInputOffence e d form units place found wanted
       → IsCut d form (decoded_in e units) (characters_before e units place) → IsFirstOffence d form (decoded_in e units) (characters_before e units place) found wanted
   text_offence units place found wanted offence cut =
@@ -76,7 +76,7 @@ module _ (e : Encoding) (d : Reading) (form : Form) where
         is_wanted = subst (λ l. IsFirst (normal_form d form l) wanted) (sym rest) offence.is_wanted;
       }
 
-  -- what is found is not what is wanted, or an error stands at the place
+  -- the character found is not the one expected, or an error is at the place
   pub input_found_differs : SuitsForm d form → (units : List ℕ) (place found wanted : ℕ) → IsInputOffence e d form units place found wanted → (found ≢ wanted) ⊎ IsErrorAt e units place
   input_found_differs suits units place found wanted offence =
       let text = cut_of d form (decoded_in e units) in
@@ -89,7 +89,7 @@ module _ (e : Encoding) (d : Reading) (form : Form) where
 
   -- ---- well-formed inputs
 
-  -- the first offence of a well-formed input is that of its text
+  -- the first mismatch of a well-formed input is that of its text
   pub offence_of_well_formed : (units : List ℕ) (place found wanted : ℕ) → IsWellFormed (first_in e) units
       → IsInputOffence e d form units place found wanted → IsFirstOffence d form (decoded_in e units) (characters_before e units place) found wanted
   offence_of_well_formed units place found wanted w offence =
@@ -97,7 +97,7 @@ module _ (e : Encoding) (d : Reading) (form : Form) where
 
   -- ---- continuations
 
-  -- the well-formed parts of an input that is its own form are their own forms
+  -- the well-formed parts of an input that is normalized are normalized
   pub parts_of_normalized : SuitsForm d form → (front rest : List ℕ) → IsWellFormed (first_in e) front → IsInputNormalized e d form (front ++ rest)
       → IsInputNormalized e d form front × IsInputNormalized e d form rest
   parts_of_normalized suits front rest w own =
@@ -109,11 +109,11 @@ module _ (e : Encoding) (d : Reading) (form : Form) where
         record { well_formed = IsWellFormed-rest e front rest w own.well_formed; own = parts.1 },
       )
 
-  -- where a well-formed input is not its own form, no continuation makes it so
+  -- if a well-formed input is not normalized, no continuation makes it so
   pub continued_input_differs : SuitsForm d form → (units more : List ℕ) → IsWellFormed (first_in e) units → (IsInputNormalized e d form units → ⊥) → IsInputNormalized e d form (units ++ more) → ⊥
   continued_input_differs suits units more w differs own = differs (parts_of_normalized suits units more w own).0
 
-  -- where a well-formed input is not its own form, no continuation moves its cut behind
+  -- if a well-formed input is not normalized, no continuation moves its cut to a later place
   pub continued_input_cut : SuitsForm d form → (units more : List ℕ) (n m : ℕ) → IsWellFormed (first_in e) units
       → (IsInputNormalized e d form units → ⊥) → IsInputCut e d form units n → IsInputCut e d form (units ++ more) m → m ≤ n
   continued_input_cut suits units more n m w differs cut longer =
@@ -130,7 +130,7 @@ module _ (e : Encoding) (d : Reading) (form : Form) where
       let fewer = continued_cut d form suits x y (characters_before e units n) text_longer.0 (λ own. differs (record { well_formed = w; own = own })) text text_longer.1 in
       boundary-fewer e (units ++ more) m n there.0.boundary here.boundary (omega (arith, ap (λ u. length (decoded_in e u)) same))
 
-  -- where a well-formed input has a first offence, it has one no later with every continuation
+  -- if a well-formed input has a first mismatch, it has one no later with every continuation
   pub continued_input_offence : SuitsForm d form → HasInhabitedLists d → (units more : List ℕ) (place found wanted : ℕ)
       → IsWellFormed (first_in e) units → IsInputOffence e d form units place found wanted
       → (place' : ℕ) × (found' : ℕ) × (wanted' : ℕ) × IsInputOffence e d form (units ++ more) place' found' wanted' × (place' ≤ place)
@@ -138,7 +138,7 @@ module _ (e : Encoding) (d : Reading) (form : Form) where
       let longer = input_offence_exists inhabited (units ++ more) (continued_input_differs suits units more w offence.differs) in
       (longer.0, longer.1, longer.2, longer.3, continued_input_cut suits units more place longer.0 w offence.differs offence.cut longer.3.cut)
 
-  -- ---- the answer of a search
+  -- ---- the result of a search
 
   pub offence_of_exists : HasInhabitedLists d → (units : List ℕ) → (answer : Option Offence) × IsInputOffenceOf e d form units answer
   offence_of_exists inhabited units =

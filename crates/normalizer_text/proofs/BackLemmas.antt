@@ -19,7 +19,7 @@ plus-zero : (p : ℕ) → p + 0 ≡ p
 plus-zero p = omega arith
 
 module _ (first : List ℕ → Step) (d : IsDecoding first) where
-  -- where the last step begins
+  -- the beginning of the last step
   pub record EndsAt (us : List ℕ) (q : ℕ) : Type 0 where
     pub below : q < length us
     pub last : steps first us ≡ steps first (take q us) ++ first (drop q us) ∷ []
@@ -80,7 +80,7 @@ module _ (first : List ℕ → Step) (d : IsDecoding first) where
       (λ some. omega arith)
       (cases_eq s.width 0)
 
-  -- an iterator that takes the last step each time gives what the units decode to, from the back
+  -- an iterator that takes the last step each time yields what the units decode to, from the back
   pub Spells-TakesLast : (us : List ℕ) → Spells (TakesLast first) us (reverse (decoded first us))
   Spells-TakesLast us = by (length us) us (omega arith)
     where
@@ -123,7 +123,7 @@ module _ (first : List ℕ → Step) (d : IsDecoding first) where
       ∙ append_assoc (x ++ decoded first left) (c ∷ []) y
 
 module _ (first : List ℕ → Step) (d : IsDecoding first) (trails : ℕ → Bool) (t : HasTrails first trails) where
-  -- a step ends before each unit that can't stand after the first one of a step
+  -- a step ends before each unit that can't come after the first one of a step
   pub steps-at : (us : List ℕ) (p : ℕ) → p ≤ length us → (0 < p → p < length us → trails (get_or us p 0) ≡ false) → steps first us ≡ steps first (take p us) ++ steps first (drop p us)
   steps-at us p l h = by (length us) us p (omega arith) l h
     where
@@ -157,7 +157,7 @@ module _ (first : List ℕ → Step) (d : IsDecoding first) (trails : ℕ → Bo
     taken = width_of-steps first d (take p us) ∙ length-take-le p us (omega arith);
   }
 
-  -- the step in front of the units from p on, where it takes all of them
+  -- the step at the front of the units from p on, if it takes all of them
   IsLastStep-whole : (us : List ℕ) (p : ℕ) → IsLastStart trails us p → (first (drop p us)).width ≡ length us - p → IsLastStep first us (first (drop p us))
   IsLastStep-whole us p s e =
       let below = s.below in
@@ -177,7 +177,7 @@ module _ (first : List ℕ → Step) (d : IsDecoding first) (trails : ℕ → Bo
             ∙ ap (λ i. steps first (take i us) ++ first (drop p us) ∷ []) (sym front);
       }
 
-  -- and where it doesn't: the last unit alone is an error
+  -- and if it doesn't: the last unit alone is an error
   IsLastStep-alone : (us : List ℕ) (p : ℕ) → IsLastStart trails us p → ((first (drop p us)).width ≡ length us - p → ⊥) → IsLastStep first us (replaced 1)
   IsLastStep-alone us p s ne =
       let below = s.below in

@@ -25,7 +25,7 @@ width_of-fewer (s ∷ p) r (s' ∷ q) t same fewer =
     let width : s.width ≡ s'.width = ap (λ x. x.width) head in
     let rest = width_of-fewer p r q t tail (omega arith) in omega arith
 
--- the longer one goes on behind the other
+-- the longer one continues the other
 longer_front : (p r q t : List Step) → p ++ r ≡ q ++ t → length p ≤ length q → (m : List Step) × (q ≡ p ++ m) × (r ≡ m ++ t)
 longer_front [] r q t same fewer = (q, refl, same)
 longer_front (s ∷ p) r [] t same fewer = absurd (omega arith)
@@ -104,7 +104,7 @@ module _ (first : List ℕ → Step) (d : IsDecoding first) where
     taken = c.taken;
   }
 
-  -- a position behind another one, in what follows that
+  -- a later position, counted in what follows an earlier one
   pub boundary-between : (us : List ℕ) (n m : ℕ) → IsBoundary first us n → IsBoundary first us m → n ≤ m → IsBoundary first (drop n us) (m - n)
   boundary-between us n m b c le =
       elim (cases_lt (length c.before) (length b.before)) [
@@ -153,7 +153,7 @@ module _ (first : List ℕ → Step) (d : IsDecoding first) where
       ∙ ap (λ l. front ++ (middle ++ decoded first l)) behind
       ∙ sym (append_assoc front middle (decoded first (drop m us)))
 
-  -- a step ends where units that are well-formed do
+  -- a step ends with well-formed units
   pub boundary-well_formed : (us : List ℕ) (n : ℕ) → n ≤ length us → IsWellFormed first (take n us) → IsBoundary first us n
   boundary-well_formed us n h w = record {
     before = steps first (take n us);

@@ -1,4 +1,4 @@
--- A piece that stands at a position of units.
+-- A piece that is at a position of units.
 use Rattle.std.proofs.Common.{◌≡◌, ℕ, ◌+◌, ◌≤◌, List, ◌++◌, length, take, drop, sym, ap, ◌∙◌, arith, length-append, length-drop, length-take-le, take-append-drop, append_assoc}
 use Rattle.std.proofs.lemmas.List.{drop-drop}
 use Rattle.std.proofs.Math.Seq.{drop-append_seam}
@@ -10,7 +10,7 @@ use Rattle.normal_forms.specs.Cut.{IsFront}
 use Rattle.normalizer_text.specs.CheckSinks.{ChangesNothing, ExpectsTheSame, IsUnexpected, StandsAt}
 use Rattle.normalizer_text.specs.Outputs.{AnswersUnits}
 
--- a slice starts with a piece behind a position exactly where the piece stands there
+-- a slice starts with a piece from a position on exactly if the piece is at that position
 pub starts_at : {A : Type 0} {E : A → A → Bool} → ((a b : A) → Decides (E a b) (a ≡ b)) → (units : List A) (position : ℕ) (piece : List A) (r : Bool)
     → r ≡ starts_with E (take (length units - position) (drop position units)) piece → Decides r (StandsAt units position piece)
 starts_at {E = E} decides units position piece r is =
@@ -19,11 +19,11 @@ starts_at {E = E} decides units position piece r is =
     (λ yes. (drop (length piece) (drop position units), h.0 yes), λ stands. h.1 stands.0 stands.1)
 
 module _ (units : List ℕ) (position : ℕ) (piece : List ℕ) (front : IsFront piece (drop position units)) where
-  -- what stands behind it
+  -- what comes after it
   pub drop-end : drop (position + length piece) units ≡ front.0
   drop-end = sym (drop-drop (length piece) position units) ∙ ap (drop (length piece)) front.1 ∙ drop-append_seam piece front.0
 
-  -- what stands up to its end
+  -- what is up to its end
   pub take-end : position ≤ length units → take (position + length piece) units ≡ take position units ++ piece
   take-end within =
       let parts : units ≡ (take position units ++ piece) ++ front.0 =

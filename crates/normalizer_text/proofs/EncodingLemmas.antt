@@ -9,7 +9,7 @@ use Rattle.normalizer_text.specs.Steps.{read, steps, decoded, IsWellFormed}
 use Rattle.normalizer_text.proofs.Decoding.{IsDecoding}
 use Rattle.normalizer_text.proofs.StepLemmas.{IsRight, steps-nil, decoded-nil, steps-some, decoded-some, rest-shorter}
 
--- `encode` gives the units of a character, and `all` those of a text
+-- `encode` yields the units of a character, and `all` those of a text
 pub record IsEncoding (first : List ℕ → Step) (encode : ℕ → List ℕ) (all : List ℕ → List ℕ) : Type 0 where
   pub nil : all [] ≡ []
   pub cons : (c : ℕ) (x : List ℕ) → all (c ∷ x) ≡ encode c ++ all x

@@ -1,4 +1,4 @@
--- At how many of some places a byte stands that may.
+-- The number of leading places that have a byte that may be there.
 use Rattle.std.proofs.Common.{◌≡◌, ℕ, zero, suc, ◌<◌, ◌≤◌, true, false, List, [], ◌∷◌, ◌++◌, length, take, get_or, arith, refl, ap, sym, ◌∙◌, ⊎_elim}
 use Rattle.std.proofs.lemmas.Bool.{false≢true, cases_Bool, and_parts, leb-true}
 use Rattle.normalizer_text.specs.Utf8.{ByteRange, continuation, allows, matched}
@@ -7,7 +7,7 @@ use Rattle.normalizer_text.specs.MaximalSubparts.{IsWithin, AreWithin}
 pub allows-true : (r : ByteRange) (b : ℕ) → allows r b ≡ true → IsWithin r b
 allows-true r b e = let k = and_parts _ _ e in (leb-true _ _ k.0, leb-true _ _ k.1)
 
--- at each place below the count a byte stands that may
+-- each place below the count has a byte that may be there
 pub allows-below_matched : (rs : List ByteRange) (bs : List ℕ) (n : ℕ) → n < matched rs bs → allows (get_or rs n continuation) (get_or bs n 0) ≡ true
 allows-below_matched [] bs n h = absurd (omega arith)
 allows-below_matched (r ∷ rs) [] n h = absurd (omega arith)
@@ -32,14 +32,14 @@ matched_more (r ∷ rs) (b ∷ bs) (suc n) h l m a = ⊎_elim
     (λ no. absurd (let k = rw no at h in omega arith))
     (cases_Bool (allows r b))
 
--- the first n and no more, where the next place has no byte or one that may not stand there
+-- the first n and no more, if the next place has no byte or one that may not be there
 pub matched_stop : (rs : List ByteRange) (bs : List ℕ) (n : ℕ) → n ≤ matched rs bs → (n < length rs → n < length bs → allows (get_or rs n continuation) (get_or bs n 0) ≡ false) → n ≡ matched rs bs
 matched_stop rs bs n h stop = omega (arith, small)
   where
     small : n < matched rs bs → ⊥
     small l = let k = matched-le rs bs in false≢true (sym (stop (omega arith) (omega arith)) ∙ allows-below_matched rs bs n l)
 
--- where all of the places are matched, the bytes stand there
+-- if all of the places are matched, the bytes are there
 pub AreWithin-matched : (rs : List ByteRange) (bs : List ℕ) → matched rs bs ≡ length rs → AreWithin rs (take (length rs) bs)
 AreWithin-matched [] bs e = tt
 AreWithin-matched (r ∷ rs) [] e = absurd (omega arith)
@@ -59,7 +59,7 @@ matched-take (r ∷ rs) (b ∷ bs) (suc n) h = ⊎_elim
     (λ no. rw no refl)
     (cases_Bool (allows r b))
 
--- where all of the places are matched, bytes after them change nothing
+-- if all of the places are matched, bytes after them change nothing
 pub matched-append : (rs : List ByteRange) (bs more : List ℕ) → matched rs bs ≡ length rs → matched rs (bs ++ more) ≡ length rs
 matched-append [] bs more e = refl
 matched-append (r ∷ rs) [] more e = absurd (omega arith)

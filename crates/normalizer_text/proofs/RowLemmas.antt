@@ -184,7 +184,7 @@ first-short (b ∷ bs) t m h e q l =
     ∙ ap (λ x. replaced (suc (matched x bs))) (sym k.2)
     ∙ ap replaced (omega arith))
 
--- the same where all of them are
+-- the same if all of them are
 pub record IsWhole (bytes : List ℕ) (m : ℕ) : Type 0 where
   pub fits : 1 + m ≤ length bytes
   pub sequence : IsSequence (take (1 + m) bytes)

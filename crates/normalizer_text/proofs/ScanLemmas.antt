@@ -67,7 +67,7 @@ module _ (bound : ℕ) (units : List ℕ) (at n below : ℕ) (room : at + n ≤ 
       ∙ ap (λ k. cond (eqb (prefix_len p (chunk at n units)) k) (k + leading_below bound (drop (at + n) units)) (prefix_len p (chunk at n units))) long
       ∙ ap (λ k. cond (eqb k n) (n + leading_below bound (drop (at + n) units)) k) (sym counted)
 
-  -- the first that is not below the bound stands among the first n units
+  -- the first that is not below the bound is among the first n units
   pub leading_below-within : below < n → leading_below bound (drop at units) ≡ below
   leading_below-within few = apart ∙ cond-false _ _ _ (ne_eqb below n (λ e. absurd (omega arith)))
 
@@ -90,7 +90,7 @@ not-leb bound x = ⊎_elim
     (λ g. ap not (le-leb bound x g) ∙ sym (le-ltb x bound g))
     (cases_lt x bound)
 
--- where the first lane is that reaches the bound, by the mask of a comparison
+-- the first lane that reaches the bound, by the mask of a comparison
 pub lanes-below : (w : Width) (bound : ℕ) (v : List ℕ) (n mask : ℕ) → length v ≡ n → n ≤ 64
     → mask ≡ mask_l (map (top (hbits w)) (zip2 (λ a b. cond (leb a b) (2 ^ bits w - 1) 0) (replicate n bound) v)) % 2 ^ 64
     → cond (eqb mask 0) n (count_trailing_zeros 64 mask) ≡ leading_below bound v
@@ -101,7 +101,7 @@ lanes-below w bound v n mask long few is =
     ∙ first_set_mask_l (λ x. leb bound x) v n long few
     ∙ prefix_len-same (λ x. not (leb bound x)) (λ x. ltb x bound) (not-leb bound) v
 
--- and where the bound is too high for any of them to reach it
+-- and if the bound is too high for any of them to reach it
 pub lanes-below_all : (w : Width) (bound : ℕ) (units : List ℕ) (at n : ℕ) → at + n ≤ length units → ((k : ℕ) → Fits w (get_or units k 0)) → 2 ^ bits w ≤ bound
     → n ≡ leading_below bound (take n (drop at units))
 lanes-below_all w bound units at n room fits high =
@@ -154,7 +154,7 @@ boundary-low_units bound units h =
     boundary-single first_of_utf16 IsDecoding-utf16 (λ u. u < bound) (λ u us l. first-low_unit u us (omega arith)) units (leading_below bound units)
     (leading_below-le bound units) (All-leading_below bound units)
 
--- no byte from C0 on stands after the first one of a sequence
+-- no byte from C0 on comes after the first one of a sequence
 lead : (b : ℕ) → 0xC0 ≤ b → allows continuation b ≡ false
 lead b h = false_from_ne_true (allows continuation b) (λ e. let k = allows-true continuation b e in absurd (omega arith))
 
@@ -187,7 +187,7 @@ module _ (e : Encoding) (bound : ℕ) (units : List ℕ) (from : ℕ) (here : Is
     low = (let same : from + n - from ≡ n = omega arith in All-same (λ c. c < bound) _ _ (ap (λ k. decoded_in e (take k (drop from units))) same) low);
   }
 
-  -- where each unit is a character by itself
+  -- if each unit is a character by itself
   pub EndsLowCharacters-single : (limit : ℕ) → limit ≤ bound → ((u : ℕ) (us : List ℕ) → u < limit → first_in e (u ∷ us) ≡ read u 1)
       → (to : ℕ) → to ≡ from + leading_below limit (drop from units) → EndsLowCharacters e units from bound to
   EndsLowCharacters-single limit most single to is =

@@ -188,7 +188,7 @@ IsUtf8-IsWellFormed bytes w = (decoded_utf8 bytes, (scalars_from_text _ (decoded
 pub decoded-chars : (bytes : List ℕ) → IsUtf8 bytes → decoded_utf8 bytes ≡ chars bytes
 decoded-chars bytes u = chars_from_encodes (decoded_utf8 bytes) bytes u (encode-decoded bytes (IsWellFormed-IsUtf8 bytes u))
 
--- a step of a text ends where the text may be cut
+-- a step of a text ends at a character boundary
 pub IsCharBoundary-boundary : (bytes : List ℕ) (n : ℕ) → IsUtf8 bytes → IsBoundary first_of_utf8 bytes n → IsCharBoundary bytes n
 IsCharBoundary-boundary bytes n u b =
     let parts = well_formed-parts first_of_utf8 IsDecoding-utf8 bytes n b (IsWellFormed-IsUtf8 bytes u) in
@@ -199,7 +199,7 @@ boundary-IsCharBoundary bytes n u c = boundary-well_formed first_of_utf8 IsDecod
 
 -- ---- a place in a text
 
--- what stands from a byte on that can't trail is well-formed
+-- the bytes from one on that can't trail are well-formed
 pub well_formed-at : (text : List ℕ) (n : ℕ) → IsUtf8 text → n < length text → allows continuation (get_or (drop n text) 0 0) ≡ false → IsWellFormed first_of_utf8 (drop n text)
 well_formed-at text n u h lead =
     let here : get_or text n 0 ≡ get_or (drop n text) 0 0 = ap (λ i. get_or text i 0) (omega arith) ∙ sym (get_or-drop n text 0 0) in

@@ -62,7 +62,7 @@ decoded-lossy16 us small = by (length us) us (omega arith) small
         ∙ sym (ap (map (λ o. unwrap_or o 0xFFFD)) (utf16_chars_lone u (v ∷ us) (λ p. false≢true (sym apart ∙ grind (arith, nat_tests))))))
         (cases_Bool (is_high u && is_low v))
 
--- ---- how many bytes one U+FFFD stands for
+-- ---- how many bytes one U+FFFD replaces
 
 -- the second byte of a row, in std's words, and how many come after it
 record HasSecond (r : Row) (b : ℕ) : Type 0 where
@@ -202,7 +202,7 @@ invalid_len b bs e = by_cases (λ s. s.is_error ≡ true → utf8_invalid_len (b
     (row_of-HasSeconds b r f))
     e
 
--- ---- where bytes stop being well-formed
+-- ---- the first error in bytes
 
 -- the first steps are right, and the next one is an error
 record HasError (ss : List Step) : Type 0 where
@@ -286,7 +286,7 @@ IsValidUpTo-front bs e =
           absurd (omega (arith, length-take m bs));
     }
 
--- bytes up to the first error, the bytes that U+FFFD stands for, and the rest
+-- bytes up to the first error, the bytes that U+FFFD replaces, and the rest
 lossy-front : (bs : List ℕ) (e : HasError (steps first_of_utf8 bs))
     → utf8_lossy bs ≡ take (width_of e.before) bs ++ (replacement_bytes ++ utf8_lossy (drop e.error.width (drop (width_of e.before) bs)))
 lossy-front bs e =

@@ -47,7 +47,7 @@ module _ (first : List ℕ → Step) (d : IsDecoding first) where
   pub rest-shorter : (us : List ℕ) (n : ℕ) → 0 < length us → length us ≤ suc n → length (drop (first us).width us) ≤ n
   rest-shorter us n h l = omega (arith, length-drop (first us).width us, d.some us h)
 
-  -- an iterator that takes the step in front each time gives what the units decode to
+  -- an iterator that takes the first step each time yields what the units decode to
   pub Spells-TakesFirst : (us : List ℕ) → Spells (TakesFirst first) us (decoded first us)
   Spells-TakesFirst us = by (length us) us (omega arith)
     where
@@ -119,7 +119,7 @@ module _ (first : List ℕ → Step) (d : IsDecoding first) where
           ∙ ap (λ x. first us' ∷ x) (by n (drop (first us').width us') (rest-shorter us' n (omega arith) h) (All-tail IsRight (first us') (steps first (drop (first us').width us')) w'))
           ∙ sym (ap (λ x. x ++ steps first rest) cons)
 
-  -- the steps of the first n units, and of the others, where the first step takes no more than n
+  -- the steps of the first n units, and of the others, if the first step takes no more than n
   pub steps-take : (us : List ℕ) (n : ℕ) → 0 < length us → (first us).width ≤ n → steps first (take n us) ≡ first us ∷ steps first (take (n - (first us).width) (drop (first us).width us))
   steps-take us n h l =
       let w = (first us).width in

@@ -118,7 +118,7 @@ matched-sequence b bs k s r e =
     let m = matched-AreWithin r.trail (take k bs) (drop k bs) (same_row b (take k bs) s r e) in
     (ap (matched r.trail) (sym (take-append-drop k bs)) ∙ m.0, m.1)
 
--- no sequence stands in front where its row is not matched
+-- no sequence is at the front if its row is not matched
 unmatched : (b : ℕ) (bs : List ℕ) → ((r : Row) → row_of b ≡ Some r → matched r.trail bs < length r.trail) → (n : ℕ) → IsWellFormedSequence (take n (b ∷ bs)) → ⊥
 unmatched b bs short zero s = s.within
 unmatched b bs short (suc k) s =
