@@ -1,4 +1,4 @@
--- Data that are built meet all that constructors ask.
+-- Built data meet all conditions of constructors.
 use Rattle.std.proofs.Common.{false, true, ◌+◌, [], ◌∷◌, List, ◌++◌, length, All, None, Some, subst, arith}
 use Rattle.std.proofs.lemmas.List.{get_or_append_left, get_or-append-add, length-append}
 use Rattle.std.proofs.lemmas.List.Elements.{All-cons, All-nil}
@@ -60,7 +60,7 @@ module _ (s : Characters) (pairs : List Pair) (met : All (IsMet (characters_and_
   alone = λ k c h. (accepted_characters k c h, tt, tt)
 
 module _ (p : Packed) (fit : IsFirstUnfit p None) where
-  -- of the conditions of canonical data those on texts stand first, and none of them speaks of the supplement
+  -- of the conditions of canonical data those on texts are first, and none of them speaks of the supplement
   pub nfc_met : All (IsMet (characters_and_pairs (characters_of p Canonical) p.compositions)) (composing_conditions false)
   unfolding IsMet
   nfc_met = λ k c h. (let met = All-front (IsMet (loaded_of p Canonical)) (composing_conditions false) (FdfaForms ∷ Steps ∷ []) (fit_kind p fit Canonical) k c h in (met.0, met.1, tt))
@@ -77,7 +77,7 @@ module _ (p : Packed) (fit : IsFirstUnfit p None) where
   pub nfkd_met : All (IsMet (characters_alone (characters_of p Compatibility))) decomposing_conditions
   nfkd_met = alone (characters_of p Compatibility) p.compositions nfkc_met
 
-  -- what classes alone ask follows from three of the conditions, and what pairs alone ask from one
+  -- what classes alone require follows from three of the conditions, and what pairs alone require from one
   pub classes_met : ((s : Characters) (b : Bounds) → Holds s b Surrogates → Holds s b PastTheEnd → Holds s b Words → All (HoldsOfClasses s.decompositions.table) class_conditions) →
       All (HoldsOfClasses p.canonical.table) class_conditions
   unfolding IsMet

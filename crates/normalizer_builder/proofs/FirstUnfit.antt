@@ -31,12 +31,12 @@ IsBefore-trans : (a b c : Unfit) → IsBefore a b → IsBefore b c → IsBefore 
 unfolding IsBefore
 IsBefore-trans a b c h k = grind arith
 
--- what stands before a, which c doesn't, stands before c
+-- what comes before a, which c doesn't, comes before c
 IsBefore-other : (a b c : Unfit) → IsBefore a b → ¬ IsBefore c b → IsBefore a c
 unfolding IsBefore
 IsBefore-other a b c h other = grind arith
 
--- demands in two parts: the lesser of the answers to both is the answer to all
+-- requirements in two parts: the lesser of the errors for both is the error for all
 module _ {D C : Type 0} (answer : C → Unfit) (meets : C → Type 0) (demand : D → C) (A : D → Type 0) (B M : C → Type 0) (left_made : (d : D) → A d → M (demand d)) (right_made : (c : C) → B c → M c)
     (parts : (c : C) → M c → ((d : D) × A d × (demand d ≡ c)) ⊎ B c) where
   of_both : (P : Unfit → Type 0) → ((d : D) → A d → P (answer (demand d)) → meets (demand d)) → ((c : C) → B c → P (answer c) → meets c) → (c : C) → M c → P (answer c) → meets c
@@ -73,7 +73,7 @@ module _ (kind : Kind) where
   number_at conditions numbers c k within at =
       ap number_of (sym at) ∙ sym (get_or-map number_of conditions k c 0 within) ∙ ap (λ x. get_or x k 0) numbers ∙ get_or-range_with_len 1 (length conditions) k 0 within
 
-  -- what stands before the first that fails holds
+  -- what comes before the first that fails holds
   earlier_holds : (P : Condition → Type 0) (before after : List Condition) (c : Condition) → map number_of (before ++ c ∷ after) ≡ range_with_len 1 (length (before ++ c ∷ after)) → All P before →
       (e : Condition) → Contains (before ++ c ∷ after) e → IsBefore (answer_of kind e) (answer_of kind c) → P e
   unfolding IsBefore

@@ -10,7 +10,7 @@ use Rattle.normalizer_builder.specs.Demands.{Asks, IsMade, Meets, conditions_of,
 use Rattle.normalizer_builder.specs.Fitness.{IsFirstUnfit}
 use Rattle.normalizer_builder.specs.Ranks.{IsFirstUnmet}
 
--- data that meet what is demanded of those of records meet what constructors ask
+-- data that meet what is required of those of records meet what constructors require
 pub fit_of_records : (records : List Entry) (p : Packed) → IsFirstUnfitOfRecords records p None → IsFirstUnfit p None
 unfolding IsFirstUnmet IsMadeOfRecords MeetsRecords
 fit_of_records records p fit = λ d made. fit (OfConstructors d) made

@@ -66,12 +66,12 @@ pub record IsSound (Q : ℕ → Type 0) (x : List ℕ) : Type 0 where
   pub some : 0 < length x
   pub all : AllByRecursion Q x
 
--- the mapper asks nothing of the character itself
+-- nothing is required of the character itself for the mapper
 abbrev pub asked_mark : List Entry → Kind → ℕ → Bool
 asked_mark records kind.Mapper n = false
 asked_mark records _ n = is_mark records n
 
--- a list that records give: none of its members is U+0000, but in that of U+0000 itself
+-- a list of records: none of its members is U+0000, but in that of U+0000 itself
 pub record IsGiven (records : List Entry) (k : Kind) (n : ℕ) (x : List ℕ) : Type 0 where
   pub sound : IsSound (λ m. 0 < n → 0 < m) x
   pub short : ¬ IsTooLong x
@@ -233,7 +233,7 @@ module _ (records : List Entry) (uts46 : List MapperEntry) (none : IsFirstRefusa
   recorded_list-unrecorded kind.Compatibility n missing unmapped = ap Some (full_list-unrecorded AllMappings n missing)
   recorded_list-unrecorded kind.Mapper n missing unmapped = ap (mapped_list records n) unmapped ∙ ap Some (full_list-unrecorded Canonical n missing)
 
-  -- U+FFFD has itself alone, also where the mapper disallows it
+  -- U+FFFD is its own list, even if the mapper disallows it
   pub recorded_list-replacement : (k : Kind) → recorded_list records uts46 k 0xFFFD ≡ Some (0xFFFD ∷ [])
   unfolding is_hangul_syllable mapper_list mapped_list list_of_status status_of
   recorded_list-replacement kind.Canonical = ap Some (full_list-unrecorded Canonical 0xFFFD unrecorded_replacement)

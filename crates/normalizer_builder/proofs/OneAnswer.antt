@@ -1,4 +1,4 @@
--- Records have but one smallest refusal, want of memory aside, and none where they build data.
+-- Records have at most one smallest refusal, memory aside, and none if they build data.
 use Rattle.std.proofs.Common.{◌≡◌, ◌≢◌, inl, inr, ◌≤◌, List, Option, Some, None, refl, ap, sym, subst, arith}
 use Rattle.std.proofs.lemmas.Bool.{cases_order}
 use Rattle.normalizer_tables.specs.declared.provider.DataMarkerInfo.{DataMarkerInfo}
@@ -20,7 +20,7 @@ use Rattle.normalizer_builder.proofs.SameParts.{one_packing_of_records, same_ent
 one_place : (m l : DataMarkerInfo) → place_of m ≡ place_of l → m ≡ l
 one_place m l same = grind arith
 
--- two answers of which neither stands before the other are one
+-- two errors of which neither comes before the other are equal
 one_of_neither : (u v : Unfit) → ¬ IsBefore u v → ¬ IsBefore v u → u ≡ v
 unfolding IsBefore
 one_of_neither u v h k =
@@ -28,7 +28,7 @@ one_of_neither u v h k =
     let markers : u.marker ≡ v.marker = one_place u.marker v.marker (grind arith) in
     λ i. record { marker = markers i; condition = conditions i }
 
--- the least answer to demands that aren't met is one
+-- there is at most one least error for requirements that aren't met
 one_unmet : {D : Type 0} (made : D → Type 0) (answer : D → Unfit) (meets : D → Type 0) (o p : Option Unfit) → IsFirstUnmet made answer meets o → IsFirstUnmet made answer meets p → o ≡ p
 unfolding IsFirstUnmet
 one_unmet made answer meets None None h k = refl
@@ -50,7 +50,7 @@ module _ (records : List Entry) (uts46 : List MapperEntry) where
     | inr (inr above) ↦ absurd (h.1 s above k.0)
   ]
 
-  -- what becomes of records that aren't refused: too many items, or data, and the least answer to what they don't meet
+  -- what becomes of records that aren't refused: too many items, or data, and the least error for what they don't meet
   abbrev Becomes : Option (Option Unfit) → Type 0
   Becomes None = HasTooManyItems records uts46
   Becomes (Some o) = (p : Packed) × PacksRecords records uts46 p × IsFirstUnfitOfRecords records p o
@@ -72,7 +72,7 @@ module _ (records : List Entry) (uts46 : List MapperEntry) where
   error_of_outcome (Some None) = error.Memory
   error_of_outcome (Some (Some u)) = error.Unfit u.marker u.condition
 
-  -- what is answered, memory standing for data
+  -- the result, with `Memory` in place of data
   data Cause : BuildError → Type 0 where
     refused : (r : Refusal) → IsFirstRefusal records uts46 (Some r) → Cause (error_of r)
     become : (v : Option (Option Unfit)) → IsFirstRefusal records uts46 None → Becomes v → Cause (error_of_outcome v)

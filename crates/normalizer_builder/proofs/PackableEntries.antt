@@ -20,7 +20,7 @@ use Rattle.normalizer_builder.specs.Recorded.{AreMadeOf, entry_for}
 use Rattle.normalizer_builder.proofs.EntriesOfRecords.{AreRising-made, own_recorded}
 use Rattle.normalizer_builder.proofs.NoRefusal.{IsGiven, IsGiven-recorded}
 
--- a character is past U+FFFF where not all are below
+-- if not all characters are below, one is past U+FFFF
 some_past : (x : List ℕ) → list_all (λ c. nat_le c 0xFFFF) x ≡ false → list_any (λ c. nat_lt 0xFFFF c) x ≡ true
 some_past [] h = absurd (true≢false h)
 some_past (c ∷ x) h = let later = some_past x in grind (arith, nat_tests)
@@ -41,7 +41,7 @@ fdfa_spelled : (class : ℕ → ℕ) (n : ℕ) → spelling class n (Some fdfa_l
 unfolding spelling spelling_or_ignored spelling_by_list spelling_of_list fdfa_list
 fdfa_spelled class n e = absurd (grind arith)
 
--- the list of an entry, where records give it, has the length of a word if it stands in a table
+-- the list of an entry made of records has a length for which a word has room, if it is in a table
 listed_given : (records : List Entry) (m : ℕ) (class : ℕ → ℕ) (k : Kind) (e : CharacterEntry) → IfSome (own_list k e) (IsGiven records k m) → IfSome (listed_of class k e) HasLengthOfWord
 unfolding listed_of
 listed_given records m class k e given = of_list (own_list k e) given (spelling class e.character (own_list k e)) refl

@@ -101,7 +101,7 @@ module _ (records : List Entry) (uts46 : List MapperEntry) (none : IsFirstRefusa
     ];
   }
 
-  -- the class that words tell is the recorded one, where no mark is without a word that tells its class
+  -- the class in words is the recorded one, if the word of each mark has room for its class
   class_by-told : (k : Kind) → ((n : ℕ) → IsTold records uts46 entries n → tells_class k entries n ≡ false → class_of records n ≡ 0) → (n : ℕ) → class_by k entries n ≡ class_of records n
   unfolding class_by
   class_by-told k starts n = elim (tells n) [

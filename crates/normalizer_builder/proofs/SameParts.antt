@@ -1,4 +1,4 @@
--- What is packed of the same records is the same, and pairs in another order answer alike.
+-- What is packed of the same records is the same, and the order of pairs makes no difference.
 use Rattle.std.proofs.Common.{◌≡◌, ◌⊎◌, inl, inr, ℕ, zero, suc, ◌<◌, Bool, true, false, List, [], ◌∷◌, map, find, get_or, All, AllPairs, Contains, IsPermutation, Some, refl, ap}
 use Rattle.std.proofs.Common.{sym, subst, ◌∙◌, arith}
 use Rattle.std.proofs.Common.{if◌then◌else◌}

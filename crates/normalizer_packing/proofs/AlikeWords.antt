@@ -1,4 +1,4 @@
--- Neighbours of which nothing is told have the same words.
+-- Neighbours of which data say nothing have the same words.
 use Rattle.std.proofs.Common.{◌≡◌, ◌≢◌, ◌∙◌, ℕ, ◌+◌, Bool, eqb-true, List, [], ◌∷◌, map, Contains, Option, Some, None, refl, sym, ap, subst, arith, inl, inr}
 use Rattle.std.specs.List.{AllByRecursion}
 use Rattle.std.proofs.lemmas.Bool.{and_parts}
@@ -42,7 +42,7 @@ abbrev plain : Option ℕ → Spelling
 plain (Some w) = Final w
 plain None = Short 0
 
--- what is known of n where nothing is told of it
+-- what is known of n if data say nothing of it
 record IsUntold (entries : List CharacterEntry) (pairs : List Pair) (n : ℕ) : Type 0 where
   entry : entry_of entries n ≡ None
   listed : (first : ℕ) → listed_result pairs first n ≡ None
@@ -57,11 +57,11 @@ module _ (entries : List CharacterEntry) (pairs : List Pair) (told : List ℕ) (
     apart = recursion_from_All (λ e. e ≢ n) edges (λ k d within same. untold (lists.all n (Contains-append_right _ edges n (k, within, get_or_default edges k n d within ∙ same))));
   }
 
--- what composition of Hangul asks of a second
+-- what composition of Hangul requires of a second
 abbrev jamo : ℕ → Bool × Bool × Bool
 jamo n = (is_vowel n, is_trailing_consonant n, is_vowel_or_trailing_jamo n)
 
--- where nothing composes with one second, nothing does with another of the same jamo that no pair has
+-- if nothing composes with one second, nothing does with another of the same jamo that no pair has
 never_alike : (pairs : List Pair) (a b : ℕ) → jamo a ≡ jamo b → ((first : ℕ) → listed_result pairs first b ≡ None) → IsNeverSecond pairs a → IsNeverSecond pairs b
 unfolding IsNeverSecond pair_of compose_hangul
 never_alike pairs a b same listed never first =

@@ -20,7 +20,7 @@ find-none p (x ∷ xs) h = rw (All-head (λ y. p y ≡ false) x xs h) (find-none
 pub character_at : (entries : List CharacterEntry) (k : ℕ) (d : CharacterEntry) → k < length entries → get_or (map (λ e. e.character) entries) k 0 ≡ (get_or entries k d).character
 character_at entries k d within = get_or-map (λ (e : CharacterEntry). e.character) entries k d 0 within
 
--- entries rise where their characters do
+-- entries rise if their characters do
 pub rising_characters : (entries : List CharacterEntry) → IsStrictlyIncreasing (map (λ e. e.character) entries) → AreRising entries
 rising_characters entries rising i j d below within =
     let inside : j < length (map (λ e. e.character) entries) = omega (arith, length-map entries (λ (e : CharacterEntry). e.character)) in
@@ -61,7 +61,7 @@ find-tells {X} p (x ∷ xs) = elim (p x) as (λ b. p x ≡ b → ((cond b (Some 
       ]
     ] refl
 
--- none is found where no element has this number
+-- none is found if no element has this number
 pub find-missing : {X : Type 0} (number : X → ℕ) (xs : List X) (n : ℕ) → (Contains (map number xs) n → ⊥) → find (λ x. number x == n) xs ≡ None
 find-missing number xs n missing = elim (find-tells (λ x. number x == n) xs) [
   | inl none ↦ none.0

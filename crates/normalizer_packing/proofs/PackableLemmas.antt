@@ -28,7 +28,7 @@ lengths_tell f (e ∷ es) = elim (f e) as (λ o. IsTrue (has_length_if_any o && 
   )
 ]
 
--- the test of each entry answers whether a word can tell the lengths
+-- the test of each entry decides whether a word has room for the lengths
 pub lengths_decide : (entries same : List CharacterEntry) (kind : Kind) (r : Bool) → same ≡ entries → r ≡ list_all (λ e. has_length_if_any (listed_of (class_in entries) kind e)) same →
     IsTrue r ↔ All HasLengthOfWord (listed_in entries kind)
 unfolding listed_in

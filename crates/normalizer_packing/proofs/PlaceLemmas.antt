@@ -1,4 +1,4 @@
--- Where lists stand in the four tables.
+-- The places of lists in the four tables.
 use Rattle.std.proofs.Common.{◌≡◌, ℕ, ◌+◌, ◌<◌, ◌≤◌, true, false, List, [], ◌∷◌, ◌++◌, length, Option, Some, None, if◌then◌else◌, All, refl, arith, sym, subst, ap, ◌∙◌, inl, inr}
 use Rattle.std.proofs.lemmas.Bool.Decides.{nat_tests}
 use Rattle.std.proofs.lemmas.Bool.{cases_Bool, or_cases, or_left, or_right}
@@ -19,7 +19,7 @@ use Rattle.normalizer_packing.specs.inner.Stores.{StandsAt, place_in, tables_in}
 use Rattle.normalizer_packing.proofs.StoreLemmas.{is_some-place, narrow_length, place_if_some, placed}
 use Rattle.normalizer_packing.proofs.TableLemmas.{is_among-append, is_among-apart, is_among-first_come, same_list, stands_at_place}
 
--- a list stands within its table
+-- a list is within its table
 pub place_within : (t : Lists) (x : List ℕ) (place : ℕ) → StandsAt t x place → place + length x ≤ length (if is_narrow x then t.scalars16 else t.scalars24)
 unfolding StandsAt items_at
 place_within t x place h = grind (arith, nat_tests)
@@ -34,7 +34,7 @@ pub item_within : (t : Lists) (x : List ℕ) (place : ℕ) → 0 < length x → 
 unfolding item_at
 item_within t x place some h = let within = place_within t x place h in grind arith
 
--- each of the lists stands at its place
+-- each of the lists is at its place
 pub stands_among : (lists : List (List ℕ)) (x : List ℕ) → is_among x lists ≡ true → StandsAt (tables_of lists) x (place_of lists x)
 unfolding StandsAt
 stands_among lists x among = let stands = stands_at_place lists x among in grind arith
@@ -59,7 +59,7 @@ module _ (entries : List CharacterEntry) (x : List ℕ) where
   among_others Compatibility is other = is_among-append x _ _ ∙ or_left _ _ is
   among_others Mapper is other = is_among-append x _ _ ∙ or_right _ _ is
 
-  -- a list of one kind that canonical data don't need stands in the supplementary tables
+  -- a list of one kind that canonical data don't need is in the supplementary tables
   pub among_supplementary : (kind : Kind) → is_among x (listed_in entries kind) ≡ true → is_among x (canonical_lists entries) ≡ false → is_among x (supplementary_lists entries) ≡ true
   unfolding supplementary_lists
   among_supplementary kind is other =
@@ -89,12 +89,12 @@ past_both : (t : Lists) (low : ℕ) (after : ℕ → Option (List ℕ)) (k : ℕ
 unfolding listed_from placed_in
 past_both t low after k = grind (arith, nat_tests)
 
--- the list that stands at its place in one of two tables
+-- the list that is at its place in one of two tables
 given : (t : Lists) (x : List ℕ) (place : ℕ) (after : ℕ → Option (List ℕ)) → 0 < length x → as_text x ≡ Some x → StandsAt t x place → listed_from t (low_length x) after (item_at t x place) ≡ Some x
 unfolding listed_from placed_in StandsAt item_at low_length narrow_at wide_at
 given t x place after some text stands = let within = place_within t x place stands in let long = narrow_length x in grind (arith, nat_tests)
 
--- a list of one kind of data is what the tables give from its item on
+-- a list of one kind of data is in the tables from its item on
 pub given_from : (entries : List CharacterEntry) (s : Characters) (x : List ℕ) (kind : Kind) → s.tables ≡ tables_of (canonical_lists entries) → 0 < length x → as_text x ≡ Some x →
     is_among x (listed_in entries kind) ≡ true → (is_among x (canonical_lists entries) ≡ false → s.supplementary ≡ tables_of (supplementary_lists entries)) →
     listed_at s (item_of entries x) (low_length x) ≡ Some x
@@ -107,7 +107,7 @@ given_from entries s x kind first some text among second = elim (cases_Bool (is_
 ]
 
 module _ (entries : List CharacterEntry) (s : Stores) (h : CanPoint entries s) (kind : Kind) (x : List ℕ) (listed : is_among x (listed_in entries kind) ≡ true) where
-  -- a word can tell the length of each list that stands in a table
+  -- a word has room for the length of each list in a table
   pub length_of_listed : HasLengthOfWord x
   length_of_listed = among_all HasLengthOfWord x (listed_in entries kind) (h.packable.lengths kind) listed
 
@@ -115,7 +115,7 @@ module _ (entries : List CharacterEntry) (s : Stores) (h : CanPoint entries s) (
   within_limit : item_of entries x < item_limit
   within_limit = omega (arith, h.within, item_of-within entries x kind listed (length_of_word x length_of_listed))
 
-  -- a list that the first store holds stands there
+  -- a list that the first store holds is in its tables
   module _ (place : ℕ) (found : place_in s.canonical x ≡ Some place) where
     own_place : (is_among x (canonical_lists entries) ≡ true) × (place ≡ place_of (canonical_lists entries) x)
     own_place = place_if_some (canonical_lists entries) s.canonical x h.stored.canonical place found
@@ -129,7 +129,7 @@ module _ (entries : List CharacterEntry) (s : Stores) (h : CanPoint entries s) (
     pub within_first : item_at (tables_in s.canonical) x place < item_limit
     within_first = omega (arith, item_first, within_limit)
 
-  -- another stands in the second
+  -- another is in those of the second
   module _ (nowhere : place_in s.canonical x ≡ None) where
     not_canonical : is_among x (canonical_lists entries) ≡ false
     not_canonical = sym (is_some-place (canonical_lists entries) s.canonical x h.stored.canonical) ∙ ap is_some nowhere
@@ -149,5 +149,5 @@ module _ (entries : List CharacterEntry) (s : Stores) (h : CanPoint entries s) (
     pub within_second : item_count (tables_in s.canonical) + item_at (tables_in s.supplementary) x (place_of (supplementary_lists entries) x) < item_limit
     within_second = omega (arith, item_second, within_limit)
 
--- where a list of one kind stands, and that words can point there
+-- the place of a list of one kind, to which words can point
 pub ruleset listed_places = (stands_first, item_first, within_first, placed_second, stands_second, item_second, within_second)

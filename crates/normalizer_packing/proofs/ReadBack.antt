@@ -63,7 +63,7 @@ module _ (entries : List CharacterEntry) (pairs : List Pair) (p : Packed) (packs
   unfolding word_of
   packed_word kind n within = (of_kind kind).words.words n within
 
-  -- a list of canonical data stands in the first tables, and words of other data point into all
+  -- a list of canonical data is in the first tables, and words of other data point into all
   second_tables : (kind : Kind) (x : List ℕ) → is_among x (listed_in entries kind) ≡ true → is_among x (canonical_lists entries) ≡ false →
       (characters_of p kind).supplementary ≡ tables_of (supplementary_lists entries)
   second_tables Canonical x among other = let here = canonical_kind entries x among in absurd cc

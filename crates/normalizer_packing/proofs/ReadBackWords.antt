@@ -32,7 +32,7 @@ pub record Reads (n w : ℕ) (is_mapper : Bool) (r : WordReading) (k : ℕ) (b :
   pub class : class_of_word w ≡ k
   pub form : is_class_form w ≡ b
 
--- the bits of w that tests see, where it is v without its flags
+-- the bits of w that tests look at, if w without its flags is v
 record HasBits (w v : ℕ) : Type 0 where
   whole : bit_and w 0x3FFFFFFF ≡ v
   above_byte : bit_and w 0x3FFFFF00 ≡ v / 2 ^ 8 * 2 ^ 8

@@ -38,7 +38,7 @@ module _ (lists : List (List ℕ)) (s : Store) (x : List ℕ) (h : Holds lists s
   unfolding with_list
   Holds-there among = rw among h
 
-  -- another is put behind those of its table
+  -- another list is appended to those of its table
   module _ (new : Store) (n : ℕ) (b : Bool) (narrow : is_narrow x ≡ b) (fresh : is_among x lists ≡ false) (finds : (y : List ℕ) → place_in new y ≡ cond (list_eq x y) (Some n) (place_in s y))
       (at_end : n ≡ length (if b then s.scalars16.items else s.scalars24.items)) where
     place_put : (y : List ℕ) → place_in new y ≡ (if is_among y (lists ++ x ∷ []) then Some (place_of (lists ++ x ∷ []) y) else None)
@@ -93,7 +93,7 @@ module _ (kind : Kind) (entries items : List CharacterEntry) (i : ℕ) (same : i
   unfolding listed_so_far listed_in
   listed_so_far-all past = ap (filter_map (listed_of (class_in entries) kind)) (take_all i entries (subst (λ (l : List CharacterEntry). length l ≤ i) same past))
 
--- where lists stand after one is put into the map of places
+-- the places of lists after one is put into the map of places
 pub place_updated : (old mid new : Store) (x : List ℕ) (n : ℕ) → mid.places ≡ old.places →
     UpdatesBy (λ a b. slice_cmp nat_cmp a.now b.now) (λ k. slice_cmp nat_cmp x k.now) mid.places new.places (Some n) → (y : List ℕ) → place_in new y ≡ cond (list_eq x y) (Some n) (place_in old y)
 unfolding place_in

@@ -50,7 +50,7 @@ with_list-behind : (x y : List ℕ) (lists : List (List ℕ)) → y ∷ (if not 
 unfolding with_list is_among
 with_list-behind x y lists = grind arith
 
--- one more list comes behind the others, if it isn't among them
+-- one more list comes after the others, if it isn't among them
 pub first_come-append : (lists : List (List ℕ)) (x : List ℕ) → first_come (lists ++ x ∷ []) ≡ with_list (first_come lists) x
 unfolding first_come with_list is_among
 first_come-append [] x = refl
@@ -59,7 +59,7 @@ first_come-append (y ∷ lists) x =
     ∙ ap (λ l. y ∷ l) (filter-with_list (λ z. not (list_eq z y)) (first_come lists) x)
     ∙ with_list-behind x y (filter (λ z. not (list_eq z y)) (first_come lists))
 
--- unless it stands among those before
+-- unless it is among those before
 pub apart_from-more : (before lists : List (List ℕ)) (x : List ℕ) → apart_from before (first_come (lists ++ x ∷ [])) ≡
     (if not (is_among x before) then with_list (apart_from before (first_come lists)) x else apart_from before (first_come lists))
 unfolding apart_from
@@ -91,12 +91,12 @@ before_first-append : (p : List ℕ → Bool) (lists more : List (List ℕ)) →
 before_first-append p [] more = refl
 before_first-append p (y ∷ lists) more = rw (before_first-cons p y (lists ++ more), before_first-cons p y lists, before_first-append p lists more) (grind arith)
 
--- a list keeps its place when another comes behind
+-- a list keeps its place when another comes after
 pub place_of-kept : (lists : List (List ℕ)) (x y : List ℕ) → is_among x lists ≡ true → place_of (lists ++ y ∷ []) x ≡ place_of lists x
 unfolding is_among place_of
 place_of-kept lists x y among = rw (before_first-append (list_eq x) lists (y ∷ []), among) refl
 
--- and one that is put behind stands at the end of its table
+-- and one that is appended is at the end of its table
 pub place_of-end : (lists : List (List ℕ)) (x : List ℕ) → is_among x lists ≡ false → place_of (lists ++ x ∷ []) x ≡ length (items_of (is_narrow x) lists)
 unfolding is_among place_of
 place_of-end lists x new = rw (before_first-append (list_eq x) lists (x ∷ []), new, eq_list x x refl, append-nil lists) refl
@@ -107,7 +107,7 @@ items_at-middle p x t =
     let lengths = length-append p (x ++ t) in let more = length-append x t in let rest = drop-append-add p (x ++ t) 0 in
     let first = take-append-le (length x) x t in let whole = take-length x in grind (arith, nat_tests)
 
--- a list stands behind those before the first that is equal
+-- a list is after those before the first that is equal
 split_at_list : (lists : List (List ℕ)) (x : List ℕ) → is_among x lists ≡ true → (rest : List (List ℕ)) × (lists ≡ before_first (list_eq x) lists ++ (x ∷ rest))
 unfolding is_among
 split_at_list [] x among = cc
@@ -116,7 +116,7 @@ split_at_list (y ∷ lists) x among = elim (cases_Bool (list_eq x y)) [
   | inr other ↦ (let rest = split_at_list lists x (rw other at among) in (rest.0, rw (before_first-cons (list_eq x) y lists, other) (ap (λ l. y ∷ l) rest.1)))
 ]
 
--- so it stands at its place in its table
+-- so it is at its place in its table
 pub stands_at_place : (lists : List (List ℕ)) (x : List ℕ) → is_among x lists ≡ true → items_at (items_of (is_narrow x) lists) (place_of lists x) (length x) ≡ Some x
 unfolding place_of items_of
 stands_at_place lists x among =

@@ -1,4 +1,4 @@
--- Ranges one after another, and the stretches that they give one word.
+-- Ranges one after another, and the stretches of numbers with one word.
 use Rattle.std.proofs.Common.{◌≡◌, ℕ, zero, suc, ◌<◌, ◌≤◌, ◌+◌, ◌-◌, List, All, Contains, length, get_or, [], ◌∷◌, ◌++◌, arith, subst, ◌∙◌, inl, inr}
 use Rattle.std.specs.List.Sorted.{IsPartitionPoint, IsStrictlyIncreasing}
 use Rattle.std.proofs.lemmas.Bool.{cases_lt}
@@ -12,13 +12,13 @@ use Rattle.normalizer_tables.specs.Table.{code_points}
 use Rattle.normalizer_tables.proofs.WordsInRanges.{word_in-held, word_in-missed}
 use Rattle.normalizer_packing.specs.inner.Stretches.{AreAlike, CoverUpTo, IsStretch}
 
--- a range put behind changes no word before it
+-- an appended range changes no word before it
 word_in-before : (rs : List WordRange) (b e w n : ℕ) → n < b → word_in (rs ++ (b, e, w) ∷ []) n ≡ word_in rs n
 unfolding word_in
 word_in-before [] b e w n below = grind (arith, nat_tests)
 word_in-before (r ∷ rs) b e w n below = let rest = word_in-before rs b e w n below in grind arith
 
--- and gives its own numbers its word
+-- and its own numbers have its word
 word_in-behind : (rs : List WordRange) (b e w n : ℕ) → All (λ r. r.1 < b) rs → b ≤ n → n ≤ e → word_in (rs ++ (b, e, w) ∷ []) n ≡ w
 word_in-behind [] b e w n before low high = word_in-held (b, e, w) [] n low high
 word_in-behind (r ∷ rs) b e w n before low high =
@@ -47,7 +47,7 @@ module _ (is_word : ℕ → ℕ → Type 0) where
   unfolding IsStretch
   IsStretch_one n m w low high h = let same : n ≡ m = omega arith in subst (λ (k : ℕ). is_word k w) same h
 
--- the told numbers before a place are below `from`, and the others aren't
+-- the listed numbers before a place are below `from`, and the others aren't
 abbrev pub HasPassed : List ℕ → ℕ → ℕ → Type 0
 HasPassed told place from = IsPartitionPoint (λ n. n < from) (λ n. from ≤ n) told place
 
@@ -55,7 +55,7 @@ module _ (told : List ℕ) (rising : IsStrictlyIncreasing told) (place from : �
   not_below : (j d : ℕ) → place ≤ j → j < length told → get_or told place d ≤ get_or told j d
   not_below j d le within = let less = AllPairs-from_increasing told rising place j d in grind arith
 
-  -- no told number stands before the next
+  -- no listed number comes before the next
   untold : (end : ℕ) → ((d : ℕ) → place < length told → end ≤ get_or told place d) → (n : ℕ) → from ≤ n → n < end → Contains told n → ⊥
   untold end next n low below h = elim (cases_lt h.0 place) as (λ _. ⊥) [
     | inl before ↦ omega (arith, passed.0 h.0 n (omega arith) before, h.2)

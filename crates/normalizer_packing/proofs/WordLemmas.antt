@@ -35,7 +35,7 @@ module _ (kind : Kind) (entries : List CharacterEntry) (pairs : List Pair) (n : 
 -- the word of a character packs it
 pub ruleset packed_words = (final_packs, short_packs, listed_packs)
 
--- what an element gives is among what all give
+-- the result of an element is among those of all
 pub given_among : (f : CharacterEntry → Option (List ℕ)) (entries : List CharacterEntry) (e : CharacterEntry) (x : List ℕ) → Contains entries e → f e ≡ Some x →
     is_among x (filter_map f entries) ≡ true
 unfolding is_among

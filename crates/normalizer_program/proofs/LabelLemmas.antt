@@ -34,7 +34,7 @@ TellsKept-kept h items i d a b before field more within kept same added ended to
       kept = append_assoc before x (line_feed ∷ []) ∙ ap (λ ls. ls ++ (x ++ (line_feed ∷ []))) told.kept ∙ sym (kept_lines-kept h xs x kept);
     })
 
--- another makes the answer no, and adds none
+-- any other makes the answer no, and adds no line
 pub TellsKept-other : (h : MapperData) (items : List (Bor (List ℕ))) (i : ℕ) (d : Bor (List ℕ)) (a b : Answer) (before more : List ℕ) → i < length items
     → is_kept h (get_or items i d).now ≡ false → b ≡ No → more ≡ before
     → TellsKept h (map (λ part. part.now) (take i items)) a before → TellsKept h (map (λ part. part.now) (take (i + 1) items)) b more

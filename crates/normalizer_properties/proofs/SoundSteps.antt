@@ -1,4 +1,4 @@
--- Data that meet the conditions on steps have steps that are told by the lists of characters.
+-- Data that meet the conditions on steps have steps that agree with the lists of characters.
 use Rattle.std.proofs.Common.{◌≡◌, ◌≢◌, ℕ, Bool, true, false, IsSomeAnd, [], ◌∷◌, Some, None, refl, sym, subst, ◌∙◌, arith}
 use Rattle.std.specs.Char.{IsScalar}
 use lib.Utf8.{scalar}

@@ -132,7 +132,7 @@ module _ (records : List Entry) where
       unfolding IsBetween
       IsBetween-more n on from = rw is (Decides-or _ _ from (Decides-and _ _ (on c) (h c)))
 
-  -- some character is on a long chain exactly where there is one
+  -- some character is on a long chain exactly if there is one
   pub HasChainFault-some : (s : BTreeSet ℕ) → IsSetOf (IsOnLongChain records) s → (b : Bool) → IsTrue b ↔ (length s.keys ≡ 0) → IsTrue (not b) ↔ HasChainFault records
   unfolding HasChainFault IsOnLongChain
   HasChainFault-some s is b none = (there, back)

@@ -1,4 +1,4 @@
--- What is asked of a list may be asked of what stands for it.
+-- What is checked of a list may be checked of a cut of it.
 use Rattle.std.proofs.Common.{◌≡◌, ℕ, ◌<◌, ◌≤◌, ◌⊎◌, ◌↔◌, Bool, true, nat_lt, List, [], ◌∷◌, length, take, refl, Option, Some, None}
 use Rattle.std.proofs.Common.{IfSome, IsSomeAnd, inl, inr, sym, ap, subst, ◌∙◌, arith}
 use Rattle.std.proofs.lemmas.Bool.{cases_lt}
@@ -22,7 +22,7 @@ module _ (records : List Entry) where
   begins-take : (n : ℕ) (x : List ℕ) → 0 < n → begins_with_mark records (take n x) ≡ begins_with_mark records x
   begins-take n x h = grind (arith, common_steps)
 
-  -- a list put in order begins with a mark exactly where it did
+  -- a list put in order begins with a mark exactly if it did
   pub begins-order : (x : List ℕ) → begins_with_mark records (order (recorded_classes records) x) ≡ begins_with_mark records x
   unfolding order
   begins-order [] = refl
@@ -43,7 +43,7 @@ IsTooLong-long list h = (grind (arith, nat_tests), λ same. let fits = ap length
 pub StandsFor-itself : (records : List Entry) (list : List ℕ) → StandsFor records list list
 StandsFor-itself records list = record { short = λ h. refl; wrong = λ c m. (λ h. h, λ h. h); long = (λ h. h, λ h. h) }
 
--- the first 19 of an expansion stand for all of it
+-- the first 19 of an expansion may be checked in place of all of it
 pub StandsFor-cut : (records : List Entry) (x cut : List ℕ) → cut ≡ order (recorded_classes records) (take 19 x) → StandsFor records (order (recorded_classes records) x) cut
 StandsFor-cut records x cut is =
     let d = recorded_classes records in
@@ -66,7 +66,7 @@ StandsFor-cut records x cut is =
           }
     ]
 
--- the mapper's list is not cut where it is short, and may be asked through what stands for it
+-- the mapper's list is not cut if it is short, and may be checked through a cut
 pub MayStandFor-short : (records : List Entry) (o p : Option (List ℕ)) → IfSome o (λ list. length list ≤ 18) → MayStandFor records o p → p ≡ o
 MayStandFor-short records None None short h = refl
 MayStandFor-short records None (Some cut) short h = absurd h

@@ -8,7 +8,7 @@ use Rattle.normalizer_records.specs.declared.records.Mappings.{Mappings}
 use Rattle.normalizer_records.specs.Entry.{Entry}
 use Rattle.normalizer_records.specs.Meaning.{expansion, replace_by, replacement}
 
--- what was cut may be cut again behind what is added
+-- a cut list may be cut again after an addition
 pub take-again : (n : ℕ) (x y : List ℕ) → take n (take n x ++ y) ≡ take n (x ++ y)
 take-again zero [] y = refl
 take-again zero (a ∷ x) [] = refl
@@ -58,7 +58,7 @@ module _ (records : List Entry) (mappings : Mappings) where
   unfolding expansion
   expansion-replaced n c h = replace_by-some (expansion records mappings n) (replacement records mappings c) c h
 
-  -- what the lists of the members give, as far as there is room, is what the expansion gives
+  -- the lists of the members, as far as there is room, make the expansion
   pub expansion-by_members : (depth c room : ℕ) (start members out : List ℕ) → 0 < depth → members ≡ replacement records mappings c → members ≢ [] →
       out ≡ take room (start ++ flat_map (expansion records mappings (depth - 1)) members) → out ≡ take room (start ++ expansion records mappings depth c)
   expansion-by_members depth c room start members out deep are some is =

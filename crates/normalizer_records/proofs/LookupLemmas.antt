@@ -27,7 +27,7 @@ module _ {X : Type 0} (key : X → ℕ) where
   pub find-found : (xs : List X) → AllPairs (λ r s. key r < key s) xs → (c i : ℕ) (x : X) → Stands key xs c i → x ≡ get_or xs i x → find (λ y. key y == c) xs ≡ Some x
   find-found xs rising c i x at is = find-at xs rising c i x at.within (at.there x) ∙ ap (λ y. Some y) (sym is)
 
-  -- the key stands somewhere, or is not found
+  -- the key is somewhere, or is not found
   pub stands_or_none : (xs : List X) (c : ℕ) → ((place : ℕ) × Stands key xs c place) ⊎ (find (λ y. key y == c) xs ≡ None)
   stands_or_none [] c = inr refl
   stands_or_none (x ∷ xs) c = elim (cases_eq (key x) c) [
@@ -40,7 +40,7 @@ module _ {X : Type 0} (key : X → ℕ) where
         ]
   ]
 
-  -- what a search by halving answers
+  -- the result of a search by halving
   pub found : (xs : List X) → AllPairs (λ r s. key r < key s) xs → (c i : ℕ) (x : X) →
       IsSearchInRange (Ok i) (length xs) → IsBinarySearchResult (λ y. nat_cmp (key y) c) xs (Ok i) → x ≡ get_or xs i x →
       Some x ≡ find (λ y. key y == c) xs

@@ -7,7 +7,7 @@ use Rattle.normalizer_records.specs.inner.Cut.{IsOfSome}
 pub iff_trans : (A B C : Type 0) → A ↔ B → B ↔ C → A ↔ C
 iff_trans A B C h k = (λ a. k.0 (h.0 a), λ c. h.1 (k.1 c))
 
--- one of three, each asked through what stands for it
+-- one of three, each checked through a cut
 pub any_decides : {A A' B B' C C' : Type 0} (u v w : Bool) → IsTrue u ↔ A → A ↔ A' → IsTrue v ↔ B → B ↔ B' → IsTrue w ↔ C → C ↔ C' → IsTrue (u || (v || w)) ↔ (A' ⊎ (B' ⊎ C'))
 any_decides u v w a a' b b' c c' = Decides-or u (v || w) (iff_trans _ _ _ a a') (Decides-or v w (iff_trans _ _ _ b b') (iff_trans _ _ _ c c'))
 

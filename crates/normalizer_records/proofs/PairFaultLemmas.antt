@@ -1,4 +1,4 @@
--- Two records give the same pair exactly where the sorted pairs don't strictly rise.
+-- Two records have the same pair exactly if the sorted pairs don't strictly rise.
 use Rattle.std.proofs.Common.{◌≡◌, ℕ, ◌+◌, ◌<◌, ◌↔◌, ◌==◌, ◌&&◌, not, Bool, true, false, List, length, get_or, refl, sym, ◌∙◌, inl, inr, cond}
 use Rattle.std.proofs.Common.{is_lt, IsPermutation, IsSorted, IsTrue, count_by, filter, arith}
 use Rattle.std.proofs.lemmas.Bool.{cases_Bool, true≢false}
@@ -20,7 +20,7 @@ use Rattle.normalizer_records.specs.inner.SortedPairs.{by_second_and_first}
 abbrev same_as : ℕ → ℕ → Pair → Bool
 same_as first second p = (p.0 == second) && (p.1 == first)
 
--- neither stands before the other
+-- neither comes before the other
 tie : (p q : Pair) → is_lt (by_second_and_first q p) ≡ false → is_before p q.0 q.1 ≡ false → (p.0 ≡ q.0) × (p.1 ≡ q.1)
 unfolding is_before
 tie p q behind stays = grind (arith, nat_tests, common_steps)
@@ -48,7 +48,7 @@ is_the_other : (p q : Pair) → p.0 ≡ q.0 → p.1 ≡ q.1 → same_as p.1 p.0 
 is_the_other p q second first = grind (arith, nat_tests)
 
 module _ (records : List Entry) (ps : List Pair) (moved : IsPermutation (pairs_of records) ps) where
-  -- of two that are the same pair none stands before the other
+  -- of two that are the same pair none comes before the other
   pub HasPairFault-not_rising : HasPairFault records → AreRising ps → ⊥
   unfolding HasPairFault
   HasPairFault-not_rising h rising =

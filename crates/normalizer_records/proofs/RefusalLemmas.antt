@@ -60,7 +60,7 @@ module _ (records : List Entry) (uts46 : List MapperEntry) where
   unfolding HasFault IsFirstRefusal
   fixed_first rising mapper h = (h, no_order_fault rising mapper)
 
--- whether a character is asked, by the set of those on long chains
+-- whether a character is checked, by the set of those on long chains
 module _ (records : List Entry) (uts46 : List MapperEntry) (long : BTreeSet ℕ) (is : IsSetOf (IsOnLongChain records) long) (c : ℕ) where
   abbrev among : Bool
   among = list_any (contains nat_cmp long) (c ∷ mapped_to (status_of uts46 c))

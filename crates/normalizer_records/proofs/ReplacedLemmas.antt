@@ -1,4 +1,4 @@
--- What the expansion gives is what comes of replacing until nothing changes.
+-- The expansion is the result of replacing until nothing changes.
 use Rattle.std.proofs.Common.{◌≡◌, ◌≢◌, ℕ, zero, suc, ◌+◌, ◌↔◌, true, false, List, [], ◌∷◌, ◌++◌, refl, Option, is_some, sym, ap, subst, subst₂, ◌∙◌}
 use Rattle.std.proofs.Common.{arith, inl, inr, ◌⊎◌, All, Contains, append_assoc, flat_map}
 use Rattle.std.specs.Option.{option_map_or}
@@ -90,7 +90,7 @@ module _ (records : List Entry) (uts46 : List MapperEntry) (fixed : has_fixed_fa
       subst (ExpandsTo records mappings (m ∷ (ms ++ x))) (sym (append_assoc (f m) (flat_map f ms) y))
       (each m (0, omega arith, refl) (ms ++ x) (flat_map f ms ++ y) (members_replaced f ms x y (λ k there x' y' h. each k (let inside = there.1 in (suc there.0, omega arith, there.2)) x' y' h) rest))
 
-  -- what the expansion gives comes of replacing
+  -- the expansion is a result of replacing
   comes_of_replacing : (n c : ℕ) → EndsWithin n c → (x y : List ℕ) → ExpandsTo records mappings x y → ExpandsTo records mappings (c ∷ x) (expansion records mappings n c ++ y)
   comes_of_replacing zero c ends x y rest = absurd ends
   comes_of_replacing (suc n) c ends x y rest = elim (same_or_not (replacement records mappings c) []) [

@@ -1,4 +1,4 @@
--- What accepted data are to the laws of the normal forms, and to those who ask less of them.
+-- Accepted data satisfy the hypotheses of the laws of the normal forms, and what less demanding users require.
 use Rattle.std.proofs.Common.{◌≡◌, ℕ, true, false, List, [], ◌∷◌, ◌++◌, length, length-append, All, Option, None, inl, inr, refl, sym, ap, subst, ◌∙◌, arith}
 use Rattle.std.specs.Char.{IsScalar}
 use lib.Utf8.{scalar}
@@ -52,7 +52,8 @@ HasTextLists-sound s b sound i pairing = record { texts = IsText-list_of s b sou
 
 -- ---- what characters compose to
 
--- where a composite has the lists of its parts, and no list is empty, it is a character, since other numbers have themselves
+-- if a composite has the lists of its parts, and no list is empty, it is a character, since other numbers are their own
+-- lists
 HasScalarResults-faithful : (s : Characters) (pairs : List Pair) → HasFaithfulResults (reading_by s Dropped pairs) → HasInhabitedLists (reading_by s Dropped pairs)
     → HasScalarResults (reading_by s Dropped pairs)
 HasScalarResults-faithful s pairs faithful inhabited = record {

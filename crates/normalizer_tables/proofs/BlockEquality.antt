@@ -1,4 +1,4 @@
--- Stored words are equal exactly where the blocks and their numbers are.
+-- Stored words are equal exactly if the blocks and their numbers are.
 use Rattle.std.proofs.Common.{◌≡◌, ◌&&◌, ℕ, List, nat_eq, ap, sym, ◌∙◌}
 use Rattle.std.specs.Cmp.Lexicographic.{pointwise, bytes_decides}
 use lib.Pointwise.{pointwise_decides}

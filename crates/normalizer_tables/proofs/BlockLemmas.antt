@@ -26,7 +26,7 @@ pub place-within : (n : ℕ) → n < code_points → n / 64 < block_places
 unfolding code_points
 place-within n low = omega arith
 
--- a block of words that ranges give
+-- a block of the words of ranges
 pub block_of-words_of : (rs : List WordRange) (place : ℕ) (block : Block) → place < block_places → length block ≡ 64 → ((k : ℕ) → k < 64 → get_or block k 0 ≡ word_in rs (place * 64 + k))
     → block ≡ block_of (words_of rs) place
 unfolding words_of code_points
@@ -40,7 +40,7 @@ module _ (bs : List Block) (b : Block) where
   pub number_in-le : number_in bs b ≤ length bs
   number_in-le = prefix_len-le-length _ bs
 
-  -- a block stands at its number, and the others where they stood
+  -- a block is at its number, and the others are where they were
   joined-here : (number_in bs b < length (joined bs b)) × (get_or (joined bs b) (number_in bs b) [] ≡ b)
   joined-here = cond_both (ltb (number_in bs b) (length bs)) bs (bs ++ b ∷ []) (λ cs. (number_in bs b < length cs) × (get_or cs (number_in bs b) [] ≡ b))
       (λ kept. (ltb-true _ _ kept, sym ((bytes_decides _ _).0 (passes_at_first (pointwise nat_eq b) bs [] (ltb-true _ _ kept)))))
@@ -99,7 +99,7 @@ module _ (blocks : List Block) (numbers words : List ℕ) (s : IsStored blocks n
   pub block_at-stored : (k : ℕ) → k < block_places → (get_or numbers k 0 < length blocks) × (block_at blocks numbers k ≡ block_of words k)
   block_at-stored k low = rw (s.in_blocks, s.in_order) (block_at-to words block_places k low)
 
-  -- blocks and numbers give the words back
+  -- the words can be read from blocks and numbers
   pub stored_words-same : length words ≡ code_points → stored_words blocks numbers ≡ words
   stored_words-same long = ext_get_or 0 _ words (length-stored_words blocks numbers ∙ sym long) (λ n below.
       let low : n < code_points = omega (arith, length-stored_words blocks numbers) in
@@ -129,10 +129,10 @@ module _ (blocks : List Block) (numbers words : List ℕ) (stored : IsStored blo
   unfolding block_at
   block_at-number = ap (λ k. get_or blocks k []) (get_or_read numbers place number (omega (arith, length-numbers blocks numbers words stored)) is 0)
 
-  -- what two look-ups at a place give is its block
+  -- two look-ups at a place find its block
   pub block_at-looked_up : (block : Block) → block ≡ get_or blocks number block → block ≡ block_at blocks numbers place
   block_at-looked_up block found = get_or_read blocks number block (stored_number-within _ _ _ stored _ _ low is) found [] ∙ block_at-number
 
--- where there is no first that passes, none is met before the end
+-- if there is no first that passes, none is met before the end
 pub position-None : {X : Type 0} (p : X → Bool) (xs : List X) → position p xs ≡ None → length xs ≤ position_or_len p xs
 position-None p xs none = grind (arith, common_steps)

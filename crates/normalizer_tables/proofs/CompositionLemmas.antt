@@ -46,7 +46,7 @@ unfolding compose compose_from
 compose-empty d [] n h alone = cc
 compose-empty d (c ∷ text) n h alone = cc
 
--- a list is not empty and begins safely exactly where its first character does
+-- a list is not empty and begins safely exactly if its first character does
 pub begins_safely : (d : Reading) (x : List ℕ) (first : ℕ) → slice_get x 0 ≡ Some first → ((x ≢ []) × BeginsSafely d x) ↔ (IsStarter d first × ((a : ℕ) → d.pair a first ≡ None))
 begins_safely d [] first h = cc
 begins_safely d (c ∷ x) first h = let same : c ≡ first = cc in rw (← same) (λ p. p.1, λ p. (λ e. cc, p))

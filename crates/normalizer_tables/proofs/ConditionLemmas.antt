@@ -102,7 +102,7 @@ pub HasSoundStep-plain : (s : Characters) (t : Supplement) (n : ℕ) → (IsScal
 unfolding HasSoundStep IsSoundStep step_of step_of_reading reading_of_word
 HasSoundStep-plain s t n plain h other = rw (other, read-plain n (word_of s n) s.is_mapper (plain h)) (list_of-reads s [] n (n ∷ []) (list_read-plain s n h (plain h)))
 
--- nothing is asked of Hangul syllables
+-- nothing is required of Hangul syllables
 pub HasSoundStep-hangul : (s : Characters) (t : Supplement) (n : ℕ) → is_hangul_syllable n ≡ true → HasSoundStep s t n
 unfolding HasSoundStep
 HasSoundStep-hangul s t n hangul h other = cc
@@ -119,7 +119,7 @@ pub IsSoundHangul-elsewhere : (s : Characters) (n : ℕ) → (IsScalar n → ⊥
 unfolding is_composing_jamo
 IsSoundHangul-elsewhere s n h = record { syllable = λ q. absurd (h (syllable-scalar n q)); jamo = λ q. absurd (h (grind (arith, nat_tests))) }
 
--- what is asked for classes alone is part of what is asked of whole data
+-- what is required for classes alone is part of what is required of whole data
 pub class_conditions-met : (s : Characters) (b : Bounds) → Holds s b Surrogates → Holds s b PastTheEnd → Holds s b Words →
     All (HoldsOfClasses s.decompositions.table) class_conditions
 unfolding HoldsOfClasses Holds HoldsAt HoldsOverall word_of is_class_form is_ordinary_class_form is_special_class_form

@@ -4,7 +4,7 @@ use Rattle.std.proofs.lemmas.List.Elements.{All-cons, All-nil}
 use Rattle.normalizer_tables.specs.Conditions.{IsFirstFailing}
 use Rattle.normalizer_tables.proofs.LoadedLemmas.{All-behind}
 
--- a condition that fails is among those that are asked
+-- a condition that fails is among those that are checked
 pub IsFirstFailing-not_all : {C : Type 0} (P : C → Type 0) (conditions : List C) (c : C) → IsFirstFailing P conditions (Some c) → All P conditions → ⊥
 unfolding IsFirstFailing
 IsFirstFailing-not_all P conditions c h all = h.4 (All-behind P h.0 (c ∷ h.1) (subst (All P) h.2 all) 0 c (omega arith))
@@ -14,7 +14,7 @@ pub IsFirstFailing-here : {C : Type 0} (P : C → Type 0) (c : C) (cs : List C) 
 unfolding IsFirstFailing
 IsFirstFailing-here P c cs fails = ([], cs, refl, All-nil P, fails)
 
--- it holds, and what is answered is the answer of the others
+-- it holds, and the result is that of the others
 pub IsFirstFailing-next : {C : Type 0} (P : C → Type 0) (c : C) (cs : List C) (r : Option C) → P c → IsFirstFailing P cs r → IsFirstFailing P (c ∷ cs) r
 unfolding IsFirstFailing
 IsFirstFailing-next P c cs None holds others = All-cons P c cs holds others
@@ -24,5 +24,5 @@ pub IsFirstFailing-none : {C : Type 0} (P : C → Type 0) → IsFirstFailing P [
 unfolding IsFirstFailing
 IsFirstFailing-none P = All-nil P
 
--- what a function that asks one condition after another cites
+-- for functions that check one condition after another
 pub ruleset failing = (IsFirstFailing-here, IsFirstFailing-next, IsFirstFailing-none)

@@ -41,11 +41,11 @@ read-one c w is_mapper other one =
 pub syllable_avoids : (c w : ℕ) (is_mapper : Bool) → is_hangul_syllable c ≡ true → read c w is_mapper ≢ Fdfa
 syllable_avoids c w is_mapper syllable e = grind (arith, read-fdfa)
 
--- another word has it where it is 1, flags aside
+-- another word has this form if it is 1, flags aside
 pub other_avoids : (c w : ℕ) (is_mapper : Bool) → is_hangul_syllable c ≡ false → IsTrue (not (bit_and w 0x3FFFFFFF == 1)) ↔ (read c w is_mapper ≢ Fdfa)
 other_avoids c w is_mapper other = (λ yes e. (let form = read-fdfa c w is_mapper e in grind arith), λ avoids. (let one = read-one c w is_mapper other in grind arith))
 
--- what was asked up to the first number past the code points was asked of all
+-- what was checked up to the first number past the code points was checked of all
 pub AvoidsFdfa-all : (s : Characters) → IsComplete s.decompositions.table → ((n : ℕ) → n ≤ 0x110000 → AvoidsFdfa s n) → (n : ℕ) → AvoidsFdfa s n
 unfolding AvoidsFdfa reading_of_word word_of code_points is_hangul_syllable
 AvoidsFdfa-all s complete asked n = elim (cases_lt 0x110000 n) [

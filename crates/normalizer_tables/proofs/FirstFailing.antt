@@ -17,7 +17,7 @@ use Rattle.normalizer_tables.proofs.ListedLemmas.{drop_member}
 use Rattle.normalizer_tables.proofs.LoadedLemmas.{IsMet-at, IsMet-everywhere}
 use Rattle.normalizer_tables.proofs.WalkLemmas.{IsMetAt-apart}
 
--- what is asked apart is met, and what is asked of the numbers below `number`
+-- what is checked apart is met, and what is checked of the numbers below `number`
 abbrev pub IsMetBelow : Loaded → ℕ → Condition → Type 0
 IsMetBelow loaded number c = IsMetApart loaded c × ((n : ℕ) → n < number → IsMetAt loaded c n)
 
@@ -32,7 +32,7 @@ slice_get-take conditions n k c h e =
     let within = slice_get_within conditions k c e in
     slice_get-get_or (take n conditions) k c (simp length-take (omega arith)) ∙ ap Some (get_or-take n conditions k c h ∙ get_or_from_slice_get conditions k c c e)
 
--- a number answers for those from `from` on and below `next`, by the condition that fails first of it
+-- checking a number suffices for those from `from` on and below `next`, by the first condition that fails for it
 pub FailsFirst-step : (loaded : Loaded) (conditions : List Condition) (from number next place nearer : ℕ) → FailsFirst loaded conditions from place →
     ((c : Condition) → IsMetApart loaded c → IsMetAt loaded c number → (n : ℕ) → from ≤ n → n < next → IsMetAt loaded c n) →
     IsPlaceOfFirstFailing (λ c. IsMetAt loaded c number) (take place conditions) nearer → FailsFirst loaded conditions next nearer
@@ -59,13 +59,13 @@ All-front P conditions place h k d kh =
     let short : k < min place (length conditions) = simp length-take at kh in
     subst P (sym (get_or-take place conditions k d (omega arith))) (h k d (omega arith) (omega arith))
 
--- where Hangul is among the conditions that are met apart, it is sound
+-- if Hangul is among the conditions that are met apart, it is sound
 pub has_sound_hangul : (loaded : Loaded) (conditions : List Condition) (place : ℕ) → IsPlaceOfFirstFailing (IsMetApart loaded) conditions place →
     Contains (take place conditions) Hangul → (n : ℕ) → IsSoundHangul loaded.characters n
 unfolding IsMetApart IsMetApartAt
 has_sound_hangul loaded conditions place h asked = (All-contains (IsMetApart loaded) (take place conditions) Hangul (All-front (IsMetApart loaded) conditions place h.before) asked).1
 
--- where so much is all, it is the first that fails
+-- if these are all numbers, it is the first that fails
 pub FailsFirst-all : (loaded : Loaded) (conditions : List Condition) (number place : ℕ) (r : Option Condition) → FailsFirst loaded conditions number place →
     AllWithin (λ c. IsMetBelow loaded number c → IsMet loaded c) conditions 0 place → r ≡ slice_get conditions place → IsFirstFailing (IsMet loaded) conditions r
 unfolding IsFirstFailing
@@ -80,7 +80,7 @@ FailsFirst-all loaded conditions number place (Some c) h all e = (
   h.fails c (sym e),
 )
 
--- no condition before the place is asked of words
+-- no condition before the place depends on words
 pub unasked : (loaded : Loaded) (conditions : List Condition) (number place : ℕ) → place ≤ length conditions → list_any is_asked_of_words (take place conditions) ≡ false →
     AllWithin (λ c. IsMetBelow loaded number c → IsMet loaded c) conditions 0 place
 unfolding IsMetApart
@@ -90,7 +90,7 @@ unasked loaded conditions number place within none k d low h met =
     (let some = list_any_at is_asked_of_words (take place conditions) k d (simp length-take (omega arith)) (ap is_asked_of_words (get_or-take place conditions k d h) ∙ asked) in cc)) in
     IsMet-everywhere loaded c met.0.0 (IsMetAt-apart loaded c other met.0)
 
--- what `get` and `copied` give of a slice
+-- the result of `get` and `copied` on a slice
 pub copied_slice_get : (conditions : List Condition) (place : ℕ) (o : Option (Bor Condition)) → IfSome o (λ x. x.now ≡ get_or conditions place x.now) →
     MatchOption o (length conditions ≤ place) (λ x. (place < length conditions) × HoldsAtPlace (λ y. x.now ≡ y) conditions place) → option_copied o ≡ slice_get conditions place
 copied_slice_get conditions place None same found = sym (slice_get_past conditions place found)

@@ -16,7 +16,7 @@ read-unmarked n w e = grind arith
 pub list_of-empty : (s : Characters) (ignored : List ℕ) (n : ℕ) → list_of s ignored n ≡ [] → (reading_of_word s n ≡ Ignored → ⊥) → ⊥
 list_of-empty s ignored n e other = omega (arith, list_of-few 1 n (omega arith) s ignored (λ r. absurd (other r)), ap length e)
 
--- what is put for an ignored character is empty only where it is dropped
+-- the list of an ignored character is empty only if it is dropped
 pub HasInhabitedLists-reading_of : (s : Characters) (i : IgnoredCharacters) (pairing : ℕ → ℕ → Option ℕ) → (s.is_mapper ≡ false) ⊎ (i ≡ Replaced) →
     HasInhabitedLists (reading_of s (ignored_list i) pairing)
 unfolding reading_of_word

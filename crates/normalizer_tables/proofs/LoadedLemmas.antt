@@ -67,7 +67,8 @@ StepsHoldAt-quiet s o FdfaForms n plain avoids = avoids refl
 StepsHoldAt-quiet s o Steps n plain avoids = IfSome-all _ (λ t. HasSoundStep-plain s t n plain) o
 StepsHoldAt-quiet s o _ n plain avoids = IfSome-all _ (λ t. tt) o
 
--- a number that no character has, or that has a plain word, breaks but what is asked of surrogates, of Hangul, of beginnings and of the form of U+FDFA
+-- a number that no character has, or that has a plain word, can break only what is checked of surrogates, Hangul,
+-- beginnings and the form of U+FDFA
 pub IsMetAt-quiet : (d : Loaded) (c : Condition) (n : ℕ) → (IsScalar n → is_plain (word_of d.characters n) ≡ true) → (c ≡ Surrogates → is_surrogate n ≡ true → word_of d.characters n ≡ 0xC000FFFD) →
     (c ≡ Hangul → IsSoundHangul d.characters n) → (c ≡ SafeBeginning → IfSome d.pairs (λ pairs. KeepsBeginning d.characters d.bounds pairs n)) →
     (c ≡ FdfaForms → IfSome d.supplement (λ t. AvoidsFdfa d.characters n)) → IsMetAt d c n

@@ -29,7 +29,7 @@ module _ (blocks : List Block) (numbers words : List ℕ) (are : stored_words bl
       ap (λ ws. get_or ws (place * 64 + j) above) (sym are) ∙ get_or-stored_words blocks numbers (place * 64 + j) above (omega arith)
       ∙ ap₂ (λ p o. get_or (block_at blocks numbers p) o 0) at offset ∙ ap (λ b. get_or b j 0) (sym is)
 
-  -- where the words of the block up to a place have none, that place is reached
+  -- if no word of the block up to a place is one, that place is reached
   pub HaveNoWord-to : (to end : ℕ) → to ≤ 64 → end ≡ place * 64 + to → HaveNoWord table flags from (place * 64)
       → ((j : ℕ) → j < to → from ≤ place * 64 + j → without_flags flags (get_or block j 0) ≡ 0) → HaveNoWord table flags from end
   unfolding HaveNoWord

@@ -1,4 +1,4 @@
--- The next number with a word, as the table tells it.
+-- The next number with a word, by the table.
 use Rattle.std.proofs.Common.{◌≡◌, ℕ, ◌≤◌, true, Some, None, eq-eqb, ne_eqb, arith}
 use Rattle.normalizer_tables.specs.Characters.{Characters, word_of}
 use Rattle.normalizer_tables.specs.Table.{IsNextWithWord, HaveNoWord, code_points, without_flags}

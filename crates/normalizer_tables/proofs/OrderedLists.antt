@@ -8,11 +8,11 @@ use Rattle.normalizer_tables.proofs.ListedLemmas.{drop_member}
 use Rattle.normal_forms.proofs.OrderLemmas.{IsOrdered, IsOrdered-nil, IsOrdered-cons, IsOrdered-order, insert-nil, insert-past, order-cons}
 use Rattle.normal_forms.proofs.OrderLemmas.{insert-stays, order-nil, order_of_ordered, stands_before}
 
--- a character of class k and one of class j behind it stay as they are
+-- a character of class k and one of class j after it stay as they are
 unfoldable pub keeps_place : ℕ → ℕ → Bool
 keeps_place k j = not (nat_lt 0 j && nat_lt j k)
 
--- behind a character of class k, no two neighbours are a reorderable pair
+-- after a character of class k, no two neighbours are a reorderable pair
 unfoldable pub rises_from : (ℕ → ℕ) → ℕ → List ℕ → Bool
 rises_from class k [] = true
 rises_from class k (c ∷ x) = keeps_place k (class c) && rises_from class (class c) x

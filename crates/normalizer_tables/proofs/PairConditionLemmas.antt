@@ -17,7 +17,7 @@ use Rattle.normalizer_tables.proofs.OrderedLists.{insertions}
 use Rattle.normalizer_tables.proofs.ListLengths.{length-list_of, two_lists-fit}
 use Rattle.normalizer_tables.proofs.CompositionLemmas.{begins_safely}
 
--- a list begins safely exactly where its first character is a starter that is never second
+-- a list begins safely exactly if its first character is a starter that is never second
 pub safe_beginning : (s : Characters) (pairs : List Pair) (n first : ℕ) → slice_get (list_of s [] n) 0 ≡ Some first →
     HasSafeBeginning s pairs n ↔ ((class_of s first ≡ 0) × IsNeverSecond pairs first)
 unfolding IsNeverSecond
@@ -32,7 +32,7 @@ module _ (s : Characters) (pairs : List Pair) (n : ℕ) where
   pub HasSafeBeginning-plain : (r : Bool) → scalar n ≡ true → is_plain (word_of s n) ≡ true → IsTrue r ↔ IsNeverSecond pairs n → IsTrue r ↔ HasSafeBeginning s pairs n
   HasSafeBeginning-plain r h plain never = (λ yes. (of_plain h plain).1 (class_of-plain s n h plain, never.0 yes), λ safe. never.1 ((of_plain h plain).0 safe).1)
 
-  -- where it begins safely, it is never second
+  -- if it begins safely, it is never second
   pub IsNeverSecond-plain : scalar n ≡ true → is_plain (word_of s n) ≡ true → HasSafeBeginning s pairs n → IsNeverSecond pairs n
   IsNeverSecond-plain h plain safe = ((of_plain h plain).0 safe).1
 

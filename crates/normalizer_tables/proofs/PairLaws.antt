@@ -1,4 +1,4 @@
--- What data and pairs that meet the conditions give.
+-- What holds of data and pairs that meet the conditions.
 use Rattle.std.proofs.Common.{◌≡◌, ◌≢◌, ℕ, ◌+◌, ◌-◌, ◌/◌, ◌%◌, ◌⊎◌, inl, inr, true, false, not, ◌||◌, List, [], ◌∷◌, ◌++◌, All}
 use Rattle.std.proofs.Common.{Option, Some, slice_get, nat_lt, refl, sym, ap, ◌∙◌, arith}
 use Rattle.std.specs.Char.{IsScalar}
@@ -52,7 +52,7 @@ pub order-own : (s : Characters) (ignored : List ℕ) (pairing : ℕ → ℕ →
 unfolding order insert is_reorderable
 order-own s ignored pairing x = refl
 
--- starters stay where they are
+-- starters stay in their places
 pub order-starters : (d : Reading) (x : List ℕ) → All (IsStarter d) x → order d x ≡ x
 order-starters d [] h = order-nil d
 order-starters d (c ∷ x) h =
@@ -85,7 +85,7 @@ pub composed-syllable : (a c r : ℕ) → compose_hangul a c ≡ Some r → is_h
 unfolding is_hangul_syllable
 composed-syllable a c r joins = elim (compose_hangul-some a c r joins) [ inl h ↦ grind (arith, nat_tests) | inr h ↦ grind (arith, nat_tests) ]
 
--- where Hangul is sound
+-- if Hangul is sound
 module _ (s : Characters) (sound : (n : ℕ) → IsSoundHangul s n) where
   pub reading-syllable : (n : ℕ) → is_hangul_syllable n ≡ true → reading_of_word s n ≡ HangulSyllable
   unfolding reading_of_word read read_low is_plain is_ordinary_class_form is_special_class_form has_high_zeros has_low_zeros

@@ -30,7 +30,7 @@ pub is_before_trans : (p q : Pair) (second first : ℕ) → is_before p q.0 q.1 
 unfolding is_before
 is_before_trans p q second first h k = grind (arith, nat_tests)
 
--- the first that passes is found, and nothing where none does
+-- the first that passes is found, and nothing if none does
 pub find_first : {X : Type 0} (p : X → Bool) (xs : List X) (k : ℕ) (d : X) → k < length xs → p (get_or xs k d) ≡ true → ((j : ℕ) → j < k → p (get_or xs j d) ≡ false) → find p xs ≡ Some (get_or xs k d)
 find_first p xs k d within here before = find_at p xs ∙ ap (slice_get xs) (position_or_len_is p xs k d (omega arith) before (λ _. here)) ∙ slice_get-get_or xs k d within
 
@@ -38,7 +38,7 @@ pub find_none : {X : Type 0} (p : X → Bool) (xs : List X) (d : X) → ((k : �
 find_none p xs d missed =
     find_at p xs ∙ slice_get_past xs (position_or_len p xs) (omega (arith, position_or_len_is p xs (length xs) d (omega arith) missed (λ below. absurd (omega arith))))
 
--- where none is theirs nothing is listed
+-- if no pair is of these two, nothing is listed
 pub listed_result-none : (pairs : List Pair) (first second : ℕ) → ((k : ℕ) → k < length pairs → is_of (pair_at pairs k) first second ≡ false) → listed_result pairs first second ≡ None
 unfolding listed_result pair_at
 listed_result-none pairs first second missed = ap (option_map (λ p. p.2)) (find_none (λ p. is_of p first second) pairs (0, 0, 0) missed)
@@ -51,7 +51,7 @@ listed_result-first pairs first second k p got theirs before =
     let here : get_or pairs k (0, 0, 0) ≡ p = get_or_from_slice_get pairs k p (0, 0, 0) got in
     ap (option_map (λ p. p.2)) (find_first (λ p. is_of p first second) pairs k (0, 0, 0) (slice_get_within pairs k p got) (ap (λ q. is_of q first second) here ∙ theirs) before ∙ ap Some here)
 
--- the test of each triple and the next answers whether triples rise
+-- the test of each triple and the next decides whether triples rise
 pub AreRising_from_adjacent : (pairs : List Pair) → AllAdjacentBelow (λ p q. true ≡ is_before p q.0 q.1) pairs (length pairs) → AreRising pairs
 AreRising_from_adjacent pairs = all_before (λ _. Unit) (λ p q. is_before p q.0 q.1) (λ p q s _. is_before_trans p q s.0 s.1) pairs (λ k d within. tt)
 

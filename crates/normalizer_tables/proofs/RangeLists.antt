@@ -23,7 +23,7 @@ all_ranges rs h = λ k d within. is_range-true (get_or rs k d) (AllPass-from_lis
 pub ranges_tested : (rs : List WordRange) → IsRangeList rs → list_all is_range rs ≡ true
 ranges_tested rs h = list_all-from_AllPass is_range rs (λ k d within. is_range-from (get_or rs k d) (h.ranges k d within))
 
--- where each is a range the test of each and the next decides
+-- if each is a range, the test of each and the next decides
 pub IsRangeList-decides : (rs : List WordRange) (r : Bool) → list_all is_range rs ≡ true → IsAllAdjacentAnswer (λ q s t. t ≡ nat_lt q.1 s.0) rs r → IsTrue r ↔ IsRangeList rs
 IsRangeList-decides rs r ranges h =
     let all = all_ranges rs ranges in

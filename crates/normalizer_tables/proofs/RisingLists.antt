@@ -17,7 +17,7 @@ module _ {X : Type 0} (P : X → Type 0) (before : X → X → Bool) (trans : (x
         | inr same ↦ (let here : j ≡ i = omega arith in subst (λ m. before (get_or xs m d) (get_or xs (suc j) d) ≡ true) here last)
       ]
 
-  -- the test of each and the next answers whether all are
+  -- the test of each and the next decides whether all are
   pub all_before-decides : (any : X) (r : Bool) → IsAllAdjacentAnswer (λ x y b. b ≡ before x y) xs r → IsTrue r ↔ AllPairs (λ x y. before x y ≡ true) xs
   all_before-decides any true h = (λ _. all_before h, λ _. refl)
   all_before-decides any false h = (λ no. cc, λ rising. h.2 any ∙ rising h.0 (h.0 + 1) any (omega arith) h.1)

@@ -1,4 +1,4 @@
--- Pairs are equal exactly where their rows and members are.
+-- Pairs are equal exactly if their rows and members are.
 use Rattle.std.proofs.Common.{◌≡◌, ◌&&◌, Bool, List, length, map, nat_eq, ap, sym, ◌∙◌}
 use Rattle.std.specs.Bool.{Decides}
 use Rattle.std.specs.Cmp.Lexicographic.{pointwise}

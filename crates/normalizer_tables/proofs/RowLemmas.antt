@@ -69,7 +69,7 @@ abbrev pub IsRowFrom : List Pair → ℕ → Row → Type 0
 IsRowFrom pairs end r = (r.second ≡ (pair_at pairs r.start).0) × (r.start < end)
 
 module _ (rows : List Row) (pairs : List Pair) (end : ℕ) (is : rows ≡ rows_to pairs end) where
-  -- rows start one behind another
+  -- rows start one after another
   pub starts_rise : AllPairs (λ (r q : Row). r.start < q.start) rows
   unfolding rows_to
   starts_rise = rw is (AllPairs-filter (λ (r q : Row). r.start < q.start) _ (map (row_from pairs) (range_with_len 0 end)) (λ i j d below within.
@@ -88,7 +88,7 @@ module _ (rows : List Row) (pairs : List Pair) (end : ℕ) (is : rows ≡ rows_t
     filter_passes (λ (r : Row). begins_row pairs r.start) (map (row_from pairs) (range_with_len 0 end)) i d within,
   ))
 
-  -- what divides rows by their starts tells the row of a place
+  -- dividing rows by their starts finds the row of a place
   row_begun : (k n : ℕ) → k < end → begins_row pairs k ≡ true → n ≤ length rows → ((i : ℕ) → i < n → (row_in rows i).start ≤ k) → (n < length rows → k < (row_in rows n).start)
       → IsRowAt rows pairs k n
   row_begun k n below begins bound front behind =
@@ -115,7 +115,7 @@ module _ (rows : List Row) (pairs : List Pair) (end : ℕ) (is : rows ≡ rows_t
   row_at k below = row_in_front k _ below (prefix_len-le-length _ rows) (λ i low. ltb-false _ _ (fails_before_first (λ (row : Row). ltb k row.start) rows i _ low))
       (λ more. ltb-true _ _ (passes_at_first (λ (row : Row). ltb k row.start) rows _ more))
 
-  -- rows that have begun stand in front of the others
+  -- rows that have begun are at the front of the others
   pub starts_part : (k : ℕ) → IsPartitionedBy (λ (row : Row). leb row.start k) rows
   starts_part k = IsPartitionedBy-leb (λ (row : Row). row.start) rows k (non_decreasing (λ (r : Row). r.start) rows starts_rise)
 
@@ -127,7 +127,7 @@ module _ (rows : List Row) (members : List Member) (pairs : List Pair) (s : AreK
   unfolding pair_at
   member_at k below = ap (λ ms. get_or ms k (0, 0)) s.in_order ∙ get_or-map member_of pairs k (0, 0, 0) (0, 0) below
 
-  -- rows and members give the pairs back
+  -- the pairs can be read from rows and members
   pub kept_pairs-same : kept_pairs rows members ≡ pairs
   unfolding kept_pairs kept_pair pair_at
   kept_pairs-same = sym (fill_by_all (kept_pair rows members) pairs (length members) (0, 0, 0) (sym as_many) (λ k below.

@@ -29,7 +29,7 @@ changes : (pairs : List Pair) (k : ℕ) → 0 < k → begins_row pairs k ≡ tru
 unfolding begins_row
 changes pairs k some begins same = grind (arith, nat_tests)
 
--- what passes where all that passes stands together
+-- what passes, if all that passes is together
 filter-slice : {X : Type 0} (p : X → Bool) (d : X) (xs : List X) (s n : ℕ) → s + n ≤ length xs → ((k : ℕ) → s ≤ k → k < s + n → p (get_or xs k d) ≡ true)
     → ((k : ℕ) → k < length xs → p (get_or xs k d) ≡ true → (s ≤ k) × (k < s + n)) → take n (drop s xs) ≡ filter p xs
 filter-slice p d [] s n bound within others = grind (arith, common_steps)
@@ -62,7 +62,7 @@ module _ (rows : List Row) (pairs : List Pair) (is : rows ≡ rows_to pairs (len
         seconds_rise pairs rising (row_in rows i).start (row_in rows j).start (start_not_below rows pairs _ is i j le within) (row_is rows pairs _ is j no_row within).0.1,
       ))
 
-  -- rows of lower seconds stand in front of the others
+  -- rows of lower seconds are at the front of the others
   pub seconds_part : (second : ℕ) → IsPartitionedBy (λ (row : Row). ltb row.second second) rows
   seconds_part second = IsPartitionedBy-ltb (λ (row : Row). row.second) rows second seconds_increase
 
@@ -117,7 +117,7 @@ module _ (rows : List Row) (pairs : List Pair) (is : rows ≡ rows_to pairs (len
           | inr from ↦ absurd (omega (arith, ltb-false _ _ (point.1 n no_row (omega arith) (omega arith)), other (omega arith), seconds_increase n i no_row from inside))
         ]))
 
--- the list gives what the first member of the row with this first has
+-- the list has what the first member of the row with this first has
 pub listed_result-row : (pairs : List Pair) (first second : ℕ) → listed_result pairs first second ≡ option_map (λ m. m.1) (find (λ m. nat_eq m.0 first) (members_of pairs second))
 unfolding listed_result members_of is_of
 listed_result-row [] first second = refl

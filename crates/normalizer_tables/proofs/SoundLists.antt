@@ -58,7 +58,7 @@ reads_as_itself s ignored n h = elim (kind_of s ignored n) [
   | same q e f ↦ f ∙ list_of-reads s [] n (n ∷ []) h
 ]
 
--- what stands for an ignored character reads as itself
+-- the list of an ignored character reads as itself
 ignored_members : (s : Characters) (b : Bounds) → IsSoundData s b → (i : IgnoredCharacters) → All (ReadsToItself s) (ignored_list i)
 unfolding Holds HoldsOverall IsFlaggedReplacement IsPlainStarter
 ignored_members s b sound Dropped = All-nil (ReadsToItself s)
@@ -86,7 +86,7 @@ pub class_of-no_class_form : (s : Characters) (n : ℕ) → has_class_form s n �
 unfolding has_class_form class_of class_of_word
 class_of-no_class_form s n h = grind arith
 
--- only classes matter to where a list may begin
+-- only classes decide which characters a list may begin with
 same_beginning : (s : Characters) (ignored : List ℕ) (pairing : ℕ → ℕ → Option ℕ) (x : List ℕ) → BeginsWithStarter (reading_by s Dropped []) x → BeginsWithStarter (reading_of s ignored pairing) x
 same_beginning s ignored pairing [] h = tt
 same_beginning s ignored pairing (c ∷ x) h = h

@@ -1,4 +1,4 @@
--- Where a value is stored by two parts that it gives back, values are equal exactly where both parts are.
+-- If a value can be read back from its two parts, values are equal exactly if both parts are.
 use Rattle.std.proofs.Common.{◌≡◌, ◌&&◌, Bool}
 use Rattle.std.specs.Bool.{Decides}
 use Rattle.std.proofs.lemmas.Bool.Decides.{same_from_decides, Decides-and, Decides-like}

@@ -1,4 +1,5 @@
--- Hangul syllables by the condition on Hangul: each other condition that one meets is met by those behind it with the same leading consonant.
+-- Hangul syllables by the condition on Hangul: each other condition that one meets is met by those after it with the
+-- same leading consonant.
 use Rattle.std.proofs.Common.{◌≡◌, ◌==◌, ℕ, ◌+◌, ◌-◌, ◌/◌, ◌%◌, true, List, [], ◌∷◌, All, slice_get, Some, refl, sym, ap, ◌∙◌, arith}
 use Rattle.std.proofs.lemmas.Bool.{eqb-false, eqb-true}
 use Rattle.std.proofs.lemmas.Option.{IfSome_then}
@@ -103,7 +104,7 @@ module _ (s : Characters) (sound : (n : ℕ) → IsSoundHangul s n) where
     StepsHoldAt-behind t Steps = HasSoundStep-hangul s t n alike.second
     StepsHoldAt-behind t _ = tt
 
--- where Hangul is sound, what a syllable meets is met by those behind it with the same leading consonant
+-- if Hangul is sound, what a syllable meets is met by those after it with the same leading consonant
 pub IsMetAt-syllable_behind : (d : Loaded) → ((n : ℕ) → IsSoundHangul d.characters n) →
     (c : Condition) (m n : ℕ) → IsSyllableBehind m n → IsMetAt d c m → IsMetAt d c n
 unfolding IsMetAt

@@ -17,7 +17,7 @@ unfolding word_at IsComplete
 same_words_from_word_at t u t_complete u_complete same_past agree =
     ext_get_or t.past t.words u.words (t_complete ∙ sym u_complete) (λ n below. agree n ∙ ap (get_or u.words n) (sym same_past))
 
--- tables that give every number the same word are equal
+-- tables that have the same word for every number are equal
 pub same_from_word_at : (t u : Table) → IsComplete t → IsComplete u → ((n : ℕ) → word_at t n ≡ word_at u n) → t ≡ u
 same_from_word_at t u t_complete u_complete agree =
     let same_past : t.past ≡ u.past = sym (word_at-past t code_points t_complete (omega arith)) ∙ agree code_points ∙ word_at-past u code_points u_complete (omega arith) in

@@ -1,4 +1,4 @@
--- What is asked apart from the walk over words, and what that leaves.
+-- What is checked apart from the walk over words, and what that leaves.
 use Rattle.std.proofs.Common.{true≢false, ◌≡◌, ℕ, ◌<◌, ◌≤◌, inl, inr, Bool, true, false, List, All, Option, Some, None, refl, sym, subst, ◌∙◌}
 use Rattle.std.specs.Char.{IsScalar}
 use Rattle.std.proofs.lemmas.Option.{IfSome_then}
@@ -31,7 +31,7 @@ IsMet-apart d c met = (IsMet-overall d c met, at c met)
     at SafeBeginning met = IfSome_then d.pairs met.1 (λ pairs holds n plain. holds.1 n)
     at _ met = tt
 
--- what is asked of no word is met by every number where it is met apart
+-- a condition that depends on no word is met by every number if it is met apart
 pub IsMetAt-apart : (d : Loaded) (c : Condition) → is_asked_of_words c ≡ false → IsMetApart d c → (n : ℕ) → IsMetAt d c n
 unfolding is_asked_of_words IsMetApart IsMetApartAt IsMetAt HoldsAt PairsHoldAt StepsHoldAt
 IsMetAt-apart d Surrogates e met n = search (met.1, IfSome-all)
@@ -46,7 +46,8 @@ IsMetAt-plain d c n met plain =
     IsMetAt-quiet d c n (λ h. plain) (λ e. at Surrogates e n) (λ e. at Hangul e n) (λ e. IfSome_then d.pairs (at SafeBeginning e) (λ pairs keeps. keeps n plain))
     (λ e. IfSome-all _ (λ t fdfa. (let itself = read-plain n (word_of d.characters n) d.characters.is_mapper plain in cc)) d.supplement)
 
--- a number answers for those before it that are asked of apart, for itself, and for the syllables behind it that are alike
+-- checking a number suffices for those before it that are checked apart, for itself, and for the syllables after it
+-- that are alike
 pub IsMetAt-answered : (d : Loaded) (hangul_is_sound : Bool) → (hangul_is_sound ≡ true → (n : ℕ) → IsSoundHangul d.characters n) → (from number end : ℕ) → IsNextWord d.characters from number →
     IsEndOfAlike hangul_is_sound number end → (c : Condition) → IsMetApart d c → IsMetAt d c number → (n : ℕ) → from ≤ n → n < end → IsMetAt d c n
 unfolding IsMetApart

@@ -20,12 +20,12 @@ item_above_zero w h =
     let low : bit_and w 0x3FFFFFFF ≡ w % 2 ^ 30 = and_mask w 30 in
     grind (arith, nat_tests)
 
--- a word reads as that of a Hangul syllable only where it is one's
+-- a word reads as that of a Hangul syllable only if it is one's
 pub read-hangul : (s : Characters) (n : ℕ) → reading_of_word s n ≡ HangulSyllable → is_hangul_syllable n ≡ true
 unfolding reading_of_word read read_low two_characters listed
 read-hangul s n e = grind arith
 
--- a word that says that its character is its own list gives the class
+-- a word that says that its character is its own list has the class
 pub class_of-itself : (s : Characters) (n : ℕ) → reading_of_word s n ≡ Itself → scalar n ≡ true → 0 ≡ class_of s n
 unfolding class_of reading_of_word read read_low two_characters listed class_of_word is_class_form
 class_of-itself s n e known = grind (arith, plain-no_class_form)

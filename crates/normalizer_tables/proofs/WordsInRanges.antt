@@ -34,7 +34,7 @@ IsRangeList-tail r rs h = (
   λ k d within. h.rising 0 (suc k) d (omega arith) (omega arith),
 )
 
--- those behind the first range end later
+-- those after the first range end later
 AreFrom-tail : (r : WordRange) (rs : List WordRange) (m : ℕ) → IsRangeList (r ∷ rs) → m ≤ r.1 + 1 → AreFrom m rs
 AreFrom-tail r rs m h low =
     let behind = IsRangeList-tail r rs h in
@@ -69,7 +69,7 @@ IsRun-held [] n some begun f = absurd (omega arith)
 IsRun-held (r ∷ rs) n some begun f =
     record { some = f.ends 0 r (omega arith); words = λ m low high. word_in-held r rs m (omega arith) high; from = AreFrom-to r rs r.1 f.list (omega arith) }
 
--- what is left behind a number
+-- what is left after a number
 pub AreLeft-tail : (rs : List WordRange) (n : ℕ) → 1 ≤ length rs → (get_or rs 0 (0, 0, 0)).1 ≤ n → AreFrom n rs → AreLeft rs (n + 1) (take (length rs - 1) (drop 1 rs))
 AreLeft-tail [] n some ends f = absurd (omega arith)
 AreLeft-tail (r ∷ rs) n some ends f = rw (take_all (length (r ∷ rs) - 1) rs (omega arith))

@@ -22,7 +22,7 @@ marker_of data_marker FdfaForms = NormalizerNfdDataV1
 marker_of data_marker Steps = NormalizerNfdSupplementV1
 marker_of data_marker _ = data_marker
 
--- how a condition that fails is answered
+-- the error for a condition that fails
 abbrev pub refusal_of : DataMarkerInfo → Condition → DataError
 refusal_of data_marker ItemLimit = FutureExtension NormalizerNfdTablesV1
 refusal_of data_marker c = Invalid (marker_of data_marker c) (number_of c)

@@ -3,7 +3,7 @@ use Rattle.std.proofs.Common.{◌≡◌, ◌⊎◌, inl, inr, Result, Ok, Err, I
 use Rattle.normalizer_tables.specs.declared.provider.DataError.{DataError}
 use Rattle.normalizer_tables.specs.declared.provider.DataError.TheVariants as error
 
--- what is not refused for the data themselves is refused for want of memory
+-- what is not refused for the data themselves is refused by `Memory`
 pub memory_alone : (Refuses : DataError → Type 0) (e : DataError) → ¬ Refuses e → (e ≡ error.Memory) ⊎ Refuses e → e ≡ error.Memory
 memory_alone Refuses e never (inl h) = h
 memory_alone Refuses e never (inr refuses) = absurd (never refuses)

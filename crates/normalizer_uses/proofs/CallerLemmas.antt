@@ -25,7 +25,7 @@ use Rattle.normalizer_calls.specs.Forms.{MadeForm}
 use Rattle.normalizer_calls.specs.Owned.{IsFormOf}
 use Rattle.normalizer_uses.specs.Reports.{ShowsDifference}
 
--- two texts have the same form exactly where they are equivalent
+-- two texts have the same form exactly if they are equivalent
 pub forms_equal_iff : (m : MadeForm) (x y a b : List ℕ) → IsText y → IsFormOf m x a → IsFormOf m y b → (a ≡ b) ↔ EquivalentTexts m.reading x y
 forms_equal_iff m x y a b y_text fa fb = (
   λ same. (fa.equivalents y y_text).1 (sym fb.form ∙ sym same),
@@ -37,7 +37,7 @@ nothing [] h = search
 nothing (c ∷ rest) h = absurd (omega arith)
 
 module _ (m : MadeForm) (bytes prefix rest : List ℕ) (split : IsSplitAtCut m Encoding.Utf8 bytes prefix rest) where
-  -- what is cut at its end is whole, and its own form
+  -- what is cut at its end is whole, and normalized
   pub whole_where_no_rest : length rest ≡ 0 → (prefix ≡ bytes) × IsNormalized m.reading m.form (chars prefix)
   whole_where_no_rest empty = (
     sym (split.parts ∙ ap (λ l. prefix ++ l) (nothing rest empty) ∙ append-nil prefix),
@@ -50,7 +50,7 @@ module _ (m : MadeForm) (bytes prefix rest : List ℕ) (split : IsSplitAtCut m E
       let same : length bytes ≡ length prefix = input_cut_unique Encoding.Utf8 m.reading m.form bytes (length bytes) (length prefix) whole split.cut in
       some (omega (arith, ap length split.parts, length-append prefix rest))
 
--- what is found and what is wanted stand behind the same characters
+-- the character found and the one expected come after the same characters
 pub shown_difference : (m : MadeForm) (x : List ℕ) (o : Offence) → m.form ≡ Composing → IsLastingOffenceOfText m x o → ShowsDifference m.reading x o
 unfolding normal_form
 shown_difference m x o is h =
@@ -92,12 +92,12 @@ module _ (m : MadeForm) (text prefix rest : List ℕ) (kept : List ℕ) (text_ut
   front_of_parts : take (length kept) text ≡ kept
   front_of_parts = ap (take (length kept)) (split.parts ∙ ap (λ l. l ++ rest) (sym same)) ∙ take-append_seam kept rest
 
-  -- a text may be cut behind its prefix
+  -- a text may be cut after its prefix
   pub seam_of_parts : IsCharBoundary text (length kept)
   seam_of_parts =
       IsCharBoundary-from_take text (length kept) text_utf8 (omega (arith, ap length split.parts, ap length same, length-append prefix rest)) (subst IsUtf8 (sym front_of_parts) kept_utf8)
 
-  -- where the form of the rest stands behind the prefix, the form of the whole stands there
+  -- if the form of the rest comes after the prefix, the two are the form of the whole
   pub appended_form : (bytes form whole : List ℕ) → bytes ≡ take (length kept) text → whole ≡ bytes ++ form → chars form ≡ normal_form m.reading m.form (chars rest)
       → chars whole ≡ normal_form m.reading m.form (chars text)
   appended_form bytes form whole front is form_is =

@@ -1,4 +1,4 @@
--- The forms that normalizers give over built data are those of the records.
+-- The forms of normalizers over built data are those of the records.
 use Rattle.std.proofs.Common.{◌≡◌, ℕ, List, []}
 use Rattle.normal_forms.specs.Forms.{normal_form}
 use Rattle.normal_forms.proofs.AlikeReadings.{nfc-alike, nfd-alike}

@@ -3,7 +3,7 @@ use Rattle.normal_forms.specs.Composition.{compose, compose_from}
 use Rattle.normalizer_packing.specs.Entries.{reading_of_entries}
 use Rattle.normalizer_packing.proofs.flags.composes_to.Given as goal
 
--- what is left composes behind the composite as the whole list does
+-- the rest composes after the composite as the whole list does
 abbrev pub invariant-loop-place : goal.invariant-loop-place
 invariant-loop-place l =
     let d = reading_of_entries l.entries l.compositions in

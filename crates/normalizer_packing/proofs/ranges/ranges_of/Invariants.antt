@@ -4,7 +4,7 @@ use Rattle.normalizer_packing.specs.inner.Stretches.{CoverUpTo}
 use Rattle.normalizer_packing.proofs.Tilings.{HasPassed}
 use Rattle.normalizer_packing.proofs.ranges.ranges_of.Given as goal
 
--- the numbers before `from` have their words, and no told one behind it was passed
+-- the numbers before `from` have their words, and no listed one after it was passed
 abbrev pub invariant-loop-character : goal.invariant-loop-character
 invariant-loop-character g l =
     CoverUpTo (g.W.Words.is_word l.words) l.ranges.items l.from × HasPassed l.told l.character-index l.from × (l.from ≤ code_points)

@@ -5,6 +5,6 @@ use Rattle.normalizer_records.proofs.refusals.recorded_characters.Given as goal
 abbrev pub invariant-loop-entry : goal.invariant-loop-entry
 invariant-loop-entry l = l.characters.items ≡ map (λ r. r.c) (take l.entry-index l.records)
 
--- behind them those of the mapper's records so far
+-- after them those of the mapper's records so far
 abbrev pub invariant-loop-mapped : goal.invariant-loop-mapped
 invariant-loop-mapped l = l.characters.items ≡ l.initial.characters.items ++ map (λ r. r.c) (take l.mapped-index l.uts46)

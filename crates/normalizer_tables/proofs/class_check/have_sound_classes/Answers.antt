@@ -8,7 +8,7 @@ use Rattle.normalizer_tables.proofs.NextWords.{is_plain-true}
 use Rattle.normalizer_tables.proofs.PairConditionLemmas.{scalar_below}
 use Rattle.normalizer_tables.proofs.class_check.have_sound_classes.Goals as goal
 
--- a character has a sound class where it stands below `from`, as those before it, or has no word
+-- a character has a sound class if it is below `from`, or has no word
 IsSoundClass-walked : (t : Table) (from n : ℕ) → ((m : ℕ) → m < from → IsScalar m → IsSoundClass m (word_at t m)) → (from ≤ n → without_flags 0xC0000000 (word_at t n) ≡ 0) →
     IsScalar n → IsSoundClass n (word_at t n)
 IsSoundClass-walked t from n before none is = elim (cases_lt n from) [

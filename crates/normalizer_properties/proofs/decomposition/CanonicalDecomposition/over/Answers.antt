@@ -5,7 +5,7 @@ use Rattle.normalizer_properties.specs.StepData.{steps_from, SuitsSteps}
 use Rattle.normalizer_properties.proofs.decomposition.CanonicalDecomposition.over.Goals as goal
 use Rattle.normalizer_properties.proofs.decomposition.CanonicalDecomposition.over.Goals.{In-None}
 
--- the data that were handed in meet the conditions
+-- the data that were supplied meet the conditions
 met : (c : In-None) → SuitsSteps (steps_from c.args.decompositions c.args.tables c.args.supplement)
 unfolding IsFirstFailing
 met c = let h = c.in-None.ensures in rw (c.new-loaded.ensures, c.new-characters.ensures) at h

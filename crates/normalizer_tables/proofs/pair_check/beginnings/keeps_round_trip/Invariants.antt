@@ -4,7 +4,7 @@ use Rattle.normalizer_tables.specs.Readings.{reading_by}
 use Rattle.normalizer_tables.specs.Ignored.{Dropped}
 use Rattle.normalizer_tables.proofs.pair_check.beginnings.keeps_round_trip.Given as goal
 
--- what is left composes behind the composite as the whole list does
+-- the rest composes after the composite as the whole list does
 abbrev pub invariant-loop-place : goal.invariant-loop-place
 invariant-loop-place l =
     let d = reading_by l.data Dropped l.compositions in
