@@ -2,7 +2,7 @@
    line for each file, form and call: their names, the best of the rounds in nanoseconds, the length and a digest of what was
    written, and the millions of bytes of the file in a second, with a tab between each two. RECORDS has a character a line: its
    number, class, the kind of its mapping (none, canonical, excluded, compatibility) and the numbers of that, in decimal.
-   `program --row FORM CALL RECORDS TIMES FILE` lets one call go over one file so many times, for a profiler to look at. */
+   `program --row FORM CALL RECORDS TIMES FILE` makes one call on one file TIMES times, for a profiler. */
 #define _POSIX_C_SOURCE 199309L
 
 #include "normalizer_benchmark.h"
@@ -166,7 +166,7 @@ static void say(const char *file, const char *form, const char *call, const uint
            (unsigned)digest, rate);
 }
 
-/* The steps of a round: what makes no form, and each call of each form. */
+/* The steps of a round: those that make no form, and each call of each form. */
 static void ask(struct normalizer_step *steps) {
     size_t count = 0;
     for (uint8_t call = 0; call < PLAIN_CALLS; call++) steps[count++] = (struct normalizer_step){.call = call};
@@ -213,7 +213,7 @@ static void run(const char *path, struct records records, struct bytes text, siz
     free(units.at);
 }
 
-/* What it takes before the first text: the library builds the data anew in each round, with no text to go over. */
+/* What it takes before the first text: the library builds new data in each round, with an empty text. */
 static void run_start(struct records records, size_t rounds) {
     uint64_t *times = room((1 + NORMALIZER_FORMS) * rounds * sizeof *times);
     uint8_t no_text = 0;
@@ -232,14 +232,14 @@ static void run_start(struct records records, size_t rounds) {
     free(times);
 }
 
-/* The place of a name in a list of so many, or how many there are. */
+/* The place of a name in a list, or the length of the list. */
 static size_t place_of(const char *name, const char *const *names, size_t count) {
     size_t place = 0;
     while (place < count && strcmp(name, names[place])) place++;
     return place;
 }
 
-/* One call, over one text, again and again. */
+/* One call on one text, repeated. */
 static int run_row(char **arguments) {
     size_t form = place_of(arguments[0], FORM_NAMES, NORMALIZER_FORMS), call = place_of(arguments[1], CALL_NAMES, NORMALIZER_CALLS);
     size_t times = (size_t)strtoul(arguments[3], NULL, 10);

@@ -14,13 +14,13 @@ struct normalizer_record {
     uint8_t combining_class;
     bool compatibility;
     bool excluded;
-    uint8_t length; /* of the mapping; 0 where there is none */
+    uint8_t length; /* of the mapping; 0 if there is none */
     uint32_t mapping[NORMALIZER_MAPPING];
 };
 
 enum normalizer_form { NORMALIZER_NFD, NORMALIZER_NFC, NORMALIZER_NFKD, NORMALIZER_NFKC, NORMALIZER_FORMS };
 
-/* What goes over a text. The first four make no form. */
+/* What is done with a text. The first four make no form. */
 enum normalizer_call {
     NORMALIZER_COPY,
     NORMALIZER_RECODE,
@@ -39,11 +39,11 @@ enum normalizer_call {
     NORMALIZER_CALLS
 };
 
-/* A step that is timed. Its form and its call are asked for; the rest is the answer. */
+/* A step that is timed. The caller sets its form and its call; the rest is the result. */
 struct normalizer_step {
     uint64_t nanoseconds; /* of CLOCK_MONOTONIC */
-    uint64_t length;      /* how many bytes or units were written; of a check, 1 where it holds */
-    uint32_t digest;      /* of what was written: each number behind 31 times what stood before, modulo 2^32 */
+    uint64_t length;      /* how many bytes or units were written; of a check, 1 if it holds */
+    uint32_t digest;      /* of what was written: each number plus 31 times the digest before it, modulo 2^32 */
     uint8_t form;
     uint8_t call;
 };
@@ -56,7 +56,7 @@ struct normalizer_start {
 
 enum normalizer_fault {
     NORMALIZER_OK,
-    NORMALIZER_UNREADABLE, /* the text is no UTF-8, or what stands for a character, a form or a call is none */
+    NORMALIZER_UNREADABLE, /* the text is no UTF-8, or a number is that of no character, form or call */
     NORMALIZER_RECORDS,
     NORMALIZER_DATA,
     NORMALIZER_NORMALIZING,

@@ -59,7 +59,7 @@ ServesComposing-met s pairs plain met =
       laws = SuitsTexts-accepted_pairs s (bounds_of s.decompositions) pairs parts.0 plain parts.1 Composing;
     }
 
--- canonical data that a caller answers for
+-- canonical data that a caller vouches for
 pub ServesDecomposing-handed_in : (decompositions : Decompositions) (tables : Lists) → IsSoundNfdData decompositions tables → ServesDecomposing (characters_from decompositions tables None) nfd_bounds
 unfolding IsMet
 ServesDecomposing-handed_in decompositions tables sound = record {

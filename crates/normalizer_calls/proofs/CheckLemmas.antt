@@ -1,4 +1,4 @@
--- Where a form that is written into a check sink is refused, its input is cut.
+-- The place at which a form written into a check sink is refused is the cut of the input.
 use Rattle.std.proofs.Common.{◌≡◌, ℕ, suc, ◌-◌, ◌≤◌, List, [], ◌∷◌, ◌++◌, length, take, drop, Result, Ok, Err, Option, Some, None}
 use Rattle.std.proofs.Common.{refl, sym, ap, subst, ◌∙◌, arith, inl, inr, append_assoc, length-append, length-take-le, take-append-drop}
 use Rattle.std.proofs.lemmas.List.{append_cancel_left, take_at}
@@ -86,7 +86,7 @@ module _ (e : Encoding) (d : Reading) (form : Form) (units : List ℕ) where
           (sym same ∙ ap (encoded_in e) whole ∙ encoded_in-append e r.beginning.front (r.piece ++ r.rest)
           ∙ ap (λ l. encoded_in e r.beginning.front ++ l) (encoded_in-append e r.piece r.rest))
 
-      -- so it is no piece of the input: what came before would be its own form, and so stand before it there
+      -- so it is no piece of the input: what came before would be normalized, and so come before it there
       single : (length (h.refusal refl).piece ≤ 1) ⊎ StandsInInput e d form units (h.refusal refl).beginning.front (h.refusal refl).piece → length (h.refusal refl).piece ≤ 1
       single (inl one) = one
       single (inr stands) =
@@ -101,7 +101,7 @@ module _ (e : Encoding) (d : Reading) (form : Form) (units : List ℕ) where
           (stops stands.next.0
           (sym (take-append-drop stands.place units) ∙ ap (λ l. l ++ drop stands.place units) (sym same) ∙ ap (λ l. encoded_in e r.beginning.front ++ l) stands.next.1))
 
-      -- no longer front of the form stands at the front of the units
+      -- no longer front of the form is one of the units
       no_longer : (piece rest : List ℕ) → (h.refusal refl).piece ≡ piece → length piece ≤ 1 → text ≡ (h.refusal refl).beginning.front ++ (piece ++ rest)
           → (m : ℕ) → IsEncodedFront e d form units m (suc (length (h.refusal refl).beginning.front)) → ⊥
       no_longer [] rest is small goes m f =
@@ -135,7 +135,7 @@ module _ (e : Encoding) (d : Reading) (form : Form) (units : List ℕ) where
           })
           (no_longer r.piece r.rest refl (single r.kind) whole))
 
-  -- ---- the first offence at the cut
+  -- ---- the first mismatch at the cut
 
   module _ (place : ℕ) (cut : IsInputCut e d form units place) where
     pub boundary_at_cut : IsBoundary (first_in e) units place
@@ -174,7 +174,7 @@ module _ (e : Encoding) (d : Reading) (form : Form) (units : List ℕ) where
       decoded-some (first_in e) (IsDecoding-first e) rest first.some ∙ ap (λ t. t.character ∷ decoded_in e (drop (first_in e rest).width rest)) (sym first.is),
     )
 
--- nothing is answered exactly where the units are well-formed and their own form
+-- `None` is returned exactly if the units are well-formed and normalized
 pub is_none_iff_normalized : (e : Encoding) (d : Reading) (form : Form) (units : List ℕ) (cut : Option ℕ) (r : Bool) → is_some cut ≡ not r → IsCutUnlessNormalized e d form units cut
     → IsTrue r ↔ IsInputNormalized e d form units
 is_none_iff_normalized e d form units None true is h = (λ _. h, λ _. refl)
@@ -182,7 +182,7 @@ is_none_iff_normalized e d form units None false is h = absurd (cc)
 is_none_iff_normalized e d form units (Some place) true is h = absurd (cc)
 is_none_iff_normalized e d form units (Some place) false is h = (λ k. (let no : false ≡ true = k in cc), λ own. absurd (h.0 own))
 
--- an offence lasts
+-- a mismatch lasts
 pub IsLastingOffence-found : (m : MadeForm) (e : Encoding) (units : List ℕ) → SuitsTexts m.reading m.form → (answer : Option Offence)
     → IsInputOffenceOf e m.reading m.form units answer → IsLastingOffence m e units answer
 IsLastingOffence-found m e units suits answer h = record {

@@ -1,4 +1,4 @@
--- Writing the members of a list, as an iterator would give them.
+-- Writing the members of a list, as if from an iterator.
 use Rattle.std.proofs.Common.{◌≡◌, ℕ, zero, suc, ◌+◌, ◌<◌, ◌≤◌, List, [], ◌∷◌, length, drop, Option, Some, None, Result, Ok, arith, refl, ap, sym, subst, ◌∙◌}
 use Rattle.std.specs.Prelude.{All, slice_get}
 use Rattle.std.proofs.lemmas.List.{drop_all}
@@ -27,7 +27,7 @@ pub SpellsUnless-list : (x : List ℕ) → SpellsUnless list_gives Memory x x
 SpellsUnless-list [] = λ r t step. rw step.0 (rw step.1 list_ended)
 SpellsUnless-list (c ∷ x) = λ r t step. rw step.0 (refl, rw step.1 (SpellsUnless-list x))
 
--- the member at a place comes next, and none behind the last
+-- the member at a place comes next, and none after the last
 pub list_gives-at : (x : List ℕ) (place c : ℕ) → slice_get x place ≡ Some c → list_gives (drop place x) (Some (Ok c)) (drop (place + 1) x)
 list_gives-at [] place c is = absurd (cc)
 list_gives-at (d ∷ x) zero c is = let same : d ≡ c = cc in (ap (λ e. Some (Ok e)) (sym same), refl)

@@ -1,4 +1,4 @@
--- The form that is handed out, in parts and whole.
+-- The form that is returned, in parts and whole.
 use Rattle.std.proofs.Common.{◌≡◌, ℕ, List, [], ◌++◌, take, drop, append_assoc, refl, sym, ap, subst, ◌∙◌}
 use Rattle.std.specs.Prelude.{Bool, true, false, IsTrue, IsFalse, Result, Ok, OnOk}
 use Rattle.std.proofs.lemmas.Result.{IfOk-weaker}
@@ -29,7 +29,7 @@ form_from_cut e d form units place cut =
     ∙ sym (encoded_in-append e (decoded_in e (take place units)) (normal_form d form (decoded_in e (drop place units))))
     ∙ ap (encoded_in e) cut.qualifies.keeps
 
--- they are written one behind the other
+-- they are written one after the other
 pub written_from_cut : {S A E : Type 0} (taken : S → List ℕ) (e : Encoding) (d : Reading) (form : Form) (units : List ℕ) (place : ℕ) → IsInputCut e d form units place
     → (old mid new : S) (prefix rest : List ℕ) (answer : Result A E) → prefix ≡ take place units → rest ≡ drop place units → taken mid ≡ taken old ++ prefix
     → OnOk answer (taken new ≡ taken mid ++ encoded_form e d form rest) → OnOk answer (taken new ≡ taken old ++ encoded_form e d form units)
@@ -69,7 +69,7 @@ IsEncodedFormOf-encoded m e units suits content is =
       };
     }
 
--- where the units are their own form, they are the form of the units
+-- if the units are normalized, they are their own form
 pub IsEncodedFormOf-own : (m : MadeForm) (e : Encoding) (units : List ℕ) → SuitsTexts m.reading m.form → IsInputNormalized e m.reading m.form units → IsEncodedFormOf m e units units
 IsEncodedFormOf-own m e units suits own =
     IsEncodedFormOf-encoded m e units suits units (sym ((is_normalized_iff_encoded_form e m.reading m.form units (IsText-normal_form m.reading m.form suits.texts suits.scalars)).0 own))
@@ -90,7 +90,7 @@ module _ {S : Type 0} (taken : S → List ℕ) (m : MadeForm) (e : Encoding) (un
     wrote = λ _. (encoded_form e m.reading m.form units, took, IsEncodedFormOf-encoded m e units suits (encoded_form e m.reading m.form units) refl);
   }
 
--- what was handed out
+-- what was returned
 module _ {S A : Type 0} (content : A → List ℕ) (IsBorrowed : A → Type 0) (taken : S → List ℕ) (m : MadeForm) (e : Encoding) (units : List ℕ) (old new : S)
     (own : Bool) (wrote : WroteUnlessOwn taken m e units old own new) (z : A) where
   pub HandsOutForm-borrowed : IsTrue own → content z ≡ units → IsBorrowed z → HandsOutForm content IsBorrowed m e units (Ok z)

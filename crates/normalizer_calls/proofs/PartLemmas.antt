@@ -55,7 +55,7 @@ HasShortRuns-front f d x rest h = record {
   chunks = HasShortChunks-front f d x rest h.chunks;
 }
 
--- a fault that a part never answers, is not handed on from it
+-- a fault that a part never returns is not passed on from it
 pub not_handed_on : {A B E : Type 0} (of_part : Result A E) (of_all : Result B E) (fault other : E) → of_part ≡ Err fault → of_all ≡ Err fault → ¬ IsErrOf of_part other → ¬ IsErrOf of_all other
 not_handed_on of_part of_all fault other is handed none got =
     let both : Err fault ≡ Err other = sym handed ∙ got in
@@ -181,7 +181,7 @@ module _ (e : Encoding) (d : Reading) (form : Form) where
             single piece front (inl one) = inl one
             single piece front (inr none) = absurd none
 
-  -- ---- part behind part
+  -- ---- one part after another
 
   -- all before a position was written
   pub record WroteUpTo {S : Type 0} (taken : S → List ℕ) (refused : S → S → Type 0) (units : List ℕ) (old : S) (position : ℕ) (now : S) : Type 0 where
@@ -220,11 +220,11 @@ module _ (e : Encoding) (d : Reading) (form : Form) where
       boundary_behind : (n : ℕ) → IsBoundary (first_in e) rest n → IsBoundary (first_in e) units (position + n)
       boundary_behind n b = boundary-after (first_in e) (IsDecoding-first e) units position n so_far.boundary (subst (λ l. IsBoundary (first_in e) l n) is b)
 
-      -- the units behind both
+      -- the units after both
       rest_behind : (n : ℕ) → drop n rest ≡ drop (position + n) units
       rest_behind n = ap (drop n) is ∙ drop-drop n position units
 
-      -- what stands before a place in the rest
+      -- what comes before a place in the rest
       text_to : (n : ℕ) → IsBoundary (first_in e) rest n → decoded_in e (take (position + n) units) ≡ decoded_in e (take position units) ++ decoded_in e (take n rest)
       text_to n b = append_cancel_right _ _ (decoded_in e (drop (position + n) units))
           (sym (text-parts units (position + n) (boundary_behind n b))
@@ -269,7 +269,7 @@ module _ (e : Encoding) (d : Reading) (form : Form) where
           subst (λ l. HasShortRuns f d (decoded_in e l)) (sym is)
           (HasShortRuns-rest f d (decoded_in e (take position units)) (decoded_in e (drop position units)) (subst (HasShortRuns f d) (text-parts units position so_far.boundary) h))
 
-      -- a beginning of the form of the rest, behind what was written
+      -- a beginning of the form of the rest, after what was written
       beginning_behind : (to : S) → TookBeginning e taken (normal_form d form (decoded_in e rest)) now to → TookBeginning e taken (normal_form d form (decoded_in e units)) old to
       beginning_behind to b = record {
         front = normal_form d form (decoded_in e (take position units)) ++ b.front;

@@ -1,4 +1,4 @@
--- Characters that are handed on as they are, and runs of them.
+-- Characters that are passed on as they are, and runs of them.
 use Rattle.std.proofs.Common.{◌≡◌, ℕ, ◌<◌, inl, inr, Bool, true, false, List, [], ◌∷◌, ◌++◌, refl, sym, ap, subst, ◌∙◌, append_assoc, append-nil}
 use Rattle.std.specs.Char.{IsScalar}
 use Rattle.std.specs.Prelude.{All, nat_lt, ◌||◌, ◌&&◌, not}
@@ -30,7 +30,7 @@ use Rattle.normalizer_iterators.specs.LazyComposing.{SuitsLazyComposing}
 use Rattle.normalizer_iterators.proofs.PassingLemmas.{BeginsSafely-apart}
 use Rattle.normalizer_calls.specs.inner.Passing.{BeginsApart, Divides, MayPass}
 
--- a starter that reads as itself stands apart from what is behind it too
+-- a starter that reads as itself is normalized apart from what comes after it too
 MayPass-itself : (d : Reading) (c : ℕ) → ReadsAsItself d c → IsStarter d c → MayPass d Decomposing false c
 unfolding normal_form nfd expand order insert
 MayPass-itself d c itself starter = record {
@@ -40,7 +40,7 @@ MayPass-itself d c itself starter = record {
   ends = λ _ x. ap (λ l. order d (l ++ expand d x)) itself ∙ order-at_starter d [] c (expand d x) starter;
 }
 
--- a character below the bound, or whose word is 0, flags aside, passes where text is decomposed
+-- a character below the bound, or whose word is 0, flags aside, passes when text is decomposed
 pub MayPass-decomposed : (s : Characters) (bound : ℕ) → PassUnseenBelow s bound → (c : ℕ) → IsScalar c → (nat_lt c bound || is_plain (word_of s c)) ≡ true
     → MayPass (reading_by s Dropped []) Decomposing false c
 MayPass-decomposed s bound unseen c scalar passes = elim (cases_lt c bound) [
@@ -58,7 +58,7 @@ first_begins : (d : Reading) (list : List ℕ) → ((first : ℕ) (others : List
 first_begins d [] starters = tt
 first_begins d (first ∷ others) starters = starters first others refl
 
--- a character below the bound, or without class form, begins apart where text is decomposed
+-- a character below the bound, or without class form, is normalized apart when text is decomposed
 pub BeginsApart-decomposed : (s : Characters) (b : Bounds) → ServesDecomposing s b → (c : ℕ) → IsScalar c
     → (nat_lt c b.decomposition || not (has_class_form s c)) ≡ true → BeginsApart (reading_by s Dropped []) Decomposing c
 unfolding normal_form
@@ -107,7 +107,7 @@ module _ (d : Reading) (form : Form) where
   abbrev f : List ℕ → List ℕ
   f = normal_form d form
 
-  -- nothing stands in front, or behind
+  -- nothing comes before, or after
   pub Divides-start : (rest : List ℕ) → Divides d form [] rest
   Divides-start rest read unread is = ap (λ l. l ++ normal_form d form read) (sym (normal_form-nil form))
 
@@ -123,7 +123,7 @@ module _ (d : Reading) (form : Form) where
       subst (λ k. normal_form d form (front ++ k ∷ read) ≡ normal_form d form front ++ normal_form d form (k ∷ read)) same (begins front read)
 
   module _ (held_back : Bool) where
-    -- a run, and what is normalized apart from what stands before it
+    -- a run, and what is normalized apart from what comes before it
     run_then : (run y : List ℕ) → All (MayPass d form held_back) run → ((front : List ℕ) → normal_form d form (front ++ y) ≡ normal_form d form front ++ normal_form d form y)
         → normal_form d form (run ++ y) ≡ run ++ normal_form d form y
     run_then [] y all apart = refl
@@ -140,13 +140,13 @@ module _ (d : Reading) (form : Form) where
     run_ends free (c ∷ run) y all =
         (All-head (MayPass d form held_back) c run all).ends free (run ++ y) ∙ ap (λ l. c ∷ l) (run_ends free run y (All-tail (MayPass d form held_back) c run all))
 
-    -- a run is its own form
+    -- a run is normalized
     pub IsNormalized-run : (run : List ℕ) → All (MayPass d form held_back) run → IsNormalized d form run
     IsNormalized-run run all =
         ap (normal_form d form) (sym (append-nil run)) ∙ run_then run [] all (λ front. Divides-end front [] [] refl)
         ∙ ap (λ l. run ++ l) (normal_form-nil form) ∙ append-nil run
 
-    -- what is behind such a run is normalized apart
+    -- what comes after such a run is normalized apart
     pub Divides-run : held_back ≡ false → (c : ℕ) (run front rest : List ℕ) → All (MayPass d form held_back) (c ∷ run) → Divides d form (front ++ (c ∷ run)) rest
     Divides-run free c run front rest all read unread is =
         let first = All-head (MayPass d form held_back) c run all in

@@ -1,4 +1,4 @@
--- Where runs and segments end, and that what stands before is normalized apart.
+-- The ends of runs and segments; what comes before them is normalized apart.
 use Rattle.std.proofs.Common.{◌≡◌, ℕ, zero, suc, ◌+◌, ◌-◌, ◌<◌, ◌≤◌, Bool, true, false, List, [], ◌∷◌, ◌++◌, length, take, drop, map, refl, sym, ap, subst, ◌∙◌}
 use Rattle.std.proofs.Common.{append_assoc, arith, length-drop, length-take-le, inl, inr}
 use Rattle.std.specs.Char.{IsScalar}
@@ -192,10 +192,10 @@ passes_right passing s known passes = elim (cases_Bool s.is_error) [
   | inr right ↦ right
 ]
 
--- ---- where a text is divided
+-- ---- the places at which a text is divided
 
 module _ (e : Encoding) (d : Reading) (form : Form) (units : List ℕ) where
-  -- the character in front of what is behind a place begins apart, or none is there: it is normalized apart
+  -- the character at a place is normalized apart, or none is there: so is what comes from that place on
   Divides-before : (end : ℕ) → (end < length units → IsScalar (first_in e (drop end units)).character → BeginsApart d form (first_in e (drop end units)).character)
       → (front : List ℕ) → Divides d form front (decoded_in e (drop end units))
   Divides-before end next front = elim (cases_lt end (length units)) [
@@ -250,7 +250,7 @@ module _ (passing : ℕ → Bool) (e : Encoding) where
         (all_may_pass ss (All-tail IsScalar s.character (map (λ s. s.character) ss) scalars) (All-tail (λ s. step_passes passing s ≡ true) s ss pass))
 
     module _ (units : List ℕ) where
-      -- characters that all pass are well-formed and their own form
+      -- characters that all pass are well-formed and normalized
       module _ (end : ℕ) (to : PassesTo passing e units end) where
         passed_steps : All (λ s. step_passes passing s ≡ true) (steps (first_in e) (take end units))
         passed_steps = All-same (λ s. step_passes passing s ≡ true) _ _ (steps-parts (first_in e) (IsDecoding-first e) units end to.boundary).0 to.pass
@@ -290,14 +290,14 @@ module _ (passing : ℕ → Bool) (e : Encoding) where
             by [] is front = absurd (let no : [] ≡ (first_in e (take end units)).character ∷ decoded_in e (drop (first_in e (take end units)).width (take end units)) = sym is ∙ first in cc)
             by (c ∷ run) is front = Divides-run d form held_back free c run front (decoded_in e (drop end units)) (All-same (MayPass d form held_back) _ _ (sym is) run_may_pass)
 
-      -- ---- how much of a run is handed on
+      -- ---- how much of a run is passed on
 
-      -- all of it, where the units end
+      -- all of it, if the units end there
       pub passed_to_end : (end len : ℕ) → len ≡ length units → IsRunEnd passing e units end → end ≡ len → 0 < end → IsPart e d form units end × IsInputNormalized e d form (take end units)
       passed_to_end end len length_is run all some =
           let to = run.passes in (IsPart-run end to some (λ more. absurd (omega (arith, length_is))), own_run end to)
 
-      -- or where nothing is held back
+      -- or if nothing is held back
       pub passed_free : held_back ≡ false → (end : ℕ) → IsRunEnd passing e units end → 0 < end → IsPart e d form units end × IsInputNormalized e d form (take end units)
       passed_free free end run some =
           let to = run.passes in (IsPart-free_run end to free some, own_run end to)
@@ -311,7 +311,7 @@ module _ (passing : ℕ → Bool) (e : Encoding) where
           let held = PassesTo-held passing e units end to s last' in
           (IsPart-run (end - s.width) held some (next_held passing e units end to s last'), own_run (end - s.width) held)
 
--- ---- that is how much is handed on
+-- ---- the part of a run that is passed on
 
 module _ (passing : ℕ → Bool) (held_back : Bool) (e : Encoding) (units : List ℕ) (run : ℕ) (is_run : IsRunEnd passing e units run) where
   pub IsHandedOn-to_end : (len : ℕ) → len ≡ length units → run ≡ len → IsHandedOn passing held_back e units run

@@ -39,7 +39,7 @@ module _ (m : MadeForm) (text : List ℕ) (utf8 : IsUtf8 text) where
   own_bytes : IsNormalized m.reading m.form (decoded_utf8 text) → IsInputNormalized Encoding.Utf8 m.reading m.form text
   own_bytes own = record { well_formed = well_formed; own = own }
 
-  -- a text that is its own form is well-formed, and its own form, in bytes
+  -- a normalized text is well-formed and normalized in bytes
   pub own_of_text : IsNormalized m.reading m.form (chars text) → IsInputNormalized Encoding.Utf8 m.reading m.form text
   own_of_text own = own_bytes (subst (IsNormalized m.reading m.form) (sym (decoded-chars text utf8)) own)
 
@@ -73,13 +73,13 @@ module _ (m : MadeForm) (text : List ℕ) (utf8 : IsUtf8 text) where
     offence_decoded None h = h.own
     offence_decoded (Some o) h = lasting_decoded o h
 
-    -- the first offence of the bytes is that of the text
+    -- the first mismatch of the bytes is that of the text
     pub offence_of_text : (answer : Option Offence) → IsInputOffenceOf Encoding.Utf8 m.reading m.form text answer
         → MatchOption answer (IsNormalized m.reading m.form (chars text)) (IsLastingOffenceOfText m (chars text))
     offence_of_text answer h =
         subst (λ z. MatchOption answer (IsNormalized m.reading m.form z) (IsLastingOffenceOfText m z)) (decoded-chars text utf8) (offence_decoded answer h)
 
-  -- the bytes of the text are split where the text is
+  -- the bytes of the text are split at the cut of the text
   module _ (prefix rest : List ℕ) (h : IsSplitAtCut m Encoding.Utf8 text prefix rest) where
     prefix_utf8 : IsUtf8 prefix
     prefix_utf8 = IsUtf8-IsWellFormed prefix h.own.well_formed
@@ -105,7 +105,7 @@ module _ (m : MadeForm) (text : List ℕ) (utf8 : IsUtf8 text) where
       differs = λ own. h.differs (record { well_formed = rest_well_formed; own = subst (IsNormalized m.reading m.form) (sym (decoded-chars rest rest_utf8)) own });
     }
 
-  -- ---- what is handed out
+  -- ---- what is returned
 
   module _ (z : CowStr Global) (h : IsEncodedFormOf m Encoding.Utf8 text (cow_str_bytes z)) (texts : SuitsTexts m.reading m.form) where
     form_is_text : IsText (normal_form m.reading m.form (decoded_utf8 text))

@@ -1,4 +1,4 @@
--- Writing characters as an iterator gives them.
+-- Writing the characters of an iterator.
 use Rattle.std.proofs.Common.{◌≡◌, ℕ, List, [], ◌∷◌, ◌++◌, Option, Some, None, Result, Ok, Err, append_assoc, append-nil, refl, ap, sym, subst, ◌∙◌, arith, inl}
 use Rattle.std.proofs.lemmas.Result.{IfOk-weaker}
 use Rattle.std.specs.Prelude.{⊤, Bool, OnErr, IsErrOf}
@@ -18,7 +18,7 @@ use Rattle.normalizer_iterators.proofs.ItemLemmas.{SpellsOk-next, SpellsOk-no_fa
 use Rattle.normalizer_calls.specs.Writing.{TellsLengthFirst, TookBeginning, WritesForm}
 use Rattle.normalizer_calls.specs.inner.Writing.{WritesText}
 
--- a beginning was written of what an iterator gives from `start`, and it has come to `items`
+-- a beginning was written of what an iterator yields from `start`, and it has come to `items`
 pub record WroteSoFar {S I : Type 0} (e : Encoding) (taken : S → List ℕ) (refused : S → S → Type 0) (gives : I → Option (Result ℕ NormalizeError) → I → Type 0)
     (start : I) (old : S) (items : I) (now : S) : Type 0 where
   pub text : (x : List ℕ) → SpellsUnless gives Memory start x → (b : TookBeginning e taken x old now) × SpellsUnless gives Memory items b.rest
@@ -81,7 +81,7 @@ module _ {S I : Type 0} (e : Encoding) (taken : S → List ℕ) (refused left : 
         }
 
   module _ (start : I) (old : S) (items next : I) (now : S) (before : WroteSoFar e taken refused gives start old items now) where
-    -- the iterator gave an error
+    -- the iterator yielded an error
     pub WritesText-fault : {offered : List ℕ → List ℕ → Type 0} → (fault : NormalizeError) → gives items (Some (Err fault)) next → (x : List ℕ)
         → SpellsUnless gives Memory start x → WritesText e taken refused left refuses offered x old (Err fault) now
     WritesText-fault fault step x h =
@@ -89,7 +89,7 @@ module _ {S I : Type 0} (e : Encoding) (taken : S → List ℕ) (refused left : 
         let memory = (SpellsUnless-fault gives Memory items next fault so_far.0.rest step so_far.1).0 in
         record { written = tt; ahead = tt; fault = λ k. absurd (cc); refusal = λ k. absurd (cc); begun = λ _. so_far.0 }
 
-    -- which it never does where each item is `Ok`
+    -- which it never does if each item is `Ok`
     pub WroteSoFar-room : (fault : NormalizeError) → gives items (Some (Err fault)) next → (x : List ℕ) → SpellsOk gives start x → ⊥
     WroteSoFar-room fault step x h = let so_far = before.room x h in SpellsOk-no_fault gives items next fault so_far.0 step so_far.1
 
@@ -113,9 +113,9 @@ pub WritesText-same : {S : Type 0} {offered : List ℕ → List ℕ → Type 0} 
     → x ≡ y → WritesText e taken refused left refuses offered x old answer new → WritesText e taken refused left refuses offered y old answer new
 WritesText-same {offered = offered} e taken refused left refuses x y old answer new same h = subst (λ z. WritesText e taken refused left refuses offered z old answer new) same h
 
--- what comes behind a hint
+-- what comes after a hint
 module _ {S : Type 0} (e : Encoding) (taken : S → List ℕ) (refused left : S → S → Type 0) (refuses : S → List ℕ → Type 0) (hinted : S → ℕ → Result ⊤ SinkError → S → Type 0) (old : S) (n : ℕ) where
-  -- where it was refused, nothing was written
+  -- if it was refused, nothing was written
   pub WritesText-untold : {offered : List ℕ → List ℕ → Type 0} → (refusal : SinkError) (new : S) → AnswersHint taken refused left refuses hinted old n (Err refusal) new
       → (text : List ℕ) → WritesText e taken refused left refuses offered text old (Err Sink) new
   WritesText-untold refusal new told text =
@@ -140,7 +140,7 @@ module _ {S : Type 0} (e : Encoding) (taken : S → List ℕ) (refused left : S 
       → TellsLengthFirst taken hinted len old (Err Sink) new
   TellsLengthFirst-untold len is refusal new told = record { hint = Err refusal; state = new; first = subst (λ k. hinted old k (Err refusal) new) is told.hint; stops = (refl, refl, told.none) }
 
-  -- where it was taken, the rest is as if nothing had come before
+  -- if it was taken, the rest is as if nothing had come before
   module _ (mid : S) (told : AnswersHint taken refused left refuses hinted old n (Ok tt) mid) (answer : Result ⊤ NormalizeError) (new : S) where
     TookBeginning-told : (text : List ℕ) (to : S) → TookBeginning e taken text mid to → TookBeginning e taken text old to
     TookBeginning-told text to b = record { front = b.front; rest = b.rest; parts = b.parts; took = b.took ∙ ap (λ units. units ++ encoded_in e b.front) told.none }

@@ -1,4 +1,4 @@
--- Which data a constructor accepts, and how it answers others.
+-- Which data a constructor accepts, and its error for others.
 use Rattle.std.specs.Prelude.{Option, Some, None, Result, Ok, Err, All}
 use Rattle.normalizer_tables.specs.declared.condition.Bounds.{Bounds}
 use Rattle.normalizer_tables.specs.declared.provider.DataError.{DataError}
@@ -15,11 +15,11 @@ use Rattle.normalizer_tables.specs.Refusals.{RefusesFirstFailing}
 abbrev pub bounds_of : Decompositions → Bounds
 bounds_of decompositions = bounds_of_cap decompositions.cap
 
--- data that meet all conditions that are asked where text is decomposed
+-- data that meet all conditions for decomposing text
 abbrev pub SuitsDecomposing : Characters → Type 0
 SuitsDecomposing s = All (IsMet (characters_alone s)) decomposing_conditions
 
--- the answer for the first of them that fails
+-- the error for the first of them that fails
 abbrev pub RefusesToDecompose : DataMarkerInfo → Characters → DataError → Type 0
 RefusesToDecompose kind s e = RefusesFirstFailing kind (characters_alone s) decomposing_conditions e
 

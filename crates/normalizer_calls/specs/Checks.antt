@@ -1,4 +1,4 @@
--- What calls tell that compare an input with its form.
+-- What calls ensure that compare an input with its form.
 use Rattle.std.specs.Prelude.{◌≡◌, ◌≢◌, ◌↔◌, ◌⊎◌, ℕ, ◌≤◌, Bool, List, [], ◌++◌, length, take, encode_utf8_all}
 use Rattle.std.specs.Prelude.{chars, Option, MatchOption, Result, IfOk, IsOk, IsOkUnless, IsTrue}
 use Rattle.std.specs.Option.{ForSome}
@@ -15,26 +15,26 @@ use Rattle.normalizer_iterators.specs.declared.error.NormalizeError.{NormalizeEr
 use Rattle.normalizer_iterators.specs.declared.error.NormalizeError.TheVariants.{Memory}
 use Rattle.normalizer_calls.specs.Forms.{MadeForm}
 
--- The answer is as it is to be. `Memory` is the only fault, and never comes where the text x that was looked at has
--- short runs.
+-- The result is of this kind. `Memory` is the only error, and never comes if the text x that was looked at has short
+-- runs.
 pub record AnswersOf {A : Type 0} (m : MadeForm) (x : List ℕ) (Is : A → Type 0) (answer : Result A NormalizeError)
     : Type 0 where
   pub is : IfOk answer Is
   pub room : HasShortRuns m.has_class_form m.reading x → IsOk answer
   pub refused : IsOkUnless answer Memory
 
--- yes exactly where the units are well-formed and their own form
+-- true exactly if the units are well-formed and normalized
 abbrev pub ChecksForm : MadeForm → Encoding → List ℕ → Result Bool NormalizeError → Type 0
 ChecksForm m e units answer =
     AnswersOf m (decoded_in e units) (λ yes. IsTrue yes ↔ IsInputNormalized e m.reading m.form units) answer
 
--- the units have a first offence, at the place or before it
+-- the units have a first mismatch, at the place or before it
 abbrev pub HasOffenceWithin : MadeForm → Encoding → List ℕ → ℕ → Type 0
 HasOffenceWithin m e units place =
     (n : ℕ) × (found : ℕ) × (wanted : ℕ) × IsInputOffence e m.reading m.form units n found wanted × (n ≤ place)
 
--- The first offence of the units, or none where they are well-formed and their own form. What is found there isn't what
--- is wanted, or an error stands there. An offence of well-formed units is mended by nothing that is put behind them.
+-- The first mismatch of the units, or none if they are well-formed and normalized. The character found there isn't the
+-- one expected, or an error is there. Appending to well-formed units never removes it, nor moves it later.
 pub record IsLastingOffence (m : MadeForm) (e : Encoding) (units : List ℕ) (answer : Option Offence) : Type 0 where
   pub offence : IsInputOffenceOf e m.reading m.form units answer
   pub differ : ForSome answer (λ o. (o.found ≢ o.wanted) ⊎ IsErrorAt e units o.place)
@@ -44,7 +44,7 @@ pub record IsLastingOffence (m : MadeForm) (e : Encoding) (units : List ℕ) (an
 abbrev pub FindsOffence : MadeForm → Encoding → List ℕ → Result (Option Offence) NormalizeError → Type 0
 FindsOffence m e units answer = AnswersOf m (decoded_in e units) (IsLastingOffence m e units) answer
 
--- The units in two parts, at their cut: the prefix is well-formed and its own form, the rest is empty or is not both.
+-- The units in two parts, at their cut: the prefix is well-formed and normalized, the rest is empty or is not both.
 pub record IsSplitAtCut (m : MadeForm) (e : Encoding) (units prefix rest : List ℕ) : Type 0 where
   pub parts : units ≡ prefix ++ rest
   pub cut : IsInputCut e m.reading m.form units (length prefix)
@@ -53,12 +53,12 @@ pub record IsSplitAtCut (m : MadeForm) (e : Encoding) (units prefix rest : List 
 
 -- ---- a `str`, by its characters
 
--- yes exactly where the text is its own form
+-- true exactly if the text is normalized
 abbrev pub ChecksText : MadeForm → List ℕ → Result Bool NormalizeError → Type 0
 ChecksText m x answer = AnswersOf m x (λ yes. IsTrue yes ↔ IsNormalized m.reading m.form x) answer
 
--- The first offence of a text, behind some of its characters; the place counts their bytes. What is found isn't what is
--- wanted. Whatever is put behind the text, it has an offence behind as many characters or fewer.
+-- The first mismatch of a text, after some of its characters; the place counts their bytes. The character found isn't
+-- the one expected. Whatever is appended, the text has a mismatch after as many characters or fewer.
 pub record IsLastingOffenceOfText (m : MadeForm) (x : List ℕ) (o : Offence) : Type 0 where
   pub characters : ℕ
   pub first : IsFirstOffence m.reading m.form x characters o.found o.wanted
@@ -67,12 +67,12 @@ pub record IsLastingOffenceOfText (m : MadeForm) (x : List ℕ) (o : Offence) : 
   pub lasts : (more : List ℕ) → (n : ℕ) × (found : ℕ) × (wanted : ℕ)
       × IsFirstOffence m.reading m.form (x ++ more) n found wanted × (n ≤ characters)
 
--- the first offence of the text, or none where it is its own form
+-- the first mismatch of the text, or none if it is normalized
 abbrev pub FindsOffenceOfText : MadeForm → List ℕ → Result (Option Offence) NormalizeError → Type 0
 FindsOffenceOfText m x answer =
     AnswersOf m x (λ o. MatchOption o (IsNormalized m.reading m.form x) (IsLastingOffenceOfText m x)) answer
 
--- A text in two parts, by their bytes, at its cut: the prefix is its own form, the rest is empty or is not.
+-- A text in two parts, by their bytes, at its cut: the prefix is normalized, the rest is empty or is not.
 pub record IsTextSplitAtCut (m : MadeForm) (text prefix rest : List ℕ) : Type 0 where
   pub parts : text ≡ prefix ++ rest
   pub characters : chars text ≡ chars prefix ++ chars rest

@@ -1,4 +1,4 @@
--- Which data and pairs a constructor accepts where text is composed, and how it answers others.
+-- Which data and pairs a constructor accepts for composing text, and its error for others.
 use Rattle.std.specs.Prelude.{List, Option, Some, None, Result, Ok, Err, All}
 use Rattle.normalizer_tables.specs.declared.provider.DataError.{DataError}
 use Rattle.normalizer_tables.specs.declared.provider.DataMarkerInfo.{DataMarkerInfo}
@@ -9,11 +9,11 @@ use Rattle.normalizer_tables.specs.Loaded.{IsMet, characters_and_pairs}
 use Rattle.normalizer_tables.specs.Pairs.{Pair}
 use Rattle.normalizer_tables.specs.Refusals.{RefusesFirstFailing}
 
--- data with pairs that meet all conditions that are asked where text is composed
+-- data with pairs that meet all conditions for composing text
 abbrev pub SuitsComposing : Characters × List Pair → Type 0
 SuitsComposing h = All (IsMet (characters_and_pairs h.0 h.1)) (composing_conditions h.0.is_mapper)
 
--- the answer for the first of them that fails
+-- the error for the first of them that fails
 abbrev pub RefusesToCompose : DataMarkerInfo → Characters × List Pair → DataError → Type 0
 RefusesToCompose kind h e =
     RefusesFirstFailing kind (characters_and_pairs h.0 h.1) (composing_conditions h.0.is_mapper) e

@@ -1,4 +1,4 @@
--- By what a normalizer makes its form.
+-- The form that a normalizer makes, and the reading by which it makes it.
 use Rattle.std.specs.Prelude.{ℕ, Bool, []}
 use Rattle.normal_forms.specs.Reading.{Reading}
 use Rattle.normal_forms.specs.declared.Form.{Form}
@@ -13,7 +13,7 @@ use Rattle.normalizer_calls.specs.declared.normalizer.DecomposingNormalizerBorro
 use Rattle.normalizer_calls.specs.ComposingNormalizers.{composing_data_of_borrowed, pairs_of_borrowed}
 use Rattle.normalizer_calls.specs.Normalizers.{data_of_borrowed}
 
--- a form, the reading by which it is made, and the characters that wait while text is read for it
+-- a form, the reading by which it is made, and the characters that continue what comes before them (see `ShortRuns`)
 pub record MadeForm : Type 0 where
   pub has_class_form : ℕ → Bool
   pub reading : Reading

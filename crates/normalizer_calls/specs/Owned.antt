@@ -1,4 +1,4 @@
--- What calls tell that hand out the form of an input.
+-- What calls ensure that return the form of an input.
 use Rattle.std.specs.Prelude.{◌≡◌, ◌↔◌, ℕ, List, chars, Result, IfOk, IsOk, IsOkUnless}
 use Rattle.std.specs.Cow.{cow_str_bytes, IsBorrowedStr}
 use Rattle.std.specs.declared.borrow.CowStr.{CowStr}
@@ -14,8 +14,8 @@ use Rattle.normalizer_iterators.specs.declared.error.NormalizeError.{NormalizeEr
 use Rattle.normalizer_iterators.specs.declared.error.NormalizeError.TheVariants.{Memory}
 use Rattle.normalizer_calls.specs.Forms.{MadeForm}
 
--- The text z is the form of the text x. It is the form of exactly the texts that are equivalent to x, its own form, and
--- of the same decomposing form as x.
+-- The text z is the form of the text x. It is the form of exactly the texts that are equivalent to x, is normalized,
+-- and has the same decomposing form as x.
 pub record IsFormOf (m : MadeForm) (x z : List ℕ) : Type 0 where
   pub form : z ≡ normal_form m.reading m.form x
   pub equivalents : (y : List ℕ) → IsText y → EquivalentTexts m.reading x y ↔ (normal_form m.reading m.form y ≡ z)
@@ -27,8 +27,8 @@ pub record IsEncodedFormOf (m : MadeForm) (e : Encoding) (units content : List �
   pub encoded : content ≡ encoded_form e m.reading m.form units
   pub text : IsFormOf m (decoded_in e units) (decoded_in e content)
 
--- The form of the units was handed out, borrowed exactly where they are well-formed and their own form. `Memory` is the
--- only fault, and where they are, it never comes over short runs.
+-- The form of the units was returned, borrowed exactly if they are well-formed and normalized. `Memory` is the only
+-- error, and if they are, it never comes over short runs.
 pub record HandsOutForm {A : Type 0} (content : A → List ℕ) (IsBorrowed : A → Type 0) (m : MadeForm) (e : Encoding)
     (units : List ℕ) (answer : Result A NormalizeError) : Type 0 where
   pub form : IfOk answer (λ z. IsEncodedFormOf m e units (content z))
@@ -37,8 +37,8 @@ pub record HandsOutForm {A : Type 0} (content : A → List ℕ) (IsBorrowed : A 
       → IsOk answer
   pub refused : IsOkUnless answer Memory
 
--- The form of a text was handed out, borrowed exactly where the text is its own form. `Memory` is the only fault, and
--- where it is, it never comes over short runs.
+-- The form of a text was returned, borrowed exactly if the text is normalized. `Memory` is the only error, and if the
+-- text is normalized, it never comes over short runs.
 pub record HandsOutFormOfText (m : MadeForm) (x : List ℕ) (answer : Result (CowStr Global) NormalizeError)
     : Type 0 where
   pub form : IfOk answer (λ z. IsFormOf m x (chars (cow_str_bytes z)))

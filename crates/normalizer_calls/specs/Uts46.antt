@@ -1,5 +1,5 @@
 -- The mapper (UTS #46, section 4): its data, and which of them it accepts. They have two readings: ignored characters
--- are dropped, as mapping wants it, or stand for U+FFFD, as validation wants it.
+-- are dropped, for mapping, or read as U+FFFD, for validation.
 use Rattle.std.specs.Prelude.{List, Option, Some, None, Result, Ok, Err, true, []}
 use Rattle.normalizer_tables.specs.declared.condition.Bounds.{Bounds}
 use Rattle.normalizer_tables.specs.declared.provider.DataMarkerInfo.{DataMarkerInfo}

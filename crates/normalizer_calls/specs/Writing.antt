@@ -1,4 +1,4 @@
--- What is known where a text was written to a sink in an encoding, or only a beginning of it.
+-- What holds after a text was written to a sink in an encoding, or only a beginning of it.
 use Rattle.std.specs.Prelude.{◌≡◌, ℕ, Bool, List, ◌++◌, Result, ⊤, OnOk, OnErr, IsErrOf}
 use Rattle.normal_forms.specs.declared.Form.{Form}
 use Rattle.normal_forms.specs.Forms.{normal_form}
@@ -11,17 +11,16 @@ use Rattle.normalizer_iterators.specs.declared.error.NormalizeError.{NormalizeEr
 use Rattle.normalizer_iterators.specs.declared.error.NormalizeError.TheVariants.{Memory, Sink}
 
 module _ {S : Type 0} (e : Encoding) (taken : S → List ℕ) where
-  -- a beginning of the text, which ends between characters, was taken behind what was taken before
+  -- a beginning of the text, which ends between characters, was appended to what was taken before
   pub record TookBeginning (text : List ℕ) (old new : S) : Type 0 where
     pub front : List ℕ
     pub rest : List ℕ
     pub parts : text ≡ front ++ rest
     pub took : taken new ≡ taken old ++ encoded_in e front
 
-  -- The normal form of the text x was written: it stands behind what was taken before, and a later fault of the sink is
-  -- one from before this call too. `Sink` comes only with a fault of the sink, and `Memory` never where the text has short
-  -- runs. After either a beginning of the form was taken, if
-  -- calls that are refused take nothing.
+  -- The normal form of the text x was written: it was appended to what was taken before, and any later fault of the
+  -- sink is also one since before this call. `Sink` comes only with a fault of the sink, and `Memory` never if the text
+  -- has short runs. After either a beginning of the form was taken, if refused calls take nothing.
   pub record WritesForm (refused left : S → S → Type 0) (has_class_form : ℕ → Bool) (d : Reading) (form : Form)
       (x : List ℕ) (old : S) (answer : Result ⊤ NormalizeError) (new : S) : Type 0 where
     pub written : OnOk answer (taken new ≡ taken old ++ encoded_in e (normal_form d form x))
@@ -31,7 +30,7 @@ module _ {S : Type 0} (e : Encoding) (taken : S → List ℕ) where
     pub begun : OnErr answer (((s t : S) → left s t → TakesNothing taken s t)
         → TookBeginning (normal_form d form x) old new)
 
--- the sink was told first how many units the input has; where it refused that, nothing else was done
+-- the sink was first given the number of units of the input; if it refused that, nothing else was done
 pub record TellsLengthFirst {S : Type 0} (taken : S → List ℕ) (hinted : S → ℕ → Result ⊤ SinkError → S → Type 0)
     (len : ℕ) (old : S) (answer : Result ⊤ NormalizeError) (new : S) : Type 0 where
   pub hint : Result ⊤ SinkError

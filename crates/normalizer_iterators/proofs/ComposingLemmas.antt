@@ -31,7 +31,7 @@ pub nfd-reading_by : (s : Characters) (ignored : IgnoredCharacters) (pairs : Lis
 unfolding nfd order insert is_reorderable expand
 nfd-reading_by s ignored pairs x = refl
 
--- what is composed has been decomposed: it no longer matters what stands for ignored characters
+-- what is composed has been decomposed: it no longer matters how ignored characters read
 compose-reading_by : (s : Characters) (ignored : IgnoredCharacters) (pairs : List Pair) (y : List ℕ) → compose (reading_by s ignored pairs) y ≡ compose (reading_by s Dropped pairs) y
 unfolding compose compose_from visit joined is_blocked
 compose-reading_by s ignored pairs y = refl

@@ -69,7 +69,7 @@ module _ {I : Type 0} (can : I → Type 0) (gives : I → Option ℕ → I → T
       (subst (λ l. WillGiveBehind Comes (pairing_by s) l t.ahead t.decomposed out) parts.marks
       (subst (λ k. WillGiveBehind Comes k (staying t.marks) t.ahead t.decomposed out) (pairing_by-kept s t parts.kept) h))
 
-  -- what is known of one state holds of another behind which as much may come
+  -- what is known of one state holds of another after which the same may come
   CameFirst-by : (MayCome : Composition I → List ℕ → Type 0) (s u : Composition I) (r : Option (Result ℕ NormalizeError)) (t : Composition I)
       → ((out : List ℕ) → MayCome u out → MayCome s out) → CameFirst MayCome u r t → CameFirst MayCome s r t
   CameFirst-by MayCome s u None t back h = back [] h
@@ -174,7 +174,7 @@ module _ {I : Type 0} (can : I → Type 0) (gives : I → Option ℕ → I → T
         kept = parts.kept;
       }
 
-  -- ---- a starter is in hand
+  -- ---- there is a starter
 
   pub Steps-starter : (s t : Composition I) (a : ℕ) (r : Result ℕ NormalizeError) → staying s.marks ≡ [] → ComposesOn can gives left a s.decomposed s.pairs.now r t → s.ahead ≡ Starter a
       → CompositionSteps can gives left s (Some r) t
@@ -206,7 +206,7 @@ module _ {I : Type 0} (can : I → Type 0) (gives : I → Option ℕ → I → T
       → MakesProgress {A = Result ℕ NormalizeError} (CanCompose can left) (λ v. at_most (items_left left v)) s (Some r) t
   Goes-item s r t ready fewer = record { on = λ finite. (ready, tt, fewer); keeps = ready; rests = λ finite. tt }
 
-  -- ---- where no mark is given first, it doesn't matter how many were
+  -- ---- if no mark is yielded first, it doesn't matter how many were
 
   module _ (s u : Composition I) (same : KeepsButMarks s u) (none : staying s.marks ≡ []) (none_left : staying u.marks ≡ []) where
     without_marks : Becomes s [] s.ahead u
@@ -246,7 +246,7 @@ module _ {I : Type 0} (can : I → Type 0) (gives : I → Option ℕ → I → T
           rests = goes.rests;
         }
 
-  -- ---- no starter is in hand
+  -- ---- there is no starter
 
   composed_before : (d : Reading) (ahead : Ahead) → IsBeforeStarter ahead → (y : List ℕ) → composed_ahead d ahead y ≡ compose_by_starters d y
   composed_before d NoStarter before y = refl
@@ -287,7 +287,7 @@ module _ {I : Type 0} (can : I → Type 0) (gives : I → Option ℕ → I → T
         let d = pairing_by s in
         h.text ∙ ap (λ l. staying s.marks ++ l) (composed_before d s.ahead before h.unread) ∙ ap (λ l. l ++ compose_by_starters d h.unread) none
 
-    -- what the decomposition may give is composed
+    -- what the decomposition may yield is composed
     may_come : (Comes : I → List ℕ → Type 0) (y out : List ℕ) → decomposition.WillGive Comes s.decomposed y → compose_by_starters (pairing_by s) y ≡ out → WillGive Comes s out
     may_come Comes y out h composed =
         let d = pairing_by s in

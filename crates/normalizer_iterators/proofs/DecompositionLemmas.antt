@@ -35,7 +35,7 @@ nothing_read None none c e = cc
 nothing_read (Some r) none c e = cc
 
 module _ {I : Type 0} (can : I → Type 0) (gives : I → Option ℕ → I → Type 0) (left : I → Count) where
-  -- the first member of what begins anew is a starter
+  -- the first member of a character after a boundary is a starter
   pub class-first : (s : Decomposition I) (c first : ℕ) (delegate next : I) (pending : Option ℕ) (w : WaitingList) → pending_of s ≡ Some c
       → ReadsChunk can gives left (has_class_form s.characters) (reading_of s) c delegate first pending next w → 0 ≡ class_of s.characters first
   class-first s c first delegate next pending w here r =
@@ -45,7 +45,7 @@ module _ {I : Type 0} (can : I → Type 0) (gives : I → Option ℕ → I → T
   ended : (Comes : I → List ℕ → Type 0) (s : Decomposition I) → pending_of s ≡ None → ordered s.waiting ≡ [] → WillGive Comes s []
   ended Comes s none empty = IsToCome-ended Comes (nfd (reading_of s)) (pending_of s) s.delegate (ordered s.waiting) (nfd-nil (reading_of s)) none empty
 
-  -- a character that waits is given
+  -- a buffered character is yielded
   pub Steps-front : (s t : Decomposition I) (c : ℕ) → t.characters ≡ s.characters → t.ignored ≡ s.ignored → t.pending ≡ s.pending → t.delegate ≡ s.delegate
       → ordered s.waiting ≡ c ∷ ordered t.waiting → DecompositionSteps can gives left s (Some (Ok c)) t
   Steps-front s t c characters ignored pending delegate front = record {
@@ -139,7 +139,7 @@ module _ {I : Type 0} (can : I → Type 0) (gives : I → Option ℕ → I → T
     items_left-pending =
         ap (λ l. length l + longest_list * reads_left (pending_of s) (size (left s.delegate))) empty ∙ ap (λ p. 0 + longest_list * reads_left p (size (left s.delegate))) pending ∙ omega arith
 
-    -- the chunk was read, behind a character that had been read, or didn't fit
+    -- the chunk was read, after a character that had been read, or didn't fit
     module _ (following : Option ℕ) (u : I) (read : HasRead gives left s.delegate following u) (t : Decomposition I) (characters : t.characters ≡ s.characters) (ignored : t.ignored ≡ s.ignored) where
       pub Steps-read : (r : Result ℕ NormalizeError) → IfOk r
           (λ first. (before : I) → HasRead gives left before following u → ReadsChunk can gives left (has_class_form s.characters) (reading_of s) c before first (pending_of t) t.delegate t.waiting)

@@ -1,4 +1,4 @@
--- What an iterator of normalized text gives, from what is to come of it.
+-- What an iterator of normalized text yields, by what it has still to yield.
 use Rattle.std.proofs.Common.{◌≡◌, ℕ, Bool, IfOk, IsOk, IsOkUnless, List, [], ◌∷◌, ◌++◌, map, Option, Some}
 use Rattle.std.proofs.Common.{None, Result, Ok, Err, All, MatchOption, MatchResult, option_to_list, refl, sym, ap, subst, append-nil, ◌∙◌}
 use Rattle.std.proofs.lemmas.List.Elements.{All-nil, All-cons, All-head, All-tail}
@@ -24,7 +24,7 @@ use Rattle.normalizer_iterators.specs.Delegate.Extent.{to_end, so_far}
 use Rattle.normalizer_iterators.specs.NextItem.{CameFirst, GivesNext, IsFormOfSource}
 use Rattle.normalizer_iterators.specs.Items.{Answers, GivesForm, GivesFormOfRun, HasEnded, SpellsOk, SpellsUnless}
 
--- ---- what an iterator gives next
+-- ---- the next item of an iterator
 
 module _ {S E : Type 0} (gives : S → Option (Result ℕ E) → S → Type 0) where
   -- a character that came is the first of those that were left
@@ -32,7 +32,7 @@ module _ {S E : Type 0} (gives : S → Option (Result ℕ E) → S → Type 0) w
   SpellsUnless-next fault s t c [] step h = absurd (h (Some (Ok c)) t step)
   SpellsUnless-next fault s t c (d ∷ x) step h = let next = h (Some (Ok c)) t step in (x, ap (λ e. e ∷ x) (sym next.0), next.1)
 
-  -- where none came, none was left, and the end is reached
+  -- if none came, none was left, and the end is reached
   pub SpellsUnless-end : (fault : E) (s t : S) (x : List ℕ) → gives s None t → SpellsUnless gives fault s x → (x ≡ []) × HasEnded gives t
   SpellsUnless-end fault s t [] step h = (refl, h None t step)
   SpellsUnless-end fault s t (c ∷ x) step h = absurd (h None t step)
@@ -41,7 +41,7 @@ module _ {S E : Type 0} (gives : S → Option (Result ℕ E) → S → Type 0) w
   SpellsUnless-fault fault s t e [] step h = h (Some (Err e)) t step
   SpellsUnless-fault fault s t e (c ∷ x) step h = h (Some (Err e)) t step
 
-  -- where the end was reached, `None` comes, and the end stays reached
+  -- if the end was reached, `None` comes, and the end stays reached
   pub HasEnded-next : (s t : S) (r : Option (Result ℕ E)) → gives s r t → HasEnded gives s → (r ≡ None) × HasEnded gives t
   HasEnded-next s t r step h = (
     All-head (λ q. q ≡ None) r [] (h.at (r ∷ []) t (t, step, refl)),
@@ -149,13 +149,13 @@ module _ {I : Type 0} (can : I → Type 0) (gives : I → Option ℕ → I → T
   pub SpellsOk-composition : (s : Composition I) (x : List ℕ) → composition.WillGive (Spells gives) s x → composition.StaysShort gives s → SpellsOk (CompositionSteps can gives left) s x
   SpellsOk-composition = SpellsOk-to_come (composition.WillGive (Spells gives)) (composition.StaysShort gives) composition.IsEnded (CompositionSteps can gives left) (λ s r t steps. steps.item)
 
--- ---- what a run gave
+-- ---- what a run yielded
 
 module _ {I S : Type 0} (source_gives : I → Option ℕ → I → Type 0) (MayCome : Extent → S → List ℕ → Type 0) (WillGive : S → List ℕ → Type 0) (StaysShort IsEnded : S → Type 0)
     (steps : S → Option (Result ℕ NormalizeError) → S → Type 0)
     (item : (s : S) (r : Option (Result ℕ NormalizeError)) (t : S) → steps s r t → GivesNext WillGive StaysShort IsEnded s r t)
     (came : (s : S) (r : Option (Result ℕ NormalizeError)) (t : S) → steps s r t → (e : Extent) → CameFirst (MayCome e) s r t) where
-  -- what may come behind a run may come before it, behind what the run gave
+  -- what may come after a run may come before it, after what the run yielded
   may_come_before : (e : Extent) (s : S) (xs : List ℕ) (t : S) (out : List ℕ) → Yields steps s (map Ok xs) t → MayCome e t out → MayCome e s (xs ++ out)
   may_come_before e s [] t out run h = subst (λ u. MayCome e u out) (sym run) h
   may_come_before e s (x ∷ xs) t out run h = came s (Some (Ok x)) run.0 run.1 e (xs ++ out) (may_come_before e run.0 xs t out run.2 h)
@@ -215,7 +215,7 @@ module _ {I : Type 0} (can : I → Type 0) (gives : I → Option ℕ → I → T
       GivesFormOfRun-made gives (λ e. composition.WillGive (MayGive gives e)) (composition.WillGive (Spells gives)) (composition.StaysShort gives) composition.IsEnded
       (CompositionSteps can gives left) (λ s r t step. step.item) (λ s r t step. step.came) some_composed
 
--- ---- what a maker answers
+-- ---- the result of a constructor
 
 module _ {I S : Type 0} (source_gives : I → Option ℕ → I → Type 0) (WillGive : S → List ℕ → Type 0) (StaysShort : S → Type 0) (steps : S → Option (Result ℕ NormalizeError) → S → Type 0)
     (unless : (s : S) (x : List ℕ) → WillGive s x → SpellsUnless steps Memory s x) (always : (s : S) (x : List ℕ) → WillGive s x → StaysShort s → SpellsOk steps s x) (f : ℕ

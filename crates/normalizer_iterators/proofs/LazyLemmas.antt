@@ -1,4 +1,4 @@
--- Lemmas on what is read lazily: the reading that the data give, and runs of a delegate.
+-- Lemmas on what is read lazily: the reading that the data yield, and runs of a delegate.
 use Rattle.std.proofs.Common.{◌≡◌, ℕ, ◌<◌, ◌≤◌, Bool, true, false, ◌||◌, List, [], ◌∷◌, ◌++◌, refl, sym, ap, ◌∙◌, subst, Option, Some, None, inl, inr, option_to_list}
 use Rattle.std.proofs.lemmas.Bool.{cases_Bool, cases_lt}
 use Rattle.std.specs.Iterator.{Yields, YieldsThen}
@@ -14,7 +14,7 @@ use Rattle.normalizer_iterators.specs.Delegate.{ComesBehind, Extent, MayGive, Sp
 use Rattle.normalizer_iterators.specs.Delegate.Extent.{to_end, so_far}
 use Rattle.normalizer_iterators.specs.LazyReading.{HasClassesFrom}
 
--- ---- the reading that the data give
+-- ---- the reading that the data yield
 
 pub class-reading_by : (s : Characters) (ignored : IgnoredCharacters) (pairs : List Pair) → HasClassesFrom s (reading_by s ignored pairs)
 class-reading_by s ignored pairs c = refl
@@ -48,7 +48,7 @@ is_empty-cases : (x : List ℕ) → is_empty x ≡ false → (first : ℕ) × (o
 is_empty-cases [] e = cc
 is_empty-cases (c ∷ x) e = (c, x, refl)
 
--- what begins anew has no class form, and a list with a first member
+-- a character after a boundary has no class form, and a list with a first member
 pub anew-parts : (f : ℕ → Bool) (d : Reading) (c : ℕ) → continues f d c ≡ false → (f c ≡ false) × (first : ℕ) × (others : List ℕ) × (d.list c ≡ first ∷ others)
 unfolding continues
 anew-parts f d c e =
@@ -59,7 +59,7 @@ anew-parts f d c e =
           (other, some.0, some.1, some.2)
     ]
 
--- what doesn't begin anew continues
+-- a character that no boundary precedes continues
 pub continues-else : (f : ℕ → Bool) (d : Reading) (c : ℕ) → (continues f d c ≡ false → false ≡ true) → continues f d c ≡ true
 continues-else f d c other =
     elim (cases_Bool (continues f d c)) [
@@ -81,7 +81,7 @@ module _ {I : Type 0} (gives : I → Option ℕ → I → Type 0) where
   Yields-one_more s [] t x u run step = (u, subst (λ j. gives j (Some x) u) (sym run) step, refl)
   Yields-one_more s (y ∷ ys) t x u run step = (run.0, run.1, Yields-one_more run.0 ys t x u run.2 step)
 
-  -- what was given stands in front of what is spelled
+  -- what was yielded is at the front of what is spelled
   pub spelled_behind : (s : I) (xs : List ℕ) (t : I) (x : List ℕ) → Yields gives s xs t → Spells gives s x → (rest : List ℕ) × (x ≡ xs ++ rest) × Spells gives t rest
   spelled_behind s [] t x run spells = (x, refl, subst (λ j. Spells gives j x) run spells)
   spelled_behind s (y ∷ ys) t [] run spells = absurd (spells y run.0 run.1)
@@ -104,7 +104,7 @@ module _ {I : Type 0} (gives : I → Option ℕ → I → Type 0) where
       let next = spelled_next run.0 pending u before.0 run.2 before.2 in
       (next.0, before.1 ∙ ap (λ l. xs ++ l) next.1, next.2)
 
-  -- ---- what may be given behind a call may be given before it, behind what the call gave
+  -- ---- what may be yielded after a call may be yielded before it, after what the call yielded
 
   MayGive-some : (e : Extent) (t : I) (c : ℕ) (u : I) (x : List ℕ) → gives t (Some c) u → MayGive gives e u x → MayGive gives e t (c ∷ x)
   MayGive-some to_end t c u x step h =

@@ -1,4 +1,4 @@
--- Marks that stay behind a starter, one by one.
+-- Marks that stay after a starter, one by one.
 use Rattle.std.proofs.Common.{◌≡◌, ℕ, ◌+◌, ◌≤◌, true, false, ◌&&◌, nat_lt, nat_le, List, [], ◌∷◌, ◌++◌, length, drop, max, suc, Some, None, refl, sym, ap, ◌∙◌, arith, inl, inr}
 use Rattle.std.proofs.Math.Bool.{and-true}
 use Rattle.std.proofs.lemmas.Bool.{le-ltb, cond-true, cond-false}
@@ -17,7 +17,7 @@ is_above-push_any d p m c =
     list_all-append (λ b. nat_lt (d.class b) (d.class c)) p (m ∷ [])
     ∙ ap (λ b. is_above d p c && b) (and-true (nat_lt (d.class m) (d.class c)))
 
--- none blocks where there is none
+-- no mark blocks if there is none
 pub is_above-none : (d : Reading) (p : List ℕ) (c : ℕ) → p ≡ [] → is_above d p c ≡ nat_le 0 (d.class c)
 is_above-none d p c none = ap (λ l. is_above d l c) none ∙ is_above-nil d c ∙ sym (leb-zero (d.class c))
 
@@ -65,7 +65,7 @@ pub join-blocked : (d : Reading) (a : ℕ) (p : List ℕ) (c : ℕ) → is_above
 unfolding join
 join-blocked d a p c blocked = cond-false _ _ _ blocked
 
--- a starter joins only where no mark stands between
+-- a starter joins only if no mark is between
 pub join-starter : (d : Reading) (a : ℕ) (p : List ℕ) (c r : ℕ) → IsStarter d c → join d a p c ≡ Some r → p ≡ []
 unfolding join is_above
 join-starter d a [] c r starter joins = refl

@@ -34,7 +34,7 @@ use Rattle.normalizer_iterators.proofs.ComposingLemmas.{nfd-reading_by, nfc-read
 use Rattle.normalizer_iterators.proofs.DecompositionLemmas.{at_some, Steps-chunk, Goes-chunk}
 use Rattle.normalizer_iterators.proofs.LazyLemmas.{continues-anew, spelled_next, MayGive-next}
 
--- ---- what stands apart
+-- ---- characters that are normalized apart
 
 pub begins_anew : (s : Characters) (b : Bounds) (pairs : List Pair) → SuitsLazyComposing s b pairs → (ignored : IgnoredCharacters) → PassedBeginAnew s b ignored
 begins_anew s b pairs suits ignored = record {
@@ -80,7 +80,7 @@ BeginsSafely-apart f d c apart = by (d.list c) refl
     by [] e = tt
     by (first ∷ others) e = let h = apart.safely first others e in (h.0, λ a. none_of (d.pair a first) (h.1 a))
 
--- what stands apart and what is behind it begin safely
+-- characters that are normalized apart and what comes after them begin safely
 begins_apart : {I : Type 0} (Comes : I → List ℕ → Type 0) (s : Characters) (pairs : List Pair) (ignored : IgnoredCharacters) (following : Option ℕ) (u : I) (rest : List ℕ)
     → ForSome following (StandsApartIn s pairs ignored) → ComesBehind Comes following u rest
     → BeginsSafely (reading_by s ignored pairs) (expand (reading_by s ignored pairs) (option_to_list following ++ rest))
@@ -92,7 +92,7 @@ begins_apart Comes s pairs ignored (Some e) u rest apart source =
     BeginsSafely-expand (reading_by s ignored pairs) e rest stands.inhabited
     (BeginsSafely-apart (has_class_form s) (reading_by s ignored pairs) e stands)
 
--- only classes and pairs matter to where a text may begin
+-- only classes and pairs decide whether a text begins safely
 BeginsSafely-pairs : (s : Characters) (pairs : List Pair) (ignored : IgnoredCharacters) (x : List ℕ) → BeginsSafely (reading_by s ignored pairs) x
     → BeginsSafely (reading_by s Dropped pairs) x
 BeginsSafely-pairs s pairs ignored [] h = tt
@@ -106,7 +106,7 @@ nfd-begins s pairs ignored x begins =
     let d = reading_by s ignored pairs in
     subst (BeginsSafely (reading_by s Dropped pairs)) (nfd-reading_by s ignored pairs x) (BeginsSafely-pairs s pairs ignored (nfd d x) (BeginsSafely-order d (expand d x) begins))
 
--- a starter and its marks are done where what follows begins safely
+-- a starter and its marks are complete if what follows begins safely
 pub compose_after-boundary : (d : Reading) (a : ℕ) (p y : List ℕ) → BeginsSafely d y → compose_after d a p y ≡ (a ∷ p) ++ compose_by_starters d y
 compose_after-boundary d a p [] begins = compose_after-nil d a p ∙ sym (append-nil (a ∷ p)) ∙ ap (λ l. (a ∷ p) ++ l) (sym (compose_by_starters-nil d))
 compose_after-boundary d a p (c ∷ y) begins =

@@ -1,4 +1,4 @@
--- Reading characters on: what waits after each step.
+-- Reading further characters: what is buffered after each step.
 use Rattle.std.proofs.Common.{◌≡◌, ℕ, ◌+◌, ◌<◌, ◌≤◌, Bool, true, false, List, [], ◌∷◌, ◌++◌, length, drop, get_or, refl, sym, ap, ◌∙◌, arith, Option, Some, None, IfSome, OnSome, MatchOption}
 use Rattle.std.proofs.Common.{slice_get, inl, inr, append_assoc, append-nil}
 use Rattle.std.proofs.lemmas.List.{drop_more, drop_all, length-append}
@@ -69,7 +69,7 @@ pushed_all s members first place old new end pushed d same agrees rest = pushed.
 
 -- ---- characters that continue, one after another
 
--- `read` came and waits
+-- `read` came and is buffered
 pub record ReadSoFar {I : Type 0} (gives : I → Option ℕ → I → Type 0) (left : I → Count) (has_class_form : ℕ → Bool) (d : Reading) (delegate : I) (waiting : WaitingList) (delegate_now : I)
     (waiting_now : WaitingList) : Type 0 where
   pub read : List ℕ
@@ -150,7 +150,7 @@ pub reads_left-nearer : (given : Option ℕ) (after before : ℕ) → OnSome giv
 reads_left-nearer None after before h = omega arith
 reads_left-nearer (Some c) after before h = omega arith
 
--- `next` was read from the delegate, behind those that wait
+-- `next` was read from the delegate, after those that are buffered
 pub record ReadsAhead {I : Type 0} (can : I → Type 0) (gives : I → Option ℕ → I → Type 0) (left : I → Count) (has_class_form : ℕ → Bool) (d : Reading) (first : Option ℕ) (delegate : I)
     (waiting : WaitingList) (next : Option ℕ) (delegate_now : I) (waiting_now : WaitingList) : Type 0 where
   pub ready : IsReadyBehind can left next delegate_now
@@ -202,7 +202,7 @@ module _ {I : Type 0} (can : I → Type 0) (gives : I → Option ℕ → I → T
         let last = ahead.behind before read in
         ReadSoFar-refused can gives left f d before last.0 now waiting w c last.1 last.2.step continuing long
 
--- ---- a chunk, where nothing waited before
+-- ---- a chunk, if nothing was buffered before
 
 pub ReadsChunk-from : {I : Type 0} (can : I → Type 0) (gives : I → Option ℕ → I → Type 0) (left : I → Count) (f : ℕ → Bool) (d : Reading) (c first : ℕ) (members : List ℕ) (delegate next : I)
     (w b new : WaitingList) (pending : Option ℕ) → members ≡ d.list c → Some first ≡ slice_get members 0 → ordered w ≡ [] → unordered w ≡ []
@@ -221,7 +221,7 @@ ReadsChunk-from can gives left f d c first members delegate next w b new pending
   fewer = r.fewer;
 }
 
--- a character that is its own list is a chunk where what follows begins anew
+-- a character that is its own list is a chunk if a boundary follows it
 pub ReadsChunk-alone : {I : Type 0} (can : I → Type 0) (gives : I → Option ℕ → I → Type 0) (left : I → Count) (f : ℕ → Bool) (d : Reading) (c : ℕ) (delegate next : I) (following : Option ℕ)
     (w : WaitingList) → StandsAlone f d c following → HasRead gives left delegate following next → IsReadyBehind can left following next → ordered w ≡ [] → unordered w ≡ []
     → ReadsChunk can gives left f d c delegate c following next w

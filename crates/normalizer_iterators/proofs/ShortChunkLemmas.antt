@@ -1,4 +1,4 @@
--- Short runs of a text, and the runs of marks where it is decomposed.
+-- Short runs of a text, and the runs of marks of its decomposition.
 use Rattle.std.proofs.Common.{◌≡◌, ℕ, ◌≤◌, Bool, true, List, [], ◌∷◌, ◌++◌, length, refl, sym, ap, ◌∙◌, subst, arith, inl, inr}
 use Rattle.std.proofs.lemmas.Bool.{cases_Bool}
 use Rattle.std.proofs.lemmas.List.Elements.{All-nil, All-cons}
@@ -17,7 +17,7 @@ use Rattle.normalizer_iterators.proofs.LazyLemmas.{anew-parts}
 use Rattle.normalizer_iterators.proofs.MarkRunLemmas.{leading_marks-starter, HasShortMarkRuns-append}
 use Rattle.normalizer_iterators.proofs.ToComeLemmas.{nfd-nil}
 
--- a text begins with characters that continue; the rest begins anew, and its runs of marks are short
+-- a text begins with characters that continue; the rest begins at a boundary, and its runs of marks are short
 record BeginsLeading (f : ℕ → Bool) (d : Reading) (x : List ℕ) : Type 0 where
   pub leading : List ℕ
   pub rest : List ℕ
@@ -81,7 +81,7 @@ begins_leading f d suits (c ∷ x) runs =
           }
     ]
 
--- at most as many marks wait behind a starter as one chunk gives
+-- at most as many marks are buffered after a starter as one chunk yields
 pub HasShortMarkRuns-nfd : (f : ℕ → Bool) (d : Reading) → SuitsLazyReading f d → (x : List ℕ) → HasShortRuns f d x → HasShortMarkRuns d (nfd d x)
 HasShortMarkRuns-nfd f d suits x runs =
     let begins = begins_leading f d suits x runs in

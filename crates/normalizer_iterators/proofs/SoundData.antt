@@ -41,7 +41,7 @@ SuitsLazyReading-sound s b sound = record {
   short = λ c. length-list_of s [] c (omega arith);
 }
 
--- canonical data that a caller answers for
+-- canonical data that a caller vouches for
 pub SuitsLazyReading-nfd : (decompositions : Decompositions) (tables : Lists) → IsSoundNfdData decompositions tables
     → SuitsLazyReading (has_class_form (characters_from decompositions tables None)) (reading_by (characters_from decompositions tables None) Dropped [])
 unfolding IsMet

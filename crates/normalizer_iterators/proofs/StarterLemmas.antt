@@ -20,7 +20,7 @@ use Rattle.normalizer_iterators.proofs.MarkLemmas.{join-starter}
 use Rattle.normalizer_iterators.proofs.PassingLemmas.{compose_after-boundary}
 use Rattle.normalizer_iterators.proofs.MarkRunLemmas.{leading_marks-mark, HasShortMarkRuns-leading, HasShortMarkRuns-tail}
 
--- the starter has become `composite`, and these marks stay behind it
+-- the starter has become `composite`, and these marks stay after it
 pub record ComposedSoFar {I : Type 0} (can : I → Type 0) (gives : I → Option ℕ → I → Type 0) (left : I → Count) (d : Reading) (starter : ℕ) (old : Decomposition I) (composite : ℕ)
     (now : Decomposition I) (marks : StayingMarks) : Type 0 where
   pub text : (all : List ℕ) → decomposition.WillGive (Spells gives) old all → (y : List ℕ)
@@ -126,7 +126,7 @@ module _ {I : Type 0} (can : I → Type 0) (gives : I → Option ℕ → I → T
         fewer = omega (arith, before.fewer);
       }
 
-  -- a mark that finds no room stands behind too many
+  -- a mark for which there is no room comes after too many
   pub ComposedSoFar-no_room : (starter : ℕ) (old : Decomposition I) (composite : ℕ) (now : Decomposition I) (marks : StayingMarks) (c : ℕ) (next : Decomposition I)
       → ComposedSoFar can gives left d starter old composite now marks → decomposition.DecompositionSteps can gives left now (Some (Ok c)) next → IsMark d c → places ≤ used marks
       → GivesShort gives d old → ⊥
@@ -176,7 +176,7 @@ module _ {I : Type 0} (can : I → Type 0) (gives : I → Option ℕ → I → T
     fewer = omega (arith, before.fewer);
   }
 
-  -- what begins safely is not composed with what stands before it
+  -- what begins safely is not composed with what comes before it
   pub ComposesStarter-passes : (starter : ℕ) (old : Decomposition I) (composite : ℕ) (now : Decomposition I) (marks : StayingMarks) → ComposedSoFar can gives left d starter old composite now marks
       → ((Comes : I → List ℕ → Type 0) (y : List ℕ) → decomposition.WillGive Comes now y → BeginsSafely d y) → ComposesStarter gives left d starter old composite (staying marks) Passed now
   ComposesStarter-passes starter old composite now marks before begins = record {

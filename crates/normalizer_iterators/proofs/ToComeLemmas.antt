@@ -23,7 +23,7 @@ pub nfd-nil : (d : Reading) → nfd d [] ≡ []
 unfolding nfd expand
 nfd-nil d = order-nil d
 
--- what is read last and what stands behind it begin with a starter
+-- what was read last, with what comes after it, begins with a starter
 begins_chunk : (f : ℕ → Bool) (d : Reading) → SuitsLazyReading f d → {I : Type 0} (Comes : I → List ℕ → Type 0) (pending : Option ℕ) (u : I) (rest : List ℕ)
     → IfSome pending (λ c. continues f d c ≡ false) → ComesBehind Comes pending u rest → BeginsChunk d (option_to_list pending ++ rest)
 begins_chunk f d suits Comes None u [] anew source = tt
@@ -38,7 +38,7 @@ length-expand d [] short = omega arith
 length-expand d (c ∷ x) short = omega (arith, short c, length-expand d x short, length-append (d.list c) (expand d x))
 
 module _ {I : Type 0} (Comes : I → List ℕ → Type 0) where
-  -- ---- a character that waits is given
+  -- ---- a buffered character is yielded
 
   pub IsToCome-front : (form : List ℕ → List ℕ) (pending : Option ℕ) (u : I) (front behind out : List ℕ) (c : ℕ) → front ≡ c ∷ behind → IsToCome Comes form pending u front out → (rest : List ℕ)
       × (out ≡ c ∷ rest) × IsToCome Comes form pending u behind rest
@@ -56,7 +56,7 @@ module _ {I : Type 0} (Comes : I → List ℕ → Type 0) where
     text = ap (λ l. c ∷ l) h.text ∙ ap (λ l. l ++ form (option_to_list pending ++ h.unread)) (sym e);
   }
 
-  -- ---- nothing is pending and nothing waits
+  -- ---- nothing is pending and nothing is buffered
 
   pub IsToCome-none : (form : List ℕ → List ℕ) (pending : Option ℕ) (u : I) (front out : List ℕ) → form [] ≡ [] → pending ≡ None → front ≡ [] → IsToCome Comes form pending u front out → out ≡ []
   IsToCome-none form None u front out nil e none h = h.text ∙ ap (λ l. l ++ form h.unread) none ∙ ap form h.source ∙ nil
@@ -154,7 +154,7 @@ module _ {I : Type 0} (gives : I → Option ℕ → I → Type 0) where
         let fits = chunk_fits f d c first.1 first.2 long.read parts.0 (subst (λ l. HasShortRuns f d (c ∷ l)) parts.1 h.short) anew first.3 long.continuing in
         omega (arith, long.too_long, fits, ap length first.3, length-append first.2 (expand d long.read))
 
-    -- a chunk gives no more than its share
+    -- a chunk yields no more than its share
     pub chunk_size : SuitsLazyReading f d → (c : ℕ) (delegate u : I) (first : ℕ) (pending : Option ℕ) (b : WaitingList) → ReadsChunk can gives left f d c delegate first pending u b
         → length (ordered b) + longest_list * reads_left pending (size (left u)) < longest_list * (size (left delegate) + 1)
     chunk_size suits c delegate u first pending b r =

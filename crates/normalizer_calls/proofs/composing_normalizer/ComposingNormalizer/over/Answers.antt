@@ -6,7 +6,7 @@ use Rattle.normalizer_calls.proofs.AcceptedData.{ServesComposing-met}
 use Rattle.normalizer_calls.proofs.composing_normalizer.ComposingNormalizer.over.Goals as goal
 use Rattle.normalizer_calls.proofs.composing_normalizer.ComposingNormalizer.over.Goals.{In-None}
 
--- the data and the pairs that were handed in meet the conditions
+-- the data and the pairs that were supplied meet the conditions
 met : (c : In-None) → SuitsComposing (characters_from c.args.decompositions c.args.tables c.args.supplementary, c.args.pairs)
 unfolding IsFirstFailing
 met c =

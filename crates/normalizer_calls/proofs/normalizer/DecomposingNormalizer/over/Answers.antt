@@ -6,7 +6,7 @@ use Rattle.normalizer_calls.proofs.AcceptedData.{ServesDecomposing-met}
 use Rattle.normalizer_calls.proofs.normalizer.DecomposingNormalizer.over.Goals as goal
 use Rattle.normalizer_calls.proofs.normalizer.DecomposingNormalizer.over.Goals.{In-None}
 
--- the data that were handed in meet the conditions
+-- the data that were supplied meet the conditions
 met : (c : In-None) → SuitsDecomposing (characters_from c.args.decompositions c.args.tables c.args.supplementary)
 unfolding IsFirstFailing
 met c =

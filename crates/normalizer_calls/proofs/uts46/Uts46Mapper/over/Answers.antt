@@ -6,7 +6,7 @@ use Rattle.normalizer_calls.proofs.MapperLemmas.{ServesMapper-met}
 use Rattle.normalizer_calls.proofs.uts46.Uts46Mapper.over.Goals as goal
 use Rattle.normalizer_calls.proofs.uts46.Uts46Mapper.over.Goals.{In-None}
 
--- the data and the pairs that were handed in meet the conditions
+-- the data and the pairs that were supplied meet the conditions
 met : (c : In-None) → SuitsComposing (mapper_data c.args.decompositions c.args.tables c.args.supplementary c.args.pairs)
 unfolding IsFirstFailing
 met c =

@@ -24,14 +24,14 @@ returns-in-Ended-clause-steps g c =
     Steps-ended g.I.Iterator.can_next g.I.Iterator.next_gives g.I.Iterator.remaining c.args.self.now _
     (record { decomposed = refl; pairs = refl; ahead = refl }) c.in-Ended.is c.in_default.ensures.none.0 c.in_default.ensures.none.1
 
--- ---- a starter is in hand
+-- ---- there is a starter
 
 pub returns-in-Starter-clause-steps : goal.returns-in-Starter-clause-steps
 returns-in-Starter-clause-steps g c =
     Steps-starter g.I.Iterator.can_next g.I.Iterator.next_gives g.I.Iterator.remaining c.args.self.now c.compose_on.new.self _ c.compose_on.result
     c.in_default.ensures.none.0 c.compose_on.ensures (cc)
 
--- ---- a character that is passed is at hand
+-- ---- there is a character that passes
 
 pub pass-requires : goal.pass-requires
 pass-requires g c = record {
