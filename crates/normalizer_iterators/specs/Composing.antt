@@ -1,4 +1,4 @@
--- What is still to come of a decomposition that is composed, behind the marks that stay.
+-- What a decomposition that is composed has still to yield, after the marks that stay.
 use Rattle.std.specs.Prelude.{◌≡◌, ℕ, ◌+◌, ◌≤◌, List, [], ◌∷◌, ◌++◌, length, Option, Some, None}
 use Rattle.std.specs.Iterator.{Count}
 use Rattle.normal_forms.specs.Reading.{Reading, IsStarter, IsMark}
@@ -15,7 +15,7 @@ use Rattle.normalizer_iterators.specs.Delegate.{Extent, MayGive}
 use Rattle.normalizer_iterators.specs.MarkRuns.{HasShortMarkRuns}
 use Rattle.normalizer_iterators.specs.StayingMarks.{staying, used, BlocksBelow}
 
--- a character was visited behind a starter and the marks that stay: it joined, or is the next starter, or stays
+-- a character was visited after a starter and the marks that stay: it joined, or is the next starter, or stays
 abbrev pub HasVisited : Reading → ℕ → ℕ → StayingMarks → Visited → StayingMarks → Type 0
 HasVisited d a c old (Joined r) new = (join d a (staying old) c ≡ Some r) × (new ≡ old)
 HasVisited d a c old StartsAnew new = (join d a (staying old) c ≡ None) × IsStarter d c × (new ≡ old)
@@ -23,42 +23,42 @@ HasVisited d a c old Stays new =
     (join d a (staying old) c ≡ None) × IsMark d c × (staying new ≡ staying old ++ c ∷ []) × (used new ≡ used old + 1)
     × BlocksBelow d new
 
--- what the characters that are still to come compose to, behind the marks that are given first
+-- what the remaining characters compose to, after the marks that are yielded first
 abbrev pub composed_ahead : Reading → Ahead → List ℕ → List ℕ
 composed_ahead d NoStarter y = compose_by_starters d y
 composed_ahead d Passed y = compose_by_starters d y
 composed_ahead d (Starter a) y = compose_after d a [] y
 composed_ahead d Ended y = []
 
--- nothing is asked of what is read once the end is reached
+-- nothing is required of what is read once the end is reached
 abbrev pub UnlessEnded : Ahead → Type 0 → Type 0
 UnlessEnded NoStarter P = P
 UnlessEnded Passed P = P
 UnlessEnded (Starter a) P = P
 UnlessEnded Ended P = Unit {0}
 
--- how many characters may come, where at most n are read
+-- how many characters may come, if at most n are read
 abbrev pub ahead_left : Ahead → ℕ → ℕ
 ahead_left NoStarter n = n
 ahead_left Passed n = n
 ahead_left (Starter a) n = n + 1
 ahead_left Ended n = 0
 
--- no starter is in hand, and the end isn't reached
+-- there is no starter, and the end isn't reached
 abbrev pub IsBeforeStarter : Ahead → Type 0
 IsBeforeStarter NoStarter = Unit {0}
 IsBeforeStarter Passed = Unit {0}
 IsBeforeStarter _ = ⊥
 
 module _ {I : Type 0} where
-  -- these characters, where memory suffices: some marks, and then what stands ahead
+  -- these characters, if memory suffices: some marks, and then what is ahead
   pub record WillGiveBehind (Comes : I → List ℕ → Type 0) (d : Reading) (marks : List ℕ) (ahead : Ahead)
       (s : Decomposition I) (out : List ℕ) : Type 0 where
     pub unread : List ℕ
     pub source : UnlessEnded ahead (decomposition.WillGive Comes s unread)
     pub text : out ≡ marks ++ composed_ahead d ahead unread
 
-  -- a decomposition gives these characters, and the runs that are still to come are short
+  -- a decomposition yields these characters, and the runs that are still to come are short
   pub record GivesShort (gives : I → Option ℕ → I → Type 0) (d : Reading) (s : Decomposition I) : Type 0 where
     pub unread : List ℕ
     pub source : decomposition.WillGive (Spells gives) s unread

@@ -30,7 +30,7 @@ module _ {I : Type 0} where
   abbrev pub pairing_by : Composition I → Reading
   pairing_by s = reading_by (data_of_composition s) Dropped (pairs_of_composition s)
 
-  -- these characters, by what comes of the delegate, where memory suffices
+  -- these characters, by what the delegate yields, if memory suffices
   abbrev pub WillGive : (I → List ℕ → Type 0) → Composition I → List ℕ → Type 0
   WillGive Comes s out = WillGiveBehind Comes (pairing_by s) (staying s.marks) s.ahead s.decomposed out
 
@@ -48,7 +48,7 @@ module _ {I : Type 0} where
   abbrev pub items_left : (I → Count) → Composition I → ℕ
   items_left left s = length (staying s.marks) + ahead_left s.ahead (decomposition.items_left left s.decomposed)
 
-  -- a starter was composed with what was decomposed behind it, and given, or a fault came
+  -- a starter was composed with what was decomposed after it, and yielded, or a fault came
   pub record ComposesOn (can : I → Type 0) (gives : I → Option ℕ → I → Type 0) (left : I → Count) (starter : ℕ)
       (old : Decomposition I) (pairs : List Pair) (r : Result ℕ NormalizeError) (t : Composition I) : Type 0 where
     pub first : (y : List ℕ) → decomposition.WillGive (Spells gives) old y → MatchResult r

@@ -30,7 +30,7 @@ module _ {I : Type 0} where
   abbrev pub reading_of : Decomposition I → Reading
   reading_of s = reading_by s.characters s.ignored []
 
-  -- these characters, by what comes of the delegate, where memory suffices
+  -- these characters, by what the delegate yields, if memory suffices
   abbrev pub WillGive : (I → List ℕ → Type 0) → Decomposition I → List ℕ → Type 0
   WillGive Comes s out = IsToCome Comes (nfd (reading_of s)) (pending_of s) s.delegate (ordered s.waiting) out
 

@@ -1,4 +1,4 @@
--- What an iterator gives whose calls may fail: the characters of a text, a fault, the end.
+-- What an iterator yields whose calls may fail: the characters of a text, a fault, the end.
 use Rattle.std.specs.Prelude.{◌≡◌, ℕ, Bool, List, [], ◌∷◌, map, Option, Some, None, Result, Ok, Err, All, MatchOption}
 use Rattle.std.specs.Prelude.{MatchResult, IfOk, IsOkAnd, IsOkUnless}
 use Rattle.std.specs.Iterator.{Drains, Yields, YieldsThen}
@@ -10,22 +10,21 @@ use Rattle.normalizer_iterators.specs.declared.error.NormalizeError.{NormalizeEr
 use Rattle.normalizer_iterators.specs.declared.error.NormalizeError.TheVariants.{Memory}
 
 module _ {S E : Type 0} (gives : S → Option (Result ℕ E) → S → Type 0) where
-  -- calls from s gave these answers, one after another, and left t
+  -- calls from s returned these items, one after another, and left t
   abbrev pub Answers : S → List (Option (Result ℕ E)) → S → Type 0
   Answers s [] t = s ≡ t
   Answers s (r ∷ rs) t = (u : S) × gives s r u × Answers u rs t
 
-  -- each call from s on gives `None`, for good
+  -- each call from s on returns `None`, forever
   pub record HasEnded (s : S) : Type 0 where
     pub at : (rs : List (Option (Result ℕ E))) (t : S) → Answers s rs t → All (λ r. r ≡ None) rs
 
-  -- calls from s give these characters in turn, each `Ok`, and then `None` for good
+  -- calls from s return these characters in turn, each `Ok`, and then `None` forever
   abbrev pub SpellsOk : S → List ℕ → Type 0
   SpellsOk s [] = HasEnded s
   SpellsOk s (c ∷ x) = (r : Option (Result ℕ E)) (t : S) → gives s r t → (r ≡ Some (Ok c)) × SpellsOk t x
 
-  -- the same, unless a call gives the fault where another would give the next character or `None`; then comes `None`
-  -- for good
+  -- the same, unless a call returns the fault in place of the next character or `None`; then comes `None` forever
   abbrev pub SpellsUnless : E → S → List ℕ → Type 0
   SpellsUnless fault s [] =
       (r : Option (Result ℕ E)) (t : S) → gives s r t
@@ -35,14 +34,14 @@ module _ {S E : Type 0} (gives : S → Option (Result ℕ E) → S → Type 0) w
       → MatchOption r ⊥ (λ item. MatchResult item (λ d. (d ≡ c) × SpellsUnless fault t x)
       (λ e. (e ≡ fault) × HasEnded t))
 
--- An iterator was made over a source: of each text that this spells it gives the form, unless memory is refused. Where
--- the text has short runs nothing is refused, when the iterator is made or later. Whatever the source gives, a run of
--- the iterator gives the form of that.
+-- An iterator was made over a source: of each text that this spells it yields the form, unless memory is refused. If
+-- the text has short runs nothing is refused, when the iterator is made or later. Whatever the source yields, a run of
+-- the iterator yields the form of that.
 module _ {I S : Type 0} (source_gives : I → Option ℕ → I → Type 0)
     (gives : S → Option (Result ℕ NormalizeError) → S → Type 0) where
-  -- characters that came up to the first `None` are the form of what the source gave up to its own; other characters,
-  -- as those before a fault, are the front of the form of what it gave so far. A fault is `Memory`, and then comes
-  -- `None` for good.
+  -- characters that came up to the first `None` are the form of what the source yielded up to its own; other
+  -- characters, as those before a fault, are the front of the form of what it yielded so far. A fault is `Memory`, and
+  -- then comes `None` forever.
   pub record GivesFormOfRun (form : List ℕ → List ℕ) (source : I) (it : S) : Type 0 where
     pub whole : (out : List ℕ) → Drains gives it (map Ok out) → (x : List ℕ)
         × Drains source_gives source x × (out ≡ form x)

@@ -1,4 +1,4 @@
--- What the data and the pairs have to say of characters where they are composed lazily.
+-- What data and pairs must satisfy so that characters can be composed lazily.
 use Rattle.std.specs.Prelude.{◌≡◌, ◌≢◌, ℕ, Bool, true, false, List, [], ◌∷◌, Some}
 use Rattle.std.specs.Char.{IsScalar}
 use Rattle.normal_forms.specs.Reading.{Reading, IsStarter}
@@ -19,7 +19,8 @@ pub record IsPassed (s : Characters) (b : Bounds) (c : ℕ) : Type 0 where
   pub scalar : IsScalar c
   pub passed : is_passed s b c ≡ true
 
--- c is its own form and begins anew, and its list begins with a starter that is second in no pair
+-- c is normalized and does not continue what comes before it, and its list begins with a starter that is second in no
+-- pair
 pub record StandsApart (has_class_form : ℕ → Bool) (d : Reading) (c : ℕ) : Type 0 where
   pub form : IsNormalized d Composing (c ∷ [])
   pub anew : has_class_form c ≡ false
@@ -30,12 +31,12 @@ pub record StandsApart (has_class_form : ℕ → Bool) (d : Reading) (c : ℕ) :
 abbrev pub StandsApartIn : Characters → List Pair → IgnoredCharacters → ℕ → Type 0
 StandsApartIn s pairs ignored = StandsApart (has_class_form s) (reading_by s ignored pairs)
 
--- each character that is passed begins anew
+-- no character that is passed continues what comes before it
 pub record PassedBeginAnew (s : Characters) (b : Bounds) (ignored : IgnoredCharacters) : Type 0 where
   pub anew : (c : ℕ) → IsPassed s b c → continues (has_class_form s) (reading_by s ignored []) c ≡ false
 
 -- what pairs compose to are starters, what Hangul composes to has the lists of its parts, and each character that is
--- passed stands apart
+-- passed is normalized apart
 pub record SuitsLazyComposing (s : Characters) (b : Bounds) (pairs : List Pair) : Type 0 where
   pub starters : HasStarterResults (reading_by s Dropped pairs)
   pub hangul : (ignored : IgnoredCharacters) → HasFaithfulResults (reading_by s ignored [])

@@ -1,4 +1,4 @@
--- What the data have to say of characters where they are read lazily.
+-- What data must satisfy so that characters can be read lazily.
 use Rattle.std.specs.Prelude.{◌≡◌, ℕ, ◌≤◌, Bool, false, List, ◌∷◌, length}
 use Rattle.normal_forms.specs.Reading.{Reading, IsStarter}
 use Rattle.normalizer_tables.specs.Characters.{Characters, class_of}
@@ -11,7 +11,7 @@ HasClassesFrom s d = (c : ℕ) → d.class c ≡ class_of s c
 abbrev pub longest_list : ℕ
 longest_list = 18
 
--- the list of a character without class form begins with a starter, where there is one, and no list is longer than any
+-- the list of a character without class form begins with a starter, if there is one, and no list is longer than any
 -- that words name
 pub record SuitsLazyReading (has_class_form : ℕ → Bool) (d : Reading) : Type 0 where
   pub starters : (c first : ℕ) (others : List ℕ) → has_class_form c ≡ false → d.list c ≡ first ∷ others

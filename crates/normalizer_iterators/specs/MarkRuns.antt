@@ -3,7 +3,7 @@ use Rattle.std.specs.Prelude.{ℕ, ◌+◌, ◌≤◌, List, [], ◌∷◌, if�
 use Rattle.normal_forms.specs.Reading.{Reading, is_starter}
 use Rattle.normal_forms.specs.ShortRuns.{places}
 
--- how many marks stand before the first starter
+-- how many marks come before the first starter
 unfoldable pub leading_marks : Reading → List ℕ → ℕ
 leading_marks d [] = 0
 leading_marks d (c ∷ y) = if is_starter d c then 0 else leading_marks d y + 1

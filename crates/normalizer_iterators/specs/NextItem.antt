@@ -1,11 +1,11 @@
--- What a call of `next` of an iterator of normalized text gives, over what is still to come of it.
+-- What a call of `next` of an iterator of normalized text yields, by what it has still to yield.
 use Rattle.std.specs.Prelude.{◌≡◌, ℕ, List, [], ◌∷◌, Option, None, Result, MatchOption, MatchResult, IfSome, IfErr}
 use Rattle.std.specs.Prelude.{IfOk, IsOk, OnErr}
 use Rattle.normalizer_iterators.specs.declared.error.NormalizeError.{NormalizeError}
 use Rattle.normalizer_iterators.specs.declared.error.NormalizeError.TheVariants.{Memory}
 use Rattle.normalizer_iterators.specs.Delegate.{Extent, MayGive}
 
--- what may come is the form of what the source may give
+-- what may come is the form of what the source may yield
 abbrev pub IsFormOfSource : {I S : Type 0} → (I → Option ℕ → I → Type 0) → (Extent → S → List ℕ → Type 0)
     → (List ℕ → List ℕ) → I → S → Type 0
 IsFormOfSource gives MayCome form source s =
@@ -15,15 +15,15 @@ IsFormOfSource gives MayCome form source s =
 abbrev pub GaveFirst : {S : Type 0} → (S → List ℕ → Type 0) → List ℕ → S → ℕ → Type 0
 GaveFirst WillGive out t c = (rest : List ℕ) × (out ≡ c ∷ rest) × WillGive t rest
 
--- A call from s gave r and left t: what may come from t may come from s behind the character that was given, and
--- nothing where None was given.
+-- A call from s returned r and left t: what may come from t may come from s after the character that was yielded, and
+-- nothing if that was None.
 abbrev pub CameFirst : {S : Type 0} → (S → List ℕ → Type 0) → S → Option (Result ℕ NormalizeError) → S → Type 0
 CameFirst MayCome s r t =
     MatchOption r (MayCome s []) (λ item. IfOk item (λ c. (out : List ℕ) → MayCome t out → MayCome s (c ∷ out)))
 
--- A call from s gave r and left t: the first character of what was to come, or None where nothing was; or a fault,
--- which only memory can be. After a fault and after None nothing is to come, and None comes for good. Where all runs
--- that are to come are short, there is no fault.
+-- A call from s returned r and left t: the first character of what was to come, or None if nothing was; or the fault
+-- `Memory`. After a fault and after None nothing is to come, and None comes forever. If all runs that are to come are
+-- short, there is no fault.
 pub record GivesNext {S : Type 0} (WillGive : S → List ℕ → Type 0) (StaysShort IsEnded : S → Type 0) (s : S)
     (r : Option (Result ℕ NormalizeError)) (t : S) : Type 0 where
   pub first : (out : List ℕ) → WillGive s out → MatchOption r ((out ≡ []) × WillGive t [])

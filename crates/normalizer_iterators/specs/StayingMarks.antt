@@ -1,4 +1,4 @@
--- The marks that stay behind a starter.
+-- The marks that stay after a starter.
 use Rattle.std.specs.Prelude.{◌≡◌, ℕ, nat_le, List, drop}
 use Rattle.smallvec.specs.SmallVec.{small_vec_len}
 use Rattle.normal_forms.specs.Reading.{Reading}
@@ -13,6 +13,6 @@ staying b = drop b.next b.marks.items
 unfoldable pub used : StayingMarks → ℕ
 used b = small_vec_len b.marks
 
--- D115: one of them blocks a character exactly where its class is below `unblocked`
+-- D115: one of them blocks a character exactly if its class is below `unblocked`
 unfoldable pub BlocksBelow : Reading → StayingMarks → Type 0
 BlocksBelow d b = (c : ℕ) → is_above d (staying b) c ≡ nat_le b.unblocked (d.class c)

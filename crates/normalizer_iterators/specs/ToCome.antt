@@ -4,7 +4,7 @@ use Rattle.normal_forms.specs.Reading.{Reading}
 use Rattle.normal_forms.specs.ShortRuns.{HasShortRuns}
 use Rattle.normalizer_iterators.specs.Delegate.{ComesBehind, SpellsBehind}
 
--- what waits in front, and then the form of the character that was read last and of what comes of the delegate
+-- what is buffered first, and then the form of the character that was read last and of what the delegate yields
 pub record IsToCome {I : Type 0} (Comes : I → List ℕ → Type 0) (form : List ℕ → List ℕ) (pending : Option ℕ)
     (delegate : I) (front out : List ℕ) : Type 0 where
   pub unread : List ℕ
@@ -18,7 +18,7 @@ pub record AreShortToCome {I : Type 0} (gives : I → Option ℕ → I → Type 
   pub source : SpellsBehind gives pending delegate unread
   pub short : HasShortRuns has_class_form d (option_to_list pending ++ unread)
 
--- of how many characters the lists may still come, where the delegate gives at most n
+-- the lists of how many characters may still come, if the delegate yields at most n
 abbrev pub reads_left : Option ℕ → ℕ → ℕ
 reads_left None n = 0
 reads_left (Some c) n = n + 1

@@ -1,4 +1,4 @@
--- The characters that wait to be given out.
+-- The characters that are buffered before they are yielded.
 use Rattle.std.specs.Prelude.{ℕ, List, ◌++◌, take, drop}
 use Rattle.smallvec.specs.SmallVec.{small_vec_len}
 use Rattle.normal_forms.specs.Reading.{Reading}
@@ -10,7 +10,7 @@ use Rattle.normalizer_iterators.specs.Waiting as entries
 unfoldable pub ordered : WaitingList → List ℕ
 ordered b = entries.characters (drop b.next (take b.run b.entries.items))
 
--- the marks behind them, whose order is open
+-- the marks after them, not yet in order
 unfoldable pub unordered : WaitingList → List ℕ
 unordered b = entries.characters (drop b.run b.entries.items)
 
@@ -18,10 +18,10 @@ unordered b = entries.characters (drop b.run b.entries.items)
 unfoldable pub held : WaitingList → ℕ
 held b = small_vec_len b.entries
 
--- the classes are those that the reading gives
+-- the classes are those of the reading
 unfoldable pub AgreesWith : Reading → WaitingList → Type 0
 AgreesWith d b = entries.HasClassesOf d b.entries.items
 
--- what comes out, where `rest` is still to go in
+-- what comes out, if `rest` is still to go in
 unfoldable pub reordered : Reading → WaitingList → List ℕ → List ℕ
 reordered d b rest = ordered b ++ order d (unordered b ++ rest)

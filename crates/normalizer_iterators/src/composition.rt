@@ -55,20 +55,20 @@ pub struct Composition<'data, I> {
     ghost passed: { ahead ≡ Passed → IsAtPassed pairs.now decomposed },
 }
 
-/// What comes behind the marks that stay.
+/// What comes after the marks that stay.
 #[derive(Clone, Copy)]
 enum Ahead {
-    /// What is decomposed, where no starter has come yet.
+    /// What is decomposed, if no starter has come yet.
     NoStarter,
     /// A character that is passed, not yet decomposed, if any is left.
     Passed,
-    /// A starter, and what is decomposed behind it.
+    /// A starter, and what is decomposed after it.
     Starter(char),
     /// Nothing.
     Ended,
 }
 
-/// What became of a character behind a starter and the marks that stay.
+/// What happened to a character after a starter and the marks that stay.
 #[derive(Clone, Copy)]
 enum Visited {
     /// It joined: the starter has become this one.
@@ -91,7 +91,7 @@ impl<'data, I: Iterator<Item = char> + Drop> Composition<'data, I> {
       pairs_of_composition,
     };
 
-    /// Reads the delegate up to its first character that begins anew.
+    /// Reads the delegate up to the first boundary.
     fn over(
         characters: CharacterData<'data>,
         ignored: IgnoredCharacters,
@@ -166,7 +166,7 @@ impl<'data, I: Iterator<Item = char> + Drop> Composition<'data, I> {
         }
     }
 
-    /// Gives a character that is passed as it is, or composes it with what follows it.
+    /// Yields a character that is passed as it is, or composes it with what follows it.
     #[inline(always)]
     fn pass(&mut self) -> Option<Result<char, NormalizeError>>
         requires can { CanCompose I.can_next I.remaining self.old }
@@ -198,8 +198,8 @@ impl<'data, I: Iterator<Item = char> + Drop> Composition<'data, I> {
     }
 }
 
-/// What a starter becomes by the characters that follow it, up to a character that is passed or the next starter that
-/// doesn't join; and what is ahead then, behind the marks that stay.
+/// What a starter and the characters that follow it compose to, up to a character that is passed or the next starter
+/// that doesn't join; and what is ahead then, after the marks that stay.
 fn compose_starter<I: Iterator<Item = char> + Drop>(
     decomposed: &mut Decomposition<'_, I>,
     pairs: &CanonicalCompositions,

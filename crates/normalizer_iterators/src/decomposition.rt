@@ -84,7 +84,7 @@ impl<'data, I: Iterator<Item = char> + Drop> Decomposition<'data, I> {
         decomposed(characters, IgnoredCharacters::Dropped, delegate)
     }
 
-    /// Reads the delegate up to its first character that begins anew.
+    /// Reads the delegate up to the first boundary.
     pub(crate) fn over(
         characters: CharacterData<'data>,
         ignored: IgnoredCharacters,
@@ -121,7 +121,7 @@ impl<'data, I: Iterator<Item = char> + Drop> Decomposition<'data, I> {
         }
     }
 
-    /// The first member of the list of the character that was pending. The one behind it was read.
+    /// The first member of the list of the character that was pending. The one after it was read.
     #[inline(always)]
     pub(crate) fn next_chunk(
         &mut self,
@@ -213,7 +213,7 @@ pub fn decomposed<'data, I: Iterator<Item = char> + Drop>(
     Decomposition::over(characters, ignored, delegate)
 }
 
-/// Whether a character is its own list, and what was read behind it begins anew.
+/// Whether a character is its own list, and a boundary follows it.
 #[inline(always)]
 fn stands_alone(
     characters: &CharacterData<'_>,
@@ -235,8 +235,8 @@ fn stands_alone(
     }
 }
 
-/// The first member of the list of a character that begins anew; the others wait, with the lists of the characters that
-/// continue it, and the next one that begins anew is found. The one behind it was read.
+/// The first member of the list of a character after a boundary; the others are buffered, with the lists of the
+/// characters that continue it, up to the next boundary. The character after it was read before.
 fn read_chunk<I: Iterator<Item = char> + Drop>(
     characters: &CharacterData<'_>,
     ignored: IgnoredCharacters,

@@ -1,4 +1,4 @@
-//! The marks that stay behind a starter while it is composed.
+//! The marks that stay after a starter while it is composed.
 ghost use Rattle.std.specs.Prelude.{◌≡◌, ◌+◌, ◌<◌, ◌≤◌, ◌∷◌, ◌++◌, [], ℕ, IfSome, IfNone, IsOk, OnOk};
 ghost use Rattle.smallvec.specs.SmallVec.{small_vec_len};
 ghost use Rattle.normal_forms.specs.Reading.{Reading};

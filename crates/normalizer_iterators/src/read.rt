@@ -10,7 +10,7 @@ use normalizer_tables::characters::{CharacterData, IgnoredCharacters};
 use normalizer_tables::members::Members;
 use normalizer_tables::word::is_class_form;
 
-/// A character that was read, with its word where that was looked up.
+/// A character that was read, with its word if that was looked up.
 #[derive(Clone, Copy)]
 pub(crate) struct ReadCharacter {
     pub(crate) character: char,
@@ -30,7 +30,7 @@ impl ReadCharacter {
         }
     }
 
-    /// Whether the character begins anew: it has no class form, and its list has members.
+    /// Whether a boundary precedes the character: it has no class form, and its list has members.
     #[tactic(auto, unfolding(normalizer_tables::specs::Characters::has_class_form))]
     #[inline(always)]
     pub(crate) fn begins_anew(

@@ -1,4 +1,4 @@
-//! Reading characters on, until one begins anew.
+//! Reading further characters, up to a boundary.
 ghost use Rattle.std.specs.Prelude.{◌≡◌, ◌+◌, ◌≤◌, ℕ, List, ◌++◌, length, drop, IsOk, IfOk, OnOk, OnErr, []};
 ghost use Rattle.normal_forms.specs.Reading.{Reading};
 ghost use Rattle.normal_forms.specs.ShortRuns.{places};
@@ -17,8 +17,8 @@ use normalizer_tables::characters::{CharacterData, IgnoredCharacters};
 use normalizer_tables::members::Members;
 use std::alloc::AllocError;
 
-/// Lets the characters that continue what stands before them wait, in canonical order, up to the first one that begins
-/// anew: that one is the answer, and it does not wait. None where the delegate has ended. The first was read before.
+/// Buffers the characters that continue what comes before them, in canonical order, up to the first boundary. Returns
+/// the character after it, which is not buffered, or None if the delegate has ended. The first was read before.
 pub(crate) fn read_on<I: Iterator<Item = char> + Drop>(
     characters: &CharacterData<'_>,
     ignored: IgnoredCharacters,
@@ -54,7 +54,7 @@ pub(crate) fn read_on<I: Iterator<Item = char> + Drop>(
     Ok(None)
 }
 
-/// Lets the list of a character wait.
+/// Buffers the list of a character.
 fn push_list(
     characters: &CharacterData<'_>,
     ignored: IgnoredCharacters,
@@ -81,7 +81,7 @@ fn push_list(
     }
 }
 
-/// Lets the members of a list wait, those from this place on.
+/// Buffers the members of a list from this place on.
 pub(crate) fn push_from(
     characters: &CharacterData<'_>,
     members: &Members<'_>,

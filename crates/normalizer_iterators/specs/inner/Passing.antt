@@ -26,11 +26,11 @@ abbrev pub AllPassed : Characters → Bounds → Option ℕ → Type 0
 AllPassed s b c = IfSome c (IsPassed s b)
 
 module _ {I : Type 0} where
-  -- nothing waits, and a composing loop passes the character that is read next
+  -- nothing is buffered, and a composing loop passes the character that is read next
   abbrev pub StandsAtPassed : Bounds → Decomposition I → Type 0
   StandsAtPassed b s = (ordered s.waiting ≡ []) × MatchOption (pending_of s) ⊥ (IsPassed s.characters b)
 
-  -- nothing waits, and the character that is read next, if there is one, stands apart
+  -- nothing is buffered, and the character that is read next, if there is one, is normalized apart
   pub record IsAtPassed (pairs : List Pair) (s : Decomposition I) : Type 0 where
     pub waiting : ordered s.waiting ≡ []
     pub apart : ForSome (pending_of s) (StandsApartIn s.characters pairs s.ignored)

@@ -1,4 +1,4 @@
--- Reading on, until a character begins anew.
+-- Reading on, up to a boundary.
 use Rattle.std.specs.Prelude.{◌≡◌, ℕ, ◌+◌, ◌-◌, ◌<◌, ◌≤◌, Bool, false, List, [], ◌∷◌, ◌++◌, length, Option, MatchOption}
 use Rattle.std.specs.Prelude.{IfSome}
 use Rattle.std.specs.Iterator.{Count, size, Yields, YieldsThen}
@@ -11,7 +11,7 @@ use Rattle.normalizer_iterators.specs.declared.waiting.WaitingList.{WaitingList}
 use Rattle.normalizer_iterators.specs.WaitingList.{ordered, unordered, held, reordered}
 use Rattle.normalizer_iterators.specs.Delegate.{IsReadyBehind}
 
--- characters that continue were read from a delegate, and wait in order; then one that begins anew, or None
+-- characters that continue were read from a delegate, and are buffered in order; then one after a boundary, or None
 pub record ReadsOn {I : Type 0} (can : I → Type 0) (gives : I → Option ℕ → I → Type 0) (left : I → Count)
     (has_class_form : ℕ → Bool) (d : Reading) (delegate : I) (waiting : WaitingList) (pending : Option ℕ)
     (delegate_after : I) (waiting_after : WaitingList) : Type 0 where
@@ -25,7 +25,7 @@ pub record ReadsOn {I : Type 0} (can : I → Type 0) (gives : I → Option ℕ �
   pub fewer : MatchOption pending (length read ≤ size (left delegate))
       (λ _. size (left delegate_after) + length read < size (left delegate))
 
--- the lists of characters that continue did not fit behind what waited
+-- the lists of characters that continue did not fit after what was buffered
 pub record DidNotFit {I : Type 0} (gives : I → Option ℕ → I → Type 0) (has_class_form : ℕ → Bool) (d : Reading)
     (delegate : I) (waiting : WaitingList) : Type 0 where
   pub read : List ℕ
@@ -34,8 +34,8 @@ pub record DidNotFit {I : Type 0} (gives : I → Option ℕ → I → Type 0) (h
   pub continuing : AllPass (continues has_class_form d) read
   pub too_long : places < held waiting + length (expand d read)
 
--- the first member of the list of a character came; the others and the lists of the characters that continue it wait in
--- order; then one that begins anew was read, or None
+-- the first member of the list of a character came; the others and the lists of the characters that continue it are
+-- buffered in order; then one after a boundary was read, or None
 pub record ReadsChunk {I : Type 0} (can : I → Type 0) (gives : I → Option ℕ → I → Type 0) (left : I → Count)
     (has_class_form : ℕ → Bool) (d : Reading) (character : ℕ) (delegate : I) (first : ℕ) (pending : Option ℕ)
     (delegate_after : I) (waiting_after : WaitingList) : Type 0 where
@@ -51,7 +51,7 @@ pub record ReadsChunk {I : Type 0} (can : I → Type 0) (gives : I → Option �
   pub fewer : MatchOption pending (length read ≤ size (left delegate))
       (λ _. size (left delegate_after) + length read < size (left delegate))
 
--- a character is its own list, and what was read behind it begins anew
+-- a character is its own list, and what was read after it does not continue it
 pub record StandsAlone (has_class_form : ℕ → Bool) (d : Reading) (character : ℕ) (following : Option ℕ) : Type 0 where
   pub own : d.list character ≡ character ∷ []
   pub anew : IfSome following (λ c. continues has_class_form d c ≡ false)

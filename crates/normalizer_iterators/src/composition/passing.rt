@@ -1,4 +1,4 @@
-//! Giving characters as they are, where a composing loop passes them.
+//! Yielding characters as they are, if a composing loop passes them.
 ghost use Rattle.std.specs.Prelude.{◌≡◌, ◌↔◌, [], List, IsTrue};
 ghost use Rattle.normalizer_tables.specs.Pairs.{Pair};
 ghost use Rattle.normalizer_iterators.specs.LazyComposing.{IsPassed, PassedBeginAnew, SuitsLazyComposing};
@@ -14,16 +14,16 @@ use normalizer_tables::characters::CharacterData;
 use normalizer_tables::condition::Bounds;
 use normalizer_tables::word::{is_backward_combining, is_non_round_trip};
 
-/// How a character was given.
+/// How a character was yielded.
 #[derive(Clone, Copy)]
 pub(crate) enum Given {
     /// As it is: it is composed.
     Itself(char),
-    /// By the first member of its list; the others wait.
+    /// The first member of its list was yielded; the others are buffered.
     FirstMember(char),
 }
 
-/// Whether nothing waits, and a composing loop passes the character that is read next.
+/// Whether nothing is buffered, and a composing loop passes the character that is read next.
 #[inline(always)]
 pub(crate) fn is_at_passed<I: Iterator<Item = char> + Drop>(
     decomposed: &Decomposition<'_, I>,
@@ -39,7 +39,7 @@ pub(crate) fn is_at_passed<I: Iterator<Item = char> + Drop>(
     }
 }
 
-/// The next character: as it is if the one behind it is passed too, or none is; else the first member of its list.
+/// The next character: as it is if the one after it is passed too, or none is; else the first member of its list.
 #[inline(always)]
 pub(crate) fn pass_next<I: Iterator<Item = char> + Drop>(
     decomposed: &mut Decomposition<'_, I>,
