@@ -1,4 +1,4 @@
-//! Whether text, bytes and 16-bit units are normalized, and where they first are not.
+//! Whether text, bytes and 16-bit units are normalized, and the first place at which they are not.
 ghost use Rattle.std.specs.Prelude.{chars};
 ghost use Rattle.normalizer_text.specs.Encodings.{Encoding};
 ghost use Rattle.normalizer_calls.specs.Checks.{
@@ -16,7 +16,7 @@ use normalizer_iterators::NormalizeError;
 use normalizer_text::Chars;
 use normalizer_text::check_sink::Expected;
 
-/// Whether the units are well-formed and their own form.
+/// Whether the units are well-formed and normalized.
 fn is_own_form<U: Expected, N: LawfulItems<Chars<U>>>(
     normalizer: &N,
     units: U,
@@ -27,7 +27,7 @@ fn is_own_form<U: Expected, N: LawfulItems<Chars<U>>>(
     Ok(cut_of(normalizer, units)?.is_none())
 }
 
-/// Whether a text is its own form.
+/// Whether a text is normalized.
 fn is_own_text<'t, N: LawfulItems<Chars<&'t str>>>(
     normalizer: &N,
     text: &'t str,
@@ -38,7 +38,7 @@ fn is_own_text<'t, N: LawfulItems<Chars<&'t str>>>(
     is_own_form::<&'t str, N>(normalizer, text)
 }
 
-/// The first offence of the units, which lasts whatever is put behind them.
+/// The first mismatch of the units, which lasts whatever is appended to them.
 fn lasting_offence_of<U: Expected, N: LawfulItems<Chars<U>>>(
     normalizer: &N,
     units: U,
@@ -49,7 +49,7 @@ fn lasting_offence_of<U: Expected, N: LawfulItems<Chars<U>>>(
     offence_of(normalizer, units)
 }
 
-/// The first offence of a text, which lasts whatever is put behind it.
+/// The first mismatch of a text, which lasts whatever is appended to it.
 fn lasting_offence_of_text<'t, N: LawfulItems<Chars<&'t str>>>(
     normalizer: &N,
     text: &'t str,

@@ -104,7 +104,7 @@ impl ComposingNormalizer {
         Self::over(marker, decompositions, tables, Some(supplementary), pairs)
     }
 
-    /// A normalizer over data and pairs that were loaded, where they meet the written conditions.
+    /// A normalizer over data and pairs that were loaded, if they meet the written conditions.
     fn over(
         marker: DataMarkerInfo,
         decompositions: DecompositionData,

@@ -19,7 +19,7 @@ use normalizer_tables::characters::IgnoredCharacters;
 use normalizer_tables::members::Members;
 use normalizer_tables::word::{is_backward_combining, is_non_round_trip};
 
-/// What gives the normal form of the characters that an iterator gives.
+/// Makes the normal form of the characters that an iterator yields.
 pub(crate) trait FormItems<I: Iterator<Item = char> + Drop> {
     type Items: Iterator<Item = Result<char, NormalizeError>> + Drop;
 
@@ -30,8 +30,8 @@ pub(crate) trait FormItems<I: Iterator<Item = char> + Drop> {
 
     ghost form: { Form };
 
-    // Which characters are handed on as they are, below which number each is, and whether the last of them is held back
-    // where another one follows.
+    // Which characters are passed on as they are, the bound below which each is, and whether the last of them is held
+    // back if another one follows.
     ghost passing: { Self → ℕ → Bool };
 
     ghost bound: { Self → ℕ };
@@ -48,11 +48,11 @@ pub(crate) trait FormItems<I: Iterator<Item = char> + Drop> {
             (λ d x. normal_form d form x) characters result }
         ensures ready { IfOk result (λ it. Self.Items.can_next it × IsFinite (Self.Items.remaining it)) };
 
-    /// Whether a character is handed on as it is.
+    /// Whether a character is passed on as it is.
     fn passes(&self, character: char) -> bool
         ensures { result ≡ passing self.now character };
 
-    /// Below which number every character is handed on.
+    /// Returns the bound below which every character is passed on.
     fn passing_bound(&self) -> u32
         ensures { result ≡ bound self.now };
 
@@ -60,7 +60,7 @@ pub(crate) trait FormItems<I: Iterator<Item = char> + Drop> {
     fn holds_back(&self) -> bool
         ensures { result ≡ held_back };
 
-    /// Whether what begins with a character is normalized apart from what stands before.
+    /// Whether what begins with a character is normalized apart from what comes before.
     fn begins(&self, character: char) -> bool
         ensures { result ≡ beginning self.now character };
 
@@ -68,8 +68,8 @@ pub(crate) trait FormItems<I: Iterator<Item = char> + Drop> {
     fn form_of_one(&self, character: char) -> Option<Members<'_>>
         ensures { IfSome result (λ members. members ≡ normal_form (reading self.now) form (character ∷ [])) };
 
-    /// Characters that pass are normalized apart, and those below the bound pass; what begins apart is normalized apart
-    /// from what stands before.
+    /// Characters that pass are normalized apart, and those below the bound pass; what `begins` accepts is normalized
+    /// apart from what comes before.
     fn passed_characters_stand_apart(&self)
         ensures apart { (c : ℕ) → IsScalar c → passing self.now c ≡ true →
             MayPass (reading self.now) form held_back c }

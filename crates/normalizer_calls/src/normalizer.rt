@@ -89,7 +89,7 @@ impl DecomposingNormalizer {
         Self::over(marker, decompositions, tables, Some(supplementary))
     }
 
-    /// A normalizer over data that were loaded, where they meet the written conditions.
+    /// A normalizer over data that were loaded, if they meet the written conditions.
     fn over(
         marker: DataMarkerInfo,
         decompositions: DecompositionData,

@@ -1,4 +1,4 @@
-//! Where an input is not its own normal form: one search, on which every check stands.
+//! The first place at which an input is not normalized: one search, on which every check is based.
 ghost use Rattle.std.specs.Prelude.{IfOk, IsOk, IsOkUnless};
 ghost use Rattle.normal_forms.specs.Forms.{normal_form};
 ghost use Rattle.normal_forms.specs.ShortRuns.{HasShortRuns};
@@ -15,7 +15,7 @@ use normalizer_iterators::NormalizeError;
 use normalizer_text::check_sink::{Expected, IsNormalizedSink};
 use normalizer_text::{Chars, Units};
 
-/// What gives normal forms by data that the laws of the forms hold of.
+/// Makes normal forms over data that satisfy the hypotheses of the laws of the forms.
 pub(crate) trait LawfulItems<I: Iterator<Item = char> + Drop>: FormItems<I> {
     ghost suits: { (n : Self) → SuitsTexts (Self.reading n) Self.form };
 }
@@ -33,7 +33,7 @@ pub(crate) fn laws_hold<U: Units, N: LawfulItems<Chars<U>>>(normalizer: &N)
     ensures { SuitsTexts (N.reading normalizer.now) N.form }
 {}
 
-/// Where the units are cut, or nothing where they are well-formed and their own form.
+/// The cut of the units, or nothing if they are well-formed and normalized.
 pub(crate) fn cut_of<U: Expected, N: LawfulItems<Chars<U>>>(
     normalizer: &N,
     units: U,
@@ -69,7 +69,7 @@ fn first_of_form<U: Units, N: FormItems<Chars<U>>>(
     }
 }
 
-/// The first offence of the units, or none where they are well-formed and their own form.
+/// The first mismatch of the units, or none if they are well-formed and normalized.
 pub(crate) fn offence_of<U: Expected, N: LawfulItems<Chars<U>>>(
     normalizer: &N,
     units: U,

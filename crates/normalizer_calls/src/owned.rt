@@ -24,7 +24,7 @@ use std::borrow::{CowSlice, CowStr};
 
 /// An output that grows, and makes room at once.
 trait Growing<U: Units>: Output<U> {
-    /// Makes room for so many units behind those that were taken, or refuses it.
+    /// Makes room for this many more units, or refuses it.
     fn make_room(&mut self, len: usize) -> Result<(), SinkError>
         ensures { OnOk result (Self.taken self.new ≡ Self.taken self.old) };
 }
@@ -70,7 +70,7 @@ fn write_from_cut<U: Units, N: FormItems<Chars<U>>, O: Growing<U>>(
     form_to(normalizer, units.after(place), output)
 }
 
-/// Writes the form of the units, unless they are well-formed and their own form. A refused write is want of memory.
+/// Writes the form of the units, unless they are well-formed and normalized. A refused write is reported as `Memory`.
 fn write_unless_own<U: Expected, N: LawfulItems<Chars<U>>, O: Growing<U>>(
     normalizer: &N,
     units: U,
@@ -93,7 +93,7 @@ fn write_unless_own<U: Expected, N: LawfulItems<Chars<U>>, O: Growing<U>>(
     }
 }
 
-/// The form of a text, told by its bytes.
+/// The form of a text; the contract speaks of its bytes.
 fn form_of_utf8<'t, N: LawfulItems<Chars<&'t str>>>(
     normalizer: &N,
     alloc: Global,
@@ -110,7 +110,7 @@ fn form_of_utf8<'t, N: LawfulItems<Chars<&'t str>>>(
     }
 }
 
-/// The form of a text, told by its characters.
+/// The form of a text; the contract speaks of its characters.
 fn form_of_str<'t, N: LawfulItems<Chars<&'t str>>>(
     normalizer: &N,
     alloc: Global,

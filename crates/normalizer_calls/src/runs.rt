@@ -1,4 +1,4 @@
-//! Where runs of characters end that are handed on as they are, and the segments between them.
+//! The ends of runs of characters that are passed on as they are, and of the segments between them.
 ghost use Rattle.std.specs.Prelude.{◌≡◌, ◌<◌, ◌≤◌, length, take};
 ghost use Rattle.normalizer_input.specs.InputCut.{IsInputNormalized};
 ghost use Rattle.normalizer_calls.specs.inner.Passing.{IsHandedOn, IsPart, IsRunEnd, IsSegmentEnd, step_passes};
@@ -6,10 +6,10 @@ ghost use Rattle.normalizer_calls.specs.inner.Passing.{IsHandedOn, IsPart, IsRun
 use crate::form_items::FormItems;
 use normalizer_text::{Chars, Step, Units};
 
-// U+FFFD, which stands for errors.
+// U+FFFD, as which errors read.
 const REPLACEMENT: u32 = char::REPLACEMENT_CHARACTER as u32;
 
-/// Whether a step is a character that is handed on as it is.
+/// Whether a step is a character that is passed on as it is.
 #[inline(always)]
 fn step_passes<U: Units, N: FormItems<Chars<U>>>(normalizer: &N, step: Step) -> bool
     ensures { result ≡ step_passes (N.passing normalizer.now) step }
@@ -17,7 +17,7 @@ fn step_passes<U: Units, N: FormItems<Chars<U>>>(normalizer: &N, step: Step) -> 
     step.character != char::REPLACEMENT_CHARACTER && normalizer.passes(step.character)
 }
 
-/// Where the run of characters ends that are handed on as they are.
+/// Returns the end of the run of characters that are passed on as they are.
 fn run_end<U: Units, N: FormItems<Chars<U>>>(normalizer: &N, units: U) -> usize
     ensures { IsRunEnd (N.passing normalizer.now) U.encoding (U.units units) result }
 {
@@ -35,7 +35,7 @@ fn run_end<U: Units, N: FormItems<Chars<U>>>(normalizer: &N, units: U) -> usize
     end
 }
 
-/// Where the segment ends that begins with the first character: before the next one that begins apart.
+/// Returns the end of the segment that begins with the first character: before the next one that is normalized apart.
 #[inline(always)]
 pub(crate) fn segment_end<U: Units, N: FormItems<Chars<U>>>(normalizer: &N, units: U) -> usize
     requires { 0 < length (U.units units) }
@@ -52,8 +52,8 @@ pub(crate) fn segment_end<U: Units, N: FormItems<Chars<U>>>(normalizer: &N, unit
     end
 }
 
-/// Where the front of the units ends that is handed on as it is: of a run that more follows, the last character is held
-/// back where it may compose with that.
+/// Returns the end of the front of the units that is passed on as it is: of a run, without the last character if it may
+/// compose with what follows.
 pub(crate) fn passed_end<U: Units, N: FormItems<Chars<U>>>(normalizer: &N, units: U) -> usize
     ensures handed { IsHandedOn (N.passing normalizer.now) N.held_back U.encoding (U.units units) result }
     ensures part { 0 < result → IsPart U.encoding (N.reading normalizer.now) N.form (U.units units) result ×

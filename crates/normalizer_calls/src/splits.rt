@@ -15,7 +15,7 @@ use normalizer_iterators::NormalizeError;
 use normalizer_text::Chars;
 use normalizer_text::check_sink::Expected;
 
-/// Where the units are cut: at their end where they are well-formed and their own form.
+/// Returns the cut of the units: their end if they are well-formed and normalized.
 pub(crate) fn place_of_cut<U: Expected, N: LawfulItems<Chars<U>>>(
     normalizer: &N,
     units: U,

@@ -69,7 +69,7 @@ impl Uts46Mapper {
         Self::over(decompositions, tables, supplementary, pairs)
     }
 
-    /// A mapper over data that were loaded, where they meet the written conditions.
+    /// A mapper over data that were loaded, if they meet the written conditions.
     fn over(
         decompositions: DecompositionData,
         tables: DecompositionTables,

@@ -1,4 +1,4 @@
-//! Writing characters to an output, as an iterator gives them.
+//! Writing the characters of an iterator to an output.
 ghost use Rattle.std.specs.Prelude.{ℕ, ◌<◌, List, length, Err, IfErr, IfOk, IsErrOf};
 ghost use Rattle.std.specs.Iterator.{IsFinite};
 ghost use Rattle.normal_forms.specs.Forms.{normal_form};
@@ -16,7 +16,7 @@ use normalizer_tables::members::Members;
 use normalizer_text::output::Output;
 use normalizer_text::{Chars, Units};
 
-/// Writes the characters, each behind the one before, up to the first error.
+/// Writes the characters, each after the one before, up to the first error.
 pub(crate) fn write_items<U: Units, I, O: Output<U>>(
     items: I,
     output: &mut O,
@@ -35,7 +35,7 @@ where
     Ok(())
 }
 
-/// Writes the members of a list, each behind the one before.
+/// Writes the members of a list, each after the one before.
 fn write_members<U: Units, O: Output<U>>(
     members: &Members<'_>,
     output: &mut O,
@@ -75,8 +75,8 @@ fn write_segment<U: Units, N: FormItems<Chars<U>>, O: Output<U>>(
     write_items(items, output)
 }
 
-/// Writes the form of a front of the units, and answers where that ends: a run of characters as it is, in one piece, or
-/// else a segment.
+/// Writes the form of a front of the units, and returns the end of that front: a run of characters as it is, in one
+/// piece, or else a segment.
 fn write_part<U: Units, N: FormItems<Chars<U>>, O: Output<U>>(
     normalizer: &N,
     units: U,
@@ -123,7 +123,7 @@ fn write_parts<U: Units, N: FormItems<Chars<U>>, O: Output<U>>(
     Ok(())
 }
 
-/// Writes the form of what the units decode to. The output is told first how many units there are.
+/// Writes the form of what the units decode to. The output is first given the number of units.
 pub(crate) fn form_to<U: Units, N: FormItems<Chars<U>>, O: Output<U>>(
     normalizer: &N,
     units: U,

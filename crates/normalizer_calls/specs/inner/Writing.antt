@@ -10,8 +10,8 @@ abbrev pub NothingOffered : List ℕ → List ℕ → Type 0
 NothingOffered front piece = ⊥
 
 module _ {S : Type 0} (e : Encoding) (taken : S → List ℕ) where
-  -- a beginning of the text was taken, and then a piece that goes on with it was refused: at most one character, or
-  -- what was offered behind that beginning
+  -- a beginning of the text was taken, and then the next piece was refused: at most one character, or what was offered
+  -- after that beginning
   pub record WasRefusedPiece (left : S → S → Type 0) (refuses : S → List ℕ → Type 0)
       (offered : List ℕ → List ℕ → Type 0) (text : List ℕ) (old new : S) : Type 0 where
     pub before : S
