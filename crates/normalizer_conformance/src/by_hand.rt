@@ -1,8 +1,7 @@
-//! Data made by hand, as rows give them: `range nfd 1161..1175 80000000` says a word of some numbers, `cap nfd 0300` and
-//! `past nfd 0` the two other numbers of words, `scalars16 nfd 0065 0323` and `scalars24 nfd 1D157` the lists,
-//! `pairs 0308 0041 00C4` all pairs, `pair 0308 0061 00E4` one more. Kinds are `nfd`, `nfkd`, `uts46` and `supplement`. A
-//! part that no row gives is not held, and neither is one after `no nfd words`, `no nfd lists` or
-//! `no pairs`.
+//! Data made by hand, by rows: `range nfd 1161..1175 80000000` sets the word of some numbers, `cap nfd 0300` and `past
+//! nfd 0` the two other numbers of words, `scalars16 nfd 0065 0323` and `scalars24 nfd 1D157` the lists, `pairs 0308
+//! 0041 00C4` all pairs, `pair 0308 0061 00E4` one more. Kinds are `nfd`, `nfkd`, `uts46` and `supplement`. A part that
+//! no row sets is not held, and neither is one after `no nfd words`, `no nfd lists` or `no pairs`.
 use crate::fault::Fault;
 use crate::ranges::{Range, with_range};
 use crate::words::{Read, all, character, hexadecimal, words};
@@ -12,7 +11,7 @@ use icu_normalizer::{
 };
 use std::alloc::Global;
 
-/// The words that rows give of one kind, if they give any.
+/// The words of one kind that rows set, if they set any.
 #[derive(Drop)]
 struct Words {
     is_given: bool,
@@ -21,7 +20,7 @@ struct Words {
     cap: u16,
 }
 
-/// The lists that words of one kind point into, if rows give any.
+/// The lists that words of one kind point into, if rows set any.
 #[derive(Drop)]
 struct Lists {
     is_given: bool,
@@ -32,7 +31,7 @@ struct Lists {
 /// Second character, first character and composite.
 type Pair = (char, char, char);
 
-/// Whether a row gives a part of data, or takes one away.
+/// Whether a row sets a part of data, or removes one.
 pub fn gives_data(row: &[&str]) -> bool {
     match row {
         [name, part] if *name == "no" && *part == "pairs" => true,
@@ -104,7 +103,7 @@ impl Words {
     }
 }
 
-/// The words that rows give of a kind.
+/// The words of a kind that rows set.
 fn words_of(alloc: Global, rows: &[&str], kind: &str) -> Result<Words, Fault> {
     let mut given = Words::none(alloc);
     take_words(alloc, &mut given, rows, kind)?;
@@ -159,7 +158,7 @@ impl Lists {
     }
 }
 
-/// The lists that rows give of a kind.
+/// The lists of a kind that rows set.
 fn lists_of(alloc: Global, rows: &[&str], kind: &str) -> Result<Lists, Fault> {
     let mut given = Lists::none(alloc);
     take_lists(alloc, &mut given, rows, kind)?;
@@ -177,7 +176,7 @@ fn take_lists(alloc: Global, given: &mut Lists, rows: &[&str], kind: &str) -> Re
     Ok(())
 }
 
-/// The pairs that rows give.
+/// The pairs that rows set.
 fn pairs_of(alloc: Global, rows: &[&str]) -> Result<Option<Vec<Pair>>, Fault> {
     let mut found = None;
     for row in rows {
@@ -216,7 +215,7 @@ fn pairs(alloc: Global, characters: &[&str]) -> Result<Vec<Pair>, Fault> {
     Ok(pairs)
 }
 
-/// What rows give of words, as data.
+/// The words that rows set, as data.
 pub fn decomposition_data(
     alloc: Global,
     rows: &[&str],
@@ -232,7 +231,7 @@ pub fn decomposition_data(
     }))
 }
 
-/// What rows give of lists, as tables.
+/// The lists that rows set, as tables.
 pub fn decomposition_tables(
     alloc: Global,
     rows: &[&str],
@@ -248,7 +247,7 @@ pub fn decomposition_tables(
     }))
 }
 
-/// What rows give of pairs.
+/// The pairs that rows set, as data.
 pub fn compositions(alloc: Global, rows: &[&str]) -> Result<Option<CanonicalCompositions>, Fault> {
     match pairs_of(alloc, rows)? {
         Some(pairs) => Ok(Some(CanonicalCompositions::from_pairs(pairs)?)),
@@ -256,7 +255,7 @@ pub fn compositions(alloc: Global, rows: &[&str]) -> Result<Option<CanonicalComp
     }
 }
 
-/// What rows give of the supplement.
+/// The supplement that rows set.
 pub fn supplement(
     alloc: Global,
     rows: &[&str],

@@ -1,4 +1,4 @@
-//! The rows of a text whose answer is another than the one wanted.
+//! The rows of a text whose result is not the expected one.
 use crate::fault::Fault;
 use crate::questions::answer;
 use crate::setting::Setting;
@@ -6,7 +6,7 @@ use crate::words::{joined, words};
 use std::alloc::{AllocError, Global};
 use std::fmt;
 
-/// A row whose answer is another than the one wanted.
+/// A row whose result is not the expected one.
 #[derive(Debug, Drop)]
 pub struct Difference<'a> {
     /// The number of its line, from 1 on.
@@ -24,7 +24,7 @@ impl fmt::Display for Difference<'_> {
     }
 }
 
-/// The rows of a text whose answer is another than the one wanted, or that can't be read.
+/// The rows of a text whose result is not the expected one, or that can't be read.
 pub fn differences(alloc: Global, text: &str) -> Result<Vec<Difference<'_>>, AllocError> {
     let mut found = Vec::new(alloc);
     push_differences(alloc, &mut found, text)?;
@@ -89,7 +89,7 @@ fn what_differs<'a>(
     }
 }
 
-/// The answer to a row, where it is another than the one wanted.
+/// The result of a row, if it is not the expected one.
 fn other_answer<'a>(
     alloc: Global,
     setting: &mut Setting<'a>,
@@ -128,7 +128,7 @@ fn taken<'a>(
     }
 }
 
-/// The answer to a question, perhaps with edits of the data: `try nfc with cap nfd 0301 and past nfd 1`.
+/// The result of a question, perhaps with edits of the data: `try nfc with cap nfd 0301 and past nfd 1`.
 fn answered<'a>(
     alloc: Global,
     setting: &mut Setting<'a>,

@@ -1,20 +1,20 @@
-//! Why a row has no answer.
+//! Why a row has no result.
 use icu_normalizer::{DataError, NormalizeError, TableError};
 use std::alloc::{AllocError, AllocFailed};
 
-/// Why a row has no answer.
+/// Why a row has no result.
 #[derive(Clone, Copy, Debug, PartialEq, Eq)]
 pub enum Fault {
-    /// The row can't be read, or the data that it asks of are not there.
+    /// The row can't be read, or its data are not there.
     Unreadable,
-    /// Ways to ask that have one answer gave two.
+    /// Calls that must have the same result had two.
     Divided,
     /// There was not enough memory.
     Memory,
 }
 
 impl Fault {
-    /// What is answered in the place of an answer.
+    /// What is written in place of a result.
     pub fn name(self) -> &'static str {
         match self {
             Fault::Unreadable => "unreadable",

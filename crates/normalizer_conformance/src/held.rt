@@ -1,4 +1,4 @@
-//! A provider that may lack each of its parts: it holds what rows give by hand, or what records build.
+//! A provider that may lack each of its parts: it holds what rows make by hand, or what records build.
 use crate::by_hand::{compositions, decomposition_data, decomposition_tables, supplement};
 use crate::fault::Fault;
 use icu_normalizer::{
@@ -34,7 +34,7 @@ impl Held {
         }
     }
 
-    /// Takes what rows give by hand.
+    /// Takes what rows make by hand.
     pub fn take_rows(&mut self, alloc: Global, rows: &[&str]) -> Result<(), Fault> {
         self.take_words(alloc, rows)?;
         self.take_lists(alloc, rows)?;

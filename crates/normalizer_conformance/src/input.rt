@@ -12,7 +12,7 @@ pub enum Input {
 }
 
 impl Input {
-    /// The input that words give.
+    /// The input that words spell.
     pub fn read(alloc: Global, words: &[&str]) -> Result<Input, Fault> {
         match words {
             [encoding, input @ ..] if *encoding == "bytes" => {
@@ -26,7 +26,7 @@ impl Input {
     }
 }
 
-/// The text that words give, a character each.
+/// The text that words spell, a character each.
 pub fn text(alloc: Global, words: &[&str]) -> Result<String, Fault> {
     let mut text = String::new(alloc);
     for word in words {

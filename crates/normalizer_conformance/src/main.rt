@@ -1,6 +1,6 @@
-//! Compares what the library answers with rows of data. The arguments name files; each row says what is asked, the input
-//! and the answer wanted, as `nfc 0061 0308 = 00E4`. The rows whose answer is another are written, and how many rows each
-//! file has. A row without `=` gives what later questions are asked of (`setting`); `questions` has the words of the others.
+//! Compares results of the library with rows of data. The arguments name files; each row has a question, its input and
+//! the expected result, as `nfc 0061 0308 = 00E4`. Written are the rows with another result, and the number of rows of
+//! each file. A row without `=` sets the data of later questions (`setting`); `questions` has the words of the others.
 #![tactic(auto)]
 
 mod by_hand;

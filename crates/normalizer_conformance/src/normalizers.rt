@@ -1,4 +1,4 @@
-//! The normalizers over data that are held, and what their calls answer.
+//! The normalizers over data that are held, and the results of their calls.
 use crate::fault::Fault;
 use crate::held::Held;
 use icu_normalizer::{
@@ -16,7 +16,7 @@ pub enum Normalizer {
     Composing(ComposingNormalizer),
 }
 
-/// What a call of the normalizer answers, of whichever kind it is.
+/// The result of a call of the normalizer, of whichever kind it is.
 macro_rules! called {
     ($normalizer:expr, $call:ident($($argument:expr),*)) => {
         match $normalizer {

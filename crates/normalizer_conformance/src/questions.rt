@@ -12,7 +12,7 @@ mod plain;
 mod properties;
 mod recorded;
 
-/// The answer to a question.
+/// The result of a question.
 pub fn answer(
     alloc: Global,
     setting: &mut Setting<'_>,

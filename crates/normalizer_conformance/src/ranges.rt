@@ -4,7 +4,7 @@ use std::alloc::{AllocError, Global};
 /// First number, last number and word.
 pub type Range = (u32, u32, u32);
 
-/// The ranges with the words of one in the place of those that they gave its numbers.
+/// The ranges, with the word of one in place of those that its numbers had.
 pub fn with_range(alloc: Global, ranges: &[Range], range: Range) -> Result<Vec<Range>, AllocError> {
     let mut all = below(alloc, ranges, range.0)?;
     all.push(range)?;

@@ -33,7 +33,7 @@ fn kind_of(record: &Record) -> &'static str {
     }
 }
 
-/// The record that words give of a character.
+/// The record of a character that words spell.
 pub fn record_of(alloc: Global, c: char, words: &[&str]) -> Result<Record, Fault> {
     match words {
         [first, class] if *first == "class" => record(alloc, c, class_number(class)?, None, &[]),
@@ -66,7 +66,7 @@ fn record(
     })
 }
 
-/// A record as the row that gives it.
+/// A record, as its row.
 pub fn spelled_record(alloc: Global, record: &Record) -> Result<String, Fault> {
     let class = record.class;
     if record.mapping.is_empty() {
@@ -121,7 +121,7 @@ fn counted(word: &str, steps: u32) -> Result<char, Fault> {
     }
 }
 
-/// The record of the mapper that words give of a character.
+/// The record of the mapper that words spell.
 pub fn mapper_record_of(alloc: Global, c: char, words: &[&str]) -> Result<Uts46Record, Fault> {
     let [name, mapping @ ..] = words else {
         return Err(Fault::Unreadable);
@@ -135,7 +135,7 @@ pub fn mapper_record_of(alloc: Global, c: char, words: &[&str]) -> Result<Uts46R
     Ok(Uts46Record { c, status })
 }
 
-/// A record of the mapper as the row that gives it.
+/// A record of the mapper, as its row.
 pub fn spelled_mapper_record(alloc: Global, record: &Uts46Record) -> Result<String, Fault> {
     Ok(match &record.status {
         Uts46Status::Mapped(mapping) => {

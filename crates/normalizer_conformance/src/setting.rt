@@ -1,4 +1,4 @@
-//! What questions are asked of: records, and data that they build or that rows give by hand.
+//! The data for questions: records, and data that they build or that rows make by hand.
 use crate::by_hand::{gives_data, numbers};
 use crate::fault::Fault;
 use crate::held::Held;
@@ -10,14 +10,14 @@ use normalizer_rows::{mapper_records, records};
 use normalizer_uses::NormalForm;
 use std::alloc::Global;
 
-/// Where the data come from.
+/// The source of the data.
 #[derive(Clone, Copy)]
 enum Source {
     Records,
     ByHand,
 }
 
-/// What questions are asked of.
+/// The data for questions.
 #[derive(Drop)]
 pub struct Setting<'a> {
     alloc: Global,
@@ -71,7 +71,7 @@ impl<'a> Setting<'a> {
         Ok(rows)
     }
 
-    /// Takes a row that gives something: a record, records, or a part of data by hand.
+    /// Takes a row that sets something: a record, records, or a part of data by hand.
     pub fn give(&mut self, row: &'a str) -> Result<(), Fault> {
         self.is_held = false;
         self.normalizer = None;

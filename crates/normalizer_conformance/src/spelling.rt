@@ -1,4 +1,4 @@
-//! Answers as rows write them.
+//! Results, as rows write them.
 use crate::fault::Fault;
 use crate::words::push_word;
 use icu_normalizer::{BuildError, DataError};

@@ -2,7 +2,7 @@
 use crate::fault::Fault;
 use std::alloc::Global;
 
-/// The words of a text. `3*0308` stands for `0308 0308 0308`, and `2*0308,0323` for `0308 0323 0308 0323`.
+/// The words of a text. `3*0308` means `0308 0308 0308`, and `2*0308,0323` for `0308 0323 0308 0323`.
 pub fn words<'a>(alloc: Global, text: &'a str) -> Result<Vec<&'a str>, Fault> {
     let mut words = Vec::new(alloc);
     for word in text.split_whitespace() {

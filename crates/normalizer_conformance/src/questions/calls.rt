@@ -1,7 +1,7 @@
-//! `is nfc 0061 0308 = no`: whether an input is its own form. `split nfc 00E4 0308 0323 = 00E4 | 0308 0323`: its two
-//! parts. `offence nfd 0061 1EC7 = 1 1EC7 0065`: the place in bytes or 16-bit units, the character found, the one
-//! wanted; else `none`. `owned nfc 0308 0061 = borrowed 0308 0061`: the form as it is handed out. Characters are asked
-//! in all three encodings.
+//! `is nfc 0061 0308 = no`: whether an input is normalized. `split nfc 00E4 0308 0323 = 00E4 | 0308 0323`: its two
+//! parts. `offence nfd 0061 1EC7 = 1 1EC7 0065`: the first mismatch: its place in bytes or 16-bit units, the character
+//! found, the one expected; else `none`. `owned nfc 0308 0061 = borrowed 0308 0061`: the form as it is returned.
+//! Characters are checked in all three encodings.
 use crate::fault::Fault;
 use crate::input::{Input, utf16};
 use crate::normalizers::Normalizer;
@@ -12,7 +12,7 @@ use icu_normalizer::Offence;
 use std::alloc::Global;
 use std::borrow::{CowSlice, CowStr};
 
-/// Whether an input is its own form.
+/// Whether an input is normalized.
 pub fn is_own(
     alloc: Global,
     setting: &mut Setting<'_>,
@@ -108,7 +108,7 @@ fn in_parts(alloc: Global, prefix: &str, rest: &str) -> Result<String, Fault> {
     Ok(String::from_str(alloc, parts.trim())?)
 }
 
-/// The first offence of an input.
+/// The first mismatch of an input.
 pub fn offence(
     alloc: Global,
     setting: &mut Setting<'_>,
@@ -141,7 +141,7 @@ fn offence_of_text(
     }
 }
 
-/// An offence of a text with its place in 16-bit units.
+/// A mismatch of a text with its place in 16-bit units.
 fn in_units(text: &str, offence: Option<Offence>) -> Option<Offence> {
     let Offence {
         place,
@@ -165,7 +165,7 @@ fn spelled_offence(alloc: Global, offence: Option<Offence>) -> Result<String, Fa
     Ok(format!(in alloc; "{place} {found} {wanted}")?)
 }
 
-/// The form of an input as it is handed out.
+/// The form of an input as it is returned.
 pub fn owned(alloc: Global, setting: &mut Setting<'_>, question: &[&str]) -> Result<String, Fault> {
     let [name, input @ ..] = question else {
         return Err(Fault::Unreadable);

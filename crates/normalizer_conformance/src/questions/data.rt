@@ -1,4 +1,5 @@
-//! `word nfd 00E4`, `cap nfd`: what data say. `try nfc`, `try mapper`, `check nfd`: what takes data answers.
+//! `word nfd 00E4`, `cap nfd`: what data say. `try nfc`, `try mapper`, `check nfd`: the result of a constructor or of a
+//! check of data.
 use crate::fault::Fault;
 use crate::held::Held;
 use crate::normalizers::Normalizer;
@@ -30,7 +31,7 @@ fn table_named<'a>(held: &'a Held, kind: &str) -> Result<&'a CodePointTable, Fau
     }
 }
 
-/// The word of a number, in each way to ask.
+/// The word of a number, by each call.
 pub fn word(alloc: Global, setting: &mut Setting<'_>, question: &[&str]) -> Result<String, Fault> {
     let [kind, number] = question else {
         return Err(Fault::Unreadable);
@@ -68,7 +69,7 @@ pub fn cap(alloc: Global, setting: &mut Setting<'_>, question: &[&str]) -> Resul
     Ok(format!(in alloc; "{:04X}", cap)?)
 }
 
-/// What a constructor answers.
+/// The result of a constructor.
 pub fn constructed(
     alloc: Global,
     setting: &mut Setting<'_>,
@@ -90,7 +91,7 @@ fn refusal(held: &Held, name: &str) -> Result<Option<DataError>, Fault> {
     })
 }
 
-/// What the test of canonical data answers.
+/// The result of the check of canonical data.
 pub fn checked(
     alloc: Global,
     setting: &mut Setting<'_>,

@@ -1,5 +1,5 @@
 //! `decode bytes E2 98 E2 98 83`, `decode units D800 DC00`, `decode 0061 0308`: the characters, from the front, from
-//! the back and in turn. `head E0 80 80`: the same of bytes, which also stand before 62, after 61 and between the two.
+//! the back and in turn. `head E0 80 80`: the same of bytes, also put before 62, after 61 and between the two.
 use crate::fault::Fault;
 use crate::input::Input;
 use crate::spelling::spelled_all;

@@ -1,5 +1,5 @@
 //! `nfc 0061 0308`, `nfd bytes FF 61`, `nfc units 0061 D800`: the form of an input, by an iterator, written to a sink
-//! and handed out. Characters are asked in all three encodings.
+//! and returned. Characters are checked in all three encodings.
 use crate::fault::Fault;
 use crate::held::Held;
 use crate::input::{Input, text, utf16};
@@ -37,7 +37,7 @@ pub fn form(
     spelled_all(alloc, &form)
 }
 
-/// A form, if other ways to ask give the same.
+/// A form, if the other calls return the same.
 fn agreed(form: Vec<char>, others_agree: bool) -> Result<Vec<char>, Fault> {
     if others_agree {
         Ok(form)
@@ -129,7 +129,7 @@ fn encoded(alloc: Global, characters: &[char]) -> Result<Vec<u16>, Fault> {
     Ok(all)
 }
 
-/// The NFD of a text by data that are tested once and then taken as they are.
+/// The NFD of a text over data that are checked once and then used unchecked.
 pub fn unchecked(
     alloc: Global,
     setting: &mut Setting<'_>,

@@ -12,7 +12,7 @@ use normalizer_records::pairs;
 use normalizer_tables::characters::{CharacterData, IgnoredCharacters};
 use std::alloc::Global;
 
-/// A character with the class and the list that data give it.
+/// A character with the class and the list that data have of it.
 #[derive(Drop)]
 struct Line {
     character: char,

@@ -1,6 +1,6 @@
 //! `class 0340 = 230`: the canonical combining class of a number. `decompose AC01 = expansion AC00 11A8`: one step of
-//! decomposition; `shaped 2126 = 03A9 0000`: what a shaper is told of it. `compose 0061 0308 = 00E4`: what two
-//! characters compose to. Each is asked in every way, of owned and of borrowed properties, and by the shaper traits.
+//! decomposition; `shaped 2126 = 03A9 0000`: what a shaper gets for it. `compose 0061 0308 = 00E4`: what two characters
+//! compose to. Each is checked by every call, of owned and of borrowed properties, and by the shaper traits.
 use crate::fault::Fault;
 use crate::held::Held;
 use crate::setting::Setting;
@@ -48,7 +48,7 @@ fn is_told_class<C: CombiningClassFunc>(classes: &C, character: char, class: u8)
     classes.combining_class(character) == class
 }
 
-/// One step of the canonical decomposition of a character (`decompose`), or what a shaper is told of it.
+/// One step of the canonical decomposition of a character (`decompose`), or what a shaper gets for it.
 pub fn step(
     alloc: Global,
     setting: &mut Setting<'_>,
@@ -83,7 +83,7 @@ fn spelled_step(alloc: Global, step: Decomposed) -> Result<String, Fault> {
     }
 }
 
-/// What a shaper is told of the step of a character.
+/// What a shaper gets for the step of a character.
 fn shaped(alloc: Global, steps: &CanonicalDecomposition, character: char) -> Result<String, Fault> {
     let mapping = told_step(steps, character);
     if told_step(&steps, character) != mapping
