@@ -38,7 +38,7 @@ impl Answer {
         }
     }
 
-    /// The answer of two calls: wrong if one is, else the first refusal.
+    /// The result of two calls: wrong if one is, else the first refusal.
     pub(crate) fn and(self, other: Answer) -> Answer {
         match (self, other) {
             (Answer::Right, _) | (_, Answer::Wrong) => other,
@@ -63,7 +63,7 @@ impl fmt::Display for Answer {
     }
 }
 
-/// A fault as an answer.
+/// A fault as a result.
 pub(crate) trait Fault {
     fn answer(self) -> Answer;
 }

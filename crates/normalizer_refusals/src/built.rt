@@ -1,4 +1,4 @@
-//! What the calls are asked of: records, data built of them, and normalizers over the data.
+//! What the calls are made on: records, data built of them, and normalizers over the data.
 use crate::made::Forms;
 use icu_normalizer::uts46::Uts46Mapper;
 use icu_normalizer::{

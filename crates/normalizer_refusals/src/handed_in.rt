@@ -1,4 +1,4 @@
-//! What the calls are handed: texts with more marks than wait without memory, and one with as many as do.
+//! The inputs of the calls: texts with more marks than can be buffered without memory, and one with as many as can.
 
 /// A letter and nineteen marks, the last of a lower class than the others.
 pub(crate) const LONG: &str =

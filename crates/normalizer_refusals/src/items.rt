@@ -1,6 +1,5 @@
-//! Iterators whose items are asked one by one. A refused growth is answered once: where an iterator is made, and none
-//! is then, or in the place of its first item, with
-//! nothing after it however often it is asked.
+//! Iterators whose items are requested one by one. A refused growth is reported once: when an iterator is made, which
+//! then isn't, or in place of its first item, with nothing after it however often it is called.
 ghost use Rattle.std.specs.Prelude.{IfOk};
 ghost use Rattle.std.specs.Iterator.{IsFinite};
 
@@ -12,8 +11,7 @@ use icu_normalizer::{
 };
 use std::str::Chars;
 
-/// The answer of an iterator that is to be made, and whose items want memory: nothing comes after a fault, however often it
-/// is asked.
+/// The result of making an iterator whose items need memory: nothing comes after a fault, however often it is called.
 macro_rules! wanted_once {
     ($made:expr, $wanted:expr) => {
         match $made {
@@ -93,7 +91,7 @@ pub(crate) fn items_by_tested_data<'a>(
     }
 }
 
-/// The answer of an iterator that is to be made, and whose items want memory.
+/// The result of making an iterator whose items need memory.
 fn wanted_by_items<I>(made: Result<I, NormalizeError>, wanted: &str) -> Answer
 where
     I: Iterator<Item = Result<char, NormalizeError>> + Drop,
@@ -106,7 +104,7 @@ where
     }
 }
 
-/// The answer of an iterator that wants memory when it is made, and whose items want none.
+/// The result of an iterator that needs memory when it is made, and whose items need none.
 fn wanted_when_made<I>(made: Result<I, NormalizeError>, wanted: &str) -> Answer
 where
     I: Iterator<Item = Result<char, NormalizeError>> + Drop,
@@ -119,7 +117,7 @@ where
     }
 }
 
-/// How items answer that are to be these characters.
+/// The result for items that must be these characters.
 fn given<I>(mut items: I, mut wanted: Chars<'_>) -> Answer
 where
     I: Iterator<Item = Result<char, NormalizeError>> + Drop,

@@ -21,14 +21,14 @@ pub enum Stage {
     Call,
 }
 
-/// The forms whose normalizers are asked.
+/// The forms whose normalizers are called.
 #[derive(Clone, Copy, Debug, PartialEq, Eq)]
 pub enum Forms {
     Canonical,
     Compatibility,
 }
 
-/// Makes a call, and says its answer. One that was refused is made once more, and is to be right then.
+/// Makes a call, and returns its result. One that was refused is made once more, and must be right then.
 pub fn answer(alloc: Global, call: Call, forms: Forms, stage: Stage) -> Answer {
     let made = match call {
         Call::Table | Call::Pairs | Call::CopyOfTable | Call::CopyOfPairs => of_tables(
@@ -43,7 +43,7 @@ pub fn answer(alloc: Global, call: Call, forms: Forms, stage: Stage) -> Answer {
     made.unwrap_or(Answer::NotMade)
 }
 
-/// The answer of a call; one that was refused is made again.
+/// The result of a call; one that was refused is made again.
 fn asked_again(first: Answer, second: Answer) -> Answer {
     if first.is_refusal() && second != Answer::Right {
         Answer::Wrong
@@ -78,7 +78,7 @@ fn is_table(table: &CodePointTable) -> bool {
         && table.get32(0x110000) == 3
 }
 
-/// Whether what was made is right, or its fault, as an answer.
+/// Whether what was made is right, or its fault, as a result.
 fn told<E: Fault>(given: Result<bool, E>) -> Answer {
     match given {
         Ok(is_right) => Answer::of(is_right),

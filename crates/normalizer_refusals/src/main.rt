@@ -1,7 +1,7 @@
-//! Makes the calls that may want memory, so that a script can refuse each growth of each call in turn. Without arguments
-//! every call is made, its name and answer are written, and the status is 0 where all are right. `NAME call` makes one
-//! call and says its answer by the status, `NAME before` only what comes before it. Calls of normalizers are made of those of
-//! the canonical forms, and after `compatibility-` of those of the compatibility forms.
+//! Makes the calls that may allocate, so that a script can refuse each growth of each call in turn. Without arguments
+//! every call is made, its name and result are written, and the status is 0 if all are right. `NAME call` makes one
+//! call and reports its result by the status, `NAME before` only what comes before it. Calls on normalizers are made on
+//! those of the canonical forms, and after `compatibility-` on those of the compatibility forms.
 #![tactic(auto)]
 
 mod answer;
@@ -27,10 +27,10 @@ fn main(rt: HostRuntime) -> ExitCode {
     }
 }
 
-/// What stands before the name of a call that is made of normalizers of compatibility forms.
+/// The prefix of the name of a call on normalizers of compatibility forms.
 const COMPATIBILITY: &str = "compatibility-";
 
-/// The status for what the arguments ask.
+/// The status for the arguments.
 fn asked(rt: &HostRuntime) -> io::Result<u8> {
     let mut arguments = env::args(rt)?.skip(1);
     let (Some(name), Some(stage)) = (arguments.next(), arguments.next()) else {
@@ -39,7 +39,7 @@ fn asked(rt: &HostRuntime) -> io::Result<u8> {
     Ok(asked_call(rt.alloc(), name.as_str(), stage.as_str()).status())
 }
 
-/// The answer of the call of this name.
+/// The result of the call of this name.
 fn asked_call(alloc: Global, name: &str, stage: &str) -> Answer {
     let (name, forms) = match name.strip_prefix(COMPATIBILITY) {
         Some(name) => (name, Forms::Compatibility),
@@ -53,7 +53,7 @@ fn asked_call(alloc: Global, name: &str, stage: &str) -> Answer {
     }
 }
 
-/// Makes every call and writes its answer.
+/// Makes every call and writes its result.
 fn all(rt: &HostRuntime) -> io::Result<u8> {
     let mut status = Answer::Right.status();
     for &(name, call) in &CALLS {
@@ -67,7 +67,7 @@ fn all(rt: &HostRuntime) -> io::Result<u8> {
     Ok(status)
 }
 
-/// Makes a call, writes its answer, and returns its status.
+/// Makes a call, writes its result, and returns its status.
 fn told(rt: &HostRuntime, prefix: &str, name: &str, call: Call, forms: Forms) -> io::Result<u8> {
     let answer = answer(rt.alloc(), call, forms, Stage::Call);
     println!(rt; "{prefix}{name} {answer}")?;

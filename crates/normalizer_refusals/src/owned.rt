@@ -1,4 +1,4 @@
-//! Calls that hand out a text, or say where one is not its own form.
+//! Calls that return a text, or the place at which one is not normalized.
 use crate::answer::{Answer, Fault};
 use crate::built::Normalizers;
 use crate::handed_in::{LONG, LONG_NFC, LONG_NFC_UNITS, LONG_NFD, LONG_NFD_UNITS, LONG_UNITS};
@@ -57,7 +57,7 @@ impl Normalizers {
         ))
     }
 
-    /// A text with long runs that is its own form.
+    /// A text with long runs that is normalized.
     pub fn borrowed_text(&self) -> Answer {
         match self.decomposing.as_borrowed().normalize(LONG_NFD) {
             Ok(CowStr::Borrowed(form)) => Answer::of(form == LONG_NFD),

@@ -10,7 +10,7 @@ const HELD: &str = "held: ";
 
 const HELD_UNITS: [u16; 2] = [0x3A, 0x20];
 
-/// All of the form behind what was held; where a fault came, a beginning of it.
+/// All of the form after what was held; after a fault, a beginning of it.
 fn text(written: Result<(), NormalizeError>, held: &str, wanted: &str) -> Answer {
     let Some(form) = held.strip_prefix(HELD) else {
         return Answer::Wrong;
