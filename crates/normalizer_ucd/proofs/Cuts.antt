@@ -9,7 +9,7 @@ use Rattle.std.proofs.lemmas.List.Splits.{slice_split_none, slice_split_first}
 use Rattle.std.proofs.lemmas.Bool.{ltb-true, ltb-false}
 use Rattle.std.proofs.Math.ListN.{drop_of_length-le}
 
--- what position tells
+-- what position finds
 abbrev pub Tells : {X : Type 0} → (X → Bool) → List X → Option ℕ → Type 0
 Tells p xs r = MatchOption r (length xs ≤ position_or_len p xs) (λ i. (i ≡ position_or_len p xs) × (i < length xs))
 

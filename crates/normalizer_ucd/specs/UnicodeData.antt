@@ -89,7 +89,7 @@ is_last Last = true
 abbrev pub start : Position
 start = record { next = 0; is_open = false }
 
--- where a line leads: code points rise, and the last line of a range follows its first
+-- the position after a line: code points rise, and the last line of a range follows its first
 abbrev pub step : Place → Position → ℕ → Part → Result Position LineFault
 step at position code part =
     if nat_lt code position.next then Err (fault at problems.Order)
@@ -151,7 +151,7 @@ records_in exclusions parts = do
   end ← closed (place (length parts)) read.0
   Ok read.1
 
--- the records that the two files give
+-- the records that the two files yield
 unfoldable pub records_of : List ℕ → List ℕ → Result (List Entry) LineFault
 records_of unicode_data composition_exclusions = do
   exclusions ← exclusions_of composition_exclusions

@@ -56,7 +56,7 @@ pub(crate) fn after_first(text: &[u8], at: u8) -> &[u8]
     }
 }
 
-/// The parts between the places where a byte is.
+/// The parts between the occurrences of a byte.
 pub(crate) fn split(alloc: Global, text: &[u8], at: u8) -> Result<Vec<&[u8]>, AllocError>
     ensures { IfOk result (λ v. map (λ part. part.now) v.items ≡ slice_split (λ b. b == at) text.now) }
 {

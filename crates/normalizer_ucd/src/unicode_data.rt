@@ -43,7 +43,7 @@ enum Part {
     Last,
 }
 
-/// Where the lines before have got to: the least code point that may be next, and whether a range is open.
+/// The position after the lines before: the least code point that may be next, and whether a range is open.
 #[derive(Clone, Copy)]
 struct Position {
     next: u32,
@@ -270,7 +270,7 @@ fn is_last(part: Part) -> bool
     matches!(part, Part::Last)
 }
 
-/// Where a line leads, if it may follow.
+/// The position after a line, if it may follow.
 fn step(place: Place, position: Position, code: u32, part: Part) -> Result<Position, UcdError>
     requires { code ≤ 0x10FFFF }
     ensures { Gives (λ next. next) result (step place position code part) }
