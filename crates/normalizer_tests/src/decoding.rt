@@ -15,7 +15,7 @@ fn from_back<U: Units>(alloc: Global, units: U) -> Option<Vec<char>> {
     Some(found)
 }
 
-/// At most so many characters of units, taken from the front and from the back in turn.
+/// At most this many characters of units, taken from the front and from the back in turn.
 fn in_turn<U: Units>(alloc: Global, units: U, most: usize) -> Option<Vec<char>> {
     let mut chars = Chars::new(units);
     let mut found = Vec::new(alloc);
@@ -117,7 +117,7 @@ fn decodes_as_in_std(alloc: Global, bytes: &[u8]) -> bool {
     }
 }
 
-/// Whether the first so many digits of a number decode as in std.
+/// Whether the first digits of a number, this many, decode as in std.
 fn is_decoded_number(alloc: Global, number: usize, len: usize) -> bool {
     let bytes = telling_bytes(number);
     match bytes.get(..len) {
@@ -126,7 +126,7 @@ fn is_decoded_number(alloc: Global, number: usize, len: usize) -> bool {
     }
 }
 
-/// The first of so many numbers whose first digits decode in another way.
+/// The first of this many numbers whose first digits decode in another way.
 fn wrong_number(alloc: Global, count: usize, len: usize) -> Option<usize> {
     (0..count).position(|number| !is_decoded_number(alloc, number, len))
 }

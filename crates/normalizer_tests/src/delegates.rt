@@ -1,10 +1,10 @@
-//! How often a delegate is asked, and ended iterators, over the record set `rows`.
+//! How often a delegate is called, and ended iterators, over the record set `rows`.
 use crate::over_rows::{nfc, nfd};
 use icu_normalizer::{ComposingNormalizerBorrowed, DecomposingNormalizerBorrowed};
 use std::alloc::Global;
 use std::cell::Cell;
 
-/// It counts how often it is asked, and may go on after `None`.
+/// It counts how often it is called, and may go on after `None`.
 #[derive(Drop)]
 struct Asked<'a> {
     answers: &'a [Option<char>],
@@ -32,10 +32,10 @@ impl<'a> Iterator for Asked<'a> {
     }
 }
 
-/// An item, U+0000 for a fault, and how often the delegate was asked up to it.
+/// An item, U+0000 for a fault, and how often the delegate was called up to it.
 type Step = (Option<char>, usize);
 
-/// How often the delegate was asked when a decomposition was made, and the steps that follow.
+/// How often the delegate was called when a decomposition was made, and the steps that follow.
 fn decomposing_steps(alloc: Global, answers: &[Option<char>], items: usize) -> Option<Vec<Step>> {
     let normalizer = nfd(alloc)?;
     steps_by_decomposing(alloc, &normalizer.as_borrowed(), answers, items)

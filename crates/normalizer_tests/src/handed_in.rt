@@ -1,4 +1,4 @@
-//! Data that tests hand in.
+//! Data for the tests.
 use normalizer_tables::{
     CodePointTable, DecompositionData, DecompositionTables, NonRecursiveDecompositionSupplement,
     Scalars16, Scalars24,

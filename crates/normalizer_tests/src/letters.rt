@@ -14,7 +14,7 @@ pub(crate) fn spells(alloc: Global, found: Option<Vec<char>>, text: &str) -> boo
     }
 }
 
-/// Each text so many times, one after the other.
+/// Each text this many times, one after the other.
 pub(crate) fn repeated(alloc: Global, runs: &[(&str, usize)]) -> Option<String> {
     let mut text = String::new(alloc);
     for (run, times) in runs {

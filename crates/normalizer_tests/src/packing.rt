@@ -29,13 +29,13 @@ fn long_entry(alloc: Global, place: u16) -> Option<Entry> {
     entry(alloc, character, 0, &[character; 17])
 }
 
-/// U+FB01 with a list of so many letters.
+/// U+FB01 with a list of this many letters.
 fn last_entry(alloc: Global, len: usize) -> Option<Entry> {
     let list = vec![in alloc; 'a'; len].ok()?;
     entry(alloc, '\u{FB01}', 0, &list)
 }
 
-/// 481 characters with lists of 17, and one with a list of so many.
+/// 481 characters with lists of 17, and one with a list of this length.
 fn long_lists(alloc: Global, last: usize) -> Option<Vec<Entry>> {
     let mut entries = Vec::new(alloc);
     for place in 0..481 {
@@ -45,7 +45,7 @@ fn long_lists(alloc: Global, last: usize) -> Option<Vec<Entry>> {
     Some(entries)
 }
 
-/// How many 16-bit numbers the canonical tables hold for long lists and one of so many.
+/// How many 16-bit numbers the canonical tables hold for long lists and one of this length.
 fn packed_items(alloc: Global, last: usize) -> Option<usize> {
     let entries = long_lists(alloc, last)?;
     let packed = packed(alloc, &entries)?;
@@ -67,7 +67,7 @@ fn are_refused(alloc: Global, entries: &[Entry]) -> bool {
         )
 }
 
-/// Whether long lists and one of so many can be packed but for the tables.
+/// Whether long lists and one of this length can be packed, but for the limit of the tables.
 fn is_full(alloc: Global, last: usize) -> bool {
     match long_lists(alloc, last) {
         Some(entries) => are_refused(alloc, &entries),
@@ -100,7 +100,7 @@ const RISING: [(char, u8); 2] = [('\u{302}', 230), ('\u{323}', 220)];
 
 const FALLING: [(char, u8); 2] = [('\u{323}', 220), ('\u{302}', 230)];
 
-/// Whether an entry with a list of so many letters can be packed, or not.
+/// Whether an entry with a list of this many letters can be packed.
 fn is_packable(alloc: Global, len: usize, packable: bool) -> bool {
     match last_entry(alloc, len) {
         Some(entry) => are_packable(&[entry]) == packable,

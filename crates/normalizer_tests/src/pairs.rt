@@ -6,7 +6,7 @@ use std::alloc::Global;
 /// Second, first and result.
 type Pair = (char, char, char);
 
-/// Pairs of The Unicode Standard, and one whose second the arithmetic of Hangul answers.
+/// Pairs of The Unicode Standard, and one with a second of the Hangul arithmetic.
 const PAIRS: [Pair; 6] = [
     ('\u{301}', '\u{3B1}', '\u{3AC}'),
     ('\u{308}', 'A', '\u{C4}'),
@@ -62,7 +62,7 @@ fn is_told_second(alloc: Global, second: char, never: bool) -> bool {
     }
 }
 
-/// The first row that is told otherwise.
+/// The first row with another result.
 fn wrong_second(alloc: Global) -> Option<usize> {
     SECONDS
         .iter()
@@ -106,7 +106,7 @@ fn are_rising(alloc: Global, pairs: &[Pair], rising: bool) -> bool {
     is_rising(compositions(alloc, pairs), rising) && is_rising(copied(alloc, pairs), rising)
 }
 
-/// The first list that is told otherwise.
+/// The first list with another result.
 fn wrong_rising(alloc: Global) -> Option<usize> {
     LISTS
         .iter()

@@ -8,7 +8,7 @@ use icu_normalizer::sink::{SinkError, Write, Write16};
 use icu_normalizer::{ComposingNormalizerBorrowed, DecomposingNormalizerBorrowed, NormalizeError};
 use std::alloc::Global;
 
-// Takes so many bytes, and refuses all of a text that would pass them.
+// Takes this many bytes, and refuses the whole of a text that would exceed them.
 #[derive(Drop)]
 struct Narrow {
     text: String,
@@ -45,7 +45,7 @@ impl Write for Narrow {
     }
 }
 
-// Whether the NFD of U+1EC7 and `a` is written as far as the room goes, and refused where it ends.
+// Whether the NFD of U+1EC7 and `a` is written as far as there is room, and refused then.
 fn is_cut_short(
     alloc: Global,
     normalizer: &DecomposingNormalizerBorrowed,

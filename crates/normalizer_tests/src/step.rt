@@ -47,7 +47,7 @@ const CHARACTERS: [char; 3] = ['\u{242EE}', '\u{1D157}', '\u{1D165}'];
 
 const SUPPLEMENT_CHARACTERS: [char; 4] = ['\u{1D157}', '\u{1D165}', '\u{1D15F}', '\u{1D16E}'];
 
-/// What one step makes of a character, where the data can be had.
+/// What one step makes of a character, if the data can be made.
 fn stepped(alloc: Global, character: char) -> Option<Option<Step>> {
     let data = data_of(alloc, &WORDS)?;
     let tables = tables_of(alloc, &UNITS, &CHARACTERS)?;
@@ -56,7 +56,7 @@ fn stepped(alloc: Global, character: char) -> Option<Option<Step>> {
     Some(step_of(&characters, &supplement, character))
 }
 
-/// Characters, and their step, or `None` where the words give none.
+/// Characters, and their step, or `None` if the words yield none.
 const STEPS: [(char, Option<Step>); 31] = [
     ('a', Some(Step::Default)),
     ('\u{301}', Some(Step::Default)),
