@@ -1,5 +1,5 @@
 //! The program `normtool`: it reads bytes from standard input, and writes a normal form of the text that they decode
-//! to, tells whether they are their own form or where they first are not, or maps the text for domain names.
+//! to, reports whether they are normalized or the first place at which they are not, or maps the text for domain names.
 #![tactic(auto)]
 
 #[cfg(test)]
@@ -36,7 +36,7 @@ fn ended(rt: &HostRuntime) -> (u8, &'static str) {
     }
 }
 
-/// The words after the program's name: none, which ask for nothing, where one is not UTF-8.
+/// The words after the program's name: none, which name no command, if one is not UTF-8.
 fn arguments(rt: &HostRuntime) -> Result<Vec<String>, ToolFault> {
     match env::args(rt) {
         Ok(arguments) => Ok(arguments.skip(1).collect(rt.alloc())?),

@@ -4,7 +4,7 @@ ghost use Rattle.std.specs.Prelude.{◌≡◌, ◌<◌, ⊤, Some, true};
 use normalizer_program::{DeviceError, Source, Target};
 use std::alloc::Global;
 
-/// Bytes in memory. A read gives a few at most, and is refused once they are used up if the source breaks off.
+/// Bytes in memory. A read returns a few at most, and is refused once they are used up if the source breaks off.
 #[derive(Drop)]
 pub struct Pieces<'a> {
     rest: &'a [u8],
@@ -49,7 +49,7 @@ impl Source for Pieces<'_> {
     }
 }
 
-/// Bytes in memory, up to so many. A write takes a few at most.
+/// Bytes in memory, up to this many. A write takes a few at most.
 #[derive(Drop)]
 pub struct Page {
     pub bytes: Vec<u8>,

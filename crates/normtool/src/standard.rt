@@ -4,7 +4,7 @@ ghost use Rattle.std.specs.Prelude.{⊤};
 use normalizer_program::{DeviceError, Source, Target};
 use std::io::{Read, Write};
 
-/// A reader as a source. It tells the bytes that the reader tells. An interrupted read counts as refused.
+/// A reader as a source, with the bytes that the reader reports. An interrupted read counts as refused.
 #[derive(Drop)]
 pub(crate) struct Input<R>(pub(crate) R);
 
@@ -19,8 +19,8 @@ impl<R: Read> Source for Input<R> {
     }
 }
 
-/// A writer as a target. It tells the bytes that the writer tells. A write that takes none, or is interrupted, counts
-/// as refused.
+/// A writer as a target, with the bytes that the writer reports. A write that takes none, or is interrupted, counts as
+/// refused.
 #[derive(Drop)]
 pub(crate) struct Output<W>(pub(crate) W);
 

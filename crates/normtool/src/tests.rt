@@ -17,7 +17,7 @@ fn strings(alloc: Global, texts: &[&str]) -> Option<Vec<String>> {
     Some(all)
 }
 
-/// What the words ask for, if there is memory for them.
+/// The command that the words name, if there is memory for them.
 fn asked(alloc: Global, texts: &[&str]) -> Option<Option<(RecordSet, Command)>> {
     match strings(alloc, texts) {
         Some(all) => Some(words(&all)),
@@ -44,7 +44,7 @@ const COMMANDS: [(&str, Command); 15] = [
     ("label", Command::Label),
 ];
 
-/// Whether two words ask for the command over the record set.
+/// Whether two words name the command over the record set.
 fn ask_for(alloc: Global, texts: [&str; 2], records: RecordSet, command: Command) -> bool {
     asked(alloc, &texts) == Some(Some((records, command)))
 }
@@ -176,7 +176,7 @@ const RUNS: [Run; 13] = [
     (["rows", "label"], b"a.\xCC\x88", b"a\n\xCC\x88\n", 0),
 ];
 
-/// Whether the words ask for a command over the rows, whose run is as wanted.
+/// Whether the words name a command over the rows, whose run is as expected.
 fn is_right_run(alloc: Global, data: &Built, row: &Run) -> bool {
     let (texts, input, output, status) = *row;
     match asked(alloc, &texts) {
@@ -268,7 +268,7 @@ fn is_right_long_run(alloc: Global, data: &Built, row: &LongRun) -> bool {
     }
 }
 
-// Input and output are larger than what one read gives.
+// Input and output are larger than what one read returns.
 #[test]
 fn long_texts_run_over_memory(rt: HostRuntime) {
     let alloc = rt.alloc();
@@ -352,7 +352,8 @@ impl<M: DataMarker> DataProvider<M> for Lacking {
     }
 }
 
-/// Whether the command ends by want of data, with nothing read, since each read is refused, and nothing written.
+/// Whether the command ends because data are missing, with nothing read, since each read is refused, and nothing
+/// written.
 fn lacks_data(alloc: Global, command: Command) -> bool {
     let source = &mut Pieces::broken_off(b"");
     is_run(
@@ -373,7 +374,7 @@ fn nothing_is_read_where_data_are_missing(rt: HostRuntime) {
     }
 }
 
-/// A record with a canonical mapping, or with none where it is empty.
+/// A record with a canonical mapping, or with none if it is empty.
 fn record(c: char, class: u8, mapping: Vec<char>) -> Record {
     Record {
         c,
@@ -384,7 +385,7 @@ fn record(c: char, class: u8, mapping: Vec<char>) -> Record {
     }
 }
 
-/// Data by which mapping gives a letter with diaeresis, that validation maps to another letter.
+/// Data by which mapping yields a letter with diaeresis, which validation maps to another letter.
 fn unsteady(alloc: Global) -> Option<Built> {
     let mapping = ['\u{61}', '\u{308}'].to_vec(alloc).ok()?;
     let mut records = Vec::new(alloc);
@@ -401,7 +402,7 @@ fn unsteady(alloc: Global) -> Option<Built> {
     Records::build(alloc, &records, &mapper).ok()
 }
 
-// What mapping gives is not always what validation gives back.
+// Validation does not always leave what mapping yields as it is.
 #[test]
 fn a_field_that_validation_changes_is_not_kept(rt: HostRuntime) {
     let alloc = rt.alloc();
