@@ -16,6 +16,7 @@ nfd d x = order d (expand d x)
 unfoldable pub nfc : Reading → List ℕ → List ℕ
 nfc d x = compose d (nfd d x)
 
+-- the form of that kind of the text x
 unfoldable pub normal_form : Reading → Form → List ℕ → List ℕ
 normal_form d Decomposing x = nfd d x
 normal_form d Composing x = nfc d x

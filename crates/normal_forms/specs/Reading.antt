@@ -14,6 +14,7 @@ pub record Reading : Type 0 where
 abbrev pub IsStarter : Reading → ℕ → Type 0
 IsStarter d c = d.class c ≡ 0
 
+-- the same as a test (D107)
 abbrev pub is_starter : Reading → ℕ → Bool
 is_starter d c = d.class c == 0
 

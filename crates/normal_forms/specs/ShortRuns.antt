@@ -6,6 +6,7 @@ use Rattle.normal_forms.specs.Reading.{Reading}
 abbrev pub places : ℕ
 places = 17
 
+-- the list has no member
 abbrev pub is_empty : List ℕ → Bool
 is_empty [] = true
 is_empty (c ∷ x) = false
@@ -27,6 +28,8 @@ HasShortChunks has_class_form d (c ∷ x) =
     (continues has_class_form d c ≡ false → length (d.list c) - 1 + leading_length has_class_form d x ≤ places)
     × HasShortChunks has_class_form d x
 
+-- the lists of the leading characters that continue have at most 17 characters together, and the other chunks are short
+-- too
 pub record HasShortRuns (has_class_form : ℕ → Bool) (d : Reading) (x : List ℕ) : Type 0 where
   pub leading : leading_length has_class_form d x ≤ places
   pub chunks : HasShortChunks has_class_form d x

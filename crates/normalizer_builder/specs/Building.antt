@@ -43,6 +43,7 @@ pub record HasTooManyItems (records : List Entry) (uts46 : List MapperEntry) : T
   pub made : AreMadeOf records uts46 entries
   pub full : item_limit < needed_items entries
 
+-- the step of a mapping of one character or two
 abbrev pub step_of_mapping : Mapping → Step
 step_of_mapping (One a) = Singleton a
 step_of_mapping (Two a b) = Expansion a b
@@ -73,10 +74,12 @@ pub data RecordDemand : Type 0 where
   OfConstructors : Demand → RecordDemand
   OfMappings : RecordDemand
 
+-- the requirement is one of those on data that pack records
 unfoldable pub IsMadeOfRecords : RecordDemand → Type 0
 IsMadeOfRecords (OfConstructors d) = IsMade d
 IsMadeOfRecords OfMappings = Unit {0}
 
+-- the data meet the requirement
 unfoldable pub MeetsRecords : List Entry → Packed → RecordDemand → Type 0
 MeetsRecords records p (OfConstructors d) = Meets p d
 MeetsRecords records p OfMappings = (n : ℕ) → KeepsMapping records p n
@@ -85,6 +88,7 @@ MeetsRecords records p OfMappings = (n : ℕ) → KeepsMapping records p n
 abbrev pub answer_to_mappings : Unfit
 answer_to_mappings = record { marker = NormalizerNfdSupplementV1; condition = 16 }
 
+-- the error for a requirement that isn't met
 abbrev pub answer_of_records : RecordDemand → Unfit
 answer_of_records (OfConstructors d) = answer_to d
 answer_of_records OfMappings = answer_to_mappings
@@ -93,6 +97,7 @@ answer_of_records OfMappings = answer_to_mappings
 abbrev pub IsFirstUnfitOfRecords : List Entry → Packed → Option Unfit → Type 0
 IsFirstUnfitOfRecords records p r = IsFirstUnmet IsMadeOfRecords answer_of_records (MeetsRecords records p) r
 
+-- the requirement on the recorded mappings
 abbrev pub IsOfMappings : RecordDemand → Type 0
 IsOfMappings d = d ≡ OfMappings
 
@@ -107,6 +112,7 @@ pub record Builds (records : List Entry) (uts46 : List MapperEntry) (p : Packed)
   pub means : MeansRecords records uts46 p
   pub fit : IsFirstUnfitOfRecords records p None
 
+-- the error of a refusal
 abbrev pub error_of : Refusal → BuildError
 error_of refusal.Order = error.Order
 error_of refusal.Fixed = error.Fixed

@@ -27,6 +27,7 @@ abbrev pub supplement_of : Packed → Kind → Option Supplement
 supplement_of p Canonical = Some p.supplement
 supplement_of p kind = None
 
+-- what constructors load of packed data, with the data of one kind
 abbrev pub loaded_of : Packed → Kind → Loaded
 loaded_of p kind = record {
   characters = characters_of p kind;
@@ -46,15 +47,18 @@ conditions_of Mapper = composing_conditions true
 pub data Demand : Type 0 where
   Asks : Kind → Condition → Demand
 
+-- the requirement is one of those of constructors
 unfoldable pub IsMade : Demand → Type 0
 IsMade (Asks kind c) = Contains (conditions_of kind) c
 
+-- the data meet the requirement
 unfoldable pub Meets : Packed → Demand → Type 0
 Meets p (Asks kind c) = IsMet (loaded_of p kind) c
 
--- how data of one kind that break a condition are answered
+-- the error for data of one kind that break a condition
 abbrev pub answer_of : Kind → Condition → Unfit
 answer_of kind c = record { marker = marker_of (marker_of_kind kind) c; condition = number_of c }
 
+-- the error for a requirement that isn't met
 abbrev pub answer_to : Demand → Unfit
 answer_to (Asks kind c) = answer_of kind c

@@ -16,5 +16,6 @@ IsFirstUnfit p r = IsFirstUnmet IsMade answer_to (Meets p) r
 abbrev pub IsMadeOfKind : Kind → Demand → Type 0
 IsMadeOfKind kind d = (c : Condition) × Contains (conditions_of kind) c × (d ≡ Asks kind c)
 
+-- the same for the data of one kind
 abbrev pub IsFirstUnfitOfKind : Packed → Kind → Option Unfit → Type 0
 IsFirstUnfitOfKind p kind r = IsFirstUnmet (IsMadeOfKind kind) answer_to (Meets p) r

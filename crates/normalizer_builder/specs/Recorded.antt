@@ -10,6 +10,7 @@ use Rattle.normalizer_records.specs.Entry.{Entry, MapperEntry}
 use Rattle.normalizer_records.specs.Meaning.{class_of, canonical_list, canonical_mapping_of, compatibility_list}
 use Rattle.normalizer_records.specs.Meaning.{mapper_list}
 
+-- the characters of all records of either kind
 abbrev pub recorded_characters : List Entry → List MapperEntry → List ℕ
 recorded_characters records uts46 = map (λ r. r.c) records ++ map (λ r. r.c) uts46
 

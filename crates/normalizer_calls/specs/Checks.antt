@@ -41,6 +41,7 @@ pub record IsLastingOffence (m : MadeForm) (e : Encoding) (units : List ℕ) (an
   pub lasts : IsWellFormed (first_in e) units
       → ForSome answer (λ o. (more : List ℕ) → HasOffenceWithin m e (units ++ more) o.place)
 
+-- the first mismatch of the units, or none
 abbrev pub FindsOffence : MadeForm → Encoding → List ℕ → Result (Option Offence) NormalizeError → Type 0
 FindsOffence m e units answer = AnswersOf m (decoded_in e units) (IsLastingOffence m e units) answer
 

@@ -7,17 +7,22 @@ use Rattle.normalizer_calls.specs.declared.composing_normalizer.ComposingNormali
   ComposingNormalizerBorrowed,
 }
 
+-- the data that it owns
 abbrev pub composing_data_of : ComposingNormalizer → Characters
 composing_data_of n = characters_from n.decompositions n.tables n.supplementary
 
+-- the pairs that it owns
 abbrev pub pairs_of : ComposingNormalizer → List Pair
 pairs_of n = n.pairs
 
+-- both
 abbrev pub data_and_pairs_of : ComposingNormalizer → Characters × List Pair
 data_and_pairs_of n = (composing_data_of n, pairs_of n)
 
+-- the data that it borrows
 abbrev pub composing_data_of_borrowed : ComposingNormalizerBorrowed → Characters
 composing_data_of_borrowed n = n.characters
 
+-- the pairs that it borrows
 abbrev pub pairs_of_borrowed : ComposingNormalizerBorrowed → List Pair
 pairs_of_borrowed n = n.pairs.now

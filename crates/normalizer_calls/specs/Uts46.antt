@@ -18,10 +18,12 @@ use Rattle.normalizer_iterators.specs.LazyReading.{SuitsLazyReading}
 abbrev pub MapperData : Type 0
 MapperData = Characters × List Pair
 
+-- what the mapper's data say of characters
 abbrev pub mapper_characters : Decompositions → Lists → Lists → Characters
 mapper_characters decompositions tables supplementary =
     record { decompositions = decompositions; tables = tables; supplementary = supplementary; is_mapper = true }
 
+-- the mapper's data and the pairs, by their parts
 abbrev pub mapper_data : Decompositions → Lists → Lists → List Pair → MapperData
 mapper_data decompositions tables supplementary pairs = (mapper_characters decompositions tables supplementary, pairs)
 

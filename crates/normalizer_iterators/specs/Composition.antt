@@ -24,9 +24,11 @@ module _ {I : Type 0} where
   abbrev pub data_of_composition : Composition I → Characters
   data_of_composition s = s.decomposed.characters
 
+  -- the pairs by which it composes
   abbrev pub pairs_of_composition : Composition I → List Pair
   pairs_of_composition s = s.pairs.now
 
+  -- the reading by which it composes
   abbrev pub pairing_by : Composition I → Reading
   pairing_by s = reading_by (data_of_composition s) Dropped (pairs_of_composition s)
 
@@ -38,9 +40,11 @@ module _ {I : Type 0} where
   abbrev pub StaysShort : (I → Option ℕ → I → Type 0) → Composition I → Type 0
   StaysShort gives s = UnlessEnded s.ahead (GivesShort gives (pairing_by s) s.decomposed)
 
+  -- nothing is to come
   abbrev pub IsEnded : Composition I → Type 0
   IsEnded s = (s.ahead ≡ Ended) × (staying s.marks ≡ [])
 
+  -- the delegate may be called, and ends
   abbrev pub CanCompose : (I → Type 0) → (I → Count) → Composition I → Type 0
   CanCompose can left s = decomposition.CanDecompose can left s.decomposed
 
@@ -64,6 +68,7 @@ module _ {I : Type 0} where
     pub fewer : items_left left t ≤ decomposition.items_left left old
     pub kept : (t.decomposed.characters ≡ old.characters) × (t.pairs.now ≡ pairs)
 
+  -- what a call of `next` returned and left
   pub record CompositionSteps (can : I → Type 0) (gives : I → Option ℕ → I → Type 0) (left : I → Count)
       (s : Composition I) (r : Option (Result ℕ NormalizeError)) (t : Composition I) : Type 0 where
     pub item : GivesNext (WillGive (Spells gives)) (StaysShort gives) IsEnded s r t

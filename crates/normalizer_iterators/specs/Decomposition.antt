@@ -27,6 +27,7 @@ module _ {I : Type 0} where
   abbrev pub pending_of : Decomposition I → Option ℕ
   pending_of s = character_of s.pending
 
+  -- the reading by which it decomposes
   abbrev pub reading_of : Decomposition I → Reading
   reading_of s = reading_by s.characters s.ignored []
 
@@ -38,9 +39,11 @@ module _ {I : Type 0} where
   abbrev pub StaysShort : (I → Option ℕ → I → Type 0) → Decomposition I → Type 0
   StaysShort gives s = AreShortToCome gives (has_class_form s.characters) (reading_of s) (pending_of s) s.delegate
 
+  -- nothing is to come
   abbrev pub IsEnded : Decomposition I → Type 0
   IsEnded s = (pending_of s ≡ None) × (ordered s.waiting ≡ [])
 
+  -- the delegate may be called, and ends
   abbrev pub CanDecompose : (I → Type 0) → (I → Count) → Decomposition I → Type 0
   CanDecompose can left s = IsReadyBehind can left (pending_of s) s.delegate
 
@@ -48,6 +51,7 @@ module _ {I : Type 0} where
   abbrev pub items_left : (I → Count) → Decomposition I → ℕ
   items_left left s = length (ordered s.waiting) + longest_list * reads_left (pending_of s) (size (left s.delegate))
 
+  -- what a call of `next` returned and left
   pub record DecompositionSteps (can : I → Type 0) (gives : I → Option ℕ → I → Type 0) (left : I → Count)
       (s : Decomposition I) (r : Option (Result ℕ NormalizeError)) (t : Decomposition I) : Type 0 where
     pub item : GivesNext (WillGive (Spells gives)) (StaysShort gives) IsEnded s r t

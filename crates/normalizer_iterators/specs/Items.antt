@@ -50,6 +50,7 @@ module _ {I S : Type 0} (source_gives : I → Option ℕ → I → Type 0)
     pub fault : (out : List ℕ) (e : NormalizeError) (now : S) → YieldsThen gives it (map Ok out) (Some (Err e)) now
         → (e ≡ Memory) × HasEnded gives now
 
+  -- the form of each text that the source spells, unless memory is refused, which it never is over short runs
   pub record GivesForm (has_class_form : ℕ → Bool) (d : Reading) (form : Reading → List ℕ → List ℕ) (source : I)
       (made : Result S NormalizeError) : Type 0 where
     pub text : IfOk made (λ it. (x : List ℕ) → Spells source_gives source x → SpellsUnless gives Memory it (form d x))

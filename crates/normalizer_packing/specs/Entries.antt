@@ -16,9 +16,11 @@ pub record CharacterEntry : Type 0 where
   pub mapper : Option (List ℕ)
   pub mapping : Option Mapping
 
+-- the entries strictly rise by character
 abbrev pub AreRising : List CharacterEntry → Type 0
 AreRising entries = AllPairs (λ e f. e.character < f.character) entries
 
+-- the entry of a character
 unfoldable pub entry_of : List CharacterEntry → ℕ → Option CharacterEntry
 entry_of entries n = find (λ e. e.character == n) entries
 
@@ -32,6 +34,7 @@ own_list Mapper e = e.mapper
 unfoldable pub class_in : List CharacterEntry → ℕ → ℕ
 class_in entries n = elim (entry_of entries n) [ Some e ↦ e.class | None ↦ 0 ]
 
+-- the list of a character in one kind of data; without an entry, itself
 unfoldable pub list_in : Kind → List CharacterEntry → ℕ → Option (List ℕ)
 list_in kind entries n = elim (entry_of entries n) [ Some e ↦ own_list kind e | None ↦ Some (n ∷ []) ]
 

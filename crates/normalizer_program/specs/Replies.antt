@@ -40,6 +40,7 @@ IsReplyOfMapper Label h input answer output =
     (lines : List ℕ) × TellsKept h (fields (mapped h (decoded_utf8 input))) answer lines
     × (output ≡ encode_utf8_all lines)
 
+-- the reply of a command to its input: an answer, and what is written
 abbrev pub IsReply : Work → (input : List ℕ) → Answer → (output : List ℕ) → Type 0
 IsReply (OfForm t form d) input answer output = IsReplyOfForm t form d input answer output
 IsReply (OfMapper t h) input answer output = IsReplyOfMapper t h input answer output

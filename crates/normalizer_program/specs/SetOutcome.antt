@@ -31,6 +31,7 @@ IsUnbuilt set (Err Write) = ⊥
 IsUnbuilt set (Err Memory) = ⊤
 IsUnbuilt set (Err Data) = AreRefused (records_of set) (mapper_records_of set)
 
+-- the outcome of a command over a record set: that over the data that it builds, or that none are built
 abbrev pub IsOutcomeOver : RecordSet → Command → (left before after : Option (List ℕ)) → Result Answer ToolFault
     → Type 0
 IsOutcomeOver set command left before after result =

@@ -16,21 +16,27 @@ use Rattle.normalizer_properties.specs.declared.decomposition.CanonicalDecomposi
 use Rattle.normalizer_properties.specs.Shapers.{shaper_mapping}
 use Rattle.normalizer_properties.specs.StepData.{StepData, steps_from}
 
+-- the data that it owns
 abbrev pub classes_of : CanonicalCombiningClassMap → Decompositions
 classes_of m = m.decompositions
 
+-- the data that it borrows
 abbrev pub classes_of_borrowed : CanonicalCombiningClassMapBorrowed → Decompositions
 classes_of_borrowed m = m.decompositions.now
 
+-- the pairs that it owns
 abbrev pub pairs_of : CanonicalComposition → List Pair
 pairs_of c = c.pairs
 
+-- the pairs that it borrows
 abbrev pub pairs_of_borrowed : CanonicalCompositionBorrowed → List Pair
 pairs_of_borrowed c = c.pairs.now
 
+-- the data and the supplement that it owns
 abbrev pub steps_of : CanonicalDecomposition → StepData
 steps_of d = steps_from d.decompositions d.tables d.supplement
 
+-- the data and the supplement that it borrows
 abbrev pub steps_of_borrowed : CanonicalDecompositionBorrowed → StepData
 steps_of_borrowed d = (d.characters, d.supplement.now)
 

@@ -9,11 +9,13 @@ pub record Entry : Type 0 where
   pub compatibility : Bool
   pub excluded : Bool
 
+-- what the mapper does with a character (UTS #46, section 4)
 pub data Status : Type 0 where
   MapsTo : List ℕ → Status
   IsIgnored : Status
   IsDisallowed : Status
 
+-- a record of the mapper: a character and what it does with it
 pub record MapperEntry : Type 0 where
   pub c : ℕ
   pub status : Status

@@ -19,6 +19,7 @@ use Rattle.normalizer_records.specs.Meaning.{mapper_list, mapping_of, pairs_of, 
 abbrev pub AreRising : List Entry → Type 0
 AreRising records = AllPairs (λ r s. r.c < s.c) records
 
+-- the records of the mapper strictly rise by character
 abbrev pub AreMapperRising : List MapperEntry → Type 0
 AreMapperRising uts46 = AllPairs (λ r s. r.c < s.c) uts46
 
@@ -43,11 +44,13 @@ unfoldable pub is_fixed_for_mapper : MapperEntry → Bool
 is_fixed_for_mapper r =
     is_fixed r.c && not (is_in_range 0x115F 0x1160 r.c) && not ((r.c == 0xFFFD) && is_disallowed r.status)
 
+-- some record is of a character that records may not speak of
 unfoldable pub has_fixed_fault : List Entry → List MapperEntry → Bool
 has_fixed_fault records uts46 = list_any (λ r. is_fixed r.c) records || list_any is_fixed_for_mapper uts46
 
 -- Mapping
 
+-- the mapping has U+0000
 abbrev pub has_zero : List ℕ → Bool
 has_zero mapping = list_any (λ m. m == 0) mapping
 
@@ -74,11 +77,13 @@ is_bad_status (MapsTo (m ∷ mapping)) = has_zero (m ∷ mapping)
 is_bad_status IsIgnored = false
 is_bad_status IsDisallowed = false
 
+-- some record has a mapping that none may have
 unfoldable pub has_mapping_fault : List Entry → List MapperEntry → Bool
 has_mapping_fault records uts46 = list_any is_bad_mapping records || list_any (λ r. is_bad_status r.status) uts46
 
 -- Chain
 
+-- some record is of the character
 abbrev pub IsRecorded : List Entry → ℕ → Type 0
 IsRecorded records c = is_some (entry_of records c) ≡ true
 
@@ -134,6 +139,7 @@ IsFreeForm records c list = (list ≢ c ∷ []) × (¬ IsFixedForm records c lis
 abbrev pub IsWrong : List Entry → ℕ → Bool → List ℕ → Type 0
 IsWrong records c is_mark list = ((is_mark ≡ true) ⊎ (begins_with_mark records list ≡ true)) × IsFreeForm records c list
 
+-- the character is a mark by its recorded class (D107)
 abbrev pub is_mark : List Entry → ℕ → Bool
 is_mark records c = nat_lt 0 (class_of records c)
 
@@ -146,6 +152,7 @@ HasWrongClass records uts46 c =
     ⊎ (IsWrong records c (is_mark records c) (compatibility_list records c)
     ⊎ IsSomeAnd (mapper_list records uts46 c) (IsWrong records c false)))
 
+-- some character has such a class or such a list
 unfoldable pub HasClassFault : List Entry → List MapperEntry → Type 0
 HasClassFault records uts46 = (c : ℕ) × IsAsked records uts46 c × HasWrongClass records uts46 c
 
@@ -155,6 +162,7 @@ HasClassFault records uts46 = (c : ℕ) × IsAsked records uts46 c × HasWrongCl
 abbrev pub is_long : List ℕ → Bool
 is_long list = nat_lt 17 (length list) || (nat_lt 16 (length list) && list_any (λ c. nat_lt 0xFFFF c) list)
 
+-- no word can state the length of the list; that of U+FDFA needs none
 abbrev pub IsTooLong : List ℕ → Type 0
 IsTooLong list = (is_long list ≡ true) × (list ≢ fdfa_list)
 
@@ -164,6 +172,7 @@ HasLongList records uts46 c =
     IsTooLong (canonical_list records c)
     ⊎ (IsTooLong (compatibility_list records c) ⊎ IsSomeAnd (mapper_list records uts46 c) IsTooLong)
 
+-- some character has such a list
 unfoldable pub HasLengthFault : List Entry → List MapperEntry → Type 0
 HasLengthFault records uts46 = (c : ℕ) × IsAsked records uts46 c × HasLongList records uts46 c
 

@@ -76,9 +76,11 @@ recorded_classes records = record { list = λ c. c ∷ []; class = class_of reco
 unfoldable pub full_list : List Entry → Mappings → ℕ → List ℕ
 full_list records mappings c = order (recorded_classes records) (expansion records mappings levels c)
 
+-- the full canonical decomposition (D68)
 abbrev pub canonical_list : List Entry → ℕ → List ℕ
 canonical_list records c = full_list records Canonical c
 
+-- the full compatibility decomposition (D65)
 abbrev pub compatibility_list : List Entry → ℕ → List ℕ
 compatibility_list records c = full_list records AllMappings c
 
@@ -97,6 +99,7 @@ unfoldable pub mapped_list : List Entry → ℕ → Option Status → Option (Li
 mapped_list records c None = Some (canonical_list records c)
 mapped_list records c (Some status) = list_of_status records status
 
+-- the list that the mapper maps a character to: none if it ignores the character (UTS #46, section 4)
 unfoldable pub mapper_list : List Entry → List MapperEntry → ℕ → Option (List ℕ)
 mapper_list records uts46 c = mapped_list records c (status_of uts46 c)
 
@@ -111,5 +114,6 @@ pair_of_record r =
     if not r.compatibility && not r.excluded && not (is_some (fixed_list_of r.c)) then pair_of_mapping r.c r.mapping
     else None
 
+-- the pairs of all records: the primary composites (D114)
 unfoldable pub pairs_of : List Entry → List Pair
 pairs_of records = filter_map pair_of_record records

@@ -21,9 +21,11 @@ pub record Characters : Type 0 where
   pub supplementary : Lists
   pub is_mapper : Bool
 
+-- the word of a number
 unfoldable pub word_of : Characters → ℕ → ℕ
 word_of s n = word_at s.decompositions.table n
 
+-- how the word of a number reads
 unfoldable pub reading_of_word : Characters → ℕ → WordReading
 reading_of_word s n = read n (word_of s n) s.is_mapper
 
@@ -87,6 +89,7 @@ class_of_itself Itself = Some 0
 class_of_itself (ClassForm k) = Some k
 class_of_itself _ = None
 
+-- the word of the character is a class form
 unfoldable pub has_class_form : Characters → ℕ → Bool
 has_class_form s n = is_class_form (word_of s n)
 

@@ -9,6 +9,7 @@ use Rattle.normalizer_tables.specs.SpecialLists.{fixed_list_of}
 use Rattle.normalizer_tables.specs.Words.{is_class_form, is_ordinary_class_form, is_special_class_form, low_byte}
 use Rattle.normalizer_tables.specs.Conditions.{is_surrogate}
 
+-- the conditions on data of which only classes are read: parts of 4, 5 and 7
 abbrev pub class_conditions : List Condition
 class_conditions = SurrogateClasses ∷ PastTheEnd ∷ WordClasses ∷ []
 

@@ -28,10 +28,11 @@ use Rattle.normalizer_tables.specs.Characters.{has_class_form}
 use Rattle.normalizer_tables.specs.Readings.{reading_by}
 use Rattle.normalizer_tables.specs.Ignored.{Dropped}
 
--- the most items that the tables may have together, and the greatest bound below which characters may pass unseen
+-- the most items that the tables may have together
 abbrev pub item_limit : ℕ
 item_limit = 0x1FFF
 
+-- the greatest `passthrough_cap`
 abbrev pub cap_limit : ℕ
 cap_limit = 0x0300
 
@@ -73,6 +74,7 @@ IsPlainStarter s n = ReadsToItself s n × (class_of s n ≡ 0)
 unfoldable pub is_composing_jamo : ℕ → Bool
 is_composing_jamo n = is_in_range 0x1100 0x1112 n || is_in_range 0x1161 0x1175 n || is_in_range 0x11A8 0x11C2 n
 
+-- a surrogate code point (The Unicode Standard, D71, D73)
 unfoldable pub is_surrogate : ℕ → Bool
 is_surrogate n = is_in_range 0xD800 0xDFFF n
 

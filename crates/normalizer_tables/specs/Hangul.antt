@@ -2,7 +2,7 @@
 use Rattle.std.specs.Prelude.{ℕ, ◌+◌, ◌-◌, ◌/◌, ◌%◌, Bool, ◌==◌, List, [], ◌∷◌, if◌then◌else◌}
 use Rattle.std.specs.Int.{is_in_range}
 
--- the first syllable and the first jamo of the three kinds
+-- SBase, LBase and VBase: the first syllable, leading consonant and vowel (section 3.12)
 abbrev pub s_base : ℕ
 s_base = 0xAC00
 
@@ -12,17 +12,19 @@ l_base = 0x1100
 abbrev pub v_base : ℕ
 v_base = 0x1161
 
--- the trailing consonant of this place means none
+-- TBase, one before the first trailing consonant
 abbrev pub t_base : ℕ
 t_base = 0x11A7
 
--- how many syllables have the same leading consonant and vowel, and how many the same leading consonant
+-- how many syllables have the same leading consonant and vowel
 abbrev pub t_count : ℕ
 t_count = 28
 
+-- how many syllables have the same leading consonant
 abbrev pub n_count : ℕ
 n_count = 588
 
+-- a precomposed Hangul syllable (section 3.12)
 unfoldable pub is_hangul_syllable : ℕ → Bool
 is_hangul_syllable c = is_in_range 0xAC00 0xD7A3 c
 

@@ -3,13 +3,15 @@ use Rattle.std.specs.Prelude.{ℕ, ◌+◌, ◌-◌, ◌*◌, ◌%◌, Bool, ◌
 use Rattle.std.specs.Int.{is_in_range}
 use Rattle.normalizer_tables.specs.Hangul.{s_base, l_base, v_base, t_base, t_count, n_count, is_hangul_syllable}
 
+-- a leading consonant of which syllables are composed
 unfoldable pub is_leading_consonant : ℕ → Bool
 is_leading_consonant c = is_in_range 0x1100 0x1112 c
 
+-- a vowel of which syllables are composed
 unfoldable pub is_vowel : ℕ → Bool
 is_vowel c = is_in_range 0x1161 0x1175 c
 
--- t_base itself means none
+-- a trailing consonant of which syllables are composed; TBase itself is none
 unfoldable pub is_trailing_consonant : ℕ → Bool
 is_trailing_consonant c = is_in_range 0x11A8 0x11C2 c
 

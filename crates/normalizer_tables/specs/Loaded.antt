@@ -42,6 +42,7 @@ unfoldable pub IsMetOverall : Loaded → Condition → Type 0
 IsMetOverall d c =
     HoldsOverall d.characters c × IfSome d.pairs (λ pairs. PairsHoldOverall d.characters pairs c)
 
+-- what a condition says of a number n
 unfoldable pub IsMetAt : Loaded → Condition → ℕ → Type 0
 IsMetAt d c n =
     HoldsAt d.characters d.bounds c n × IfSome d.pairs (λ pairs. PairsHoldAt d.characters d.bounds pairs c n)

@@ -51,6 +51,7 @@ pub record HasSafeBeginning (s : Characters) (pairs : List Pair) (n : ℕ) : Typ
 unfoldable pub KeepsRoundTrip : Characters → Bounds → List Pair → ℕ → Type 0
 KeepsRoundTrip s b pairs n = IsScalar n → is_taken_to_round_trip s b n ≡ true → RoundTrips s pairs n
 
+-- if a composing loop relies on the beginning of n, the list of n begins safely
 unfoldable pub KeepsBeginning : Characters → Bounds → List Pair → ℕ → Type 0
 KeepsBeginning s b pairs n = IsScalar n → is_taken_to_begin_safely s b n ≡ true → HasSafeBeginning s pairs n
 

@@ -22,6 +22,7 @@ is_before p second first = nat_lt p.0 second || ((p.0 == second) && nat_lt p.1 f
 abbrev pub AreRising : List Pair → Type 0
 AreRising pairs = AllPairs (λ p q. is_before p q.0 q.1 ≡ true) pairs
 
+-- the triple is of this second and this first
 unfoldable pub is_of : Pair → ℕ → ℕ → Bool
 is_of p first second = (p.0 == second) && (p.1 == first)
 

@@ -29,6 +29,7 @@ IsSoundStep s n (Expansion a b) = IsInOrder s n (list_of s [] a ++ list_of s [] 
 unfoldable pub AvoidsFdfa : Characters → ℕ → Type 0
 AvoidsFdfa s n = reading_of_word s n ≢ Fdfa
 
+-- a scalar value that is no Hangul syllable has a sound step
 unfoldable pub HasSoundStep : Characters → Supplement → ℕ → Type 0
 HasSoundStep s t n = IsScalar n → is_hangul_syllable n ≡ false → IsSomeAnd (step_of s t n) (IsSoundStep s n)
 

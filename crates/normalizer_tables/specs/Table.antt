@@ -11,6 +11,7 @@ pub record Table : Type 0 where
   pub words : List ℕ
   pub past : ℕ
 
+-- the word of a number
 unfoldable pub word_at : Table → ℕ → ℕ
 word_at t n = slice_index_or t.words n t.past
 

@@ -26,6 +26,7 @@ is_ordinary_class_form w = bit_and w 0x3FFFFF00 == 0xD800
 unfoldable pub is_special_class_form : ℕ → Bool
 is_special_class_form w = bit_and w 0x3FFFFF00 == 0xD900
 
+-- one of the two forms with a class
 unfoldable pub is_class_form : ℕ → Bool
 is_class_form w = is_ordinary_class_form w || is_special_class_form w
 
@@ -41,9 +42,11 @@ class_of_word w = if is_class_form w then low_byte w else 0
 unfoldable pub is_plain : ℕ → Bool
 is_plain w = bit_and w 0x3FFFFFFF == 0
 
+-- bits 16 to 29 are 0
 unfoldable pub has_high_zeros : ℕ → Bool
 has_high_zeros w = bit_and w 0x3FFF0000 == 0
 
+-- bits 5 to 15 are 0
 unfoldable pub has_low_zeros : ℕ → Bool
 has_low_zeros w = bit_and w 0xFFE0 == 0
 

@@ -5,10 +5,12 @@ use Rattle.normalizer_text.specs.Steps.{decoded}
 use Rattle.normalizer_text.specs.Utf8.{continuation, allows, first_of_utf8}
 use Rattle.normalizer_text.specs.Utf16.{is_low, first_of_utf16, encode_utf16_all}
 
+-- UTF-8 in bytes, UTF-16 in 16-bit units (The Unicode Standard, D92, D91)
 pub data Encoding : Type 0 where
   Utf8 : Encoding
   Utf16 : Encoding
 
+-- the first step of units in an encoding
 abbrev pub first_in : Encoding → List ℕ → Step
 first_in Encoding.Utf8 = first_of_utf8
 first_in Encoding.Utf16 = first_of_utf16

@@ -6,6 +6,7 @@ use Rattle.normalizer_text.specs.declared.step.Step.{Step}
 use Rattle.normalizer_text.specs.Steps.{read, replaced}
 use Rattle.normalizer_text.specs.Utf8.{ByteRange, Row, well_formed_sequences, scalar_value}
 
+-- the byte is within the range
 abbrev pub IsWithin : ByteRange → ℕ → Type 0
 IsWithin r b = (r.least ≤ b) × (b ≤ r.greatest)
 

@@ -10,9 +10,11 @@ pub record ByteRange : Type 0 where
   pub least : ℕ
   pub greatest : ℕ
 
+-- the range from a byte to another
 abbrev pub range : ℕ → ℕ → ByteRange
 range least greatest = record { least = least; greatest = greatest }
 
+-- the range has the byte
 abbrev pub allows : ByteRange → ℕ → Bool
 allows r b = is_in_range r.least r.greatest b
 
@@ -21,6 +23,7 @@ pub record Row : Type 0 where
   pub lead : ByteRange
   pub trail : List ByteRange
 
+-- a row by its parts
 abbrev pub row : ByteRange → List ByteRange → Row
 row lead trail = record { lead = lead; trail = trail }
 
@@ -69,6 +72,7 @@ first_by_row (Some r) b bs = if matched r.trail bs == length r.trail
     then read (scalar_value (b ∷ take (length r.trail) bs)) (suc (length r.trail))
     else replaced (suc (matched r.trail bs))
 
+-- the first step of bytes
 abbrev pub first_of_utf8 : List ℕ → Step
 first_of_utf8 [] = replaced 0
 first_of_utf8 (b ∷ bs) = first_by_row (row_of b) b bs
