@@ -16,7 +16,7 @@ pub enum Normalizer {
     Composing(ComposingNormalizer),
 }
 
-/// The result of a call of the normalizer, of whichever kind it is.
+/// What a call of the normalizer answers, of whichever kind it is.
 macro_rules! called {
     ($normalizer:expr, $call:ident($($argument:expr),*)) => {
         match $normalizer {

@@ -17,7 +17,7 @@ enum Source {
     ByHand,
 }
 
-/// The data for questions.
+/// What questions are asked of.
 #[derive(Drop)]
 pub struct Setting<'a> {
     alloc: Global,

@@ -80,7 +80,7 @@ impl Normalizer {
         Ok(text)
     }
 
-    /// Whether the bytes are well-formed and normalized.
+    /// Whether the bytes are well-formed and their own form.
     pub(crate) fn is_own_form(&self, bytes: &[u8]) -> Result<bool, ToolFault>
         ensures own { IfOk result (λ own. IsTrue own
             ↔ IsInputNormalized Encoding.Utf8 (reading_of self.now) (kind_by self.now) bytes.now) }
@@ -92,7 +92,7 @@ impl Normalizer {
         }
     }
 
-    /// The first place at which the bytes are ill-formed or not normalized.
+    /// The first place at which the bytes are ill-formed or not their own form.
     pub(crate) fn first_offence(&self, bytes: &[u8]) -> Result<Option<Offence>, ToolFault>
         ensures offence { IfOk result (λ offence.
             IsInputOffenceOf Encoding.Utf8 (reading_of self.now) (kind_by self.now) bytes.now offence) }

@@ -15,13 +15,13 @@ abbrev pub Divides : Reading → Form → List ℕ → List ℕ → Type 0
 Divides d form front rest = (read unread : List ℕ) → rest ≡ read ++ unread
     → normal_form d form (front ++ read) ≡ normal_form d form front ++ normal_form d form read
 
--- a text that begins with c is normalized apart from what comes before
+-- a text that begins with c is normalized apart from what stands before
 abbrev pub BeginsApart : Reading → Form → ℕ → Type 0
 BeginsApart d form c = (front x : List ℕ)
     → normal_form d form (front ++ c ∷ x) ≡ normal_form d form front ++ normal_form d form (c ∷ x)
 
--- c may be passed on as it is: it is normalized, and a text that begins with it is normalized apart from what comes
--- before. So is what comes after it, unless c is held back.
+-- c may be handed on as it is: it is its own form, and a text that begins with it is normalized apart from what stands
+-- before. What stands behind it is so too, unless it is held back.
 pub record MayPass (d : Reading) (form : Form) (held_back : Bool) (c : ℕ) : Type 0 where
   pub own : IsNormalized d form (c ∷ [])
   pub begins : BeginsApart d form c
