@@ -52,7 +52,7 @@ pub fn canonicity()
         EquivalentTexts d x y ↔ (normal_form d form x ≡ normal_form d form y) }
 {}
 
-/// No two texts are equivalent only by way of lists that aren't texts.
+/// No two texts are equivalent only through lists that aren't texts.
 pub fn equivalence_stays_within_texts()
     ensures { (d : Reading) → HasFullLists d → HasTextLists d → (x y : List ℕ) → IsText x → IsText y →
         Equivalent d x y ↔ EquivalentTexts d x y }

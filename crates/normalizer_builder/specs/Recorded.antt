@@ -14,7 +14,7 @@ use Rattle.normalizer_records.specs.Meaning.{mapper_list}
 abbrev pub recorded_characters : List Entry → List MapperEntry → List ℕ
 recorded_characters records uts46 = map (λ r. r.c) records ++ map (λ r. r.c) uts46
 
--- every character that has a record of either kind, once, in their order
+-- each character that has a record of either kind once, in order
 pub record ListsCharacters (records : List Entry) (uts46 : List MapperEntry) (characters : List ℕ) : Type 0 where
   pub all : All (Contains characters) (recorded_characters records uts46)
   pub recorded : All (Contains (recorded_characters records uts46)) characters

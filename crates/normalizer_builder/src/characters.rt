@@ -1,11 +1,11 @@
-//! The characters that records speak of.
+//! The characters that have records.
 ghost use Rattle.std.specs.Prelude.{IfOk};
 ghost use Rattle.normalizer_builder.specs.Recorded.{ListsCharacters};
 
 use normalizer_records::{Record, Uts46Record, recorded_characters};
 use std::alloc::{AllocError, Global};
 
-/// Every character that has a record of either kind, once, in their order.
+/// Each character that has a record of either kind once, in order.
 pub(crate) fn sorted_characters(
     alloc: Global,
     records: &[Record],

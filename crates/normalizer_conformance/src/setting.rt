@@ -175,7 +175,7 @@ impl<'a> Setting<'a> {
         Ok((&self.held, &self.records))
     }
 
-    /// The normalizer to a form, which is made once while the form is the same.
+    /// The normalizer to a form, which is kept while the form is the same.
     pub fn normalizer(&mut self, form: NormalForm) -> Result<&Normalizer, Fault> {
         if !self.has_normalizer(form) {
             self.normalizer = Some((form, Normalizer::new(self.held()?, form)?));

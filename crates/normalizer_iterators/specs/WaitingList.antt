@@ -22,6 +22,6 @@ held b = small_vec_len b.entries
 unfoldable pub AgreesWith : Reading → WaitingList → Type 0
 AgreesWith d b = entries.HasClassesOf d b.entries.items
 
--- what comes out, if `rest` is still to go in
+-- what will be yielded, if `rest` is still to be added
 unfoldable pub reordered : Reading → WaitingList → List ℕ → List ℕ
 reordered d b rest = ordered b ++ order d (unordered b ++ rest)

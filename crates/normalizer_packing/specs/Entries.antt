@@ -1,4 +1,4 @@
--- What is to be packed: for each character its lists in the three kinds of data, its class, and its mapping.
+-- What is packed: for each character its lists in the three kinds of data, its class, and its mapping.
 use Rattle.std.specs.Prelude.{ℕ, ◌<◌, ◌==◌, List, [], ◌∷◌, AllPairs, find, Option, Some, None, unwrap_or}
 use Rattle.normal_forms.specs.Reading.{Reading}
 use Rattle.normalizer_packing.specs.declared.entry.Kind.{Kind}

@@ -43,7 +43,7 @@ stored_step (Some (Two a b)) = if are_narrow a b then None else Some (a ∷ b �
 unfoldable pub stored_steps : List CharacterEntry → List (List ℕ)
 stored_steps entries = filter_map (λ e. stored_step (asked_step entries e)) entries
 
--- the same, an equal one once: in the order in which characters first need them
+-- the same, equal ones once, in the order in which characters first need them
 unfoldable pub step_lists : List CharacterEntry → List (List ℕ)
 step_lists entries = first_come (stored_steps entries)
 

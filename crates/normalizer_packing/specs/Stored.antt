@@ -34,12 +34,12 @@ listed_in entries kind = filter_map (listed_of (class_in entries) kind) entries
 unfoldable pub is_among : List ℕ → List (List ℕ) → Bool
 is_among x lists = list_any (list_eq x) lists
 
--- the lists in the order in which they first come, an equal one once
+-- the lists in the order in which they first come, equal ones once
 unfoldable pub first_come : List (List ℕ) → List (List ℕ)
 first_come [] = []
 first_come (x ∷ lists) = x ∷ filter (λ y. not (list_eq y x)) (first_come lists)
 
--- the lists but for those among the ones before
+-- the lists except those among the ones before
 unfoldable pub apart_from : List (List ℕ) → List (List ℕ) → List (List ℕ)
 apart_from before lists = filter (λ x. not (is_among x before)) lists
 

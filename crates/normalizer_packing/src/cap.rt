@@ -1,4 +1,4 @@
-//! Below which number a composing loop may pass every character unseen.
+//! The number below which a composing loop may pass every character without looking up its word.
 ghost use Rattle.std.specs.Prelude.{◌↔◌, ◌<◌, IsTrue};
 ghost use Rattle.normalizer_packing.specs.Caps.{BeginsPassed, IsCap, MayPass, MayPassWith};
 
@@ -8,7 +8,7 @@ use crate::flags::composes_to;
 use normalizer_tables::condition::CAP_LIMIT;
 use normalizer_tables::{CanonicalCompositions, is_never_second};
 
-/// The least character that a composing loop may not pass unseen, but at most the limit.
+/// The least character that a composing loop may not pass so, but at most the limit.
 pub fn cap_of(entries: &Entries<'_>, compositions: &CanonicalCompositions, kind: Kind) -> u16
     ensures { IsCap kind entries.now compositions.now result }
 {
@@ -20,7 +20,7 @@ pub fn cap_of(entries: &Entries<'_>, compositions: &CanonicalCompositions, kind:
     CAP_LIMIT
 }
 
-/// Whether a composing loop may pass a number unseen.
+/// Whether a composing loop may pass a number so.
 #[tactic(auto, unfolding(crate::specs::Caps::MayPass))]
 fn may_pass(
     entries: &Entries<'_>,
@@ -39,7 +39,7 @@ fn may_pass(
     }
 }
 
-/// Whether a composing loop may pass a character with this list unseen.
+/// Whether a composing loop may pass a character with this list so.
 fn list_may_pass(
     entries: &Entries<'_>,
     compositions: &CanonicalCompositions,

@@ -1,4 +1,4 @@
-//! What is to be packed.
+//! What is packed.
 ghost use Rattle.std.specs.Prelude.{◌≡◌, option_copied};
 ghost use Rattle.normalizer_packing.specs.Entries.{own_list};
 

@@ -24,7 +24,7 @@ use std::alloc::{AllocError, Global};
 
 /// Packs the entries of characters, and pairs of characters that compose (second, first and result), into data. The
 /// same entries and pairs make the same data: lists are in the tables in the order in which characters first need
-/// them, an equal one once.
+/// them, equal ones once.
 ///
 /// # Errors
 /// `TableFull` if the lists have more items than the limit, 8,191; `Memory` if an allocation was refused.

@@ -67,7 +67,7 @@ fn stored_steps(alloc: Global, entries: &Entries<'_>) -> Result<Vec<[char; 2]>, 
     Ok(steps)
 }
 
-/// The store of lists of two, an equal one once.
+/// The store of lists of two, equal ones once.
 #[tactic(auto, unfolding(crate::specs::Stored::first_come))]
 fn store_of<'s>(alloc: Global, steps: &'s [[char; 2]]) -> Result<Store<'s>, AllocError>
     ensures { IfOk result (Holds (first_come steps.now)) }

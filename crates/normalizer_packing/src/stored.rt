@@ -13,7 +13,7 @@ use normalizer_tables::DecompositionTables;
 use std::alloc::{AllocError, Global};
 use std::collections::BTreeMap;
 
-/// Lists in two tables, an equal one once, and the place of each in its table.
+/// Lists in two tables, equal ones once, and the place of each in its table.
 #[derive(Drop)]
 pub struct Store<'a> {
     scalars16: Vec<u16>,
@@ -147,7 +147,7 @@ pub fn listed_of<'a>(entries: &Entries<'_>, kind: Kind, entry: &'a Entry) -> Opt
     }
 }
 
-/// Puts the lists of one kind of data that no word spells into a store, but for those in the one before.
+/// Puts the lists of one kind of data that no word spells into a store, except those in the one before.
 pub fn put_lists<'a>(
     entries: &Entries<'a>,
     kind: Kind,

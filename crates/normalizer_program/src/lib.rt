@@ -1,4 +1,4 @@
-//! The program `normtool` but for its standard streams: its words, its commands over a source and a target of bytes,
+//! The program `normtool` without its standard streams: its words, its commands over a source and a target of bytes,
 //! and how it ends.
 #![tactic(auto)]
 

@@ -1,4 +1,4 @@
-//! The program but for its streams: which command its words name, how it ends, and what it then prints.
+//! The program without its streams: which command its words name, how it ends, and what it then prints.
 ghost use Rattle.std.specs.Prelude.{◌≡◌, ◌≢◌, Result, map, string_bytes, IfErr, IsErrOf};
 ghost use Rattle.normalizer_program.specs.Endings.{EndsWith, IsUsage};
 ghost use Rattle.normalizer_program.specs.SetOutcome.{IsOutcomeOver};

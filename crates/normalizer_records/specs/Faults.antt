@@ -29,7 +29,7 @@ HasOrderFault records uts46 = ¬ (AreRising records × AreMapperRising uts46)
 
 -- Fixed
 
--- U+FFFD, the block Hangul Jamo, and the Hangul syllables
+-- U+FFFD, the block Hangul Jamo, and the Hangul syllables: no record may be of them
 unfoldable pub is_fixed : ℕ → Bool
 is_fixed c = (c == 0xFFFD) || is_in_range 0x1100 0x11FF c || is_hangul_syllable c
 
@@ -39,12 +39,12 @@ is_disallowed IsDisallowed = true
 is_disallowed IsIgnored = false
 is_disallowed (MapsTo mapping) = false
 
--- the mapper may speak of the two Hangul fillers, and disallow U+FFFD
+-- the mapper may have records of the two Hangul fillers, and disallow U+FFFD
 unfoldable pub is_fixed_for_mapper : MapperEntry → Bool
 is_fixed_for_mapper r =
     is_fixed r.c && not (is_in_range 0x115F 0x1160 r.c) && not ((r.c == 0xFFFD) && is_disallowed r.status)
 
--- some record is of a character that records may not speak of
+-- some record is of a fixed character
 unfoldable pub has_fixed_fault : List Entry → List MapperEntry → Bool
 has_fixed_fault records uts46 = list_any (λ r. is_fixed r.c) records || list_any is_fixed_for_mapper uts46
 
@@ -77,7 +77,7 @@ is_bad_status (MapsTo (m ∷ mapping)) = has_zero (m ∷ mapping)
 is_bad_status IsIgnored = false
 is_bad_status IsDisallowed = false
 
--- some record has a mapping that none may have
+-- some record has a bad mapping
 unfoldable pub has_mapping_fault : List Entry → List MapperEntry → Bool
 has_mapping_fault records uts46 = list_any is_bad_mapping records || list_any (λ r. is_bad_status r.status) uts46
 

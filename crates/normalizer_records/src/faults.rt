@@ -36,7 +36,7 @@ pub(crate) fn are_mapper_rising(uts46: &[Uts46Record]) -> bool
     uts46.is_sorted_by(|record, next| record.c < next.c)
 }
 
-/// Whether a record speaks of a character whose data are fixed.
+/// Whether a record is of a character whose data are fixed.
 #[tactic(auto, unfolding(crate::specs::Faults::has_fixed_fault))]
 pub(crate) fn has_fixed_fault(records: &[Record], uts46: &[Uts46Record]) -> bool
     ensures { result ≡ has_fixed_fault records.now uts46.now }
@@ -87,7 +87,7 @@ fn is_disallowed(status: &Uts46Status) -> bool
     }
 }
 
-/// Whether a mapping has a wrong length, or a character that it may not have.
+/// Whether a mapping has a wrong length, or a character that it must not have.
 #[tactic(auto, unfolding(crate::specs::Faults::has_mapping_fault))]
 pub(crate) fn has_mapping_fault(records: &[Record], uts46: &[Uts46Record]) -> bool
     ensures { result ≡ has_mapping_fault records.now uts46.now }

@@ -127,7 +127,7 @@ pub enum BuildError {
     /// A class of 255, a mark with a mapping, or a list that begins with a mark.
     #[error("a class of 255, or a list that begins with a mark")]
     Class,
-    /// A mapping that is too long or has a character that it may not have, or an empty one of the mapper's.
+    /// A mapping that is too long or has a character that it must not have, or an empty one of the mapper's.
     #[error("a mapping of a wrong length or with a character that it may not have")]
     Mapping,
     /// More than 16 records, each with the next one's character in its mapping.

@@ -9,7 +9,7 @@ pub enum Refusal {
     Fixed,
     /// A class of 255, a mark with a mapping, or a list that begins with a mark.
     Class,
-    /// A mapping of a wrong length, or with a character that it may not have.
+    /// A mapping of a wrong length, or with a character that it must not have.
     Mapping,
     /// More than 16 records, each with the next one's character in its mapping.
     Chain,

@@ -1,6 +1,6 @@
 //! The calls by their names.
 
-/// A call that may want memory.
+/// A call that may allocate.
 #[derive(Clone, Copy, Debug, PartialEq, Eq)]
 pub enum Call {
     Table,

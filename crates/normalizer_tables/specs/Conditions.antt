@@ -89,7 +89,7 @@ pub record IsSoundHangul (s : Characters) (n : ℕ) : Type 0 where
   pub syllable : is_hangul_syllable n ≡ true → word_of s n ≡ 1
   pub jamo : is_composing_jamo n ≡ true → IsPlainStarter s n
 
--- ordinary classes are 1 to 254, those of fixed lists are theirs, and class forms have BACKWARD_COMBINING
+-- ordinary classes are 1 to 254, those of special forms are of the fixed lists, and class forms have BACKWARD_COMBINING
 pub record IsSoundClassForm (n w : ℕ) : Type 0 where
   pub ordinary : is_ordinary_class_form w ≡ true → (0 < low_byte w) × (low_byte w < 255)
   pub special : is_special_class_form w ≡ true → option_map (λ f. f.class) (fixed_list_of n) ≡ Some (low_byte w)

@@ -2,7 +2,7 @@
 use Rattle.std.specs.Prelude.{ℕ, List, [], Option, Some, None}
 use Rattle.normalizer_tables.specs.Table.{Table}
 
--- decomposition data: the words, and below which number a composing loop may pass characters unseen
+-- decomposition data: the words, and the cap, below which a composing loop passes characters without looking at words
 pub record Decompositions : Type 0 where
   pub table : Table
   pub cap : ℕ

@@ -33,7 +33,7 @@ is_taken_to_round_trip s b n = not (is_non_round_trip (word_of s n)) || nat_lt n
 unfoldable pub is_taken_to_begin_safely : Characters → Bounds → ℕ → Bool
 is_taken_to_begin_safely s b n = not (is_backward_combining (word_of s n)) || nat_lt n b.composition
 
--- a composing loop passes n unseen: it lies below the bound, or has neither flag
+-- a composing loop passes n as it is: it lies below the bound, or has neither flag
 unfoldable pub is_passed : Characters → Bounds → ℕ → Bool
 is_passed s b n =
     nat_lt n b.composition || (not (is_non_round_trip (word_of s n)) && not (is_backward_combining (word_of s n)))
@@ -47,7 +47,7 @@ pub record HasSafeBeginning (s : Characters) (pairs : List Pair) (n : ℕ) : Typ
   pub begins : (reading_by s Dropped pairs).list n ≢ []
   pub safely : BeginsSafely (reading_by s Dropped pairs) ((reading_by s Dropped pairs).list n)
 
--- n keeps what a composing loop takes it for
+-- if a composing loop relies on it, the list of n composes to n
 unfoldable pub KeepsRoundTrip : Characters → Bounds → List Pair → ℕ → Type 0
 KeepsRoundTrip s b pairs n = IsScalar n → is_taken_to_round_trip s b n ≡ true → RoundTrips s pairs n
 

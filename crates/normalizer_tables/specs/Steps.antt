@@ -49,14 +49,14 @@ supplementary_step t n = step_by (supplementary_mapping t.scalars24 (word_at t.t
 unfoldable pub may_have_oxia : ℕ → Bool
 may_have_oxia n = is_in_range 0x1F71 0x1FFB n
 
--- a list of one or two members is the mapping itself, but for U+212B ANGSTROM SIGN, which maps to U+00C5
+-- a list of one or two members is the mapping itself, except for U+212B ANGSTROM SIGN, which maps to U+00C5
 unfoldable pub listed_step : Supplement → ℕ → List ℕ → Option Step
 listed_step t n x =
     if n == 0x212B then Some (Singleton 0x00C5)
     else if nat_le (length x) 2 then step_to x
     else supplementary_step t n
 
--- two characters are the mapping itself, but for characters with oxia
+-- two characters are the mapping itself, except for characters with oxia
 unfoldable pub two_characters_step : Characters → Supplement → ℕ → Option Step
 two_characters_step s t n = if may_have_oxia n then supplementary_step t n else step_by (list_read s [] n)
 

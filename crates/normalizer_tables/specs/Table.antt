@@ -19,7 +19,7 @@ word_at t n = slice_index_or t.words n t.past
 unfoldable pub code_points : ℕ
 code_points = 0x110000
 
--- a word once the bits of `flags` are taken away
+-- a word without the bits of `flags`
 unfoldable pub without_flags : ℕ → ℕ → ℕ
 without_flags flags word = bit_and word (bit_not w32 flags)
 

@@ -1,4 +1,4 @@
--- Characters that pass unseen: of which as much is known without a look at their words.
+-- Characters that pass unseen: what is known of them without looking up their words.
 use Rattle.std.specs.Prelude.{◌≡◌, ℕ, ◌<◌, false, List, [], ◌∷◌}
 use Rattle.std.specs.Char.{IsScalar}
 use Rattle.normalizer_tables.specs.Characters.{Characters, class_of, has_class_form, list_of}

@@ -68,7 +68,7 @@ impl Blocks {
         self.blocks.len()
     }
 
-    /// The least code point from a number on whose word isn't 0 once the bits of `flags` are taken away.
+    /// The least code point from a number on whose word, without the bits of `flags`, isn't 0.
     #[tactic(auto, unfolding(crate::specs::Table::without_flags))]
     pub(crate) fn next_with_word(&self, from: u32, flags: u32) -> Option<u32>
         ensures { (above : ℕ) → IsNextWithWord (record { words = self.now; past = above }) flags from result }

@@ -109,7 +109,7 @@ impl<'a> CharacterData<'a> {
         }
     }
 
-    /// Returns the same data, borrowed once more.
+    /// Returns the same data, borrowed again.
     pub fn copied(&self) -> CharacterData<'a>
         ensures { result ≡ self.now }
     {

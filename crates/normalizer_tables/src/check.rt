@@ -101,7 +101,7 @@ fn first_failing_at(data: &LoadedData<'_>, conditions: &[Condition], number: u32
     let word = characters.word_of_number(number);
     let mut asked = conditions.iter();
     let place = match char::from_u32(number) {
-        // It is read here, once for all conditions.
+        // It is read here for all conditions.
         Some(character) => {
             let read = read_by_word(characters, character, word);
             asked.position(|&condition| !is_met_at(data, condition, &read))

@@ -24,7 +24,7 @@ pub fn lists_are_full()
         (i : IgnoredCharacters) (pairing : ℕ → ℕ → Option ℕ) → HasFullLists (reading_of s (ignored_list i) pairing) }
 {}
 
-/// No list is empty, but for characters that the mapper drops.
+/// No list is empty, except those of characters that the mapper drops.
 pub fn lists_are_inhabited()
     ensures { (s : Characters) (i : IgnoredCharacters) (pairing : ℕ → ℕ → Option ℕ) →
         (s.is_mapper ≡ false) ⊎ (i ≡ Replaced) →

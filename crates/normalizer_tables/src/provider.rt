@@ -111,7 +111,7 @@ impl Model for DecompositionTables {
     ghost inverse = { λ t. record { scalars16 = t.scalars16; scalars24 = t.scalars24 } };
 }
 
-/// What single decomposition steps need beside the words.
+/// What single decomposition steps need besides the words.
 #[derive(Drop, Clone, PartialEq, Eq)]
 pub struct NonRecursiveDecompositionSupplement {
     /// The words of the characters that need them.

@@ -109,7 +109,7 @@ impl CodePointTable {
     }
 }
 
-/// Returns how many blocks of 64 code points a table keeps, equal ones once.
+/// Returns how many blocks of 64 code points a table keeps, equal ones counted once.
 pub fn block_count(table: &CodePointTable) -> usize
     ensures { result ≡ block_count table.now }
 {

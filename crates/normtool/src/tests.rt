@@ -96,7 +96,7 @@ fn endings(rt: HostRuntime) {
     assert!(rt; ends_with(Err(ToolFault::Data), 2, "normtool: data"));
 }
 
-/// Whether a run writes this to a page with so much room, and ends with this status and this line.
+/// Whether a run writes this to a page with this much room, and ends with this status and this line.
 fn is_run<P: CommandData>(
     alloc: Global,
     provider: &P,
@@ -314,7 +314,7 @@ fn nothing_is_written_where_a_read_is_refused(rt: HostRuntime) {
 
 const OUTPUT: &[u8] = b"e\xCC\xA3\xCC\x82a\xCC\x88";
 
-/// Whether a target with so much room holds the beginning of the output, after a refusal if the room is too small.
+/// Whether a target with this much room holds the beginning of the output, after a refusal if the room is too small.
 fn has_beginning(alloc: Global, data: &Built, room: usize) -> bool {
     let output = &OUTPUT[..room.min(OUTPUT.len())];
     let end = if output.len() < OUTPUT.len() {

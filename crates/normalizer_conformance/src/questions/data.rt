@@ -60,7 +60,7 @@ fn is_word_of_unit(table: &CodePointTable, number: u32, word: u32) -> bool {
     }
 }
 
-/// The number below which a loop that composes may pass every character unseen.
+/// The number below which a loop that composes may pass every character without looking up its word.
 pub fn cap(alloc: Global, setting: &mut Setting<'_>, question: &[&str]) -> Result<String, Fault> {
     let [kind] = question else {
         return Err(Fault::Unreadable);

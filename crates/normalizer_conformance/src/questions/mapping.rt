@@ -1,5 +1,5 @@
 //! `map 0041 0308 = 00E4`: a text as the mapper maps and normalizes it. `validate 180B = FFFD`: the same with U+FFFD
-//! for each ignored character. `virama 094D = yes`: whether the mapper takes a character for a virama.
+//! for each ignored character. `virama 094D = yes`: whether a character is a virama for the mapper.
 use crate::fault::Fault;
 use crate::held::Held;
 use crate::input::text;
@@ -48,7 +48,7 @@ fn validated(alloc: Global, mapper: &Uts46Mapper, question: &[&str]) -> Result<S
     spelled_all(alloc, &collected(alloc, items)?)
 }
 
-/// Whether the mapper takes a character for a virama.
+/// Whether a character is a virama for the mapper.
 fn is_virama(alloc: Global, mapper: &Uts46Mapper, question: &[&str]) -> Result<String, Fault> {
     let [digits] = question else {
         return Err(Fault::Unreadable);

@@ -34,7 +34,7 @@ with_list lists x = if is_among x lists then lists else lists ++ x ∷ []
 abbrev pub HoldsMore : Store → List ℕ → Store → Type 0
 HoldsMore old x new = (lists : List (List ℕ)) → Holds lists old → Holds (with_list lists x) new
 
--- if the store before held lists, and this one others, it then holds more, but for those of the store before
+-- if the store before held lists, and this one others, it then holds more, except those of the store before
 abbrev pub HoldsLists : Store → Store → List (List ℕ) → Store → Type 0
 HoldsLists first old more new =
     (before lists : List (List ℕ)) → Holds (first_come before) first →

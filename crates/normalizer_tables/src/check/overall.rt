@@ -41,7 +41,7 @@ fn items_fit(data: &CharacterData<'_>) -> bool
     }
 }
 
-/// How many items have room beside those of these tables.
+/// How many more items there is room for.
 fn room_after(room: usize, tables: &DecompositionTables) -> Option<usize>
     ensures { SomeIff result (item_count tables.now ≤ room) (room - item_count tables.now) }
 {
