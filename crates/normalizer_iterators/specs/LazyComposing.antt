@@ -28,7 +28,7 @@ pub record StandsApart (has_class_form : ℕ → Bool) (d : Reading) (c : ℕ) :
   pub safely : (first : ℕ) (others : List ℕ) → d.list c ≡ first ∷ others → IsStarter d first
       × ((a r : ℕ) → d.pair a first ≢ Some r)
 
--- the same by data and pairs
+-- the same over data and pairs
 abbrev pub StandsApartIn : Characters → List Pair → IgnoredCharacters → ℕ → Type 0
 StandsApartIn s pairs ignored = StandsApart (has_class_form s) (reading_by s ignored pairs)
 

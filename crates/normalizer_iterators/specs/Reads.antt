@@ -13,5 +13,6 @@ character_of (Some read) = Some read.character
 abbrev pub HasOwnWord : Characters → ReadCharacter → Type 0
 HasOwnWord s r = ForSome r.word (λ w. w ≡ word_of s r.character)
 
+-- a character that was read, if one was, has its word
 abbrev pub HasOwnWords : Characters → Option ReadCharacter → Type 0
 HasOwnWords s read = ForSome read (HasOwnWord s)

@@ -23,6 +23,7 @@ abbrev pub MayPassIf : List CharacterEntry → List Pair → ℕ → Option (Lis
 MayPassIf entries pairs n None = ⊥
 MayPassIf entries pairs n (Some x) = MayPassWith entries pairs n x
 
+-- the same by the list that entries have of n
 unfoldable pub MayPass : Kind → List CharacterEntry → List Pair → ℕ → Type 0
 MayPass kind entries pairs n = MayPassIf entries pairs n (list_in kind entries n)
 

@@ -5,6 +5,7 @@ use Rattle.normal_forms.specs.Composition.{compose}
 use Rattle.normalizer_tables.specs.Pairs.{Pair, IsNeverSecond}
 use Rattle.normalizer_tables.specs.Words.{is_non_round_trip, is_backward_combining, is_class_form}
 
+-- a word without bits 30 and 31
 unfoldable pub without_flags : ℕ → ℕ
 without_flags w = bit_and w 0x3FFFFFFF
 

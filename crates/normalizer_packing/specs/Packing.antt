@@ -45,6 +45,7 @@ pub record ArePackable (entries : List CharacterEntry) : Type 0 where
   pub rising : AreRising entries
   pub lengths : (kind : Kind) → All HasLengthOfWord (listed_in entries kind)
 
+-- the data pack these entries and pairs
 pub record Packs (entries : List CharacterEntry) (pairs : List Pair) (p : Packed) : Type 0 where
   pub canonical : PacksKind Canonical entries pairs p.canonical
   pub compatibility : PacksKind Compatibility entries pairs p.compatibility

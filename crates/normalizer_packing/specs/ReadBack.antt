@@ -19,6 +19,7 @@ use Rattle.normalizer_packing.specs.Entries.{CharacterEntry, class_in, reading_o
 use Rattle.normalizer_packing.specs.Spelling.{has_fixed_list, list_eq}
 use Rattle.normalizer_packing.specs.Stored.{has_marks_behind}
 
+-- the decomposition data of one kind
 abbrev pub decompositions_of : Packed → Kind → Decompositions
 decompositions_of p Canonical = p.canonical
 decompositions_of p Compatibility = p.compatibility
@@ -30,6 +31,7 @@ supplementary_of p Canonical = None
 supplementary_of p Compatibility = Some p.supplementary_tables
 supplementary_of p Mapper = Some p.supplementary_tables
 
+-- the kind is the mapper's
 abbrev pub is_mappers : Kind → Bool
 is_mappers Canonical = false
 is_mappers Compatibility = false

@@ -39,9 +39,11 @@ spells_two class n a b =
     nat_lt a 0x8000 && (nat_lt b 0x8000 && (nat_lt 0 (class b) && (not (n == 0x212B)
     && (not (has_high_zeros (a + b * 0x8000)) && not (has_low_zeros (a + b * 0x8000))))))
 
+-- a list of one character is spelled if it fits into 16 bits; 1 is the form of U+FDFA
 abbrev pub spelling_of_one : ℕ → Spelling
 spelling_of_one a = if nat_le a 0xFFFF && not (a == 1) then Short a else Listed
 
+-- a list of two characters is spelled in 15 bits each, if that is no other form of word
 abbrev pub spelling_of_two : (ℕ → ℕ) → ℕ → ℕ → ℕ → Spelling
 spelling_of_two class n a b = if spells_two class n a b then Short (a + b * 0x8000) else Listed
 

@@ -31,6 +31,7 @@ listed_of class kind e = elim (spelling class e.character (own_list kind e)) [
 unfoldable pub listed_in : List CharacterEntry → Kind → List (List ℕ)
 listed_in entries kind = filter_map (listed_of (class_in entries) kind) entries
 
+-- the list is one of the lists
 unfoldable pub is_among : List ℕ → List (List ℕ) → Bool
 is_among x lists = list_any (list_eq x) lists
 
@@ -48,6 +49,7 @@ apart_from before lists = filter (λ x. not (is_among x before)) lists
 unfoldable pub canonical_lists : List CharacterEntry → List (List ℕ)
 canonical_lists entries = first_come (listed_in entries Canonical)
 
+-- the lists that compatibility data and the mapper's need besides those of canonical data, equal ones once
 unfoldable pub supplementary_lists : List CharacterEntry → List (List ℕ)
 supplementary_lists entries =
     apart_from (listed_in entries Canonical) (first_come (listed_in entries Compatibility ++ listed_in entries Mapper))
@@ -61,6 +63,7 @@ stands_in false x = not (is_narrow x)
 unfoldable pub items_of : Bool → List (List ℕ) → List ℕ
 items_of narrow lists = concat (filter (stands_in narrow) lists)
 
+-- the two tables of lists
 abbrev pub tables_of : List (List ℕ) → Lists
 tables_of lists = record { scalars16 = items_of true lists; scalars24 = items_of false lists }
 
@@ -77,6 +80,7 @@ needed_items entries =
 unfoldable pub item_at : Lists → List ℕ → ℕ → ℕ
 item_at t x place = if is_narrow x then place else length t.scalars16 + place
 
+-- the first item of a list in the two tables of these lists, put one after the other
 abbrev pub item_in : List (List ℕ) → List ℕ → ℕ
 item_in lists x = item_at (tables_of lists) x (place_of lists x)
 

@@ -34,6 +34,7 @@ pub record Held : Type 0 where
   pub forms : HeldForForms
   pub mapper : Result MapperData DataMarkerInfo
 
+-- what the loads for the four forms hold, by what each marker holds
 abbrev pub held_for_forms : (nfd : Option Decompositions) (tables : Option Lists) (nfkd : Option Decompositions)
     (supplementary : Option Lists) (pairs : Option (List Pair)) → HeldForForms
 held_for_forms nfd tables nfkd supplementary pairs = record {
@@ -42,6 +43,7 @@ held_for_forms nfd tables nfkd supplementary pairs = record {
   pairs = pairs;
 }
 
+-- what all loads hold, by what each marker holds
 abbrev pub held_for_all : (nfd : Option Decompositions) (tables : Option Lists) (nfkd : Option Decompositions)
     (supplementary : Option Lists) (pairs : Option (List Pair)) (uts46 : Option Decompositions) → Held
 held_for_all nfd tables nfkd supplementary pairs uts46 = record {

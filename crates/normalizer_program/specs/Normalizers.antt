@@ -19,6 +19,7 @@ abbrev pub kind_by : Normalizer → Form
 kind_by (normalizer.Decomposing n) = Decomposing
 kind_by (normalizer.Composing n) = Composing
 
+-- the reading by which it makes its form
 abbrev pub reading_of : Normalizer → Reading
 reading_of (normalizer.Decomposing n) = reading_by (data_of n) Dropped []
 reading_of (normalizer.Composing n) = reading_by (composing_data_of n) Dropped (pairs_of n)

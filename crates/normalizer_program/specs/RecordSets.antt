@@ -14,6 +14,7 @@ abbrev pub records_of : RecordSet → List Entry
 records_of Rows = map (λ row. entry_of row.0 row.1 row.2.now row.3) ROWS
 records_of Nothing = []
 
+-- the records of the mapper in a record set
 abbrev pub mapper_records_of : RecordSet → List MapperEntry
 mapper_records_of Rows = map (λ row. mapper_entry_of row.0 row.1.now row.2) MAPPER_ROWS
 mapper_records_of Nothing = []

@@ -14,6 +14,7 @@ use Rattle.normalizer_tables.specs.Refusals.{RefusesFirstFailing}
 abbrev pub StepData : Type 0
 StepData = Characters × Supplement
 
+-- canonical data with their tables and the supplement, by their parts
 abbrev pub steps_from : Decompositions → Lists → Supplement → StepData
 steps_from decompositions tables supplement = (characters_from decompositions tables None, supplement)
 

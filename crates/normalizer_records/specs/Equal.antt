@@ -4,6 +4,7 @@ use Rattle.std.specs.Bool.{beq}
 use Rattle.std.specs.Cmp.Lexicographic.{pointwise}
 use Rattle.normalizer_records.specs.Entry.{Entry, Status, MapsTo, IsIgnored, IsDisallowed, MapperEntry}
 
+-- two records are equal in all fields
 abbrev pub entry_eq : Entry → Entry → Bool
 entry_eq r s =
     (r.c == s.c) && ((r.class == s.class) && (pointwise nat_eq r.mapping s.mapping
@@ -16,5 +17,6 @@ status_eq IsIgnored IsIgnored = true
 status_eq IsDisallowed IsDisallowed = true
 status_eq _ _ = false
 
+-- two records of the mapper are equal in all fields
 abbrev pub mapper_entry_eq : MapperEntry → MapperEntry → Bool
 mapper_entry_eq r s = (r.c == s.c) && status_eq r.status s.status

@@ -3,6 +3,7 @@ use Rattle.normalizer_records.specs.declared.records.Uts46Status.{Uts46Status}
 use Rattle.normalizer_records.specs.declared.records.Uts46Status.TheVariants.{Mapped, Ignored, Disallowed}
 use Rattle.normalizer_records.specs.Entry.{Status, MapsTo, IsIgnored, IsDisallowed}
 
+-- the status that a record of the mapper states
 abbrev pub status_of : Uts46Status → Status
 status_of (Mapped mapping) = MapsTo mapping.items
 status_of Ignored = IsIgnored

@@ -6,12 +6,14 @@ use Rattle.normalizer_rows.specs.declared.row.Kind.TheVariants.{Unmapped, Canoni
 use Rattle.normalizer_rows.specs.declared.row.Treatment.{Treatment}
 use Rattle.normalizer_rows.specs.declared.row.Treatment.TheVariants.{Mapped, Ignored, Disallowed}
 
+-- the mapping is a compatibility mapping
 abbrev pub is_compatibility : Kind → Bool
 is_compatibility Unmapped = false
 is_compatibility Canonical = false
 is_compatibility Excluded = false
 is_compatibility Compatibility = true
 
+-- the pair is excluded from composition
 abbrev pub is_excluded : Kind → Bool
 is_excluded Unmapped = false
 is_excluded Canonical = false
@@ -28,6 +30,7 @@ entry_of c class mapping kind = record {
   excluded = is_excluded kind;
 }
 
+-- what the mapper does, by the columns of a row
 abbrev pub status_of : List ℕ → Treatment → Status
 status_of mapping Mapped = MapsTo mapping
 status_of mapping Ignored = IsIgnored

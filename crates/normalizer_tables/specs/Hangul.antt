@@ -2,13 +2,15 @@
 use Rattle.std.specs.Prelude.{ℕ, ◌+◌, ◌-◌, ◌/◌, ◌%◌, Bool, ◌==◌, List, [], ◌∷◌, if◌then◌else◌}
 use Rattle.std.specs.Int.{is_in_range}
 
--- SBase, LBase and VBase: the first syllable, leading consonant and vowel (section 3.12)
+-- SBase, the first syllable
 abbrev pub s_base : ℕ
 s_base = 0xAC00
 
+-- LBase, the first leading consonant
 abbrev pub l_base : ℕ
 l_base = 0x1100
 
+-- VBase, the first vowel
 abbrev pub v_base : ℕ
 v_base = 0x1161
 

@@ -7,6 +7,7 @@ pub record FixedList : Type 0 where
   pub class : ℕ
   pub member_classes : List ℕ
 
+-- a fixed list with the class of the character and the classes of the members
 abbrev pub fixed : List ℕ → ℕ → List ℕ → Option FixedList
 fixed members k ks = Some (record { list = members; class = k; member_classes = ks })
 
