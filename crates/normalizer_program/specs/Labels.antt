@@ -10,7 +10,7 @@ use Rattle.normalizer_program.specs.declared.ending.Answer.{Answer}
 use Rattle.normalizer_program.specs.declared.ending.Answer.TheVariants.{Done}
 use Rattle.normalizer_program.specs.OffenceLines.{line_feed}
 
--- the mapping of a text, which drops ignored characters
+-- the mapping of a text (UTS #46, section 4, Map and Normalize), which drops ignored characters
 abbrev pub mapped : MapperData → List ℕ → List ℕ
 mapped h x = nfc (reading_by h.0 Dropped h.1) x
 
