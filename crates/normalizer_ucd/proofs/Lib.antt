@@ -1,2 +1,3 @@
 pub mod Cuts
 pub mod Loop
+pub mod Ranges

@@ -11,6 +11,7 @@ use thiserror::Error;
 pub enum UcdFile {
     UnicodeData,
     CompositionExclusions,
+    IdnaMappingTable,
 }
 
 impl fmt::Display for UcdFile {
@@ -18,6 +19,7 @@ impl fmt::Display for UcdFile {
         f.write_str(match self {
             UcdFile::UnicodeData => "UnicodeData.txt",
             UcdFile::CompositionExclusions => "CompositionExclusions.txt",
+            UcdFile::IdnaMappingTable => "IdnaMappingTable.txt",
         })
     }
 }
@@ -55,8 +57,10 @@ pub enum Problem {
     CodePoint,
     #[error("the canonical combining class is not a number from 0 to 254")]
     Class,
-    #[error("the decomposition mapping is not a list of characters, after a tag or without one")]
+    #[error("the mapping is not a list of characters")]
     Mapping,
+    #[error("the status is not one of Unicode Technical Standard #46")]
+    Status,
     #[error("the code points don't strictly rise")]
     Order,
     /// The first line of a range has no last line right after it, or the last has no first right before it.

@@ -3,8 +3,10 @@
 
 mod error;
 mod exclusions;
+mod idna_table;
 mod text;
 mod unicode_data;
 
 pub use error::{LineFault, Place, Problem, UcdError, UcdFile};
+pub use idna_table::{Disallowed, uts46_records_of_idna_table};
 pub use unicode_data::records_of_unicode_data;

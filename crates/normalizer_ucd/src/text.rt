@@ -46,6 +46,13 @@ fn cut(text: &[u8], at: u8) -> (&[u8], Option<&[u8]>)
     }
 }
 
+/// What is before the first of a byte.
+pub(crate) fn before_first(text: &[u8], at: u8) -> &[u8]
+    ensures { result.now ≡ before_first (λ b. b == at) text.now }
+{
+    cut(text, at).0
+}
+
 /// What is after the first of a byte.
 pub(crate) fn after_first(text: &[u8], at: u8) -> &[u8]
     ensures { result.now ≡ after_first (λ b. b == at) text.now }

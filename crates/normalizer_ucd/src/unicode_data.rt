@@ -176,7 +176,7 @@ fn entry_of(
     }))
 }
 
-fn field_of(place: Place, line: &[u8], number: usize) -> Result<&[u8], UcdError>
+pub(crate) fn field_of(place: Place, line: &[u8], number: usize) -> Result<&[u8], UcdError>
     ensures { Gives (λ text. text.now) result (field_of place line.now number) }
 {
     Ok(field(line, number).ok_or(place.fault(Problem::MissingField))?)

@@ -1,9 +1,10 @@
-//! Writes the records of files of the Unicode Character Database, or why they were refused. Each argument names two
-//! files, as `UnicodeData.txt+CompositionExclusions.txt`.
+//! Writes the records that files of the Unicode Character Database give, or why they were refused. An argument names two
+//! files, as `UnicodeData.txt+CompositionExclusions.txt`, or a table of IDNA and the most code points of a disallowed range
+//! that is recorded, as `IdnaMappingTable.txt@9` or `IdnaMappingTable.txt@all`.
 #![tactic(auto)]
 
-use normalizer_records::Record;
-use normalizer_ucd::records_of_unicode_data;
+use normalizer_records::{Record, Uts46Record, Uts46Status};
+use normalizer_ucd::{Disallowed, records_of_unicode_data, uts46_records_of_idna_table};
 use std::process::ExitCode;
 use std::{env, fs, io};
 
@@ -19,6 +20,9 @@ fn write_all(rt: &HostRuntime) -> io::Result<()> {
         println!(rt; "{files}")?;
         if let Some((unicode_data, exclusions)) = files.as_str().split_once('+') {
             write_records(rt, unicode_data, exclusions)?;
+        }
+        if let Some((table, most)) = files.as_str().split_once('@') {
+            write_mapper_records(rt, table, most)?;
         }
     }
     Ok(())
@@ -49,6 +53,40 @@ fn write_record(rt: &HostRuntime, record: &Record) -> io::Result<()> {
     }
     if record.excluded {
         print!(rt; " excluded")?;
+    }
+    println!(rt; "")?;
+    Ok(())
+}
+
+fn write_mapper_records(rt: &HostRuntime, table: &str, most: &str) -> io::Result<()> {
+    let table = fs::read(rt, table)?;
+    let disallowed = match most.parse::<u32>() {
+        Ok(most) => Disallowed::RangesUpTo(most),
+        Err(_) => Disallowed::All,
+    };
+    match uts46_records_of_idna_table(rt.alloc(), &table, disallowed) {
+        Ok(records) => {
+            for record in &records {
+                write_mapper_record(rt, record)?;
+            }
+        }
+        Err(error) => println!(rt; "{error}")?,
+    }
+    Ok(())
+}
+
+/// Writes a record of a mapper: the character, its status, and what it is mapped to.
+fn write_mapper_record(rt: &HostRuntime, record: &Uts46Record) -> io::Result<()> {
+    print!(rt; "{:04X}", record.c as u32)?;
+    match &record.status {
+        Uts46Status::Mapped(mapping) => {
+            print!(rt; " mapped")?;
+            for c in mapping {
+                print!(rt; " {:04X}", *c as u32)?;
+            }
+        }
+        Uts46Status::Ignored => print!(rt; " ignored")?,
+        Uts46Status::Disallowed => print!(rt; " disallowed")?,
     }
     println!(rt; "")?;
     Ok(())

@@ -1,0 +1,10 @@
+use Rattle.std.proofs.Common.{◌≡◌, ◌++◌}
+use Rattle.std.specs.List.{flat_map}
+use Rattle.normalizer_ucd.specs.IdnaTable.{entries_at, entries_of}
+use Rattle.normalizer_ucd.proofs.Ranges.{numbers}
+use Rattle.normalizer_ucd.proofs.idna_table.push_records.Given as goal
+
+abbrev pub invariant-loop-code : goal.invariant-loop-code
+invariant-loop-code l =
+    l.records.items ++ flat_map (entries_at l.range.status) (numbers l.code l.code-end)
+    ≡ l.initial.records.items ++ entries_of l.range

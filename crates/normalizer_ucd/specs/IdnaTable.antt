@@ -1,0 +1,138 @@
+-- IdnaMappingTable.txt: what is done with the characters of each range (Unicode Technical Standard #46, section 5).
+use Rattle.std.specs.Prelude.{ℕ, ◌+◌, ◌-◌, ◌==◌, nat_lt, Bool, true, List, [], ◌∷◌, length, codes}
+use Rattle.std.specs.Prelude.{Option, Some, None, Result, Ok, Err, if◌then◌else◌}
+use Rattle.std.specs.Str.{bytes_eq}
+use Rattle.std.specs.Option.{ok_or, option_map}
+use Rattle.std.specs.List.{flat_map, list_any, before_first, after_first, range_with_len}
+use Rattle.normalizer_records.specs.Entry.{MapperEntry, Status, MapsTo, IsIgnored, IsDisallowed}
+use Rattle.normalizer_ucd.specs.declared.error.LineFault.{LineFault}
+use Rattle.normalizer_ucd.specs.declared.error.Place.{Place}
+use Rattle.normalizer_ucd.specs.declared.error.Problem.TheVariants as problems
+use Rattle.normalizer_ucd.specs.declared.error.UcdFile.TheVariants as files
+use Rattle.normalizer_ucd.specs.declared.idna_table.Disallowed.{Disallowed}
+use Rattle.normalizer_ucd.specs.declared.idna_table.Disallowed.TheVariants as choices
+use Rattle.normalizer_ucd.specs.declared.idna_table.StatusName.{StatusName}
+use Rattle.normalizer_ucd.specs.declared.idna_table.StatusName.TheVariants as names
+use Rattle.normalizer_ucd.specs.Reading.{◌>>=◌, fault, read_each}
+use Rattle.normalizer_ucd.specs.Fields.{lines, data_of, code_point, is_scalar_value, characters}
+use Rattle.normalizer_ucd.specs.UnicodeData.{field_of}
+
+abbrev pub place : ℕ → Place
+place n = record { file = files.IdnaMappingTable; line = n }
+
+abbrev pub has_stop : List ℕ → Bool
+has_stop text = list_any (λ b. b == 0x2E) text
+
+abbrev pub before_stop : List ℕ → List ℕ
+before_stop text = before_first (λ b. b == 0x2E) text
+
+abbrev pub after_stop : List ℕ → List ℕ
+after_stop text = after_first (λ b. b == 0x2E) text
+
+-- what is after two full stops side by side
+abbrev pub after_stops : List ℕ → List ℕ
+after_stops text = if length (before_stop (after_stop text)) == 0 then after_stop (after_stop text) else []
+
+-- one code point is its own range
+abbrev pub last_text : List ℕ → List ℕ
+last_text text = if has_stop text then after_stops text else text
+
+-- field 0: the first code point of the range
+abbrev pub first_of : Place → List ℕ → Result ℕ LineFault
+first_of at line = do
+  text ← field_of at line 0
+  ok_or (code_point (before_stop text)) (fault at problems.CodePoint)
+
+-- and the last
+abbrev pub last_of : Place → List ℕ → Result ℕ LineFault
+last_of at line = do
+  text ← field_of at line 0
+  ok_or (code_point (last_text text)) (fault at problems.CodePoint)
+
+-- the words for a status; those with STD3 are of versions up to 15.0
+unfoldable pub status_named : List ℕ → Option StatusName
+status_named text =
+    if bytes_eq text (codes "valid") then Some names.Valid
+    else if bytes_eq text (codes "deviation") then Some names.Valid
+    else if bytes_eq text (codes "disallowed_STD3_valid") then Some names.Valid
+    else if bytes_eq text (codes "ignored") then Some names.Ignored
+    else if bytes_eq text (codes "mapped") then Some names.Mapped
+    else if bytes_eq text (codes "disallowed_STD3_mapped") then Some names.Mapped
+    else if bytes_eq text (codes "disallowed") then Some names.Disallowed
+    else None
+
+-- field 1
+abbrev pub name_of : Place → List ℕ → Result StatusName LineFault
+name_of at line = do
+  text ← field_of at line 1
+  ok_or (status_named text) (fault at problems.Status)
+
+-- field 2
+abbrev pub mapping_of : Place → List ℕ → Result (List ℕ) LineFault
+mapping_of at line = do
+  text ← field_of at line 2
+  characters (fault at problems.Mapping) text
+
+-- whether the disallowed characters of a range are recorded
+abbrev pub is_kept : Disallowed → ℕ → ℕ → Bool
+is_kept choices.All first last = true
+is_kept (choices.RangesUpTo most) first last = nat_lt (last - first) most
+
+-- what is done with the characters of a range; nothing with valid ones
+unfoldable pub status_of : Disallowed → Place → List ℕ → ℕ → ℕ → StatusName → Result (Option Status) LineFault
+status_of choice at line first last names.Valid = Ok None
+status_of choice at line first last names.Ignored = Ok (Some IsIgnored)
+status_of choice at line first last names.Disallowed =
+    Ok (if is_kept choice first last then Some IsDisallowed else None)
+status_of choice at line first last names.Mapped = do
+  mapping ← mapping_of at line
+  Ok (Some (MapsTo mapping))
+
+-- the code points from first on, before end, and what is done with them
+pub record RangeStatus : Type 0 where
+  pub first : ℕ
+  pub end : ℕ
+  pub status : Status
+
+abbrev pub range_status : ℕ → ℕ → Option Status → Option RangeStatus
+range_status first end status = option_map (λ s. record { first = first; end = end; status = s }) status
+
+-- the end of a range, if it isn't empty and comes after the ranges before it
+abbrev pub end_of : Place → ℕ → ℕ → ℕ → Result ℕ LineFault
+end_of at next first last =
+    if nat_lt first next then Err (fault at problems.Order)
+    else if nat_lt last first then Err (fault at problems.Order)
+    else Ok (last + 1)
+
+unfoldable pub read_fields : Disallowed → Place → ℕ → List ℕ → Result (ℕ × Option RangeStatus) LineFault
+read_fields choice at next line = do
+  first ← first_of at line
+  last ← last_of at line
+  end ← end_of at next first last
+  name ← name_of at line
+  status ← status_of choice at line first last name
+  Ok (end, range_status first end status)
+
+-- a line without data says nothing
+unfoldable pub read_line : Disallowed → ℕ → ℕ → List ℕ → Result (ℕ × Option RangeStatus) LineFault
+read_line choice n next line =
+    if length (data_of line) == 0 then Ok (next, None) else read_fields choice (place n) next (data_of line)
+
+unfoldable pub ranges_in : Disallowed → List (List ℕ) → Result (List RangeStatus) LineFault
+ranges_in choice parts = do
+  read ← read_each (read_line choice) 1 0 parts
+  Ok read.1
+
+-- a surrogate is no character
+abbrev pub entries_at : Status → ℕ → List MapperEntry
+entries_at status c = if is_scalar_value c then record { c = c; status = status } ∷ [] else []
+
+-- a record for each character of a range
+unfoldable pub entries_of : RangeStatus → List MapperEntry
+entries_of r = flat_map (entries_at r.status) (range_with_len r.first (r.end - r.first))
+
+-- the records that the table gives
+unfoldable pub uts46_records_of : Disallowed → List ℕ → Result (List MapperEntry) LineFault
+uts46_records_of choice table = do
+  ranges ← ranges_in choice (lines table)
+  Ok (flat_map entries_of ranges)

@@ -1,0 +1,355 @@
+//! IdnaMappingTable.txt.
+ghost use Rattle.std.specs.Prelude.{◌≡◌, ◌++◌, ◌==◌, ◌≤◌, map, OnOk, IfOk};
+ghost use Rattle.std.specs.Str.{bytes_eq};
+ghost use Rattle.std.specs.Option.{option_map};
+ghost use Rattle.std.specs.List.{flat_map, list_any};
+ghost use Rattle.normalizer_records.specs.Statuses.{status_of as status_of_record};
+ghost use Rattle.normalizer_ucd.specs.IdnaTable.{
+  after_stops,
+  end_of,
+  entries_at,
+  entries_of,
+  first_of,
+  is_kept,
+  last_of,
+  last_text,
+  mapping_of,
+  name_of,
+  place,
+  range_status,
+  ranges_in,
+  read_fields,
+  read_line,
+  status_named,
+  status_of,
+  uts46_records_of,
+};
+ghost use Rattle.normalizer_ucd.specs.Reading.{Gives};
+
+use crate::error::{Place, Problem, UcdError, UcdFile};
+use crate::text::{after_first, before_first, characters, code_point, data_of, push_found, split};
+use crate::unicode_data::field_of;
+use normalizer_records::{Uts46Record, Uts46Status};
+use std::alloc::{AllocError, Global};
+use std::marker::Model;
+
+/// Which disallowed characters get a record. A version of Unicode disallows some 940,000 characters, most of them
+/// unassigned or for private use.
+#[derive(Clone, Copy, PartialEq, Eq, Debug)]
+pub enum Disallowed {
+    /// All of them.
+    All,
+    /// Those of the ranges of the table that have at most so many code points. The others get no record, so a mapper
+    /// leaves them as they are. Most unassigned and private-use code points are in long ranges.
+    RangesUpTo(u32),
+}
+
+/// What the table does with a range.
+#[derive(Clone, Copy)]
+enum StatusName {
+    Valid,
+    Ignored,
+    Mapped,
+    Disallowed,
+}
+
+/// The code points from the first on, before the end, and what is done with them.
+#[derive(Drop)]
+struct RangeStatus {
+    first: u32,
+    end: u32,
+    status: Uts46Status,
+}
+
+impl Model for RangeStatus {
+    ghost use Rattle.normalizer_ucd.specs.IdnaTable.{RangeStatus};
+
+    ghost Value = { RangeStatus };
+
+    ghost use Rattle.normalizer_records.specs.Statuses.{status_of};
+
+    ghost view = { λ r. record { first = r.first; end = r.end; status = status_of r.status } };
+}
+
+/// Returns the records for a mapper that `IdnaMappingTable.txt` gives (Unicode Technical Standard #46, section 5). They
+/// rise by character. Valid characters and deviations get none, nor do code points that no line has; `@missing` lines are
+/// comments. `disallowed_STD3_valid` is read as `valid`, and `disallowed_STD3_mapped` as `mapped`. Fields after the mapping
+/// aren't read.
+///
+/// # Errors
+/// The first line that is wrong, or `Memory`.
+#[tactic(auto, unfolding(crate::specs::IdnaTable::uts46_records_of))]
+pub fn uts46_records_of_idna_table(
+    alloc: Global,
+    table: &[u8],
+    disallowed: Disallowed,
+) -> Result<Vec<Uts46Record>, UcdError>
+    ensures { Gives (λ v. v.items) result (uts46_records_of disallowed table.now) }
+{
+    let lines = split(alloc, table, b'\n')?;
+    let ranges = ranges_in(alloc, disallowed, &lines)?;
+    Ok(records_of(alloc, &ranges)?)
+}
+
+/// A record for each character of the ranges.
+fn records_of(alloc: Global, ranges: &[RangeStatus]) -> Result<Vec<Uts46Record>, AllocError>
+    ensures { IfOk result (λ v. v.items ≡ flat_map entries_of ranges.now) }
+{
+    let mut records = Vec::new(alloc);
+    for range in ranges {
+        push_records(alloc, &mut records, range)?;
+    }
+    Ok(records)
+}
+
+#[tactic(auto, unfolding(crate::specs::IdnaTable::entries_of))]
+fn push_records(
+    alloc: Global,
+    records: &mut Vec<Uts46Record>,
+    range: &RangeStatus,
+) -> Result<(), AllocError>
+    ensures { OnOk result (records.new.items ≡ records.old.items ++ entries_of range.now) }
+{
+    for code in range.first..range.end {
+        push_record(alloc, records, code, &range.status)?;
+    }
+    Ok(())
+}
+
+/// Adds the record of a character; a surrogate is none.
+fn push_record(
+    alloc: Global,
+    records: &mut Vec<Uts46Record>,
+    code: u32,
+    status: &Uts46Status,
+) -> Result<(), AllocError>
+    ensures { OnOk result (records.new.items ≡ records.old.items ++ entries_at (status_of_record status.now) code) }
+{
+    if let Some(c) = char::from_u32(code) {
+        let status = copied(alloc, status)?;
+        records.push(Uts46Record { c, status })?;
+    }
+    Ok(())
+}
+
+fn copied(alloc: Global, status: &Uts46Status) -> Result<Uts46Status, AllocError>
+    ensures { IfOk result (λ s. status_of_record s ≡ status_of_record status.now) }
+{
+    match status {
+        Uts46Status::Mapped(mapping) => Ok(Uts46Status::Mapped(mapping.to_vec(alloc)?)),
+        Uts46Status::Ignored => Ok(Uts46Status::Ignored),
+        Uts46Status::Disallowed => Ok(Uts46Status::Disallowed),
+    }
+}
+
+#[tactic(auto, unfolding(crate::specs::IdnaTable::ranges_in))]
+fn ranges_in(
+    alloc: Global,
+    disallowed: Disallowed,
+    lines: &[&[u8]],
+) -> Result<Vec<RangeStatus>, UcdError>
+    ensures { Gives (λ v. v.items) result (ranges_in disallowed (map (λ line. line.now) lines.now)) }
+{
+    let mut ranges = Vec::new(alloc);
+    let mut end = 0;
+    for (index, line) in lines.iter().enumerate() {
+        let (next, range) = read_line(alloc, disallowed, index + 1, end, line)?;
+        end = next;
+        push_found(&mut ranges, range)?;
+    }
+    Ok(ranges)
+}
+
+fn place(number: usize) -> Place
+    ensures { result ≡ place number }
+{
+    Place {
+        file: UcdFile::IdnaMappingTable,
+        line: number,
+    }
+}
+
+#[tactic(auto, unfolding(crate::specs::IdnaTable::read_line))]
+fn read_line(
+    alloc: Global,
+    disallowed: Disallowed,
+    number: usize,
+    next: u32,
+    line: &[u8],
+) -> Result<(u32, Option<RangeStatus>), UcdError>
+    ensures { Gives (λ x. x) result (read_line disallowed number next line.now) }
+{
+    let data = data_of(line);
+    if data.is_empty() {
+        return Ok((next, None));
+    }
+    read_fields(alloc, disallowed, place(number), next, data)
+}
+
+#[tactic(auto, unfolding(crate::specs::IdnaTable::read_fields))]
+fn read_fields(
+    alloc: Global,
+    disallowed: Disallowed,
+    place: Place,
+    next: u32,
+    line: &[u8],
+) -> Result<(u32, Option<RangeStatus>), UcdError>
+    ensures { Gives (λ x. x) result (read_fields disallowed place next line.now) }
+{
+    let first = first_of(place, line)?;
+    let last = last_of(place, line)?;
+    let end = end_of(place, next, first, last)?;
+    let name = name_of(place, line)?;
+    let status = status_of(alloc, disallowed, place, line, (first, last), name)?;
+    Ok((end, range_status(first, end, status)))
+}
+
+fn range_status(first: u32, end: u32, status: Option<Uts46Status>) -> Option<RangeStatus>
+    ensures { result ≡ range_status first end (option_map status_of_record status) }
+{
+    let status = status?;
+    Some(RangeStatus { first, end, status })
+}
+
+fn has_stop(text: &[u8]) -> bool
+    ensures { result ≡ list_any (λ b. b == 0x2E) text.now }
+{
+    text.iter().any(|b| *b == b'.')
+}
+
+/// What is after two full stops side by side.
+fn after_stops(text: &[u8]) -> &[u8]
+    ensures { result.now ≡ after_stops text.now }
+{
+    let rest = after_first(text, b'.');
+    if before_first(rest, b'.').is_empty() {
+        after_first(rest, b'.')
+    } else {
+        &[]
+    }
+}
+
+fn last_text(text: &[u8]) -> &[u8]
+    ensures { result.now ≡ last_text text.now }
+{
+    if has_stop(text) {
+        after_stops(text)
+    } else {
+        text
+    }
+}
+
+/// The first code point of the range.
+fn first_of(place: Place, line: &[u8]) -> Result<u32, UcdError>
+    ensures { Gives (λ code. code) result (first_of place line.now) }
+{
+    let text = before_first(field_of(place, line, 0)?, b'.');
+    Ok(code_point(text).ok_or(place.fault(Problem::CodePoint))?)
+}
+
+/// The last code point of the range.
+fn last_of(place: Place, line: &[u8]) -> Result<u32, UcdError>
+    ensures value { Gives (λ code. code) result (last_of place line.now) }
+    ensures bounded { IfOk result (λ code. code ≤ 0x10FFFF) }
+{
+    let text = last_text(field_of(place, line, 0)?);
+    Ok(code_point(text).ok_or(place.fault(Problem::CodePoint))?)
+}
+
+fn is_word(text: &[u8], word: &[u8]) -> bool
+    ensures { result ≡ bytes_eq text.now word.now }
+{
+    text == word
+}
+
+#[tactic(auto, unfolding(crate::specs::IdnaTable::status_named))]
+fn status_named(text: &[u8]) -> Option<StatusName>
+    ensures { result ≡ status_named text.now }
+{
+    if is_word(text, b"valid") {
+        Some(StatusName::Valid)
+    } else if is_word(text, b"deviation") {
+        Some(StatusName::Valid)
+    } else if is_word(text, b"disallowed_STD3_valid") {
+        Some(StatusName::Valid)
+    } else if is_word(text, b"ignored") {
+        Some(StatusName::Ignored)
+    } else if is_word(text, b"mapped") {
+        Some(StatusName::Mapped)
+    } else if is_word(text, b"disallowed_STD3_mapped") {
+        Some(StatusName::Mapped)
+    } else if is_word(text, b"disallowed") {
+        Some(StatusName::Disallowed)
+    } else {
+        None
+    }
+}
+
+fn name_of(place: Place, line: &[u8]) -> Result<StatusName, UcdError>
+    ensures { Gives (λ name. name) result (name_of place line.now) }
+{
+    let text = field_of(place, line, 1)?;
+    Ok(status_named(text).ok_or(place.fault(Problem::Status))?)
+}
+
+fn mapping_of(alloc: Global, place: Place, line: &[u8]) -> Result<Vec<char>, UcdError>
+    ensures { Gives (λ v. v.items) result (mapping_of place line.now) }
+{
+    let text = field_of(place, line, 2)?;
+    characters(alloc, place.fault(Problem::Mapping), text)
+}
+
+/// Whether the disallowed characters of a range get records.
+fn is_kept(disallowed: Disallowed, first: u32, last: u32) -> bool
+    requires { first ≤ last }
+    ensures { result ≡ is_kept disallowed first last }
+{
+    match disallowed {
+        Disallowed::All => true,
+        Disallowed::RangesUpTo(most) => last - first < most,
+    }
+}
+
+/// What is done with the characters of a range, if anything is.
+#[tactic(auto, unfolding(crate::specs::IdnaTable::status_of))]
+fn status_of(
+    alloc: Global,
+    disallowed: Disallowed,
+    place: Place,
+    line: &[u8],
+    range: (u32, u32),
+    name: StatusName,
+) -> Result<Option<Uts46Status>, UcdError>
+    requires { range.0 ≤ range.1 }
+    ensures { Gives (option_map status_of_record) result
+        (status_of disallowed place line.now range.0 range.1 name) }
+{
+    match name {
+        StatusName::Valid => Ok(None),
+        StatusName::Ignored => Ok(Some(Uts46Status::Ignored)),
+        StatusName::Mapped => Ok(Some(Uts46Status::Mapped(mapping_of(alloc, place, line)?))),
+        StatusName::Disallowed => {
+            let is_kept = is_kept(disallowed, range.0, range.1);
+            Ok(if is_kept {
+                Some(Uts46Status::Disallowed)
+            } else {
+                None
+            })
+        }
+    }
+}
+
+/// Where a range ends, if it may come next.
+fn end_of(place: Place, next: u32, first: u32, last: u32) -> Result<u32, UcdError>
+    requires { last ≤ 0x10FFFF }
+    ensures value { Gives (λ end. end) result (end_of place next first last) }
+    ensures rising { IfOk result (λ end. first ≤ last) }
+{
+    if first < next {
+        return Err(UcdError::Line(place.fault(Problem::Order)));
+    }
+    if last < first {
+        return Err(UcdError::Line(place.fault(Problem::Order)));
+    }
+    Ok(last + 1)
+}
