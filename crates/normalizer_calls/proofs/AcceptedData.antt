@@ -22,6 +22,7 @@ use Rattle.normalizer_tables.proofs.UnseenLemmas.{PassUnseenBelow-accepted, Pass
 use Rattle.normalizer_calls.specs.Acceptance.{bounds_of, SuitsDecomposing}
 use Rattle.normalizer_calls.specs.ComposingAcceptance.{SuitsComposing}
 use Rattle.normalizer_calls.specs.Serving.{ServesDecomposing, ServesComposing}
+use Rattle.normalizer_calls.proofs.PassingLemmas.{BeginsApart-taken}
 use Rattle.normalizer_calls.proofs.SoundPairs.{SuitsLazyComposing-met}
 use Rattle.normalizer_iterators.proofs.SoundData.{SuitsLazyReading-nfd, SuitsLazyReading-sound}
 
@@ -54,6 +55,7 @@ ServesComposing-met s pairs plain met =
     record {
       reading = SuitsLazyReading-sound s _ (parts.0 8 Order (omega arith));
       composing = SuitsLazyComposing-met s pairs parts.0 parts.1;
+      beginnings = BeginsApart-taken s (bounds_of s.decompositions) pairs (SuitsLazyComposing-met s pairs parts.0 parts.1).starters parts.1;
       unseen = PassUnseenBelow-accepted s (bounds_of s.decompositions) parts.0;
       results = results_ordered s (bounds_of s.decompositions) pairs plain parts.1;
       laws = SuitsTexts-accepted_pairs s (bounds_of s.decompositions) pairs parts.0 plain parts.1 Composing;

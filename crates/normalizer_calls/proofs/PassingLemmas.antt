@@ -1,11 +1,12 @@
 -- Characters that are handed on as they are, and runs of them.
-use Rattle.std.proofs.Common.{◌≡◌, ℕ, ◌<◌, inl, inr, Bool, true, false, List, [], ◌∷◌, ◌++◌, refl, sym, ap, subst, ◌∙◌, append_assoc, append-nil}
+use Rattle.std.proofs.Common.{◌≡◌, ℕ, ◌<◌, inl, inr, Bool, true, false, List, [], ◌∷◌, ◌++◌, refl, sym, ap, subst, ◌∙◌, append_assoc, append-nil, arith}
 use Rattle.std.specs.Char.{IsScalar}
 use Rattle.std.specs.Prelude.{All, nat_lt, ◌||◌, ◌&&◌, not}
 use Rattle.std.proofs.lemmas.Bool.{cases_lt, le-ltb, lt-ltb}
 use Rattle.std.proofs.lemmas.List.Elements.{All-head, All-tail}
 use Rattle.normal_forms.specs.Reading.{Reading, ReadsAsItself, IsStarter}
 use Rattle.normal_forms.specs.Boundary.{BeginsWithStarter}
+use Rattle.normal_forms.specs.Hypotheses.{HasStarterResults}
 use Rattle.normal_forms.specs.Decomposition.{expand}
 use Rattle.normal_forms.specs.Order.{order, insert}
 use Rattle.normal_forms.specs.Composition.{compose, compose_from}
@@ -17,8 +18,10 @@ use Rattle.normal_forms.proofs.LawLemmas.{nfc-boundary}
 use Rattle.normal_forms.proofs.OrderLemmas.{order-at_starter}
 use Rattle.normalizer_tables.specs.declared.characters.IgnoredCharacters.TheVariants.{Dropped}
 use Rattle.normalizer_tables.specs.declared.condition.Bounds.{Bounds}
+use Rattle.normalizer_tables.specs.declared.condition.Condition.TheVariants.{SafeBeginning}
+use Rattle.normalizer_tables.specs.AcceptedData.{AreAcceptedPairs}
 use Rattle.normalizer_tables.specs.Characters.{Characters, has_class_form, list_of, word_of}
-use Rattle.normalizer_tables.specs.PairConditions.{is_passed}
+use Rattle.normalizer_tables.specs.PairConditions.{HoldsOfPairs, KeepsBeginning, PairsHoldAt, is_passed, is_taken_to_begin_safely}
 use Rattle.normalizer_tables.specs.Pairs.{Pair}
 use Rattle.normalizer_tables.specs.Words.{is_backward_combining, is_non_round_trip, is_plain}
 use Rattle.normalizer_tables.specs.Readings.{reading_by}
@@ -28,7 +31,8 @@ use Rattle.normalizer_tables.proofs.PlainCharacters.{list_of-plain_word}
 use Rattle.normalizer_calls.specs.Serving.{ServesDecomposing}
 use Rattle.normalizer_iterators.specs.LazyComposing.{SuitsLazyComposing}
 use Rattle.normalizer_iterators.proofs.PassingLemmas.{BeginsSafely-apart}
-use Rattle.normalizer_calls.specs.inner.Passing.{BeginsApart, Divides, MayPass}
+use Rattle.normalizer_calls.specs.BeginsApart.{BeginsApart}
+use Rattle.normalizer_calls.specs.inner.Passing.{Divides, MayPass}
 
 -- a starter that reads as itself is normalized apart from what comes after it too
 MayPass-itself : (d : Reading) (c : ℕ) → ReadsAsItself d c → IsStarter d c → MayPass d Decomposing false c
@@ -54,6 +58,10 @@ not-true : (b : Bool) → not b ≡ true → b ≡ false
 not-true true h = absurd (cc)
 not-true false h = refl
 
+or-true : (b : Bool) → (b || true) ≡ true
+or-true true = refl
+or-true false = refl
+
 first_begins : (d : Reading) (list : List ℕ) → ((first : ℕ) (others : List ℕ) → list ≡ first ∷ others → IsStarter d first) → BeginsWithStarter d list
 first_begins d [] starters = tt
 first_begins d (first ∷ others) starters = starters first others refl
@@ -71,6 +79,20 @@ BeginsApart-decomposed s b serves c scalar begins = elim (cases_lt c b.decomposi
       λ front x. nfd-boundary d front (c ∷ x)
       (BeginsWithStarter-expand d c x (serves.laws.inhabited.inhabited c) (first_begins d (d.list c) (λ first others is. serves.reading.starters c first others anew is)))
 ]
+
+-- a character without class form begins apart where text is decomposed
+pub BeginsApart-boundary : (s : Characters) (b : Bounds) → ServesDecomposing s b → (c : ℕ) → IsScalar c
+    → not (has_class_form s c) ≡ true → BeginsApart (reading_by s Dropped []) Decomposing c
+BeginsApart-boundary s b serves c scalar anew = BeginsApart-decomposed s b serves c scalar (ap (λ k. nat_lt c b.decomposition || k) anew ∙ or-true (nat_lt c b.decomposition))
+
+-- a character that is taken to begin safely begins apart where text is composed: condition 13
+pub BeginsApart-taken : (s : Characters) (b : Bounds) (pairs : List Pair) → HasStarterResults (reading_by s Dropped pairs) → AreAcceptedPairs s b pairs
+    → (c : ℕ) → IsScalar c → is_taken_to_begin_safely s b c ≡ true → BeginsApart (reading_by s Dropped pairs) Composing c
+unfolding HoldsOfPairs PairsHoldAt KeepsBeginning normal_form
+BeginsApart-taken s b pairs starters accepted c scalar taken =
+    let d = reading_by s Dropped pairs in
+    let safe = (accepted 2 SafeBeginning (omega arith)).1 c scalar taken in
+    λ front x. nfc-boundary d starters front (c ∷ x) (BeginsSafely-expand d c x safe.begins safe.safely)
 
 -- the form of a character alone is its list
 pub form_of_one : (s : Characters) (b : Bounds) → ServesDecomposing s b → (c : ℕ) → IsScalar c → normal_form (reading_by s Dropped []) Decomposing (c ∷ []) ≡ list_of s [] c

@@ -20,7 +20,8 @@ use Rattle.normalizer_text.proofs.EncodingRules.{IsDecoding-first}
 use Rattle.normalizer_text.proofs.StepLemmas.{decoded-IsText, decoded-some, rest-shorter, steps-nil, steps-some}
 use Rattle.normalizer_text.proofs.Utf8Lemmas.{by_cases}
 use Rattle.normalizer_input.specs.InputCut.{IsInputNormalized}
-use Rattle.normalizer_calls.specs.inner.Passing.{BeginsApart, Divides, HasHeldBack, IsHandedOn, IsPart, IsRunEnd, IsSegmentEnd, MayPass, PassesTo, replacement, step_passes}
+use Rattle.normalizer_calls.specs.BeginsApart.{BeginsApart}
+use Rattle.normalizer_calls.specs.inner.Passing.{Divides, HasHeldBack, IsHandedOn, IsPart, IsRunEnd, IsSegmentEnd, MayPass, PassesTo, replacement, step_passes}
 use Rattle.normalizer_calls.proofs.PassingLemmas.{Divides-end, Divides-next, Divides-run, IsNormalized-run}
 
 module _ (passing : ℕ → Bool) (e : Encoding) (units : List ℕ) where

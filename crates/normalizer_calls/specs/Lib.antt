@@ -1,4 +1,6 @@
 pub mod Acceptance
+pub mod BeginsApart
+pub mod Boundaries
 pub mod Checks
 pub mod ComposingAcceptance
 pub mod ComposingNormalizers

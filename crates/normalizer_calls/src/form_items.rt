@@ -11,7 +11,8 @@ ghost use Rattle.normalizer_tables.specs.Words.{is_plain};
 ghost use Rattle.normalizer_tables.specs.Readings.{reading_by};
 ghost use Rattle.normalizer_tables.specs.declared.characters.IgnoredCharacters.TheVariants.{Dropped};
 ghost use Rattle.normalizer_iterators.specs.Items.{GivesForm};
-ghost use Rattle.normalizer_calls.specs.inner.Passing.{BeginsApart, MayPass};
+ghost use Rattle.normalizer_calls.specs.BeginsApart.{BeginsApart};
+ghost use Rattle.normalizer_calls.specs.inner.Passing.{MayPass};
 
 use crate::{ComposingNormalizerBorrowed, DecomposingNormalizerBorrowed};
 use normalizer_iterators::{Composition, Decomposition, NormalizeError};

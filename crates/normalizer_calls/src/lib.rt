@@ -2,6 +2,7 @@
 //! units, and the mapper.
 #![tactic(auto)]
 
+mod boundaries;
 mod checks;
 mod composing_normalizer;
 mod form_items;

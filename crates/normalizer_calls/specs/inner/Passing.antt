@@ -9,16 +9,12 @@ use Rattle.normalizer_text.specs.declared.step.Step.{Step}
 use Rattle.normalizer_text.specs.Encodings.{Encoding, first_in, encoded_in, decoded_in}
 use Rattle.normalizer_text.specs.Steps.{IsBoundary, IsLastStep}
 use Rattle.normalizer_input.specs.EncodedForm.{encoded_form}
+use Rattle.normalizer_calls.specs.BeginsApart.{BeginsApart}
 
 -- however much of the rest is read after the front, both are normalized apart
 abbrev pub Divides : Reading → Form → List ℕ → List ℕ → Type 0
 Divides d form front rest = (read unread : List ℕ) → rest ≡ read ++ unread
     → normal_form d form (front ++ read) ≡ normal_form d form front ++ normal_form d form read
-
--- a text that begins with c is normalized apart from what stands before
-abbrev pub BeginsApart : Reading → Form → ℕ → Type 0
-BeginsApart d form c = (front x : List ℕ)
-    → normal_form d form (front ++ c ∷ x) ≡ normal_form d form front ++ normal_form d form (c ∷ x)
 
 -- c may be handed on as it is: it is its own form, and a text that begins with it is normalized apart from what stands
 -- before. What stands behind it is so too, unless it is held back.

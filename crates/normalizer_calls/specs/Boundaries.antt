@@ -1,0 +1,19 @@
+-- Which characters a normalizer takes for the beginning of a part of a text.
+use Rattle.std.specs.Prelude.{ℕ, Bool, not}
+use Rattle.normalizer_tables.specs.Characters.{has_class_form}
+use Rattle.normalizer_tables.specs.PairConditions.{is_taken_to_begin_safely}
+use Rattle.normalizer_calls.specs.declared.composing_normalizer.ComposingNormalizerBorrowed.{
+  ComposingNormalizerBorrowed,
+}
+use Rattle.normalizer_calls.specs.declared.normalizer.DecomposingNormalizerBorrowed.{DecomposingNormalizerBorrowed}
+use Rattle.normalizer_calls.specs.ComposingNormalizers.{composing_data_of_borrowed}
+use Rattle.normalizer_calls.specs.Normalizers.{data_of_borrowed}
+
+-- the word of c has no class form: its list begins with a starter
+abbrev pub has_decomposing_boundary : DecomposingNormalizerBorrowed → ℕ → Bool
+has_decomposing_boundary n c = not (has_class_form (data_of_borrowed n) c)
+
+-- the word of c isn't flagged as backward combining, or c is below the bound: its list begins with a starter that is
+-- second in no pair
+abbrev pub has_composing_boundary : ComposingNormalizerBorrowed → ℕ → Bool
+has_composing_boundary n c = is_taken_to_begin_safely (composing_data_of_borrowed n) n.bounds c

@@ -1,0 +1,53 @@
+//! Characters before which a text may be divided.
+ghost use Rattle.std.specs.Prelude.{◌≡◌, true};
+ghost use Rattle.normal_forms.specs.declared.Form.TheVariants.{Composing, Decomposing};
+ghost use Rattle.normalizer_tables.specs.PairConditions.{is_taken_to_begin_safely};
+ghost use Rattle.normalizer_calls.specs.BeginsApart.{BeginsApart};
+ghost use Rattle.normalizer_calls.specs.Boundaries.{has_composing_boundary, has_decomposing_boundary};
+ghost use Rattle.normalizer_calls.specs.Forms.{composed_by, decomposed_by};
+
+use crate::{ComposingNormalizerBorrowed, DecomposingNormalizerBorrowed};
+use normalizer_tables::characters::CharacterData;
+use normalizer_tables::condition::Bounds;
+use normalizer_tables::word::is_backward_combining;
+
+impl<'a> DecomposingNormalizerBorrowed<'a> {
+    /// Returns whether a text may be divided before `character`: its decomposition begins with a starter (The Unicode
+    /// Standard, D107). If so, a text that begins with it is normalized apart from what comes before it.
+    ///
+    /// # Examples
+    /// ```rust
+    /// let starts_segment = normalizer.has_boundary_before('a');
+    /// ```
+    pub fn has_boundary_before(&self, character: char) -> bool
+        ensures exactly { result ≡ has_decomposing_boundary self.now character }
+        ensures apart { result ≡ true → BeginsApart (decomposed_by self.now).reading Decomposing character }
+    {
+        !self.characters.has_class_form(character)
+    }
+}
+
+impl<'a> ComposingNormalizerBorrowed<'a> {
+    /// Returns whether a text may be divided before `character`: its decomposition begins with a starter that composes
+    /// with nothing before it (UAX #15, section 9.1). If so, a text that begins with it is normalized apart from what
+    /// comes before it.
+    ///
+    /// # Examples
+    /// ```rust
+    /// let starts_segment = normalizer.has_boundary_before('a');
+    /// ```
+    pub fn has_boundary_before(&self, character: char) -> bool
+        ensures exactly { result ≡ has_composing_boundary self.now character }
+        ensures apart { result ≡ true → BeginsApart (composed_by self.now).reading Composing character }
+    {
+        is_taken_to_begin_safely(&self.characters, self.bounds, character)
+    }
+}
+
+/// Whether a character isn't flagged as backward combining, or is below the bound.
+#[tactic(auto, unfolding(normalizer_tables::specs::PairConditions::is_taken_to_begin_safely))]
+fn is_taken_to_begin_safely(characters: &CharacterData<'_>, bounds: Bounds, character: char) -> bool
+    ensures { result ≡ is_taken_to_begin_safely characters.now bounds character }
+{
+    !is_backward_combining(characters.word_of(character)) || (character as u32) < bounds.composition
+}
