@@ -67,7 +67,7 @@ impl Normalizer {
     }
 
     /// The UTF-8 of the form of the text that the bytes decode to.
-    pub(crate) fn form_of(&self, alloc: Global, bytes: &[u8]) -> Result<String, ToolFault>
+    pub fn form_of(&self, alloc: Global, bytes: &[u8]) -> Result<String, ToolFault>
         ensures form { IfOk result (λ text. string_bytes text
             ≡ encoded_form Encoding.Utf8 (reading_of self.now) (kind_by self.now) bytes.now) }
         ensures errors { IfErr result (λ fault. fault ≡ ToolFault.Memory) }
@@ -81,7 +81,7 @@ impl Normalizer {
     }
 
     /// Whether the bytes are well-formed and their own form.
-    pub(crate) fn is_own_form(&self, bytes: &[u8]) -> Result<bool, ToolFault>
+    pub fn is_own_form(&self, bytes: &[u8]) -> Result<bool, ToolFault>
         ensures own { IfOk result (λ own. IsTrue own
             ↔ IsInputNormalized Encoding.Utf8 (reading_of self.now) (kind_by self.now) bytes.now) }
         ensures errors { IfErr result (λ fault. fault ≡ ToolFault.Memory) }
@@ -93,7 +93,7 @@ impl Normalizer {
     }
 
     /// The first place at which the bytes are ill-formed or not their own form.
-    pub(crate) fn first_offence(&self, bytes: &[u8]) -> Result<Option<Offence>, ToolFault>
+    pub fn first_offence(&self, bytes: &[u8]) -> Result<Option<Offence>, ToolFault>
         ensures offence { IfOk result (λ offence.
             IsInputOffenceOf Encoding.Utf8 (reading_of self.now) (kind_by self.now) bytes.now offence) }
         ensures errors { IfErr result (λ fault. fault ≡ ToolFault.Memory) }

@@ -1,6 +1,5 @@
 pub mod Labels
 pub mod Last
-pub mod RecordedForms
 pub mod Reports
 pub mod Runs
 pub mod Shaping

@@ -4,8 +4,8 @@ use Rattle.normalizer_records.specs.Entry.{Entry}
 use Rattle.normalizer_builder.specs.Building.{IsSmallest}
 use Rattle.normalizer_ucd.specs.Reading.{Fails}
 use Rattle.normalizer_ucd.specs.UnicodeData.{records_of}
-use Rattle.normalizer_uses.specs.RecordedForms.{recorded_form}
-use Rattle.normalizer_uses.specs.declared.by_records.NormalForm.{NormalForm}
+use Rattle.normalizer_built.specs.RecordedForms.{recorded_form}
+use Rattle.normalizer_built.specs.declared.NormalForm.{NormalForm}
 use Rattle.normalizer_uses.specs.declared.by_unicode_data.UnicodeFault.{UnicodeFault}
 use Rattle.normalizer_uses.specs.declared.by_unicode_data.UnicodeFault.TheVariants.{File, Records}
 

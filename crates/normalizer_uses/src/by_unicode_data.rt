@@ -3,7 +3,8 @@ ghost use Rattle.std.specs.Prelude.{MatchResult};
 ghost use Rattle.normalizer_text.specs.Utf8.{decoded_utf8};
 ghost use Rattle.normalizer_uses.specs.UnicodeForms.{IsFormByFiles, IsFaultOfFiles};
 
-use crate::by_records::{NormalForm, form_by_records};
+use crate::by_records::form_by_records;
+use normalizer_built::NormalForm;
 use normalizer_records::BuildError;
 use normalizer_ucd::{UcdError, records_of_unicode_data};
 use std::alloc::Global;

@@ -36,10 +36,10 @@ pub mod shaping;
 pub mod sinks;
 
 pub use by_records::{
-    NormalForm, built_combining_classes, built_composition, built_decomposition, built_mapper,
-    form_by_records,
+    built_combining_classes, built_composition, built_decomposition, form_by_records,
 };
 pub use by_unicode_data::{UnicodeFault, form_by_unicode_data};
+pub use normalizer_built::{NormalForm, built_mapper};
 use icu_normalizer::{
     ComposingNormalizer, ComposingNormalizerBorrowed, DataError, DataProvider,
     DecomposingNormalizerBorrowed, Decomposition, DecompositionData, DecompositionTables,

@@ -1,5 +1,5 @@
 use Rattle.std.proofs.Common.{◌∙◌}
-use Rattle.normalizer_uses.proofs.FormsOfData.{form_of_data-recorded}
+use Rattle.normalizer_built.proofs.FormsOfData.{form_of_data-recorded}
 use Rattle.normalizer_uses.proofs.by_records.form_by_records.Goals as goal
 
 pub form_by_built-requires : goal.form_by_built-requires

@@ -2,8 +2,8 @@ use Rattle.normalizer_tables.specs.declared.provider.DataMarkerInfo.TheVariants.
 use Rattle.normalizer_calls.specs.ComposingAcceptance.{RefusesToCompose}
 use Rattle.normalizer_packing.specs.declared.entry.Kind.TheVariants.{Mapper}
 use Rattle.normalizer_packing.specs.ReadBack.{characters_of}
-use Rattle.normalizer_uses.proofs.AcceptedData.{IsOkUnless-memory}
-use Rattle.normalizer_uses.proofs.by_records.built_mapper.Goals as goal
+use Rattle.normalizer_built.proofs.AcceptedData.{IsOkUnless-memory}
+use Rattle.normalizer_built.proofs.built_mapper.Goals as goal
 
 pub returns-clause-refused : goal.returns-clause-refused
 returns-clause-refused c =

@@ -10,8 +10,8 @@ use Rattle.normalizer_packing.specs.ReadBack.{characters_of}
 use Rattle.normalizer_records.specs.declared.records.Mappings.TheVariants.{Canonical, All}
 use Rattle.normalizer_records.specs.Entry.{Entry}
 use Rattle.normalizer_builder.specs.Readings.{recorded_reading}
-use Rattle.normalizer_uses.specs.declared.by_records.NormalForm.{NormalForm}
-use Rattle.normalizer_uses.specs.declared.by_records.NormalForm.TheVariants.{Nfd, Nfc, Nfkd, Nfkc}
+use Rattle.normalizer_built.specs.declared.NormalForm.{NormalForm}
+use Rattle.normalizer_built.specs.declared.NormalForm.TheVariants.{Nfd, Nfc, Nfkd, Nfkc}
 
 -- D118 to D121
 abbrev pub recorded_form : List Entry → NormalForm → List ℕ → List ℕ

@@ -2,8 +2,8 @@ use Rattle.normalizer_tables.specs.declared.provider.DataMarkerInfo.TheVariants.
 use Rattle.normalizer_calls.specs.ComposingAcceptance.{RefusesToCompose}
 use Rattle.normalizer_packing.specs.declared.entry.Kind.TheVariants.{Canonical}
 use Rattle.normalizer_packing.specs.ReadBack.{characters_of}
-use Rattle.normalizer_uses.proofs.AcceptedData.{memory_alone}
-use Rattle.normalizer_uses.proofs.by_records.nfc_normalizer.Goals as goal
+use Rattle.normalizer_built.proofs.AcceptedData.{memory_alone}
+use Rattle.normalizer_built.proofs.nfc_normalizer.Goals as goal
 
 pub want_of_memory-requires : goal.want_of_memory-requires
 want_of_memory-requires c =

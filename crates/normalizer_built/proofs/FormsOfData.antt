@@ -8,10 +8,10 @@ use Rattle.normalizer_packing.specs.ReadBack.{characters_of}
 use Rattle.normalizer_records.specs.declared.records.Mappings.TheVariants.{Canonical, All}
 use Rattle.normalizer_records.specs.Entry.{Entry, MapperEntry}
 use Rattle.normalizer_builder.specs.Building.{MeansRecords}
-use Rattle.normalizer_uses.specs.declared.by_records.NormalForm.{NormalForm}
-use Rattle.normalizer_uses.specs.declared.by_records.NormalForm.TheVariants.{Nfd, Nfc, Nfkd, Nfkc}
+use Rattle.normalizer_built.specs.declared.NormalForm.{NormalForm}
+use Rattle.normalizer_built.specs.declared.NormalForm.TheVariants.{Nfd, Nfc, Nfkd, Nfkc}
 use Rattle.normalizer_builder.specs.Readings.{recorded_reading}
-use Rattle.normalizer_uses.specs.RecordedForms.{form_of_data, recorded_form}
+use Rattle.normalizer_built.specs.RecordedForms.{form_of_data, recorded_form}
 use Rattle.normalizer_tables.specs.Readings.{reading_by}
 use Rattle.normalizer_tables.specs.declared.characters.IgnoredCharacters.TheVariants.{Dropped}
 

@@ -1,0 +1,2 @@
+pub mod AcceptedData
+pub mod FormsOfData

@@ -1,0 +1,23 @@
+-- The forms that normalizers over built data make.
+use Rattle.std.proofs.Common.{◌≡◌, ℕ, List, [], refl}
+use Rattle.normal_forms.specs.Forms.{normal_form}
+use Rattle.normalizer_packing.specs.declared.Packed.{Packed}
+use Rattle.normalizer_packing.specs.declared.entry.Kind.TheVariants as kind
+use Rattle.normalizer_packing.specs.ReadBack.{characters_of}
+use Rattle.normalizer_records.specs.Entry.{Entry, MapperEntry}
+use Rattle.normalizer_builder.specs.Building.{Builds}
+use Rattle.normalizer_built.specs.declared.NormalForm.TheVariants.{Nfd, Nfkd}
+use Rattle.normalizer_built.proofs.FormsOfData.{form_of_data-recorded}
+use Rattle.normalizer_calls.specs.declared.normalizer.DecomposingNormalizer.{DecomposingNormalizer}
+use Rattle.normalizer_calls.specs.Normalizers.{data_of}
+use Rattle.normalizer_program.specs.declared.normalizer.Normalizer.TheVariants as normalizer
+use Rattle.normalizer_command.specs.Making.{making_by, Makes}
+
+module _ (n : DecomposingNormalizer) (records : List Entry) (mapper : List MapperEntry) (p : Packed) (builds : Builds records mapper p) where
+  pub makes-nfd : data_of n ≡ characters_of p kind.Canonical → Makes (normalizer.Decomposing n) (making_by records Nfd)
+  unfolding normal_form
+  makes-nfd held = record { kind = refl; same = λ x. rw held (form_of_data-recorded records mapper p builds.means Nfd x) }
+
+  pub makes-nfkd : data_of n ≡ characters_of p kind.Compatibility → Makes (normalizer.Decomposing n) (making_by records Nfkd)
+  unfolding normal_form
+  makes-nfkd held = record { kind = refl; same = λ x. rw held (form_of_data-recorded records mapper p builds.means Nfkd x) }

@@ -1,0 +1,66 @@
+-- What becomes of files, one after another.
+use Rattle.std.specs.Prelude.{◌≡◌, ◌≢◌, ℕ, List, [], ◌∷◌, Option, Result, Ok, Err, IfOk, IfErr, IfSome, IsErrOf, nat_lt, if◌then◌else◌}
+use Rattle.std.specs.Io.KnownBytes.{Appends}
+use Rattle.normalizer_program.specs.Transfer.{AppendsFront}
+use Rattle.normalizer_program.specs.declared.ending.Answer.{Answer}
+use Rattle.normalizer_program.specs.declared.ending.Answer.TheVariants.{Done, No}
+use Rattle.normalizer_command.specs.declared.fault.Fault.{Fault}
+use Rattle.normalizer_command.specs.declared.fault.Fault.TheVariants.{Write}
+use Rattle.normalizer_command.specs.declared.reply.Task.{Task}
+use Rattle.normalizer_command.specs.Making.{Making}
+use Rattle.normalizer_command.specs.Replies.{IsReply}
+use Rattle.normalizer_command.specs.Reports.{Report, Tells}
+
+-- what was written, what was told, and the exit status so far
+pub record State : Type 0 where
+  pub taken : Option (List ℕ)
+  pub told : Option (List Report)
+  pub status : ℕ
+
+abbrev pub state : Option (List ℕ) → Option (List Report) → ℕ → State
+state taken told status = record { taken = taken; told = told; status = status }
+
+-- the task has this reply to all the bytes of the file, if they are known
+pub record Replies (task : Task) (m : Making) (name : List ℕ) (bytes : Option (List ℕ)) (answer : Answer)
+    (output : List ℕ) : Type 0 where
+  pub input : List ℕ
+  pub whole : IfSome bytes (λ all. input ≡ all)
+  pub reply : IsReply task m name input answer output
+
+-- the whole reply is written
+abbrev pub IsWritten : Task → Making → (name : List ℕ) → (bytes before after : Option (List ℕ)) → Answer → Type 0
+IsWritten task m name bytes before after answer =
+    (output : List ℕ) × Replies task m name bytes answer output × Appends before after output
+
+-- a front of the reply is written
+abbrev pub IsCutOff : Task → Making → (name : List ℕ) → (bytes before after : Option (List ℕ)) → Type 0
+IsCutOff task m name bytes before after =
+    (answer : Answer) × (output : List ℕ) × Replies task m name bytes answer output × AppendsFront before after output
+
+-- the exit status after a file: 0, or 1 if it isn't in the form, or 2 if it failed
+abbrev pub status_of : Result Answer Fault → ℕ
+status_of (Ok Done) = 0
+status_of (Ok No) = 1
+status_of (Err fault) = 2
+
+-- the greater of two
+abbrev pub greater : ℕ → ℕ → ℕ
+greater a b = if nat_lt a b then b else a
+
+-- one file: its reply is written, or it is told why it failed; nothing of it is written then, unless a write was refused
+pub record IsDone (task : Task) (m : Making) (name : List ℕ) (bytes : Option (List ℕ)) (s t : State)
+    (outcome : Result Answer Fault) : Type 0 where
+  pub done : IfOk outcome (IsWritten task m name bytes s.taken t.taken)
+  pub cut : IsErrOf outcome Write → IsCutOff task m name bytes s.taken t.taken
+  pub unwritten : IfErr outcome (λ fault. fault ≢ Write → t.taken ≡ s.taken)
+  pub untold : IfOk outcome (λ _. t.told ≡ s.told)
+  pub told : IfErr outcome (λ fault. Tells s.told t.told (name, fault))
+  pub status : t.status ≡ greater s.status (status_of outcome)
+
+-- each file in turn, and none after a refused write
+unfoldable pub AreDone : Task → Making → (bytes_of : List ℕ → Option (List ℕ)) → (names : List (List ℕ)) → State → State
+    → Type 0
+AreDone task m bytes_of [] s t = s ≡ t
+AreDone task m bytes_of (name ∷ names) s t =
+    (outcome : Result Answer Fault) × (next : State) × IsDone task m name (bytes_of name) s next outcome
+    × (IsErrOf outcome Write → next ≡ t) × ((IsErrOf outcome Write → ⊥) → AreDone task m bytes_of names next t)

@@ -1,0 +1,18 @@
+-- The words that the program is started with.
+use Rattle.std.specs.Prelude.{◌≡◌, ℕ, List, codes}
+use Rattle.normalizer_built.specs.declared.NormalForm.{NormalForm}
+use Rattle.normalizer_built.specs.declared.NormalForm.TheVariants.{Nfd, Nfc, Nfkd, Nfkc}
+use Rattle.normalizer_command.specs.declared.reply.Task.{Task}
+use Rattle.normalizer_command.specs.declared.reply.Task.TheVariants.{Write, Check}
+
+-- the word of a form
+abbrev pub NamesForm : NormalForm → List ℕ → Type 0
+NamesForm Nfc word = word ≡ codes "nfc"
+NamesForm Nfd word = word ≡ codes "nfd"
+NamesForm Nfkc word = word ≡ codes "nfkc"
+NamesForm Nfkd word = word ≡ codes "nfkd"
+
+-- the word of a task that is followed by that of a form
+abbrev pub NamesTask : Task → List ℕ → Type 0
+NamesTask Write word = ⊥
+NamesTask Check word = word ≡ codes "check"

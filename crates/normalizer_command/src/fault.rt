@@ -1,0 +1,113 @@
+//! Why a file failed.
+ghost use Rattle.std.specs.Prelude.{◌≡◌};
+ghost use Rattle.normalizer_command.specs.Faults.{fault_of_file, fault_of_records, fault_of_tool};
+
+use normalizer_program::ending::ToolFault;
+use normalizer_records::BuildError;
+use normalizer_ucd::{LineFault, UcdError};
+use std::alloc::AllocError;
+use std::fmt;
+use std::io::ErrorKind;
+
+/// Why a file failed.
+#[derive(Clone, Copy, PartialEq, Eq)]
+pub enum Fault {
+    /// It can't be opened.
+    Open(ErrorKind),
+    /// A read was refused.
+    Read,
+    /// A write of the output was refused.
+    Write,
+    /// There was not enough memory.
+    Memory,
+    /// A line of a data file is wrong.
+    Line(LineFault),
+    /// The records of the data files can't be built.
+    Records(BuildError),
+}
+
+impl fmt::Display for Fault {
+    fn fmt<W: fmt::Write>(&self, f: &mut fmt::Formatter<W>) -> fmt::Result {
+        match self {
+            Fault::Open(ErrorKind::NotFound) => f.write_str("no such file or directory"),
+            Fault::Open(kind) => write!(f, "{kind}"),
+            Fault::Read => f.write_str("it can't be read"),
+            Fault::Write => f.write_str("it can't be written"),
+            Fault::Memory => f.write_str("out of memory"),
+            Fault::Line(fault) => write!(f, "line {}: {}", fault.place.line, fault.problem),
+            Fault::Records(error) => write!(f, "{error}"),
+        }
+    }
+}
+
+/// What is told of a file: its name, and why it failed. A refused write is told of standard output.
+#[derive(Clone, Copy)]
+pub struct Message<'a> {
+    pub name: &'a str,
+    pub fault: Fault,
+}
+
+impl fmt::Display for Message<'_> {
+    fn fmt<W: fmt::Write>(&self, f: &mut fmt::Formatter<W>) -> fmt::Result {
+        let name = match self.fault {
+            Fault::Write => "standard output",
+            _ => self.name,
+        };
+        write!(f, "{name}: {}", self.fault)
+    }
+}
+
+impl From<ErrorKind> for Fault {
+    ghost use Rattle.normalizer_command.specs.declared.fault.Fault.TheVariants.{Open};
+
+    ghost from_gives = { λ kind fault. fault ≡ Open kind };
+
+    fn from(kind: ErrorKind) -> Fault {
+        Fault::Open(kind)
+    }
+}
+
+impl From<AllocError> for Fault {
+    ghost use Rattle.normalizer_command.specs.declared.fault.Fault.TheVariants.{Memory};
+
+    ghost from_gives = { λ _ fault. fault ≡ Memory };
+
+    fn from(_error: AllocError) -> Fault {
+        Fault::Memory
+    }
+}
+
+// Data that were built are never refused.
+impl From<ToolFault> for Fault {
+    ghost from_gives = { λ error fault. fault ≡ fault_of_tool error };
+
+    fn from(error: ToolFault) -> Fault {
+        match error {
+            ToolFault::Read => Fault::Read,
+            ToolFault::Write => Fault::Write,
+            ToolFault::Memory | ToolFault::Data => Fault::Memory,
+        }
+    }
+}
+
+impl From<UcdError> for Fault {
+    ghost from_gives = { λ error fault. fault ≡ fault_of_file error };
+
+    fn from(error: UcdError) -> Fault {
+        match error {
+            UcdError::Line(fault) => Fault::Line(fault),
+            UcdError::Memory => Fault::Memory,
+        }
+    }
+}
+
+impl From<BuildError> for Fault {
+    ghost from_gives = { λ error fault. fault ≡ fault_of_records error };
+
+    fn from(error: BuildError) -> Fault {
+        match error {
+            BuildError::Memory => Fault::Memory,
+            other => Fault::Records(other),
+        }
+    }
+}

@@ -1,0 +1,114 @@
+//! A task over files.
+ghost use Rattle.std.specs.Prelude.{◌≡◌, ◌≢◌, ◌↔◌, IsTrue, map, IfOk, IfErr, IsErrOf};
+ghost use Rattle.normalizer_command.specs.Making.{Making, Makes};
+ghost use Rattle.normalizer_command.specs.Outcomes.{AreDone, IsCutOff, IsWritten, greater, state, status_of};
+ghost use Rattle.normalizer_command.specs.Reports.{Tells};
+
+use crate::fault::Fault;
+use crate::inputs::{Inputs, Reports};
+use crate::reply::Task;
+use normalizer_program::ending::Answer;
+use normalizer_program::normalizer::Normalizer;
+use normalizer_program::{Source, Target, read_all, write_all};
+use std::alloc::Global;
+
+/// Does the task with each file in turn, up to a refused write, and returns the exit status: the greatest of those of
+/// the files.
+pub(crate) fn over_files<I: Inputs, W: Target, R: Reports>(
+    alloc: Global,
+    normalizer: &Normalizer,
+    task: Task,
+    inputs: &I,
+    names: &[&str],
+    writer: &mut W,
+    reports: &mut R,
+) -> u8
+    ensures { (m : Making) → Makes normalizer.now m →
+        AreDone task m (I.bytes_of inputs.now) (map (λ name. name.now) names.now)
+        (state (W.taken writer.old) (R.told reports.old) 0) (state (W.taken writer.new) (R.told reports.new) result) }
+{
+    let mut status = 0;
+    for name in names {
+        let outcome = over_file(alloc, normalizer, task, inputs, name, writer);
+        tell(reports, name, outcome);
+        status = greater(status, status_of(outcome));
+        if is_refused_write(outcome) {
+            return status;
+        }
+    }
+    status
+}
+
+// Reads one file, and writes the reply to it.
+fn over_file<I: Inputs, W: Target>(
+    alloc: Global,
+    normalizer: &Normalizer,
+    task: Task,
+    inputs: &I,
+    name: &str,
+    writer: &mut W,
+) -> Result<Answer, Fault>
+    ensures done { (m : Making) → Makes normalizer.now m → IfOk result
+        (IsWritten task m name.now (I.bytes_of inputs.now name.now) (W.taken writer.old) (W.taken writer.new)) }
+    ensures cut { (m : Making) → Makes normalizer.now m → IsErrOf result Fault.Write →
+        IsCutOff task m name.now (I.bytes_of inputs.now name.now) (W.taken writer.old) (W.taken writer.new) }
+    ensures unwritten { IfErr result (λ fault. fault ≢ Fault.Write → writer.new ≡ writer.old) }
+{
+    let mut input = inputs.open(name)?;
+    over_input(alloc, normalizer, task, name, &mut input, writer)
+}
+
+// Reads to the end, computes the reply, and only then writes it.
+fn over_input<S: Source, W: Target>(
+    alloc: Global,
+    normalizer: &Normalizer,
+    task: Task,
+    name: &str,
+    input: &mut S,
+    writer: &mut W,
+) -> Result<Answer, Fault>
+    ensures done { (m : Making) → Makes normalizer.now m → IfOk result
+        (IsWritten task m name.now (S.left input.old) (W.taken writer.old) (W.taken writer.new)) }
+    ensures cut { (m : Making) → Makes normalizer.now m → IsErrOf result Fault.Write →
+        IsCutOff task m name.now (S.left input.old) (W.taken writer.old) (W.taken writer.new) }
+    ensures unwritten { IfErr result (λ fault. fault ≢ Fault.Write → writer.new ≡ writer.old) }
+{
+    let bytes = read_all(alloc, input)?;
+    let reply = task.reply(alloc, normalizer, name, &bytes)?;
+    write_all(writer, reply.output.as_bytes())?;
+    Ok(reply.answer)
+}
+
+// Tells why a file failed, if it did.
+fn tell<R: Reports>(reports: &mut R, name: &str, outcome: Result<Answer, Fault>)
+    ensures untold { IfOk outcome (λ _. R.told reports.new ≡ R.told reports.old) }
+    ensures told { IfErr outcome (λ fault. Tells (R.told reports.old) (R.told reports.new) (name.now, fault)) }
+{
+    if let Err(fault) = outcome {
+        reports.report(name, fault);
+    }
+}
+
+fn is_refused_write(outcome: Result<Answer, Fault>) -> bool
+    ensures { IsTrue result ↔ IsErrOf outcome Fault.Write }
+{
+    matches!(&outcome, Err(Fault::Write))
+}
+
+// The exit status after a file.
+fn status_of(outcome: Result<Answer, Fault>) -> u8
+    ensures { result ≡ status_of outcome }
+{
+    match outcome {
+        Ok(Answer::Done) => 0,
+        Ok(Answer::No) => 1,
+        Err(_) => 2,
+    }
+}
+
+// The greater of two.
+fn greater(a: u8, b: u8) -> u8
+    ensures { result ≡ greater a b }
+{
+    if a < b { b } else { a }
+}

@@ -1,0 +1,11 @@
+//! The program `uninorm` but for its files and standard streams.
+#![tactic(auto)]
+
+mod data;
+pub mod fault;
+mod files;
+pub mod inputs;
+mod normalizers;
+pub mod reply;
+pub mod run;
+pub mod words;

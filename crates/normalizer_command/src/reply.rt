@@ -1,0 +1,67 @@
+//! What is done with a file.
+ghost use Rattle.std.specs.Prelude.{◌≡◌, IfOk, IfErr, IsOkUnless, string_bytes};
+ghost use Rattle.normalizer_command.specs.Making.{Making, Makes};
+ghost use Rattle.normalizer_command.specs.Replies.{IsReply, line_of};
+
+use crate::fault::Fault;
+use normalizer_program::ending::{Answer, ToolFault};
+use normalizer_program::normalizer::Normalizer;
+use std::alloc::{AllocError, Global};
+
+/// What is done with a file.
+#[derive(Clone, Copy, Debug, PartialEq, Eq)]
+pub enum Task {
+    /// Its form is written.
+    Write,
+    /// Its name is written if it isn't in the form.
+    Check,
+}
+
+/// An answer, with the text that is written.
+#[derive(Drop)]
+pub struct Reply {
+    pub(crate) answer: Answer,
+    pub(crate) output: String,
+}
+
+impl Task {
+    /// Returns the reply to the bytes of a file.
+    pub(crate) fn reply(
+        self,
+        alloc: Global,
+        normalizer: &Normalizer,
+        name: &str,
+        bytes: &[u8],
+    ) -> Result<Reply, ToolFault>
+        ensures reply { (m : Making) → Makes normalizer.now m →
+            IfOk result (λ r. IsReply self m name.now bytes.now r.answer (string_bytes r.output)) }
+        ensures refused { IsOkUnless result ToolFault.Memory }
+    {
+        match self {
+            Task::Write => Ok(Reply {
+                answer: Answer::Done,
+                output: normalizer.form_of(alloc, bytes)?,
+            }),
+            Task::Check => {
+                if normalizer.is_own_form(bytes)? {
+                    Ok(Reply {
+                        answer: Answer::Done,
+                        output: String::new(alloc),
+                    })
+                } else {
+                    Ok(Reply {
+                        answer: Answer::No,
+                        output: line(alloc, name)?,
+                    })
+                }
+            }
+        }
+    }
+}
+
+// A name and a line feed.
+fn line(alloc: Global, name: &str) -> Result<String, AllocError>
+    ensures { IfOk result (λ line. string_bytes line ≡ line_of name.now) }
+{
+    format!(in alloc; "{name}\n")
+}

@@ -1,0 +1,117 @@
+//! A run over files.
+ghost use Rattle.std.specs.Prelude.{◌≡◌, ◌⊎◌, map, List, ℕ, IfOk, IfErr, OnErr, IsOkUnless};
+ghost use Rattle.normalizer_builder.specs.Built.{AreBuilt, data_in};
+ghost use Rattle.normalizer_builder.specs.Building.{Builds};
+ghost use Rattle.normalizer_records.specs.Entry.{Entry, MapperEntry};
+ghost use Rattle.normalizer_command.specs.Data.{IsDataFault, path_of};
+ghost use Rattle.normalizer_command.specs.Making.{making_by};
+ghost use Rattle.normalizer_command.specs.Outcomes.{AreDone, state};
+ghost use Rattle.normalizer_command.specs.Reports.{Tells};
+ghost use Rattle.normalizer_command.specs.Runs.{IsRun, RunsByFiles};
+
+use crate::data::{DataFault, built, path, read_files};
+use crate::fault::Fault;
+use crate::files::over_files;
+use crate::inputs::{Inputs, Reports};
+use crate::normalizers::normalizer_to;
+use crate::reply::Task;
+use icu_normalizer::{Built, NormalizeError};
+use normalizer_built::NormalForm;
+use normalizer_program::Target;
+use normalizer_ucd::UcdFile;
+use std::alloc::Global;
+
+/// Does the task with each file in turn, by Unicode's files in a directory, and returns the exit status: 0; 1 if a file
+/// isn't in the form; 2 if one failed. If Unicode's files fail, that is told, and nothing is written.
+pub fn run<I: Inputs, W: Target, R: Reports>(
+    alloc: Global,
+    task: Task,
+    form: NormalForm,
+    directory: &str,
+    names: &[&str],
+    inputs: &I,
+    writer: &mut W,
+    reports: &mut R,
+) -> u8
+    ensures { IsRun task form (I.bytes_of inputs.now) directory.now (map (λ name. name.now) names.now)
+        (state (W.taken writer.old) (R.told reports.old) 0) (state (W.taken writer.new) (R.told reports.new) result) }
+{
+    match run_by_files(alloc, task, form, directory, names, inputs, writer, reports) {
+        Ok(status) => status,
+        Err(error) => {
+            tell(alloc, directory, error, reports);
+            2
+        }
+    }
+}
+
+// The exit status, or why there are no data: then nothing is written or told.
+fn run_by_files<I: Inputs, W: Target, R: Reports>(
+    alloc: Global,
+    task: Task,
+    form: NormalForm,
+    directory: &str,
+    names: &[&str],
+    inputs: &I,
+    writer: &mut W,
+    reports: &mut R,
+) -> Result<u8, DataFault>
+    ensures done { IfOk result (λ status. RunsByFiles task form
+        (I.bytes_of inputs.now) directory.now (map (λ name. name.now) names.now)
+        (state (W.taken writer.old) (R.told reports.old) 0) (state (W.taken writer.new) (R.told reports.new) status)) }
+    ensures fault { IfErr result (λ e. IsDataFault (I.bytes_of inputs.now) directory.now e.fault) }
+    ensures unwritten { OnErr result (writer.new ≡ writer.old) }
+    ensures untold { OnErr result (reports.new ≡ reports.old) }
+{
+    let (unicode_data, exclusions) = read_files(alloc, inputs, directory)?;
+    let data = built(alloc, &unicode_data, &exclusions)?;
+    match over_data(alloc, &data, task, form, names, inputs, writer, reports) {
+        Ok(status) => Ok(status),
+        Err(_) => Err(DataFault {
+            file: UcdFile::UnicodeData,
+            fault: Fault::Memory,
+        }),
+    }
+}
+
+// The exit status, unless there was not enough memory for the normalizer.
+fn over_data<I: Inputs, W: Target, R: Reports>(
+    alloc: Global,
+    data: &Built,
+    task: Task,
+    form: NormalForm,
+    names: &[&str],
+    inputs: &I,
+    writer: &mut W,
+    reports: &mut R,
+) -> Result<u8, NormalizeError>
+    requires { AreBuilt (data_in «data».now) }
+    ensures done { (records : List Entry) (mapper : List MapperEntry) → Builds records mapper (data_in «data».now) →
+        IfOk result (λ status. AreDone task (making_by records form)
+        (I.bytes_of inputs.now) (map (λ name. name.now) names.now)
+        (state (W.taken writer.old) (R.told reports.old) 0) (state (W.taken writer.new) (R.told reports.new) status)) }
+    ensures unwritten { OnErr result (writer.new ≡ writer.old) }
+    ensures untold { OnErr result (reports.new ≡ reports.old) }
+{
+    let normalizer = normalizer_to(data, form)?;
+    Ok(over_files(
+        alloc,
+        &normalizer,
+        task,
+        inputs,
+        names,
+        writer,
+        reports,
+    ))
+}
+
+// Tells which of Unicode's files failed, and why. (Its directory is named if there is no memory for its path.)
+fn tell<R: Reports>(alloc: Global, directory: &str, error: DataFault, reports: &mut R)
+    ensures { (name : List ℕ) × ((name ≡ path_of directory.now error.file) ⊎ (name ≡ directory.now))
+        × Tells (R.told reports.old) (R.told reports.new) (name, error.fault) }
+{
+    match path(alloc, directory, error.file) {
+        Ok(path) => reports.report(path.as_str(), error.fault),
+        Err(_) => reports.report(directory, error.fault),
+    }
+}

@@ -1,0 +1,123 @@
+//! The words that the program is started with.
+ghost use Rattle.std.specs.Prelude.{◌≡◌, ◌↔◌, Some};
+ghost use Rattle.normalizer_built.specs.declared.NormalForm.{NormalForm};
+ghost use Rattle.normalizer_command.specs.declared.reply.Task.{Task};
+ghost use Rattle.normalizer_command.specs.Words.{NamesForm, NamesTask};
+
+use crate::reply::Task;
+use clap::{Arg, ArgAction, ArgMatches, Command, Error};
+use normalizer_built::NormalForm;
+use std::alloc::{AllocError, Global};
+
+/// What is told of `check` and `where` without a form.
+const NO_FORM: &str = "a form is missing: nfc, nfd, nfkc or nfkd";
+
+/// What the words ask for.
+#[derive(Drop)]
+pub enum Request<'a> {
+    /// A task over files.
+    Files(FileRequest<'a>),
+    /// Nothing, for this reason.
+    Unclear(&'static str),
+}
+
+/// A task over files.
+#[derive(Drop)]
+pub struct FileRequest<'a> {
+    pub task: Task,
+    pub form: NormalForm,
+    /// The directory of Unicode's files, if one is named.
+    pub directory: Option<&'a str>,
+    /// The names of the files; `-` is standard input.
+    pub names: Vec<&'a str>,
+}
+
+/// Reads the words, the first of which is the program's name.
+///
+/// # Errors
+/// The help if it is asked for, or what is wrong with the words, or that memory was refused.
+pub fn parsed<'a>(alloc: Global, words: &'a [String]) -> Result<Request<'a>, Error> {
+    let matches = command(alloc)?.try_get_matches_from(words)?;
+    Ok(request_of(alloc, &matches)?)
+}
+
+fn request_of<'a>(alloc: Global, matches: &ArgMatches<'a>) -> Result<Request<'a>, AllocError> {
+    let directory = matches.get_str("data");
+    let names = matches.get_strs("file").unwrap_or(&[]);
+    let word = matches.get_str("command").unwrap_or("");
+    match (task_named(word), form_named(word), names) {
+        (Some(task), _, [form, names @ ..]) => match form_named(form) {
+            Some(form) => over_files(alloc, task, form, directory, names),
+            None => Ok(Request::Unclear(NO_FORM)),
+        },
+        (Some(_), _, []) => Ok(Request::Unclear(NO_FORM)),
+        (None, Some(form), names) => over_files(alloc, Task::Write, form, directory, names),
+        (None, None, _) => Ok(Request::Unclear("a command is missing: see --help")),
+    }
+}
+
+fn over_files<'a>(
+    alloc: Global,
+    task: Task,
+    form: NormalForm,
+    directory: Option<&'a str>,
+    named: &[&'a str],
+) -> Result<Request<'a>, AllocError> {
+    let mut names = Vec::new(alloc);
+    if named.is_empty() {
+        names.push("-")?;
+    }
+    names.extend_from_slice(named)?;
+    Ok(Request::Files(FileRequest {
+        task,
+        form,
+        directory,
+        names,
+    }))
+}
+
+// The command that is followed by a form.
+fn task_named(word: &str) -> Option<Task>
+    ensures { (task : Task) → (result ≡ Some task) ↔ NamesTask task word.now }
+{
+    match word {
+        "check" => Some(Task::Check),
+        _ => None,
+    }
+}
+
+fn form_named(word: &str) -> Option<NormalForm>
+    ensures { (form : NormalForm) → (result ≡ Some form) ↔ NamesForm form word.now }
+{
+    match word {
+        "nfc" => Some(NormalForm::Nfc),
+        "nfd" => Some(NormalForm::Nfd),
+        "nfkc" => Some(NormalForm::Nfkc),
+        "nfkd" => Some(NormalForm::Nfkd),
+        _ => None,
+    }
+}
+
+fn command<'a>(alloc: Global) -> Result<Command<'a>, AllocError> {
+    let word = Arg::new(alloc, "command")
+        .value_name("COMMAND")
+        .help("nfc, nfd, nfkc or nfkd: write that form. check FORM: print the names of files that aren't in the form")
+        .value_parser(["nfc", "nfd", "nfkc", "nfkd", "check"].as_slice())
+        .hide_possible_values(true);
+    let files = Arg::new(alloc, "file")
+        .value_name("FILE")
+        .action(ArgAction::Append)
+        .num_args(0..)
+        .help("Files; standard input if there are none, or for -");
+    let directory = Arg::new(alloc, "data")
+        .long("data")
+        .value_name("DIR")
+        .help("The directory of UnicodeData.txt and CompositionExclusions.txt");
+    Command::new(alloc, "uninorm")
+        .about("Writes the normal forms of text in UTF-8 (Unicode Standard Annex #15)")
+        .after_help("Status: 0; check: 1 if a file isn't in the form; 2 if a file failed.")
+        .version("1.0.0")
+        .arg(word)?
+        .arg(files)?
+        .arg(directory)
+}
