@@ -41,7 +41,7 @@ enum normalizer_call {
 
 /* A step that is timed. Its form and its call are asked for; the rest is the answer. */
 struct normalizer_step {
-    uint64_t nanoseconds; /* of CLOCK_MONOTONIC */
+    uint64_t nanoseconds; /* of CLOCK_THREAD_CPUTIME_ID */
     uint64_t length;      /* how many bytes or units were written; of a check, 1 where it holds */
     uint32_t digest;      /* of what was written: each number behind 31 times what stood before, modulo 2^32 */
     uint8_t form;
