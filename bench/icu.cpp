@@ -1,8 +1,8 @@
 // Times ICU4C: `icu ROUNDS FILE..`. It writes a line for each step, with what program.c writes but the last column.
-#include <chrono>
 #include <cstdint>
 #include <cstdio>
 #include <cstdlib>
+#include <ctime>
 #include <fstream>
 #include <functional>
 #include <iterator>
@@ -28,6 +28,13 @@ struct Named {
     const Normalizer2 *normalizer;
 };
 
+// The nanoseconds of processor time that this thread has used.
+long long now() {
+    timespec time;
+    if (clock_gettime(CLOCK_THREAD_CPUTIME_ID, &time)) std::exit(2);
+    return time.tv_sec * 1000000000LL + time.tv_nsec;
+}
+
 void say(const char *file, const char *form, const char *call, const Written &written, long long passed) {
     uint32_t digest = 0;
     for (unsigned char byte : written.text) digest = digest * 31 + byte;
@@ -41,10 +48,9 @@ void timed(const char *file, const char *form, const char *call, Written &writte
     written.text.clear();
     written.units.truncate(0);
     written.answer = false;
-    auto start = std::chrono::steady_clock::now();
+    long long start = now();
     go();
-    auto passed = std::chrono::steady_clock::now() - start;
-    say(file, form, call, written, std::chrono::duration_cast<std::chrono::nanoseconds>(passed).count());
+    say(file, form, call, written, now() - start);
 }
 
 void times(const char *file, const std::string &text, int rounds, const Named (&forms)[4]) {

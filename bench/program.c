@@ -61,7 +61,7 @@ static void *room(size_t size) {
 
 static uint64_t now(void) {
     struct timespec time;
-    if (clock_gettime(CLOCK_MONOTONIC, &time)) stop("no such clock", "clock_gettime");
+    if (clock_gettime(CLOCK_THREAD_CPUTIME_ID, &time)) stop("no such clock", "clock_gettime");
     return (uint64_t)time.tv_sec * 1000000000u + (uint64_t)time.tv_nsec;
 }
 

@@ -41,7 +41,7 @@ enum normalizer_call {
 
 /* A step that is timed. The caller sets its form and its call; the rest is the result. */
 struct normalizer_step {
-    uint64_t nanoseconds; /* of CLOCK_MONOTONIC */
+    uint64_t nanoseconds; /* of CLOCK_THREAD_CPUTIME_ID */
     uint64_t length;      /* how many bytes or units were written; of a check, 1 if it holds */
     uint32_t digest;      /* of what was written: each number plus 31 times the digest before it, modulo 2^32 */
     uint8_t form;

@@ -1,6 +1,7 @@
 //! The data of a record set.
 ghost use Rattle.std.specs.Prelude.{◌≡◌, ◌⊎◌, IfOk, IfErr, IsErrOf};
 ghost use Rattle.normalizer_builder.specs.Building.{Builds};
+ghost use Rattle.normalizer_builder.specs.Built.{data_in};
 ghost use Rattle.normalizer_program.specs.RecordSets.{AreRefused, mapper_records_of, records_of};
 
 use crate::ending::ToolFault;
@@ -11,7 +12,7 @@ use std::alloc::{AllocError, Global};
 
 /// The data that the records of a set build.
 pub fn built(alloc: Global, set: RecordSet) -> Result<Built, ToolFault>
-    ensures ok { IfOk result (λ b. Builds (records_of set) (mapper_records_of set) b.packed) }
+    ensures ok { IfOk result (λ b. Builds (records_of set) (mapper_records_of set) (data_in b)) }
     ensures data { IsErrOf result ToolFault.Data → AreRefused (records_of set) (mapper_records_of set) }
     ensures errors { IfErr result (λ fault. (fault ≡ ToolFault.Data) ⊎ (fault ≡ ToolFault.Memory)) }
 {
