@@ -81,7 +81,11 @@ fn read<I: Inputs>(
 }
 
 /// The data that the records of the two files build.
-pub(crate) fn built(alloc: Global, unicode_data: &[u8], exclusions: &[u8]) -> Result<Built, DataFault>
+pub(crate) fn built(
+    alloc: Global,
+    unicode_data: &[u8],
+    exclusions: &[u8],
+) -> Result<Built, DataFault>
     ensures built { IfOk result (λ b. (records : List Entry)
         × AreBuiltOf unicode_data.now exclusions.now records (data_in b)) }
     ensures fault { IfErr result (λ e. IsFaultOf unicode_data.now exclusions.now e.fault) }

@@ -94,15 +94,7 @@ fn over_data<I: Inputs, W: Target, R: Reports>(
     ensures untold { OnErr result (reports.new ≡ reports.old) }
 {
     let normalizer = normalizer_to(data, form)?;
-    Ok(over_files(
-        alloc,
-        &normalizer,
-        task,
-        inputs,
-        names,
-        writer,
-        reports,
-    ))
+    Ok(over_files(alloc, &normalizer, task, inputs, names, writer, reports))
 }
 
 // Tells which of Unicode's files failed, and why. (Its directory is named if there is no memory for its path.)

@@ -101,7 +101,9 @@ fn form_named(word: &str) -> Option<NormalForm>
 fn command<'a>(alloc: Global) -> Result<Command<'a>, AllocError> {
     let word = Arg::new(alloc, "command")
         .value_name("COMMAND")
-        .help("nfc, nfd, nfkc or nfkd: write that form. check FORM: print the names of files that aren't in the form")
+        .help(
+            "nfc, nfd, nfkc or nfkd: write that form. check FORM: print the names of files that aren't in the form",
+        )
         .value_parser(["nfc", "nfd", "nfkc", "nfkd", "check"].as_slice())
         .hide_possible_values(true);
     let files = Arg::new(alloc, "file")
@@ -109,10 +111,9 @@ fn command<'a>(alloc: Global) -> Result<Command<'a>, AllocError> {
         .action(ArgAction::Append)
         .num_args(0..)
         .help("Files; standard input if there are none, or for -");
-    let directory = Arg::new(alloc, "data")
-        .long("data")
-        .value_name("DIR")
-        .help("The directory of UnicodeData.txt and CompositionExclusions.txt");
+    let directory = Arg::new(alloc, "data").long("data").value_name("DIR").help(
+        "The directory of UnicodeData.txt and CompositionExclusions.txt",
+    );
     Command::new(alloc, "uninorm")
         .about("Writes the normal forms of text in UTF-8 (Unicode Standard Annex #15)")
         .after_help("Status: 0; check: 1 if a file isn't in the form; 2 if a file failed.")

@@ -39,13 +39,13 @@ pub use by_records::{
     built_combining_classes, built_composition, built_decomposition, form_by_records,
 };
 pub use by_unicode_data::{UnicodeFault, form_by_unicode_data};
-pub use normalizer_built::{NormalForm, built_mapper};
 use icu_normalizer::{
     ComposingNormalizer, ComposingNormalizerBorrowed, DataError, DataProvider,
     DecomposingNormalizerBorrowed, Decomposition, DecompositionData, DecompositionTables,
     NormalizeError, NormalizerNfcV1, NormalizerNfdTablesV1, NormalizerNfkdDataV1,
     NormalizerNfkdTablesV1, Utf8Chars, check_nfd_data,
 };
+pub use normalizer_built::{NormalForm, built_mapper};
 use normalizer_iterators::laws::{text_comes_unless_a_fault_does, text_comes_without_faults};
 use std::alloc::Global;
 

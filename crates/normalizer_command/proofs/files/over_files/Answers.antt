@@ -8,9 +8,9 @@ pub returns-then-is_refused_write : goal.returns-then-is_refused_write
 returns-then-is_refused_write g c = λ m makes.
     let outcome = c.over_file-outcome.result in
     let done : IsDone c.args.task m (name_at c.args.names.now c.loop-name.name-index)
-        (g.I.Inputs.bytes_of c.args.inputs.now (name_at c.args.names.now c.loop-name.name-index))
-        (state (g.W.Target.taken c.loop-name.writer) (g.R.Reports.told c.loop-name.reports) c.loop-name.status)
-        (state (g.W.Target.taken c.over_file-outcome.new.writer) (g.R.Reports.told c.tell.new.reports) c.greater-status.result) outcome
+    (g.I.Inputs.bytes_of c.args.inputs.now (name_at c.args.names.now c.loop-name.name-index))
+    (state (g.W.Target.taken c.loop-name.writer) (g.R.Reports.told c.loop-name.reports) c.loop-name.status)
+    (state (g.W.Target.taken c.over_file-outcome.new.writer) (g.R.Reports.told c.tell.new.reports) c.greater-status.result) outcome
     = record {
       done = c.over_file-outcome.ensures.done m makes;
       cut = c.over_file-outcome.ensures.cut m makes;
@@ -27,9 +27,9 @@ pub loop-name-preserved : goal.loop-name-preserved
 loop-name-preserved g c = λ m makes end rest.
     let outcome = c.over_file-outcome.result in
     let done : IsDone c.args.task m (name_at c.args.names.now c.loop-name.name-index)
-        (g.I.Inputs.bytes_of c.args.inputs.now (name_at c.args.names.now c.loop-name.name-index))
-        (state (g.W.Target.taken c.loop-name.writer) (g.R.Reports.told c.loop-name.reports) c.loop-name.status)
-        (state (g.W.Target.taken c.over_file-outcome.new.writer) (g.R.Reports.told c.tell.new.reports) c.greater-status.result) outcome
+    (g.I.Inputs.bytes_of c.args.inputs.now (name_at c.args.names.now c.loop-name.name-index))
+    (state (g.W.Target.taken c.loop-name.writer) (g.R.Reports.told c.loop-name.reports) c.loop-name.status)
+    (state (g.W.Target.taken c.over_file-outcome.new.writer) (g.R.Reports.told c.tell.new.reports) c.greater-status.result) outcome
     = record {
       done = c.over_file-outcome.ensures.done m makes;
       cut = c.over_file-outcome.ensures.cut m makes;
