@@ -13,9 +13,15 @@ use std::alloc::AllocError;
 
 /// Data built from records: a provider for all seven markers. [`Records::build`](crate::Records::build) makes it.
 /// `load` copies what is held.
-#[derive(Drop)]
 pub struct Built {
     pub(crate) packed: Packed,
+}
+
+// Written out, so that each place that drops one makes one call.
+impl Drop for Built {
+    fn drop(self) {
+        let Built { packed: _packed } = self;
+    }
 }
 
 impl DataProvider<NormalizerNfdDataV1> for Built {

@@ -32,7 +32,6 @@ use normalizer_tables::{
 /// A normalizer to NFC, or to NFKC over compatibility data. Its data were checked when it was made.
 ///
 /// [`as_borrowed`](ComposingNormalizer::as_borrowed) returns the normalizer that has the calls on text.
-#[derive(Drop)]
 pub struct ComposingNormalizer {
     decompositions: DecompositionData,
     tables: DecompositionTables,
@@ -40,6 +39,18 @@ pub struct ComposingNormalizer {
     pairs: CanonicalCompositions,
     ghost serves: { ServesComposing (characters_from decompositions tables supplementary)
         (bounds_of decompositions) pairs },
+}
+
+// Written out, so that each place that drops one makes one call.
+impl Drop for ComposingNormalizer {
+    fn drop(self) {
+        let ComposingNormalizer {
+            decompositions: _decompositions,
+            tables: _tables,
+            supplementary: _supplementary,
+            pairs: _pairs,
+        } = self;
+    }
 }
 
 impl ComposingNormalizer {

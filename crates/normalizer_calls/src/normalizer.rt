@@ -31,13 +31,23 @@ use normalizer_tables::{
 /// A normalizer to NFD, or to NFKD over compatibility data. Its data were checked when it was made.
 ///
 /// [`as_borrowed`](DecomposingNormalizer::as_borrowed) returns the normalizer that has the calls on text.
-#[derive(Drop)]
 pub struct DecomposingNormalizer {
     decompositions: DecompositionData,
     tables: DecompositionTables,
     supplementary: Option<DecompositionTables>,
     ghost serves: { ServesDecomposing (characters_from decompositions tables supplementary)
         (bounds_of decompositions) },
+}
+
+// Written out, so that each place that drops one makes one call.
+impl Drop for DecomposingNormalizer {
+    fn drop(self) {
+        let DecomposingNormalizer {
+            decompositions: _decompositions,
+            tables: _tables,
+            supplementary: _supplementary,
+        } = self;
+    }
 }
 
 impl DecomposingNormalizer {

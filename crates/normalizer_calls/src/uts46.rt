@@ -30,13 +30,24 @@ const VIRAMA: u8 = 9;
 ///
 /// It maps and normalizes; STD3 rules, transitional processing, Punycode and the other steps of UTS #46 are left to
 /// the caller.
-#[derive(Drop)]
 pub struct Uts46Mapper {
     decompositions: DecompositionData,
     tables: DecompositionTables,
     supplementary: DecompositionTables,
     pairs: CanonicalCompositions,
     ghost serves: { ServesMapper (mapper_data decompositions tables supplementary pairs) (bounds_of decompositions) },
+}
+
+// Written out, so that each place that drops one makes one call.
+impl Drop for Uts46Mapper {
+    fn drop(self) {
+        let Uts46Mapper {
+            decompositions: _decompositions,
+            tables: _tables,
+            supplementary: _supplementary,
+            pairs: _pairs,
+        } = self;
+    }
 }
 
 impl Uts46Mapper {

@@ -8,10 +8,19 @@ use normalizer_rows::{mapper_records, records};
 use std::alloc::Global;
 
 /// The records of the set `rows`.
-#[derive(Drop)]
 pub(crate) struct Rows {
     pub records: Vec<Record>,
     pub mapper: Vec<Uts46Record>,
+}
+
+// Written out, so that each place that drops one makes one call.
+impl Drop for Rows {
+    fn drop(self) {
+        let Rows {
+            records: _records,
+            mapper: _mapper,
+        } = self;
+    }
 }
 
 impl Rows {
@@ -28,11 +37,21 @@ impl Rows {
 }
 
 /// A normalizer of each kind, and the mapper.
-#[derive(Drop)]
 pub(crate) struct Normalizers {
     pub decomposing: DecomposingNormalizer,
     pub composing: ComposingNormalizer,
     pub mapper: Uts46Mapper,
+}
+
+// Written out, so that each place that drops one makes one call.
+impl Drop for Normalizers {
+    fn drop(self) {
+        let Normalizers {
+            decomposing: _decomposing,
+            composing: _composing,
+            mapper: _mapper,
+        } = self;
+    }
 }
 
 impl Normalizers {
