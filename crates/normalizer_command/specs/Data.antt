@@ -4,7 +4,7 @@ use Rattle.normalizer_builder.specs.Building.{Builds, IsSmallest}
 use Rattle.normalizer_packing.specs.declared.Packed.{Packed}
 use Rattle.normalizer_records.specs.Entry.{Entry}
 use Rattle.normalizer_ucd.specs.declared.error.UcdFile.{UcdFile}
-use Rattle.normalizer_ucd.specs.declared.error.UcdFile.TheVariants.{UnicodeData, CompositionExclusions}
+use Rattle.normalizer_ucd.specs.declared.error.UcdFile.TheVariants.{UnicodeData, CompositionExclusions, IdnaMappingTable}
 use Rattle.normalizer_ucd.specs.UnicodeData.{records_of}
 use Rattle.normalizer_command.specs.declared.fault.Fault.{Fault}
 use Rattle.normalizer_command.specs.declared.fault.Fault.TheVariants.{Open, Read, Write, Memory, Line, Records}
@@ -12,6 +12,7 @@ use Rattle.normalizer_command.specs.declared.fault.Fault.TheVariants.{Open, Read
 abbrev pub name_of : UcdFile → List ℕ
 name_of UnicodeData = codes "UnicodeData.txt"
 name_of CompositionExclusions = codes "CompositionExclusions.txt"
+name_of IdnaMappingTable = codes "IdnaMappingTable.txt"
 
 -- a file in a directory
 abbrev pub path_of : List ℕ → UcdFile → List ℕ

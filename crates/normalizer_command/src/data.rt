@@ -33,6 +33,7 @@ fn name_of(file: UcdFile) -> &'static str
     match file {
         UcdFile::UnicodeData => "UnicodeData.txt",
         UcdFile::CompositionExclusions => "CompositionExclusions.txt",
+        UcdFile::IdnaMappingTable => "IdnaMappingTable.txt",
     }
 }
 
