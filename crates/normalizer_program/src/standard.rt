@@ -1,10 +1,10 @@
-//! Readers and writers as devices.
+//! Standard input and output, and other readers and writers, as devices.
 ghost use Rattle.std.specs.Prelude.{⊤};
 
 use crate::device::{DeviceError, Source, Target};
 use std::io::{Read, Write};
 
-/// A reader as a source. It tells the bytes that the reader tells. An interrupted read counts as refused.
+/// A reader as a source, with the bytes that the reader reports. An interrupted read counts as refused.
 #[derive(Drop)]
 pub struct Input<R>(pub R);
 
@@ -19,8 +19,8 @@ impl<R: Read> Source for Input<R> {
     }
 }
 
-/// A writer as a target. It tells the bytes that the writer tells. A write that takes none, or is interrupted, counts
-/// as refused.
+/// A writer as a target, with the bytes that the writer reports. A write that takes none, or is interrupted, counts as
+/// refused.
 #[derive(Drop)]
 pub struct Output<W>(pub W);
 

@@ -4,13 +4,12 @@
 
 #[cfg(test)]
 mod memory;
-mod standard;
 #[cfg(test)]
 mod tests;
 
 use normalizer_program::ending::{ToolFault, ending};
 use normalizer_program::program::program;
-use standard::{Input, Output};
+use normalizer_program::{Input, Output};
 use std::env;
 use std::io::ErrorKind;
 use std::process::ExitCode;
