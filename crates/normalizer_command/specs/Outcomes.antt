@@ -11,7 +11,7 @@ use Rattle.normalizer_command.specs.Making.{Making}
 use Rattle.normalizer_command.specs.Replies.{IsReply}
 use Rattle.normalizer_command.specs.Reports.{Report, Tells}
 
--- what was written, what was told, and the exit status so far
+-- what was written, what was reported, and the exit status so far
 pub record State : Type 0 where
   pub taken : Option (List ℕ)
   pub told : Option (List Report)
@@ -47,7 +47,7 @@ status_of (Err fault) = 2
 abbrev pub greater : ℕ → ℕ → ℕ
 greater a b = if nat_lt a b then b else a
 
--- one file: its reply is written, or it is told why it failed; nothing of it is written then, unless a write was refused
+-- one file: its reply is written, or a report says why it failed, and nothing of it is written unless a write was refused
 pub record IsDone (task : Task) (m : Making) (name : List ℕ) (bytes : Option (List ℕ)) (s t : State)
     (outcome : Result Answer Fault) : Type 0 where
   pub done : IfOk outcome (IsWritten task m name bytes s.taken t.taken)

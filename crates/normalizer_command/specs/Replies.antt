@@ -1,4 +1,4 @@
--- What is answered to the bytes of a file, and what is written.
+-- The reply to the bytes of a file, and what is written.
 use Rattle.std.specs.Prelude.{◌≡◌, ◌↔◌, ◌⊎◌, ℕ, List, [], ◌∷◌, ◌++◌}
 use Rattle.normalizer_text.specs.Encodings.{Encoding}
 use Rattle.normalizer_input.specs.EncodedForm.{encoded_form}
@@ -15,7 +15,7 @@ line_feed = 0x0A
 abbrev pub line_of : List ℕ → List ℕ
 line_of text = text ++ (line_feed ∷ [])
 
--- the bytes are well-formed and their own form, or are not
+-- the bytes are well-formed and already normalized, or are not
 abbrev pub IsInForm : Making → List ℕ → Type 0
 IsInForm m input = IsInputNormalized Encoding.Utf8 m.reading m.form input
 

@@ -1,4 +1,4 @@
--- What is told of files that failed.
+-- Reports of files that failed.
 use Rattle.std.specs.Prelude.{◌≡◌, ℕ, List, [], ◌∷◌, ◌++◌, Option, Some, IfSome}
 use Rattle.normalizer_command.specs.declared.fault.Fault.{Fault}
 
@@ -6,6 +6,6 @@ use Rattle.normalizer_command.specs.declared.fault.Fault.{Fault}
 abbrev pub Report : Type 0
 Report = List ℕ × Fault
 
--- one more report is told, if it is known what was
+-- there is one more report, if the reports are known
 abbrev pub Tells : Option (List Report) → Option (List Report) → Report → Type 0
 Tells before after report = IfSome before (λ told. after ≡ Some (told ++ (report ∷ [])))

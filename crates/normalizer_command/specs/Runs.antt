@@ -21,7 +21,7 @@ pub record RunsByFiles (task : Task) (form : NormalForm) (bytes_of : List ℕ �
   pub recorded : records_of unicode_data exclusions ≡ Ok records
   pub done : AreDone task (making_by records form) bytes_of names s t
 
--- there are no data: this is told of one of the files, or of their directory, nothing is written, and the status is 2
+-- there are no data: a report says so of one of the files, or of their directory, nothing is written, and the status is 2
 pub record LacksData (bytes_of : List ℕ → Option (List ℕ)) (directory : List ℕ) (s t : State) : Type 0 where
   pub name : List ℕ
   pub file : UcdFile

@@ -40,7 +40,7 @@ impl fmt::Display for Fault {
     }
 }
 
-/// What is told of a file: its name, and why it failed. A refused write is told of standard output.
+/// The report of a file: its name, and why it failed. A refused write is reported of standard output.
 #[derive(Clone, Copy)]
 pub struct Message<'a> {
     pub name: &'a str,

@@ -79,7 +79,7 @@ fn over_input<S: Source, W: Target>(
     Ok(reply.answer)
 }
 
-// Tells why a file failed, if it did.
+// Reports why a file failed, if it did.
 fn tell<R: Reports>(reports: &mut R, name: &str, outcome: Result<Answer, Fault>)
     ensures untold { IfOk outcome (λ _. R.told reports.new ≡ R.told reports.old) }
     ensures told { IfErr outcome (λ fault. Tells (R.told reports.old) (R.told reports.new) (name.now, fault)) }

@@ -1,4 +1,4 @@
-//! What the program reads from, and whom it tells what went wrong.
+//! What the program reads from, and where it reports what failed.
 ghost use Rattle.std.specs.Prelude.{◌≡◌, ℕ, List, Option, IfOk};
 ghost use Rattle.normalizer_command.specs.Reports.{Report, Tells};
 
@@ -19,12 +19,12 @@ pub trait Inputs {
         ensures { IfOk result (λ input. Self.Input.left input ≡ bytes_of self.now name.now) };
 }
 
-/// What is told of files that failed.
+/// Takes reports of files that failed.
 pub trait Reports {
-    /// What was told, if it is known.
+    /// The reports so far, if they are known.
     ghost told: { Self → Option (List Report) };
 
-    /// Tells why a file failed.
+    /// Reports why a file failed.
     fn report(&mut self, name: &str, fault: Fault)
         ensures { Tells (told self.old) (told self.new) (name.now, fault) };
 }

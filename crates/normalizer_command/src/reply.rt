@@ -17,7 +17,7 @@ pub enum Task {
     Check,
 }
 
-/// An answer, with the text that is written.
+/// Whether the file is in the form, with the text that is written.
 #[derive(Drop)]
 pub struct Reply {
     pub(crate) answer: Answer,

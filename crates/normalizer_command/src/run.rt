@@ -22,7 +22,7 @@ use normalizer_ucd::UcdFile;
 use std::alloc::Global;
 
 /// Does the task with each file in turn, by Unicode's files in a directory, and returns the exit status: 0; 1 if a file
-/// isn't in the form; 2 if one failed. If Unicode's files fail, that is told, and nothing is written.
+/// isn't in the form; 2 if one failed. If Unicode's files fail, that is reported, and nothing is written.
 pub fn run<I: Inputs, W: Target, R: Reports>(
     alloc: Global,
     task: Task,
@@ -45,7 +45,7 @@ pub fn run<I: Inputs, W: Target, R: Reports>(
     }
 }
 
-// The exit status, or why there are no data: then nothing is written or told.
+// The exit status, or why there are no data: then nothing is written or reported.
 fn run_by_files<I: Inputs, W: Target, R: Reports>(
     alloc: Global,
     task: Task,
@@ -97,7 +97,7 @@ fn over_data<I: Inputs, W: Target, R: Reports>(
     Ok(over_files(alloc, &normalizer, task, inputs, names, writer, reports))
 }
 
-// Tells which of Unicode's files failed, and why. (Its directory is named if there is no memory for its path.)
+// Reports which of Unicode's files failed, and why. (Its directory is named if there is no memory for its path.)
 fn tell<R: Reports>(alloc: Global, directory: &str, error: DataFault, reports: &mut R)
     ensures { (name : List ℕ) × ((name ≡ path_of directory.now error.file) ⊎ (name ≡ directory.now))
         × Tells (R.told reports.old) (R.told reports.new) (name, error.fault) }

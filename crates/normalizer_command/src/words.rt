@@ -9,7 +9,7 @@ use clap::{Arg, ArgAction, ArgMatches, Command, Error};
 use normalizer_built::NormalForm;
 use std::alloc::{AllocError, Global};
 
-/// What is told of `check` and `where` without a form.
+/// The message if `check` has no form.
 const NO_FORM: &str = "a form is missing: nfc, nfd, nfkc or nfkd";
 
 /// What the words ask for.
@@ -35,7 +35,7 @@ pub struct FileRequest<'a> {
 /// Reads the words, the first of which is the program's name.
 ///
 /// # Errors
-/// The help if it is asked for, or what is wrong with the words, or that memory was refused.
+/// The help if the words request it, or what is wrong with them, or that memory was refused.
 pub fn parsed<'a>(alloc: Global, words: &'a [String]) -> Result<Request<'a>, Error> {
     let matches = command(alloc)?.try_get_matches_from(words)?;
     Ok(request_of(alloc, &matches)?)

@@ -1,5 +1,5 @@
-//! The program `uninorm`: it writes the normal forms of files or of standard input, and tells which files aren't in a
-//! form.
+//! The program `uninorm`: it writes the normal forms of files or of standard input, and the names of files that aren't in
+//! a form.
 #![tactic(auto)]
 
 mod standard;

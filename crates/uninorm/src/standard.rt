@@ -1,4 +1,4 @@
-//! Files, the standard streams, and what is told on standard error.
+//! Files, the standard streams, and reports on standard error.
 ghost use Rattle.std.specs.Prelude.{None, ⊤};
 
 use normalizer_command::fault::{Fault, Message};
@@ -19,7 +19,7 @@ pub(crate) enum Stream {
 }
 
 impl Source for Stream {
-    // What the system gives is unknown.
+    // What the system returns is unknown.
     ghost left = { λ _. None };
 
     ghost refused = { λ _ _. ⊤ };
