@@ -9,7 +9,6 @@ use icu_normalizer::{
 };
 use std::alloc::Global;
 
-#[derive(Drop)]
 pub struct Held {
     pub canonical: Option<DecompositionData>,
     pub compatibility: Option<DecompositionData>,
@@ -18,6 +17,21 @@ pub struct Held {
     pub supplementary: Option<DecompositionTables>,
     pub pairs: Option<CanonicalCompositions>,
     pub supplement: Option<NonRecursiveDecompositionSupplement>,
+}
+
+// Written out, so that each place that drops one makes one call.
+impl Drop for Held {
+    fn drop(self) {
+        let Held {
+            canonical: _canonical,
+            compatibility: _compatibility,
+            mapper: _mapper,
+            tables: _tables,
+            supplementary: _supplementary,
+            pairs: _pairs,
+            supplement: _supplement,
+        } = self;
+    }
 }
 
 impl Held {

@@ -18,7 +18,6 @@ enum Source {
 }
 
 /// What questions are asked of.
-#[derive(Drop)]
 pub struct Setting<'a> {
     alloc: Global,
     records: Vec<Record>,
@@ -28,6 +27,22 @@ pub struct Setting<'a> {
     held: Held,
     is_held: bool,
     normalizer: Option<(NormalForm, Normalizer)>,
+}
+
+// Written out, so that each place that drops one makes one call.
+impl Drop for Setting<'_> {
+    fn drop(self) {
+        let Setting {
+            alloc: _alloc,
+            records: _records,
+            mapper: _mapper,
+            rows: _rows,
+            source: _source,
+            held: _held,
+            is_held: _is_held,
+            normalizer: _normalizer,
+        } = self;
+    }
 }
 
 impl<'a> Setting<'a> {
