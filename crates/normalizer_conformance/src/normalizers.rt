@@ -25,7 +25,7 @@ impl Drop for Normalizer {
     }
 }
 
-/// What a call of the normalizer answers, of whichever kind it is.
+/// What a call of the normalizer returns, of whichever kind it is.
 macro_rules! called {
     ($normalizer:expr, $call:ident($($argument:expr),*)) => {
         match $normalizer {

@@ -17,7 +17,7 @@ enum Source {
     ByHand,
 }
 
-/// What questions are asked of.
+/// What questions are about.
 pub struct Setting<'a> {
     alloc: Global,
     records: Vec<Record>,

@@ -46,7 +46,7 @@ pub fn spelled_bool(alloc: Global, answer: bool) -> Result<String, Fault> {
     Ok(String::from_str(alloc, if answer { "yes" } else { "no" })?)
 }
 
-/// What a constructor or a test of data answered.
+/// What a constructor or a test of data returned.
 pub fn acceptance(alloc: Global, refusal: Option<DataError>) -> Result<String, Fault> {
     Ok(match refusal {
         None => String::from_str(alloc, "accepted")?,
@@ -61,7 +61,7 @@ pub fn acceptance(alloc: Global, refusal: Option<DataError>) -> Result<String, F
     })
 }
 
-/// What `build` answered.
+/// What `build` returned.
 pub fn building(alloc: Global, refusal: Option<BuildError>) -> Result<String, Fault> {
     Ok(match refusal {
         None => String::from_str(alloc, "ok")?,

@@ -5,16 +5,16 @@ ghost use Rattle.normalizer_program.specs.Endings.{status_of, line_of};
 use icu_normalizer::{DataError, NormalizeError};
 use std::alloc::{AllocError, AllocFailed};
 
-/// What a command answered.
+/// The result of a command.
 #[derive(Clone, Copy, Debug, PartialEq, Eq)]
 pub enum Answer {
-    /// The result was written, or the answer is yes.
+    /// The output was written, or the result is yes.
     Done,
-    /// The answer is no.
+    /// The result is no.
     No,
 }
 
-/// Why a command has no answer.
+/// Why a command has no result.
 #[derive(Clone, Copy, Debug, PartialEq, Eq)]
 pub enum ToolFault {
     /// A read of the input was refused.

@@ -18,7 +18,9 @@ use std::alloc::Global;
 /// A normalizer of either kind.
 #[derive(Drop)]
 pub enum Normalizer {
+    /// To NFD or NFKD.
     Decomposing(DecomposingNormalizer),
+    /// To NFC or NFKC.
     Composing(ComposingNormalizer),
 }
 
@@ -66,7 +68,10 @@ impl Normalizer {
         }
     }
 
-    /// The UTF-8 of the form of the text that the bytes decode to.
+    /// Returns the form of the text that bytes decode to, in UTF-8.
+    ///
+    /// # Errors
+    /// `Memory` if an allocation was refused.
     pub fn form_of(&self, alloc: Global, bytes: &[u8]) -> Result<String, ToolFault>
         ensures form { IfOk result (λ text. string_bytes text
             ≡ encoded_form Encoding.Utf8 (reading_of self.now) (kind_by self.now) bytes.now) }
@@ -80,7 +85,10 @@ impl Normalizer {
         Ok(text)
     }
 
-    /// Whether the bytes are well-formed and their own form.
+    /// Returns whether bytes are well-formed and already normalized.
+    ///
+    /// # Errors
+    /// `Memory` if an allocation was refused.
     pub fn is_own_form(&self, bytes: &[u8]) -> Result<bool, ToolFault>
         ensures own { IfOk result (λ own. IsTrue own
             ↔ IsInputNormalized Encoding.Utf8 (reading_of self.now) (kind_by self.now) bytes.now) }
@@ -92,7 +100,10 @@ impl Normalizer {
         }
     }
 
-    /// The first place at which the bytes are ill-formed or not their own form.
+    /// Returns the first place at which bytes are ill-formed or not normalized.
+    ///
+    /// # Errors
+    /// `Memory` if an allocation was refused.
     pub fn first_offence(&self, bytes: &[u8]) -> Result<Option<Offence>, ToolFault>
         ensures offence { IfOk result (λ offence.
             IsInputOffenceOf Encoding.Utf8 (reading_of self.now) (kind_by self.now) bytes.now offence) }

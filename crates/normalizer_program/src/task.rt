@@ -7,9 +7,13 @@ use crate::words::Command;
 /// A normalization form (UAX #15, section 1.2).
 #[derive(Clone, Copy)]
 pub enum NormalForm {
+    /// Normalization Form D.
     Nfd,
+    /// Normalization Form C.
     Nfc,
+    /// Normalization Form KD.
     Nfkd,
+    /// Normalization Form KC.
     Nfkc,
 }
 
@@ -38,7 +42,9 @@ pub enum MapperTask {
 /// The task of a command.
 #[derive(Clone, Copy)]
 pub enum Task {
+    /// Something about a normal form.
     OfForm(FormTask, NormalForm),
+    /// A call of the mapper.
     OfMapper(MapperTask),
 }
 
