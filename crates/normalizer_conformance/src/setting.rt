@@ -148,10 +148,12 @@ impl<'a> Setting<'a> {
         }
     }
 
+    /// The records that rows set.
     pub fn records(&self) -> &[Record] {
         &self.records
     }
 
+    /// The records of the mapper that rows set.
     pub fn mapper(&self) -> &[Uts46Record] {
         &self.mapper
     }

@@ -6,6 +6,7 @@ use std::alloc::Global;
 
 /// What rows write by its number in hexadecimal digits.
 pub trait Spelled: Copy {
+    /// The number in hexadecimal digits.
     fn spelled(self, alloc: Global) -> Result<String, Fault>;
 }
 
@@ -42,6 +43,7 @@ pub fn spelled_text(alloc: Global, text: &str) -> Result<String, Fault> {
     spelled_all(alloc, &characters)
 }
 
+/// A truth value as `yes` or `no`.
 pub fn spelled_bool(alloc: Global, answer: bool) -> Result<String, Fault> {
     Ok(String::from_str(alloc, if answer { "yes" } else { "no" })?)
 }
