@@ -47,6 +47,11 @@ impl CanonicalCombiningClassMap {
     /// - `Provider` if the provider holds nothing for the marker.
     /// - `Invalid`, with the lowest-numbered condition that fails, if the data break one (`docs/CONDITIONS.md`).
     /// - `Memory` if a load was refused memory.
+    ///
+    /// # Examples
+    /// ```rust
+    /// CanonicalCombiningClassMap::try_new_unstable(built)
+    /// ```
     pub fn try_new_unstable<P>(provider: &P) -> Result<Self, DataError>
     where
         P: DataProvider<NormalizerNfdDataV1>,

@@ -42,6 +42,11 @@ impl CanonicalDecomposition {
     /// - `Invalid`, with the lowest-numbered condition that fails, if the data break one (`docs/CONDITIONS.md`).
     /// - `Memory` if a load was refused memory.
     /// - `FutureExtension` if the tables have more items than the limit.
+    ///
+    /// # Examples
+    /// ```rust
+    /// CanonicalDecomposition::try_new_unstable(built)
+    /// ```
     pub fn try_new_unstable<P>(provider: &P) -> Result<Self, DataError>
     where
         P: DataProvider<NormalizerNfdDataV1>

@@ -55,6 +55,17 @@ struct Position {
 ///
 /// # Errors
 /// The first line that is wrong, or `Memory`. The second file is read before the first.
+///
+/// # Examples
+/// ```rust
+/// match records_of_unicode_data(alloc, unicode_data, exclusions) {
+///     Ok(records) => match form_by_records(alloc, &records, &[], form, bytes) {
+///         Ok(text) => Ok(text),
+///         Err(fault) => Err(UnicodeFault::Records(fault)),
+///     },
+///     Err(fault) => Err(UnicodeFault::File(fault)),
+/// }
+/// ```
 #[tactic(auto, unfolding(crate::specs::UnicodeData::records_of))]
 pub fn records_of_unicode_data(
     alloc: Global,
