@@ -1,9 +1,9 @@
 -- What becomes of files, one after another.
 use Rattle.std.specs.Prelude.{◌≡◌, ◌≢◌, ℕ, List, [], ◌∷◌, Option, Result, Ok, Err, IfOk, IfErr, IfSome, IsErrOf, nat_lt, if◌then◌else◌}
 use Rattle.std.specs.Io.KnownBytes.{Appends}
-use Rattle.normalizer_program.specs.Transfer.{AppendsFront}
-use Rattle.normalizer_program.specs.declared.ending.Answer.{Answer}
-use Rattle.normalizer_program.specs.declared.ending.Answer.TheVariants.{Done, No}
+use Rattle.normalizer_io.specs.Transfer.{AppendsFront}
+use Rattle.normalizer_io.specs.declared.outcome.Answer.{Answer}
+use Rattle.normalizer_io.specs.declared.outcome.Answer.TheVariants.{Done, No}
 use Rattle.normalizer_command.specs.declared.fault.Fault.{Fault}
 use Rattle.normalizer_command.specs.declared.fault.Fault.TheVariants.{Write}
 use Rattle.normalizer_command.specs.declared.reply.Task.{Task}

@@ -7,8 +7,8 @@ ghost use Rattle.normalizer_records.specs.Entry.{Entry};
 
 use crate::fault::Fault;
 use crate::inputs::Inputs;
-use icu_normalizer::{Built, Records};
-use normalizer_program::read_all;
+use normalizer_builder::{Built, Records};
+use normalizer_io::read_all;
 use normalizer_ucd::{UcdError, UcdFile, records_of_unicode_data};
 use std::alloc::{AllocError, Global};
 

@@ -7,9 +7,8 @@ ghost use Rattle.normalizer_command.specs.Reports.{Tells};
 use crate::fault::Fault;
 use crate::inputs::{Inputs, Reports};
 use crate::reply::Task;
-use normalizer_program::ending::Answer;
-use normalizer_program::normalizer::Normalizer;
-use normalizer_program::{Source, Target, read_all, write_all};
+use normalizer_built::Normalizer;
+use normalizer_io::{Answer, Source, Target, read_all, write_all};
 use std::alloc::Global;
 
 /// Does the task with each file in turn, up to a refused write, and returns the exit status: the greatest of those of

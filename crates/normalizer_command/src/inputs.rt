@@ -3,7 +3,7 @@ ghost use Rattle.std.specs.Prelude.{◌≡◌, ℕ, List, Option, IfOk};
 ghost use Rattle.normalizer_command.specs.Reports.{Report, Tells};
 
 use crate::fault::Fault;
-use normalizer_program::Source;
+use normalizer_io::Source;
 use std::io::ErrorKind;
 
 /// Files by their names, and standard input.

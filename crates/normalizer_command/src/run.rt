@@ -15,9 +15,10 @@ use crate::files::over_files;
 use crate::inputs::{Inputs, Reports};
 use crate::normalizers::normalizer_to;
 use crate::reply::Task;
-use icu_normalizer::{Built, NormalizeError};
+use normalizer_builder::Built;
 use normalizer_built::NormalForm;
-use normalizer_program::Target;
+use normalizer_io::Target;
+use normalizer_iterators::NormalizeError;
 use normalizer_ucd::UcdFile;
 use std::alloc::Global;
 

@@ -3,15 +3,7 @@ ghost use Rattle.std.specs.Prelude.{◌≡◌};
 ghost use Rattle.normalizer_program.specs.Tasks.{task_of};
 
 use crate::words::Command;
-
-/// A normalization form (UAX #15, section 1.2).
-#[derive(Clone, Copy)]
-pub enum NormalForm {
-    Nfd,
-    Nfc,
-    Nfkd,
-    Nfkc,
-}
+use normalizer_built::NormalForm;
 
 /// What to do with a normal form of the input.
 #[derive(Clone, Copy)]

@@ -3,7 +3,7 @@ ghost use Rattle.std.specs.Prelude.{None, ⊤};
 
 use normalizer_command::fault::{Fault, Message};
 use normalizer_command::inputs::{Inputs, Reports};
-use normalizer_program::{DeviceError, Input, Source};
+use normalizer_io::{DeviceError, Input, Source};
 use std::fs::{self, File};
 use std::io::{self, ErrorKind, Stdin};
 

@@ -1,38 +1,38 @@
 //! All that a source has left, and all of some bytes to a target.
 ghost use Rattle.std.specs.Prelude.{◌≡◌, ◌⊎◌, ◌<◌, length, IfOk, IfErr, IfSome, IsErrOf, OnOk, OnErr};
 ghost use Rattle.std.specs.Io.KnownBytes.{Appends, IsAtEnd};
-ghost use Rattle.normalizer_program.specs.Transfer.{AppendsFront};
+ghost use Rattle.normalizer_io.specs.Transfer.{AppendsFront};
 
 use crate::device::{Source, Target};
-use crate::ending::ToolFault;
+use crate::outcome::TransferError;
 use std::alloc::Global;
 
 // The most bytes that one read returns.
 const CHUNK: usize = 8192;
 
-/// Reads to the end. The bytes that were read before a fault are lost.
-pub fn read_all<R: Source>(alloc: Global, reader: &mut R) -> Result<Vec<u8>, ToolFault>
+/// Reads to the end. The bytes that were read before an error are lost.
+pub fn read_all<R: Source>(alloc: Global, reader: &mut R) -> Result<Vec<u8>, TransferError>
     ensures bytes { IfOk result (λ bytes. IfSome (R.left reader.old) (λ input. bytes.items ≡ input)) }
     ensures end { OnOk result (IsAtEnd (R.left reader.new)) }
-    ensures errors { IfErr result (λ fault. (fault ≡ ToolFault.Read) ⊎ (fault ≡ ToolFault.Memory)) }
-    ensures read { IsErrOf result ToolFault.Read → R.refused reader.old reader.new }
+    ensures errors { IfErr result (λ error. (error ≡ TransferError.Read) ⊎ (error ≡ TransferError.Memory)) }
+    ensures read { IsErrOf result TransferError.Read → R.refused reader.old reader.new }
 {
     let mut chunk = vec![in alloc; 0u8; CHUNK]?;
     read_by(alloc, reader, &mut chunk)
 }
 
 // Reads to the end, as much at a time as a chunk holds.
-fn read_by<R: Source>(alloc: Global, reader: &mut R, chunk: &mut [u8]) -> Result<Vec<u8>, ToolFault>
+fn read_by<R: Source>(alloc: Global, reader: &mut R, chunk: &mut [u8]) -> Result<Vec<u8>, TransferError>
     requires { 0 < length chunk.old }
     ensures bytes { IfOk result (λ bytes. IfSome (R.left reader.old) (λ input. bytes.items ≡ input)) }
     ensures end { OnOk result (IsAtEnd (R.left reader.new)) }
-    ensures errors { IfErr result (λ fault. (fault ≡ ToolFault.Read) ⊎ (fault ≡ ToolFault.Memory)) }
-    ensures read { IsErrOf result ToolFault.Read → R.refused reader.old reader.new }
+    ensures errors { IfErr result (λ error. (error ≡ TransferError.Read) ⊎ (error ≡ TransferError.Memory)) }
+    ensures read { IsErrOf result TransferError.Read → R.refused reader.old reader.new }
 {
     let mut bytes = Vec::new(alloc);
     loop {
         let Ok(count) = reader.read(chunk) else {
-            return Err(ToolFault::Read);
+            return Err(TransferError::Read);
         };
         if count == 0 {
             return Ok(bytes);
@@ -41,17 +41,17 @@ fn read_by<R: Source>(alloc: Global, reader: &mut R, chunk: &mut [u8]) -> Result
     }
 }
 
-/// Writes all of the bytes. After a fault a beginning of them was taken.
-pub fn write_all<W: Target>(writer: &mut W, bytes: &[u8]) -> Result<(), ToolFault>
+/// Writes all of the bytes. After an error a beginning of them was taken.
+pub fn write_all<W: Target>(writer: &mut W, bytes: &[u8]) -> Result<(), TransferError>
     ensures bytes { OnOk result (Appends (W.taken writer.old) (W.taken writer.new) bytes.now) }
     ensures front { OnErr result (AppendsFront (W.taken writer.old) (W.taken writer.new) bytes.now) }
-    ensures errors { IfErr result (λ fault. fault ≡ ToolFault.Write) }
+    ensures errors { IfErr result (λ error. error ≡ TransferError.Write) }
     ensures write { OnErr result (W.refused writer.old writer.new) }
 {
     let mut written = 0;
     while written < bytes.len() {
         let Ok(count) = writer.write(&bytes[written..]) else {
-            return Err(ToolFault::Write);
+            return Err(TransferError::Write);
         };
         written += count;
     }
