@@ -37,6 +37,10 @@ impl Inputs for Named<'_> {
 
     ghost bytes_of = { λ _ _. None };
 
+    ghost cannot_open = { λ _ _ _. ⊤ };
+
+    ghost read_refused = { λ _ _. ⊤ };
+
     fn open(&self, name: &str) -> Result<Stream, ErrorKind> {
         if name == "-" {
             return Ok(Stream::Standard(Input(self.0.stdin())));
