@@ -20,7 +20,7 @@ use Rattle.normalizer_text.proofs.EncodingRules.{IsDecoding-first}
 use Rattle.normalizer_text.proofs.StepLemmas.{decoded-nil, decoded-some}
 use Rattle.normalizer_iterators.specs.declared.segment.short_text.ShortText.{ShortText}
 use Rattle.normalizer_iterators.specs.declared.waiting.WaitingList.{WaitingList}
-use Rattle.normalizer_iterators.specs.ShortText.{composing, BlocksBelow}
+use Rattle.normalizer_iterators.specs.inner.ShortText.{composing, BlocksBelow}
 use Rattle.normalizer_iterators.specs.WaitingList.{ordered, held, reordered, unordered, AgreesWith}
 use Rattle.normalizer_iterators.proofs.ReadingLemmas.{reordered-nothing}
 

@@ -8,7 +8,8 @@ use Rattle.normal_forms.specs.Reading.{Reading, IsStarter, IsMark}
 use Rattle.normal_forms.specs.CompositionByStarters.{is_above, compose_after, compose_by_starters}
 use Rattle.normal_forms.proofs.ComposeLemmas.{compose_after-join, compose_after-mark, compose_after-nil, compose_after-starter, compose_by_starters-mark, compose_by_starters-nil, compose_by_starters-starter}
 use Rattle.normalizer_iterators.specs.declared.segment.short_text.ShortText.{ShortText}
-use Rattle.normalizer_iterators.specs.ShortText.{so_far, composed_with, composing, join_at, BlocksAfter}
+use Rattle.normalizer_iterators.specs.ShortText.{so_far}
+use Rattle.normalizer_iterators.specs.inner.ShortText.{composed_with, composing, join_at, BlocksAfter}
 use Rattle.normalizer_iterators.proofs.MarkLemmas.{is_above-none, is_above-one_more, join-above, join-blocked}
 
 -- the last starter is one of the characters so far

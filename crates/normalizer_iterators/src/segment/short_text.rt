@@ -14,7 +14,7 @@ use normalizer_tables::{CanonicalCompositions, compose};
 /// A text of at most `PLACES` characters.
 #[derive(Drop)]
 pub(crate) struct ShortText {
-    characters: [char; 17],
+    characters: [char; PLACES],
     len: usize,
     /// The place of the last starter, if one was added.
     starter: Option<usize>,
@@ -26,20 +26,21 @@ pub(crate) struct ShortText {
 }
 
 impl ShortText {
-    ghost use Rattle.normalizer_iterators.specs.ShortText.{so_far, composing, join_last, BlocksBelow};
+    ghost use Rattle.normalizer_iterators.specs.ShortText.{so_far};
+    ghost use Rattle.normalizer_iterators.specs.inner.ShortText.{composing, join_last, BlocksBelow};
 
     pub(crate) fn new() -> Self
         ensures { so_far result ≡ [] }
     {
         ShortText {
-            characters: ['\0'; 17],
+            characters: ['\0'; PLACES],
             len: 0,
             starter: None,
             unblocked: 0,
         }
     }
 
-    #[tactic(auto, unfolding(crate::specs::ShortText::composing, crate::specs::ShortText::BlocksBelow))]
+    #[tactic(auto, unfolding(crate::specs::inner::ShortText::composing, crate::specs::inner::ShortText::BlocksBelow))]
     #[inline(always)]
     pub(crate) fn clear(&mut self)
         ensures text { so_far self.new ≡ [] }
@@ -77,8 +78,8 @@ impl ShortText {
         true
     }
 
-    /// Composes the last starter with a character in canonical order, if it isn't blocked and the two compose; else adds
-    /// the character, if there is room.
+    /// Composes the last starter with a character in canonical order, if it isn't blocked and the two compose; else
+    /// adds the character, if there is room.
     #[inline(always)]
     pub(crate) fn compose(&mut self, pairs: &CanonicalCompositions, given: Classed) -> bool
         ensures text { IsTrue result → (d : Reading) → given.class ≡ d.class given.character →

@@ -1,5 +1,5 @@
 use Rattle.std.proofs.Common.{sym, ap, ◌∙◌}
-use Rattle.normalizer_iterators.specs.ShortText.{composing}
+use Rattle.normalizer_iterators.specs.inner.ShortText.{composing}
 use Rattle.normalizer_iterators.proofs.ShortTextLemmas.{composing-nil}
 use Rattle.normalizer_iterators.proofs.segment.compose_all.Goals as goal
 

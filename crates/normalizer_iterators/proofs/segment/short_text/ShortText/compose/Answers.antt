@@ -1,4 +1,5 @@
-use Rattle.normalizer_iterators.specs.ShortText.{so_far, composing, join_last, BlocksBelow}
+use Rattle.normalizer_iterators.specs.ShortText.{so_far}
+use Rattle.normalizer_iterators.specs.inner.ShortText.{composing, join_last, BlocksBelow}
 use Rattle.normalizer_iterators.proofs.ShortTextLemmas.{composed_with-joined, BlocksAfter-joined, take_set, within-so_far}
 use Rattle.normalizer_iterators.proofs.segment.short_text.ShortText.compose.Goals as goal
 
