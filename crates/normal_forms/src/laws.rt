@@ -163,8 +163,8 @@ pub fn offence_under_continuation()
         (place : ℕ) × (found' : ℕ) × (wanted' : ℕ) × IsFirstOffence d form (x ++ y) place found' wanted' × (place ≤ n) }
 {}
 
-/// If the form of a front is at the front of the text, that front is normalized. So no text is a proper extension of
-/// its own form.
+/// If a text begins with the form of one of its fronts, that front is normalized. So no text is its form followed by
+/// more.
 pub fn offered_front()
     ensures piece { (d : Reading) (form : Form) → SuitsForm d form → HasInhabitedLists d → (u v : List ℕ) →
         IsFront (normal_form d form u) (u ++ v) → IsNormalized d form u }
@@ -181,8 +181,8 @@ pub fn safe_boundary()
         nfc d (u ++ v) ≡ nfc d u ++ nfc d v }
 {}
 
-/// A run of characters that are their own forms, each with a list that begins so, is its own form, apart from what
-/// follows.
+/// A run of characters, each normalized and with a list that begins like that, stays as it is before such a second
+/// part.
 pub fn run_passed_on()
     ensures decomposing { (d : Reading) (u run v : List ℕ) →
         All (λ c. (nfd d (c ∷ []) ≡ c ∷ []) × BeginsWithStarter d (d.list c)) run → BeginsWithStarter d (expand d v) →

@@ -20,7 +20,10 @@ pub enum Normalizer {
 }
 
 impl Normalizer {
-    /// Returns the UTF-8 of the form of the text that the bytes decode to.
+    /// Returns the form of the text that bytes decode to, in UTF-8.
+    ///
+    /// # Errors
+    /// `Memory` if an allocation was refused.
     pub fn form_of(&self, alloc: Global, bytes: &[u8]) -> Result<String, NormalizeError>
         ensures form { IfOk result (λ text. string_bytes text
             ≡ encoded_form Encoding.Utf8 (reading_of self.now) (kind_by self.now) bytes.now) }
@@ -38,7 +41,10 @@ impl Normalizer {
         }
     }
 
-    /// Returns whether the bytes are well-formed and already normalized.
+    /// Returns whether bytes are well-formed and already normalized.
+    ///
+    /// # Errors
+    /// `Memory` if an allocation was refused.
     pub fn is_normalized(&self, bytes: &[u8]) -> Result<bool, NormalizeError>
         ensures normalized { IfOk result (λ normalized. IsTrue normalized
             ↔ IsInputNormalized Encoding.Utf8 (reading_of self.now) (kind_by self.now) bytes.now) }
@@ -51,6 +57,9 @@ impl Normalizer {
     }
 
     /// Returns the first place at which the bytes are ill-formed or not normalized.
+    ///
+    /// # Errors
+    /// `Memory` if an allocation was refused.
     pub fn first_offence(&self, bytes: &[u8]) -> Result<Option<Offence>, NormalizeError>
         ensures offence { IfOk result (λ offence.
             IsInputOffenceOf Encoding.Utf8 (reading_of self.now) (kind_by self.now) bytes.now offence) }

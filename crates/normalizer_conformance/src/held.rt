@@ -9,6 +9,7 @@ use icu_normalizer::{
 };
 use std::alloc::Global;
 
+/// What a provider holds, each part of which may be lacking.
 pub struct Held {
     pub canonical: Option<DecompositionData>,
     pub compatibility: Option<DecompositionData>,

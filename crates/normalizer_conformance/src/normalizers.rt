@@ -25,7 +25,7 @@ impl Drop for Normalizer {
     }
 }
 
-/// What a call of the normalizer answers, of whichever kind it is.
+/// What a call of the normalizer returns, of whichever kind it is.
 macro_rules! called {
     ($normalizer:expr, $call:ident($($argument:expr),*)) => {
         match $normalizer {
@@ -80,14 +80,17 @@ impl Normalizer {
         })
     }
 
+    /// Writes the form of a text.
     pub fn normalize_to(&self, text: &str, form: &mut String) -> Result<(), NormalizeError> {
         called!(self, normalize_to(text, form))
     }
 
+    /// Writes the form of bytes.
     pub fn normalize_utf8_to(&self, bytes: &[u8], form: &mut String) -> Result<(), NormalizeError> {
         called!(self, normalize_utf8_to(bytes, form))
     }
 
+    /// Writes the form of 16-bit units.
     pub fn normalize_utf16_to(
         &self,
         units: &[u16],
@@ -96,10 +99,12 @@ impl Normalizer {
         called!(self, normalize_utf16_to(units, form))
     }
 
+    /// The form of a text.
     pub fn normalize<'t>(&self, text: &'t str) -> Result<CowStr<'t, Global>, NormalizeError> {
         called!(self, normalize(text))
     }
 
+    /// The form of bytes.
     pub fn normalize_utf8<'t>(
         &self,
         bytes: &'t [u8],
@@ -107,6 +112,7 @@ impl Normalizer {
         called!(self, normalize_utf8(bytes))
     }
 
+    /// The form of 16-bit units.
     pub fn normalize_utf16<'t>(
         &self,
         units: &'t [u16],
@@ -114,18 +120,22 @@ impl Normalizer {
         called!(self, normalize_utf16(units))
     }
 
+    /// Whether a text is normalized.
     pub fn is_normalized(&self, text: &str) -> Result<bool, NormalizeError> {
         called!(self, is_normalized(text))
     }
 
+    /// Whether bytes are normalized.
     pub fn is_normalized_utf8(&self, bytes: &[u8]) -> Result<bool, NormalizeError> {
         called!(self, is_normalized_utf8(bytes))
     }
 
+    /// Whether 16-bit units are normalized.
     pub fn is_normalized_utf16(&self, units: &[u16]) -> Result<bool, NormalizeError> {
         called!(self, is_normalized_utf16(units))
     }
 
+    /// A text, split at its cut.
     pub fn split_normalized<'t>(
         &self,
         text: &'t str,
@@ -133,6 +143,7 @@ impl Normalizer {
         called!(self, split_normalized(text))
     }
 
+    /// Bytes, split at their cut.
     pub fn split_normalized_utf8<'t>(
         &self,
         bytes: &'t [u8],
@@ -140,6 +151,7 @@ impl Normalizer {
         called!(self, split_normalized_utf8(bytes))
     }
 
+    /// 16-bit units, split at their cut.
     pub fn split_normalized_utf16<'t>(
         &self,
         units: &'t [u16],
@@ -147,14 +159,17 @@ impl Normalizer {
         called!(self, split_normalized_utf16(units))
     }
 
+    /// The first mismatch of a text.
     pub fn first_offence(&self, text: &str) -> Result<Option<Offence>, NormalizeError> {
         called!(self, first_offence(text))
     }
 
+    /// The first mismatch of bytes.
     pub fn first_offence_utf8(&self, bytes: &[u8]) -> Result<Option<Offence>, NormalizeError> {
         called!(self, first_offence_utf8(bytes))
     }
 
+    /// The first mismatch of 16-bit units.
     pub fn first_offence_utf16(&self, units: &[u16]) -> Result<Option<Offence>, NormalizeError> {
         called!(self, first_offence_utf16(units))
     }

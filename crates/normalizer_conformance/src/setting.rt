@@ -17,7 +17,7 @@ enum Source {
     ByHand,
 }
 
-/// What questions are asked of.
+/// What questions are about.
 pub struct Setting<'a> {
     alloc: Global,
     records: Vec<Record>,
@@ -148,10 +148,12 @@ impl<'a> Setting<'a> {
         }
     }
 
+    /// The records that rows set.
     pub fn records(&self) -> &[Record] {
         &self.records
     }
 
+    /// The records of the mapper that rows set.
     pub fn mapper(&self) -> &[Uts46Record] {
         &self.mapper
     }

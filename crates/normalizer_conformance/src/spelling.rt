@@ -6,6 +6,7 @@ use std::alloc::Global;
 
 /// What rows write by its number in hexadecimal digits.
 pub trait Spelled: Copy {
+    /// The number in hexadecimal digits.
     fn spelled(self, alloc: Global) -> Result<String, Fault>;
 }
 
@@ -42,11 +43,12 @@ pub fn spelled_text(alloc: Global, text: &str) -> Result<String, Fault> {
     spelled_all(alloc, &characters)
 }
 
+/// A truth value as `yes` or `no`.
 pub fn spelled_bool(alloc: Global, answer: bool) -> Result<String, Fault> {
     Ok(String::from_str(alloc, if answer { "yes" } else { "no" })?)
 }
 
-/// What a constructor or a test of data answered.
+/// What a constructor or a test of data returned.
 pub fn acceptance(alloc: Global, refusal: Option<DataError>) -> Result<String, Fault> {
     Ok(match refusal {
         None => String::from_str(alloc, "accepted")?,
@@ -61,7 +63,7 @@ pub fn acceptance(alloc: Global, refusal: Option<DataError>) -> Result<String, F
     })
 }
 
-/// What `build` answered.
+/// What `build` returned.
 pub fn building(alloc: Global, refusal: Option<BuildError>) -> Result<String, Fault> {
     Ok(match refusal {
         None => String::from_str(alloc, "ok")?,

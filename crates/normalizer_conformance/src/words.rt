@@ -41,6 +41,7 @@ pub fn joined(alloc: Global, words: &[&str]) -> Result<String, Fault> {
     Ok(text)
 }
 
+/// Appends a word, after a space if it isn't the first.
 pub fn push_word(text: &mut String, word: &str) -> Result<(), Fault> {
     if !text.is_empty() {
         text.push(' ')?;
@@ -65,6 +66,7 @@ pub fn hexadecimal(digits: &str) -> Result<u32, Fault> {
 
 /// What a word says by hexadecimal digits.
 pub trait Read: Copy + Drop {
+    /// The value of hexadecimal digits.
     fn read(digits: &str) -> Result<Self, Fault>;
 }
 

@@ -15,8 +15,11 @@ pub trait Source {
     /// succeeded just ahead of it.
     ghost refused: { Self → Self → Type 0 };
 
-    /// Puts a front of what is left at the beginning of the buffer, and returns how many bytes that are: none only at
-    /// the end, or for an empty buffer. A refused read moves no byte.
+    /// Puts a front of what is left at the beginning of the buffer, and returns how many bytes it put there: none only
+    /// at the end, or for an empty buffer.
+    ///
+    /// # Errors
+    /// `DeviceError` if the read was refused. No byte was read then.
     fn read(&mut self, buffer: &mut [u8]) -> Result<usize, DeviceError>
         ensures count { IfOk result (λ n. n ≤ length buffer.new) }
         ensures bytes { ReadConsumes (left self.old) (left self.new) result buffer.new }
@@ -33,8 +36,10 @@ pub trait Target {
     /// succeeded just ahead of it.
     ghost refused: { Self → Self → Type 0 };
 
-    /// Takes a beginning of the bytes, at least one byte if there is one, and returns how many it took. A refused write
-    /// takes no byte.
+    /// Takes a beginning of the bytes, at least one byte if there is one, and returns how many bytes it took.
+    ///
+    /// # Errors
+    /// `DeviceError` if the write was refused. No byte was taken then.
     fn write(&mut self, bytes: &[u8]) -> Result<usize, DeviceError>
         ensures count { IfOk result (λ n. n ≤ length bytes.now) }
         ensures progress { 0 < length bytes.now → IfOk result (λ n. 0 < n) }

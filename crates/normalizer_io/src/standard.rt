@@ -11,7 +11,7 @@ pub struct Input<R>(pub R);
 impl<R: Read> Source for Input<R> {
     ghost left = { λ s. R.remaining s.0 };
 
-    // A reader's contract doesn't tell when it refuses.
+    // A reader's contract doesn't say when it refuses.
     ghost refused = { λ _ _. ⊤ };
 
     fn read(&mut self, buffer: &mut [u8]) -> Result<usize, DeviceError> {
@@ -27,7 +27,7 @@ pub struct Output<W>(pub W);
 impl<W: Write> Target for Output<W> {
     ghost taken = { λ t. W.contents t.0 };
 
-    // A writer's contract doesn't tell when it refuses.
+    // A writer's contract doesn't say when it refuses.
     ghost refused = { λ _ _. ⊤ };
 
     fn write(&mut self, bytes: &[u8]) -> Result<usize, DeviceError> {

@@ -10,7 +10,10 @@ use std::alloc::Global;
 // The most bytes that one read returns.
 const CHUNK: usize = 8192;
 
-/// Reads to the end. The bytes that were read before an error are lost.
+/// Reads to the end, and returns the bytes.
+///
+/// # Errors
+/// `Read` if a read was refused, `Memory` if an allocation was. The bytes that were read before are lost.
 pub fn read_all<R: Source>(alloc: Global, reader: &mut R) -> Result<Vec<u8>, TransferError>
     ensures bytes { IfOk result (λ bytes. IfSome (R.left reader.old) (λ input. bytes.items ≡ input)) }
     ensures end { OnOk result (IsAtEnd (R.left reader.new)) }
@@ -41,7 +44,10 @@ fn read_by<R: Source>(alloc: Global, reader: &mut R, chunk: &mut [u8]) -> Result
     }
 }
 
-/// Writes all of the bytes. After an error a beginning of them was taken.
+/// Writes all of the bytes.
+///
+/// # Errors
+/// `Write` if a write was refused. A beginning of the bytes was taken.
 pub fn write_all<W: Target>(writer: &mut W, bytes: &[u8]) -> Result<(), TransferError>
     ensures bytes { OnOk result (Appends (W.taken writer.old) (W.taken writer.new) bytes.now) }
     ensures front { OnErr result (AppendsFront (W.taken writer.old) (W.taken writer.new) bytes.now) }

@@ -1,4 +1,4 @@
--- A command's answer to the bytes that it reads, and what it writes.
+-- A command's result for the bytes that it reads, and what it writes.
 use Rattle.std.specs.Prelude.{◌≡◌, ◌↔◌, ℕ, List, [], Option, encode_utf8_all}
 use Rattle.normal_forms.specs.declared.Form.{Form}
 use Rattle.normal_forms.specs.Reading.{Reading}
@@ -40,7 +40,7 @@ IsReplyOfMapper Label h input answer output =
     (lines : List ℕ) × TellsKept h (fields (mapped h (decoded_utf8 input))) answer lines
     × (output ≡ encode_utf8_all lines)
 
--- the reply of a command to its input: an answer, and what is written
+-- the reply of a command to its input: a result, and what is written
 abbrev pub IsReply : Work → (input : List ℕ) → Answer → (output : List ℕ) → Type 0
 IsReply (OfForm t form d) input answer output = IsReplyOfForm t form d input answer output
 IsReply (OfMapper t h) input answer output = IsReplyOfMapper t h input answer output

@@ -11,7 +11,10 @@ use normalizer_records::{BuildError, Record, Uts46Record};
 use normalizer_rows::{mapper_records, records};
 use std::alloc::{AllocError, Global};
 
-/// The data that the records of a set build.
+/// Returns the data that the records of a set build.
+///
+/// # Errors
+/// `Data` if the records build none, `Memory` if an allocation was refused.
 pub fn built(alloc: Global, set: RecordSet) -> Result<Built, ToolFault>
     ensures ok { IfOk result (λ b. Builds (records_of set) (mapper_records_of set) (data_in b)) }
     ensures data { IsErrOf result ToolFault.Data → AreRefused (records_of set) (mapper_records_of set) }

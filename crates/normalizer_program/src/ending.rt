@@ -7,7 +7,7 @@ use normalizer_iterators::NormalizeError;
 use normalizer_tables::DataError;
 use std::alloc::{AllocError, AllocFailed};
 
-/// Why a command has no answer.
+/// Why a command has no result.
 #[derive(Clone, Copy, Debug, PartialEq, Eq)]
 pub enum ToolFault {
     /// A read of the input was refused.

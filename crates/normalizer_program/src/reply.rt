@@ -1,4 +1,4 @@
-//! A command's answer, and what it writes.
+//! A command's result, and what it writes.
 ghost use Rattle.std.specs.Prelude.{◌≡◌, IfErr, IfOk, string_bytes};
 ghost use Rattle.normalizer_program.specs.OffenceLines.{code_point_digits, offence_line, TellsOffence};
 ghost use Rattle.normalizer_program.specs.Replies.{IsReplyOfForm};
@@ -11,7 +11,7 @@ use normalizer_calls::Offence;
 use normalizer_io::Answer;
 use std::alloc::{AllocError, Global};
 
-/// An answer, with the text that is written before it is returned.
+/// A result, with the text that is written before it is returned.
 #[derive(Drop)]
 pub struct Reply {
     pub(crate) answer: Answer,

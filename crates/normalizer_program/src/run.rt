@@ -13,6 +13,11 @@ use normalizer_io::{Answer, Source, Target, read_all, write_all};
 use std::alloc::Global;
 
 /// Makes what the command needs, reads the input to its end, computes, and only then writes.
+///
+/// # Errors
+/// - `Data` if data that the command needs are missing or refused. Nothing was read.
+/// - `Read` if a read was refused, `Memory` if an allocation was. Nothing was written.
+/// - `Write` if a write was refused. A beginning of the output was written.
 pub fn run<P: CommandData, R: Source, W: Target>(
     alloc: Global,
     provider: &P,

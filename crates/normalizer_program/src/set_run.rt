@@ -10,6 +10,11 @@ use normalizer_io::{Answer, Source, Target};
 use std::alloc::Global;
 
 /// Builds the data of the records, and runs the command over them.
+///
+/// # Errors
+/// - `Data` if the records build no data. Nothing was read.
+/// - `Read` if a read was refused, `Memory` if an allocation was. Nothing was written.
+/// - `Write` if a write was refused. A beginning of the output was written.
 pub fn run_over<R: Source, W: Target>(
     alloc: Global,
     records: RecordSet,

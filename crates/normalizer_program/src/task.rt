@@ -30,7 +30,9 @@ pub enum MapperTask {
 /// The task of a command.
 #[derive(Clone, Copy)]
 pub enum Task {
+    /// Something about a normal form.
     OfForm(FormTask, NormalForm),
+    /// A call of the mapper.
     OfMapper(MapperTask),
 }
 

@@ -18,7 +18,9 @@ use std::alloc::Global;
 
 /// A task with what it is done by.
 pub enum Worker {
+    /// A task about a form, by its normalizer.
     OfForm(FormTask, Normalizer),
+    /// A task of the mapper.
     OfMapper(MapperTask, Uts46Mapper),
 }
 
@@ -37,7 +39,10 @@ pub trait CommandData {
     /// What is held for the commands.
     ghost held_for_commands: { Self → Held };
 
-    /// What a task needs, made over what is held.
+    /// Makes what a task needs, over what is held.
+    ///
+    /// # Errors
+    /// `Data` if data that it needs are missing or refused, `Memory` if an allocation was refused.
     fn worker(&self, task: Task) -> Result<Worker, ToolFault>
         ensures served { IfOk result (λ w. IsServed task (held_for_commands self.now) (work_by w)) }
         ensures data { IsErrOf result ToolFault.Data → LacksData task (held_for_commands self.now) }

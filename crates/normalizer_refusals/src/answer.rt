@@ -1,9 +1,9 @@
-//! How a call was answered.
+//! How a call ended.
 use icu_normalizer::{BuildError, DataError, NormalizeError, TableError};
 use std::alloc::AllocError;
 use std::fmt;
 
-/// How a call was answered.
+/// How a call ended.
 #[derive(Clone, Copy, Debug, PartialEq, Eq)]
 pub enum Answer {
     /// The right result.

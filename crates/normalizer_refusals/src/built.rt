@@ -24,6 +24,7 @@ impl Drop for Rows {
 }
 
 impl Rows {
+    /// The records, unless memory was refused.
     pub fn new(alloc: Global) -> Option<Self> {
         Some(Rows {
             records: records(alloc).ok()?,
@@ -31,6 +32,7 @@ impl Rows {
         })
     }
 
+    /// The data that they build, unless memory was refused.
     pub fn built(&self, alloc: Global) -> Option<Built> {
         Records::build(alloc, &self.records, &self.mapper).ok()
     }

@@ -35,36 +35,43 @@ macro_rules! wanted_once {
 }
 
 impl Normalizers {
+    /// The items of a decomposing iterator over a base with many marks.
     pub fn decomposed_items(&self) -> Answer {
         let normalizer = self.decomposing.as_borrowed();
         wanted_once!(normalizer.normalize_iter(MARKED.chars()), MARKED)
     }
 
+    /// The same over marks alone, for which making it needs memory.
     pub fn decomposed_items_of_marks(&self) -> Answer {
         let normalizer = self.decomposing.as_borrowed();
         wanted_when_made(normalizer.normalize_iter(MARKS.chars()), MARKS)
     }
 
+    /// The same over short runs, which need no memory.
     pub fn decomposed_items_of_short_runs(&self) -> Answer {
         let normalizer = self.decomposing.as_borrowed();
         wanted_by_items(normalizer.normalize_iter(SHORT.chars()), SHORT)
     }
 
+    /// The items of a composing iterator over a base with many marks.
     pub fn composed_items(&self) -> Answer {
         let normalizer = self.composing.as_borrowed();
         wanted_once!(normalizer.normalize_iter(MARKED.chars()), MARKED_NFC)
     }
 
+    /// The same over marks alone, for which making it needs memory.
     pub fn composed_items_of_marks(&self) -> Answer {
         let normalizer = self.composing.as_borrowed();
         wanted_when_made(normalizer.normalize_iter(MARKS.chars()), MARKS)
     }
 
+    /// The same over short runs, which need no memory.
     pub fn composed_items_of_short_runs(&self) -> Answer {
         let normalizer = self.composing.as_borrowed();
         wanted_by_items(normalizer.normalize_iter(SHORT.chars()), SHORT_NFC)
     }
 
+    /// The items of the mapper over a base with many marks.
     pub fn mapped_items(&self) -> Answer {
         wanted_by_items(
             self.mapper.as_borrowed().map_normalize(MARKED.chars()),
@@ -72,6 +79,7 @@ impl Normalizers {
         )
     }
 
+    /// The items of its validation over a base with many marks.
     pub fn validated_items(&self) -> Answer {
         wanted_by_items(
             self.mapper.as_borrowed().normalize_validate(MARKED.chars()),

@@ -30,6 +30,7 @@ fn told<T: PartialEq + Drop>(told: Result<T, NormalizeError>, wanted: T) -> Answ
 }
 
 impl Normalizers {
+    /// The forms of a text.
     pub fn owned_text(&self) -> Answer {
         text(self.decomposing.as_borrowed().normalize(LONG), LONG_NFD).and(text(
             self.composing.as_borrowed().normalize(LONG),
@@ -37,6 +38,7 @@ impl Normalizers {
         ))
     }
 
+    /// The forms of bytes.
     pub fn owned_bytes(&self) -> Answer {
         let bytes = LONG.as_bytes();
         text(
@@ -46,6 +48,7 @@ impl Normalizers {
         .and(text(self.composing.as_borrowed().normalize_utf8(bytes), LONG_NFC))
     }
 
+    /// The forms of 16-bit units.
     pub fn owned_units(&self) -> Answer {
         units(
             self.decomposing.as_borrowed().normalize_utf16(&LONG_UNITS),
@@ -66,6 +69,7 @@ impl Normalizers {
         }
     }
 
+    /// Whether a text, bytes and units are in the decomposed form.
     pub fn decomposing_check(&self) -> Answer {
         let normalizer = self.decomposing.as_borrowed();
         told(normalizer.is_normalized(LONG), false)
@@ -73,6 +77,7 @@ impl Normalizers {
             .and(told(normalizer.is_normalized_utf16(&LONG_NFD_UNITS), true))
     }
 
+    /// Whether a text, bytes and units are in the composed form.
     pub fn composing_check(&self) -> Answer {
         let normalizer = self.composing.as_borrowed();
         told(normalizer.is_normalized(LONG), false)
@@ -80,6 +85,7 @@ impl Normalizers {
             .and(told(normalizer.is_normalized_utf16(&LONG_NFC_UNITS), true))
     }
 
+    /// A text, bytes and units, split at the cut of the decomposed form.
     pub fn decomposing_split(&self) -> Answer {
         let normalizer = self.decomposing.as_borrowed();
         let (letter, marks) = LONG.split_at(1);
@@ -94,6 +100,7 @@ impl Normalizers {
             ))
     }
 
+    /// A text, bytes and units, split at the cut of the composed form.
     pub fn composing_split(&self) -> Answer {
         let normalizer = self.composing.as_borrowed();
         told(normalizer.split_normalized(LONG), ("", LONG))
@@ -107,6 +114,7 @@ impl Normalizers {
             ))
     }
 
+    /// The first mismatch of a text, bytes and units with the decomposed form.
     pub fn decomposing_offence(&self) -> Answer {
         let normalizer = self.decomposing.as_borrowed();
         let wanted = Some(Offence {
@@ -119,6 +127,7 @@ impl Normalizers {
             .and(told(normalizer.first_offence_utf16(&LONG_UNITS), wanted))
     }
 
+    /// The first mismatch of a text, bytes and units with the composed form.
     pub fn composing_offence(&self) -> Answer {
         let normalizer = self.composing.as_borrowed();
         let wanted = Some(Offence {

@@ -34,6 +34,7 @@ fn units(written: Result<(), NormalizeError>, held: &[u16], wanted: &[u16]) -> A
 }
 
 impl Normalizers {
+    /// The forms of a text, written to strings.
     pub fn written_text(&self, alloc: Global) -> Answer {
         let (Ok(mut nfd), Ok(mut nfc)) = (
             String::from_str(alloc, HELD),
@@ -46,6 +47,7 @@ impl Normalizers {
         text(decomposed, &nfd, LONG_NFD).and(text(composed, &nfc, LONG_NFC))
     }
 
+    /// The forms of bytes, written to strings.
     pub fn written_bytes(&self, alloc: Global) -> Answer {
         let (Ok(mut nfd), Ok(mut nfc)) = (
             String::from_str(alloc, HELD),
@@ -65,6 +67,7 @@ impl Normalizers {
         text(decomposed, &nfd, LONG_NFD).and(text(composed, &nfc, LONG_NFC))
     }
 
+    /// The forms of 16-bit units, written to vectors.
     pub fn written_units(&self, alloc: Global) -> Answer {
         let (Ok(mut nfd), Ok(mut nfc)) = (HELD_UNITS.to_vec(alloc), HELD_UNITS.to_vec(alloc)) else {
             return Answer::Memory;

@@ -22,7 +22,10 @@ pub enum Kind {
 /// What the mapper does with a character (UTS #46, section 4).
 #[derive(Clone, Copy)]
 pub enum Treatment {
+    /// It maps the character to others.
     Mapped,
+    /// It drops the character.
     Ignored,
+    /// It replaces the character by U+FFFD.
     Disallowed,
 }

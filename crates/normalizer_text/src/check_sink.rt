@@ -16,12 +16,12 @@ use std::marker::Model;
 
 /// Units that can be compared with others from a position on: their contents, never their addresses.
 pub trait Expected: Units {
-    // Returns the end of a piece that begins at the position, if it is there.
+    /// Returns the end of a piece that begins at the position, if it is there. Positions count units.
     fn end_of_piece(self, position: usize, piece: Self) -> Option<usize>
         requires { position ≤ length (Self.units self) }
         ensures { IsEndOfPiece (Self.units self) position (Self.units piece) result };
 
-    // Returns the end of a character that begins at the position, if it is there.
+    /// Returns the end of a character that begins at the position, if it is there.
     fn end_of_char(self, position: usize, c: char) -> Option<usize>
         requires { position ≤ length (Self.units self) }
         ensures { IsEndOfPiece (Self.units self) position (encoded_in Self.encoding (c ∷ [])) result };

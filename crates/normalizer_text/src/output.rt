@@ -29,15 +29,24 @@ pub trait Output<U: Units> {
     ghost hinted: { Self → ℕ → Result ⊤ SinkError → Self → Type 0 };
 
     /// Receives the number of units of the input, before any of them.
+    ///
+    /// # Errors
+    /// [`SinkError`] if the output refuses the hint.
     fn begin(&mut self, len: usize) -> Result<(), SinkError>
         ensures { AnswersHint taken refused left refuses hinted self.old len result self.new };
 
-    /// Appends a piece of the input that is well-formed by itself, or refuses it.
+    /// Appends a piece of the input that is well-formed by itself.
+    ///
+    /// # Errors
+    /// [`SinkError`] if the output refuses the piece.
     fn write_piece(&mut self, piece: U) -> Result<(), SinkError>
         requires { IsWellFormed (first_in U.encoding) (U.units piece) }
         ensures { AnswersUnits taken refused left refuses self.old (U.units piece) result self.new };
 
-    /// Appends a character, or refuses it.
+    /// Appends a character.
+    ///
+    /// # Errors
+    /// [`SinkError`] if the output refuses the character.
     fn write_char(&mut self, c: char) -> Result<(), SinkError>
         ensures { AnswersUnits taken refused left refuses self.old (encoded_in U.encoding (c ∷ [])) result self.new };
 }

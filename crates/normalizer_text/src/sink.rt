@@ -44,11 +44,17 @@ pub trait Write {
     /// What a refused call may leave, from the state before it to the state after it.
     ghost left: { Self → Self → Type 0 };
 
-    /// Appends a text, or refuses it.
+    /// Appends a text.
+    ///
+    /// # Errors
+    /// [`SinkError`] if the sink refuses the text.
     fn write_str(&mut self, text: &str) -> Result<(), SinkError>
         ensures { AnswersWrite taken refused left self.old text.now result self.new };
 
-    /// Appends a character, or refuses it.
+    /// Appends a character.
+    ///
+    /// # Errors
+    /// [`SinkError`] if the sink refuses the character.
     fn write_char(&mut self, c: char) -> Result<(), SinkError>
         ensures { AnswersWrite taken refused left self.old (encode_utf8 c) result self.new };
 }
@@ -70,18 +76,27 @@ pub trait Write16 {
     /// What a hint of this many units may return, from the state before it to the state after it.
     ghost hinted: { Self → ℕ → Result ⊤ SinkError → Self → Type 0 };
 
-    /// Receives a hint that about `len` units will come, or refuses it. It appends none.
+    /// Receives a hint that about `len` 16-bit units will come. It appends none.
+    ///
+    /// # Errors
+    /// [`SinkError`] if the sink refuses the hint.
     fn size_hint(&mut self, len: usize) -> Result<(), SinkError>
         ensures answer { AnswersWrite taken refused left self.old [] result self.new }
         ensures none { taken self.new ≡ taken self.old }
         ensures hint { hinted self.old len result self.new };
 
-    /// Appends units that are well-formed by themselves, or refuses them.
+    /// Appends 16-bit units that are well-formed by themselves.
+    ///
+    /// # Errors
+    /// [`SinkError`] if the sink refuses the units.
     fn write_slice(&mut self, units: &[u16]) -> Result<(), SinkError>
         requires { IsWellFormed first_of_utf16 units.now }
         ensures { AnswersWrite taken refused left self.old units.now result self.new };
 
-    /// Appends a character, or refuses it.
+    /// Appends a character.
+    ///
+    /// # Errors
+    /// [`SinkError`] if the sink refuses the character.
     fn write_char(&mut self, c: char) -> Result<(), SinkError>
         ensures { AnswersWrite taken refused left self.old (encode_utf16 c) result self.new };
 }

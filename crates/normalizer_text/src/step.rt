@@ -4,6 +4,7 @@ ghost use Rattle.std.specs.Prelude.{◌≡◌};
 /// One step of decoding: the units of one character, or ill-formed units that read as U+FFFD.
 #[derive(Clone, Copy, PartialEq, Eq, Debug)]
 pub struct Step {
+    /// The character, U+FFFD for ill-formed units.
     pub character: char,
     /// How many units it takes.
     pub width: usize,

@@ -30,6 +30,7 @@ pub trait Units: Copy {
     /// The limit below which each unit belongs to a character below a bound.
     ghost low_unit: { ℕ → ℕ };
 
+    /// Returns how many units there are.
     fn len(self) -> usize
         ensures { result ≡ length (units self) };
 

@@ -131,7 +131,7 @@ entries_at status c = if is_scalar_value c then record { c = c; status = status 
 unfoldable pub entries_of : RangeStatus → List MapperEntry
 entries_of r = flat_map (entries_at r.status) (range_with_len r.first (r.end - r.first))
 
--- the records that the table gives
+-- the records that the table says
 unfoldable pub uts46_records_of : Disallowed → List ℕ → Result (List MapperEntry) LineFault
 uts46_records_of choice table = do
   ranges ← ranges_in choice (lines table)

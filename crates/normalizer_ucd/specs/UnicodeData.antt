@@ -1,4 +1,4 @@
--- UnicodeData.txt: a line for each character, or two for a range (Unicode Standard Annex #44, section 4.2.3 and table 9).
+-- UnicodeData.txt: a line for each character, or two for a range (Unicode Standard Annex #44, section 4.2.3, table 9).
 use Rattle.std.specs.Prelude.{ℕ, ◌+◌, ◌==◌, ◌&&◌, nat_lt, nat_eq, Bool, true, false, List, [], ◌∷◌, length}
 use Rattle.std.specs.Prelude.{Option, Some, None, Result, Ok, Err, if◌then◌else◌}
 use Rattle.std.specs.Bool.{beq}

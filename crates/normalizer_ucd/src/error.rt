@@ -9,8 +9,11 @@ use thiserror::Error;
 /// The files that are read.
 #[derive(Clone, Copy, PartialEq, Eq, Debug)]
 pub enum UcdFile {
+    /// `UnicodeData.txt`.
     UnicodeData,
+    /// `CompositionExclusions.txt`.
     CompositionExclusions,
+    /// `IdnaMappingTable.txt`.
     IdnaMappingTable,
 }
 
@@ -24,10 +27,12 @@ impl fmt::Display for UcdFile {
     }
 }
 
-/// A line of a file. The first line is 1.
+/// A line of a file.
 #[derive(Clone, Copy, PartialEq, Eq, Debug)]
 pub struct Place {
+    /// The file.
     pub file: UcdFile,
+    /// The number of the line. The first is 1.
     pub line: usize,
 }
 
@@ -51,16 +56,22 @@ impl fmt::Display for Place {
 /// What is wrong with a line.
 #[derive(Clone, Copy, PartialEq, Eq, Debug, Error)]
 pub enum Problem {
+    /// The line has too few fields.
     #[error("the line has too few fields")]
     MissingField,
+    /// A code point is not a hexadecimal number up to 10FFFF.
     #[error("the code point is not a hexadecimal number up to 10FFFF")]
     CodePoint,
+    /// A canonical combining class is not a number from 0 to 254.
     #[error("the canonical combining class is not a number from 0 to 254")]
     Class,
+    /// A mapping is not a list of characters.
     #[error("the mapping is not a list of characters")]
     Mapping,
+    /// A status is not one of Unicode Technical Standard #46.
     #[error("the status is not one of Unicode Technical Standard #46")]
     Status,
+    /// The code points of lines don't strictly rise.
     #[error("the code points don't strictly rise")]
     Order,
     /// The first line of a range has no last line right after it, or the last has no first right before it.
@@ -74,7 +85,9 @@ pub enum Problem {
 /// What is wrong, and on which line.
 #[derive(Clone, Copy, PartialEq, Eq, Debug)]
 pub struct LineFault {
+    /// The line.
     pub place: Place,
+    /// What is wrong with it.
     pub problem: Problem,
 }
 
@@ -90,6 +103,7 @@ pub enum UcdError {
     /// The first line that is wrong.
     #[error("{0}")]
     Line(LineFault),
+    /// An allocation was refused.
     #[error("out of memory")]
     Memory,
 }

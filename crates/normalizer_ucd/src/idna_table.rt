@@ -33,8 +33,7 @@ use normalizer_records::{Uts46Record, Uts46Status};
 use std::alloc::{AllocError, Global};
 use std::marker::Model;
 
-/// Which disallowed characters get a record. A version of Unicode disallows some 940,000 characters, most of them
-/// unassigned or for private use.
+/// Which disallowed characters get a record. Most disallowed characters are unassigned or for private use.
 #[derive(Clone, Copy, PartialEq, Eq, Debug)]
 pub enum Disallowed {
     /// All of them.
@@ -71,10 +70,12 @@ impl Model for RangeStatus {
     ghost view = { λ r. record { first = r.first; end = r.end; status = status_of r.status } };
 }
 
-/// Returns the records for a mapper that `IdnaMappingTable.txt` gives (Unicode Technical Standard #46, section 5). They
-/// rise by character. Valid characters and deviations get none, nor do code points that no line has; `@missing` lines are
-/// comments. `disallowed_STD3_valid` is read as `valid`, and `disallowed_STD3_mapped` as `mapped`. Fields after the mapping
-/// aren't read.
+/// Returns a mapper's records, as `IdnaMappingTable.txt` says (Unicode Technical Standard #46, section 5). They rise by
+/// character.
+///
+/// Valid characters and deviations have none, nor have code points that no line has; `@missing` lines are comments.
+/// `disallowed_STD3_valid` is read as `valid`, `disallowed_STD3_mapped` as `mapped`. Fields after the mapping aren't
+/// read.
 ///
 /// # Errors
 /// The first line that is wrong, or `Memory`.
@@ -339,7 +340,7 @@ fn status_of(
     }
 }
 
-/// Where a range ends, if it may come next.
+/// Returns the end of a range, if it may come next.
 fn end_of(place: Place, next: u32, first: u32, last: u32) -> Result<u32, UcdError>
     requires { last ≤ 0x10FFFF }
     ensures value { Gives (λ end. end) result (end_of place next first last) }

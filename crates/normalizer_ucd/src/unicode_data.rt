@@ -50,8 +50,11 @@ struct Position {
     is_open: bool,
 }
 
-/// The records of the characters that have a class above 0 or a mapping, as the two files say. A character is excluded
-/// if the second file lists it. The error is the first line that is wrong; the second file is read before the first.
+/// Returns the records of the characters that have a class above 0 or a mapping, as the two files say. They rise by
+/// character. A character is excluded from composition if the second file lists it.
+///
+/// # Errors
+/// The first line that is wrong, or `Memory`. The second file is read before the first.
 #[tactic(auto, unfolding(crate::specs::UnicodeData::records_of))]
 pub fn records_of_unicode_data(
     alloc: Global,

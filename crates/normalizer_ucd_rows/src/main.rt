@@ -1,6 +1,6 @@
-//! Writes the records that files of the Unicode Character Database give, or why they were refused. An argument names two
-//! files, as `UnicodeData.txt+CompositionExclusions.txt`, or a table of IDNA and the most code points of a disallowed range
-//! that is recorded, as `IdnaMappingTable.txt@9` or `IdnaMappingTable.txt@all`.
+//! Writes the records read from files of the Unicode Character Database, or why they were refused. An argument names
+//! two files, as `UnicodeData.txt+CompositionExclusions.txt`, or a table of IDNA and the most code points of a
+//! disallowed range that is recorded, as `IdnaMappingTable.txt@9` or `IdnaMappingTable.txt@all`.
 #![tactic(auto)]
 
 use normalizer_records::{Record, Uts46Record, Uts46Status};

@@ -62,7 +62,10 @@ fn form_by_built(
     }
 }
 
-/// Returns the composing pairs of built data: the constructor refuses nothing but memory.
+/// Returns the composing pairs of built data.
+///
+/// # Errors
+/// `Memory` if an allocation was refused.
 pub fn built_composition(built: &Built) -> Result<CanonicalComposition, DataError>
     requires { AreBuilt (data_in built.now) }
     ensures held { IfOk result (λ c. properties.pairs_of c ≡ (data_in built.now).compositions) }
@@ -72,7 +75,10 @@ pub fn built_composition(built: &Built) -> Result<CanonicalComposition, DataErro
     CanonicalComposition::try_new_unstable(built)
 }
 
-/// Returns the canonical combining classes of built data: the constructor refuses nothing but memory.
+/// Returns the canonical combining classes of built data.
+///
+/// # Errors
+/// `Memory` if an allocation was refused.
 pub fn built_combining_classes(built: &Built) -> Result<CanonicalCombiningClassMap, DataError>
     requires { AreBuilt (data_in built.now) }
     ensures held { IfOk result (λ m. properties.classes_of m ≡ (data_in built.now).canonical) }
@@ -83,7 +89,10 @@ pub fn built_combining_classes(built: &Built) -> Result<CanonicalCombiningClassM
     CanonicalCombiningClassMap::try_new_unstable(built)
 }
 
-/// Returns single canonical decomposition steps of built data: the constructor refuses nothing but memory.
+/// Returns single canonical decomposition steps of built data.
+///
+/// # Errors
+/// `Memory` if an allocation was refused.
 pub fn built_decomposition(built: &Built) -> Result<CanonicalDecomposition, DataError>
     requires { AreBuilt (data_in built.now) }
     ensures held { IfOk result (λ d. properties.steps_of d ≡

@@ -8,7 +8,11 @@ ghost use Rattle.normalizer_tables.specs.declared.characters.IgnoredCharacters.T
 
 use icu_normalizer::{ComposingNormalizerBorrowed, NormalizeError};
 
-/// What a character and one after it compose to, if they do: its decomposition is that of the two, in canonical order.
+/// Returns what a character and the one after it compose to, if they do. Its decomposition is that of the two, in
+/// canonical order.
+///
+/// # Errors
+/// `Memory` if an allocation was refused.
 pub fn composed_pair(
     normalizer: &ComposingNormalizerBorrowed<'_>,
     first: char,

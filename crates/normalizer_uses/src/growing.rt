@@ -8,6 +8,9 @@ use std::alloc::Global;
 
 /// Returns the composed form of `text` followed by `more`. What comes before the cut of the whole stays, and only the
 /// rest is normalized: if `text` is already normalized, a little of its end and `more`.
+///
+/// # Errors
+/// `Memory` if an allocation was refused.
 pub fn appended(
     alloc: Global,
     normalizer: &ComposingNormalizerBorrowed<'_>,

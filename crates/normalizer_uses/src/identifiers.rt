@@ -9,6 +9,9 @@ ghost use Rattle.normalizer_calls.specs.Forms.{composed_by};
 use icu_normalizer::{ComposingNormalizerBorrowed, NormalizeError};
 
 /// Returns whether a text is an identifier: exactly if it is already in its composed form.
+///
+/// # Errors
+/// `Memory` if an allocation was refused.
 pub fn is_identifier(
     normalizer: &ComposingNormalizerBorrowed<'_>,
     text: &str,
@@ -21,6 +24,9 @@ pub fn is_identifier(
 }
 
 /// Returns bytes as an identifier, if they are well-formed and already in their composed form.
+///
+/// # Errors
+/// `Memory` if an allocation was refused.
 pub fn identifier_of_bytes<'t>(
     normalizer: &ComposingNormalizerBorrowed<'_>,
     bytes: &'t [u8],

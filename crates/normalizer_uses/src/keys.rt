@@ -6,6 +6,9 @@ ghost use Rattle.normalizer_calls.specs.Forms.{composed_by};
 use icu_normalizer::{ComposingNormalizerBorrowed, NormalizeError};
 
 /// Returns whether two texts have the same key, their composed form: exactly if they are equivalent.
+///
+/// # Errors
+/// `Memory` if an allocation was refused.
 pub fn have_one_key(
     normalizer: &ComposingNormalizerBorrowed<'_>,
     text: &str,

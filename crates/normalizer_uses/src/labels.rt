@@ -9,6 +9,9 @@ use icu_normalizer::uts46::Uts46MapperBorrowed;
 use std::alloc::Global;
 
 /// Returns the mapped text, if that is a label.
+///
+/// # Errors
+/// `Memory` if an allocation was refused.
 pub fn label(
     alloc: Global,
     mapper: &Uts46MapperBorrowed<'_>,
@@ -28,6 +31,9 @@ pub fn label(
 }
 
 /// Returns whether mapped text is a label: it has no U+FFFD, and validation leaves it unchanged.
+///
+/// # Errors
+/// `Memory` if an allocation was refused.
 pub fn is_label(
     alloc: Global,
     mapper: &Uts46MapperBorrowed<'_>,

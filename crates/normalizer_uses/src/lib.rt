@@ -50,6 +50,9 @@ use normalizer_iterators::laws::{text_comes_unless_a_fault_does, text_comes_with
 use std::alloc::Global;
 
 /// Returns the NFD of the text that bytes decode to.
+///
+/// # Errors
+/// `Memory` if an allocation was refused.
 pub fn nfd_of_bytes(
     alloc: Global,
     normalizer: &DecomposingNormalizerBorrowed<'_>,
@@ -63,6 +66,9 @@ pub fn nfd_of_bytes(
 }
 
 /// Returns the NFD of a text.
+///
+/// # Errors
+/// `Memory` if an allocation was refused.
 pub fn nfd_of_text(
     alloc: Global,
     normalizer: &DecomposingNormalizerBorrowed<'_>,
@@ -76,6 +82,9 @@ pub fn nfd_of_text(
 }
 
 /// Returns the NFD of the text that bytes decode to, using data that are checked once and then borrowed.
+///
+/// # Errors
+/// The first condition that the data break, or `Memory` if an allocation was refused.
 pub fn nfd_by_data(
     alloc: Global,
     decompositions: &DecompositionData,
@@ -97,6 +106,9 @@ pub fn nfd_by_data(
 }
 
 /// Returns the NFC of the text that bytes decode to.
+///
+/// # Errors
+/// `Memory` if an allocation was refused.
 pub fn nfc_of_bytes(
     alloc: Global,
     normalizer: &ComposingNormalizerBorrowed<'_>,
@@ -111,6 +123,9 @@ pub fn nfc_of_bytes(
 }
 
 /// Returns the NFD of whatever an iterator of characters yields.
+///
+/// # Errors
+/// `Memory` if an allocation was refused.
 pub fn nfd_of_characters<I: Iterator<Item = char> + Drop>(
     alloc: Global,
     normalizer: &DecomposingNormalizerBorrowed<'_>,
@@ -126,6 +141,9 @@ pub fn nfd_of_characters<I: Iterator<Item = char> + Drop>(
 }
 
 /// Returns the NFC of whatever an iterator of characters yields.
+///
+/// # Errors
+/// `Memory` if an allocation was refused.
 pub fn nfc_of_characters<I: Iterator<Item = char> + Drop>(
     alloc: Global,
     normalizer: &ComposingNormalizerBorrowed<'_>,
@@ -141,6 +159,9 @@ pub fn nfc_of_characters<I: Iterator<Item = char> + Drop>(
 }
 
 /// Returns the NFKC of the text that bytes decode to, using the data of a provider.
+///
+/// # Errors
+/// A marker for which the provider holds nothing, the first condition that its data break, or `Memory`.
 pub fn nfkc_of_bytes<P>(alloc: Global, provider: &P, bytes: &[u8]) -> Result<Vec<char>, DataError>
 where
     P: DataProvider<NormalizerNfkdDataV1>
@@ -167,7 +188,10 @@ where
     }
 }
 
-/// Collects the remaining characters, or returns the first error.
+/// Returns the remaining characters of an iterator.
+///
+/// # Errors
+/// The first error of the iterator, or `Memory` if an allocation was refused.
 pub fn collected<I: Iterator<Item = Result<char, NormalizeError>> + Drop>(
     alloc: Global,
     items: I,
@@ -194,8 +218,10 @@ pub fn collected<I: Iterator<Item = Result<char, NormalizeError>> + Drop>(
     Ok(characters)
 }
 
-/// Returns the last character of the NFD of the text that bytes decode to. No memory is taken if the text has short
-/// runs.
+/// Returns the last character of the NFD of the text that bytes decode to.
+///
+/// # Errors
+/// `Memory` if an allocation was refused. None is made if the text has short runs.
 pub fn last_of_nfd(
     normalizer: &DecomposingNormalizerBorrowed<'_>,
     bytes: &[u8],
@@ -209,7 +235,10 @@ pub fn last_of_nfd(
     last_item(normalizer.normalize_iter(Utf8Chars::new(bytes))?)
 }
 
-/// Returns the last of the remaining characters, or the first error.
+/// Returns the last of the remaining characters of an iterator.
+///
+/// # Errors
+/// The first error of the iterator.
 pub fn last_item<I: Iterator<Item = Result<char, NormalizeError>> + Drop>(
     items: I,
 ) -> Result<Option<char>, NormalizeError>

@@ -16,7 +16,10 @@ pub enum Refusal {
     Memory,
 }
 
-/// Returns the text, if it is in its composed form; otherwise its first mismatch.
+/// Returns the text, if it is already in its composed form.
+///
+/// # Errors
+/// The first mismatch if it isn't, or `Memory` if an allocation was refused.
 pub fn in_form<'t>(
     normalizer: &ComposingNormalizerBorrowed<'_>,
     text: &'t str,

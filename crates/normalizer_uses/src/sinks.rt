@@ -17,6 +17,9 @@ use icu_normalizer::{ComposingNormalizerBorrowed, DecomposingNormalizerBorrowed,
 use std::alloc::Global;
 
 /// Returns the NFC of a text, as a string.
+///
+/// # Errors
+/// `Sink` if the string could not grow, `Memory` if another allocation was refused.
 pub fn nfc_string(
     alloc: Global,
     normalizer: &ComposingNormalizerBorrowed<'_>,
@@ -31,6 +34,9 @@ pub fn nfc_string(
 }
 
 /// Returns the NFD of the text that bytes decode to, as a string.
+///
+/// # Errors
+/// `Sink` if the string could not grow, `Memory` if another allocation was refused.
 pub fn nfd_string_of_bytes(
     alloc: Global,
     normalizer: &DecomposingNormalizerBorrowed<'_>,
@@ -45,6 +51,9 @@ pub fn nfd_string_of_bytes(
 }
 
 /// Returns the NFC of the text that 16-bit units decode to, in UTF-16.
+///
+/// # Errors
+/// `Sink` if the vector could not grow, `Memory` if another allocation was refused.
 pub fn nfc_units(
     alloc: Global,
     normalizer: &ComposingNormalizerBorrowed<'_>,
@@ -58,7 +67,10 @@ pub fn nfc_units(
     Ok(form)
 }
 
-/// Writes the NFD of a text to a sink that can't fail: no `Sink` is returned.
+/// Writes the NFD of a text to a sink that can't fail.
+///
+/// # Errors
+/// `Memory` if an allocation was refused. `Sink` is never returned.
 pub fn nfd_without_faults<W: Write>(
     normalizer: &DecomposingNormalizerBorrowed<'_>,
     text: &str,
@@ -70,8 +82,10 @@ pub fn nfd_without_faults<W: Write>(
     normalizer.normalize_to(text, sink)
 }
 
-/// Writes the NFD of a text to a sink, and after it the NFD of another text. A fault of the sink is one since before
-/// the first.
+/// Writes the NFD of a text to a sink, and after it the NFD of another text.
+///
+/// # Errors
+/// `Sink` if the sink refused a call, `Memory` if an allocation was refused. A part of the forms may have been written.
 pub fn nfd_of_both<W: Write>(
     normalizer: &DecomposingNormalizerBorrowed<'_>,
     text: &str,

@@ -14,6 +14,7 @@ pub struct Pieces<'a> {
 }
 
 impl<'a> Pieces<'a> {
+    /// The bytes.
     pub fn of(rest: &'a [u8]) -> Pieces<'a> {
         Pieces {
             rest,
@@ -57,6 +58,7 @@ pub struct Page {
 }
 
 impl Page {
+    /// An empty page with room for this many bytes.
     pub fn new(alloc: Global, room: usize) -> Page {
         Page {
             bytes: Vec::new(alloc),

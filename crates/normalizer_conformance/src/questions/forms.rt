@@ -11,6 +11,7 @@ use icu_normalizer::{Decomposition, check_nfd_data};
 use normalizer_uses::{NormalForm, collected, form_by_records, nfd_by_data};
 use std::alloc::Global;
 
+/// The form of this name.
 pub fn form_named(name: &str) -> Result<NormalForm, Fault> {
     match name {
         "nfd" => Ok(NormalForm::Nfd),
