@@ -53,6 +53,7 @@ pub fn write_all<W: Target>(writer: &mut W, bytes: &[u8]) -> Result<(), Transfer
     ensures front { OnErr result (AppendsFront (W.taken writer.old) (W.taken writer.new) bytes.now) }
     ensures errors { IfErr result (λ error. error ≡ TransferError.Write) }
     ensures write { OnErr result (W.refused writer.old writer.new) }
+    ensures ahead { OnOk result ((later : W) → W.refused writer.new later → W.refused writer.old later) }
 {
     let mut written = 0;
     while written < bytes.len() {
