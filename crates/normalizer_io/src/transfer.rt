@@ -25,7 +25,11 @@ pub fn read_all<R: Source>(alloc: Global, reader: &mut R) -> Result<Vec<u8>, Tra
 }
 
 // Reads to the end, as much at a time as a chunk holds.
-fn read_by<R: Source>(alloc: Global, reader: &mut R, chunk: &mut [u8]) -> Result<Vec<u8>, TransferError>
+fn read_by<R: Source>(
+    alloc: Global,
+    reader: &mut R,
+    chunk: &mut [u8],
+) -> Result<Vec<u8>, TransferError>
     requires { 0 < length chunk.old }
     ensures bytes { IfOk result (λ bytes. IfSome (R.left reader.old) (λ input. bytes.items ≡ input)) }
     ensures end { OnOk result (IsAtEnd (R.left reader.new)) }

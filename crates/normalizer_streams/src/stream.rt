@@ -26,9 +26,8 @@ ghost use Rattle.normalizer_streams.specs.Streams.{form_by, IsEndless, IsFormCut
 ghost use Rattle.normalizer_streams.specs.inner.Moves.{Carries, IsCutAnyway, Moves};
 
 use crate::settled::last_settled;
-use normalizer_io::TransferError;
 use normalizer_built::Normalizer;
-use normalizer_io::{Source, Target, write_all};
+use normalizer_io::{Source, Target, TransferError, write_all};
 use std::alloc::Global;
 
 // The most bytes that one read returns.
