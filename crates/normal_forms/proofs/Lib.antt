@@ -16,7 +16,6 @@ pub mod PlaceLemmas
 pub mod PlainExample
 pub mod PlainLemmas
 pub mod RunLemmas
-pub mod SortLemmas
 pub mod TextLemmas
 pub mod UnfaithfulExample
 pub mod VisitLemmas

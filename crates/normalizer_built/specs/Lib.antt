@@ -1,1 +1,2 @@
+pub mod Normalizers
 pub mod RecordedForms

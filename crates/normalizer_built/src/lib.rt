@@ -9,10 +9,15 @@ ghost use Rattle.normalizer_calls.specs.Mappers.{mapper_data_of};
 ghost use Rattle.normalizer_calls.specs.Normalizers.{data_of};
 ghost use Rattle.normalizer_builder.specs.Built.{AreBuilt, data_in};
 
-use icu_normalizer::uts46::Uts46Mapper;
-use icu_normalizer::{ComposingNormalizer, DataError, DecomposingNormalizer, NormalizeError};
 use normalizer_builder::Built;
 use normalizer_builder::laws::{data_that_meet_conditions_are_accepted, what_is_built_is_accepted};
+use normalizer_calls::{ComposingNormalizer, DecomposingNormalizer, Uts46Mapper};
+use normalizer_iterators::NormalizeError;
+use normalizer_tables::DataError;
+
+mod normalizer;
+
+pub use normalizer::Normalizer;
 
 /// The four normal forms (UAX #15, section 1.2).
 #[derive(Clone, Copy, Debug, PartialEq, Eq)]

@@ -6,6 +6,7 @@ pub mod OwnedLemmas
 pub mod PartLemmas
 pub mod PassingLemmas
 pub mod RunLemmas
+pub mod RunParts
 pub mod SoundPairs
 pub mod TextAnswers
 pub mod WritingLemmas

@@ -1,18 +1,18 @@
 //! The two kinds of normalizers as one trait, over which every call on text is written once.
 ghost use Rattle.std.specs.Prelude.{◌≡◌, ◌<◌, ◌||◌, ◌∷◌, [], nat_lt, not, ℕ, Bool, true, false, IfOk, IfSome};
+ghost use Rattle.std.specs.Prelude.{Option, Some, None, if◌then◌else◌};
 ghost use Rattle.std.specs.Char.{IsScalar};
 ghost use Rattle.std.specs.Iterator.{IsFinite};
 ghost use Rattle.normal_forms.specs.declared.Form.{Form};
 ghost use Rattle.normal_forms.specs.Forms.{normal_form};
 ghost use Rattle.normal_forms.specs.Reading.{Reading};
-ghost use Rattle.normalizer_tables.specs.Characters.{has_class_form, word_of};
+ghost use Rattle.normalizer_tables.specs.Characters.{class_of_itself, has_class_form, reading_of_word};
 ghost use Rattle.normalizer_tables.specs.PairConditions.{is_passed};
-ghost use Rattle.normalizer_tables.specs.Words.{is_plain};
 ghost use Rattle.normalizer_tables.specs.Readings.{reading_by};
 ghost use Rattle.normalizer_tables.specs.declared.characters.IgnoredCharacters.TheVariants.{Dropped};
 ghost use Rattle.normalizer_iterators.specs.Items.{GivesForm};
 ghost use Rattle.normalizer_calls.specs.BeginsApart.{BeginsApart};
-ghost use Rattle.normalizer_calls.specs.inner.Passing.{MayPass};
+ghost use Rattle.normalizer_calls.specs.inner.Passing.{MayFollow, MayPass};
 
 use crate::{ComposingNormalizerBorrowed, DecomposingNormalizerBorrowed};
 use normalizer_iterators::{Composition, Decomposition, NormalizeError};
@@ -31,9 +31,10 @@ pub(crate) trait FormItems<I: Iterator<Item = char> + Drop> {
 
     ghost form: { Form };
 
-    // Which characters are passed on as they are, the bound below which each is, and whether the last of them is held
-    // back if another one follows.
-    ghost passing: { Self → ℕ → Bool };
+    // Which characters are passed on as they are, and of which class each is: one of class 0 is so wherever it comes, a
+    // mark unless its class is less than the one before. The bound below which each is so, as a starter, and whether
+    // the last one is held back if another one follows.
+    ghost passed_class: { Self → ℕ → Option ℕ };
 
     ghost bound: { Self → ℕ };
 
@@ -49,11 +50,12 @@ pub(crate) trait FormItems<I: Iterator<Item = char> + Drop> {
             (λ d x. normal_form d form x) characters result }
         ensures ready { IfOk result (λ it. Self.Items.can_next it × IsFinite (Self.Items.remaining it)) };
 
-    /// Whether a character is passed on as it is.
-    fn passes(&self, character: char) -> bool
-        ensures { result ≡ passing self.now character };
+    /// Returns the class of a character that is passed on as it is: wherever it comes if that is 0, otherwise unless
+    /// the class before is greater.
+    fn passed_class(&self, character: char) -> Option<u8>
+        ensures { result ≡ passed_class self.now character };
 
-    /// Returns the bound below which every character is passed on.
+    /// Returns the bound below which every character is passed on, with class 0.
     fn passing_bound(&self) -> u32
         ensures { result ≡ bound self.now };
 
@@ -69,13 +71,15 @@ pub(crate) trait FormItems<I: Iterator<Item = char> + Drop> {
     fn form_of_one(&self, character: char) -> Option<Members<'_>>
         ensures { IfSome result (λ members. members ≡ normal_form (reading self.now) form (character ∷ [])) };
 
-    /// Characters that pass are normalized apart, and those below the bound pass; what `begins` accepts is normalized
-    /// apart from what comes before.
+    /// Characters that pass with class 0 are normalized apart, those that pass with another may follow marks of lower
+    /// classes, and those below the bound pass; what `begins` accepts is normalized apart from what comes before.
     fn passed_characters_stand_apart(&self)
-        ensures apart { (c : ℕ) → IsScalar c → passing self.now c ≡ true →
+        ensures apart { (c : ℕ) → IsScalar c → passed_class self.now c ≡ Some 0 →
             MayPass (reading self.now) form held_back c }
+        ensures follow { (c k : ℕ) → IsScalar c → passed_class self.now c ≡ Some k → 0 < k →
+            MayFollow (reading self.now) form held_back c k }
         ensures begins { (c : ℕ) → IsScalar c → beginning self.now c ≡ true → BeginsApart (reading self.now) form c }
-        ensures below { (c : ℕ) → c < bound self.now → passing self.now c ≡ true };
+        ensures below { (c : ℕ) → c < bound self.now → passed_class self.now c ≡ Some 0 };
 }
 
 impl<'a, I: Iterator<Item = char> + Drop> FormItems<I> for DecomposingNormalizerBorrowed<'a> {
@@ -90,7 +94,8 @@ impl<'a, I: Iterator<Item = char> + Drop> FormItems<I> for DecomposingNormalizer
 
     ghost form = { Decomposing };
 
-    ghost passing = { λ n c. nat_lt c n.bounds.decomposition || is_plain (word_of (data_of_borrowed n) c) };
+    ghost passed_class = { λ n c. if nat_lt c n.bounds.decomposition then Some 0
+        else class_of_itself (reading_of_word (data_of_borrowed n) c) };
 
     ghost bound = { λ n. n.bounds.decomposition };
 
@@ -102,9 +107,12 @@ impl<'a, I: Iterator<Item = char> + Drop> FormItems<I> for DecomposingNormalizer
         self.normalize_iter(characters)
     }
 
-    fn passes(&self, character: char) -> bool {
-        (character as u32) < self.bounds.decomposition
-            || is_plain(self.characters.word_of(character))
+    fn passed_class(&self, character: char) -> Option<u8> {
+        if (character as u32) < self.bounds.decomposition {
+            return Some(0);
+        }
+        let word = self.characters.word_of(character);
+        self.characters.class_of_itself(character, word)
     }
 
     fn passing_bound(&self) -> u32 {
@@ -141,7 +149,7 @@ impl<'a, I: Iterator<Item = char> + Drop> FormItems<I> for ComposingNormalizerBo
 
     ghost form = { Composing };
 
-    ghost passing = { λ n c. is_passed (composing_data_of_borrowed n) n.bounds c };
+    ghost passed_class = { λ n c. if is_passed (composing_data_of_borrowed n) n.bounds c then Some 0 else None };
 
     ghost bound = { λ n. n.bounds.composition };
 
@@ -153,11 +161,12 @@ impl<'a, I: Iterator<Item = char> + Drop> FormItems<I> for ComposingNormalizerBo
         self.normalize_iter(characters)
     }
 
-    #[tactic(auto, unfolding(normalizer_tables::specs::PairConditions::is_passed))]
-    fn passes(&self, character: char) -> bool {
-        let word = self.characters.word_of(character);
-        (!is_non_round_trip(word) && !is_backward_combining(word))
-            || (character as u32) < self.bounds.composition
+    fn passed_class(&self, character: char) -> Option<u8> {
+        if <Self as FormItems<I>>::begins(self, character) {
+            Some(0)
+        } else {
+            None
+        }
     }
 
     fn passing_bound(&self) -> u32 {
@@ -168,8 +177,11 @@ impl<'a, I: Iterator<Item = char> + Drop> FormItems<I> for ComposingNormalizerBo
         true
     }
 
+    #[tactic(auto, unfolding(normalizer_tables::specs::PairConditions::is_passed))]
     fn begins(&self, character: char) -> bool {
-        <Self as FormItems<I>>::passes(self, character)
+        let word = self.characters.word_of(character);
+        (!is_non_round_trip(word) && !is_backward_combining(word))
+            || (character as u32) < self.bounds.composition
     }
 
     fn form_of_one(&self, _character: char) -> Option<Members<'_>> {
@@ -177,12 +189,4 @@ impl<'a, I: Iterator<Item = char> + Drop> FormItems<I> for ComposingNormalizerBo
     }
 
     fn passed_characters_stand_apart(&self) {}
-}
-
-/// Whether a word reads as the character itself with class 0, whatever its flags.
-#[tactic(auto, unfolding(normalizer_tables::specs::Words::is_plain))]
-fn is_plain(word: u32) -> bool
-    ensures { result ≡ is_plain word }
-{
-    word & 0x3FFF_FFFF == 0
 }

@@ -1,7 +1,7 @@
 //! The ends of runs of characters that are passed on as they are, and of the segments between them.
 ghost use Rattle.std.specs.Prelude.{◌≡◌, ◌<◌, ◌≤◌, length, take};
 ghost use Rattle.normalizer_input.specs.InputCut.{IsInputNormalized};
-ghost use Rattle.normalizer_calls.specs.inner.Passing.{IsHandedOn, IsPart, IsRunEnd, IsSegmentEnd, step_passes};
+ghost use Rattle.normalizer_calls.specs.inner.Passing.{IsHandedOn, IsPart, IsRunEnd, IsSegmentEnd, next_class};
 
 use crate::form_items::FormItems;
 use normalizer_text::{Chars, Step, Units};
@@ -9,30 +9,54 @@ use normalizer_text::{Chars, Step, Units};
 // U+FFFD, as which errors read.
 const REPLACEMENT: u32 = char::REPLACEMENT_CHARACTER as u32;
 
-/// Whether a step is a character that is passed on as it is.
-#[inline(always)]
-fn step_passes<U: Units, N: FormItems<Chars<U>>>(normalizer: &N, step: Step) -> bool
-    ensures { result ≡ step_passes (N.passing normalizer.now) step }
-{
-    step.character != char::REPLACEMENT_CHARACTER && normalizer.passes(step.character)
+/// A run of characters that are passed on as they are: where the marks at its end begin, and where it ends.
+#[derive(Clone, Copy)]
+struct Run {
+    marks: usize,
+    end: usize,
 }
 
-/// Returns the end of the run of characters that are passed on as they are.
-fn run_end<U: Units, N: FormItems<Chars<U>>>(normalizer: &N, units: U) -> usize
-    ensures { IsRunEnd (N.passing normalizer.now) U.encoding (U.units units) result }
+/// Returns the class of a step that is passed on as it is after a character of class `last`.
+#[inline(always)]
+#[tactic(auto, unfolding(crate::specs::inner::Passing::next_class, crate::specs::inner::Passing::class_of_step, crate::specs::inner::Passing::following))]
+fn next_class<U: Units, N: FormItems<Chars<U>>>(normalizer: &N, last: u8, step: Step) -> Option<u8>
+    ensures { result ≡ next_class (N.passed_class normalizer.now) last step }
+{
+    if step.character == char::REPLACEMENT_CHARACTER {
+        return None;
+    }
+    let class = normalizer.passed_class(step.character)?;
+    if class == 0 || last <= class {
+        Some(class)
+    } else {
+        None
+    }
+}
+
+/// Returns the run of characters that are passed on as they are: marks as long as their classes don't fall.
+fn run_end<U: Units, N: FormItems<Chars<U>>>(normalizer: &N, units: U) -> Run
+    ensures { IsRunEnd (N.passed_class normalizer.now) U.encoding (U.units units) result.marks result.end }
 {
     normalizer.passed_characters_stand_apart();
     units.low_units_are_of_low_characters();
     let limit = units.low_unit(normalizer.passing_bound().min(REPLACEMENT));
     let mut end = units.end_of_below(0, limit);
+    let mut marks = end;
+    let mut last = 0;
     while end < units.len() {
         let step = units.step_at(end);
-        if !step_passes(normalizer, step) {
-            return end;
+        let Some(class) = next_class(normalizer, last, step) else {
+            return Run { marks, end };
+        };
+        if class == 0 {
+            end = units.end_of_below(end + step.width, limit);
+            marks = end;
+        } else {
+            end += step.width;
         }
-        end = units.end_of_below(end + step.width, limit);
+        last = class;
     }
-    end
+    Run { marks, end }
 }
 
 /// Returns the end of the segment that begins with the first character: before the next one that is normalized apart.
@@ -53,19 +77,26 @@ pub(crate) fn segment_end<U: Units, N: FormItems<Chars<U>>>(normalizer: &N, unit
 }
 
 /// Returns the end of the front of the units that is passed on as it is: of a run, without the last character if it may
-/// compose with what follows.
+/// compose with what follows, and without the marks at its end if what follows may be ordered among them.
 pub(crate) fn passed_end<U: Units, N: FormItems<Chars<U>>>(normalizer: &N, units: U) -> usize
-    ensures handed { IsHandedOn (N.passing normalizer.now) N.held_back U.encoding (U.units units) result }
+    ensures handed { IsHandedOn (N.passed_class normalizer.now) (N.beginning normalizer.now) N.held_back
+        U.encoding (U.units units) result }
     ensures part { 0 < result → IsPart U.encoding (N.reading normalizer.now) N.form (U.units units) result ×
         IsInputNormalized U.encoding (N.reading normalizer.now) N.form (take result (U.units units)) }
 {
     normalizer.passed_characters_stand_apart();
-    let end = run_end(normalizer, units);
-    if end == units.len() || !normalizer.holds_back() {
-        return end;
+    let run = run_end(normalizer, units);
+    if run.end == units.len() {
+        return run.end;
     }
-    match units.before(end).last_step() {
-        Some(step) => end - step.width,
-        None => 0,
+    if normalizer.holds_back() {
+        return match units.before(run.end).last_step() {
+            Some(step) => run.end - step.width,
+            None => 0,
+        };
     }
+    if run.marks < run.end && normalizer.begins(units.step_at(run.end).character) {
+        return run.end;
+    }
+    run.marks
 }

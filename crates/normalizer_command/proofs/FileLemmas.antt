@@ -1,12 +1,13 @@
 -- Files, one after another, as a loop does.
-use Rattle.std.proofs.Common.{◌≡◌, ℕ, ◌+◌, ◌<◌, ◌≤◌, List, [], ◌∷◌, length, get_or, drop, map, suc, Option, Result, Ok, Err, IfErr, Bor, ap, refl, arith}
+use Rattle.std.proofs.Common.{◌≡◌, ℕ, ◌+◌, ◌<◌, ◌≤◌, List, [], ◌∷◌, length, get_or, drop, map, suc, Result, Bor, ap, refl, arith}
 use Rattle.std.specs.Prelude.{IsErrOf}
 use Rattle.std.proofs.Math.Seq.{drop-cons}
 use Rattle.std.proofs.Math.ListN.{drop_of_length-le}
-use Rattle.normalizer_program.specs.declared.ending.Answer.{Answer}
+use Rattle.normalizer_io.specs.declared.outcome.Answer.{Answer}
 use Rattle.normalizer_command.specs.declared.fault.Fault.{Fault}
 use Rattle.normalizer_command.specs.declared.fault.Fault.TheVariants.{Write}
 use Rattle.normalizer_command.specs.declared.reply.Task.{Task}
+use Rattle.normalizer_command.specs.Devices.{Devices}
 use Rattle.normalizer_command.specs.Making.{Making}
 use Rattle.normalizer_command.specs.Outcomes.{AreDone, IsDone, State}
 
@@ -19,26 +20,21 @@ name_at names i = (get_or names i (record { ref_ptr = (0, 0); now = [] })).now
 one_more : (names : List (Bor (List ℕ))) (i : ℕ) → i < length names → texts (drop i names) ≡ name_at names i ∷ texts (drop (i + 1) names)
 one_more names i lt = let e : i + 1 ≡ suc i = omega arith in rw e (ap texts (drop-cons names i (record { ref_ptr = (0, 0); now = [] }) lt))
 
-module _ (task : Task) (m : Making) (bytes_of : List ℕ → Option (List ℕ)) (names : List (Bor (List ℕ))) (i : ℕ) (s next : State)
-    (outcome : Result Answer Fault) (lt : i < length names) (done : IsDone task m (name_at names i) (bytes_of (name_at names i)) s next outcome) where
+module _ {W : Type 0} (d : Devices W) (task : Task) (m : Making) (names : List (Bor (List ℕ))) (i : ℕ) (s next : State W)
+    (outcome : Result Answer Fault) (lt : i < length names) (done : IsDone d task m (name_at names i) s next outcome) where
   -- one more file, and those after it
-  pub goes_on : (end : State) → ¬ IsErrOf outcome Write → AreDone task m bytes_of (texts (drop (i + 1) names)) next end
-      → AreDone task m bytes_of (texts (drop i names)) s end
+  pub goes_on : (end : State W) → ¬ IsErrOf outcome Write → AreDone d task m (texts (drop (i + 1) names)) next end
+      → AreDone d task m (texts (drop i names)) s end
   unfolding AreDone
   goes_on end unrefused rest = rw (one_more names i lt) (outcome, next, done, (λ refused. absurd (unrefused refused)), λ _. rest)
 
   -- the last file, whose write is refused
-  pub stops : IsErrOf outcome Write → AreDone task m bytes_of (texts (drop i names)) s next
+  pub stops : IsErrOf outcome Write → AreDone d task m (texts (drop i names)) s next
   unfolding AreDone
   stops refused = rw (one_more names i lt) (outcome, next, done, (λ _. refl), λ unrefused. absurd (unrefused refused))
 
--- what follows of an error
-pub IfErr-after : {A E : Type 0} {P Q : E → Type 0} (r : Result A E) → ((e : E) → P e → Q e) → IfErr r P → IfErr r Q
-IfErr-after (Ok a) f h = tt
-IfErr-after (Err e) f h = f e h
-
 -- no file is left
-pub is_done : (task : Task) (m : Making) (bytes_of : List ℕ → Option (List ℕ)) (names : List (Bor (List ℕ))) (i : ℕ) (s : State)
-    → length names ≤ i → AreDone task m bytes_of (texts (drop i names)) s s
+pub is_done : {W : Type 0} (d : Devices W) (task : Task) (m : Making) (names : List (Bor (List ℕ))) (i : ℕ) (s : State W)
+    → length names ≤ i → AreDone d task m (texts (drop i names)) s s
 unfolding AreDone
-is_done task m bytes_of names i s le = rw (drop_of_length-le names le) refl
+is_done d task m names i s le = rw (drop_of_length-le names le) refl

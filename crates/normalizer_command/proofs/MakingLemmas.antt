@@ -10,7 +10,7 @@ use Rattle.normalizer_built.specs.declared.NormalForm.TheVariants.{Nfd, Nfkd}
 use Rattle.normalizer_built.proofs.FormsOfData.{form_of_data-recorded}
 use Rattle.normalizer_calls.specs.declared.normalizer.DecomposingNormalizer.{DecomposingNormalizer}
 use Rattle.normalizer_calls.specs.Normalizers.{data_of}
-use Rattle.normalizer_program.specs.declared.normalizer.Normalizer.TheVariants as normalizer
+use Rattle.normalizer_built.specs.declared.normalizer.Normalizer.TheVariants as normalizer
 use Rattle.normalizer_command.specs.Making.{making_by, Makes}
 
 module _ (n : DecomposingNormalizer) (records : List Entry) (mapper : List MapperEntry) (p : Packed) (builds : Builds records mapper p) where

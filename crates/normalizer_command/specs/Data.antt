@@ -6,6 +6,8 @@ use Rattle.normalizer_records.specs.Entry.{Entry}
 use Rattle.normalizer_ucd.specs.declared.error.UcdFile.{UcdFile}
 use Rattle.normalizer_ucd.specs.declared.error.UcdFile.TheVariants.{UnicodeData, CompositionExclusions, IdnaMappingTable}
 use Rattle.normalizer_ucd.specs.UnicodeData.{records_of}
+use Rattle.normalizer_command.specs.Devices.{Devices}
+use Rattle.normalizer_command.specs.Faults.{IsFileFault}
 use Rattle.normalizer_command.specs.declared.fault.Fault.{Fault}
 use Rattle.normalizer_command.specs.declared.fault.Fault.TheVariants.{Open, Read, Write, Memory, Line, Records}
 
@@ -28,26 +30,24 @@ AreFiles bytes_of directory unicode_data exclusions =
 abbrev pub AreBuiltOf : (unicode_data exclusions : List ℕ) → List Entry → Packed → Type 0
 AreBuiltOf unicode_data exclusions records p = (records_of unicode_data exclusions ≡ Ok records) × Builds records [] p
 
--- why the bytes of the two files give no data
-abbrev pub IsFaultOf : (unicode_data exclusions : List ℕ) → Fault → Type 0
-IsFaultOf unicode_data exclusions (Line fault) = records_of unicode_data exclusions ≡ Err fault
-IsFaultOf unicode_data exclusions (Records error) =
-    (records : List Entry) × (records_of unicode_data exclusions ≡ Ok records) × IsSmallest records [] error
-IsFaultOf unicode_data exclusions Memory = ⊤
-IsFaultOf unicode_data exclusions (Open kind) = ⊥
-IsFaultOf unicode_data exclusions Read = ⊥
-IsFaultOf unicode_data exclusions Write = ⊥
+-- why the bytes of the two files give no data, and which of the files is named
+abbrev pub IsFaultOf : (unicode_data exclusions : List ℕ) → UcdFile → Fault → Type 0
+IsFaultOf unicode_data exclusions file (Line fault) =
+    (records_of unicode_data exclusions ≡ Err fault) × (file ≡ fault.place.file)
+IsFaultOf unicode_data exclusions file (Records error) = (file ≡ UnicodeData)
+    × ((records : List Entry) × (records_of unicode_data exclusions ≡ Ok records) × IsSmallest records [] error)
+IsFaultOf unicode_data exclusions file Memory = ⊤
+IsFaultOf unicode_data exclusions file (Open kind) = ⊥
+IsFaultOf unicode_data exclusions file Read = ⊥
+IsFaultOf unicode_data exclusions file Write = ⊥
 
--- a file can't be opened or read, or memory ran out
-abbrev pub IsReadFault : Fault → Type 0
-IsReadFault (Open kind) = ⊤
-IsReadFault Read = ⊤
-IsReadFault Memory = ⊤
-IsReadFault Write = ⊥
-IsReadFault (Line fault) = ⊥
-IsReadFault (Records error) = ⊥
+-- why a file of a directory can't be read
+abbrev pub IsReadFault : {W : Type 0} → Devices W → (directory : List ℕ) → UcdFile → Fault → Type 0
+IsReadFault d directory file fault =
+    IsFileFault (d.cannot_open (path_of directory file)) (d.read_refused (path_of directory file)) ⊥ fault
 
--- why there are no data: the files can't be read, or their bytes give none
-abbrev pub IsDataFault : (List ℕ → Option (List ℕ)) → (directory : List ℕ) → Fault → Type 0
-IsDataFault bytes_of directory fault = IsReadFault fault ⊎ ((unicode_data : List ℕ) × (exclusions : List ℕ)
-    × AreFiles bytes_of directory unicode_data exclusions × IsFaultOf unicode_data exclusions fault)
+-- why there are no data: this file of the directory can't be read, or the bytes of the two files give none
+abbrev pub IsDataFault : {W : Type 0} → Devices W → (directory : List ℕ) → UcdFile → Fault → Type 0
+IsDataFault d directory file fault = IsReadFault d directory file fault
+    ⊎ ((unicode_data : List ℕ) × (exclusions : List ℕ) × AreFiles d.bytes_of directory unicode_data exclusions
+    × IsFaultOf unicode_data exclusions file fault)

@@ -1,4 +1,5 @@
 pub mod Data
+pub mod Devices
 pub mod Faults
 pub mod Making
 pub mod Outcomes

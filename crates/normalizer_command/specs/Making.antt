@@ -10,8 +10,8 @@ use Rattle.normalizer_records.specs.Entry.{Entry}
 use Rattle.normalizer_builder.specs.Readings.{recorded_reading}
 use Rattle.normalizer_built.specs.declared.NormalForm.{NormalForm}
 use Rattle.normalizer_built.specs.declared.NormalForm.TheVariants.{Nfd, Nfc, Nfkd, Nfkc}
-use Rattle.normalizer_program.specs.declared.normalizer.Normalizer.{Normalizer}
-use Rattle.normalizer_program.specs.Normalizers.{kind_by, reading_of}
+use Rattle.normalizer_built.specs.declared.normalizer.Normalizer.{Normalizer}
+use Rattle.normalizer_built.specs.Normalizers.{kind_by, reading_of}
 
 -- a normal form, and the reading by which it is made
 pub record Making : Type 0 where

@@ -1,24 +1,26 @@
 -- What becomes of files, one after another.
 use Rattle.std.specs.Prelude.{◌≡◌, ◌≢◌, ℕ, List, [], ◌∷◌, Option, Result, Ok, Err, IfOk, IfErr, IfSome, IsErrOf, nat_lt, if◌then◌else◌}
 use Rattle.std.specs.Io.KnownBytes.{Appends}
-use Rattle.normalizer_program.specs.Transfer.{AppendsFront}
-use Rattle.normalizer_program.specs.declared.ending.Answer.{Answer}
-use Rattle.normalizer_program.specs.declared.ending.Answer.TheVariants.{Done, No}
+use Rattle.normalizer_io.specs.Transfer.{AppendsFront}
+use Rattle.normalizer_io.specs.declared.outcome.Answer.{Answer}
+use Rattle.normalizer_io.specs.declared.outcome.Answer.TheVariants.{Done, No}
 use Rattle.normalizer_command.specs.declared.fault.Fault.{Fault}
 use Rattle.normalizer_command.specs.declared.fault.Fault.TheVariants.{Write}
 use Rattle.normalizer_command.specs.declared.reply.Task.{Task}
+use Rattle.normalizer_command.specs.Devices.{Devices}
+use Rattle.normalizer_command.specs.Faults.{IsFileFault}
 use Rattle.normalizer_command.specs.Making.{Making}
 use Rattle.normalizer_command.specs.Replies.{IsReply}
 use Rattle.normalizer_command.specs.Reports.{Report, Tells}
 
--- what was written, what was reported, and the exit status so far
-pub record State : Type 0 where
-  pub taken : Option (List ℕ)
+-- the output, what was reported, and the exit status so far
+pub record State (W : Type 0) : Type 0 where
+  pub writer : W
   pub told : Option (List Report)
   pub status : ℕ
 
-abbrev pub state : Option (List ℕ) → Option (List Report) → ℕ → State
-state taken told status = record { taken = taken; told = told; status = status }
+abbrev pub state : {W : Type 0} → W → Option (List Report) → ℕ → State W
+state writer told status = record { writer = writer; told = told; status = status }
 
 -- the task has this reply to all the bytes of the file, if they are known
 pub record Replies (task : Task) (m : Making) (name : List ℕ) (bytes : Option (List ℕ)) (answer : Answer)
@@ -48,19 +50,20 @@ abbrev pub greater : ℕ → ℕ → ℕ
 greater a b = if nat_lt a b then b else a
 
 -- one file: its reply is written, or a report says why it failed, and nothing of it is written unless a write was refused
-pub record IsDone (task : Task) (m : Making) (name : List ℕ) (bytes : Option (List ℕ)) (s t : State)
+pub record IsDone {W : Type 0} (d : Devices W) (task : Task) (m : Making) (name : List ℕ) (s t : State W)
     (outcome : Result Answer Fault) : Type 0 where
-  pub done : IfOk outcome (IsWritten task m name bytes s.taken t.taken)
-  pub cut : IsErrOf outcome Write → IsCutOff task m name bytes s.taken t.taken
-  pub unwritten : IfErr outcome (λ fault. fault ≢ Write → t.taken ≡ s.taken)
+  pub done : IfOk outcome (IsWritten task m name (d.bytes_of name) (d.taken s.writer) (d.taken t.writer))
+  pub why : IfErr outcome
+      (IsFileFault (d.cannot_open name) (d.read_refused name) (d.write_refused s.writer t.writer))
+  pub cut : IsErrOf outcome Write → IsCutOff task m name (d.bytes_of name) (d.taken s.writer) (d.taken t.writer)
+  pub unwritten : IfErr outcome (λ fault. fault ≢ Write → t.writer ≡ s.writer)
   pub untold : IfOk outcome (λ _. t.told ≡ s.told)
   pub told : IfErr outcome (λ fault. Tells s.told t.told (name, fault))
   pub status : t.status ≡ greater s.status (status_of outcome)
 
 -- each file in turn, and none after a refused write
-unfoldable pub AreDone : Task → Making → (bytes_of : List ℕ → Option (List ℕ)) → (names : List (List ℕ)) → State → State
-    → Type 0
-AreDone task m bytes_of [] s t = s ≡ t
-AreDone task m bytes_of (name ∷ names) s t =
-    (outcome : Result Answer Fault) × (next : State) × IsDone task m name (bytes_of name) s next outcome
-    × (IsErrOf outcome Write → next ≡ t) × ((IsErrOf outcome Write → ⊥) → AreDone task m bytes_of names next t)
+unfoldable pub AreDone : {W : Type 0} → Devices W → Task → Making → (names : List (List ℕ)) → State W → State W → Type 0
+AreDone d task m [] s t = s ≡ t
+AreDone {W} d task m (name ∷ names) s t =
+    (outcome : Result Answer Fault) × (next : State W) × IsDone d task m name s next outcome
+    × (IsErrOf outcome Write → next ≡ t) × ((IsErrOf outcome Write → ⊥) → AreDone d task m names next t)

@@ -3,8 +3,8 @@ use Rattle.std.specs.Prelude.{◌≡◌, ◌↔◌, ◌⊎◌, ℕ, List, [], �
 use Rattle.normalizer_text.specs.Encodings.{Encoding}
 use Rattle.normalizer_input.specs.EncodedForm.{encoded_form}
 use Rattle.normalizer_input.specs.InputCut.{IsInputNormalized}
-use Rattle.normalizer_program.specs.declared.ending.Answer.{Answer}
-use Rattle.normalizer_program.specs.declared.ending.Answer.TheVariants.{Done, No}
+use Rattle.normalizer_io.specs.declared.outcome.Answer.{Answer}
+use Rattle.normalizer_io.specs.declared.outcome.Answer.TheVariants.{Done, No}
 use Rattle.normalizer_command.specs.declared.reply.Task.{Task}
 use Rattle.normalizer_command.specs.declared.reply.Task.TheVariants.{Write, Check}
 use Rattle.normalizer_command.specs.Making.{Making}

@@ -1,14 +1,15 @@
 //! The data of a directory of Unicode's files.
 ghost use Rattle.std.specs.Prelude.{◌≡◌, List, IfOk, IfErr, IfSome, string_bytes};
 ghost use Rattle.normalizer_builder.specs.Built.{data_in};
-ghost use Rattle.normalizer_command.specs.Data.{AreBuiltOf, AreFiles, IsFaultOf, IsReadFault, name_of, path_of};
-ghost use Rattle.normalizer_command.specs.Faults.{fault_of_file};
+ghost use Rattle.normalizer_command.specs.Data.{AreBuiltOf, AreFiles, IsFaultOf, name_of, path_of};
+ghost use Rattle.normalizer_command.specs.Faults.{fault_of_file, IsFileFault};
 ghost use Rattle.normalizer_records.specs.Entry.{Entry};
+ghost use Rattle.normalizer_ucd.specs.declared.error.LineFault.{LineFault};
 
 use crate::fault::Fault;
 use crate::inputs::Inputs;
-use icu_normalizer::{Built, Records};
-use normalizer_program::read_all;
+use normalizer_builder::{Built, Records};
+use normalizer_io::read_all;
 use normalizer_ucd::{UcdError, UcdFile, records_of_unicode_data};
 use std::alloc::{AllocError, Global};
 
@@ -44,7 +45,8 @@ pub(crate) fn read_files<I: Inputs>(
     directory: &str,
 ) -> Result<(Vec<u8>, Vec<u8>), DataFault>
     ensures files { IfOk result (λ r. AreFiles (I.bytes_of inputs.now) directory.now r.0.items r.1.items) }
-    ensures fault { IfErr result (λ e. IsReadFault e.fault) }
+    ensures fault { IfErr result (λ e. IsFileFault (I.cannot_open inputs.now (path_of directory.now e.file))
+        (I.read_refused inputs.now (path_of directory.now e.file)) ⊥ e.fault) }
 {
     let unicode_data = read_file(alloc, inputs, directory, UcdFile::UnicodeData)?;
     let exclusions = read_file(alloc, inputs, directory, UcdFile::CompositionExclusions)?;
@@ -59,7 +61,8 @@ fn read_file<I: Inputs>(
     file: UcdFile,
 ) -> Result<Vec<u8>, DataFault>
     ensures bytes { IfOk result (λ v. IfSome (I.bytes_of inputs.now (path_of directory.now file)) (λ all. v.items ≡ all)) }
-    ensures fault { IfErr result (λ e. IsReadFault e.fault) }
+    ensures fault { IfErr result (λ e. IsFileFault (I.cannot_open inputs.now (path_of directory.now e.file))
+        (I.read_refused inputs.now (path_of directory.now e.file)) ⊥ e.fault) }
 {
     match read(alloc, inputs, directory, file) {
         Ok(bytes) => Ok(bytes),
@@ -74,7 +77,8 @@ fn read<I: Inputs>(
     file: UcdFile,
 ) -> Result<Vec<u8>, Fault>
     ensures bytes { IfOk result (λ v. IfSome (I.bytes_of inputs.now (path_of directory.now file)) (λ all. v.items ≡ all)) }
-    ensures fault { IfErr result IsReadFault }
+    ensures fault { IfErr result (IsFileFault (I.cannot_open inputs.now (path_of directory.now file))
+        (I.read_refused inputs.now (path_of directory.now file)) ⊥) }
 {
     let path = path(alloc, directory, file)?;
     let mut input = inputs.open(path.as_str())?;
@@ -89,7 +93,7 @@ pub(crate) fn built(
 ) -> Result<Built, DataFault>
     ensures built { IfOk result (λ b. (records : List Entry)
         × AreBuiltOf unicode_data.now exclusions.now records (data_in b)) }
-    ensures fault { IfErr result (λ e. IsFaultOf unicode_data.now exclusions.now e.fault) }
+    ensures fault { IfErr result (λ e. IsFaultOf unicode_data.now exclusions.now e.file e.fault) }
 {
     match records_of_unicode_data(alloc, unicode_data, exclusions) {
         Ok(records) => match Records::build(alloc, &records, &[]) {
@@ -105,7 +109,8 @@ pub(crate) fn built(
 
 // The file that a line is of.
 fn of_file(error: UcdError) -> DataFault
-    ensures { result.fault ≡ fault_of_file error }
+    ensures fault { result.fault ≡ fault_of_file error }
+    ensures file { (fault : LineFault) → error ≡ UcdError.Line fault → result.file ≡ fault.place.file }
 {
     let file = match error {
         UcdError::Line(fault) => fault.place.file,

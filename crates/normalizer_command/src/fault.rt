@@ -1,8 +1,9 @@
 //! Why a file failed.
 ghost use Rattle.std.specs.Prelude.{◌≡◌};
-ghost use Rattle.normalizer_command.specs.Faults.{fault_of_file, fault_of_records, fault_of_tool};
+ghost use Rattle.normalizer_command.specs.Faults.{fault_of_file, fault_of_records, fault_of_transfer};
 
-use normalizer_program::ending::ToolFault;
+use normalizer_io::TransferError;
+use normalizer_iterators::NormalizeError;
 use normalizer_records::BuildError;
 use normalizer_ucd::{LineFault, UcdError};
 use std::alloc::AllocError;
@@ -77,16 +78,26 @@ impl From<AllocError> for Fault {
     }
 }
 
-// Data that were built are never refused.
-impl From<ToolFault> for Fault {
-    ghost from_gives = { λ error fault. fault ≡ fault_of_tool error };
+impl From<TransferError> for Fault {
+    ghost from_gives = { λ error fault. fault ≡ fault_of_transfer error };
 
-    fn from(error: ToolFault) -> Fault {
+    fn from(error: TransferError) -> Fault {
         match error {
-            ToolFault::Read => Fault::Read,
-            ToolFault::Write => Fault::Write,
-            ToolFault::Memory | ToolFault::Data => Fault::Memory,
+            TransferError::Read => Fault::Read,
+            TransferError::Write => Fault::Write,
+            TransferError::Memory => Fault::Memory,
         }
+    }
+}
+
+// A call whose result is in memory fails only if an allocation is refused.
+impl From<NormalizeError> for Fault {
+    ghost use Rattle.normalizer_command.specs.declared.fault.Fault.TheVariants.{Memory};
+
+    ghost from_gives = { λ _ fault. fault ≡ Memory };
+
+    fn from(_error: NormalizeError) -> Fault {
+        Fault::Memory
     }
 }
 

@@ -1,5 +1,7 @@
 //! A task over files.
 ghost use Rattle.std.specs.Prelude.{◌≡◌, ◌≢◌, ◌↔◌, IsTrue, map, IfOk, IfErr, IsErrOf};
+ghost use Rattle.normalizer_command.specs.Devices.{devices};
+ghost use Rattle.normalizer_command.specs.Faults.{IsFileFault};
 ghost use Rattle.normalizer_command.specs.Making.{Making, Makes};
 ghost use Rattle.normalizer_command.specs.Outcomes.{AreDone, IsCutOff, IsWritten, greater, state, status_of};
 ghost use Rattle.normalizer_command.specs.Reports.{Tells};
@@ -7,9 +9,8 @@ ghost use Rattle.normalizer_command.specs.Reports.{Tells};
 use crate::fault::Fault;
 use crate::inputs::{Inputs, Reports};
 use crate::reply::Task;
-use normalizer_program::ending::Answer;
-use normalizer_program::normalizer::Normalizer;
-use normalizer_program::{Source, Target, read_all, write_all};
+use normalizer_built::Normalizer;
+use normalizer_io::{Answer, Source, Target, read_all, write_all};
 use std::alloc::Global;
 
 /// Does the task with each file in turn, up to a refused write, and returns the exit status: the greatest of those of
@@ -24,8 +25,10 @@ pub(crate) fn over_files<I: Inputs, W: Target, R: Reports>(
     reports: &mut R,
 ) -> u8
     ensures { (m : Making) → Makes normalizer.now m →
-        AreDone task m (I.bytes_of inputs.now) (map (λ name. name.now) names.now)
-        (state (W.taken writer.old) (R.told reports.old) 0) (state (W.taken writer.new) (R.told reports.new) result) }
+        AreDone
+        (devices (I.bytes_of inputs.now) (I.cannot_open inputs.now) (I.read_refused inputs.now) W.taken W.refused)
+        task m (map (λ name. name.now) names.now)
+        (state writer.old (R.told reports.old) 0) (state writer.new (R.told reports.new) result) }
 {
     let mut status = 0;
     for name in names {
@@ -50,6 +53,8 @@ fn over_file<I: Inputs, W: Target>(
 ) -> Result<Answer, Fault>
     ensures done { (m : Making) → Makes normalizer.now m → IfOk result
         (IsWritten task m name.now (I.bytes_of inputs.now name.now) (W.taken writer.old) (W.taken writer.new)) }
+    ensures why { IfErr result (IsFileFault (I.cannot_open inputs.now name.now) (I.read_refused inputs.now name.now)
+        (W.refused writer.old writer.new)) }
     ensures cut { (m : Making) → Makes normalizer.now m → IsErrOf result Fault.Write →
         IsCutOff task m name.now (I.bytes_of inputs.now name.now) (W.taken writer.old) (W.taken writer.new) }
     ensures unwritten { IfErr result (λ fault. fault ≢ Fault.Write → writer.new ≡ writer.old) }
@@ -69,6 +74,8 @@ fn over_input<S: Source, W: Target>(
 ) -> Result<Answer, Fault>
     ensures done { (m : Making) → Makes normalizer.now m → IfOk result
         (IsWritten task m name.now (S.left input.old) (W.taken writer.old) (W.taken writer.new)) }
+    ensures why { IfErr result (IsFileFault (λ _. ⊥) (S.refused input.old input.new)
+        (W.refused writer.old writer.new)) }
     ensures cut { (m : Making) → Makes normalizer.now m → IsErrOf result Fault.Write →
         IsCutOff task m name.now (S.left input.old) (W.taken writer.old) (W.taken writer.new) }
     ensures unwritten { IfErr result (λ fault. fault ≢ Fault.Write → writer.new ≡ writer.old) }

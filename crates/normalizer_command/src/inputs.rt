@@ -1,9 +1,10 @@
 //! What the program reads from, and where it reports what failed.
-ghost use Rattle.std.specs.Prelude.{◌≡◌, ℕ, List, Option, IfOk};
+ghost use Rattle.std.specs.Prelude.{◌≡◌, ℕ, List, Option, IfOk, IfErr};
+ghost use Rattle.std.specs.declared.io.ErrorKind.{ErrorKind};
 ghost use Rattle.normalizer_command.specs.Reports.{Report, Tells};
 
 use crate::fault::Fault;
-use normalizer_program::Source;
+use normalizer_io::Source;
 use std::io::ErrorKind;
 
 /// Files by their names, and standard input.
@@ -14,9 +15,18 @@ pub trait Inputs {
     /// The bytes of the file of a name, if the inputs tell them.
     ghost bytes_of: { Self → List ℕ → Option (List ℕ) };
 
+    /// Holds if the file of a name can't be opened, for this reason.
+    ghost cannot_open: { Self → List ℕ → ErrorKind → Type 0 };
+
+    /// Holds if a read of the file of a name was refused.
+    ghost read_refused: { Self → List ℕ → Type 0 };
+
     /// Opens the file of this name; `-` is standard input.
     fn open(&self, name: &str) -> Result<Self::Input, ErrorKind>
-        ensures { IfOk result (λ input. Self.Input.left input ≡ bytes_of self.now name.now) };
+        ensures bytes { IfOk result (λ input. Self.Input.left input ≡ bytes_of self.now name.now) }
+        ensures reads { IfOk result (λ input. (later : Self.Input) → Self.Input.refused input later →
+            read_refused self.now name.now) }
+        ensures fault { IfErr result (cannot_open self.now name.now) };
 }
 
 /// Takes reports of files that failed.

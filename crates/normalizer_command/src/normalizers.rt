@@ -5,11 +5,11 @@ ghost use Rattle.normalizer_builder.specs.Built.{AreBuilt, data_in};
 ghost use Rattle.normalizer_records.specs.Entry.{Entry, MapperEntry};
 ghost use Rattle.normalizer_command.specs.Making.{making_by, Makes};
 
-use icu_normalizer::{Built, NormalizeError};
+use normalizer_builder::Built;
 use normalizer_built::{
-    NormalForm, nfc_normalizer, nfd_normalizer, nfkc_normalizer, nfkd_normalizer,
+    NormalForm, Normalizer, nfc_normalizer, nfd_normalizer, nfkc_normalizer, nfkd_normalizer,
 };
-use normalizer_program::normalizer::Normalizer;
+use normalizer_iterators::NormalizeError;
 
 /// Returns the normalizer to a form, which makes it by what the records mean.
 pub(crate) fn normalizer_to(built: &Built, form: NormalForm) -> Result<Normalizer, NormalizeError>

@@ -4,8 +4,8 @@ ghost use Rattle.normalizer_command.specs.Making.{Making, Makes};
 ghost use Rattle.normalizer_command.specs.Replies.{IsReply, line_of};
 
 use crate::fault::Fault;
-use normalizer_program::ending::{Answer, ToolFault};
-use normalizer_program::normalizer::Normalizer;
+use normalizer_built::Normalizer;
+use normalizer_io::Answer;
 use std::alloc::{AllocError, Global};
 
 /// What is done with a file.
@@ -32,10 +32,10 @@ impl Task {
         normalizer: &Normalizer,
         name: &str,
         bytes: &[u8],
-    ) -> Result<Reply, ToolFault>
+    ) -> Result<Reply, Fault>
         ensures reply { (m : Making) → Makes normalizer.now m →
             IfOk result (λ r. IsReply self m name.now bytes.now r.answer (string_bytes r.output)) }
-        ensures refused { IsOkUnless result ToolFault.Memory }
+        ensures refused { IsOkUnless result Fault.Memory }
     {
         match self {
             Task::Write => Ok(Reply {
@@ -43,7 +43,7 @@ impl Task {
                 output: normalizer.form_of(alloc, bytes)?,
             }),
             Task::Check => {
-                if normalizer.is_own_form(bytes)? {
+                if normalizer.is_normalized(bytes)? {
                     Ok(Reply {
                         answer: Answer::Done,
                         output: String::new(alloc),

@@ -4,6 +4,7 @@ ghost use Rattle.normalizer_builder.specs.Built.{AreBuilt, data_in};
 ghost use Rattle.normalizer_builder.specs.Building.{Builds};
 ghost use Rattle.normalizer_records.specs.Entry.{Entry, MapperEntry};
 ghost use Rattle.normalizer_command.specs.Data.{IsDataFault, path_of};
+ghost use Rattle.normalizer_command.specs.Devices.{devices};
 ghost use Rattle.normalizer_command.specs.Making.{making_by};
 ghost use Rattle.normalizer_command.specs.Outcomes.{AreDone, state};
 ghost use Rattle.normalizer_command.specs.Reports.{Tells};
@@ -15,9 +16,10 @@ use crate::files::over_files;
 use crate::inputs::{Inputs, Reports};
 use crate::normalizers::normalizer_to;
 use crate::reply::Task;
-use icu_normalizer::{Built, NormalizeError};
+use normalizer_builder::Built;
 use normalizer_built::NormalForm;
-use normalizer_program::Target;
+use normalizer_io::Target;
+use normalizer_iterators::NormalizeError;
 use normalizer_ucd::UcdFile;
 use std::alloc::Global;
 
@@ -33,8 +35,10 @@ pub fn run<I: Inputs, W: Target, R: Reports>(
     writer: &mut W,
     reports: &mut R,
 ) -> u8
-    ensures { IsRun task form (I.bytes_of inputs.now) directory.now (map (λ name. name.now) names.now)
-        (state (W.taken writer.old) (R.told reports.old) 0) (state (W.taken writer.new) (R.told reports.new) result) }
+    ensures { IsRun
+        (devices (I.bytes_of inputs.now) (I.cannot_open inputs.now) (I.read_refused inputs.now) W.taken W.refused)
+        task form directory.now (map (λ name. name.now) names.now)
+        (state writer.old (R.told reports.old) 0) (state writer.new (R.told reports.new) result) }
 {
     match run_by_files(alloc, task, form, directory, names, inputs, writer, reports) {
         Ok(status) => status,
@@ -56,10 +60,13 @@ fn run_by_files<I: Inputs, W: Target, R: Reports>(
     writer: &mut W,
     reports: &mut R,
 ) -> Result<u8, DataFault>
-    ensures done { IfOk result (λ status. RunsByFiles task form
-        (I.bytes_of inputs.now) directory.now (map (λ name. name.now) names.now)
-        (state (W.taken writer.old) (R.told reports.old) 0) (state (W.taken writer.new) (R.told reports.new) status)) }
-    ensures fault { IfErr result (λ e. IsDataFault (I.bytes_of inputs.now) directory.now e.fault) }
+    ensures done { IfOk result (λ status. RunsByFiles
+        (devices (I.bytes_of inputs.now) (I.cannot_open inputs.now) (I.read_refused inputs.now) W.taken W.refused)
+        task form directory.now (map (λ name. name.now) names.now)
+        (state writer.old (R.told reports.old) 0) (state writer.new (R.told reports.new) status)) }
+    ensures fault { IfErr result (λ e. IsDataFault
+        (devices (I.bytes_of inputs.now) (I.cannot_open inputs.now) (I.read_refused inputs.now) W.taken W.refused)
+        directory.now e.file e.fault) }
     ensures unwritten { OnErr result (writer.new ≡ writer.old) }
     ensures untold { OnErr result (reports.new ≡ reports.old) }
 {
@@ -87,9 +94,10 @@ fn over_data<I: Inputs, W: Target, R: Reports>(
 ) -> Result<u8, NormalizeError>
     requires { AreBuilt (data_in «data».now) }
     ensures done { (records : List Entry) (mapper : List MapperEntry) → Builds records mapper (data_in «data».now) →
-        IfOk result (λ status. AreDone task (making_by records form)
-        (I.bytes_of inputs.now) (map (λ name. name.now) names.now)
-        (state (W.taken writer.old) (R.told reports.old) 0) (state (W.taken writer.new) (R.told reports.new) status)) }
+        IfOk result (λ status. AreDone
+        (devices (I.bytes_of inputs.now) (I.cannot_open inputs.now) (I.read_refused inputs.now) W.taken W.refused)
+        task (making_by records form) (map (λ name. name.now) names.now)
+        (state writer.old (R.told reports.old) 0) (state writer.new (R.told reports.new) status)) }
     ensures unwritten { OnErr result (writer.new ≡ writer.old) }
     ensures untold { OnErr result (reports.new ≡ reports.old) }
 {

@@ -8,9 +8,11 @@ pub mod MarkRunLemmas
 pub mod PassedClasses
 pub mod PassingLemmas
 pub mod ReadingLemmas
+pub mod SegmentLemmas
 pub mod ShortChunkLemmas
 pub mod SortedMarkLemmas
 pub mod SoundData
+pub mod ShortTextLemmas
 pub mod StarterLemmas
 pub mod ToComeLemmas
 pub mod WaitingLemmas

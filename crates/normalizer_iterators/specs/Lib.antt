@@ -8,6 +8,8 @@ pub mod LazyReading
 pub mod MarkRuns
 pub mod NextItem
 pub mod Reads
+pub mod Segment
+pub mod ShortText
 pub mod StayingMarks
 pub mod ToCome
 pub mod Waiting

@@ -1,3 +1,4 @@
 -- What the contracts of private functions alone cite.
 pub mod Passing
 pub mod ReadingOn
+pub mod ShortText

@@ -8,8 +8,10 @@ pub mod laws;
 mod marks;
 mod read;
 mod reading;
+pub mod segment;
 mod waiting;
 
 pub use composition::Composition;
 pub use decomposition::Decomposition;
 pub use error::NormalizeError;
+pub use segment::SegmentBuffers;

@@ -18,6 +18,20 @@ pub(crate) struct ReadCharacter {
 }
 
 impl ReadCharacter {
+    /// A character that was read. Its word is looked up from this number on, unless it passes unseen.
+    #[inline(always)]
+    pub(crate) fn new(characters: &CharacterData<'_>, bound: u32, character: char) -> Self
+        ensures character { result.character ≡ character }
+        ensures word { HasOwnWord characters.now result }
+    {
+        let word = if (character as u32) < bound || characters.passes_unseen(character) {
+            None
+        } else {
+            Some(characters.word_of(character))
+        };
+        ReadCharacter { character, word }
+    }
+
     /// The word of the character. It is looked up if it wasn't before.
     #[inline(always)]
     pub(crate) fn word_by(self, characters: &CharacterData<'_>) -> u32
@@ -90,11 +104,5 @@ pub(crate) fn read_from(
     ensures character { character_of result ≡ character }
     ensures word { HasOwnWords characters.now result }
 {
-    let character = character?;
-    let word = if (character as u32) < bound || characters.passes_unseen(character) {
-        None
-    } else {
-        Some(characters.word_of(character))
-    };
-    Some(ReadCharacter { character, word })
+    Some(ReadCharacter::new(characters, bound, character?))
 }

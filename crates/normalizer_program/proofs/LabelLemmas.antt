@@ -4,8 +4,8 @@ use Rattle.std.proofs.lemmas.List.{take_more, map-append}
 use Rattle.std.proofs.lemmas.List.Elements.{filter-append, All-push, All-pop}
 use Rattle.std.proofs.lemmas.Grind.{flat_map-append}
 use Rattle.normalizer_calls.specs.Uts46.{MapperData}
-use Rattle.normalizer_program.specs.declared.ending.Answer.{Answer}
-use Rattle.normalizer_program.specs.declared.ending.Answer.TheVariants.{Done, No}
+use Rattle.normalizer_io.specs.declared.outcome.Answer.{Answer}
+use Rattle.normalizer_io.specs.declared.outcome.Answer.TheVariants.{Done, No}
 use Rattle.normalizer_program.specs.OffenceLines.{line_feed}
 use Rattle.normalizer_program.specs.Labels.{is_kept, kept_lines, TellsKept}
 

@@ -1,7 +1,7 @@
 -- How the program ends.
 use Rattle.std.specs.Prelude.{◌≡◌, ℕ, List, [], codes, Result, Ok, Err}
-use Rattle.normalizer_program.specs.declared.ending.Answer.{Answer}
-use Rattle.normalizer_program.specs.declared.ending.Answer.TheVariants.{Done, No}
+use Rattle.normalizer_io.specs.declared.outcome.Answer.{Answer}
+use Rattle.normalizer_io.specs.declared.outcome.Answer.TheVariants.{Done, No}
 use Rattle.normalizer_program.specs.declared.ending.ToolFault.{ToolFault}
 use Rattle.normalizer_program.specs.declared.ending.ToolFault.TheVariants.{Read, Write, Memory, Data}
 

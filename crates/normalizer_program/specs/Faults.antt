@@ -3,8 +3,10 @@ use Rattle.normalizer_tables.specs.declared.provider.DataError.{DataError}
 use Rattle.normalizer_tables.specs.declared.provider.DataError.TheVariants as error
 use Rattle.normalizer_records.specs.declared.records.BuildError.{BuildError}
 use Rattle.normalizer_records.specs.declared.records.BuildError.TheVariants as build_error
+use Rattle.normalizer_io.specs.declared.outcome.TransferError.{TransferError}
+use Rattle.normalizer_io.specs.declared.outcome.TransferError.TheVariants as transfer
 use Rattle.normalizer_program.specs.declared.ending.ToolFault.{ToolFault}
-use Rattle.normalizer_program.specs.declared.ending.ToolFault.TheVariants.{Memory, Data}
+use Rattle.normalizer_program.specs.declared.ending.ToolFault.TheVariants.{Read, Write, Memory, Data}
 
 -- a refused allocation, or data that can't be used
 abbrev pub fault_of : DataError → ToolFault
@@ -15,3 +17,9 @@ fault_of e = Data
 abbrev pub fault_of_build : BuildError → ToolFault
 fault_of_build build_error.Memory = Memory
 fault_of_build e = Data
+
+-- why bytes were not read or written
+abbrev pub fault_of_transfer : TransferError → ToolFault
+fault_of_transfer transfer.Read = Read
+fault_of_transfer transfer.Write = Write
+fault_of_transfer transfer.Memory = Memory

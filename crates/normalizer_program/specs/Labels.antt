@@ -6,8 +6,8 @@ use Rattle.normal_forms.specs.Forms.{nfc}
 use Rattle.normalizer_tables.specs.declared.characters.IgnoredCharacters.TheVariants.{Dropped, Replaced}
 use Rattle.normalizer_tables.specs.Readings.{reading_by}
 use Rattle.normalizer_calls.specs.Uts46.{MapperData}
-use Rattle.normalizer_program.specs.declared.ending.Answer.{Answer}
-use Rattle.normalizer_program.specs.declared.ending.Answer.TheVariants.{Done}
+use Rattle.normalizer_io.specs.declared.outcome.Answer.{Answer}
+use Rattle.normalizer_io.specs.declared.outcome.Answer.TheVariants.{Done}
 use Rattle.normalizer_program.specs.OffenceLines.{line_feed}
 
 -- the mapping of a text (UTS #46, section 4, Map and Normalize), which drops ignored characters

@@ -2,12 +2,11 @@ pub mod Endings
 pub mod Faults
 pub mod Labels
 pub mod Needs
-pub mod Normalizers
 pub mod OffenceLines
 pub mod Outcome
 pub mod RecordSets
 pub mod Replies
 pub mod SetOutcome
 pub mod Tasks
-pub mod Transfer
 pub mod Words
+pub mod Workers

@@ -17,8 +17,8 @@ use Rattle.normalizer_calls.specs.ComposingAcceptance.{SuitsComposing, RefusesTo
 use Rattle.normalizer_calls.specs.Uts46.{MapperData, uts46_data}
 use Rattle.normalizer_program.specs.declared.task.FormTask.{FormTask}
 use Rattle.normalizer_program.specs.declared.task.MapperTask.{MapperTask}
-use Rattle.normalizer_program.specs.declared.task.NormalForm.{NormalForm}
-use Rattle.normalizer_program.specs.declared.task.NormalForm.TheVariants.{Nfd, Nfc, Nfkd, Nfkc}
+use Rattle.normalizer_built.specs.declared.NormalForm.{NormalForm}
+use Rattle.normalizer_built.specs.declared.NormalForm.TheVariants.{Nfd, Nfc, Nfkd, Nfkc}
 use Rattle.normalizer_program.specs.declared.task.Task.{Task}
 use Rattle.normalizer_program.specs.declared.task.Task.TheVariants as task
 

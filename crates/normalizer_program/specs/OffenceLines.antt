@@ -3,8 +3,8 @@ use Rattle.std.specs.Prelude.{◌≡◌, ℕ, ◌-◌, List, [], ◌∷◌, ◌+
 use Rattle.std.specs.Prelude.{Option, Some, None}
 use Rattle.std.specs.Fmt.{digits}
 use Rattle.normalizer_input.specs.declared.offence.Offence.{Offence}
-use Rattle.normalizer_program.specs.declared.ending.Answer.{Answer}
-use Rattle.normalizer_program.specs.declared.ending.Answer.TheVariants.{Done, No}
+use Rattle.normalizer_io.specs.declared.outcome.Answer.{Answer}
+use Rattle.normalizer_io.specs.declared.outcome.Answer.TheVariants.{Done, No}
 
 abbrev pub line_feed : ℕ
 line_feed = 0x0A

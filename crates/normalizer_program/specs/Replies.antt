@@ -9,8 +9,8 @@ use Rattle.normalizer_input.specs.EncodedForm.{encoded_form}
 use Rattle.normalizer_input.specs.InputCut.{IsInputNormalized}
 use Rattle.normalizer_input.specs.InputOffence.{IsInputOffenceOf}
 use Rattle.normalizer_calls.specs.Uts46.{MapperData}
-use Rattle.normalizer_program.specs.declared.ending.Answer.{Answer}
-use Rattle.normalizer_program.specs.declared.ending.Answer.TheVariants.{Done}
+use Rattle.normalizer_io.specs.declared.outcome.Answer.{Answer}
+use Rattle.normalizer_io.specs.declared.outcome.Answer.TheVariants.{Done}
 use Rattle.normalizer_program.specs.declared.task.FormTask.{FormTask}
 use Rattle.normalizer_program.specs.declared.task.FormTask.TheVariants.{Write, Check, Locate}
 use Rattle.normalizer_program.specs.declared.task.MapperTask.{MapperTask}

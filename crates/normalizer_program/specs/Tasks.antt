@@ -1,7 +1,7 @@
 -- The task of each command.
 use Rattle.normalizer_program.specs.declared.words.Command.{Command}
 use Rattle.normalizer_program.specs.declared.words.Command.TheVariants as command
-use Rattle.normalizer_program.specs.declared.task.NormalForm.TheVariants.{Nfd, Nfc, Nfkd, Nfkc}
+use Rattle.normalizer_built.specs.declared.NormalForm.TheVariants.{Nfd, Nfc, Nfkd, Nfkc}
 use Rattle.normalizer_program.specs.declared.task.FormTask.TheVariants.{Write, Check, Locate}
 use Rattle.normalizer_program.specs.declared.task.MapperTask.TheVariants.{Map, Validate, Label}
 use Rattle.normalizer_program.specs.declared.task.Task.{Task}

@@ -6,7 +6,8 @@ ghost use Rattle.normalizer_program.specs.RecordSets.{AreRefused, mapper_records
 
 use crate::ending::ToolFault;
 use crate::words::RecordSet;
-use icu_normalizer::{BuildError, Built, Record, Records, Uts46Record};
+use normalizer_builder::{Built, Records};
+use normalizer_records::{BuildError, Record, Uts46Record};
 use normalizer_rows::{mapper_records, records};
 use std::alloc::{AllocError, Global};
 

@@ -4,7 +4,7 @@ ghost use Rattle.std.specs.Iterator.{IsFinite};
 ghost use Rattle.normalizer_iterators.specs.Items.{SpellsUnless};
 
 use crate::ending::ToolFault;
-use icu_normalizer::NormalizeError;
+use normalizer_iterators::NormalizeError;
 use normalizer_iterators::laws::text_comes_unless_a_fault_does;
 use std::alloc::{AllocError, Global};
 

@@ -2,17 +2,10 @@
 ghost use Rattle.std.specs.Prelude.{◌≡◌};
 ghost use Rattle.normalizer_program.specs.Endings.{status_of, line_of};
 
-use icu_normalizer::{DataError, NormalizeError};
+use normalizer_io::{Answer, TransferError};
+use normalizer_iterators::NormalizeError;
+use normalizer_tables::DataError;
 use std::alloc::{AllocError, AllocFailed};
-
-/// The result of a command.
-#[derive(Clone, Copy, Debug, PartialEq, Eq)]
-pub enum Answer {
-    /// The output was written, or the result is yes.
-    Done,
-    /// The result is no.
-    No,
-}
 
 /// Why a command has no result.
 #[derive(Clone, Copy, Debug, PartialEq, Eq)]
@@ -44,6 +37,20 @@ impl<T: Drop> From<AllocFailed<T>> for ToolFault {
 
     fn from(_error: AllocFailed<T>) -> ToolFault {
         ToolFault::Memory
+    }
+}
+
+impl From<TransferError> for ToolFault {
+    ghost use Rattle.normalizer_program.specs.Faults.{fault_of_transfer};
+
+    ghost from_gives = { λ error fault. fault ≡ fault_of_transfer error };
+
+    fn from(error: TransferError) -> ToolFault {
+        match error {
+            TransferError::Read => ToolFault::Read,
+            TransferError::Write => ToolFault::Write,
+            TransferError::Memory => ToolFault::Memory,
+        }
     }
 }
 

@@ -7,11 +7,12 @@ ghost use Rattle.normalizer_program.specs.Labels.{fields, is_kept, mapped, valid
 ghost use Rattle.normalizer_program.specs.Replies.{IsReplyOfMapper};
 
 use crate::characters::{collected, encoded};
-use crate::ending::{Answer, ToolFault};
+use crate::ending::ToolFault;
 use crate::reply::Reply;
 use crate::task::MapperTask;
-use icu_normalizer::Utf8Chars;
-use icu_normalizer::uts46::{Uts46Mapper, Uts46MapperBorrowed};
+use normalizer_calls::{Uts46Mapper, Uts46MapperBorrowed};
+use normalizer_io::Answer;
+use normalizer_text::Utf8Chars;
 use std::alloc::{AllocError, Global};
 
 impl MapperTask {

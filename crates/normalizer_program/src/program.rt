@@ -3,15 +3,15 @@ ghost use Rattle.std.specs.Prelude.{◌≡◌, ◌≢◌, Result, map, string_by
 ghost use Rattle.normalizer_program.specs.Endings.{EndsWith, IsUsage};
 ghost use Rattle.normalizer_program.specs.SetOutcome.{IsOutcomeOver};
 ghost use Rattle.normalizer_program.specs.Words.{AskForNothing, AsksFor};
-ghost use Rattle.normalizer_program.specs.declared.ending.Answer.{Answer};
+ghost use Rattle.normalizer_io.specs.declared.outcome.Answer.{Answer};
 ghost use Rattle.normalizer_program.specs.declared.ending.ToolFault.{ToolFault};
 ghost use Rattle.normalizer_program.specs.declared.words.Command.{Command};
 ghost use Rattle.normalizer_program.specs.declared.words.RecordSet.{RecordSet};
 
-use crate::device::{Source, Target};
 use crate::ending::ending;
 use crate::set_run::run_over;
 use crate::words::{USAGE, words};
+use normalizer_io::{Source, Target};
 use std::alloc::Global;
 
 /// Runs the command that the words after the program's name name. Returns the exit status, and the line for standard

@@ -2,12 +2,13 @@
 ghost use Rattle.std.specs.Prelude.{◌≡◌, IfErr, IfOk, string_bytes};
 ghost use Rattle.normalizer_program.specs.OffenceLines.{code_point_digits, offence_line, TellsOffence};
 ghost use Rattle.normalizer_program.specs.Replies.{IsReplyOfForm};
-ghost use Rattle.normalizer_program.specs.Normalizers.{kind_by, reading_of};
+ghost use Rattle.normalizer_built.specs.Normalizers.{kind_by, reading_of};
 
-use crate::ending::{Answer, ToolFault};
-use crate::normalizer::Normalizer;
+use crate::ending::ToolFault;
 use crate::task::FormTask;
-use icu_normalizer::Offence;
+use normalizer_built::Normalizer;
+use normalizer_calls::Offence;
+use normalizer_io::Answer;
 use std::alloc::{AllocError, Global};
 
 /// A result, with the text that is written before it is returned.
@@ -38,7 +39,7 @@ impl FormTask {
                 })
             }
             FormTask::Check => {
-                let own = normalizer.is_own_form(input)?;
+                let own = normalizer.is_normalized(input)?;
                 Ok(Reply {
                     answer: if own { Answer::Done } else { Answer::No },
                     output: String::new(alloc),

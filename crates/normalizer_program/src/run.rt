@@ -1,16 +1,15 @@
 //! A command, from the bytes of a source to the bytes of a target.
 ghost use Rattle.std.specs.Prelude.{◌≡◌, ◌≢◌, IfErr, IsErrOf};
 ghost use Rattle.normalizer_program.specs.Needs.{Held, IsServed};
-ghost use Rattle.normalizer_program.specs.Normalizers.{work_by};
+ghost use Rattle.normalizer_program.specs.Workers.{work_by};
 ghost use Rattle.normalizer_program.specs.Outcome.{IsOutcome};
 ghost use Rattle.normalizer_program.specs.Tasks.{task_of};
 ghost use Rattle.normalizer_program.specs.declared.words.Command.{Command};
 
-use crate::device::{Source, Target};
-use crate::ending::{Answer, ToolFault};
-use crate::transfer::{read_all, write_all};
+use crate::ending::ToolFault;
 use crate::words::Command;
 use crate::worker::{CommandData, Worker};
+use normalizer_io::{Answer, Source, Target, read_all, write_all};
 use std::alloc::Global;
 
 /// Makes what the command needs, reads the input to its end, computes, and only then writes.

@@ -3,10 +3,10 @@ ghost use Rattle.std.specs.Prelude.{◌≡◌, ◌≢◌, IfErr, IsErrOf};
 ghost use Rattle.normalizer_program.specs.SetOutcome.{IsOutcomeOver};
 
 use crate::building::built;
-use crate::device::{Source, Target};
-use crate::ending::{Answer, ToolFault};
+use crate::ending::ToolFault;
 use crate::run::run;
 use crate::words::{Command, RecordSet};
+use normalizer_io::{Answer, Source, Target};
 use std::alloc::Global;
 
 /// Builds the data of the records, and runs the command over them.

@@ -3,19 +3,7 @@ ghost use Rattle.std.specs.Prelude.{◌≡◌};
 ghost use Rattle.normalizer_program.specs.Tasks.{task_of};
 
 use crate::words::Command;
-
-/// A normalization form (UAX #15, section 1.2).
-#[derive(Clone, Copy)]
-pub enum NormalForm {
-    /// Normalization Form D.
-    Nfd,
-    /// Normalization Form C.
-    Nfc,
-    /// Normalization Form KD.
-    Nfkd,
-    /// Normalization Form KC.
-    Nfkc,
-}
+use normalizer_built::NormalForm;
 
 /// What to do with a normal form of the input.
 #[derive(Clone, Copy)]

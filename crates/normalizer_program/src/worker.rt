@@ -1,15 +1,16 @@
 //! What a command needs to be done.
 ghost use Rattle.std.specs.Prelude.{◌≡◌, ◌⊎◌, IfOk, IfErr, IsErrOf, string_bytes};
 ghost use Rattle.normalizer_program.specs.Needs.{held_for_all, Held, IsServed, LacksData};
-ghost use Rattle.normalizer_program.specs.Normalizers.{work_by};
+ghost use Rattle.normalizer_program.specs.Workers.{work_by};
 ghost use Rattle.normalizer_program.specs.Replies.{IsReply};
 
 use crate::ending::ToolFault;
-use crate::normalizer::Normalizer;
+use crate::normalizer::normalizer_for_form;
 use crate::reply::Reply;
 use crate::task::{FormTask, MapperTask, Task};
-use icu_normalizer::uts46::Uts46Mapper;
-use icu_normalizer::{
+use normalizer_built::Normalizer;
+use normalizer_calls::Uts46Mapper;
+use normalizer_tables::{
     DataProvider, NormalizerNfcV1, NormalizerNfdDataV1, NormalizerNfdTablesV1,
     NormalizerNfkdDataV1, NormalizerNfkdTablesV1, NormalizerUts46DataV1,
 };
@@ -68,7 +69,7 @@ where
     fn worker(&self, task: Task) -> Result<Worker, ToolFault> {
         match task {
             Task::OfForm(task, form) => {
-                let normalizer = Normalizer::for_form(self, form)?;
+                let normalizer = normalizer_for_form(self, form)?;
                 Ok(Worker::OfForm(task, normalizer))
             }
             Task::OfMapper(task) => {

@@ -2,6 +2,7 @@ pub mod AcceptedLaws
 pub mod BlockCounts
 pub mod BlockEquality
 pub mod BlockLemmas
+pub mod BucketLemmas
 pub mod CharacterLemmas
 pub mod CompositionLemmas
 pub mod ConditionLemmas

@@ -1,6 +1,6 @@
 -- The rows in which pairs are kept.
 use Rattle.std.proofs.Common.{◌≡◌, ◌≢◌, ℕ, ◌<◌, ◌≤◌, ◌+◌, ◌-◌, Bool, true, false, List, [], ◌∷◌, ◌++◌, AllPairs, All, length, get_or, map}
-use Rattle.std.proofs.Common.{leb, ltb, take, cond, Some, refl, arith, ap, sym, subst, ◌∙◌, zero, suc, inl, inr, add-one, zero-add}
+use Rattle.std.proofs.Common.{ltb, take, cond, refl, arith, ap, sym, subst, ◌∙◌, zero, suc, inl, inr, add-one, zero-add}
 use Rattle.std.proofs.lemmas.Bool.{cases_lt, cases_Bool, ltb-true, ltb-false}
 use Rattle.std.proofs.lemmas.Bool.Decides.{nat_tests}
 use Rattle.std.proofs.lemmas.List.{length-map, get_or_default, get_or-map, get_or_read, take_all}
@@ -8,10 +8,7 @@ use Rattle.std.proofs.lemmas.List.Elements.{All-filter, All-map, filter_passes, 
 use Rattle.std.proofs.lemmas.List.FromFn.{fill_by_all, filter_of_map_range_with_len_more, length-range_with_len, get_or-range_with_len, get_or-map-range_with_len, length-map-range_with_len}
 use Rattle.std.proofs.lemmas.List.Kept.{AllPairs-filter}
 use Rattle.std.proofs.lemmas.List.Sums.{fails_before_first, passes_at_first, prefix_len-le-length, length-filter, sum_by-cons}
-use Rattle.std.proofs.lemmas.List.Sorted.{IsPartitionedBy-leb}
-use Rattle.std.proofs.lemmas.Option.{slice_get-get_or}
-use Rattle.std.specs.List.Sorted.{IsPartitionedBy}
-use Rattle.std.specs.List.{count_by, slice_get, Contains, range_with_len}
+use Rattle.std.specs.List.{count_by, Contains, range_with_len}
 use Rattle.normalizer_tables.proofs.RisingLists.{non_decreasing}
 use Rattle.normalizer_tables.specs.Pairs.{Pair, pair_at, begins_row, row_count}
 use Rattle.normalizer_tables.specs.declared.pairs.rows.Row.{Row}
@@ -115,10 +112,6 @@ module _ (rows : List Row) (pairs : List Pair) (end : ℕ) (is : rows ≡ rows_t
   row_at k below = row_in_front k _ below (prefix_len-le-length _ rows) (λ i low. ltb-false _ _ (fails_before_first (λ (row : Row). ltb k row.start) rows i _ low))
       (λ more. ltb-true _ _ (passes_at_first (λ (row : Row). ltb k row.start) rows _ more))
 
-  -- rows that have begun are at the front of the others
-  pub starts_part : (k : ℕ) → IsPartitionedBy (λ (row : Row). leb row.start k) rows
-  starts_part k = IsPartitionedBy-leb (λ (row : Row). row.start) rows k (non_decreasing (λ (r : Row). r.start) rows starts_rise)
-
 module _ (rows : List Row) (members : List Member) (pairs : List Pair) (s : AreKept rows members pairs) where
   pub as_many : length members ≡ length pairs
   as_many = ap length s.in_order ∙ length-map pairs member_of
@@ -136,15 +129,6 @@ module _ (rows : List Row) (members : List Member) (pairs : List Pair) (s : AreK
 
   pub AreKept-view : AreKept rows members (kept_pairs rows members)
   AreKept-view = rw kept_pairs-same s
-
-  -- a row and a member that were read are a pair
-  pub slice_get-kept : (place n : ℕ) (row : Row) (m : Member) → place < length pairs → IsRowAt rows pairs place n → row ≡ get_or rows (n - 1) row → m ≡ get_or members place m
-      → slice_get pairs place ≡ Some (row.second, m.0, m.1)
-  unfolding pair_at
-  slice_get-kept place n row m within front here there =
-      let second : row.second ≡ (get_or pairs place (0, 0, 0)).0 = ap (λ (r : Row). r.second) (get_or_read rows (n - 1) row (omega (arith, front.some, front.bound)) here _) ∙ sym front.its in
-      let member : m ≡ member_of (get_or pairs place (0, 0, 0)) = get_or_read members place m (omega (arith, as_many)) there (0, 0) ∙ member_at place within in
-      slice_get-get_or pairs place (0, 0, 0) within ∙ ap Some (sym (rw (second, member) refl))
 
 -- at the end of the list the pairs are kept
 pub AreKept-at_end : (rows : List Row) (members : List Member) (pairs : List Pair) (end : ℕ) → end ≤ length pairs → length pairs ≤ end → rows ≡ rows_to pairs end

@@ -1,12 +1,10 @@
 -- Look-ups in the rows of pairs that rise.
-use Rattle.std.proofs.Common.{◌≡◌, ◌≢◌, ℕ, ◌<◌, ◌≤◌, ◌+◌, ◌-◌, Bool, true, false, nat_eq, List, [], ◌∷◌, AllPairs, length, get_or, map, take, drop, eqb, ltb, zero, suc}
-use Rattle.std.proofs.Common.{Some, None, refl, arith, ap, sym, ◌∙◌, inl, inr, ◌↔◌, IsTrue}
-use Rattle.std.proofs.lemmas.Bool.{cases_lt, cases_Bool, eq-eqb, eqb-true, ne_eqb, false_from_ne_true, ltb-true, ltb-false}
+use Rattle.std.proofs.Common.{◌≡◌, ◌≢◌, ℕ, ◌<◌, ◌≤◌, ◌+◌, ◌-◌, Bool, true, false, nat_eq, List, [], ◌∷◌, length, get_or, map, take, drop, eqb, ltb, zero, suc}
+use Rattle.std.proofs.Common.{Some, None, refl, arith, ap, ◌∙◌, inl, inr, ◌↔◌, IsTrue}
+use Rattle.std.proofs.lemmas.Bool.{cases_lt, cases_Bool, eq-eqb, eqb-true, false_from_ne_true, ltb-true, ltb-false}
 use Rattle.std.proofs.lemmas.Bool.Decides.{nat_tests}
-use Rattle.std.proofs.lemmas.List.{get_or-map, get_or_read, length-map, take-map, drop-map}
+use Rattle.std.proofs.lemmas.List.{take-map, drop-map}
 use Rattle.std.proofs.lemmas.Grind.{common_steps}
-use Rattle.std.proofs.lemmas.List.Elements.{filter_passes}
-use Rattle.std.proofs.lemmas.List.Kept.{AllPairs-filter}
 use Rattle.std.proofs.lemmas.List.Sorted.{IsPartitionedBy-ltb, IsNonDecreasingBy-from_default}
 use Rattle.std.specs.List.{find, filter, slice_range}
 use Rattle.std.specs.List.Sorted.{IsPartitionPoint, IsPartitionedBy, IsNonDecreasingBy}
@@ -14,8 +12,6 @@ use Rattle.std.specs.Option.{option_map}
 use Rattle.normalizer_tables.specs.Pairs.{Pair, pair_at, begins_row, is_before, is_of, listed_result, AreRising}
 use Rattle.normalizer_tables.specs.declared.pairs.rows.Row.{Row}
 use Rattle.normalizer_tables.specs.inner.Rows.{Member, member_of, members_of, count_begun, no_row, row_in, rows_to}
-use Rattle.normalizer_tables.proofs.PairLemmas.{find_first, find_none}
-use Rattle.normalizer_tables.proofs.RisingLists.{non_decreasing}
 use Rattle.normalizer_tables.proofs.RowLemmas.{start_not_below, starts_rise, row_is, row_in_front, row_at}
 
 seconds_rise : (pairs : List Pair) → AreRising pairs → (i j : ℕ) → i ≤ j → j < length pairs → (pair_at pairs i).0 ≤ (pair_at pairs j).0
@@ -125,38 +121,6 @@ listed_result-row (p ∷ pairs) first second = elim (cases_Bool (nat_eq p.0 seco
   | inl its ↦ elim (cases_Bool (nat_eq p.1 first)) [ inl here ↦ rw (its, here) refl | inr there ↦ rw (its, there) (listed_result-row pairs first second) ]
   | inr other ↦ rw other (listed_result-row pairs first second)
 ]
-
-firsts_rise : (pairs : List Pair) (second : ℕ) → AreRising pairs → AllPairs (λ (m o : Member). m.0 < o.0) (members_of pairs second)
-unfolding members_of is_before
-firsts_rise pairs second rising i j d below within =
-    let theirs = filter (λ p. nat_eq p.0 second) pairs in
-    let there : j < length theirs = omega (arith, length-map theirs member_of) in
-    let order = AllPairs-filter (λ p q. is_before p q.0 q.1 ≡ true) (λ p. nat_eq p.0 second) pairs rising i j (0, 0, 0) below there in
-    let its = filter_passes (λ (p : Pair). nat_eq p.0 second) pairs i (0, 0, 0) (omega arith) in
-    let same = filter_passes (λ (p : Pair). nat_eq p.0 second) pairs j (0, 0, 0) there in
-    rw (get_or-map member_of theirs i (0, 0, 0) d (omega arith), get_or-map member_of theirs j (0, 0, 0) d there) (grind (arith, nat_tests))
-
-pub firsts_part : (pairs : List Pair) (second : ℕ) → AreRising pairs → (row : List Member) → row ≡ members_of pairs second → (first : ℕ) → IsPartitionedBy (λ (m : Member). ltb m.0 first) row
-firsts_part pairs second rising row is first = IsPartitionedBy-ltb (λ (m : Member). m.0) row first (non_decreasing (λ (m : Member). m.0) row (rw is (firsts_rise pairs second rising)))
-
-module _ (pairs : List Pair) (rising : AreRising pairs) (first second n : ℕ) (row : List Member) (is : row ≡ members_of pairs second)
-    (point : IsPartitionPoint (λ (m : Member). ltb m.0 first ≡ true) (λ m. ltb m.0 first ≡ false) row n) where
-  pub listed_result-in_row : (m : Member) → n < length row → m ≡ get_or row n m → m.0 ≡ first → listed_result pairs first second ≡ Some m.1
-  listed_result-in_row m within read its =
-      let here = get_or_read row n m within read (0, 0) in
-      listed_result-row pairs first second ∙ ap (option_map (λ o. o.1)) (ap (find (λ o. nat_eq o.0 first)) (sym is)
-      ∙ find_first (λ o. nat_eq o.0 first) row n (0, 0) within (eq-eqb _ _ (ap (λ o. o.0) (sym here) ∙ its))
-      (λ k low. ne_eqb _ _ (λ same. omega (arith, ltb-true _ _ (point.0 k (0, 0) (omega arith) low)))) ∙ ap Some (sym here))
-
-  pub listed_result-not_in_row : (n < length row → (get_or row n (0, 0)).0 ≢ first) → listed_result pairs first second ≡ None
-  listed_result-not_in_row other =
-      listed_result-row pairs first second ∙ ap (option_map (λ o. o.1)) (ap (find (λ o. nat_eq o.0 first)) (sym is)
-      ∙ find_none (λ o. nat_eq o.0 first) row (0, 0) (λ k within. elim (cases_lt k n) [
-        | inl lower ↦ ne_eqb _ _ (λ same. omega (arith, ltb-true _ _ (point.0 k (0, 0) (omega arith) lower)))
-        | inr from ↦
-            let least = non_decreasing (λ (m : Member). m.0) row (rw is (firsts_rise pairs second rising)) n k (0, 0) from within in
-            ne_eqb _ _ (λ same. omega (arith, ltb-false _ _ (point.1 n (0, 0) (omega arith) (omega arith)), other (omega arith), same, least))
-      ]))
 
 -- a second of no pair has an empty row
 pub never_second-by_row : (pairs : List Pair) (second : ℕ) (row : List Member) → row ≡ members_of pairs second → IsTrue (eqb (length row) 0) ↔ ((first : ℕ) → listed_result pairs first second ≡ None)

@@ -1,5 +1,6 @@
 -- What the contracts of private functions alone cite.
 pub mod Blocks
+pub mod Buckets
 pub mod Members
 pub mod Read
 pub mod Rows

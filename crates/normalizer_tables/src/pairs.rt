@@ -11,19 +11,23 @@ ghost use Rattle.normalizer_tables.specs.Pairs.{
 };
 ghost use Rattle.normalizer_tables.specs.Pairs.{row_count};
 
+mod buckets;
 mod rows;
 
 use crate::hangul::{compose_hangul, is_never_hangul_second};
+use crate::pairs::buckets::PairBuckets;
 use crate::pairs::rows::PairRows;
 use crate::table::TableError;
 use std::alloc::AllocError;
 use std::marker::Model;
 
-/// The pairs of characters that compose: a list of triples of second character, first character and result. Look-ups
-/// halve a list that rises, and scan another.
+/// The pairs of characters that compose: a list of triples of second character, first character and result.
 #[derive(Drop)]
 pub struct CanonicalCompositions {
-    pairs: PairRows,
+    /// For look-ups of two characters.
+    pairs: PairBuckets,
+    /// For look-ups of a second. Those halve a list that rises, and scan another.
+    rows: PairRows,
     is_rising: bool,
 }
 
@@ -35,7 +39,7 @@ impl Model for CanonicalCompositions {
 
     ghost view = { λ c. c.pairs };
 
-    ghost invariant = { λ c. IsTrue c.is_rising ↔ AreRising c.pairs };
+    ghost invariant = { λ c. (IsTrue c.is_rising ↔ AreRising c.pairs) × (c.rows ≡ c.pairs) };
 }
 
 impl CanonicalCompositions {
@@ -49,8 +53,13 @@ impl CanonicalCompositions {
         ensures refused { IsOkUnless result TableError.Memory }
     {
         let is_rising = are_rising(&pairs);
-        let pairs = PairRows::from_pairs(*pairs.allocator(), &pairs)?;
-        Ok(CanonicalCompositions { pairs, is_rising })
+        let rows = PairRows::from_pairs(*pairs.allocator(), &pairs)?;
+        let pairs = PairBuckets::from_pairs(pairs)?;
+        Ok(CanonicalCompositions {
+            pairs,
+            rows,
+            is_rising,
+        })
     }
 
     /// Whether the list strictly rises by second, then by first.
@@ -88,23 +97,12 @@ impl CanonicalCompositions {
         true
     }
 
-    /// What two characters compose to by the list alone.
-    fn compose_non_hangul(&self, first: char, second: char) -> Option<char>
-        ensures { result ≡ listed_result self.now first second }
-    {
-        if self.is_rising {
-            self.pairs.result_by_halving(first, second)
-        } else {
-            first_result(&self.pairs, first, second)
-        }
-    }
-
     /// Whether no pair has this second.
     fn is_never_listed_second(&self, second: char) -> bool
         ensures { IsTrue result ↔ ((first : ℕ) → listed_result self.now first second ≡ None) }
     {
         if self.is_rising {
-            self.pairs.is_never_second_by_halving(second)
+            self.rows.is_never_second_by_halving(second)
         } else {
             has_no_second(&self.pairs, second)
         }
@@ -120,7 +118,7 @@ pub fn compose(pairs: &CanonicalCompositions, first: char, second: char) -> Opti
     if is_vowel_or_trailing_jamo(second) {
         compose_hangul(first, second)
     } else {
-        pairs.compose_non_hangul(first, second)
+        pairs.pairs.result_of(first, second)
     }
 }
 
@@ -140,7 +138,7 @@ pub fn is_never_second(pairs: &CanonicalCompositions, second: char) -> bool
 pub fn row_count(pairs: &CanonicalCompositions) -> usize
     ensures { result ≡ row_count pairs.now }
 {
-    pairs.pairs.count()
+    pairs.rows.count()
 }
 
 /// Equal exactly if the lists are.
@@ -155,7 +153,7 @@ impl PartialEq for CanonicalCompositions {
     ghost laws = { partial_equiv_from_equiv same_pairs_equiv };
 
     fn eq(&self, other: &Self) -> bool {
-        self.pairs == other.pairs
+        self.rows == other.rows
     }
 }
 
@@ -171,6 +169,7 @@ impl Clone for CanonicalCompositions {
     fn clone(&self) -> Result<Self, AllocError> {
         Ok(CanonicalCompositions {
             pairs: self.pairs.clone()?,
+            rows: self.rows.clone()?,
             is_rising: self.is_rising,
         })
     }
@@ -182,23 +181,9 @@ fn are_rising(pairs: &[(char, char, char)]) -> bool
     pairs.is_sorted_by(|pair, next| is_before(pair, next.0, next.1))
 }
 
-/// The result of the first pair of two characters.
-#[tactic(auto, using(std::proofs::lemmas::Option::get_or_from_slice_get), unfolding(crate::specs::Pairs::pair_at))]
-fn first_result(pairs: &PairRows, first: char, second: char) -> Option<char>
-    ensures { result ≡ listed_result pairs.now first second }
-{
-    for place in 0..pairs.len() {
-        let pair = pairs.at(place);
-        if is_of(&pair, first, second) {
-            return Some(pair.2);
-        }
-    }
-    None
-}
-
 /// Whether no pair has this second.
 #[tactic(auto, using(std::proofs::lemmas::Option::get_or_from_slice_get), unfolding(crate::specs::Pairs::pair_at))]
-fn has_no_second(pairs: &PairRows, second: char) -> bool
+fn has_no_second(pairs: &PairBuckets, second: char) -> bool
     ensures { IsTrue result ↔ ((first : ℕ) → listed_result pairs.now first second ≡ None) }
 {
     for place in 0..pairs.len() {

@@ -7,9 +7,9 @@ mod memory;
 #[cfg(test)]
 mod tests;
 
+use normalizer_io::{Input, Output};
 use normalizer_program::ending::{ToolFault, ending};
 use normalizer_program::program::program;
-use normalizer_program::{Input, Output};
 use std::env;
 use std::io::ErrorKind;
 use std::process::ExitCode;

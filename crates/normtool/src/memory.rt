@@ -1,7 +1,7 @@
 //! Devices over memory, for tests.
 ghost use Rattle.std.specs.Prelude.{◌≡◌, ◌<◌, ⊤, Some, true};
 
-use normalizer_program::{DeviceError, Source, Target};
+use normalizer_io::{DeviceError, Source, Target};
 use std::alloc::Global;
 
 /// Bytes in memory. A read returns a few at most, and is refused once they are used up if the source breaks off.

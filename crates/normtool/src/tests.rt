@@ -1,12 +1,12 @@
 //! Tests of what no clause says: that calls succeed, and the texts that are printed.
 use crate::memory::{Page, Pieces};
-use icu_normalizer::{
-    Built, DataError, DataMarker, DataProvider, Record, Records, Uts46Record, Uts46Status,
-};
+use normalizer_builder::{Built, Records};
 use normalizer_program::ending::{Answer, ToolFault, ending};
 use normalizer_program::run::run;
 use normalizer_program::words::{Command, RecordSet, USAGE, words};
 use normalizer_program::{CommandData, built};
+use normalizer_records::{Record, Uts46Record, Uts46Status};
+use normalizer_tables::{DataError, DataMarker, DataProvider};
 use std::alloc::Global;
 
 fn strings(alloc: Global, texts: &[&str]) -> Option<Vec<String>> {

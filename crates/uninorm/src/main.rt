@@ -6,7 +6,7 @@ mod standard;
 
 use normalizer_command::run::run;
 use normalizer_command::words::{FileRequest, Request, parsed};
-use normalizer_program::Output;
+use normalizer_io::Output;
 use standard::{ErrorStream, Named};
 use std::alloc::{AllocError, Global};
 use std::env;

@@ -3,7 +3,7 @@ ghost use Rattle.std.specs.Prelude.{None, ⊤};
 
 use normalizer_command::fault::{Fault, Message};
 use normalizer_command::inputs::{Inputs, Reports};
-use normalizer_program::{DeviceError, Input, Source};
+use normalizer_io::{DeviceError, Input, Source};
 use std::fs::{self, File};
 use std::io::{self, ErrorKind, Stdin};
 
@@ -36,6 +36,10 @@ impl Inputs for Named<'_> {
     type Input = Stream;
 
     ghost bytes_of = { λ _ _. None };
+
+    ghost cannot_open = { λ _ _ _. ⊤ };
+
+    ghost read_refused = { λ _ _. ⊤ };
 
     fn open(&self, name: &str) -> Result<Stream, ErrorKind> {
         if name == "-" {

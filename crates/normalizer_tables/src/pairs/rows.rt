@@ -59,42 +59,12 @@ impl PairRows {
         Ok(PairRows { rows, members })
     }
 
-    /// How many pairs there are.
-    pub(crate) fn len(&self) -> usize
-        ensures { result ≡ length self.now }
-    {
-        self.members.len()
-    }
-
     /// How many rows are kept.
     #[tactic(auto, using(crate::proofs::RowLemmas::rows_counted))]
     pub(crate) fn count(&self) -> usize
         ensures { result ≡ row_count self.now }
     {
         self.rows.len()
-    }
-
-    /// The pair at a place.
-    pub(crate) fn at(&self, place: usize) -> (char, char, char)
-        requires { place < length self.now }
-        ensures { slice_get self.now place ≡ Some result }
-    {
-        let behind = self.rows.partition_point(|row| row.start <= place);
-        let (first, result) = self.members[place];
-        (self.rows[behind - 1].second, first, result)
-    }
-
-    /// What two characters compose to by a rising list: halves the rows, and then the firsts of one.
-    pub(crate) fn result_by_halving(&self, first: char, second: char) -> Option<char>
-        requires { AreRising self.now }
-        ensures { result ≡ listed_result self.now first second }
-    {
-        let row = self.row_of(second);
-        let at = row.partition_point(|member| member.0 < first);
-        match row.get(at) {
-            Some(member) if member.0 == first => Some(member.1),
-            _ => None,
-        }
     }
 
     /// Whether no pair of a rising list has this second.

@@ -1,33 +1,57 @@
-use Rattle.std.proofs.Common.{sym, ◌∙◌}
-use Rattle.normalizer_calls.proofs.RunLemmas.{HasHeldBack-last, HasHeldBack-none, IsHandedOn-free, IsHandedOn-held, IsHandedOn-to_end}
-use Rattle.normalizer_calls.proofs.RunLemmas.{passed_to_end, passed_free, passed_held}
+use Rattle.std.proofs.Common.{arith, inl, inr, sym}
+use Rattle.normalizer_calls.proofs.RunParts.{HasHeldBack-last, HasHeldBack-none, IsHandedOn-apart, IsHandedOn-before_marks, IsHandedOn-held, IsHandedOn-to_end}
+use Rattle.normalizer_calls.proofs.RunLemmas.{IsRun-le}
+use Rattle.normalizer_calls.proofs.RunParts.{passed_apart, passed_before_marks, passed_held, passed_to_end}
 use Rattle.normalizer_calls.proofs.runs.passed_end.Goals as goal
-use Rattle.normalizer_calls.proofs.runs.passed_end.Goals.{then-end-len-via-then-end-len, then-end-len-via-else-end-len+then-not-holds_back}
+use Rattle.normalizer_calls.proofs.runs.passed_end.Goals.{else-run-via-then-run+else-begins, else-run-via-else-run}
 
-pub returns-then-end-len-clause-handed : goal.returns-then-end-len-clause-handed
-returns-then-end-len-clause-handed g c =
-    elim c.then-end-len.branch [
-      | then-end-len-via-then-end-len w ↦ IsHandedOn-to_end _ _ _ _ _ c.run_end-end.ensures _ c.len.ensures w.if-end-len.true
-      | then-end-len-via-else-end-len+then-not-holds_back w ↦ IsHandedOn-free _ _ _ _ _ c.run_end-end.ensures (sym w.holds_back.ensures ∙ w.if-not-holds_back.true)
-    ]
+pub returns-then-run-len-clause-handed : goal.returns-then-run-len-clause-handed
+returns-then-run-len-clause-handed g c = IsHandedOn-to_end _ _ _ _ _ _ _ c.run_end-run.ensures _ c.len.ensures c.if-run-len.true
 
-pub returns-then-end-len-clause-part : goal.returns-then-end-len-clause-part
-returns-then-end-len-clause-part g c =
-    let law = c.passed_characters_stand_apart.ensures.apart in
-    elim c.then-end-len.branch [
-      | then-end-len-via-then-end-len w ↦ passed_to_end _ _ _ _ _ law _ _ _ c.len.ensures c.run_end-end.ensures w.if-end-len.true
-      | then-end-len-via-else-end-len+then-not-holds_back w ↦ passed_free _ _ _ _ _ law _ (sym w.holds_back.ensures ∙ w.if-not-holds_back.true) _ c.run_end-end.ensures
-    ]
+pub returns-then-run-len-clause-part : goal.returns-then-run-len-clause-part
+returns-then-run-len-clause-part g c =
+    let law = c.passed_characters_stand_apart.ensures in
+    passed_to_end _ _ _ _ _ law.apart law.follow _ _ _ _ c.len.ensures c.run_end-run.ensures c.if-run-len.true
 
 pub returns-in-Some-clause-handed : goal.returns-in-Some-clause-handed
 returns-in-Some-clause-handed g c =
-    IsHandedOn-held _ _ _ _ _ c.run_end-end.ensures _ c.len.ensures c.if-end-len.false (sym c.holds_back.ensures ∙ c.if-not-holds_back.false) _
-    (HasHeldBack-last _ g.N.FormItems.held_back _ _ _ c.run_end-end.ensures _ c.before-2.ensures _ c.in-Some.ensures)
+    IsHandedOn-held _ _ _ _ _ _ _ c.run_end-run.ensures _ c.len.ensures c.if-run-len.false (sym c.if-holds_back.ensures) _
+    (HasHeldBack-last _ _ _ _ _ c.run_end-run.ensures _ c.before-then-holds_back.ensures _ c.in-Some.ensures)
 
 pub returns-in-Some-clause-part : goal.returns-in-Some-clause-part
-returns-in-Some-clause-part g c = passed_held _ _ _ _ _ c.passed_characters_stand_apart.ensures.apart _ _ c.run_end-end.ensures _ c.before-2.ensures _ c.in-Some.ensures
+returns-in-Some-clause-part g c =
+    let law = c.passed_characters_stand_apart.ensures in
+    passed_held _ _ _ _ _ law.apart law.follow _ (sym c.if-holds_back.ensures) _ _ c.run_end-run.ensures _ c.before-then-holds_back.ensures _ c.in-Some.ensures
 
 pub returns-in-None-clause-handed : goal.returns-in-None-clause-handed
 returns-in-None-clause-handed g c =
-    IsHandedOn-held _ _ _ _ _ c.run_end-end.ensures _ c.len.ensures c.if-end-len.false (sym c.holds_back.ensures ∙ c.if-not-holds_back.false) _
-    (HasHeldBack-none _ g.N.FormItems.held_back _ _ _ c.run_end-end.ensures _ c.before-2.ensures c.in-None.ensures)
+    IsHandedOn-held _ _ _ _ _ _ _ c.run_end-run.ensures _ c.len.ensures c.if-run-len.false (sym c.if-holds_back.ensures) _
+    (HasHeldBack-none _ _ _ _ _ c.run_end-run.ensures _ c.before-then-holds_back.ensures c.in-None.ensures)
+
+pub step_at-requires : goal.step_at-requires
+step_at-requires g c =
+    let most = (IsRun-le _ _ _ _ _ _ c.run_end-run.ensures.run).1 in
+    omega (arith, c.len.ensures, c.if-run-len.false)
+
+pub returns-then-begins-clause-handed : goal.returns-then-begins-clause-handed
+returns-then-begins-clause-handed g c =
+    IsHandedOn-apart _ _ _ _ _ _ _ c.run_end-run.ensures _ c.len.ensures c.if-run-len.false (sym c.if-holds_back.ensures) (rw c.step_at.ensures at (sym c.if-begins.ensures))
+
+pub returns-then-begins-clause-part : goal.returns-then-begins-clause-part
+returns-then-begins-clause-part g c =
+    let law = c.passed_characters_stand_apart.ensures in
+    passed_apart _ _ _ _ _ law.apart law.follow _ _ law.begins _ _ c.run_end-run.ensures (rw c.step_at.ensures at (sym c.if-begins.ensures))
+
+pub returns-clause-handed : goal.returns-clause-handed
+returns-clause-handed g c =
+    let le = (IsRun-le _ _ _ _ _ _ c.run_end-run.ensures.run).0 in
+    IsHandedOn-before_marks _ _ _ _ _ _ _ c.run_end-run.ensures _ c.len.ensures c.if-run-len.false (sym c.if-holds_back.ensures)
+    (elim c.else-run.branch [
+      | else-run-via-then-run+else-begins w ↦ inr (rw w.step_at.ensures at (sym w.if-begins.ensures))
+      | else-run-via-else-run w ↦ inl (omega (arith, w.if-run.false))
+    ])
+
+pub returns-clause-part : goal.returns-clause-part
+returns-clause-part g c =
+    let law = c.passed_characters_stand_apart.ensures in
+    passed_before_marks _ _ _ _ _ law.apart law.follow _ (sym c.if-holds_back.ensures) _ _ c.run_end-run.ensures

@@ -1,7 +1,7 @@
 use Rattle.std.proofs.Common.{◌≡◌, rules, Err}
 use Rattle.normalizer_iterators.specs.declared.error.NormalizeError.TheVariants.{Sink}
 use Rattle.normalizer_calls.proofs.PartLemmas.{HasShortRuns-part, WritesText-run_refused, WritesText-segment_refused, WrotePart-run, WrotePart-segment, not_handed_on, some_part}
-use Rattle.normalizer_calls.proofs.RunLemmas.{IsPart-segment}
+use Rattle.normalizer_calls.proofs.RunParts.{IsPart-segment}
 use Rattle.normalizer_calls.proofs.writing.write_part.Goals as goal
 
 pub returns-in_err-write_piece-clause-refused : goal.returns-in_err-write_piece-clause-refused

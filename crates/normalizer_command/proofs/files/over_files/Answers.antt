@@ -1,48 +1,53 @@
-use Rattle.std.proofs.Common.{◌≡◌, true, false, sym, ap, ◌∙◌}
+use Rattle.std.proofs.Common.{◌≡◌, true, false, sym, ◌∙◌}
+use Rattle.normalizer_command.specs.Devices.{devices}
 use Rattle.normalizer_command.specs.Making.{Making, Makes}
 use Rattle.normalizer_command.specs.Outcomes.{IsDone, state}
-use Rattle.normalizer_command.proofs.FileLemmas.{IfErr-after, goes_on, is_done, name_at, stops}
+use Rattle.normalizer_command.proofs.FileLemmas.{goes_on, is_done, name_at, stops}
 use Rattle.normalizer_command.proofs.files.over_files.Goals as goal
 
 pub returns-then-is_refused_write : goal.returns-then-is_refused_write
 returns-then-is_refused_write g c = λ m makes.
     let outcome = c.over_file-outcome.result in
-    let done : IsDone c.args.task m (name_at c.args.names.now c.loop-name.name-index)
-    (g.I.Inputs.bytes_of c.args.inputs.now (name_at c.args.names.now c.loop-name.name-index))
-    (state (g.W.Target.taken c.loop-name.writer) (g.R.Reports.told c.loop-name.reports) c.loop-name.status)
-    (state (g.W.Target.taken c.over_file-outcome.new.writer) (g.R.Reports.told c.tell.new.reports) c.greater-status.result) outcome
+    let d = devices (g.I.Inputs.bytes_of c.args.inputs.now) (g.I.Inputs.cannot_open c.args.inputs.now)
+    (g.I.Inputs.read_refused c.args.inputs.now) g.W.Target.taken g.W.Target.refused in
+    let done : IsDone d c.args.task m (name_at c.args.names.now c.loop-name.name-index)
+    (state c.loop-name.writer (g.R.Reports.told c.loop-name.reports) c.loop-name.status)
+    (state c.over_file-outcome.new.writer (g.R.Reports.told c.tell.new.reports) c.greater-status.result) outcome
     = record {
       done = c.over_file-outcome.ensures.done m makes;
+      why = c.over_file-outcome.ensures.why;
       cut = c.over_file-outcome.ensures.cut m makes;
-      unwritten = IfErr-after outcome (λ fault same other. ap (g.W.Target.taken) (same other)) c.over_file-outcome.ensures.unwritten;
+      unwritten = c.over_file-outcome.ensures.unwritten;
       untold = c.tell.ensures.untold;
       told = c.tell.ensures.told;
       status = rw (← c.status_of.ensures) c.greater-status.ensures;
     } in
     c.loop-name.invariant m makes _
-    (stops c.args.task m (g.I.Inputs.bytes_of c.args.inputs.now) c.args.names.now c.loop-name.name-index _ _ outcome
+    (stops d c.args.task m c.args.names.now c.loop-name.name-index _ _ outcome
     c.loop-name-test.true done (c.is_refused_write.ensures.0 c.if-is_refused_write.true))
 
 pub loop-name-preserved : goal.loop-name-preserved
 loop-name-preserved g c = λ m makes end rest.
     let outcome = c.over_file-outcome.result in
-    let done : IsDone c.args.task m (name_at c.args.names.now c.loop-name.name-index)
-    (g.I.Inputs.bytes_of c.args.inputs.now (name_at c.args.names.now c.loop-name.name-index))
-    (state (g.W.Target.taken c.loop-name.writer) (g.R.Reports.told c.loop-name.reports) c.loop-name.status)
-    (state (g.W.Target.taken c.over_file-outcome.new.writer) (g.R.Reports.told c.tell.new.reports) c.greater-status.result) outcome
+    let d = devices (g.I.Inputs.bytes_of c.args.inputs.now) (g.I.Inputs.cannot_open c.args.inputs.now)
+    (g.I.Inputs.read_refused c.args.inputs.now) g.W.Target.taken g.W.Target.refused in
+    let done : IsDone d c.args.task m (name_at c.args.names.now c.loop-name.name-index)
+    (state c.loop-name.writer (g.R.Reports.told c.loop-name.reports) c.loop-name.status)
+    (state c.over_file-outcome.new.writer (g.R.Reports.told c.tell.new.reports) c.greater-status.result) outcome
     = record {
       done = c.over_file-outcome.ensures.done m makes;
+      why = c.over_file-outcome.ensures.why;
       cut = c.over_file-outcome.ensures.cut m makes;
-      unwritten = IfErr-after outcome (λ fault same other. ap (g.W.Target.taken) (same other)) c.over_file-outcome.ensures.unwritten;
+      unwritten = c.over_file-outcome.ensures.unwritten;
       untold = c.tell.ensures.untold;
       told = c.tell.ensures.told;
       status = rw (← c.status_of.ensures) c.greater-status.ensures;
     } in
     c.loop-name.invariant m makes end
-    (goes_on c.args.task m (g.I.Inputs.bytes_of c.args.inputs.now) c.args.names.now c.loop-name.name-index _ _ outcome
+    (goes_on d c.args.task m c.args.names.now c.loop-name.name-index _ _ outcome
     c.loop-name-test.true done end
     (λ refused. let differ : true ≡ false = sym (c.is_refused_write.ensures.1 refused) ∙ c.if-is_refused_write.false in cc) rest)
 
 pub returns : goal.returns
 returns g c = λ m makes. c.loop-name.invariant m makes _
-    (is_done c.args.task m (g.I.Inputs.bytes_of c.args.inputs.now) c.args.names.now c.loop-name.name-index _ c.loop-name-test.false)
+    (is_done _ c.args.task m c.args.names.now c.loop-name.name-index _ c.loop-name-test.false)

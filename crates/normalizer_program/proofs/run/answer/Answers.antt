@@ -1,8 +1,8 @@
 use Rattle.std.proofs.Common.{rules, ◌≡◌, string_bytes}
 use Rattle.std.specs.Prelude.{Err}
-use Rattle.normalizer_program.specs.Normalizers.{work_by}
+use Rattle.normalizer_program.specs.Workers.{work_by}
 use Rattle.normalizer_program.specs.Outcome.{Replies}
-use Rattle.normalizer_program.specs.Transfer.{AppendsFront}
+use Rattle.normalizer_io.specs.Transfer.{AppendsFront}
 use Rattle.normalizer_program.specs.declared.ending.ToolFault.TheVariants.{Write}
 use Rattle.normalizer_program.proofs.run.answer.Goals as goal
 

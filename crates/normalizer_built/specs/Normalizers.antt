@@ -1,0 +1,21 @@
+-- Normalizers to any form.
+use Rattle.std.specs.Prelude.{[]}
+use Rattle.normal_forms.specs.declared.Form.{Form}
+use Rattle.normal_forms.specs.declared.Form.TheVariants.{Decomposing, Composing}
+use Rattle.normal_forms.specs.Reading.{Reading}
+use Rattle.normalizer_calls.specs.Normalizers.{data_of}
+use Rattle.normalizer_calls.specs.ComposingNormalizers.{composing_data_of, pairs_of}
+use Rattle.normalizer_built.specs.declared.normalizer.Normalizer.{Normalizer}
+use Rattle.normalizer_built.specs.declared.normalizer.Normalizer.TheVariants as normalizer
+use Rattle.normalizer_tables.specs.Readings.{reading_by}
+use Rattle.normalizer_tables.specs.declared.characters.IgnoredCharacters.TheVariants.{Dropped}
+
+-- the form that a normalizer makes
+abbrev pub kind_by : Normalizer → Form
+kind_by (normalizer.Decomposing n) = Decomposing
+kind_by (normalizer.Composing n) = Composing
+
+-- the reading by which it makes its form
+abbrev pub reading_of : Normalizer → Reading
+reading_of (normalizer.Decomposing n) = reading_by (data_of n) Dropped []
+reading_of (normalizer.Composing n) = reading_by (composing_data_of n) Dropped (pairs_of n)

@@ -1,0 +1,186 @@
+//! The normal forms of short texts, in buffers that are used again.
+ghost use Rattle.std.specs.Prelude.{◌≡◌, ◌+◌, ◌≤◌, ◌++◌, [], ℕ, List, length, IsTrue};
+ghost use Rattle.normal_forms.specs.CompositionByStarters.{compose_by_starters};
+ghost use Rattle.normal_forms.specs.Decomposition.{expand};
+ghost use Rattle.normal_forms.specs.Forms.{nfd, nfc};
+ghost use Rattle.normal_forms.specs.Hypotheses.{HasStarterResults};
+ghost use Rattle.normal_forms.specs.ShortRuns.{places};
+ghost use Rattle.normal_forms.specs.Reading.{Reading};
+ghost use Rattle.normalizer_tables.specs.Characters.{list_of};
+ghost use Rattle.normalizer_tables.specs.Ignored.{ignored_list};
+ghost use Rattle.normalizer_tables.specs.Pairs.{pair_of};
+ghost use Rattle.normalizer_tables.specs.Readings.{reading_by};
+ghost use Rattle.normalizer_tables.specs.declared.characters.IgnoredCharacters.TheVariants.{Dropped};
+ghost use Rattle.normalizer_text.specs.Encodings.{decoded_in};
+ghost use Rattle.normalizer_iterators.specs.LazyReading.{HasClassesFrom};
+ghost use Rattle.normalizer_iterators.specs.Reads.{HasOwnWord};
+ghost use Rattle.normalizer_iterators.specs.ShortText.{so_far};
+ghost use Rattle.normalizer_iterators.specs.WaitingList.{held, ordered, reordered, AgreesWith};
+
+use crate::read::ReadCharacter;
+use crate::reading::push_from;
+use crate::segment::short_text::ShortText;
+use crate::waiting::WaitingList;
+use normalizer_tables::CanonicalCompositions;
+use normalizer_tables::characters::{CharacterData, IgnoredCharacters};
+use normalizer_text::Units;
+
+mod short_text;
+
+/// Buffers for the normal forms of short texts, which are used again for each text. A form fits if it is made of lists
+/// that have at most 17 characters together. No memory is taken.
+#[derive(Drop)]
+pub struct SegmentBuffers {
+    waiting: WaitingList,
+    text: ShortText,
+}
+
+impl SegmentBuffers {
+    ghost use Rattle.normalizer_iterators.specs.Segment.{text};
+
+    /// Makes empty buffers.
+    pub fn new(characters: &CharacterData<'_>) -> Self
+        ensures { text result ≡ [] }
+    {
+        SegmentBuffers {
+            waiting: WaitingList::new(characters.allocator()),
+            text: ShortText::new(),
+        }
+    }
+
+    /// Returns the form that was made last.
+    #[inline(always)]
+    pub fn text(&self) -> &[char]
+        ensures { result.now ≡ text self.now }
+    {
+        self.text.as_slice()
+    }
+
+    /// Makes the decomposed form of what the units decode to. Returns whether it fits; if not, the text is unspecified.
+    pub fn decompose<U: Units>(
+        &mut self,
+        characters: &CharacterData<'_>,
+        ignored: IgnoredCharacters,
+        units: U,
+    ) -> bool
+        ensures text { IsTrue result → text self.new ≡
+            nfd (reading_by characters.now ignored []) (decoded_in U.encoding (U.units units)) }
+        ensures fits { length (expand (reading_by characters.now ignored []) (decoded_in U.encoding (U.units units)))
+            ≤ places → IsTrue result }
+    {
+        if !read_all(characters, ignored, units, &mut self.waiting) {
+            return false;
+        }
+        copy_all(&mut self.waiting, &mut self.text)
+    }
+
+    /// Makes the composed form of what the units decode to. Returns whether it fits; if not, the text is unspecified.
+    pub fn compose<U: Units>(
+        &mut self,
+        characters: &CharacterData<'_>,
+        ignored: IgnoredCharacters,
+        pairs: &CanonicalCompositions,
+        units: U,
+    ) -> bool
+        requires { HasStarterResults (reading_by characters.now Dropped pairs.now) }
+        ensures text { IsTrue result → text self.new ≡
+            nfc (reading_by characters.now ignored pairs.now) (decoded_in U.encoding (U.units units)) }
+        ensures fits { length (expand (reading_by characters.now ignored []) (decoded_in U.encoding (U.units units)))
+            ≤ places → IsTrue result }
+    {
+        if !read_all(characters, ignored, units, &mut self.waiting) {
+            return false;
+        }
+        compose_all(pairs, &mut self.waiting, &mut self.text)
+    }
+}
+
+/// Buffers the lists of what the units decode to, in canonical order, if they fit.
+fn read_all<U: Units>(
+    characters: &CharacterData<'_>,
+    ignored: IgnoredCharacters,
+    units: U,
+    waiting: &mut WaitingList,
+) -> bool
+    ensures text { IsTrue result → ordered waiting.new ≡
+        nfd (reading_by characters.now ignored []) (decoded_in U.encoding (U.units units)) }
+    ensures classes { IsTrue result → AgreesWith (reading_by characters.now ignored []) waiting.new }
+    ensures short { IsTrue result → length (ordered waiting.new) ≤ places }
+    ensures fits { length (expand (reading_by characters.now ignored []) (decoded_in U.encoding (U.units units)))
+        ≤ places → IsTrue result }
+{
+    waiting.clear();
+    let mut position = 0;
+    while position < units.len() {
+        let step = units.step_at(position);
+        let read = ReadCharacter::new(characters, 0, step.character);
+        if !push_list(characters, ignored, read, waiting) {
+            return false;
+        }
+        position += step.width;
+    }
+    waiting.put_in_order().is_ok()
+}
+
+/// Buffers the list of a character, if it fits.
+#[inline(always)]
+fn push_list(
+    characters: &CharacterData<'_>,
+    ignored: IgnoredCharacters,
+    read: ReadCharacter,
+    waiting: &mut WaitingList,
+) -> bool
+    requires { HasOwnWord characters.now read }
+    ensures text { IsTrue result → (d : Reading) → HasClassesFrom characters.now d → AgreesWith d waiting.old →
+        (rest : List ℕ) → reordered d waiting.old (list_of characters.now (ignored_list ignored) read.character ++ rest)
+        ≡ reordered d waiting.new rest }
+    ensures classes { IsTrue result → (d : Reading) → HasClassesFrom characters.now d → AgreesWith d waiting.old →
+        AgreesWith d waiting.new }
+    ensures held { IsTrue result → (held waiting.new ≡
+        held waiting.old + length (list_of characters.now (ignored_list ignored) read.character)) ×
+        (held waiting.new ≤ places) }
+    ensures fits { held waiting.old + length (list_of characters.now (ignored_list ignored) read.character) ≤ places
+        → IsTrue result }
+{
+    match read.class_of_itself(characters) {
+        Some(class) => waiting.has_room(1) && waiting.push(read.character, class).is_ok(),
+        None => {
+            let members = read.members(characters, ignored);
+            waiting.has_room(members.len()) && push_from(characters, &members, 0, waiting).is_ok()
+        }
+    }
+}
+
+/// Copies what is in order, if it fits.
+fn copy_all(waiting: &mut WaitingList, text: &mut ShortText) -> bool
+    ensures text { IsTrue result → so_far text.new ≡ ordered waiting.old }
+    ensures fits { length (ordered waiting.old) ≤ places → IsTrue result }
+{
+    text.clear();
+    while let Some(given) = waiting.pop_front() {
+        if !text.push(given.character) {
+            return false;
+        }
+    }
+    true
+}
+
+/// Composes what is in order, if it fits.
+fn compose_all(
+    pairs: &CanonicalCompositions,
+    waiting: &mut WaitingList,
+    text: &mut ShortText,
+) -> bool
+    ensures text { IsTrue result → (d : Reading) → AgreesWith d waiting.old →
+        ((a c : ℕ) → pair_of pairs.now a c ≡ d.pair a c) →
+        so_far text.new ≡ compose_by_starters d (ordered waiting.old) }
+    ensures fits { length (ordered waiting.old) ≤ places → IsTrue result }
+{
+    text.clear();
+    while let Some(given) = waiting.pop_front() {
+        if !text.compose(pairs, given) {
+            return false;
+        }
+    }
+    true
+}

@@ -1,0 +1,142 @@
+//! A short text to which characters in canonical order are added, each composed with the last starter (The Unicode
+//! Standard, D117).
+ghost use Rattle.std.specs.Prelude.{◌≡◌, ◌+◌, ◌<◌, ◌≤◌, ◌∷◌, ◌++◌, [], ℕ, List, length};
+ghost use Rattle.std.specs.Prelude.{IfSome, IsTrue, MatchOption, None, Some};
+ghost use Rattle.std.specs.Option.{ForSome};
+ghost use Rattle.normal_forms.specs.Reading.{Reading};
+ghost use Rattle.normal_forms.specs.CompositionByStarters.{compose_by_starters};
+ghost use Rattle.normal_forms.specs.ShortRuns.{places};
+ghost use Rattle.normalizer_tables.specs.Pairs.{pair_of};
+
+use crate::waiting::{Classed, PLACES};
+use normalizer_tables::{CanonicalCompositions, compose};
+
+/// A text of at most `PLACES` characters.
+#[derive(Drop)]
+pub(crate) struct ShortText {
+    characters: [char; PLACES],
+    len: usize,
+    /// The place of the last starter, if one was added.
+    starter: Option<usize>,
+    /// The lowest class that no mark after that starter blocks (D115).
+    unblocked: u16,
+    ghost whole: { length characters ≡ places },
+    ghost within: { len ≤ places },
+    ghost starter_within: { ForSome starter (λ place. place < len) },
+}
+
+impl ShortText {
+    ghost use Rattle.normalizer_iterators.specs.ShortText.{so_far};
+    ghost use Rattle.normalizer_iterators.specs.inner.ShortText.{composing, join_last, BlocksBelow};
+
+    pub(crate) fn new() -> Self
+        ensures { so_far result ≡ [] }
+    {
+        ShortText {
+            characters: ['\0'; PLACES],
+            len: 0,
+            starter: None,
+            unblocked: 0,
+        }
+    }
+
+    #[tactic(auto, unfolding(crate::specs::inner::ShortText::composing, crate::specs::inner::ShortText::BlocksBelow))]
+    #[inline(always)]
+    pub(crate) fn clear(&mut self)
+        ensures text { so_far self.new ≡ [] }
+        ensures len { self.new.len ≡ 0 }
+        ensures composing { (d : Reading) (rest : List ℕ) → composing d self.new rest ≡ compose_by_starters d rest }
+        ensures blocking { (d : Reading) → BlocksBelow d self.new }
+    {
+        self.len = 0;
+        self.starter = None;
+        self.unblocked = 0;
+    }
+
+    /// The characters.
+    #[inline(always)]
+    pub(crate) fn as_slice(&self) -> &[char]
+        ensures { result.now ≡ so_far self.now }
+    {
+        &self.characters[..self.len]
+    }
+
+    /// Adds a character as it is, if there is room.
+    #[inline(always)]
+    pub(crate) fn push(&mut self, character: char) -> bool
+        ensures text { IsTrue result → so_far self.new ≡ so_far self.old ++ character ∷ [] }
+        ensures starter { self.new.starter ≡ self.old.starter }
+        ensures unblocked { self.new.unblocked ≡ self.old.unblocked }
+        ensures room { self.old.len < places → IsTrue result }
+        ensures len { IsTrue result → self.new.len ≡ self.old.len + 1 }
+    {
+        if self.len >= PLACES {
+            return false;
+        }
+        self.characters[self.len] = character;
+        self.len += 1;
+        true
+    }
+
+    /// Composes the last starter with a character in canonical order, if it isn't blocked and the two compose; else
+    /// adds the character, if there is room.
+    #[inline(always)]
+    pub(crate) fn compose(&mut self, pairs: &CanonicalCompositions, given: Classed) -> bool
+        ensures text { IsTrue result → (d : Reading) → given.class ≡ d.class given.character →
+            ((a : ℕ) → pair_of pairs.now a given.character ≡ d.pair a given.character) → BlocksBelow d self.old →
+            (rest : List ℕ) → composing d self.old (given.character ∷ rest) ≡ composing d self.new rest }
+        ensures blocking { IsTrue result → (d : Reading) → given.class ≡ d.class given.character →
+            BlocksBelow d self.old → BlocksBelow d self.new }
+        ensures room { self.old.len < places → IsTrue result }
+        ensures len { IsTrue result → self.new.len ≤ self.old.len + 1 }
+    {
+        match self.joined(pairs, given) {
+            Some((place, composite)) => {
+                self.characters[place] = composite;
+                true
+            }
+            None => self.add(given),
+        }
+    }
+
+    /// The place of the last starter, and what it and a character compose to, if it isn't blocked and they do.
+    #[inline(always)]
+    fn joined(&self, pairs: &CanonicalCompositions, given: Classed) -> Option<(usize, char)>
+        ensures place { IfSome result (λ r. self.now.starter ≡ Some r.0) }
+        ensures joins { (d : Reading) → given.class ≡ d.class given.character →
+            ((a : ℕ) → pair_of pairs.now a given.character ≡ d.pair a given.character) → BlocksBelow d self.now →
+            MatchOption result (join_last d self.now given.character ≡ None)
+            (λ r. join_last d self.now given.character ≡ Some r.1) }
+    {
+        let place = self.starter?;
+        if self.unblocked > given.class as u16 {
+            return None;
+        }
+        let composite = compose(pairs, self.characters[place], given.character)?;
+        Some((place, composite))
+    }
+
+    /// Adds a character that doesn't compose, if there is room.
+    #[inline(always)]
+    fn add(&mut self, given: Classed) -> bool
+        ensures text { IsTrue result → (d : Reading) → given.class ≡ d.class given.character →
+            join_last d self.old given.character ≡ None →
+            (rest : List ℕ) → composing d self.old (given.character ∷ rest) ≡ composing d self.new rest }
+        ensures blocking { IsTrue result → (d : Reading) → given.class ≡ d.class given.character →
+            BlocksBelow d self.old → BlocksBelow d self.new }
+        ensures room { self.old.len < places → IsTrue result }
+        ensures len { IsTrue result → self.new.len ≤ self.old.len + 1 }
+    {
+        let place = self.len;
+        if !self.push(given.character) {
+            return false;
+        }
+        if given.class == 0 {
+            self.starter = Some(place);
+            self.unblocked = 0;
+        } else {
+            self.unblocked = self.unblocked.max(given.class as u16 + 1);
+        }
+        true
+    }
+}

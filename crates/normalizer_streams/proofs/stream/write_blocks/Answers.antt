@@ -1,0 +1,53 @@
+use Rattle.std.proofs.Common.{arith, inr, ◌^◌, ◌-◌}
+use Rattle.normalizer_streams.specs.Streams.{form_by}
+use Rattle.normalizer_streams.proofs.MoveLemmas.{IsCut-anyway, IsCut-end, IsCutAnyway-none, IsFormCutOff-moved, IsFormWritten-end, Moves-block, Moves-read, Moves-trans, OnErr-after, OnErr-always, OnOk-after, read_is_within}
+use Rattle.normalizer_streams.proofs.stream.write_blocks.Goals as goal
+
+pub returns-in_err-carry_block-clause-front : goal.returns-in_err-carry_block-clause-front
+returns-in_err-carry_block-clause-front g c =
+    let form = form_by c.args.normalizer.now in
+    OnErr-always _ (IsFormCutOff-moved form _ _ _ _ _ _ c.loop.invariant.moves (IsCut-anyway form _ _ _ _ (IsCutAnyway-none form _ _)))
+
+pub returns-then-not-branch-clause-form : goal.returns-then-not-branch-clause-form
+returns-then-not-branch-clause-form g c =
+    let form = form_by c.args.normalizer.now in
+    let block = c.in_ok-carry_block.ensures.carries in
+    let moves = Moves-trans form _ _ _ _ _ _ _ _ _ c.loop.invariant.moves (Moves-read form _ _ _ _ _ block.more block.consumed block.appended) in
+    OnOk-after _ (λ written. IsFormWritten-end form _ _ _ _ _ _ moves (block.end c.if-not-branch.true) written)
+    (rw c.deref.ensures.value at c.write_form_of.ensures.form)
+
+pub returns-then-not-branch-clause-front : goal.returns-then-not-branch-clause-front
+returns-then-not-branch-clause-front g c =
+    let form = form_by c.args.normalizer.now in
+    let block = c.in_ok-carry_block.ensures.carries in
+    let moves = Moves-trans form _ _ _ _ _ _ _ _ _ c.loop.invariant.moves (Moves-read form _ _ _ _ _ block.more block.consumed block.appended) in
+    OnErr-after _ (λ front. IsFormCutOff-moved form _ _ _ _ _ _ moves (IsCut-end form _ _ _ _ (block.end c.if-not-branch.true) front))
+    (rw c.deref.ensures.value at c.write_form_of.ensures.front)
+
+pub returns-in_err-write_settled-clause-front : goal.returns-in_err-write_settled-clause-front
+returns-in_err-write_settled-clause-front g c =
+    let form = form_by c.args.normalizer.now in
+    let block = c.in_ok-carry_block.ensures.carries in
+    let moves = Moves-trans form _ _ _ _ _ _ _ _ _ c.loop.invariant.moves (Moves-read form _ _ _ _ _ block.more block.consumed block.appended) in
+    OnErr-always _ (IsFormCutOff-moved form _ _ _ _ _ _ moves (IsCut-anyway form _ _ _ _ c.in_err-write_settled.ensures.front))
+
+pub loop-preserved : goal.loop-preserved
+loop-preserved g c =
+    let form = form_by c.args.normalizer.now in
+    let block = c.in_ok-carry_block.ensures.carries in
+    let next = Moves-block form _ _ _ _ _ _ _ _ _ _ c.loop.counter c.loop.invariant.moves c.loop.invariant.counted block c.if-not-branch.false (c.in_ok-write_settled.ensures.moved _) in
+    record {
+      moves = next.0;
+      counted = next.1;
+      room = omega arith;
+      read = λ later h. c.loop.invariant.read later (c.in_ok-carry_block.ensures.ahead later h);
+      write = λ later h. c.loop.invariant.write later (c.in_ok-write_settled.ensures.ahead later h);
+    }
+
+pub returns-clause-front : goal.returns-clause-front
+returns-clause-front g c =
+    let form = form_by c.args.normalizer.now in
+    IsFormCutOff-moved form _ _ _ _ _ _ c.loop.invariant.moves (IsCut-anyway form _ _ _ _ (IsCutAnyway-none form _ _))
+
+pub returns-clause-read : goal.returns-clause-read
+returns-clause-read g c = λ _. inr (read_is_within _ _ c.loop.invariant.moves.read (2 ^ 64 - 1) c.loop.invariant.moves.consumed (omega arith))

@@ -1,0 +1,170 @@
+//! A source read block by block, and the form of all its bytes.
+ghost use Rattle.std.specs.Prelude.{
+  ◌≡◌,
+  ◌⊎◌,
+  ◌<◌,
+  ◌≤◌,
+  ◌++◌,
+  true,
+  false,
+  ℕ,
+  List,
+  Option,
+  [],
+  drop,
+  length,
+  vec_len,
+  IfErr,
+  IfOk,
+  IsErrOf,
+  OnErr,
+  OnOk,
+};
+ghost use Rattle.std.specs.Io.KnownBytes.{Appends, Consumes, IsAtEnd};
+ghost use Rattle.normalizer_io.specs.Transfer.{AppendsFront};
+ghost use Rattle.normalizer_streams.specs.Streams.{form_by, IsEndless, IsFormCutOff, IsFormWritten};
+ghost use Rattle.normalizer_streams.specs.inner.Moves.{Carries, IsCutAnyway, Moves};
+
+use crate::settled::last_settled;
+use normalizer_built::Normalizer;
+use normalizer_io::{Source, Target, TransferError, write_all};
+use std::alloc::Global;
+
+// The most bytes that one read returns.
+const BLOCK: usize = 65536;
+
+// A sequence of UTF-8 that is cut short has fewer bytes.
+const LONGEST_SEQUENCE: usize = 4;
+
+/// Reads to the end, and writes the UTF-8 of the form of the text that all the bytes decode to. Each maximal ill-formed
+/// subpart reads as U+FFFD. What no later byte can change is written after each block of 64 KiB at most, so that only
+/// a run of characters without a boundary between them takes more memory.
+///
+/// # Errors
+/// - `Read` if a read was refused, or the source has no end: after 2^64 - 1 blocks.
+/// - `Write` if a write was refused.
+/// - `Memory` if an allocation was refused.
+///
+/// After each, a beginning of the form was written, and nothing more is read or written.
+pub fn write_form<R: Source, W: Target>(
+    alloc: Global,
+    normalizer: &Normalizer,
+    reader: &mut R,
+    writer: &mut W,
+) -> Result<(), TransferError>
+    ensures form { OnOk result (IsFormWritten (form_by normalizer.now)
+        (R.left reader.old) (W.taken writer.old) (W.taken writer.new)) }
+    ensures end { OnOk result (IsAtEnd (R.left reader.new)) }
+    ensures front { OnErr result (IsFormCutOff (form_by normalizer.now)
+        (R.left reader.old) (W.taken writer.old) (W.taken writer.new)) }
+    ensures read { IsErrOf result TransferError.Read → R.refused reader.old reader.new ⊎ IsEndless (R.left reader.old) }
+    ensures write { IsErrOf result TransferError.Write → W.refused writer.old writer.new }
+{
+    let mut block = vec![in alloc; 0u8; BLOCK]?;
+    write_blocks(alloc, normalizer, reader, writer, &mut block)
+}
+
+// Reads to the end, as much at a time as a block holds.
+fn write_blocks<R: Source, W: Target>(
+    alloc: Global,
+    normalizer: &Normalizer,
+    reader: &mut R,
+    writer: &mut W,
+    block: &mut [u8],
+) -> Result<(), TransferError>
+    requires { 0 < length block.old }
+    ensures form { OnOk result (IsFormWritten (form_by normalizer.now)
+        (R.left reader.old) (W.taken writer.old) (W.taken writer.new)) }
+    ensures end { OnOk result (IsAtEnd (R.left reader.new)) }
+    ensures front { OnErr result (IsFormCutOff (form_by normalizer.now)
+        (R.left reader.old) (W.taken writer.old) (W.taken writer.new)) }
+    ensures read { IsErrOf result TransferError.Read → R.refused reader.old reader.new ⊎ IsEndless (R.left reader.old) }
+    ensures write { IsErrOf result TransferError.Write → W.refused writer.old writer.new }
+{
+    let mut carried = Vec::new(alloc);
+    // A loop is proved to end, so this one counts its blocks.
+    for _ in 0..u64::MAX {
+        let searched = carried.len();
+        if !carry_block(reader, block, &mut carried)? {
+            return write_form_of(alloc, normalizer, &carried, writer);
+        }
+        write_settled(alloc, normalizer, &mut carried, searched, writer)?;
+    }
+    Err(TransferError::Read)
+}
+
+// Reads a block, and carries its bytes after the others. Returns false, and carries none, at the end.
+fn carry_block<R: Source>(
+    reader: &mut R,
+    block: &mut [u8],
+    carried: &mut Vec<u8>,
+) -> Result<bool, TransferError>
+    requires { 0 < length block.old }
+    ensures carries { IfOk result (Carries (R.left reader.old) (R.left reader.new) carried.old.items carried.new.items) }
+    ensures errors { IfErr result (λ error. (error ≡ TransferError.Read) ⊎ (error ≡ TransferError.Memory)) }
+    ensures read { IsErrOf result TransferError.Read → R.refused reader.old reader.new }
+    ensures ahead { OnOk result ((later : R) → R.refused reader.new later → R.refused reader.old later) }
+    ensures block { length block.new ≡ length block.old }
+{
+    let Ok(count) = reader.read(block) else {
+        return Err(TransferError::Read);
+    };
+    carried.extend_from_slice(&block[..count])?;
+    Ok(count > 0)
+}
+
+// Writes the form of what is settled of the bytes that are carried, and keeps the rest. All places up to `searched` but
+// for the last few have been searched.
+fn write_settled<W: Target>(
+    alloc: Global,
+    normalizer: &Normalizer,
+    carried: &mut Vec<u8>,
+    searched: usize,
+    writer: &mut W,
+) -> Result<(), TransferError>
+    ensures moved { (left : Option (List ℕ)) → OnOk result (Moves (form_by normalizer.now)
+        left left (W.taken writer.old) (W.taken writer.new) carried.old.items carried.new.items) }
+    ensures front { OnErr result
+        (IsCutAnyway (form_by normalizer.now) (W.taken writer.old) (W.taken writer.new) carried.old.items) }
+    ensures errors { IfErr result (λ error. (error ≡ TransferError.Write) ⊎ (error ≡ TransferError.Memory)) }
+    ensures write { IsErrOf result TransferError.Write → W.refused writer.old writer.new }
+    ensures ahead { OnOk result ((later : W) → W.refused writer.new later → W.refused writer.old later) }
+{
+    let from = searched.saturating_sub(LONGEST_SEQUENCE);
+    let Some(place) = last_settled(normalizer, carried, from) else {
+        return Ok(());
+    };
+    write_form_of(alloc, normalizer, &carried[..place], writer)?;
+    remove_front(carried, place);
+    Ok(())
+}
+
+// Writes the form of some bytes.
+fn write_form_of<W: Target>(
+    alloc: Global,
+    normalizer: &Normalizer,
+    bytes: &[u8],
+    writer: &mut W,
+) -> Result<(), TransferError>
+    ensures form { OnOk result (Appends (W.taken writer.old) (W.taken writer.new) (form_by normalizer.now bytes.now)) }
+    ensures front { OnErr result
+        (AppendsFront (W.taken writer.old) (W.taken writer.new) (form_by normalizer.now bytes.now)) }
+    ensures errors { IfErr result (λ error. (error ≡ TransferError.Write) ⊎ (error ≡ TransferError.Memory)) }
+    ensures write { IsErrOf result TransferError.Write → W.refused writer.old writer.new }
+    ensures ahead { OnOk result ((later : W) → W.refused writer.new later → W.refused writer.old later) }
+{
+    match normalizer.form_of(alloc, bytes) {
+        Ok(form) => write_all(writer, form.as_bytes()),
+        Err(_) => Err(TransferError::Memory),
+    }
+}
+
+// Removes the first bytes.
+fn remove_front(bytes: &mut Vec<u8>, count: usize)
+    requires { count ≤ vec_len bytes.old }
+    ensures { bytes.new.items ≡ drop count bytes.old.items }
+{
+    let len = bytes.len();
+    bytes.copy_within(count..len, 0);
+    bytes.truncate(len - count);
+}
