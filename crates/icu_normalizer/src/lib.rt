@@ -6,15 +6,16 @@
 //! read as U+FFFD), and iterators of `char`. Checks never return 'maybe'. Forms are returned, borrowed if the input is
 //! already normalized, or written to a [`sink`].
 //!
-//! Data come from a [`DataProvider`]. [`Records::build`] makes one from plain records of characters. Constructors
-//! check all data by written conditions (`docs/CONDITIONS.md`) and refuse bad ones; all promises hold for all data
-//! that pass.
+//! Data come from a [`DataProvider`]. [`Records::build`] makes one from plain records of characters. Constructors check
+//! all data against written conditions (`docs/CONDITIONS.md`) and refuse data that break one. All promises hold for all
+//! data that pass.
 //!
 //! - [`properties`]: canonical combining classes, the pairs that compose, and single decomposition steps.
 //! - [`uts46`]: the mapper of UTS #46.
 //! - [`harfbuzz`]: traits for shapers.
 //! - [`provider`]: data, markers and their trait.
 //! - [`sink`]: sinks of text, in UTF-8 or UTF-16.
+//! - [`laws`]: theorems about records and the data that they build.
 //!
 //! # Examples
 //! ```rust
