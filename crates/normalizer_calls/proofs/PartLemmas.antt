@@ -5,6 +5,7 @@ use Rattle.std.specs.Prelude.{◌⊎◌, IsErrOf}
 use Rattle.std.proofs.lemmas.Bool.{cases_Bool, cond-true, cond-false}
 use Rattle.std.proofs.lemmas.List.{append_cancel_right, drop-drop}
 use Rattle.std.proofs.Math.Seq.{take-length}
+use Rattle.std.proofs.Math.Nat.{eq-zero-or-pos}
 use Rattle.normal_forms.specs.Reading.{Reading}
 use Rattle.normal_forms.specs.declared.Form.{Form}
 use Rattle.normal_forms.specs.Forms.{normal_form}
@@ -261,6 +262,16 @@ module _ (e : Encoding) (d : Reading) (form : Form) where
         ahead = λ later h. so_far.ahead later (wrote.ahead later h);
       }
 
+      -- a part may have been written
+      pub WroteUpTo-maybe : (end : ℕ) (new : S) → (end ≡ 0 → new ≡ now) → (0 < end → WrotePart taken refused e d form rest now end new)
+          → WroteUpTo taken refused units old (position + end) new
+      WroteUpTo-maybe end new none wrote = elim (eq-zero-or-pos end) [
+        | inl empty ↦
+            let same : position ≡ position + end = omega (arith, empty) in
+            subst (λ n. WroteUpTo taken refused units old n new) same (subst (WroteUpTo taken refused units old position) (sym (none empty)) so_far)
+        | inr some ↦ WroteUpTo-more end new (wrote some)
+      ]
+
       pub within_part : (end : ℕ) → IsPart e d form rest end → position + end ≤ length units
       within_part end part = boundary-le (first_in e) (IsDecoding-first e) units (position + end) (boundary_behind end part.boundary)
 
@@ -313,3 +324,12 @@ module _ (e : Encoding) (d : Reading) (form : Form) where
         };
         begun = λ is. beginning_behind new (h.begun is);
       }
+
+    -- the first part may have been written
+    pub WroteUpTo-first : (end : ℕ) (new : S) → (end ≡ 0 → new ≡ old) → (0 < end → WrotePart taken refused e d form units old end new) → WroteUpTo taken refused units old end new
+    WroteUpTo-first end new none wrote =
+        let same : 0 + end ≡ end = omega arith in
+        subst (λ n. WroteUpTo taken refused units old n new) same (WroteUpTo-maybe 0 old WroteUpTo-none units refl end new none wrote)
+
+    pub WroteUpTo-le : (position : ℕ) (now : S) → WroteUpTo taken refused units old position now → position ≤ length units
+    WroteUpTo-le position now so_far = boundary-le (first_in e) (IsDecoding-first e) units position so_far.boundary

@@ -171,7 +171,7 @@ impl ComposingNormalizer {
 #[derive(Drop)]
 pub struct ComposingNormalizerBorrowed<'a> {
     pub(crate) characters: CharacterData<'a>,
-    pairs: &'a CanonicalCompositions,
+    pub(crate) pairs: &'a CanonicalCompositions,
     pub(crate) bounds: Bounds,
     ghost serves: { ServesComposing characters bounds pairs.now },
 }

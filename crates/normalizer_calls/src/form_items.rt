@@ -1,24 +1,29 @@
 //! The two kinds of normalizers as one trait, over which every call on text is written once.
 ghost use Rattle.std.specs.Prelude.{◌≡◌, ◌<◌, ◌||◌, ◌∷◌, [], nat_lt, not, ℕ, Bool, true, false, IfOk, IfSome};
-ghost use Rattle.std.specs.Prelude.{Option, Some, None, if◌then◌else◌};
+ghost use Rattle.std.specs.Prelude.{◌≤◌, length, IsTrue, Option, Some, None, if◌then◌else◌};
 ghost use Rattle.std.specs.Char.{IsScalar};
 ghost use Rattle.std.specs.Iterator.{IsFinite};
 ghost use Rattle.normal_forms.specs.declared.Form.{Form};
+ghost use Rattle.normal_forms.specs.Decomposition.{expand};
 ghost use Rattle.normal_forms.specs.Forms.{normal_form};
+ghost use Rattle.normal_forms.specs.ShortRuns.{places};
 ghost use Rattle.normal_forms.specs.Reading.{Reading};
 ghost use Rattle.normalizer_tables.specs.Characters.{class_of_itself, has_class_form, reading_of_word};
 ghost use Rattle.normalizer_tables.specs.PairConditions.{is_passed};
 ghost use Rattle.normalizer_tables.specs.Readings.{reading_by};
 ghost use Rattle.normalizer_tables.specs.declared.characters.IgnoredCharacters.TheVariants.{Dropped};
+ghost use Rattle.normalizer_text.specs.Encodings.{decoded_in};
 ghost use Rattle.normalizer_iterators.specs.Items.{GivesForm};
+ghost use Rattle.normalizer_iterators.specs.Segment.{text};
 ghost use Rattle.normalizer_calls.specs.BeginsApart.{BeginsApart};
 ghost use Rattle.normalizer_calls.specs.inner.Passing.{MayFollow, MayPass};
 
 use crate::{ComposingNormalizerBorrowed, DecomposingNormalizerBorrowed};
-use normalizer_iterators::{Composition, Decomposition, NormalizeError};
+use normalizer_iterators::{Composition, Decomposition, NormalizeError, SegmentBuffers};
 use normalizer_tables::characters::IgnoredCharacters;
 use normalizer_tables::members::Members;
 use normalizer_tables::word::{is_backward_combining, is_non_round_trip};
+use normalizer_text::Units;
 
 /// Makes the normal form of the characters that an iterator yields.
 pub(crate) trait FormItems<I: Iterator<Item = char> + Drop> {
@@ -70,6 +75,18 @@ pub(crate) trait FormItems<I: Iterator<Item = char> + Drop> {
     /// The form of a character alone, if its list is that.
     fn form_of_one(&self, character: char) -> Option<Members<'_>>
         ensures { IfSome result (λ members. members ≡ normal_form (reading self.now) form (character ∷ [])) };
+
+    /// Makes empty buffers for the forms of short texts.
+    fn segment_buffers(&self) -> SegmentBuffers
+        ensures { text result ≡ [] };
+
+    /// Makes the form of what the units decode to in the buffers. Returns whether it fits: whether the lists of the
+    /// characters have at most `places` members together.
+    fn short_form<U: Units>(&self, units: U, buffers: &mut SegmentBuffers) -> bool
+        ensures form { IsTrue result →
+            text buffers.new ≡ normal_form (reading self.now) form (decoded_in U.encoding (U.units units)) }
+        ensures fits { length (expand (reading self.now) (decoded_in U.encoding (U.units units))) ≤ places →
+            IsTrue result };
 
     /// Characters that pass with class 0 are normalized apart, those that pass with another may follow marks of lower
     /// classes, and those below the bound pass; what `begins` accepts is normalized apart from what comes before.
@@ -134,6 +151,14 @@ impl<'a, I: Iterator<Item = char> + Drop> FormItems<I> for DecomposingNormalizer
         )
     }
 
+    fn segment_buffers(&self) -> SegmentBuffers {
+        SegmentBuffers::new(&self.characters)
+    }
+
+    fn short_form<U: Units>(&self, units: U, buffers: &mut SegmentBuffers) -> bool {
+        buffers.decompose(&self.characters, IgnoredCharacters::Dropped, units)
+    }
+
     fn passed_characters_stand_apart(&self) {}
 }
 
@@ -186,6 +211,15 @@ impl<'a, I: Iterator<Item = char> + Drop> FormItems<I> for ComposingNormalizerBo
 
     fn form_of_one(&self, _character: char) -> Option<Members<'_>> {
         None
+    }
+
+    fn segment_buffers(&self) -> SegmentBuffers {
+        SegmentBuffers::new(&self.characters)
+    }
+
+    fn short_form<U: Units>(&self, units: U, buffers: &mut SegmentBuffers) -> bool {
+        let ignored = IgnoredCharacters::Dropped;
+        buffers.compose(&self.characters, ignored, self.pairs, units)
     }
 
     fn passed_characters_stand_apart(&self) {}

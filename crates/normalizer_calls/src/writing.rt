@@ -1,17 +1,17 @@
 //! Writing the characters of an iterator to an output.
-ghost use Rattle.std.specs.Prelude.{ℕ, ◌<◌, List, length, Err, IfErr, IfOk, IsErrOf};
+ghost use Rattle.std.specs.Prelude.{ℕ, ◌≡◌, ◌<◌, List, length, Err, IfErr, IfOk, IsErrOf};
 ghost use Rattle.std.specs.Iterator.{IsFinite};
 ghost use Rattle.normal_forms.specs.Forms.{normal_form};
 ghost use Rattle.normal_forms.specs.ShortRuns.{HasShortRuns};
 ghost use Rattle.normalizer_text.specs.Encodings.{decoded_in};
 ghost use Rattle.normalizer_iterators.specs.Items.{SpellsOk, SpellsUnless};
-ghost use Rattle.normalizer_calls.specs.inner.Passing.{StandsInInput, WrotePart};
+ghost use Rattle.normalizer_calls.specs.inner.Passing.{IsHandedOn, IsSegmentEnd, StandsInInput, WrotePart};
 ghost use Rattle.normalizer_calls.specs.Writing.{TellsLengthFirst};
 ghost use Rattle.normalizer_calls.specs.inner.Writing.{NothingOffered, WritesText};
 
 use crate::form_items::FormItems;
 use crate::runs::{passed_end, segment_end};
-use normalizer_iterators::NormalizeError;
+use normalizer_iterators::{NormalizeError, SegmentBuffers};
 use normalizer_tables::members::Members;
 use normalizer_text::output::Output;
 use normalizer_text::{Chars, Units};
@@ -52,10 +52,26 @@ fn write_members<U: Units, O: Output<U>>(
     Ok(())
 }
 
-/// Writes the form of what the units decode to, character by character.
+/// Writes characters, each after the one before.
+fn write_text<U: Units, O: Output<U>>(text: &[char], output: &mut O) -> Result<(), NormalizeError>
+    ensures text { WritesText U.encoding O.taken O.refused O.left O.refuses NothingOffered
+        text.now output.old result output.new }
+    ensures room { ¬ IsErrOf result NormalizeError.Memory }
+{
+    let mut place = 0;
+    while place < text.len() {
+        output.write_char(text[place])?;
+        place += 1;
+    }
+    Ok(())
+}
+
+/// Writes the form of what the units decode to, character by character: from the list of a single character, from the
+/// buffers if it fits, or from an iterator.
 fn write_segment<U: Units, N: FormItems<Chars<U>>, O: Output<U>>(
     normalizer: &N,
     units: U,
+    buffers: &mut SegmentBuffers,
     output: &mut O,
 ) -> Result<(), NormalizeError>
     requires { 0 < length (U.units units) }
@@ -71,18 +87,47 @@ fn write_segment<U: Units, N: FormItems<Chars<U>>, O: Output<U>>(
             return write_members::<U, O>(&members, output);
         }
     }
+    if normalizer.short_form(units, buffers) {
+        return write_text::<U, O>(buffers.text(), output);
+    }
     let items = normalizer.items(Chars::new(units))?;
     write_items(items, output)
 }
 
-/// Writes the form of a front of the units, and returns the end of that front: a run of characters as it is, in one
-/// piece, or else a segment.
-fn write_part<U: Units, N: FormItems<Chars<U>>, O: Output<U>>(
+/// Writes the run of characters at the front of the units that is passed on as it is, in one piece, and returns its
+/// end: 0 if there is none.
+fn write_run<U: Units, N: FormItems<Chars<U>>, O: Output<U>>(
     normalizer: &N,
     units: U,
     output: &mut O,
 ) -> Result<usize, NormalizeError>
+    ensures run { IfOk result (IsHandedOn (N.passed_class normalizer.now) (N.beginning normalizer.now) N.held_back
+        U.encoding (U.units units)) }
+    ensures none { IfOk result (λ end. end ≡ 0 → output.new ≡ output.old) }
+    ensures part { IfOk result (λ end. 0 < end → WrotePart O.taken O.refused
+        U.encoding (N.reading normalizer.now) N.form (U.units units) output.old end output.new) }
+    ensures refused { IfErr result (λ fault. WritesText U.encoding O.taken O.refused O.left O.refuses
+        (StandsInInput U.encoding (N.reading normalizer.now) N.form (U.units units))
+        (normal_form (N.reading normalizer.now) N.form (decoded_in U.encoding (U.units units)))
+        output.old (Err fault) output.new) }
+    ensures room { ¬ IsErrOf result NormalizeError.Memory }
+{
+    let end = passed_end(normalizer, units);
+    if end > 0 {
+        output.write_piece(units.before(end))?;
+    }
+    Ok(end)
+}
+
+/// Writes the form of the segment at the front of the units, and returns its end.
+fn write_front_segment<U: Units, N: FormItems<Chars<U>>, O: Output<U>>(
+    normalizer: &N,
+    units: U,
+    buffers: &mut SegmentBuffers,
+    output: &mut O,
+) -> Result<usize, NormalizeError>
     requires { 0 < length (U.units units) }
+    ensures segment { IfOk result (IsSegmentEnd (N.beginning normalizer.now) U.encoding (U.units units)) }
     ensures part { IfOk result (λ end. WrotePart O.taken O.refused
         U.encoding (N.reading normalizer.now) N.form (U.units units) output.old end output.new) }
     ensures refused { IfErr result (λ fault. WritesText U.encoding O.taken O.refused O.left O.refuses
@@ -92,18 +137,13 @@ fn write_part<U: Units, N: FormItems<Chars<U>>, O: Output<U>>(
     ensures room { HasShortRuns (N.has_class_form normalizer.now) (N.reading normalizer.now)
         (decoded_in U.encoding (U.units units)) → ¬ IsErrOf result NormalizeError.Memory }
 {
-    let run = passed_end(normalizer, units);
-    if run > 0 {
-        output.write_piece(units.before(run))?;
-        return Ok(run);
-    }
     normalizer.passed_characters_stand_apart();
     let end = segment_end(normalizer, units);
-    write_segment(normalizer, units.before(end), output)?;
+    write_segment(normalizer, units.before(end), buffers, output)?;
     Ok(end)
 }
 
-/// Writes the form of what the units decode to, part by part.
+/// Writes the form of what the units decode to: runs, and the segments between them.
 fn write_parts<U: Units, N: FormItems<Chars<U>>, O: Output<U>>(
     normalizer: &N,
     units: U,
@@ -116,9 +156,14 @@ fn write_parts<U: Units, N: FormItems<Chars<U>>, O: Output<U>>(
     ensures room { HasShortRuns (N.has_class_form normalizer.now) (N.reading normalizer.now)
         (decoded_in U.encoding (U.units units)) → ¬ IsErrOf result NormalizeError.Memory }
 {
-    let mut position = 0;
+    let mut position = write_run(normalizer, units, output)?;
+    if position == units.len() {
+        return Ok(());
+    }
+    let mut buffers = normalizer.segment_buffers();
     while position < units.len() {
-        position += write_part(normalizer, units.after(position), output)?;
+        position += write_front_segment(normalizer, units.after(position), &mut buffers, output)?;
+        position += write_run(normalizer, units.after(position), output)?;
     }
     Ok(())
 }

@@ -1,40 +1,84 @@
 use Rattle.std.proofs.Common.{◌≡◌, rules, Err, arith}
-use Rattle.normalizer_calls.proofs.PartLemmas.{HasShortRuns-behind, WritesText-behind, WritesText-parts, WroteUpTo-more, WroteUpTo-none, not_handed_on, within_part}
+use Rattle.normalizer_calls.proofs.PartLemmas.{HasShortRuns-behind, WritesText-behind, WritesText-parts, WroteUpTo-first, WroteUpTo-le, WroteUpTo-maybe, WroteUpTo-more, not_handed_on}
 use Rattle.normalizer_calls.proofs.writing.write_parts.Goals as goal
 
 pub loop-position-init : goal.loop-position-init
-loop-position-init g c = WroteUpTo-none _ _ _ g.O.Output.taken g.O.Output.refused g.O.Output.left g.O.Output.refuses _ _
+loop-position-init g c =
+    WroteUpTo-first _ _ _ g.O.Output.taken g.O.Output.refused g.O.Output.left g.O.Output.refuses _ _ _ _
+    (rw c.in_ok-position.was at c.write_run.ensures.none) (rw c.in_ok-position.was at c.write_run.ensures.part)
 
 pub returns-in_err-position-clause-text : goal.returns-in_err-position-clause-text
 returns-in_err-position-clause-text g c =
     let is : c.from_residual.result ≡ Err c.in_err-position.field-0.0 = search rules in
-    rw is
-    (WritesText-behind _ _ _ g.O.Output.taken g.O.Output.refused g.O.Output.left g.O.Output.refuses _ _ _ _ c.loop-position.invariant _ c.after.ensures _ _
-    (rw c.in_err-position.was at c.write_part.ensures.refused))
+    rw is (rw c.in_err-position.was at c.write_run.ensures.refused)
 
 pub returns-in_err-position-clause-room : goal.returns-in_err-position-clause-room
 returns-in_err-position-clause-room g c = λ short.
     let is : c.from_residual.result ≡ Err c.in_err-position.field-0.0 = search rules in
+    not_handed_on _ _ _ _ c.in_err-position.was is c.write_run.ensures.room
+
+pub returns-then-position-len-clause-text : goal.returns-then-position-len-clause-text
+returns-then-position-len-clause-text g c =
+    let first = WroteUpTo-first _ _ _ g.O.Output.taken g.O.Output.refused g.O.Output.left g.O.Output.refuses _ _ _ _
+    (rw c.in_ok-position.was at c.write_run.ensures.none) (rw c.in_ok-position.was at c.write_run.ensures.part) in
+    WritesText-parts _ _ _ g.O.Output.taken g.O.Output.refused g.O.Output.left g.O.Output.refuses _ _ _ _ first (omega (arith, c.len.ensures, c.if-position-len.true))
+
+pub returns-in_err-position-2-clause-text : goal.returns-in_err-position-2-clause-text
+returns-in_err-position-2-clause-text g c =
+    let is : c.from_residual-in_err-position-2.result ≡ Err c.in_err-position-2.field-0.0 = search rules in
+    rw is
+    (WritesText-behind _ _ _ g.O.Output.taken g.O.Output.refused g.O.Output.left g.O.Output.refuses _ _ _ _ c.loop-position.invariant _ c.after.ensures _ _
+    (rw c.in_err-position-2.was at c.write_front_segment.ensures.refused))
+
+pub returns-in_err-position-2-clause-room : goal.returns-in_err-position-2-clause-room
+returns-in_err-position-2-clause-room g c = λ short.
+    let is : c.from_residual-in_err-position-2.result ≡ Err c.in_err-position-2.field-0.0 = search rules in
     let short_behind = HasShortRuns-behind _ _ _ g.O.Output.taken g.O.Output.refused g.O.Output.left g.O.Output.refuses _ _ _ _ c.loop-position.invariant _ c.after.ensures _ short in
-    not_handed_on _ _ _ _ c.in_err-position.was is (c.write_part.ensures.room short_behind)
+    not_handed_on _ _ _ _ c.in_err-position-2.was is (c.write_front_segment.ensures.room short_behind)
 
 pub overflow_add-position : goal.overflow_add-position
 overflow_add-position g c =
-    let wrote = rw c.in_ok-position.was at c.write_part.ensures.part in
-    let most = within_part _ _ _ g.O.Output.taken g.O.Output.refused g.O.Output.left g.O.Output.refuses _ _ _ _ c.loop-position.invariant _ c.after.ensures _ wrote.part in
+    let so_far = WroteUpTo-more _ _ _ g.O.Output.taken g.O.Output.refused g.O.Output.left g.O.Output.refuses _ _ _ _ c.loop-position.invariant _ c.after.ensures _ _
+    (rw c.in_ok-position-2.was at c.write_front_segment.ensures.part) in
+    let most = WroteUpTo-le _ _ _ g.O.Output.taken g.O.Output.refused g.O.Output.left g.O.Output.refuses _ _ _ _ so_far in
     omega (arith, c.len.ensures)
 
-pub loop-position-smaller : goal.loop-position-smaller
-loop-position-smaller g c =
-    let wrote = rw c.in_ok-position.was at c.write_part.ensures.part in
-    let some = wrote.part.some in
+pub after-requires-in-loop-position : goal.after-requires-in-loop-position
+after-requires-in-loop-position g c =
+    let so_far = WroteUpTo-more _ _ _ g.O.Output.taken g.O.Output.refused g.O.Output.left g.O.Output.refuses _ _ _ _ c.loop-position.invariant _ c.after.ensures _ _
+    (rw c.in_ok-position-2.was at c.write_front_segment.ensures.part) in
+    so_far.boundary
+
+pub returns-in_err-position-3-clause-text : goal.returns-in_err-position-3-clause-text
+returns-in_err-position-3-clause-text g c =
+    let so_far = WroteUpTo-more _ _ _ g.O.Output.taken g.O.Output.refused g.O.Output.left g.O.Output.refuses _ _ _ _ c.loop-position.invariant _ c.after.ensures _ _
+    (rw c.in_ok-position-2.was at c.write_front_segment.ensures.part) in
+    let is : c.from_residual-in_err-position-3.result ≡ Err c.in_err-position-3.field-0.0 = search rules in
+    rw is
+    (WritesText-behind _ _ _ g.O.Output.taken g.O.Output.refused g.O.Output.left g.O.Output.refuses _ _ _ _ so_far _ c.after-in-loop-position.ensures _ _
+    (rw c.in_err-position-3.was at c.write_run-in-loop-position.ensures.refused))
+
+pub overflow_add-position-in-loop-position : goal.overflow_add-position-in-loop-position
+overflow_add-position-in-loop-position g c =
+    let so_far = WroteUpTo-more _ _ _ g.O.Output.taken g.O.Output.refused g.O.Output.left g.O.Output.refuses _ _ _ _ c.loop-position.invariant _ c.after.ensures _ _
+    (rw c.in_ok-position-2.was at c.write_front_segment.ensures.part) in
+    let run = WroteUpTo-maybe _ _ _ g.O.Output.taken g.O.Output.refused g.O.Output.left g.O.Output.refuses _ _ _ _ so_far _ c.after-in-loop-position.ensures _ _
+    (rw c.in_ok-position-3.was at c.write_run-in-loop-position.ensures.none) (rw c.in_ok-position-3.was at c.write_run-in-loop-position.ensures.part) in
+    let most = WroteUpTo-le _ _ _ g.O.Output.taken g.O.Output.refused g.O.Output.left g.O.Output.refuses _ _ _ _ run in
     omega (arith, c.len.ensures)
 
 pub loop-position-preserved : goal.loop-position-preserved
 loop-position-preserved g c =
-    WroteUpTo-more _ _ _ g.O.Output.taken g.O.Output.refused g.O.Output.left g.O.Output.refuses _ _ _ _ c.loop-position.invariant _ c.after.ensures _ _
-    (rw c.in_ok-position.was at c.write_part.ensures.part)
+    let so_far = WroteUpTo-more _ _ _ g.O.Output.taken g.O.Output.refused g.O.Output.left g.O.Output.refuses _ _ _ _ c.loop-position.invariant _ c.after.ensures _ _
+    (rw c.in_ok-position-2.was at c.write_front_segment.ensures.part) in
+    WroteUpTo-maybe _ _ _ g.O.Output.taken g.O.Output.refused g.O.Output.left g.O.Output.refuses _ _ _ _ so_far _ c.after-in-loop-position.ensures _ _
+    (rw c.in_ok-position-3.was at c.write_run-in-loop-position.ensures.none) (rw c.in_ok-position-3.was at c.write_run-in-loop-position.ensures.part)
+
+pub loop-position-smaller : goal.loop-position-smaller
+loop-position-smaller g c =
+    let some = (rw c.in_ok-position-2.was at c.write_front_segment.ensures.part).part.some in
+    omega arith
 
 pub returns-clause-text : goal.returns-clause-text
 returns-clause-text g c =
-    WritesText-parts _ _ _ g.O.Output.taken g.O.Output.refused g.O.Output.left g.O.Output.refuses _ _ _ _ c.loop-position.invariant (omega (arith, c.len.ensures))
+    WritesText-parts _ _ _ g.O.Output.taken g.O.Output.refused g.O.Output.left g.O.Output.refuses _ _ _ _ c.loop-position.invariant (omega (arith, c.len-in-loop-position.ensures))

@@ -1,21 +1,7 @@
 use Rattle.std.proofs.Common.{◌≡◌, rules, Err}
-use Rattle.normalizer_iterators.specs.declared.error.NormalizeError.TheVariants.{Sink}
-use Rattle.normalizer_calls.proofs.PartLemmas.{HasShortRuns-part, WritesText-run_refused, WritesText-segment_refused, WrotePart-run, WrotePart-segment, not_handed_on, some_part}
+use Rattle.normalizer_calls.proofs.PartLemmas.{HasShortRuns-part, WritesText-segment_refused, WrotePart-segment, not_handed_on, some_part}
 use Rattle.normalizer_calls.proofs.RunParts.{IsPart-segment}
-use Rattle.normalizer_calls.proofs.writing.write_part.Goals as goal
-
-pub returns-in_err-write_piece-clause-refused : goal.returns-in_err-write_piece-clause-refused
-returns-in_err-write_piece-clause-refused g c =
-    let run = c.passed_end-run.ensures.part c.if-run-gt0.true in
-    let is : c.from_residual.result ≡ Err Sink = search rules in
-    rw is
-    (WritesText-run_refused _ _ _ _ _ run.0 g.O.Output.taken g.O.Output.refused g.O.Output.left g.O.Output.refuses _ _ run.1 _ c.before-then-run-gt0.ensures _
-    (rw c.in_err-write_piece.was at c.write_piece.ensures))
-
-pub returns-then-run-gt0-clause-part : goal.returns-then-run-gt0-clause-part
-returns-then-run-gt0-clause-part g c =
-    let run = c.passed_end-run.ensures.part c.if-run-gt0.true in
-    WrotePart-run _ _ _ _ _ run.0 g.O.Output.taken g.O.Output.refused g.O.Output.left g.O.Output.refuses _ _ run.1 _ c.before-then-run-gt0.ensures (rw c.in_ok-write_piece.was at c.write_piece.ensures)
+use Rattle.normalizer_calls.proofs.writing.write_front_segment.Goals as goal
 
 pub write_segment-requires : goal.write_segment-requires
 write_segment-requires g c =
@@ -25,7 +11,7 @@ write_segment-requires g c =
 pub returns-in_err-write_segment-clause-refused : goal.returns-in_err-write_segment-clause-refused
 returns-in_err-write_segment-clause-refused g c =
     let part = IsPart-segment _ _ _ _ _ c.passed_characters_stand_apart.ensures.begins _ c.segment_end-end.ensures in
-    let is : c.from_residual-in_err-write_segment.result ≡ Err c.in_err-write_segment.field-0.0 = search rules in
+    let is : c.from_residual.result ≡ Err c.in_err-write_segment.field-0.0 = search rules in
     rw is
     (WritesText-segment_refused _ _ _ _ _ part g.O.Output.taken g.O.Output.refused g.O.Output.left g.O.Output.refuses _ _ _ c.before-2.ensures _
     (rw c.in_err-write_segment.was at c.write_segment.ensures.text))
@@ -33,7 +19,7 @@ returns-in_err-write_segment-clause-refused g c =
 pub returns-in_err-write_segment-clause-room : goal.returns-in_err-write_segment-clause-room
 returns-in_err-write_segment-clause-room g c = λ short.
     let part = IsPart-segment _ _ _ _ _ c.passed_characters_stand_apart.ensures.begins _ c.segment_end-end.ensures in
-    let is : c.from_residual-in_err-write_segment.result ≡ Err c.in_err-write_segment.field-0.0 = search rules in
+    let is : c.from_residual.result ≡ Err c.in_err-write_segment.field-0.0 = search rules in
     not_handed_on _ _ _ _ c.in_err-write_segment.was is (c.write_segment.ensures.room (HasShortRuns-part _ _ _ _ _ part _ _ c.before-2.ensures short))
 
 pub returns-clause-part : goal.returns-clause-part
