@@ -1,2 +1,4 @@
+pub mod CodePointLemmas
 pub mod FileLemmas
 pub mod MakingLemmas
+pub mod MismatchLemmas

@@ -1,5 +1,5 @@
 -- The forms that normalizers over built data make.
-use Rattle.std.proofs.Common.{◌≡◌, ℕ, List, [], refl}
+use Rattle.std.proofs.Common.{◌≡◌, List, refl}
 use Rattle.normal_forms.specs.Forms.{normal_form}
 use Rattle.normalizer_packing.specs.declared.Packed.{Packed}
 use Rattle.normalizer_packing.specs.declared.entry.Kind.TheVariants as kind

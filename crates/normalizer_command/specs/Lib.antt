@@ -2,6 +2,7 @@ pub mod Data
 pub mod Devices
 pub mod Faults
 pub mod Making
+pub mod Mismatches
 pub mod Outcomes
 pub mod Replies
 pub mod Reports

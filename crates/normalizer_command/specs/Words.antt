@@ -3,7 +3,7 @@ use Rattle.std.specs.Prelude.{◌≡◌, ℕ, List, codes}
 use Rattle.normalizer_built.specs.declared.NormalForm.{NormalForm}
 use Rattle.normalizer_built.specs.declared.NormalForm.TheVariants.{Nfd, Nfc, Nfkd, Nfkc}
 use Rattle.normalizer_command.specs.declared.reply.Task.{Task}
-use Rattle.normalizer_command.specs.declared.reply.Task.TheVariants.{Write, Check}
+use Rattle.normalizer_command.specs.declared.reply.Task.TheVariants.{Write, Check, Locate}
 
 -- the word of a form
 abbrev pub NamesForm : NormalForm → List ℕ → Type 0
@@ -16,3 +16,4 @@ NamesForm Nfkd word = word ≡ codes "nfkd"
 abbrev pub NamesTask : Task → List ℕ → Type 0
 NamesTask Write word = ⊥
 NamesTask Check word = word ≡ codes "check"
+NamesTask Locate word = word ≡ codes "where"

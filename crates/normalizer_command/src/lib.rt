@@ -5,6 +5,7 @@ mod data;
 pub mod fault;
 mod files;
 pub mod inputs;
+mod mismatch;
 mod normalizers;
 pub mod reply;
 pub mod run;

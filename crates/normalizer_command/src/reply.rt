@@ -1,10 +1,13 @@
 //! What is done with a file.
-ghost use Rattle.std.specs.Prelude.{◌≡◌, IfOk, IfErr, IsOkUnless, string_bytes};
+ghost use Rattle.std.specs.Prelude.{◌≡◌, ◌≤◌, IfOk, IfSome, IsOkUnless, length, string_bytes};
 ghost use Rattle.normalizer_command.specs.Making.{Making, Makes};
+ghost use Rattle.normalizer_command.specs.Mismatches.{TellsMismatch};
 ghost use Rattle.normalizer_command.specs.Replies.{IsReply, line_of};
 
 use crate::fault::Fault;
+use crate::mismatch::mismatch_line;
 use normalizer_built::Normalizer;
+use normalizer_calls::Offence;
 use normalizer_io::Answer;
 use std::alloc::{AllocError, Global};
 
@@ -15,6 +18,8 @@ pub enum Task {
     Write,
     /// Its name is written if it isn't in the form.
     Check,
+    /// Its first mismatch with its form is written.
+    Locate,
 }
 
 /// Whether the file is in the form, with the text that is written.
@@ -55,7 +60,33 @@ impl Task {
                     })
                 }
             }
+            Task::Locate => {
+                let mismatch = normalizer.first_offence(bytes)?;
+                Ok(located(alloc, name, bytes, mismatch)?)
+            }
         }
+    }
+}
+
+// No, with the line of the mismatch; yes, with nothing, if there is none.
+fn located(
+    alloc: Global,
+    name: &str,
+    bytes: &[u8],
+    mismatch: Option<Offence>,
+) -> Result<Reply, AllocError>
+    requires { IfSome mismatch (λ o. o.place ≤ length bytes.now) }
+    ensures { IfOk result (λ r. TellsMismatch name.now bytes.now mismatch r.answer (string_bytes r.output)) }
+{
+    match mismatch {
+        Some(mismatch) => Ok(Reply {
+            answer: Answer::No,
+            output: mismatch_line(alloc, name, bytes, mismatch)?,
+        }),
+        None => Ok(Reply {
+            answer: Answer::Done,
+            output: String::new(alloc),
+        }),
     }
 }
 

@@ -9,7 +9,18 @@ use clap::{Arg, ArgAction, ArgMatches, Command, Error};
 use normalizer_built::NormalForm;
 use std::alloc::{AllocError, Global};
 
-/// The message if `check` has no form.
+/// What the commands do.
+const WORD_HELP: &str =
+    "nfc, nfd, nfkc or nfkd: write that form. check FORM: print the names of files that aren't in \
+    the form. where FORM: print the first mismatch of each";
+
+/// What the output and the status say.
+const AFTER_HELP: &str =
+    "where prints FILE:LINE:BYTE: found U+0061, wanted U+00E4. Lines and bytes in a line count from 1; \
+    an ill-formed sequence is found as U+FFFD.\nStatus: 0; check and where: 1 if a file isn't in the form; \
+    2 if a file failed.";
+
+/// The message if a command that needs a form has none.
 const NO_FORM: &str = "a form is missing: nfc, nfd, nfkc or nfkd";
 
 /// What the words ask for.
@@ -82,6 +93,7 @@ fn task_named(word: &str) -> Option<Task>
 {
     match word {
         "check" => Some(Task::Check),
+        "where" => Some(Task::Locate),
         _ => None,
     }
 }
@@ -101,10 +113,8 @@ fn form_named(word: &str) -> Option<NormalForm>
 fn command<'a>(alloc: Global) -> Result<Command<'a>, AllocError> {
     let word = Arg::new(alloc, "command")
         .value_name("COMMAND")
-        .help(
-            "nfc, nfd, nfkc or nfkd: write that form. check FORM: print the names of files that aren't in the form",
-        )
-        .value_parser(["nfc", "nfd", "nfkc", "nfkd", "check"].as_slice())
+        .help(WORD_HELP)
+        .value_parser(["nfc", "nfd", "nfkc", "nfkd", "check", "where"].as_slice())
         .hide_possible_values(true);
     let files = Arg::new(alloc, "file")
         .value_name("FILE")
@@ -116,7 +126,7 @@ fn command<'a>(alloc: Global) -> Result<Command<'a>, AllocError> {
     );
     Command::new(alloc, "uninorm")
         .about("Writes the normal forms of text in UTF-8 (Unicode Standard Annex #15)")
-        .after_help("Status: 0; check: 1 if a file isn't in the form; 2 if a file failed.")
+        .after_help(AFTER_HELP)
         .version("1.0.0")
         .arg(word)?
         .arg(files)?

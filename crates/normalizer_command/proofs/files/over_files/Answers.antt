@@ -1,6 +1,5 @@
 use Rattle.std.proofs.Common.{◌≡◌, true, false, sym, ◌∙◌}
 use Rattle.normalizer_command.specs.Devices.{devices}
-use Rattle.normalizer_command.specs.Making.{Making, Makes}
 use Rattle.normalizer_command.specs.Outcomes.{IsDone, state}
 use Rattle.normalizer_command.proofs.FileLemmas.{goes_on, is_done, name_at, stops}
 use Rattle.normalizer_command.proofs.files.over_files.Goals as goal

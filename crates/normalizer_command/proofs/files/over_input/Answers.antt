@@ -1,4 +1,4 @@
-use Rattle.std.proofs.Common.{rules, ◌≡◌, string_bytes}
+use Rattle.std.proofs.Common.{rules, string_bytes}
 use Rattle.normalizer_io.specs.Transfer.{AppendsFront}
 use Rattle.normalizer_command.specs.Outcomes.{Replies}
 use Rattle.normalizer_command.proofs.files.over_input.Goals as goal
