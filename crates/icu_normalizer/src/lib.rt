@@ -19,7 +19,7 @@
 //!
 //! # Examples
 //! ```rust
-//! let data = Records::build(alloc, &[umlaut, diaeresis], &[]).ok()?;
+//! let data = Records::build(alloc, &records, &[]).ok()?;
 //! let normalizer = ComposingNormalizer::try_new_nfc_unstable(&data).ok()?;
 //! let mut form = String::new(alloc);
 //! normalizer.as_borrowed().normalize_to(text, &mut form).ok()?;

@@ -28,7 +28,7 @@ impl Records {
     ///
     /// # Examples
     /// ```rust
-    /// let data = Records::build(alloc, &[umlaut, diaeresis], &[]).ok()?;
+    /// let data = Records::build(alloc, &records, &[]).ok()?;
     /// let normalizer = ComposingNormalizer::try_new_nfc_unstable(&data).ok()?;
     /// ```
     #[tactic(auto, unfolding(crate::specs::Building::IsSmallest))]

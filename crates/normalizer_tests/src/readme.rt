@@ -1,33 +1,26 @@
 //! The example of the README, word for word.
-use icu_normalizer::{ComposingNormalizer, Record, Records};
+use icu_normalizer::{ComposingNormalizer, Records};
+use normalizer_ucd::records_of_unicode_data;
 use std::alloc::Global;
 
-/// A character with its combining class and its canonical mapping.
-fn record(alloc: Global, c: char, class: u8, mapping: &[char]) -> Option<Record> {
-    Some(Record {
-        c,
-        class,
-        mapping: mapping.to_vec(alloc).ok()?,
-        compatibility: false,
-        excluded: false,
-    })
-}
-
-fn composed(alloc: Global, text: &str) -> Option<String> {
-    let umlaut = record(alloc, '\u{E4}', 0, &['a', '\u{308}'])?;
-    let diaeresis = record(alloc, '\u{308}', 230, &[])?;
-    let data = Records::build(alloc, &[umlaut, diaeresis], &[]).ok()?;
+fn composed(alloc: Global, unicode_data: &[u8], exclusions: &[u8], text: &str) -> Option<String> {
+    let records = records_of_unicode_data(alloc, unicode_data, exclusions).ok()?;
+    let data = Records::build(alloc, &records, &[]).ok()?;
     let normalizer = ComposingNormalizer::try_new_nfc_unstable(&data).ok()?;
     let mut form = String::new(alloc);
     normalizer.as_borrowed().normalize_to(text, &mut form).ok()?;
     Some(form)
 }
 
+/// Two lines of `UnicodeData.txt`.
+const UNICODE_DATA: &str = "00E4;;;0;;0061 0308;;;;;;;;;\n0308;;;230;;;;;;;;;;;\n";
+
 fn is_composed(alloc: Global, text: &str, want: &str) -> bool {
-    composed(alloc, text).is_some_and(|form| form.as_str() == want)
+    composed(alloc, UNICODE_DATA.as_bytes(), "".as_bytes(), text).is_some_and(|form| form.as_str()
+        == want)
 }
 
 #[test]
-fn a_text_is_composed_by_records_of_its_own(rt: HostRuntime) {
+fn a_text_is_composed_by_lines_of_unicode_data(rt: HostRuntime) {
     assert!(rt; is_composed(rt.alloc(), "a\u{308}", "\u{E4}"));
 }
