@@ -1,33 +1,58 @@
-//! Entries that rise by character, looked up by halving.
-ghost use Rattle.std.specs.Prelude.{◌≡◌, [], ◌∷◌, option_copied};
+//! Entries that rise by character, looked up by their places, or by halving.
+ghost use Rattle.std.specs.Prelude.{◌≡◌, [], ◌∷◌, IfOk, map, option_copied};
 ghost use Rattle.normalizer_packing.specs.Entries.{AreRising, class_in, entry_of, list_in};
+ghost use Rattle.normalizer_tables.specs.Places.{ArePlaces};
 
 use crate::entry::{Entry, Kind};
+use normalizer_tables::CodePointTable;
+use normalizer_tables::places::{place_in, places_of};
+use std::alloc::{AllocError, Global};
 use std::marker::Model;
 
 /// Entries of different characters, in their order.
 #[derive(Drop)]
 pub struct Entries<'a> {
     entries: &'a [Entry],
+    /// The place of each entry by its character.
+    places: Option<CodePointTable>,
 }
 
 impl<'a> Model for Entries<'a> {
-    ghost use Rattle.std.specs.Prelude.{List};
+    ghost use Rattle.std.specs.Prelude.{List, IfSome, map};
     ghost use Rattle.normalizer_packing.specs.Entries.{CharacterEntry, AreRising};
+    ghost use Rattle.normalizer_tables.specs.Places.{ArePlaces};
 
     ghost Value = { List CharacterEntry };
 
     ghost view = { λ e. e.entries.now };
 
-    ghost invariant = { λ e. AreRising e.entries.now };
+    ghost invariant = { λ e.
+        AreRising e.entries.now × IfSome e.places (ArePlaces (map (λ f. f.character) e.entries.now)) };
 }
 
 impl<'a> Entries<'a> {
+    /// Entries that are looked up by halving.
     pub fn new(entries: &'a [Entry]) -> Self
         requires { AreRising entries.now }
         ensures { result ≡ entries.now }
     {
-        Entries { entries }
+        Entries {
+            entries,
+            places: None,
+        }
+    }
+
+    /// Entries that are looked up by their places.
+    pub fn with_places(alloc: Global, entries: &'a [Entry]) -> Result<Self, AllocError>
+        requires { AreRising entries.now }
+        ensures { IfOk result (λ e. e ≡ entries.now) }
+    {
+        let characters = characters_of(alloc, entries)?;
+        let places = places_of(alloc, &characters)?;
+        Ok(Entries {
+            entries,
+            places: Some(places),
+        })
     }
 
     pub fn as_slice(&self) -> &'a [Entry]
@@ -40,12 +65,9 @@ impl<'a> Entries<'a> {
     pub fn entry_of(&self, character: char) -> Option<&'a Entry>
         ensures { option_copied result ≡ entry_of self.now character }
     {
-        let at = self
-            .entries
-            .partition_point(|entry| entry.character < character);
-        match self.entries.get(at) {
-            Some(entry) if entry.character == character => Some(entry),
-            _ => None,
+        match &self.places {
+            Some(places) => entry_by_place(self.entries, places, character),
+            None => entry_by_halving(self.entries, character),
         }
     }
 
@@ -71,5 +93,43 @@ impl<'a> Entries<'a> {
     {
         self.entry_of(character)
             .map_or(Some(alone), |entry| entry.list(kind))
+    }
+}
+
+/// The characters of entries.
+pub fn characters_of(alloc: Global, entries: &[Entry]) -> Result<Vec<char>, AllocError>
+    ensures { IfOk result (λ v. v.items ≡ map (λ e. e.character) entries.now) }
+{
+    // (`collect` would try again after a refused growth)
+    let mut characters = Vec::with_capacity(alloc, entries.len())?;
+    for entry in entries {
+        characters.push(entry.character)?;
+    }
+    Ok(characters)
+}
+
+/// The entry of a character, if it has one, by the places of all.
+fn entry_by_place<'a>(
+    entries: &'a [Entry],
+    places: &CodePointTable,
+    character: char,
+) -> Option<&'a Entry>
+    requires { ArePlaces (map (λ e. e.character) entries.now) places.now }
+    ensures { option_copied result ≡ entry_of entries.now character }
+{
+    match place_in(places, character) {
+        Some(place) => Some(&entries[place]),
+        None => None,
+    }
+}
+
+fn entry_by_halving(entries: &[Entry], character: char) -> Option<&Entry>
+    requires { AreRising entries.now }
+    ensures { option_copied result ≡ entry_of entries.now character }
+{
+    let at = entries.partition_point(|entry| entry.character < character);
+    match entries.get(at) {
+        Some(entry) if entry.character == character => Some(entry),
+        _ => None,
     }
 }

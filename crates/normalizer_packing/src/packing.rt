@@ -37,7 +37,21 @@ pub fn pack(
     ensures packed { IfOk result (Packs entries.now pairs.items) }
     ensures full { IsErrOf result PackError.TableFull → item_limit < needed_items entries.now }
 {
-    let entries = Entries::new(entries);
+    match Entries::with_places(alloc, entries) {
+        Ok(entries) => pack_entries(alloc, entries, pairs),
+        Err(_) => Err(PackError::Memory),
+    }
+}
+
+fn pack_entries(
+    alloc: Global,
+    entries: Entries<'_>,
+    pairs: Vec<(char, char, char)>,
+) -> Result<Packed, PackError>
+    requires { ArePackable entries }
+    ensures packed { IfOk result (Packs entries.entry pairs.items) }
+    ensures full { IsErrOf result PackError.TableFull → item_limit < needed_items entries.entry }
+{
     let stores = stores_of(alloc, &entries)?;
     packed_with(alloc, entries, pairs, stores).map_err(|_| PackError::Memory)
 }

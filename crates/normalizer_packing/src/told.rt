@@ -2,6 +2,7 @@
 ghost use Rattle.std.specs.Prelude.{◌≡◌, IfOk, map};
 ghost use Rattle.normalizer_packing.specs.inner.Stretches.{ListsTold, told_numbers};
 
+use crate::entries::characters_of;
 use crate::entry::Entry;
 use std::alloc::{AllocError, Global};
 
@@ -35,11 +36,7 @@ fn unsorted_characters(
 ) -> Result<Vec<char>, AllocError>
     ensures { IfOk result (λ v. v.items ≡ told_numbers entries.now pairs.now) }
 {
-    // (`collect` would try again after a refused growth)
-    let mut told = Vec::new(alloc);
-    for entry in entries {
-        told.push(entry.character)?;
-    }
+    let mut told = characters_of(alloc, entries)?;
     for pair in pairs {
         told.push(pair.0)?;
     }

@@ -20,6 +20,7 @@ pub mod OrderedLists
 pub mod PairConditionLemmas
 pub mod PairLaws
 pub mod PairLemmas
+pub mod PlaceTables
 pub mod PlainCharacters
 pub mod RangeLists
 pub mod ReadLemmas

@@ -11,6 +11,7 @@ pub mod Loaded
 pub mod NfdData
 pub mod PairConditions
 pub mod Pairs
+pub mod Places
 pub mod Ranges
 pub mod Readings
 pub mod Refusals

@@ -13,6 +13,7 @@ pub mod members;
 pub mod nfd_check;
 pub mod pair_check;
 mod pairs;
+pub mod places;
 mod provider;
 mod read;
 pub mod refusal;

@@ -1,0 +1,18 @@
+-- The places of characters in a list, by a table.
+use Rattle.std.specs.Prelude.{◌≡◌, ℕ, ◌<◌, ◌+◌, ◌-◌, ◌==◌, List, length, nat_lt, Option, Some, None, if◌then◌else◌}
+use Rattle.std.specs.List.{position_or_len}
+use Rattle.normalizer_tables.specs.Table.{Table, word_at, code_points}
+
+-- the place of a character in a list, counted from 1; 0 if it isn't there
+unfoldable pub place_word : List ℕ → ℕ → ℕ
+place_word characters n =
+    let place = position_or_len (λ c. c == n) characters in
+    if nat_lt place (length characters) then place + 1 else 0
+
+-- the table has the place of each character
+unfoldable pub ArePlaces : List ℕ → Table → Type 0
+ArePlaces characters t = (n : ℕ) → n < code_points → word_at t n ≡ place_word characters n
+
+-- the place that such a table has for a character, counted from 0
+unfoldable pub place_in : Table → ℕ → Option ℕ
+place_in t n = if word_at t n == 0 then None else Some (word_at t n - 1)
