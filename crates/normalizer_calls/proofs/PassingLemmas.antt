@@ -1,4 +1,4 @@
--- Characters that are handed on as they are, and runs of them.
+-- Characters that are passed on as they are, and runs of them.
 use Rattle.std.proofs.Common.{◌≡◌, ℕ, ◌<◌, inl, inr, Bool, true, false, List, [], ◌∷◌, ◌++◌, refl, sym, ap, subst, ◌∙◌, append_assoc, append-nil, arith}
 use Rattle.std.specs.Char.{IsScalar}
 use Rattle.std.specs.Prelude.{All, nat_lt, ◌||◌, ◌&&◌, ◌≤◌, not, Option, Some, None, if◌then◌else◌}

@@ -17,14 +17,14 @@ abbrev pub Divides : Reading → Form → List ℕ → List ℕ → Type 0
 Divides d form front rest = (read unread : List ℕ) → rest ≡ read ++ unread
     → normal_form d form (front ++ read) ≡ normal_form d form front ++ normal_form d form read
 
--- c may be handed on as it is: it is its own form, and a text that begins with it is normalized apart from what stands
--- before. What stands behind it is so too, unless it is held back.
+-- c may be passed on as it is: it is already normalized, and a text that begins with it is normalized apart from what
+-- comes before. What comes after it is so too, unless it is held back.
 pub record MayPass (d : Reading) (form : Form) (held_back : Bool) (c : ℕ) : Type 0 where
   pub own : IsNormalized d form (c ∷ [])
   pub begins : BeginsApart d form c
   pub ends : held_back ≡ false → (x : List ℕ) → normal_form d form (c ∷ x) ≡ c ∷ normal_form d form x
 
--- c, a mark of class k, may be handed on as it is after a mark of a class up to k, and after a starter: text is
+-- c, a mark of class k, may be passed on as it is after a mark of a class up to k, and after a starter: text is
 -- decomposed, and c reads as itself
 pub record MayFollow (d : Reading) (form : Form) (held_back : Bool) (c k : ℕ) : Type 0 where
   pub free : held_back ≡ false
