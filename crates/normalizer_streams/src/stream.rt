@@ -71,7 +71,8 @@ pub fn write_form<R: Source, W: Target>(
         (R.left reader.old) (W.taken writer.old) (W.taken writer.new)) }
     ensures errors { IfErr result (λ fault. fault ≢ ToolFault.Data) }
     ensures read { IsErrOf result ToolFault.Read → R.refused reader.old reader.new ⊎ IsEndless (R.left reader.old) }
-    ensures so_far { IsErrOf result ToolFault.Read → IsWrittenToRun (form_by normalizer.now) (may_continue normalizer.now)
+    ensures so_far { IsErrOf result ToolFault.Read →
+        IsWrittenToRun (form_by normalizer.now) (may_continue normalizer.now)
         (R.left reader.old) (R.left reader.new) (W.taken writer.old) (W.taken writer.new) }
     ensures write { IsErrOf result ToolFault.Write → W.refused writer.old writer.new }
 {
@@ -95,7 +96,8 @@ fn write_blocks<R: Source, W: Target>(
         (R.left reader.old) (W.taken writer.old) (W.taken writer.new)) }
     ensures errors { IfErr result (λ fault. fault ≢ ToolFault.Data) }
     ensures read { IsErrOf result ToolFault.Read → R.refused reader.old reader.new ⊎ IsEndless (R.left reader.old) }
-    ensures so_far { IsErrOf result ToolFault.Read → IsWrittenToRun (form_by normalizer.now) (may_continue normalizer.now)
+    ensures so_far { IsErrOf result ToolFault.Read →
+        IsWrittenToRun (form_by normalizer.now) (may_continue normalizer.now)
         (R.left reader.old) (R.left reader.new) (W.taken writer.old) (W.taken writer.new) }
     ensures write { IsErrOf result ToolFault.Write → W.refused writer.old writer.new }
 {
@@ -118,7 +120,8 @@ fn carry_block<R: Source>(
     carried: &mut Vec<u8>,
 ) -> Result<bool, ToolFault>
     requires { 0 < length block.old }
-    ensures carries { IfOk result (Carries (R.left reader.old) (R.left reader.new) carried.old.items carried.new.items) }
+    ensures carries { IfOk result
+        (Carries (R.left reader.old) (R.left reader.new) carried.old.items carried.new.items) }
     ensures errors { IfErr result (λ fault. (fault ≡ ToolFault.Read) ⊎ (fault ≡ ToolFault.Memory)) }
     ensures read { IsErrOf result ToolFault.Read → R.refused reader.old reader.new }
     ensures unread { IsErrOf result ToolFault.Read → Keeps (R.left reader.old) (R.left reader.new) }
