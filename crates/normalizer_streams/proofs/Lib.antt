@@ -1,2 +1,3 @@
 pub mod MoveLemmas
+pub mod RunLemmas
 pub mod SettledLemmas

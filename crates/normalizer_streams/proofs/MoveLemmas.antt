@@ -1,10 +1,10 @@
 -- Moves, one after another, and where they end.
 use Rattle.std.proofs.Common.{◌≡◌, ℕ, ◌+◌, ◌≤◌, Bool, List, [], ◌++◌, None, Some, Option, IfSome, Result, Ok, Err, OnOk, OnErr, true, refl, sym, ap, subst, ◌∙◌, append_assoc, append-nil, length, length-append, take, drop, arith, take-append-drop}
 use Rattle.std.proofs.Math.Seq.{take-append_seam, take-append-add}
-use Rattle.std.specs.Io.KnownBytes.{Appends, Consumes, IsAtEnd}
-use Rattle.std.proofs.KnownBytes.{Appends-nil, Appends-trans, Consumes-nil, Consumes-trans}
+use Rattle.std.specs.Io.KnownBytes.{Appends, Consumes, IsAtEnd, Keeps}
+use Rattle.std.proofs.KnownBytes.{Appends-nil, Appends-trans, Consumes-kept, Consumes-nil, Consumes-trans}
 use Rattle.normalizer_io.specs.Transfer.{AppendsFront}
-use Rattle.normalizer_streams.specs.Streams.{IsFormCutOff, IsFormWritten}
+use Rattle.normalizer_streams.specs.Streams.{IsFormCutOff, IsFormWritten, IsRun, IsWrittenToRun}
 use Rattle.normalizer_streams.specs.inner.Moves.{Carries, IsCut, IsCutAnyway, IsSettled, Moves}
 
 -- what follows of either result
@@ -50,7 +50,7 @@ nothing_left (Some xs) h = sym h
 
 module _ (form : List ℕ → List ℕ) where
   pub Moves-none : (l t : Option (List ℕ)) (c : List ℕ) → Moves form l l t t c c
-  Moves-none l t c = record { read = []; written = []; consumed = Consumes-nil l; appended = Appends-nil t; leaves = λ next. refl }
+  Moves-none l t c = record { read = []; written = []; consumed = Consumes-nil l; appended = Appends-nil t; leaves = λ next. refl; passed = []; kept = append-nil c }
 
   pub Moves-trans : (l m n t u v : Option (List ℕ)) (c d e : List ℕ) → Moves form l m t u c d → Moves form m n u v d e → Moves form l n t v c e
   Moves-trans l m n t u v c d e p q = record {
@@ -60,6 +60,9 @@ module _ (form : List ℕ → List ℕ) where
     appended = Appends-trans _ _ _ _ _ p.appended q.appended;
     leaves = λ next. ap (λ x. form (c ++ x)) (append_assoc p.read q.read next) ∙ p.leaves (q.read ++ next)
         ∙ ap (λ x. p.written ++ x) (q.leaves next) ∙ sym (append_assoc p.written q.written (form (e ++ next)));
+    passed = p.passed ++ q.passed;
+    kept = sym (append_assoc c p.read q.read) ∙ ap (λ x. x ++ q.read) p.kept ∙ append_assoc p.passed d q.read
+        ∙ ap (λ x. p.passed ++ x) q.kept ∙ sym (append_assoc p.passed q.passed e);
   }
 
   -- bytes that are read are carried
@@ -70,6 +73,8 @@ module _ (form : List ℕ → List ℕ) where
     consumed = p;
     appended = Appends-nil t;
     leaves = λ next. ap form (sym (append_assoc c more next) ∙ ap (λ x. x ++ next) (sym e));
+    passed = [];
+    kept = sym e;
   }
 
   -- a block is read, and what is settled is written
@@ -88,6 +93,8 @@ module _ (form : List ℕ → List ℕ) where
     consumed = Consumes-nil l;
     appended = p;
     leaves = λ next. s.apart next ∙ ap (λ x. form (take place c) ++ form (x ++ next)) (sym e);
+    passed = take place c;
+    kept = append-nil c ∙ sym (take-append-drop place c) ∙ ap (λ x. take place c ++ x) (sym e);
   }
 
   pub IsCutAnyway-settled : (t u : Option (List ℕ)) (c : List ℕ) (place : ℕ) → IsSettled form c place → AppendsFront t u (form (take place c)) → IsCutAnyway form t u c
@@ -127,3 +134,17 @@ module _ (form : List ℕ → List ℕ) where
   -- nothing was read or written
   pub IsFormCutOff-none : (l t : Option (List ℕ)) → IsFormCutOff form l t t
   IsFormCutOff-none l t = IsFormCutOff-moved l l t t t [] (Moves-none l t []) (IsCut-anyway l t t [] (IsCutAnyway-none t []))
+
+  -- a read is refused
+  pub IsWrittenToRun-refused : (continues : ℕ → Bool) (l m n t u : Option (List ℕ)) (c : List ℕ) → Moves form l m t u [] c → IsRun continues c → Keeps m n → IsWrittenToRun form continues l n t u
+  IsWrittenToRun-refused continues l m n t u c p r k = record {
+    read = p.read;
+    consumed = Consumes-kept l m n p.read p.consumed k;
+    written = p.written;
+    output = p.appended;
+    passed = p.passed;
+    run = c;
+    parts = p.kept;
+    single = r;
+    apart = p.leaves;
+  }

@@ -1,8 +1,8 @@
 //! Places at which the form of bytes may be divided, whatever comes after them.
-ghost use Rattle.std.specs.Prelude.{◌≡◌, ◌<◌, true, length, IfSome};
+ghost use Rattle.std.specs.Prelude.{◌≡◌, ℕ, ◌<◌, ◌≤◌, true, false, length, IfNone, IfSome};
 ghost use Rattle.normalizer_calls.specs.BeginsApart.{BeginsApart};
 ghost use Rattle.normalizer_built.specs.Normalizers.{kind_by, reading_of};
-ghost use Rattle.normalizer_streams.specs.Streams.{form_by};
+ghost use Rattle.normalizer_streams.specs.Streams.{form_by, may_continue, IsDivision};
 ghost use Rattle.normalizer_streams.specs.inner.Moves.{IsSettled};
 
 use normalizer_built::Normalizer;
@@ -10,7 +10,11 @@ use normalizer_text::Units;
 
 /// Returns the last settled place after the first `from` bytes, if there is one.
 pub(crate) fn last_settled(normalizer: &Normalizer, bytes: &[u8], from: usize) -> Option<usize>
-    ensures { IfSome result (IsSettled (form_by normalizer.now) bytes.now) }
+    ensures settled { IfSome result (IsSettled (form_by normalizer.now) bytes.now) }
+    ensures none { IfNone result ((place : ℕ) → from ≤ place →
+        IsDivision (may_continue normalizer.now) bytes.now place → ⊥) }
+    ensures last { IfSome result (λ last. (place : ℕ) → last < place →
+        IsDivision (may_continue normalizer.now) bytes.now place → ⊥) }
 {
     let mut place = bytes.len();
     while place > from {
@@ -25,7 +29,8 @@ pub(crate) fn last_settled(normalizer: &Normalizer, bytes: &[u8], from: usize) -
 // Whether a whole character is at the place, with a boundary before it.
 fn is_settled(normalizer: &Normalizer, bytes: &[u8], place: usize) -> bool
     requires { place < length bytes.now }
-    ensures { result ≡ true → IsSettled (form_by normalizer.now) bytes.now place }
+    ensures settled { result ≡ true → IsSettled (form_by normalizer.now) bytes.now place }
+    ensures missed { result ≡ false → IsDivision (may_continue normalizer.now) bytes.now place → ⊥ }
 {
     let step = bytes.step_at(place);
     !step.is_error && has_boundary_before(normalizer, step.character)
@@ -33,7 +38,8 @@ fn is_settled(normalizer: &Normalizer, bytes: &[u8], place: usize) -> bool
 
 // Whether a text may be divided before the character.
 fn has_boundary_before(normalizer: &Normalizer, character: char) -> bool
-    ensures { result ≡ true → BeginsApart (reading_of normalizer.now) (kind_by normalizer.now) character }
+    ensures apart { result ≡ true → BeginsApart (reading_of normalizer.now) (kind_by normalizer.now) character }
+    ensures continues { result ≡ false → may_continue normalizer.now character ≡ true }
 {
     match normalizer {
         Normalizer::Decomposing(n) => n.as_borrowed().has_boundary_before(character),

@@ -1,6 +1,7 @@
 //! A source read block by block, and the form of all its bytes.
 ghost use Rattle.std.specs.Prelude.{
   ◌≡◌,
+  ◌≢◌,
   ◌⊎◌,
   ◌<◌,
   ◌≤◌,
@@ -13,6 +14,7 @@ ghost use Rattle.std.specs.Prelude.{
   [],
   drop,
   length,
+  take,
   vec_len,
   IfErr,
   IfOk,
@@ -20,9 +22,17 @@ ghost use Rattle.std.specs.Prelude.{
   OnErr,
   OnOk,
 };
-ghost use Rattle.std.specs.Io.KnownBytes.{Appends, Consumes, IsAtEnd};
+ghost use Rattle.std.specs.Io.KnownBytes.{Appends, IsAtEnd, Keeps};
 ghost use Rattle.normalizer_io.specs.Transfer.{AppendsFront};
-ghost use Rattle.normalizer_streams.specs.Streams.{form_by, IsEndless, IsFormCutOff, IsFormWritten};
+ghost use Rattle.normalizer_streams.specs.Streams.{
+  form_by,
+  may_continue,
+  IsEndless,
+  IsFormCutOff,
+  IsFormWritten,
+  IsRun,
+  IsWrittenToRun,
+};
 ghost use Rattle.normalizer_streams.specs.inner.Moves.{Carries, IsCutAnyway, Moves};
 
 use crate::settled::last_settled;
@@ -45,7 +55,8 @@ const LONGEST_SEQUENCE: usize = 4;
 /// - `Write` if a write was refused.
 /// - `Memory` if an allocation was refused.
 ///
-/// After each, a beginning of the form was written, and nothing more is read or written.
+/// After each, a beginning of the form was written, and nothing more is read or written. After `Read` that is the form
+/// of all that was read but the last run of characters that may continue one another.
 pub fn write_form<R: Source, W: Target>(
     alloc: Global,
     normalizer: &Normalizer,
@@ -58,6 +69,9 @@ pub fn write_form<R: Source, W: Target>(
     ensures front { OnErr result (IsFormCutOff (form_by normalizer.now)
         (R.left reader.old) (W.taken writer.old) (W.taken writer.new)) }
     ensures read { IsErrOf result TransferError.Read → R.refused reader.old reader.new ⊎ IsEndless (R.left reader.old) }
+    ensures so_far { IsErrOf result TransferError.Read →
+        IsWrittenToRun (form_by normalizer.now) (may_continue normalizer.now)
+        (R.left reader.old) (R.left reader.new) (W.taken writer.old) (W.taken writer.new) }
     ensures write { IsErrOf result TransferError.Write → W.refused writer.old writer.new }
 {
     let mut block = vec![in alloc; 0u8; BLOCK]?;
@@ -79,6 +93,9 @@ fn write_blocks<R: Source, W: Target>(
     ensures front { OnErr result (IsFormCutOff (form_by normalizer.now)
         (R.left reader.old) (W.taken writer.old) (W.taken writer.new)) }
     ensures read { IsErrOf result TransferError.Read → R.refused reader.old reader.new ⊎ IsEndless (R.left reader.old) }
+    ensures so_far { IsErrOf result TransferError.Read →
+        IsWrittenToRun (form_by normalizer.now) (may_continue normalizer.now)
+        (R.left reader.old) (R.left reader.new) (W.taken writer.old) (W.taken writer.new) }
     ensures write { IsErrOf result TransferError.Write → W.refused writer.old writer.new }
 {
     let mut carried = Vec::new(alloc);
@@ -100,9 +117,11 @@ fn carry_block<R: Source>(
     carried: &mut Vec<u8>,
 ) -> Result<bool, TransferError>
     requires { 0 < length block.old }
-    ensures carries { IfOk result (Carries (R.left reader.old) (R.left reader.new) carried.old.items carried.new.items) }
+    ensures carries { IfOk result
+        (Carries (R.left reader.old) (R.left reader.new) carried.old.items carried.new.items) }
     ensures errors { IfErr result (λ error. (error ≡ TransferError.Read) ⊎ (error ≡ TransferError.Memory)) }
     ensures read { IsErrOf result TransferError.Read → R.refused reader.old reader.new }
+    ensures unread { IsErrOf result TransferError.Read → Keeps (R.left reader.old) (R.left reader.new) }
     ensures ahead { OnOk result ((later : R) → R.refused reader.new later → R.refused reader.old later) }
     ensures block { length block.new ≡ length block.old }
 {
@@ -124,6 +143,8 @@ fn write_settled<W: Target>(
 ) -> Result<(), TransferError>
     ensures moved { (left : Option (List ℕ)) → OnOk result (Moves (form_by normalizer.now)
         left left (W.taken writer.old) (W.taken writer.new) carried.old.items carried.new.items) }
+    ensures run { IsRun (may_continue normalizer.now) (take searched carried.old.items) →
+        OnOk result (IsRun (may_continue normalizer.now) carried.new.items) }
     ensures front { OnErr result
         (IsCutAnyway (form_by normalizer.now) (W.taken writer.old) (W.taken writer.new) carried.old.items) }
     ensures errors { IfErr result (λ error. (error ≡ TransferError.Write) ⊎ (error ≡ TransferError.Memory)) }

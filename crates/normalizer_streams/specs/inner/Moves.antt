@@ -17,6 +17,8 @@ pub record Moves (form : List ℕ → List ℕ) (left left' taken taken' : Optio
   pub consumed : Consumes left left' read
   pub appended : Appends taken taken' written
   pub leaves : (next : List ℕ) → form (carried ++ (read ++ next)) ≡ written ++ form (carried' ++ next)
+  pub passed : List ℕ
+  pub kept : carried ++ read ≡ passed ++ carried'
 
 -- more bytes were read from a source, and are carried after the others: some, or none at its end
 pub record Carries (left left' : Option (List ℕ)) (carried carried' : List ℕ) (is_some : Bool) : Type 0 where

@@ -6,10 +6,10 @@ use Rattle.normalizer_calls.specs.BeginsApart.{BeginsApart}
 use Rattle.normalizer_streams.proofs.SettledLemmas.{IsSettled-character}
 use Rattle.normalizer_streams.proofs.settled.is_settled.Goals as goal
 
-pub returns-then-not-step : goal.returns-then-not-step
-returns-then-not-step c = λ yes.
+pub returns-then-not-step-clause-settled : goal.returns-then-not-step-clause-settled
+returns-then-not-step-clause-settled c = λ yes.
     let d = reading_of c.args.normalizer.now in
     let form = kind_by c.args.normalizer.now in
     IsSettled-character Encoding.Utf8 d form c.args.bytes.now c.args.place c.requires
     (sym (ap (λ s. s.is_error) c.step_at-step.ensures) ∙ not-true _ c.if-not-step.true)
-    (subst (λ s. BeginsApart d form s.character) c.step_at-step.ensures (c.has_boundary_before.ensures yes))
+    (subst (λ s. BeginsApart d form s.character) c.step_at-step.ensures (c.has_boundary_before.ensures.apart yes))

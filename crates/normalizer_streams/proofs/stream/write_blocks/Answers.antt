@@ -1,6 +1,8 @@
-use Rattle.std.proofs.Common.{arith, inr, ◌^◌, ◌-◌}
-use Rattle.normalizer_streams.specs.Streams.{form_by}
-use Rattle.normalizer_streams.proofs.MoveLemmas.{IsCut-anyway, IsCut-end, IsCutAnyway-none, IsFormCutOff-moved, IsFormWritten-end, Moves-block, Moves-read, Moves-trans, OnErr-after, OnErr-always, OnOk-after, read_is_within}
+use Rattle.std.proofs.Common.{◌≡◌, length, rules, arith, inr, ◌^◌, ◌-◌}
+use Rattle.std.proofs.KnownBytes.{Keeps-refl}
+use Rattle.std.proofs.Math.Seq.{take-append_seam}
+use Rattle.normalizer_streams.specs.Streams.{form_by, may_continue}
+use Rattle.normalizer_streams.proofs.MoveLemmas.{IsCut-anyway, IsCut-end, IsCutAnyway-none, IsFormCutOff-moved, IsFormWritten-end, IsWrittenToRun-refused, Moves-block, Moves-read, Moves-trans, OnErr-after, OnErr-always, OnOk-after, read_is_within}
 use Rattle.normalizer_streams.proofs.stream.write_blocks.Goals as goal
 
 pub returns-in_err-carry_block-clause-front : goal.returns-in_err-carry_block-clause-front
@@ -35,10 +37,12 @@ pub loop-preserved : goal.loop-preserved
 loop-preserved g c =
     let form = form_by c.args.normalizer.now in
     let block = c.in_ok-carry_block.ensures.carries in
+    let size : c.len-searched.result ≡ length c.loop.carried.items = search rules in
     let next = Moves-block form _ _ _ _ _ _ _ _ _ _ c.loop.counter c.loop.invariant.moves c.loop.invariant.counted block c.if-not-branch.false (c.in_ok-write_settled.ensures.moved _) in
     record {
       moves = next.0;
       counted = next.1;
+      run = c.in_ok-write_settled.ensures.run (rw (block.appended, size, take-append_seam c.loop.carried.items block.more) c.loop.invariant.run);
       room = omega arith;
       read = λ later h. c.loop.invariant.read later (c.in_ok-carry_block.ensures.ahead later h);
       write = λ later h. c.loop.invariant.write later (c.in_ok-write_settled.ensures.ahead later h);
@@ -51,3 +55,12 @@ returns-clause-front g c =
 
 pub returns-clause-read : goal.returns-clause-read
 returns-clause-read g c = λ _. inr (read_is_within _ _ c.loop.invariant.moves.read (2 ^ 64 - 1) c.loop.invariant.moves.consumed (omega arith))
+
+pub returns-in_err-carry_block-clause-so_far : goal.returns-in_err-carry_block-clause-so_far
+returns-in_err-carry_block-clause-so_far g c = λ refused.
+    IsWrittenToRun-refused (form_by c.args.normalizer.now) (may_continue c.args.normalizer.now) _ _ _ _ _ _ c.loop.invariant.moves c.loop.invariant.run
+    (c.in_err-carry_block.ensures.unread (search rules))
+
+pub returns-clause-so_far : goal.returns-clause-so_far
+returns-clause-so_far g c = λ _.
+    IsWrittenToRun-refused (form_by c.args.normalizer.now) (may_continue c.args.normalizer.now) _ _ _ _ _ _ c.loop.invariant.moves c.loop.invariant.run (Keeps-refl _)

@@ -1,5 +1,5 @@
 use Rattle.std.proofs.Common.{◌<◌, ◌≤◌, length, []}
-use Rattle.normalizer_streams.specs.Streams.{form_by}
+use Rattle.normalizer_streams.specs.Streams.{form_by, may_continue, IsRun}
 use Rattle.normalizer_streams.specs.inner.Moves.{Moves}
 use Rattle.normalizer_streams.proofs.stream.write_blocks.Given as goal
 
@@ -9,6 +9,7 @@ invariant-loop g l = record {
   moves : Moves (form_by l.normalizer) (g.R.Source.left l.fn.reader) (g.R.Source.left l.reader)
       (g.W.Target.taken l.fn.writer) (g.W.Target.taken l.writer) [] l.carried.items;
   counted : l.counter ≤ length moves.read;
+  run : IsRun (may_continue l.normalizer) l.carried.items;
   room : 0 < length l.block;
   read : (later : _) → g.R.Source.refused l.reader later → g.R.Source.refused l.fn.reader later;
   write : (later : _) → g.W.Target.refused l.writer later → g.W.Target.refused l.fn.writer later;
