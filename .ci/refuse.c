@@ -1,7 +1,7 @@
-/* Loaded before the C library, it refuses one call of a program: REFUSE_GROWTH=n the n-th growth of memory by any allocation
-   function of the C library, REFUSE_READ=n the n-th read of standard input, REFUSE_WRITE=n the n-th write to standard output,
-   SHORT=1 makes every such read and write move one byte at most. With COUNT_TO=FILE the numbers of growths, reads, writes and
-   refusals are written there at the end. */
+/* Loaded before the C library, it refuses one call of a program: REFUSE_GROWTH=n the n-th growth of memory by any
+   allocation function of the C library, REFUSE_READ=n the n-th read of standard input, REFUSE_WRITE=n the n-th write to
+   standard output. SHORT=1 makes every such read and write move one byte at most. With COUNT_TO=FILE the numbers of
+   growths, reads, writes and refusals are written there at the end. */
 #define _GNU_SOURCE
 #include <dlfcn.h>
 #include <errno.h>
