@@ -7,4 +7,5 @@ pub mod Outcomes
 pub mod Replies
 pub mod Reports
 pub mod Runs
+pub mod Versions
 pub mod Words

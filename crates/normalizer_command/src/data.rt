@@ -53,8 +53,8 @@ pub(crate) fn read_files<I: Inputs>(
     Ok((unicode_data, exclusions))
 }
 
-// The bytes of a file of a directory.
-fn read_file<I: Inputs>(
+/// The bytes of a file of a directory.
+pub(crate) fn read_file<I: Inputs>(
     alloc: Global,
     inputs: &I,
     directory: &str,

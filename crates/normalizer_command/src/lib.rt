@@ -9,4 +9,5 @@ mod mismatch;
 mod normalizers;
 pub mod reply;
 pub mod run;
+pub mod version;
 pub mod words;

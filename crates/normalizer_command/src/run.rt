@@ -105,8 +105,8 @@ fn over_data<I: Inputs, W: Target, R: Reports>(
     Ok(over_files(alloc, &normalizer, task, inputs, names, writer, reports))
 }
 
-// Reports which of Unicode's files failed, and why. (Its directory is named if there is no memory for its path.)
-fn tell<R: Reports>(alloc: Global, directory: &str, error: DataFault, reports: &mut R)
+/// Reports which of Unicode's files failed, and why. (Its directory is named if there is no memory for its path.)
+pub(crate) fn tell<R: Reports>(alloc: Global, directory: &str, error: DataFault, reports: &mut R)
     ensures { (name : List ℕ) × ((name ≡ path_of directory.now error.file) ⊎ (name ≡ directory.now))
         × Tells (R.told reports.old) (R.told reports.new) (name, error.fault) }
 {

@@ -28,6 +28,8 @@ const NO_FORM: &str = "a form is missing: nfc, nfd, nfkc or nfkd";
 pub enum Request<'a> {
     /// A task over files.
     Files(FileRequest<'a>),
+    /// The versions of the program and of the data in the directory, if one is named.
+    Version(Option<&'a str>),
     /// Nothing, for this reason.
     Unclear(&'static str),
 }
@@ -54,6 +56,9 @@ pub fn parsed<'a>(alloc: Global, words: &'a [String]) -> Result<Request<'a>, Err
 
 fn request_of<'a>(alloc: Global, matches: &ArgMatches<'a>) -> Result<Request<'a>, AllocError> {
     let directory = matches.get_str("data");
+    if matches.get_flag("version") {
+        return Ok(Request::Version(directory));
+    }
     let names = matches.get_strs("file").unwrap_or(&[]);
     let word = matches.get_str("command").unwrap_or("");
     match (task_named(word), form_named(word), names) {
@@ -124,11 +129,18 @@ fn command<'a>(alloc: Global) -> Result<Command<'a>, AllocError> {
     let directory = Arg::new(alloc, "data").long("data").value_name("DIR").help(
         "The directory of UnicodeData.txt and CompositionExclusions.txt",
     );
+    let version = Arg::new(alloc, "version")
+        .long("version")
+        .short('V')
+        .action(ArgAction::SetTrue)
+        .help(
+            "Print the version, and the first line of CompositionExclusions.txt, which names that of Unicode",
+        );
     Command::new(alloc, "uninorm")
         .about("Writes the normal forms of text in UTF-8 (Unicode Standard Annex #15)")
         .after_help(AFTER_HELP)
-        .version("1.0.0")
         .arg(word)?
         .arg(files)?
-        .arg(directory)
+        .arg(directory)?
+        .arg(version)
 }

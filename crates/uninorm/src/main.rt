@@ -5,11 +5,13 @@
 mod standard;
 
 use normalizer_command::run::run;
+use normalizer_command::version::write_version;
 use normalizer_command::words::{FileRequest, Request, parsed};
 use normalizer_io::Output;
 use standard::{ErrorStream, Named};
 use std::alloc::{AllocError, Global};
 use std::env;
+use std::io::ErrorKind;
 use std::process::ExitCode;
 
 /// The exit status of a run that fails.
@@ -21,19 +23,29 @@ fn main(rt: HostRuntime) -> ExitCode {
 
 /// Does what the arguments ask for, and returns the exit status.
 fn by_arguments(rt: &HostRuntime) -> u8 {
-    let Ok(arguments) = env::args(rt) else {
-        return failed(rt, "an argument is not UTF-8");
-    };
-    match arguments.collect(rt.alloc()) {
+    match arguments(rt) {
         Ok(words) => by_words(rt, &words),
-        Err(_) => failed(rt, "out of memory"),
+        Err(ErrorKind::OutOfMemory) => failed(rt, "out of memory"),
+        Err(_) => failed(rt, "an argument is not UTF-8"),
+    }
+}
+
+/// The words, the first of which is the name that the program was started by.
+fn arguments(rt: &HostRuntime) -> Result<Vec<String>, ErrorKind> {
+    match env::args(rt) {
+        Ok(arguments) => match arguments.collect(rt.alloc()) {
+            Ok(words) => Ok(words),
+            Err(_) => Err(ErrorKind::OutOfMemory),
+        },
+        Err(error) => Err(error.kind()),
     }
 }
 
 /// Does what the words ask for, the first of which is the name that the program was started by.
 fn by_words(rt: &HostRuntime, words: &Vec<String>) -> u8 {
     match parsed(rt.alloc(), words) {
-        Ok(Request::Files(request)) => by_request(rt, words, &request),
+        Ok(Request::Files(request)) => over_files(rt, words, &request),
+        Ok(Request::Version(directory)) => version(rt, words, directory),
         Ok(Request::Unclear(reason)) => failed(rt, reason),
         Err(error) => {
             let _ = error.print(rt);
@@ -42,22 +54,15 @@ fn by_words(rt: &HostRuntime, words: &Vec<String>) -> u8 {
     }
 }
 
-fn by_request(rt: &HostRuntime, words: &[String], request: &FileRequest<'_>) -> u8 {
-    match request.directory {
-        Some(directory) => over_files(rt, request, directory),
-        None => match data_beside(rt.alloc(), words) {
-            Ok(directory) => over_files(rt, request, directory.as_str()),
-            Err(_) => failed(rt, "out of memory"),
-        },
-    }
-}
-
-fn over_files(rt: &HostRuntime, request: &FileRequest<'_>, directory: &str) -> u8 {
+fn over_files(rt: &HostRuntime, words: &[String], request: &FileRequest<'_>) -> u8 {
+    let Ok(directory) = data_directory(rt.alloc(), words, request.directory) else {
+        return failed(rt, "out of memory");
+    };
     run(
         rt.alloc(),
         request.task,
         request.form,
-        directory,
+        directory.as_str(),
         &request.names,
         &Named(rt),
         &mut Output(rt.stdout()),
@@ -65,8 +70,28 @@ fn over_files(rt: &HostRuntime, request: &FileRequest<'_>, directory: &str) -> u
     )
 }
 
-/// The directory of data beside the program, by the name that it was started by.
-fn data_beside(alloc: Global, words: &[String]) -> Result<String, AllocError> {
+fn version(rt: &HostRuntime, words: &[String], named: Option<&str>) -> u8 {
+    let Ok(directory) = data_directory(rt.alloc(), words, named) else {
+        return failed(rt, "out of memory");
+    };
+    write_version(
+        rt.alloc(),
+        directory.as_str(),
+        &Named(rt),
+        &mut Output(rt.stdout()),
+        &mut ErrorStream(rt),
+    )
+}
+
+/// The directory of data that is named, or the one beside the program, by the name that it was started by.
+fn data_directory(
+    alloc: Global,
+    words: &[String],
+    named: Option<&str>,
+) -> Result<String, AllocError> {
+    if let Some(directory) = named {
+        return String::from_str(alloc, directory);
+    }
     let program = words.first().map_or("", |word| word.as_str());
     match program.rsplit_once('/') {
         Some((folder, _)) => format!(in alloc; "{folder}/data/unicode"),

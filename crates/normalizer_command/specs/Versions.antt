@@ -1,0 +1,58 @@
+-- What is written of versions.
+use Rattle.std.specs.Prelude.{◌≡◌, ◌≢◌, ◌⊎◌, ◌==◌, not, ℕ, List, [], ◌∷◌, ◌++◌, codes, take_while, IfSome}
+use Rattle.std.specs.Io.KnownBytes.{Appends}
+use Rattle.normalizer_io.specs.Transfer.{AppendsFront}
+use Rattle.normalizer_ucd.specs.declared.error.UcdFile.{UcdFile}
+use Rattle.normalizer_ucd.specs.declared.error.UcdFile.TheVariants.{CompositionExclusions}
+use Rattle.normalizer_command.specs.Data.{path_of}
+use Rattle.normalizer_command.specs.Devices.{Devices}
+use Rattle.normalizer_command.specs.Faults.{IsFileFault}
+use Rattle.normalizer_command.specs.Outcomes.{State}
+use Rattle.normalizer_command.specs.Reports.{Tells}
+use Rattle.normalizer_command.specs.declared.fault.Fault.{Fault}
+use Rattle.normalizer_command.specs.declared.fault.Fault.TheVariants.{Write}
+
+-- the first line, without its line feed
+abbrev pub first_line : List ℕ → List ℕ
+first_line bytes = take_while (λ b. not (b == 0x0A)) bytes
+
+-- the version of the program, and on a line of its own the first line of the exclusions
+abbrev pub version_text : List ℕ → List ℕ
+version_text exclusions = codes "uninorm 1.0.0" ++ (0x0A ∷ (first_line exclusions ++ (0x0A ∷ [])))
+
+-- the exclusions of a directory
+abbrev pub AreExclusions : {W : Type 0} → Devices W → (directory exclusions : List ℕ) → Type 0
+AreExclusions d directory exclusions =
+    IfSome (d.bytes_of (path_of directory CompositionExclusions)) (λ all. exclusions ≡ all)
+
+-- the versions are written
+abbrev pub IsVersionAppended : {W : Type 0} → Devices W → (directory : List ℕ) → W → W → Type 0
+IsVersionAppended d directory before after = (exclusions : List ℕ) × AreExclusions d directory exclusions
+    × Appends (d.taken before) (d.taken after) (version_text exclusions)
+
+-- a front of them is written
+abbrev pub IsVersionCutOff : {W : Type 0} → Devices W → (directory : List ℕ) → W → W → Type 0
+IsVersionCutOff d directory before after = (exclusions : List ℕ) × AreExclusions d directory exclusions
+    × AppendsFront (d.taken before) (d.taken after) (version_text exclusions)
+
+-- the versions are written, and that is all
+pub record IsVersionWritten {W : Type 0} (d : Devices W) (directory : List ℕ) (s t : State W) : Type 0 where
+  pub written : IsVersionAppended d directory s.writer t.writer
+  pub untold : t.told ≡ s.told
+  pub status : t.status ≡ 0
+
+-- a report says why they aren't
+pub record IsVersionRefused {W : Type 0} (d : Devices W) (directory : List ℕ) (s t : State W) : Type 0 where
+  pub name : List ℕ
+  pub file : UcdFile
+  pub named : (name ≡ path_of directory file) ⊎ (name ≡ directory)
+  pub fault : Fault
+  pub why : IsFileFault (d.cannot_open (path_of directory file)) (d.read_refused (path_of directory file))
+      (d.write_refused s.writer t.writer) fault
+  pub cut : fault ≡ Write → IsVersionCutOff d directory s.writer t.writer
+  pub unwritten : fault ≢ Write → t.writer ≡ s.writer
+  pub told : Tells s.told t.told (name, fault)
+  pub status : t.status ≡ 2
+
+abbrev pub IsVersionRun : {W : Type 0} → Devices W → (directory : List ℕ) → State W → State W → Type 0
+IsVersionRun d directory s t = IsVersionWritten d directory s t ⊎ IsVersionRefused d directory s t
