@@ -1,0 +1,2 @@
+mod CallLemmas
+mod MadeLemmas

@@ -1,0 +1,5 @@
+pub mod Buffers
+pub mod Calls
+pub mod Forms
+pub mod Made
+pub mod Status
