@@ -1,2 +1,2 @@
-mod CallLemmas
+mod AsBox
 mod MadeLemmas

@@ -1,24 +1,38 @@
 -- What the calls of C do.
-use Rattle.std.specs.Prelude.{◌≡◌, ◌⊎◌, ℕ, ◌<◌, List, [], ⊤, Result, Ok, Err}
+use Rattle.std.specs.Prelude.{◌≡◌, ◌⊎◌, ◌↔◌, ℕ, ◌<◌, Bool, List, [], ⊤, Result, Ok, Err, Option, Some, None, IsTrue}
 use Rattle.normalizer_text.specs.Encodings.{Encoding}
 use Rattle.normalizer_input.specs.EncodedForm.{encoded_form}
+use Rattle.normalizer_input.specs.InputCut.{IsInputCut, IsInputNormalized}
 use Rattle.normalizer_builder.specs.Building.{IsSmallest}
 use Rattle.normalizer_built.specs.declared.NormalForm.{NormalForm}
+use Rattle.normalizer_calls.specs.Forms.{MadeForm}
 use Rattle.normalizer_records.specs.Entry.{Entry}
 use Rattle.normalizer_records.specs.declared.records.BuildError.{BuildError}
 use Rattle.normalizer_ucd.specs.declared.error.LineFault.{LineFault}
 use Rattle.normalizer_ucd.specs.UnicodeData.{records_of}
 use Rattle.icu_normalizer_c.specs.declared.fault.Fault.{Fault}
-use Rattle.icu_normalizer_c.specs.declared.fault.Fault.TheVariants.{BufferTooSmall, Memory, UnknownForm, Line, Records}
+use Rattle.icu_normalizer_c.specs.declared.fault.Fault.TheVariants.{
+  BufferTooSmall,
+  Memory,
+  UnknownForm,
+  NotOpen,
+  Line,
+  Records,
+}
+use Rattle.icu_normalizer_c.specs.declared.handle.Handle.{Handle}
 use Rattle.icu_normalizer_c.specs.declared.normalizers.Normalizers.{Normalizers}
-use Rattle.icu_normalizer_c.specs.Buffers.{Fills}
-use Rattle.icu_normalizer_c.specs.Forms.{kind_of, last_form, number_of, reading_of}
-use Rattle.icu_normalizer_c.specs.Made.{MakeBy}
+use Rattle.icu_normalizer_c.specs.Buffers.{Fills, Tells}
+use Rattle.icu_normalizer_c.specs.Forms.{last_form, number_of}
+use Rattle.icu_normalizer_c.specs.Made.{MakeBy, made_in}
 use Rattle.icu_normalizer_c.specs.Status.{status_of}
 
 -- the number is the status of an outcome of this kind
 abbrev pub IsStatus : ℕ → (Result ⊤ Fault → Type 0) → Type 0
 IsStatus number Is = (outcome : Result ⊤ Fault) × (number ≡ status_of outcome) × Is outcome
+
+-- the normalizers of a handle, or none
+abbrev pub held : Handle → Option Normalizers
+held h = h.slot.value
 
 -- why the bytes of the two files give no normalizers
 abbrev pub IsFaultOf : (unicode_data exclusions : List ℕ) → Fault → Type 0
@@ -29,36 +43,48 @@ IsFaultOf unicode_data exclusions Records =
 IsFaultOf unicode_data exclusions Memory = ⊤
 IsFaultOf unicode_data exclusions BufferTooSmall = ⊥
 IsFaultOf unicode_data exclusions UnknownForm = ⊥
+IsFaultOf unicode_data exclusions NotOpen = ⊥
 
 -- the normalizers make the forms by the records of the two files
 abbrev pub AreOfFiles : (unicode_data exclusions : List ℕ) → Normalizers → Type 0
 AreOfFiles unicode_data exclusions n =
     (records : List Entry) × (records_of unicode_data exclusions ≡ Ok records) × MakeBy n records
 
--- the form of what the input decodes to, encoded as it is, by what the records mean
-abbrev pub recorded_in : List Entry → NormalForm → Encoding → List ℕ → List ℕ
-recorded_in records form e input = encoded_form e (reading_of records form) (kind_of form) input
+-- the handle has normalizers by the records of the two files, or what it had before
+abbrev pub Opens : (unicode_data exclusions : List ℕ) → (before after : Option Normalizers) → Result ⊤ Fault → Type 0
+Opens unicode_data exclusions before after (Ok done) =
+    (n : Normalizers) × (after ≡ Some n) × AreOfFiles unicode_data exclusions n
+Opens unicode_data exclusions before after (Err fault) = (after ≡ before) × IsFaultOf unicode_data exclusions fault
 
--- the form of the input by the records of the two files goes to the buffer
-pub record WritesByFiles (unicode_data exclusions : List ℕ) (number : ℕ) (e : Encoding) (input before after : List ℕ)
-    (told_before told : ℕ) (outcome : Result ⊤ Fault) : Type 0 where
-  pub form : NormalForm
-  pub numbered : number ≡ number_of form
-  pub records : List Entry
-  pub recorded : records_of unicode_data exclusions ≡ Ok records
-  pub fills : Fills (recorded_in records form e input) before after told_before told outcome
+-- the form that the normalizers make and that has the number
+abbrev pub IsNumbered : Normalizers → (number : ℕ) → MadeForm → Type 0
+IsNumbered n number m = (form : NormalForm) × (number ≡ number_of form) × (m ≡ made_in n form)
 
--- nothing is written, since no form has the number, or the bytes of the two files give no normalizers
-pub record Refuses (unicode_data exclusions : List ℕ) (number : ℕ) (before after : List ℕ) (told_before told : ℕ)
-    (outcome : Result ⊤ Fault) : Type 0 where
-  pub fault : Fault
-  pub is : outcome ≡ Err fault
-  pub why : ((fault ≡ UnknownForm) × (last_form < number)) ⊎ IsFaultOf unicode_data exclusions fault
-  pub unwritten : after ≡ before
-  pub untold : told ≡ told_before
+-- a call at a form of the normalizers, unless no form has the number
+abbrev pub AtForm : Normalizers → (number : ℕ) → (Unchanged : Type 0) → (MadeForm → Result ⊤ Fault → Type 0)
+    → Result ⊤ Fault → Type 0
+AtForm n number Unchanged Is outcome =
+    ((last_form < number) × (outcome ≡ Err UnknownForm) × Unchanged)
+    ⊎ ((m : MadeForm) × IsNumbered n number m × Is m outcome)
 
-abbrev pub NormalizesByFiles : (unicode_data exclusions : List ℕ) → (number : ℕ) → Encoding
-    → (input before after : List ℕ) → (told_before told : ℕ) → Result ⊤ Fault → Type 0
-NormalizesByFiles unicode_data exclusions number e input before after told_before told outcome =
-    WritesByFiles unicode_data exclusions number e input before after told_before told outcome
-    ⊎ Refuses unicode_data exclusions number before after told_before told outcome
+-- a call at a form of the normalizers of a handle, unless it has none
+abbrev pub Over : Option Normalizers → (number : ℕ) → (Unchanged : Type 0) → (MadeForm → Result ⊤ Fault → Type 0)
+    → Result ⊤ Fault → Type 0
+Over None number Unchanged Is outcome = (outcome ≡ Err NotOpen) × Unchanged
+Over (Some n) number Unchanged Is outcome = AtForm n number Unchanged Is outcome
+
+-- the encoded form of the input goes to the buffer
+abbrev pub WritesForm : Encoding → (input before after : List ℕ) → (told_before told : ℕ) → MadeForm → Result ⊤ Fault
+    → Type 0
+WritesForm e input before after told_before told m outcome =
+    Fills (encoded_form e m.reading m.form input) before after told_before told outcome
+
+-- the caller is told whether the input is well-formed and normalized
+abbrev pub TellsNormalized : Encoding → (input : List ℕ) → (before after : Bool) → MadeForm → Result ⊤ Fault → Type 0
+TellsNormalized e input before after m outcome =
+    Tells m e input (λ yes. IsTrue yes ↔ IsInputNormalized e m.reading m.form input) before after outcome
+
+-- the caller is told the cut of the input
+abbrev pub TellsCut : Encoding → (input : List ℕ) → (before after : ℕ) → MadeForm → Result ⊤ Fault → Type 0
+TellsCut e input before after m outcome =
+    Tells m e input (IsInputCut e m.reading m.form input) before after outcome

@@ -25,7 +25,11 @@ made_by (normalizer.Composing n) = composed_by n
 
 abbrev pub decomposed_of : DecomposingNormalizer → MadeForm
 decomposed_of n =
-    record { has_class_form = has_class_form (data_of n); reading = reading_by (data_of n) Dropped []; form = Decomposing }
+    record {
+      has_class_form = has_class_form (data_of n);
+      reading = reading_by (data_of n) Dropped [];
+      form = Decomposing;
+    }
 
 abbrev pub composed_of : ComposingNormalizer → MadeForm
 composed_of n =

@@ -9,6 +9,7 @@ use Rattle.icu_normalizer_c.specs.declared.fault.Fault.TheVariants.{
   BufferTooSmall,
   Memory,
   UnknownForm,
+  NotOpen,
   Line,
   Records,
 }
@@ -17,8 +18,9 @@ abbrev pub number_of : Fault → ℕ
 number_of BufferTooSmall = 1
 number_of Memory = 2
 number_of UnknownForm = 3
-number_of Line = 4
-number_of Records = 5
+number_of NotOpen = 4
+number_of Line = 5
+number_of Records = 6
 
 -- 0, or the number of the fault
 abbrev pub status_of : Result ⊤ Fault → ℕ

@@ -5,6 +5,7 @@ ghost use Rattle.icu_normalizer_c.specs.Status.{fault_of_build, fault_of_file, n
 use icu_normalizer::NormalizeError;
 use normalizer_records::BuildError;
 use normalizer_ucd::UcdError;
+use std::alloc::AllocError;
 
 /// Why a call failed.
 #[derive(Clone, Copy, Debug, PartialEq, Eq)]
@@ -15,6 +16,8 @@ pub enum Fault {
     Memory,
     /// No form has this number.
     UnknownForm,
+    /// The handle has no normalizers.
+    NotOpen,
     /// A line of a data file is wrong.
     Line,
     /// The records can't be built.
@@ -30,8 +33,9 @@ impl Fault {
             Fault::BufferTooSmall => 1,
             Fault::Memory => 2,
             Fault::UnknownForm => 3,
-            Fault::Line => 4,
-            Fault::Records => 5,
+            Fault::NotOpen => 4,
+            Fault::Line => 5,
+            Fault::Records => 6,
         }
     }
 }
@@ -75,6 +79,16 @@ impl From<NormalizeError> for Fault {
 
     // No call here writes to a sink.
     fn from(_error: NormalizeError) -> Fault {
+        Fault::Memory
+    }
+}
+
+impl From<AllocError> for Fault {
+    ghost use Rattle.icu_normalizer_c.specs.declared.fault.Fault.TheVariants.{Memory};
+
+    ghost from_gives = { λ _ fault. fault ≡ Memory };
+
+    fn from(_error: AllocError) -> Fault {
         Fault::Memory
     }
 }

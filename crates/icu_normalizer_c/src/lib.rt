@@ -2,8 +2,13 @@
 #![tactic(auto)]
 
 mod buffer;
+mod checking;
 mod fault;
 mod form;
+mod handle;
 mod normalizer;
 mod normalizers;
-mod one_call;
+mod opening;
+mod parts;
+mod slot;
+mod writing;

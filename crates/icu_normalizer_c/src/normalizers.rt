@@ -1,10 +1,15 @@
 //! Normalizers to the four forms, over the same data.
-ghost use Rattle.std.specs.Prelude.{◌≡◌, IfOk, IsOkUnless, List};
+ghost use Rattle.std.specs.Prelude.{◌≡◌, ◌<◌, IfOk, IsOkUnless, List, MatchResult};
 ghost use Rattle.normalizer_builder.specs.Building.{Builds};
 ghost use Rattle.normalizer_builder.specs.Built.{AreBuilt, data_in};
 ghost use Rattle.normalizer_records.specs.Entry.{Entry, MapperEntry};
+ghost use Rattle.icu_normalizer_c.specs.Calls.{IsNumbered};
+ghost use Rattle.icu_normalizer_c.specs.Forms.{last_form};
+ghost use Rattle.icu_normalizer_c.specs.declared.fault.Fault.TheVariants.{UnknownForm};
 ghost use Rattle.icu_normalizer_c.specs.Made.{made_by, made_in, MakeBy};
 
+use crate::fault::Fault;
+use crate::form::form_numbered;
 use crate::normalizer::Normalizer;
 use icu_normalizer::{Built, ComposingNormalizer, DecomposingNormalizer, NormalizeError};
 use normalizer_built::{
@@ -56,6 +61,17 @@ impl Normalizers {
             NormalForm::Nfc => Normalizer::Composing(self.nfc.as_borrowed()),
             NormalForm::Nfkd => Normalizer::Decomposing(self.nfkd.as_borrowed()),
             NormalForm::Nfkc => Normalizer::Composing(self.nfkc.as_borrowed()),
+        }
+    }
+
+    /// Returns the normalizer to the form of a number.
+    pub(crate) fn numbered(&self, number: u32) -> Result<Normalizer<'_>, Fault>
+        ensures { MatchResult result (λ n. IsNumbered self.now number (made_by n))
+            (λ fault. (last_form < number) × (fault ≡ UnknownForm)) }
+    {
+        match form_numbered(number) {
+            Some(form) => Ok(self.to(form)),
+            None => Err(Fault::UnknownForm),
         }
     }
 }
