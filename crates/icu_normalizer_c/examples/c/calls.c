@@ -1,5 +1,5 @@
-/* Makes each call of icu_normalizer.h, and compares what it does: calls DIRECTORY. Its status is 0, or 3 if memory was
-   refused and the call that needed it said so and left what it had; else it says which comparison failed. */
+/* Makes each call of icu_normalizer.h, and compares what it does: calls DIRECTORY. The status is 0; 3 if a call returned
+   that memory was refused, or the data couldn't be read; 1 if a comparison failed, which is then named. */
 #include "icu_normalizer.h"
 
 #include <stdio.h>
@@ -50,7 +50,6 @@ static void closed(icu_normalizer *normalizer) {
     icu_normalizer_close(normalizer);
 }
 
-/* Memory is needed only if more than 17 characters are buffered, or to return a changed form. */
 static icu_normalizer_status unless_refused(icu_normalizer_status status) {
     if (status == ICU_NORMALIZER_OUT_OF_MEMORY) out_of_memory();
     return status;
@@ -127,6 +126,10 @@ int main(int count, char **words) {
     utf16(&normalizer);
     /* What is open stays open if the next data are wrong. */
     EXPECT(icu_normalizer_open_unicode_data(&normalizer, bytes_of("00E4;\n"), 6, NULL, 0) != ICU_NORMALIZER_OK);
+    utf8(&normalizer);
+    /* What is open is closed if others are opened, and stays open if memory is refused for them. */
+    status = icu_normalizer_open_unicode_data(&normalizer, data, data_length, exclusions, exclusions_length);
+    EXPECT(status == ICU_NORMALIZER_OK || status == ICU_NORMALIZER_OUT_OF_MEMORY);
     utf8(&normalizer);
     icu_normalizer_close(&normalizer);
     closed(&normalizer);
