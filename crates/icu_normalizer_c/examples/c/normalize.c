@@ -1,0 +1,87 @@
+/* Writes the form of standard input to standard output: normalize DIRECTORY FORM. The directory has UnicodeData.txt and
+   CompositionExclusions.txt, and the form is nfd, nfc, nfkd or nfkc. */
+#include "icu_normalizer.h"
+
+#include <stdio.h>
+#include <stdlib.h>
+#include <string.h>
+
+struct bytes {
+    uint8_t *at;
+    size_t length;
+};
+
+static void stop(const char *what, const char *why) {
+    fprintf(stderr, "normalize: %s: %s\n", what, why);
+    exit(2);
+}
+
+/* Reads the bytes of a file. Their address isn't null, even if there are none. */
+static struct bytes read_all(FILE *file, const char *name) {
+    struct bytes read = {NULL, 0};
+    size_t room = 0;
+    for (;;) {
+        if (read.length == room) {
+            room = room ? 2 * room : 4096;
+            uint8_t *grown = realloc(read.at, room);
+            if (!grown) stop(name, "out of memory");
+            read.at = grown;
+        }
+        size_t count = fread(read.at + read.length, 1, room - read.length, file);
+        read.length += count;
+        if (count == 0) break;
+    }
+    if (ferror(file)) stop(name, "it can't be read");
+    return read;
+}
+
+static struct bytes read_file(const char *directory, const char *name) {
+    char path[4096];
+    int length = snprintf(path, sizeof path, "%s/%s", directory, name);
+    if (length < 0 || (size_t)length >= sizeof path) stop(name, "the path is too long");
+    FILE *file = fopen(path, "rb");
+    if (!file) stop(path, "it can't be opened");
+    struct bytes read = read_all(file, path);
+    fclose(file);
+    return read;
+}
+
+static icu_normalizer_form form_of(const char *word) {
+    static const char *const words[] = {"nfd", "nfc", "nfkd", "nfkc"};
+    for (icu_normalizer_form form = 0; form < 4; form++)
+        if (strcmp(word, words[form]) == 0) return form;
+    stop(word, "it is no form");
+    return 0;
+}
+
+int main(int count, char **words) {
+    if (count != 3) stop("usage", "normalize DIRECTORY FORM");
+    icu_normalizer_form form = form_of(words[2]);
+    struct bytes unicode_data = read_file(words[1], "UnicodeData.txt");
+    struct bytes exclusions = read_file(words[1], "CompositionExclusions.txt");
+    icu_normalizer normalizer = ICU_NORMALIZER_CLOSED;
+    icu_normalizer_status status = icu_normalizer_open_unicode_data(
+        &normalizer, unicode_data.at, unicode_data.length, exclusions.at, exclusions.length);
+    free(exclusions.at);
+    free(unicode_data.at);
+    if (status != ICU_NORMALIZER_OK) stop(words[1], icu_normalizer_status_text(status));
+
+    struct bytes input = read_all(stdin, "standard input");
+    struct bytes output = {NULL, 0};
+    size_t needed = input.length + 1;
+    do {
+        uint8_t *grown = realloc(output.at, needed);
+        if (!grown) stop("standard input", "out of memory");
+        output = (struct bytes){grown, needed};
+        status = icu_normalizer_normalize_utf8(
+            &normalizer, form, input.at, input.length, output.at, output.length, &needed);
+    } while (status == ICU_NORMALIZER_BUFFER_TOO_SMALL);
+    icu_normalizer_close(&normalizer);
+    if (status != ICU_NORMALIZER_OK) stop("standard input", icu_normalizer_status_text(status));
+
+    if (fwrite(output.at, 1, needed, stdout) != needed || fflush(stdout))
+        stop("standard output", "it can't be written");
+    free(output.at);
+    free(input.at);
+    return 0;
+}

@@ -1,0 +1,91 @@
+// Normalizers over std::string and std::u16string, by the calls of icu_normalizer.h.
+#ifndef NORMALIZER_HPP
+#define NORMALIZER_HPP
+
+#include "icu_normalizer.h"
+
+#include <new>
+#include <stdexcept>
+#include <string>
+#include <string_view>
+
+enum class NormalForm : icu_normalizer_form { Nfd, Nfc, Nfkd, Nfkc };
+
+// Normalizers to the four forms, by the bytes of Unicode's files. A moved-from one is closed.
+class Normalizer {
+public:
+    Normalizer(std::string_view unicode_data, std::string_view exclusions) {
+        check(icu_normalizer_open_unicode_data(
+            &handle, units<uint8_t>(unicode_data), unicode_data.size(), units<uint8_t>(exclusions), exclusions.size()));
+    }
+
+    Normalizer(Normalizer &&other) noexcept : handle(other.handle) {
+        other.handle = icu_normalizer ICU_NORMALIZER_CLOSED;
+    }
+    Normalizer(const Normalizer &) = delete;
+    Normalizer &operator=(const Normalizer &) = delete;
+    Normalizer &operator=(Normalizer &&) = delete;
+    ~Normalizer() { icu_normalizer_close(&handle); }
+
+    std::string normalize(NormalForm form, std::string_view input) {
+        return normalized<std::string, uint8_t>(icu_normalizer_normalize_utf8, form, input);
+    }
+
+    std::u16string normalize(NormalForm form, std::u16string_view input) {
+        return normalized<std::u16string, uint16_t>(icu_normalizer_normalize_utf16, form, input);
+    }
+
+    bool is_normalized(NormalForm form, std::string_view input) {
+        bool is = false;
+        check(icu_normalizer_is_normalized_utf8(&handle, number(form), units<uint8_t>(input), input.size(), &is));
+        return is;
+    }
+
+    bool is_normalized(NormalForm form, std::u16string_view input) {
+        bool is = false;
+        check(icu_normalizer_is_normalized_utf16(&handle, number(form), units<uint16_t>(input), input.size(), &is));
+        return is;
+    }
+
+    // The length of the beginning of the input that stays as it is.
+    size_t split(NormalForm form, std::string_view input) {
+        size_t cut = 0;
+        check(icu_normalizer_split_utf8(&handle, number(form), units<uint8_t>(input), input.size(), &cut));
+        return cut;
+    }
+
+    size_t split(NormalForm form, std::u16string_view input) {
+        size_t cut = 0;
+        check(icu_normalizer_split_utf16(&handle, number(form), units<uint16_t>(input), input.size(), &cut));
+        return cut;
+    }
+
+private:
+    icu_normalizer handle = ICU_NORMALIZER_CLOSED;
+
+    static icu_normalizer_form number(NormalForm form) { return static_cast<icu_normalizer_form>(form); }
+
+    static void check(icu_normalizer_status status) {
+        if (status == ICU_NORMALIZER_OUT_OF_MEMORY) throw std::bad_alloc();
+        if (status != ICU_NORMALIZER_OK) throw std::runtime_error(icu_normalizer_status_text(status));
+    }
+
+    template <class Unit, class Text> static const Unit *units(Text text) {
+        return reinterpret_cast<const Unit *>(text.data());
+    }
+
+    template <class Owned, class Unit, class Call, class Text>
+    Owned normalized(Call call, NormalForm form, Text input) {
+        Owned output(input.size() + 1, 0);
+        for (;;) {
+            size_t needed = 0;
+            auto status = call(&handle, number(form), units<Unit>(input), input.size(),
+                reinterpret_cast<Unit *>(output.data()), output.size(), &needed);
+            if (status != ICU_NORMALIZER_BUFFER_TOO_SMALL) check(status);
+            output.resize(needed);
+            if (status == ICU_NORMALIZER_OK) return output;
+        }
+    }
+};
+
+#endif

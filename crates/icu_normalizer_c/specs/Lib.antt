@@ -1,0 +1,6 @@
+pub mod Buffers
+pub mod Calls
+pub mod Forms
+pub mod Made
+pub mod Slots
+pub mod Status
