@@ -84,7 +84,7 @@ unfoldable pub MeetsRecords : List Entry → Packed → RecordDemand → Type 0
 MeetsRecords records p (OfConstructors d) = Meets p d
 MeetsRecords records p OfMappings = (n : ℕ) → KeepsMapping records p n
 
--- a mapping that isn't kept is answered as the condition that steps are sound
+-- a mapping that isn't kept is reported as the condition that steps are sound
 abbrev pub answer_to_mappings : Unfit
 answer_to_mappings = record { marker = NormalizerNfdSupplementV1; condition = 16 }
 

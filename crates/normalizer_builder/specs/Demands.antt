@@ -1,4 +1,4 @@
--- What constructors demand of packed data, and how data that don't meet a demand are answered.
+-- What constructors require of packed data, and how data that don't meet a requirement are reported.
 use Rattle.std.specs.Prelude.{List, [], ◌∷◌, ◌++◌, Option, Some, None, true, false}
 use Rattle.std.specs.List.{Contains}
 use Rattle.normalizer_tables.specs.declared.condition.Condition.{Condition}

@@ -26,7 +26,7 @@ pub(crate) fn first_unfit_of_records(records: &[Record], packed: &Packed) -> Opt
     least(first_unfit(packed), answer_to_mappings(records, packed))
 }
 
-/// How data that don't keep the recorded mappings are answered.
+/// How data that don't keep the recorded mappings are reported.
 #[tactic(auto, using(crate::proofs::FirstUnfit::mappings_kept, crate::proofs::FirstUnfit::mappings_lost))]
 fn answer_to_mappings(records: &[Record], packed: &Packed) -> Option<Unfit>
     requires { AreRising records.now }

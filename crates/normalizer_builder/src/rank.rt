@@ -1,4 +1,4 @@
-//! Which of the conditions that data break is answered.
+//! Which of the conditions that data break is reported.
 ghost use Rattle.std.specs.Prelude.{◌≡◌, ◌↔◌, IsTrue};
 ghost use Rattle.normalizer_builder.specs.Ranks.{IsBefore, IsLeast, place_of};
 
@@ -7,7 +7,9 @@ use normalizer_tables::DataMarkerInfo;
 /// A written condition that data break: the marker of the data, and the number of the condition.
 #[derive(Clone, Copy, PartialEq, Eq, Debug)]
 pub struct Unfit {
+    /// The marker of the data.
     pub marker: DataMarkerInfo,
+    /// The number of the condition.
     pub condition: u8,
 }
 

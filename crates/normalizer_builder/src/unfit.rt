@@ -88,7 +88,7 @@ pub(crate) fn characters_of(packed: &Packed, kind: Kind) -> CharacterData<'_>
     }
 }
 
-/// How data of one kind that break a condition are answered.
+/// How data of one kind that break a condition are reported.
 fn answer_of(kind: Kind, failing: Option<Condition>) -> Option<Unfit>
     ensures { result ≡ option_map (answer_of kind) failing }
 {

@@ -32,7 +32,10 @@ pub enum NormalForm {
     Nfkc,
 }
 
-/// Returns the normalizer to NFD over built data: the constructor refuses nothing but memory.
+/// Returns the normalizer to NFD over built data.
+///
+/// # Errors
+/// `Memory` if an allocation was refused.
 pub fn nfd_normalizer(built: &Built) -> Result<DecomposingNormalizer, NormalizeError>
     requires { AreBuilt (data_in built.now) }
     ensures held { IfOk result (λ n. data_of n ≡ characters_of (data_in built.now) Canonical) }
@@ -46,7 +49,10 @@ pub fn nfd_normalizer(built: &Built) -> Result<DecomposingNormalizer, NormalizeE
     }
 }
 
-/// Returns the normalizer to NFKD over built data: the constructor refuses nothing but memory.
+/// Returns the normalizer to NFKD over built data.
+///
+/// # Errors
+/// `Memory` if an allocation was refused.
 pub fn nfkd_normalizer(built: &Built) -> Result<DecomposingNormalizer, NormalizeError>
     requires { AreBuilt (data_in built.now) }
     ensures held { IfOk result (λ n. data_of n ≡ characters_of (data_in built.now) Compatibility) }
@@ -60,7 +66,10 @@ pub fn nfkd_normalizer(built: &Built) -> Result<DecomposingNormalizer, Normalize
     }
 }
 
-/// Returns the normalizer to NFC over built data: the constructor refuses nothing but memory.
+/// Returns the normalizer to NFC over built data.
+///
+/// # Errors
+/// `Memory` if an allocation was refused.
 pub fn nfc_normalizer(built: &Built) -> Result<ComposingNormalizer, NormalizeError>
     requires { AreBuilt (data_in built.now) }
     ensures held { IfOk result (λ n. composing_data_of n ≡ characters_of (data_in built.now) Canonical) }
@@ -75,7 +84,10 @@ pub fn nfc_normalizer(built: &Built) -> Result<ComposingNormalizer, NormalizeErr
     }
 }
 
-/// Returns the normalizer to NFKC over built data: the constructor refuses nothing but memory.
+/// Returns the normalizer to NFKC over built data.
+///
+/// # Errors
+/// `Memory` if an allocation was refused.
 pub fn nfkc_normalizer(built: &Built) -> Result<ComposingNormalizer, NormalizeError>
     requires { AreBuilt (data_in built.now) }
     ensures held { IfOk result (λ n. composing_data_of n ≡ characters_of (data_in built.now) Compatibility) }
@@ -103,7 +115,10 @@ fn want_of_memory(error: DataError) -> NormalizeError
     }
 }
 
-/// Returns the mapper over built data: the constructor refuses nothing but memory.
+/// Returns the mapper over built data.
+///
+/// # Errors
+/// `Memory` if an allocation was refused.
 pub fn built_mapper(built: &Built) -> Result<Uts46Mapper, DataError>
     requires { AreBuilt (data_in built.now) }
     ensures held { IfOk result (λ m. mapper_data_of m ≡

@@ -30,7 +30,7 @@ module _ {S : Type 0} (e : Encoding) (taken : S → List ℕ) where
     pub begun : OnErr answer (((s t : S) → left s t → TakesNothing taken s t)
         → TookBeginning (normal_form d form x) old new)
 
--- the sink was first given the number of units of the input; if it refused that, nothing else was done
+-- the sink first received the number of units of the input; if it refused that, nothing else was done
 pub record TellsLengthFirst {S : Type 0} (taken : S → List ℕ) (hinted : S → ℕ → Result ⊤ SinkError → S → Type 0)
     (len : ℕ) (old : S) (answer : Result ⊤ NormalizeError) (new : S) : Type 0 where
   pub hint : Result ⊤ SinkError

@@ -14,11 +14,6 @@ use normalizer_tables::word::is_backward_combining;
 impl<'a> DecomposingNormalizerBorrowed<'a> {
     /// Returns whether a text may be divided before `character`: its decomposition begins with a starter (The Unicode
     /// Standard, D107). If so, a text that begins with it is normalized apart from what comes before it.
-    ///
-    /// # Examples
-    /// ```rust
-    /// let starts_segment = normalizer.has_boundary_before('a');
-    /// ```
     pub fn has_boundary_before(&self, character: char) -> bool
         ensures exactly { result ≡ has_decomposing_boundary self.now character }
         ensures apart { result ≡ true → BeginsApart (decomposed_by self.now).reading Decomposing character }
@@ -28,14 +23,9 @@ impl<'a> DecomposingNormalizerBorrowed<'a> {
 }
 
 impl<'a> ComposingNormalizerBorrowed<'a> {
-    /// Returns whether a text may be divided before `character`: its decomposition begins with a starter that composes
-    /// with nothing before it (UAX #15, section 9.1). If so, a text that begins with it is normalized apart from what
-    /// comes before it.
-    ///
-    /// # Examples
-    /// ```rust
-    /// let starts_segment = normalizer.has_boundary_before('a');
-    /// ```
+    /// Returns whether a text may be divided before `character`: its word has no BACKWARD_COMBINING, or it is below the
+    /// bound of composing. Then its decomposition begins with a starter that composes with nothing before it (UAX #15,
+    /// section 9.1), and a text that begins with it is normalized apart from what comes before it.
     pub fn has_boundary_before(&self, character: char) -> bool
         ensures exactly { result ≡ has_composing_boundary self.now character }
         ensures apart { result ≡ true → BeginsApart (composed_by self.now).reading Composing character }

@@ -65,6 +65,11 @@ impl ComposingNormalizer {
     /// - `FutureExtension` if the tables have more items than the limit.
     /// - `Invalid`, with the lowest-numbered condition that fails, if the data break one (`docs/CONDITIONS.md`).
     /// - `Memory` if a load was refused memory. The check itself takes none.
+    ///
+    /// # Examples
+    /// ```rust
+    /// let normalizer = ComposingNormalizer::try_new_nfc_unstable(&data).ok()?;
+    /// ```
     pub fn try_new_nfc_unstable<P>(provider: &P) -> Result<Self, DataError>
     where
         P: DataProvider<NormalizerNfdDataV1>

@@ -168,7 +168,7 @@ fn write_parts<U: Units, N: FormItems<Chars<U>>, O: Output<U>>(
     Ok(())
 }
 
-/// Writes the form of what the units decode to. The output is first given the number of units.
+/// Writes the form of what the units decode to. The output first receives the number of units.
 pub(crate) fn form_to<U: Units, N: FormItems<Chars<U>>, O: Output<U>>(
     normalizer: &N,
     units: U,

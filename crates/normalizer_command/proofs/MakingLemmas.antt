@@ -6,10 +6,12 @@ use Rattle.normalizer_packing.specs.declared.entry.Kind.TheVariants as kind
 use Rattle.normalizer_packing.specs.ReadBack.{characters_of}
 use Rattle.normalizer_records.specs.Entry.{Entry, MapperEntry}
 use Rattle.normalizer_builder.specs.Building.{Builds}
-use Rattle.normalizer_built.specs.declared.NormalForm.TheVariants.{Nfd, Nfkd}
+use Rattle.normalizer_built.specs.declared.NormalForm.TheVariants.{Nfd, Nfc, Nfkd, Nfkc}
 use Rattle.normalizer_built.proofs.FormsOfData.{form_of_data-recorded}
 use Rattle.normalizer_calls.specs.declared.normalizer.DecomposingNormalizer.{DecomposingNormalizer}
+use Rattle.normalizer_calls.specs.declared.composing_normalizer.ComposingNormalizer.{ComposingNormalizer}
 use Rattle.normalizer_calls.specs.Normalizers.{data_of}
+use Rattle.normalizer_calls.specs.ComposingNormalizers.{composing_data_of, pairs_of}
 use Rattle.normalizer_built.specs.declared.normalizer.Normalizer.TheVariants as normalizer
 use Rattle.normalizer_command.specs.Making.{making_by, Makes}
 
@@ -21,3 +23,12 @@ module _ (n : DecomposingNormalizer) (records : List Entry) (mapper : List Mappe
   pub makes-nfkd : data_of n ≡ characters_of p kind.Compatibility → Makes (normalizer.Decomposing n) (making_by records Nfkd)
   unfolding normal_form
   makes-nfkd held = record { kind = refl; same = λ x. rw held (form_of_data-recorded records mapper p builds.means Nfkd x) }
+
+module _ (n : ComposingNormalizer) (records : List Entry) (mapper : List MapperEntry) (p : Packed) (builds : Builds records mapper p) where
+  pub makes-nfc : composing_data_of n ≡ characters_of p kind.Canonical → pairs_of n ≡ p.compositions → Makes (normalizer.Composing n) (making_by records Nfc)
+  unfolding normal_form
+  makes-nfc held pairs = record { kind = refl; same = λ x. rw (held, pairs) (form_of_data-recorded records mapper p builds.means Nfc x) }
+
+  pub makes-nfkc : composing_data_of n ≡ characters_of p kind.Compatibility → pairs_of n ≡ p.compositions → Makes (normalizer.Composing n) (making_by records Nfkc)
+  unfolding normal_form
+  makes-nfkc held pairs = record { kind = refl; same = λ x. rw (held, pairs) (form_of_data-recorded records mapper p builds.means Nfkc x) }

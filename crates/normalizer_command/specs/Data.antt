@@ -30,7 +30,7 @@ AreFiles bytes_of directory unicode_data exclusions =
 abbrev pub AreBuiltOf : (unicode_data exclusions : List ℕ) → List Entry → Packed → Type 0
 AreBuiltOf unicode_data exclusions records p = (records_of unicode_data exclusions ≡ Ok records) × Builds records [] p
 
--- why the bytes of the two files give no data, and which of the files is named
+-- why the bytes of the two files make no data, and which of the files is named
 abbrev pub IsFaultOf : (unicode_data exclusions : List ℕ) → UcdFile → Fault → Type 0
 IsFaultOf unicode_data exclusions file (Line fault) =
     (records_of unicode_data exclusions ≡ Err fault) × (file ≡ fault.place.file)
@@ -46,7 +46,7 @@ abbrev pub IsReadFault : {W : Type 0} → Devices W → (directory : List ℕ) �
 IsReadFault d directory file fault =
     IsFileFault (d.cannot_open (path_of directory file)) (d.read_refused (path_of directory file)) ⊥ fault
 
--- why there are no data: this file of the directory can't be read, or the bytes of the two files give none
+-- why there are no data: this file of the directory can't be read, or the bytes of the two files make none
 abbrev pub IsDataFault : {W : Type 0} → Devices W → (directory : List ℕ) → UcdFile → Fault → Type 0
 IsDataFault d directory file fault = IsReadFault d directory file fault
     ⊎ ((unicode_data : List ℕ) × (exclusions : List ℕ) × AreFiles d.bytes_of directory unicode_data exclusions

@@ -3,8 +3,8 @@ use Rattle.std.specs.Prelude.{ℕ, List, Option}
 use Rattle.std.specs.declared.io.ErrorKind.{ErrorKind}
 
 -- of the file of a name: its bytes, if they are known; that it can't be opened, for this reason; and that a read of it
--- was refused. Of the output: the bytes that it took, if they are known; and that a write was refused on the way from one
--- state to another
+-- was refused. Of the output: the bytes that it took, if they are known; and that a write was refused on the way from
+-- one state to another
 pub record Devices (W : Type 0) : Type 1 where
   pub bytes_of : List ℕ → Option (List ℕ)
   pub cannot_open : List ℕ → ErrorKind → Type 0

@@ -49,7 +49,8 @@ status_of (Err fault) = 2
 abbrev pub greater : ℕ → ℕ → ℕ
 greater a b = if nat_lt a b then b else a
 
--- one file: its reply is written, or a report says why it failed, and nothing of it is written unless a write was refused
+-- One file: its reply is written, or a report says why it failed. Then nothing of it is written, unless a write was
+-- refused.
 pub record IsDone {W : Type 0} (d : Devices W) (task : Task) (m : Making) (name : List ℕ) (s t : State W)
     (outcome : Result Answer Fault) : Type 0 where
   pub done : IfOk outcome (IsWritten task m name (d.bytes_of name) (d.taken s.writer) (d.taken t.writer))

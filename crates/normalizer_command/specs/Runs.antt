@@ -22,7 +22,7 @@ pub record RunsByFiles {W : Type 0} (d : Devices W) (task : Task) (form : Normal
   pub recorded : records_of unicode_data exclusions ≡ Ok records
   pub done : AreDone d task (making_by records form) names s t
 
--- there are no data: a report says so of one of the files, or of their directory, nothing is written, and the status is 2
+-- there are no data: a report says so of one of the files, or of their directory; nothing is written; the status is 2
 pub record LacksData {W : Type 0} (d : Devices W) (directory : List ℕ) (s t : State W) : Type 0 where
   pub name : List ℕ
   pub file : UcdFile

@@ -44,7 +44,9 @@ impl fmt::Display for Fault {
 /// The report of a file: its name, and why it failed. A refused write is reported of standard output.
 #[derive(Clone, Copy)]
 pub struct Message<'a> {
+    /// The name of the file.
     pub name: &'a str,
+    /// Why it failed.
     pub fault: Fault,
 }
 

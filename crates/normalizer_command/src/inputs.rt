@@ -1,4 +1,4 @@
-//! What the program reads from, and where it reports what failed.
+//! What the program reads from, and what it reports failures to.
 ghost use Rattle.std.specs.Prelude.{◌≡◌, ℕ, List, Option, IfOk, IfErr};
 ghost use Rattle.std.specs.declared.io.ErrorKind.{ErrorKind};
 ghost use Rattle.normalizer_command.specs.Reports.{Report, Tells};
@@ -12,7 +12,7 @@ pub trait Inputs {
     /// An open file.
     type Input: Source + Drop;
 
-    /// The bytes of the file of a name, if the inputs tell them.
+    /// The bytes of the file of a name, if they are known.
     ghost bytes_of: { Self → List ℕ → Option (List ℕ) };
 
     /// Holds if the file of a name can't be opened, for this reason.
@@ -22,6 +22,9 @@ pub trait Inputs {
     ghost read_refused: { Self → List ℕ → Type 0 };
 
     /// Opens the file of this name; `-` is standard input.
+    ///
+    /// # Errors
+    /// Why it can't be opened.
     fn open(&self, name: &str) -> Result<Self::Input, ErrorKind>
         ensures bytes { IfOk result (λ input. Self.Input.left input ≡ bytes_of self.now name.now) }
         ensures reads { IfOk result (λ input. (later : Self.Input) → Self.Input.refused input later →

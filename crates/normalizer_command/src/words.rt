@@ -23,7 +23,7 @@ const AFTER_HELP: &str =
 /// The message if a command that needs a form has none.
 const NO_FORM: &str = "a form is missing: nfc, nfd, nfkc or nfkd";
 
-/// What the words ask for.
+/// What the words request.
 #[derive(Drop)]
 pub enum Request<'a> {
     /// A task over files.
@@ -37,7 +37,9 @@ pub enum Request<'a> {
 /// A task over files.
 #[derive(Drop)]
 pub struct FileRequest<'a> {
+    /// What to do with each file.
     pub task: Task,
+    /// The form.
     pub form: NormalForm,
     /// The directory of Unicode's files, if one is named.
     pub directory: Option<&'a str>,

@@ -3,12 +3,12 @@ ghost use Rattle.std.specs.Prelude.{◌≡◌};
 
 use std::alloc::{AllocError, AllocFailed};
 
-/// The answer of a task that was done.
+/// The result of a task that was done.
 #[derive(Clone, Copy, Debug, PartialEq, Eq)]
 pub enum Answer {
-    /// The result was written, or the answer is yes.
+    /// The output was written, or the result is yes.
     Done,
-    /// The answer is no.
+    /// The result is no.
     No,
 }
 

@@ -197,6 +197,9 @@ impl<'data, I: Iterator<Item = char> + Drop> Decomposition<'data, I> {
 }
 
 /// Returns an iterator over the decomposed form of what a delegate yields, using data that may be read lazily.
+///
+/// # Errors
+/// `Memory` if an allocation was refused.
 pub fn decomposed<'data, I: Iterator<Item = char> + Drop>(
     characters: CharacterData<'data>,
     ignored: IgnoredCharacters,

@@ -14,7 +14,7 @@ use Rattle.normalizer_packing.specs.Spelling.{list_eq, spelling}
 unfoldable pub is_narrow : List ℕ → Bool
 is_narrow x = nat_le 2 (length x) && list_all (λ c. nat_le c 0xFFFF) x
 
--- the list has a length that a word can tell
+-- the list has a length that a word can state
 unfoldable pub HasLengthOfWord : List ℕ → Type 0
 HasLengthOfWord x =
     elim (is_narrow x) as (λ _. Type 0) [ true ↦ length x ≤ 17 | false ↦ (0 < length x) × (length x ≤ 16) ]

@@ -32,6 +32,7 @@ impl<'a> Model for Entries<'a> {
 
 impl<'a> Entries<'a> {
     /// Entries that are looked up by halving.
+    /// Takes entries that rise by character.
     pub fn new(entries: &'a [Entry]) -> Self
         requires { AreRising entries.now }
         ensures { result ≡ entries.now }
@@ -55,6 +56,7 @@ impl<'a> Entries<'a> {
         })
     }
 
+    /// Returns the entries as a slice.
     pub fn as_slice(&self) -> &'a [Entry]
         ensures { result.now ≡ self.now }
     {

@@ -51,7 +51,7 @@ fn has_length(entries: &Entries<'_>, kind: Kind, entry: &Entry) -> bool
     listed_of(entries, kind, entry).map_or(true, |list| has_length_of_word(list))
 }
 
-/// Whether a word can tell the length of a list in a table.
+/// Whether a word can state the length of a list in a table.
 #[tactic(auto, unfolding(crate::specs::inner::Packable::has_length_of_word))]
 fn has_length_of_word(list: &[char]) -> bool
     ensures { result ≡ has_length_of_word list.now }

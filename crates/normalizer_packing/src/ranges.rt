@@ -27,7 +27,10 @@ pub trait Words {
         ensures { is_word self.now number result };
 }
 
-/// The table of the words of all code points, if those between two listed characters have one word.
+/// Returns the table of the words of all code points, if those between two listed characters have one word.
+///
+/// # Errors
+/// [`AllocError`] if an allocation was refused.
 pub fn table_of<W: Words>(
     alloc: Global,
     words: &W,

@@ -143,7 +143,10 @@ impl StepWords<'_, '_, '_> {
     }
 }
 
-/// The supplement of the entries.
+/// Returns the supplement of the entries.
+///
+/// # Errors
+/// [`AllocError`] if an allocation was refused.
 #[tactic(auto, unfolding(crate::specs::Steps::step_lists))]
 pub fn supplement_of(
     alloc: Global,

@@ -22,6 +22,7 @@ pub struct Store<'a> {
 }
 
 impl<'a> Store<'a> {
+    /// Makes a store of no list.
     #[tactic(auto, unfolding(crate::specs::inner::Stores::place_in, crate::specs::Stored::items_of, crate::specs::Stored::is_among))]
     pub fn new(alloc: Global) -> Self
         ensures { Holds [] result }
@@ -55,6 +56,9 @@ impl<'a> Store<'a> {
     }
 
     /// Appends a list to its table, if it isn't there.
+    ///
+    /// # Errors
+    /// [`AllocError`] if an allocation was refused.
     pub fn put(&mut self, list: &'a [char]) -> Result<(), AllocError>
         ensures { OnOk result (HoldsMore self.old list.now self.new) }
     {
@@ -86,6 +90,7 @@ impl<'a> Store<'a> {
         self.scalars24
     }
 
+    /// Returns the two tables.
     pub fn into_tables(self) -> DecompositionTables
         ensures { result ≡ tables_in self.entry }
     {
@@ -148,6 +153,9 @@ pub fn listed_of<'a>(entries: &Entries<'_>, kind: Kind, entry: &'a Entry) -> Opt
 }
 
 /// Puts the lists of one kind of data that no word spells into a store, except those in the one before.
+///
+/// # Errors
+/// [`AllocError`] if an allocation was refused.
 pub fn put_lists<'a>(
     entries: &Entries<'a>,
     kind: Kind,

@@ -25,11 +25,16 @@ pub enum PackError {
 /// The lists of canonical data, and those that only the other kinds of data need.
 #[derive(Drop)]
 pub struct Stores<'a> {
+    /// The lists of canonical data.
     pub canonical: Store<'a>,
+    /// Those that only the other kinds of data need.
     pub supplementary: Store<'a>,
 }
 
-/// The stores of all lists that no word spells.
+/// Returns the stores of all lists that no word spells.
+///
+/// # Errors
+/// `TableFull` if the lists have more items than the limit, `Memory` if an allocation was refused.
 #[tactic(auto, using(crate::proofs::StoreLemmas::needed_items_stored))]
 pub fn stores_of<'a>(alloc: Global, entries: &Entries<'a>) -> Result<Stores<'a>, PackError>
     ensures stored { IfOk result (λ s. AreStored entries.now s.canonical s.supplementary) }

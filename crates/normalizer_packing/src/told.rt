@@ -14,8 +14,11 @@ const EDGES: [char; 10] = [
     '\u{E000}', '\u{FFFD}',
 ];
 
-/// The characters of which entries, pairs, or the packing of numbers that no entry changes say something, in their
-/// order.
+/// Returns the characters of which entries, pairs, or the packing of numbers that no entry changes say something, in
+/// their order.
+///
+/// # Errors
+/// [`AllocError`] if an allocation was refused.
 pub fn told_characters(
     alloc: Global,
     entries: &[Entry],

@@ -18,9 +18,13 @@ use normalizer_tables::word::SURROGATE_WORD;
 /// What the words of one kind of data are made of.
 #[derive(Drop)]
 pub struct PackedWords<'a, 'e> {
+    /// The entries of all characters.
     pub entries: &'a Entries<'e>,
+    /// The pairs.
     pub compositions: &'a CanonicalCompositions,
+    /// The lists in tables.
     pub stores: &'a Stores<'e>,
+    /// The kind of data.
     pub kind: Kind,
 }
 

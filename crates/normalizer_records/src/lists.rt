@@ -29,6 +29,9 @@ fn full_list(
 
 /// Returns the canonical list of a character: its canonical mapping, replaced until nothing changes, then put in
 /// order.
+///
+/// # Errors
+/// [`AllocError`] if an allocation was refused.
 pub fn canonical_list(alloc: Global, records: &[Record], c: char) -> Result<Vec<char>, AllocError>
     requires rising { AreRising records.now }
     requires fits { length (canonical_list records.now c) ≤ 18 }
@@ -38,6 +41,9 @@ pub fn canonical_list(alloc: Global, records: &[Record], c: char) -> Result<Vec<
 }
 
 /// Returns the compatibility list of a character: the same, by all mappings.
+///
+/// # Errors
+/// [`AllocError`] if an allocation was refused.
 pub fn compatibility_list(
     alloc: Global,
     records: &[Record],
@@ -51,6 +57,9 @@ pub fn compatibility_list(
 }
 
 /// Returns the mapper's list of a character, `None` if it ignores the character.
+///
+/// # Errors
+/// [`AllocError`] if an allocation was refused.
 pub fn mapper_list(
     alloc: Global,
     records: &[Record],

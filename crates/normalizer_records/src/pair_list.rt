@@ -47,6 +47,9 @@ fn unsorted_pairs(alloc: Global, records: &[Record]) -> Result<Vec<(char, char, 
 
 /// Returns the pairs of records, sorted by second, then by first. They strictly rise unless two records have the same
 /// pair.
+///
+/// # Errors
+/// [`AllocError`] if an allocation was refused.
 pub fn pairs(alloc: Global, records: &[Record]) -> Result<Vec<(char, char, char)>, AllocError>
     ensures same { IfOk result (λ v. IsPermutation (pairs_of records.now) v.items) }
     ensures sorted { IfOk result (λ v. IsSorted by_second_and_first v.items) }

@@ -83,6 +83,9 @@ fn list_faults(
 }
 
 /// Returns the characters of the records, and of those of the mapper.
+///
+/// # Errors
+/// [`AllocError`] if an allocation was refused.
 pub fn recorded_characters(
     alloc: Global,
     records: &[Record],
@@ -141,6 +144,9 @@ fn first_among(class: bool, mapping: bool, chain: bool, length: bool, pair: bool
 }
 
 /// Returns the first thing that is wrong with the records, if anything is.
+///
+/// # Errors
+/// [`AllocError`] if an allocation was refused.
 pub fn first_refusal(
     alloc: Global,
     records: &[Record],

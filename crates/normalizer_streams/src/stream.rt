@@ -1,7 +1,6 @@
 //! A source read block by block, and the form of all its bytes.
 ghost use Rattle.std.specs.Prelude.{
   ◌≡◌,
-  ◌≢◌,
   ◌⊎◌,
   ◌<◌,
   ◌≤◌,

@@ -1,4 +1,4 @@
--- A code point table given by ranges of code points, each with a word.
+-- A code point table made of ranges of code points, each with a word.
 use Rattle.std.specs.Prelude.{◌≡◌, ℕ, ◌<◌, ◌≤◌, ◌&&◌, nat_le, List, [], ◌∷◌, All, AllPairs, length, map, if◌then◌else◌}
 use Rattle.std.specs.List.{range_with_len}
 use Rattle.normalizer_tables.specs.Table.{Table, word_at, code_points}

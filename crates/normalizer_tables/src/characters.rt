@@ -172,6 +172,7 @@ impl<'a> CharacterData<'a> {
         decompositions.table.get32(CODE_POINTS)
     }
 
+    /// Returns `passthrough_cap` of the data.
     pub fn cap(&self) -> u16
         ensures { result ≡ self.now.decompositions.cap }
     {
@@ -179,18 +180,21 @@ impl<'a> CharacterData<'a> {
         decompositions.passthrough_cap
     }
 
+    /// Returns the tables of lists.
     pub fn tables(&self) -> &'a DecompositionTables
         ensures { result.now ≡ self.now.tables }
     {
         self.tables
     }
 
+    /// Returns the further tables of compatibility data, if there are any.
     pub fn supplementary(&self) -> Option<&'a DecompositionTables>
         ensures { lists_or_none (option_copied result) ≡ self.now.supplementary }
     {
         self.supplementary
     }
 
+    /// Returns whether these are a mapper's data, in which characters may be ignored.
     pub fn is_mapper(&self) -> bool
         ensures { result ≡ self.now.is_mapper }
     {

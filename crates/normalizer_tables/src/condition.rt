@@ -63,7 +63,9 @@ pub enum Condition {
 /// The numbers below which no word is looked up: by a loop that decomposes, and by one that composes.
 #[derive(Clone, Copy, PartialEq, Eq, Debug)]
 pub struct Bounds {
+    /// The bound of decomposing.
     pub decomposition: u32,
+    /// The bound of composing.
     pub composition: u32,
 }
 

@@ -33,6 +33,7 @@ impl<'a> Model for LoadedData<'a> {
 }
 
 impl<'a> LoadedData<'a> {
+    /// Makes the whole of its parts.
     pub fn new(
         characters: CharacterData<'a>,
         bounds: Bounds,

@@ -58,6 +58,7 @@ impl<'a> Members<'a> {
         }
     }
 
+    /// Returns whether there is no member.
     pub fn is_empty(&self) -> bool
         ensures { IsTrue result ↔ (self.now ≡ []) }
     {
@@ -86,6 +87,7 @@ impl<'a> Members<'a> {
         self.get(place).unwrap()
     }
 
+    /// Returns the list of no member.
     pub fn empty() -> Self
         ensures { result ≡ [] }
     {
@@ -94,6 +96,7 @@ impl<'a> Members<'a> {
         }
     }
 
+    /// Returns the list of one member.
     pub fn one(a: char) -> Self
         ensures { result ≡ a ∷ [] }
     {
@@ -148,6 +151,7 @@ impl<'a> Members<'a> {
         }
     }
 
+    /// Returns the list of these members.
     pub fn of_scalars(scalars: &'a [char]) -> Self
         ensures { result ≡ scalars.now }
     {

@@ -10,8 +10,11 @@ use crate::word::WordReading;
 /// A character with its word, how the word reads, and its list.
 #[derive(Drop)]
 pub struct ReadCharacter<'a> {
+    /// The character.
     pub character: char,
+    /// Its word.
     pub word: u32,
+    /// What the word says.
     pub reading: WordReading,
     /// Whether the word reads.
     pub reads: bool,

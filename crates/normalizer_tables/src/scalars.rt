@@ -9,8 +9,8 @@ ghost use lib.Utf8.{scalar};
 use std::alloc::{AllocError, Global};
 use std::marker::Model;
 
-/// A list of characters up to U+FFFF, as 16-bit numbers. It is made from a `Vec`, and turned back into it, without
-/// allocating.
+/// A list of 16-bit numbers: in data that constructors accept, characters up to U+FFFF. It is made from a `Vec`, and
+/// turned back into it, without allocating.
 #[derive(Drop)]
 pub struct Scalars16 {
     units: Vec<u16>,
@@ -26,22 +26,26 @@ impl Model for Scalars16 {
 }
 
 impl Scalars16 {
+    /// Returns the allocator of the list.
     pub fn allocator(&self) -> Global {
         *self.units.allocator()
     }
 
+    /// Returns the numbers as a slice.
     pub fn as_slice(&self) -> &[u16]
         ensures { result.now ≡ self.now }
     {
         self.units.as_slice()
     }
 
+    /// Returns how many numbers there are.
     pub fn len(&self) -> usize
         ensures { result ≡ length self.now }
     {
         self.units.len()
     }
 
+    /// Returns whether there is no number.
     pub fn is_empty(&self) -> bool
         ensures { IsTrue result ↔ (self.now ≡ []) }
     {
@@ -124,18 +128,21 @@ impl Model for Scalars24 {
 }
 
 impl Scalars24 {
+    /// Returns the characters as a slice.
     pub fn as_slice(&self) -> &[char]
         ensures { result.now ≡ self.now }
     {
         self.scalars.as_slice()
     }
 
+    /// Returns how many characters there are.
     pub fn len(&self) -> usize
         ensures { result ≡ length self.now }
     {
         self.scalars.len()
     }
 
+    /// Returns whether there is no character.
     pub fn is_empty(&self) -> bool
         ensures { IsTrue result ↔ (self.now ≡ []) }
     {

@@ -20,24 +20,28 @@ impl Model for FixedList {
 }
 
 impl FixedList {
+    /// Returns the members of the list.
     pub fn members(&self) -> Members<'static>
         ensures { result ≡ self.now.list }
     {
         Members::of_scalars(self.list)
     }
 
+    /// Returns the list as a slice.
     pub fn list(&self) -> &'static [char]
         ensures { result.now ≡ self.now.list }
     {
         self.list
     }
 
+    /// Returns the canonical combining class of the character.
     pub fn class(&self) -> u8
         ensures { result ≡ self.now.class }
     {
         self.class
     }
 
+    /// Returns the canonical combining classes of the members.
     pub fn member_classes(&self) -> &'static [u8]
         ensures { result.now ≡ self.now.member_classes }
     {

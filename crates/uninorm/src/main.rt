@@ -1,5 +1,5 @@
-//! The program `uninorm`: it writes the normal forms of files or of standard input, and the names of files that aren't in
-//! a form.
+//! The program `uninorm`: it writes the normal forms of files or of standard input, and the names of files that aren't
+//! in a form.
 #![tactic(auto)]
 
 mod standard;
@@ -21,7 +21,7 @@ fn main(rt: HostRuntime) -> ExitCode {
     ExitCode::from(by_arguments(&rt))
 }
 
-/// Does what the arguments ask for, and returns the exit status.
+/// Does what the arguments request, and returns the exit status.
 fn by_arguments(rt: &HostRuntime) -> u8 {
     match arguments(rt) {
         Ok(words) => by_words(rt, &words),
@@ -41,7 +41,7 @@ fn arguments(rt: &HostRuntime) -> Result<Vec<String>, ErrorKind> {
     }
 }
 
-/// Does what the words ask for, the first of which is the name that the program was started by.
+/// Does what the words request, the first of which is the name that the program was started by.
 fn by_words(rt: &HostRuntime, words: &Vec<String>) -> u8 {
     match parsed(rt.alloc(), words) {
         Ok(Request::Files(request)) => over_files(rt, words, &request),

@@ -1,4 +1,4 @@
--- What functions of this crate tell one another of the entries and pairs that they pack.
+-- What private contracts say of the entries and pairs that are packed.
 use Rattle.std.specs.Prelude.{ℕ, ◌<◌, ◌≤◌, List, length, All, IfSome}
 use Rattle.std.specs.Char.{IsScalar}
 use Rattle.std.specs.List.Sorted.{IsPermutation}

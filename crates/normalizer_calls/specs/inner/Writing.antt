@@ -1,4 +1,4 @@
--- What private functions tell that write a text to an output, or only a beginning of it.
+-- What private contracts say that a text was written to an output, or only a beginning of it.
 use Rattle.std.specs.Prelude.{◌≡◌, ℕ, ◌≤◌, ◌⊎◌, List, ◌++◌, length, Result, ⊤, OnOk, IsErrOf}
 use Rattle.normalizer_text.specs.Encodings.{Encoding, encoded_in}
 use Rattle.normalizer_iterators.specs.declared.error.NormalizeError.{NormalizeError}

@@ -35,7 +35,7 @@ module _ {I : Type 0} where
     pub waiting : ordered s.waiting ≡ []
     pub apart : ForSome (pending_of s) (StandsApartIn s.characters pairs s.ignored)
 
-  -- c was given as it is: what was to come for it composes to c alone, apart from the rest
+  -- c was yielded as it is: what was to come for it composes to c alone, apart from the rest
   pub record PassesOn (can : I → Type 0) (gives : I → Option ℕ → I → Type 0) (left : I → Count) (pairs : List Pair)
       (s : Decomposition I) (c : ℕ) (t : Decomposition I) : Type 0 where
     pub text : (y : List ℕ) → WillGive (Spells gives) s y → (own : List ℕ) × (rest : List ℕ) × (y ≡ own ++ rest)
@@ -50,7 +50,7 @@ module _ {I : Type 0} where
     pub kept : t.characters ≡ s.characters
     pub fewer : items_left left t < items_left left s
 
-  -- the first member of a list was given, a starter
+  -- the first member of a list was yielded, a starter
   pub record GivesStarter (can : I → Type 0) (gives : I → Option ℕ → I → Type 0) (left : I → Count)
       (s : Decomposition I) (c : ℕ) (t : Decomposition I) : Type 0 where
     pub steps : DecompositionSteps can gives left s (Some (Ok c)) t

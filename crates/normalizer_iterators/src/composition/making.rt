@@ -17,6 +17,9 @@ use normalizer_tables::condition::Bounds;
 
 /// Returns an iterator over the composed form of what a delegate yields, using data and pairs that may be read and
 /// composed lazily.
+///
+/// # Errors
+/// `Memory` if an allocation was refused.
 pub fn composed<'data, I: Iterator<Item = char> + Drop>(
     characters: CharacterData<'data>,
     ignored: IgnoredCharacters,

@@ -1,8 +1,8 @@
--- The tests that tell whether entries can be packed.
+-- The tests of whether entries can be packed.
 use Rattle.std.specs.Prelude.{ℕ, Bool, true, ◌&&◌, nat_lt, nat_le, List, length, Option, Some, None, if◌then◌else◌}
 use Rattle.normalizer_packing.specs.Stored.{is_narrow}
 
--- the list has a length that a word can tell
+-- the list has a length that a word can state
 unfoldable pub has_length_of_word : List ℕ → Bool
 has_length_of_word x = if is_narrow x then nat_le (length x) 17 else nat_lt 0 (length x) && nat_le (length x) 16
 

@@ -1,4 +1,4 @@
--- Tables made of stretches of numbers that have one word. What functions of this crate tell one another of them.
+-- Tables made of stretches of numbers that have one word. What private contracts say of them.
 use Rattle.std.specs.Prelude.{ℕ, ◌+◌, ◌<◌, ◌≤◌, List, [], ◌∷◌, ◌++◌, map, All, Contains}
 use Rattle.std.specs.List.Sorted.{IsStrictlyIncreasing}
 use Rattle.normalizer_tables.specs.Pairs.{Pair}

@@ -15,6 +15,7 @@ use crate::provider::DecompositionTables;
 use crate::read::read_character;
 use crate::word::{is_backward_combining, is_class_form, is_non_round_trip};
 
+/// Returns whether data meet what a condition says of them as a whole.
 #[tactic(auto, unfolding(crate::specs::Conditions::HoldsOverall))]
 pub fn holds_overall(data: &CharacterData<'_>, condition: Condition) -> bool
     ensures { IsTrue result ↔ HoldsOverall data.now condition }

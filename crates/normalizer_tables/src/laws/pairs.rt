@@ -34,7 +34,7 @@ pub fn results_are_faithful()
         HasFaithfulResults (reading_by s Dropped pairs) }
 {}
 
-/// A character that a composing loop passes is its own form, and nothing is reordered or composed across its beginning:
+/// A character that a composing loop passes is normalized, and nothing is reordered or composed across its beginning:
 /// conditions 9, 12 and 13.
 pub fn passed_characters_stand_apart()
     ensures form { (s : Characters) (b : Bounds) (pairs : List Pair) →

@@ -11,7 +11,7 @@ ghost use Rattle.normalizer_tables.specs.Characters.{Characters, has_class_form,
 ghost use Rattle.normalizer_tables.specs.Readings.{reading_of};
 ghost use Rattle.normalizer_tables.specs.Words.{is_plain};
 
-/// A character whose word is 0, flags aside, is a starter that reads as itself and is its own form, and it doesn't
+/// A character whose word is 0, flags aside, is a starter that reads as itself and is normalized, and it doesn't
 /// continue what comes before it.
 pub fn plain_characters_are_their_forms()
     ensures itself { (s : Characters) (ignored : List ℕ) (pairing : ℕ → ℕ → Option ℕ) (c : ℕ) →
