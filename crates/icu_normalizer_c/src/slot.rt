@@ -5,7 +5,7 @@ ghost use Rattle.icu_normalizer_c.specs.Slots.{slot_coded, slot_owns};
 
 use crate::normalizers::Normalizers;
 use crate::parts::Parts;
-use std::alloc::Global;
+use std::alloc::{Allocator, Global};
 use std::marker::Model;
 
 /// A box as its pointer, or none.
@@ -18,7 +18,7 @@ pub struct Slot {
 }
 
 impl Model for Slot {
-    ghost also_owns = { λ s. slot_owns s.alloc s.at s.value };
+    ghost also_owns = { λ s. slot_owns (⟦<Global as Allocator>⟧.dealloc_token s.alloc) s.at s.value };
 }
 
 impl Slot {
