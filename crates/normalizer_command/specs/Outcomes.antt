@@ -1,12 +1,14 @@
 -- What becomes of files, one after another.
-use Rattle.std.specs.Prelude.{◌≡◌, ◌≢◌, ℕ, List, [], ◌∷◌, Option, Result, Ok, Err, IfOk, IfErr, IfSome, IsErrOf, nat_lt, if◌then◌else◌}
+use Rattle.std.specs.Prelude.{◌≡◌, ◌⊎◌, ℕ, List, [], ◌∷◌, Option, Result, Ok, Err, IfOk, IfErr, IfSome, IsErrOf, nat_lt, if◌then◌else◌}
 use Rattle.std.specs.Io.KnownBytes.{Appends}
 use Rattle.normalizer_io.specs.Transfer.{AppendsFront}
 use Rattle.normalizer_io.specs.declared.outcome.Answer.{Answer}
 use Rattle.normalizer_io.specs.declared.outcome.Answer.TheVariants.{Done, No}
 use Rattle.normalizer_command.specs.declared.fault.Fault.{Fault}
-use Rattle.normalizer_command.specs.declared.fault.Fault.TheVariants.{Write}
+use Rattle.normalizer_command.specs.declared.fault.Fault.TheVariants.{Open, Write}
 use Rattle.normalizer_command.specs.declared.reply.Task.{Task}
+use Rattle.normalizer_command.specs.declared.reply.Task.TheVariants as task
+use Rattle.normalizer_streams.specs.Streams.{IsEndless}
 use Rattle.normalizer_command.specs.Devices.{Devices}
 use Rattle.normalizer_command.specs.Faults.{IsFileFault}
 use Rattle.normalizer_command.specs.Making.{Making}
@@ -49,15 +51,23 @@ status_of (Err fault) = 2
 abbrev pub greater : ℕ → ℕ → ℕ
 greater a b = if nat_lt a b then b else a
 
--- One file: its reply is written, or a report says why it failed. Then nothing of it is written, unless a write was
--- refused.
+-- What a task leaves that fails so: nothing is written, or a front of the reply is. A form is written while its file is
+-- read, another reply only then.
+abbrev pub Leaves : Task → Fault → (Unwritten CutOff : Type 0) → Type 0
+Leaves task.Write (Open kind) Unwritten CutOff = Unwritten
+Leaves task.Write fault Unwritten CutOff = CutOff
+Leaves other Write Unwritten CutOff = CutOff
+Leaves other fault Unwritten CutOff = Unwritten
+
+-- One file: its reply is written, or a report says why it failed. A source of 2^64 - 1 bytes may count as refused.
 pub record IsDone {W : Type 0} (d : Devices W) (task : Task) (m : Making) (name : List ℕ) (s t : State W)
     (outcome : Result Answer Fault) : Type 0 where
   pub done : IfOk outcome (IsWritten task m name (d.bytes_of name) (d.taken s.writer) (d.taken t.writer))
   pub why : IfErr outcome
-      (IsFileFault (d.cannot_open name) (d.read_refused name) (d.write_refused s.writer t.writer))
-  pub cut : IsErrOf outcome Write → IsCutOff task m name (d.bytes_of name) (d.taken s.writer) (d.taken t.writer)
-  pub unwritten : IfErr outcome (λ fault. fault ≢ Write → t.writer ≡ s.writer)
+      (IsFileFault (d.cannot_open name) (d.read_refused name ⊎ IsEndless (d.bytes_of name))
+      (d.write_refused s.writer t.writer))
+  pub left : IfErr outcome (λ fault. Leaves task fault (t.writer ≡ s.writer)
+      (IsCutOff task m name (d.bytes_of name) (d.taken s.writer) (d.taken t.writer)))
   pub untold : IfOk outcome (λ _. t.told ≡ s.told)
   pub told : IfErr outcome (λ fault. Tells s.told t.told (name, fault))
   pub status : t.status ≡ greater s.status (status_of outcome)

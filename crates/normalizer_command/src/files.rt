@@ -1,9 +1,10 @@
 //! A task over files.
-ghost use Rattle.std.specs.Prelude.{◌≡◌, ◌≢◌, ◌↔◌, IsTrue, map, IfOk, IfErr, IsErrOf};
+ghost use Rattle.std.specs.Prelude.{◌≡◌, ◌≢◌, ◌↔◌, ◌⊎◌, IsTrue, map, IfOk, IfErr, IsErrOf};
+ghost use Rattle.normalizer_streams.specs.Streams.{IsEndless};
 ghost use Rattle.normalizer_command.specs.Devices.{devices};
 ghost use Rattle.normalizer_command.specs.Faults.{IsFileFault};
 ghost use Rattle.normalizer_command.specs.Making.{Making, Makes};
-ghost use Rattle.normalizer_command.specs.Outcomes.{AreDone, IsCutOff, IsWritten, greater, state, status_of};
+ghost use Rattle.normalizer_command.specs.Outcomes.{AreDone, IsCutOff, IsWritten, Leaves, greater, state, status_of};
 ghost use Rattle.normalizer_command.specs.Reports.{Tells};
 
 use crate::fault::Fault;
@@ -11,6 +12,7 @@ use crate::inputs::{Inputs, Reports};
 use crate::reply::Task;
 use normalizer_built::Normalizer;
 use normalizer_io::{Answer, Source, Target, read_all, write_all};
+use normalizer_streams::write_form;
 use std::alloc::Global;
 
 /// Does the task with each file in turn, up to a refused write, and returns the exit status: the greatest of those of
@@ -53,17 +55,18 @@ fn over_file<I: Inputs, W: Target>(
 ) -> Result<Answer, Fault>
     ensures done { (m : Making) → Makes normalizer.now m → IfOk result
         (IsWritten task m name.now (I.bytes_of inputs.now name.now) (W.taken writer.old) (W.taken writer.new)) }
-    ensures why { IfErr result (IsFileFault (I.cannot_open inputs.now name.now) (I.read_refused inputs.now name.now)
+    ensures why { IfErr result (IsFileFault (I.cannot_open inputs.now name.now)
+        (I.read_refused inputs.now name.now ⊎ IsEndless (I.bytes_of inputs.now name.now))
         (W.refused writer.old writer.new)) }
-    ensures cut { (m : Making) → Makes normalizer.now m → IsErrOf result Fault.Write →
-        IsCutOff task m name.now (I.bytes_of inputs.now name.now) (W.taken writer.old) (W.taken writer.new) }
-    ensures unwritten { IfErr result (λ fault. fault ≢ Fault.Write → writer.new ≡ writer.old) }
+    ensures left { (m : Making) → Makes normalizer.now m →
+        IfErr result (λ fault. Leaves task fault (writer.new ≡ writer.old)
+        (IsCutOff task m name.now (I.bytes_of inputs.now name.now) (W.taken writer.old) (W.taken writer.new))) }
 {
     let mut input = inputs.open(name)?;
     over_input(alloc, normalizer, task, name, &mut input, writer)
 }
 
-// Reads to the end, computes the reply, and only then writes it.
+// Writes the form while it reads; else reads to the end, computes the reply, and only then writes it.
 fn over_input<S: Source, W: Target>(
     alloc: Global,
     normalizer: &Normalizer,
@@ -72,6 +75,33 @@ fn over_input<S: Source, W: Target>(
     input: &mut S,
     writer: &mut W,
 ) -> Result<Answer, Fault>
+    ensures done { (m : Making) → Makes normalizer.now m → IfOk result
+        (IsWritten task m name.now (S.left input.old) (W.taken writer.old) (W.taken writer.new)) }
+    ensures why { IfErr result (IsFileFault (λ _. ⊥) (S.refused input.old input.new ⊎ IsEndless (S.left input.old))
+        (W.refused writer.old writer.new)) }
+    ensures left { (m : Making) → Makes normalizer.now m →
+        IfErr result (λ fault. Leaves task fault (writer.new ≡ writer.old)
+        (IsCutOff task m name.now (S.left input.old) (W.taken writer.old) (W.taken writer.new))) }
+{
+    match task {
+        Task::Write => {
+            write_form(alloc, normalizer, input, writer)?;
+            Ok(Answer::Done)
+        }
+        Task::Check | Task::Locate => write_reply(alloc, normalizer, task, name, input, writer),
+    }
+}
+
+// Reads to the end, computes the reply, and only then writes it.
+fn write_reply<S: Source, W: Target>(
+    alloc: Global,
+    normalizer: &Normalizer,
+    task: Task,
+    name: &str,
+    input: &mut S,
+    writer: &mut W,
+) -> Result<Answer, Fault>
+    requires { task ≢ Task.Write }
     ensures done { (m : Making) → Makes normalizer.now m → IfOk result
         (IsWritten task m name.now (S.left input.old) (W.taken writer.old) (W.taken writer.new)) }
     ensures why { IfErr result (IsFileFault (λ _. ⊥) (S.refused input.old input.new)

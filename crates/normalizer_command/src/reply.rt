@@ -1,5 +1,5 @@
 //! What is done with a file.
-ghost use Rattle.std.specs.Prelude.{◌≡◌, ◌≤◌, IfOk, IfSome, IsOkUnless, length, string_bytes};
+ghost use Rattle.std.specs.Prelude.{◌≡◌, ◌≢◌, ◌≤◌, IfOk, IfSome, IsOkUnless, length, string_bytes};
 ghost use Rattle.normalizer_command.specs.Making.{Making, Makes};
 ghost use Rattle.normalizer_command.specs.Mismatches.{TellsMismatch};
 ghost use Rattle.normalizer_command.specs.Replies.{IsReply, line_of};
@@ -30,7 +30,7 @@ pub struct Reply {
 }
 
 impl Task {
-    /// Returns the reply to the bytes of a file.
+    /// Returns the reply to the bytes of a file, unless it is their form, which is written block by block.
     pub(crate) fn reply(
         self,
         alloc: Global,
@@ -38,15 +38,13 @@ impl Task {
         name: &str,
         bytes: &[u8],
     ) -> Result<Reply, Fault>
+        requires { self ≢ Task.Write }
         ensures reply { (m : Making) → Makes normalizer.now m →
             IfOk result (λ r. IsReply self m name.now bytes.now r.answer (string_bytes r.output)) }
         ensures refused { IsOkUnless result Fault.Memory }
     {
         match self {
-            Task::Write => Ok(Reply {
-                answer: Answer::Done,
-                output: normalizer.form_of(alloc, bytes)?,
-            }),
+            Task::Write => unreachable!(),
             Task::Check => {
                 if normalizer.is_normalized(bytes)? {
                     Ok(Reply {

@@ -1,7 +1,7 @@
 use Rattle.std.proofs.Common.{rules, string_bytes}
 use Rattle.normalizer_io.specs.Transfer.{AppendsFront}
 use Rattle.normalizer_command.specs.Outcomes.{Replies}
-use Rattle.normalizer_command.proofs.files.over_input.Goals as goal
+use Rattle.normalizer_command.proofs.files.write_reply.Goals as goal
 
 pub returns-in_err-write_all-clause-cut : goal.returns-in_err-write_all-clause-cut
 returns-in_err-write_all-clause-cut g c = λ m makes refused.
