@@ -66,8 +66,8 @@ fn is_normalized_utf8_at(
     normalizer.tell_normalized_utf8(input, reported)
 }
 
-/// Reports the cut of `input` in UTF-8: the greatest number of units that are well-formed and that the form begins with,
-/// followed by the form of the rest.
+/// Reports the cut of `input` in UTF-8: the greatest number of units that are well-formed and that the form begins
+/// with, followed by the form of the rest.
 ///
 /// # Errors
 /// `NotOpen`, `UnknownForm`, or `Memory`, which never comes over short runs. `reported` is then unchanged.
@@ -169,8 +169,8 @@ fn is_normalized_utf16_at(
     normalizer.tell_normalized_utf16(input, reported)
 }
 
-/// Reports the cut of `input` in UTF-16: the greatest number of units that are well-formed and that the form begins with,
-/// followed by the form of the rest.
+/// Reports the cut of `input` in UTF-16: the greatest number of units that are well-formed and that the form begins
+/// with, followed by the form of the rest.
 ///
 /// # Errors
 /// `NotOpen`, `UnknownForm`, or `Memory`, which never comes over short runs. `reported` is then unchanged.

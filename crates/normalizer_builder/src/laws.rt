@@ -1,5 +1,5 @@
-//! The laws of building. Each function does nothing but call the laws that it rests on: its contract is the law, and its
-//! proof is in `proofs/`.
+//! The laws of building. Each function does nothing but call the laws that it rests on: its contract is the law, and
+//! its proof is in `proofs/`.
 ghost use Rattle.std.specs.Prelude.{◌≡◌, ◌≢◌, false, true, All, List, Some};
 ghost use Rattle.normal_forms.specs.declared.Form.{Form};
 ghost use Rattle.normal_forms.specs.Hypotheses.{HasInhabitedLists, SuitsForm};

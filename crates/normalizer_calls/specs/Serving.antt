@@ -25,8 +25,8 @@ pub record ServesDecomposing (s : Characters) (b : Bounds) : Type 0 where
   pub laws : SuitsTexts (reading_by s Dropped []) Decomposing
 
 -- text may be decomposed and composed by them character by character, characters below the bound of decomposing pass
--- unseen, characters that are taken to begin safely begin apart (condition 13), what pairs compose to has their lists (condition
--- 14), and the laws of both forms hold
+-- unseen, characters that are taken to begin safely begin apart (condition 13), what pairs compose to has their lists
+-- (condition 14), and the laws of both forms hold
 pub record ServesComposing (s : Characters) (b : Bounds) (pairs : List Pair) : Type 0 where
   pub reading : SuitsLazyReading (has_class_form s) (reading_by s Dropped [])
   pub composing : SuitsLazyComposing s b pairs

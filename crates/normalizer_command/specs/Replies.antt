@@ -22,8 +22,8 @@ line_of text = text ++ (line_feed ∷ [])
 abbrev pub IsInForm : Making → List ℕ → Type 0
 IsInForm m input = IsInputNormalized Encoding.Utf8 m.reading m.form input
 
--- the UTF-8 of the form of what the bytes decode to; the name on a line if they aren't in the form; or the line of their
--- first mismatch
+-- the UTF-8 of the form of what the bytes decode to; the name on a line if they aren't in the form; or the line of
+-- their first mismatch
 abbrev pub IsReply : Task → Making → (name input : List ℕ) → Answer → (output : List ℕ) → Type 0
 IsReply Write m name input answer output = (answer ≡ Done) × (output ≡ encoded_form Encoding.Utf8 m.reading m.form input)
 IsReply Check m name input Done output = IsInForm m input × (output ≡ [])

@@ -5,8 +5,8 @@ ghost use Rattle.normalizer_command.specs.Mismatches.{byte_after, code_point_dig
 use normalizer_calls::Offence;
 use std::alloc::{AllocError, Global};
 
-/// Returns the line of a mismatch: the name of the file, the line and the byte in it, both from 1, the character that is
-/// there and the one that is wanted.
+/// Returns the line of a mismatch: the name of the file, the line and the byte in it, both from 1, the character that
+/// is there and the one that is wanted.
 pub(crate) fn mismatch_line(
     alloc: Global,
     name: &str,

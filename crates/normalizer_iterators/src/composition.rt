@@ -128,8 +128,8 @@ impl<'data, I: Iterator<Item = char> + Drop> Composition<'data, I> {
         })
     }
 
-    /// Returns what `starter` and `second` compose to, if they do (D114). If the data meet condition 14, the list of the
-    /// result is the lists of the two, in canonical order. It takes no memory.
+    /// Returns what `starter` and `second` compose to, if they do (D114). If the data meet condition 14, the list of
+    /// the result is the lists of the two, in canonical order. It takes no memory.
     pub fn compose(&self, starter: char, second: char) -> Option<char>
         ensures pair { result ≡ pair_of (pairs_of_composition self.now) starter second }
         ensures lists { let s = data_of_composition self.now in (ignored : IgnoredCharacters) →

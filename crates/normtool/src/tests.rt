@@ -1,7 +1,8 @@
 //! Tests of what no clause says: that calls succeed, and the texts that are printed.
 use crate::memory::{Page, Pieces};
 use normalizer_builder::{Built, Records};
-use normalizer_program::ending::{Answer, ToolFault, ending};
+use normalizer_io::Answer;
+use normalizer_program::ending::{ToolFault, ending};
 use normalizer_program::run::run;
 use normalizer_program::words::{Command, RecordSet, USAGE, words};
 use normalizer_program::{CommandData, built};
