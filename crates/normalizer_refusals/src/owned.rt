@@ -62,8 +62,8 @@ impl Normalizers {
 
     /// A text with long runs that is normalized.
     pub fn borrowed_text(&self) -> Answer {
-        match self.decomposing.as_borrowed().normalize(LONG_NFD) {
-            Ok(CowStr::Borrowed(form)) => Answer::of(form == LONG_NFD),
+        match self.composing.as_borrowed().normalize(LONG_NFC) {
+            Ok(CowStr::Borrowed(form)) => Answer::of(form == LONG_NFC),
             Ok(CowStr::Owned(_)) => Answer::Wrong,
             Err(fault) => fault.answer(),
         }
