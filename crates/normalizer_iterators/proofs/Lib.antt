@@ -7,6 +7,7 @@ pub mod MarkLemmas
 pub mod MarkRunLemmas
 pub mod PassedClasses
 pub mod PassingLemmas
+pub mod PlainLemmas
 pub mod ReadingLemmas
 pub mod SegmentLemmas
 pub mod ShortChunkLemmas

@@ -238,6 +238,7 @@ fn compose_starter<I: Iterator<Item = char> + Drop>(
 }
 
 /// Joins a character with a starter if none of the marks between them blocks it and the two compose; else a mark stays.
+#[inline(always)]
 fn visit(
     pairs: &CanonicalCompositions,
     marks: &mut StayingMarks,
@@ -260,6 +261,7 @@ fn visit(
 }
 
 /// What a character and a starter compose to, if none of the marks between them blocks it.
+#[inline(always)]
 fn join(
     pairs: &CanonicalCompositions,
     marks: &StayingMarks,

@@ -5,6 +5,7 @@ ghost use Rattle.normal_forms.specs.Reading.{Reading};
 ghost use Rattle.normal_forms.specs.CompositionByStarters.{is_above};
 ghost use Rattle.normal_forms.specs.ShortRuns.{places};
 
+use crate::waiting::remove_all;
 use smallvec::SmallVec;
 use std::alloc::{AllocError, Global};
 
@@ -43,7 +44,7 @@ impl StayingMarks {
     {
         self.next = 0;
         self.unblocked = 0;
-        self.marks.clear();
+        remove_all(&mut self.marks);
     }
 
     /// The next of them, if one is left.
@@ -72,6 +73,7 @@ impl StayingMarks {
     }
 
     /// Adds a mark of this class.
+    #[inline(always)]
     pub(crate) fn push(&mut self, mark: char, class: u8) -> Result<(), AllocError>
         ensures staying { OnOk result (staying self.new ≡ staying self.old ++ mark ∷ []) }
         ensures used { OnOk result (used self.new ≡ used self.old + 1) }

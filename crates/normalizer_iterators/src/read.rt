@@ -4,11 +4,15 @@ ghost use Rattle.normal_forms.specs.ShortRuns.{continues};
 ghost use Rattle.normalizer_tables.specs.Characters.{class_of, has_class_form, list_of, word_of};
 ghost use Rattle.normalizer_tables.specs.Ignored.{ignored_list};
 ghost use Rattle.normalizer_tables.specs.Readings.{reading_by};
+ghost use Rattle.normalizer_tables.specs.Unseen.{PassesUnseen};
 ghost use Rattle.normalizer_iterators.specs.Reads.{character_of, HasOwnWord, HasOwnWords};
 
 use normalizer_tables::characters::{CharacterData, IgnoredCharacters};
 use normalizer_tables::members::Members;
 use normalizer_tables::word::is_class_form;
+
+/// The bits of a word that are all 0 if the character is its own list, a starter.
+const PLAIN: u32 = 0x3FFF_FFFF;
 
 /// A character that was read, with its word if that was looked up.
 #[derive(Clone, Copy)]
@@ -44,6 +48,18 @@ impl ReadCharacter {
         }
     }
 
+    /// Whether its word says, or it is known unseen, that the character is its own list, a starter without class form.
+    #[inline(always)]
+    pub(crate) fn is_plain(self, characters: &CharacterData<'_>) -> bool
+        requires { HasOwnWord characters.now self }
+        ensures { IsTrue result → PassesUnseen characters.now self.character }
+    {
+        match self.word {
+            Some(word) => word & PLAIN == 0,
+            None => characters.passes_unseen(self.character),
+        }
+    }
+
     /// Whether a boundary precedes the character: it has no class form, and its list has members.
     #[tactic(auto, unfolding(normalizer_tables::specs::Characters::has_class_form))]
     #[inline(always)]
@@ -56,7 +72,7 @@ impl ReadCharacter {
         ensures { IsTrue result ↔ (continues (has_class_form characters.now)
             (reading_by characters.now ignored []) self.character ≡ false) }
     {
-        if characters.passes_unseen(self.character) {
+        if self.is_plain(characters) {
             return true;
         }
         let word = self.word_by(characters);
@@ -71,7 +87,7 @@ impl ReadCharacter {
             IfSome result (λ _. list_of characters.now ignored self.character ≡ self.character ∷ []) }
         ensures class { IfSome result (λ class. class ≡ class_of characters.now self.character) }
     {
-        if characters.passes_unseen(self.character) {
+        if self.is_plain(characters) {
             return Some(0);
         }
         characters.class_of_itself(self.character, self.word_by(characters))
@@ -87,7 +103,7 @@ impl ReadCharacter {
         requires { HasOwnWord characters.now self }
         ensures { result ≡ list_of characters.now (ignored_list ignored) self.character }
     {
-        if characters.passes_unseen(self.character) {
+        if self.is_plain(characters) {
             return Members::one(self.character);
         }
         characters.members_by(self.character, self.word_by(characters), ignored)

@@ -55,6 +55,7 @@ pub(crate) fn read_on<I: Iterator<Item = char> + Drop>(
 }
 
 /// Buffers the list of a character.
+#[inline(always)]
 fn push_list(
     characters: &CharacterData<'_>,
     ignored: IgnoredCharacters,
@@ -82,6 +83,7 @@ fn push_list(
 }
 
 /// Buffers the members of a list from this place on.
+#[inline(always)]
 pub(crate) fn push_from(
     characters: &CharacterData<'_>,
     members: &Members<'_>,

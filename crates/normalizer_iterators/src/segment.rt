@@ -152,6 +152,7 @@ fn push_list(
 }
 
 /// Copies what is in order, if it fits.
+#[inline(always)]
 fn copy_all(waiting: &mut WaitingList, text: &mut ShortText) -> bool
     ensures text { IsTrue result → so_far text.new ≡ ordered waiting.old }
     ensures fits { length (ordered waiting.old) ≤ places → IsTrue result }
@@ -166,6 +167,7 @@ fn copy_all(waiting: &mut WaitingList, text: &mut ShortText) -> bool
 }
 
 /// Composes what is in order, if it fits.
+#[inline(always)]
 fn compose_all(
     pairs: &CanonicalCompositions,
     waiting: &mut WaitingList,

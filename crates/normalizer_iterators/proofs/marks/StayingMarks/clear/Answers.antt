@@ -5,4 +5,4 @@ use Rattle.normalizer_iterators.proofs.marks.StayingMarks.clear.Goals as goal
 
 pub returns-clause-blocking : goal.returns-clause-blocking
 unfolding staying BlocksBelow
-returns-clause-blocking c = λ d x. is_above-none d _ x (ap (drop 0) c.clear.ensures.items)
+returns-clause-blocking c = λ d x. is_above-none d _ x (ap (drop 0) c.remove_all.ensures.items)

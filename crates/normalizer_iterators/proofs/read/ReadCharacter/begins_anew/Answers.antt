@@ -6,11 +6,11 @@ use Rattle.normalizer_tables.specs.Readings.{reading_by}
 use Rattle.normalizer_iterators.proofs.LazyLemmas.{continues-anew, anew-parts}
 use Rattle.normalizer_iterators.proofs.read.ReadCharacter.begins_anew.Goals as goal
 
-pub returns-then-passes_unseen : goal.returns-then-passes_unseen
-returns-then-passes_unseen c =
+pub returns-then-is_plain : goal.returns-then-is_plain
+returns-then-is_plain c =
     let f = has_class_form c.args.characters.now in
     let d = reading_by c.args.characters.now c.args.ignored [] in
-    let unseen = c.passes_unseen.ensures c.if-passes_unseen.true in (
+    let unseen = c.is_plain.ensures c.if-is_plain.true in (
       λ _. continues-anew f d c.args.self.character unseen.no_class_form
           (λ none. let clash : [] ≡ c.args.self.character ∷ [] = sym none ∙ unseen.itself (ignored_list c.args.ignored) in cc),
       λ _. refl,
