@@ -1,62 +1,70 @@
-/* Times the calls on text beside memcpy and a loop that only decodes and encodes: `program RECORDS ROUNDS FILE..`. It writes a
-   line for each file, form and call: their names, the best of the rounds in nanoseconds, the length and a digest of what was
-   written, and the millions of bytes of the file in a second, with a tab between each two. RECORDS has a character a line: its
-   number, class, the kind of its mapping (none, canonical, excluded, compatibility) and the numbers of that, in decimal.
-   `program --row FORM CALL RECORDS TIMES FILE` makes one call on one file TIMES times, for a profiler. */
-#define _POSIX_C_SOURCE 199309L
+/* Times calls of libraries, by the processor time of this thread:
 
+   program calls DATA ROUNDS FILE [LIBRARY]        each call of each library, but the named one, on the text of FILE
+   program row DATA TIMES FILE FORM CALL LIBRARY   one call of a library, so many times, for a profiler
+   program start DATA ROUNDS                       building data, and making normalizers over them
+   program child COMMAND..                         a program from its start to its end; by the same input and output
+
+   DATA is the folder of UnicodeData.txt and CompositionExclusions.txt. `calls` writes a line for each cell: form, call,
+   library, nanoseconds, and the length and the checksum of what was written, with a tab between each two. */
+#define _POSIX_C_SOURCE 200809L
+#define _DEFAULT_SOURCE
+
+#include "icu_normalizer.h"
+#include "library.h"
 #include "normalizer_benchmark.h"
+#include <malloc.h>
 #include <stdio.h>
 #include <stdlib.h>
 #include <string.h>
+#include <sys/resource.h>
+#include <sys/wait.h>
 #include <time.h>
+#include <unistd.h>
 
-#define PLAIN_CALLS NORMALIZER_NORMALIZE
-#define FORM_CALLS (NORMALIZER_CALLS - PLAIN_CALLS)
-#define STEPS (PLAIN_CALLS + NORMALIZER_FORMS * FORM_CALLS)
+/* How long the calls of a sample are to take, in nanoseconds. A call that takes more than SLOW is made once only. */
+#define SAMPLE 30000000u
+#define SLOW 250000000u
+#define MOST_TIMES 1000u
 
-static const char *const FORM_NAMES[] = {"nfd", "nfc", "nfkd", "nfkc"};
+static const char *const FORM_NAMES[] = {"NFD", "NFC", "NFKD", "NFKC"};
 static const char *const CALL_NAMES[] = {
-    "copy",
-    "decode and encode",
-    "Utf8Chars and encode",
-    "Utf8Chars",
-    "normalize_to",
-    "normalize_utf8_to",
-    "normalize_utf16_to",
-    "is_normalized",
-    "is_normalized_utf8",
-    "is_normalized_utf16",
-    "normalize",
-    "normalize_iter",
-    "unicode_normalization to",
-    "unicode_normalization is",
+    "normalize_to",       "normalize_utf8_to",   "normalize_utf16_to", "is_normalized",
+    "is_normalized_utf8", "is_normalized_utf16", "normalize",          "normalize_iter",
 };
 
-struct bytes {
+static const struct library {
+    const char *name;
+    repeat *repeat;
+} LIBRARIES[] = {
+    {"this library", rattle_repeat},
+    {"port", port_repeat},
+#ifdef WITH_ICU4C
+    {"ICU4C", icu4c_repeat},
+#endif
+#ifdef WITH_ORIGINAL
+    {"Rust", original_repeat},
+#endif
+};
+#define COUNT_OF_LIBRARIES (sizeof LIBRARIES / sizeof *LIBRARIES)
+
+struct file {
     uint8_t *at;
     size_t length;
 };
 
-struct units {
-    uint16_t *at;
-    size_t length;
-};
-
-struct records {
-    struct normalizer_record *at;
-    size_t length;
-};
+static struct file unicode_data, exclusions;
+static icu_normalizer normalizer = ICU_NORMALIZER_CLOSED;
 
 static void stop(const char *why, const char *of) {
     fprintf(stderr, "program: %s: %s\n", of, why);
     exit(2);
 }
 
-static void *room(size_t size) {
-    void *at = malloc(size ? size : 1);
+static void *room_of(size_t size) {
+    void *at = malloc(size + 1);
     if (!at) stop("out of memory", "malloc");
-    return at;
+    return memset(at, 0, size + 1);
 }
 
 static uint64_t now(void) {
@@ -65,218 +73,312 @@ static uint64_t now(void) {
     return (uint64_t)time.tv_sec * 1000000000u + (uint64_t)time.tv_nsec;
 }
 
-static struct bytes bytes_of(const char *path) {
+static struct file file_of(const char *folder, const char *name) {
+    char path[4096];
+    snprintf(path, sizeof path, "%s%s", folder, name);
     FILE *file = fopen(path, "rb");
     if (!file || fseek(file, 0, SEEK_END)) stop("it can't be read", path);
-    long length = ftell(file);
+    struct file content = {NULL, (size_t)ftell(file)};
+    content.at = room_of(content.length);
     rewind(file);
-    if (length < 0) stop("it can't be read", path);
-    struct bytes bytes = {room((size_t)length), (size_t)length};
-    if (fread(bytes.at, 1, bytes.length, file) != bytes.length) stop("it can't be read", path);
+    if (fread(content.at, 1, content.length, file) != content.length) stop("it can't be read", path);
     fclose(file);
-    return bytes;
+    return content;
 }
 
-static struct records records_of(const char *path) {
-    FILE *file = fopen(path, "r");
-    if (!file) stop("it can't be read", path);
-    struct records records = {NULL, 0};
-    char line[512], kind[16];
-    unsigned character, combining_class;
-    for (size_t places = 0; fgets(line, sizeof line, file); records.length++) {
-        int used = 0;
-        if (sscanf(line, "%u %u %15s%n", &character, &combining_class, kind, &used) < 3) stop("a line is no record", path);
-        if (records.length == places) {
-            places = places ? 2 * places : 1024;
-            records.at = realloc(records.at, places * sizeof *records.at);
-            if (!records.at) stop("out of memory", path);
-        }
-        struct normalizer_record *record = records.at + records.length;
-        *record = (struct normalizer_record){.character = character, .combining_class = (uint8_t)combining_class};
-        record->compatibility = !strcmp(kind, "compatibility");
-        record->excluded = !strcmp(kind, "excluded");
-        char *end, *at = line + used;
-        for (unsigned long next = strtoul(at, &end, 10); end != at; at = end, next = strtoul(at, &end, 10)) {
-            if (record->length == NORMALIZER_MAPPING) stop("a mapping is too long", path);
-            record->mapping[record->length++] = (uint32_t)next;
+static void open_data(const char *folder) {
+    unicode_data = file_of(folder, "/UnicodeData.txt");
+    exclusions = file_of(folder, "/CompositionExclusions.txt");
+    if (icu_normalizer_open_unicode_data(&normalizer, unicode_data.at, unicode_data.length, exclusions.at,
+                                         exclusions.length))
+        stop("its data can't be read", folder);
+}
+
+/* The libraries in Rattle: exports of the C library, and repeated calls. */
+
+static int repeated(uint32_t form, uint32_t call, const struct text *text, size_t times, struct output *output) {
+    if (normalizer_benchmark_repeat(unicode_data.at, unicode_data.length, exclusions.at, exclusions.length, form, call,
+                                    text->bytes, text->length, times, output->at, output->room, &output->length))
+        stop("a call failed", "normalizer_benchmark");
+    return 1;
+}
+
+static int exported(uint32_t form, uint32_t call, const struct text *text, size_t times, struct output *output) {
+    static void *written;
+    static size_t room;
+    if (room < 16 * (text->length + 1)) {
+        free(written);
+        room = 16 * (text->length + 1);
+        written = room_of(room);
+    }
+    size_t length = 0, width = 0;
+    icu_normalizer_status status = ICU_NORMALIZER_OK;
+    bool is_normalized = false;
+    for (size_t i = 0; i < times && !status; i++) {
+        switch (call) {
+            case NORMALIZE_UTF8_TO:
+                status = icu_normalizer_normalize_utf8(&normalizer, form, text->bytes, text->length, written, room,
+                                                       &length);
+                width = 1;
+                break;
+            case NORMALIZE_UTF16_TO:
+                status = icu_normalizer_normalize_utf16(&normalizer, form, text->units, text->units_length, written,
+                                                        room / 2, &length);
+                width = 2;
+                break;
+            case IS_NORMALIZED_UTF8:
+                status = icu_normalizer_is_normalized_utf8(&normalizer, form, text->bytes, text->length,
+                                                           &is_normalized);
+                break;
+            default:
+                status = icu_normalizer_is_normalized_utf16(&normalizer, form, text->units, text->units_length,
+                                                            &is_normalized);
         }
     }
-    fclose(file);
-    if (!records.length) stop("there is no record", path);
-    return records;
+    if (status) stop(icu_normalizer_status_text(status), "icu_normalizer");
+    memcpy(output->at, written, width * length < output->room ? width * length : output->room);
+    output->length = width ? length : is_normalized;
+    return 1;
 }
 
-/* The first character of well-formed UTF-8, and how many bytes it takes. */
-static uint32_t decoded(const uint8_t *at, size_t *width) {
-    uint32_t first = at[0];
-    *width = first < 0x80 ? 1 : first < 0xE0 ? 2 : first < 0xF0 ? 3 : 4;
-    if (*width == 1) return first;
-    uint32_t c = first & (0xFFu >> (*width + 1));
-    for (size_t i = 1; i < *width; i++) c = c << 6 | (at[i] & 0x3Fu);
-    return c;
-}
-
-static size_t encoded(uint32_t c, uint8_t *to) {
-    static const uint8_t FIRST[] = {0, 0, 0xC0, 0xE0, 0xF0};
-    size_t width = c < 0x80 ? 1 : c < 0x800 ? 2 : c < 0x10000 ? 3 : 4;
-    for (size_t i = width - 1; i > 0; i--, c >>= 6) to[i] = 0x80 | (c & 0x3F);
-    to[0] = FIRST[width] | (uint8_t)c;
-    return width;
-}
-
-static size_t recoded(struct bytes text, uint8_t *to) {
-    size_t length = 0, width;
-    for (size_t i = 0; i < text.length; i += width) length += encoded(decoded(text.at + i, &width), to + length);
-    return length;
-}
-
-static struct units units_of(struct bytes text) {
-    struct units units = {room(text.length * sizeof *units.at), 0};
-    size_t width;
-    for (size_t i = 0; i < text.length; i += width) {
-        uint32_t c = decoded(text.at + i, &width);
-        if (c < 0x10000) {
-            units.at[units.length++] = (uint16_t)c;
-        } else {
-            units.at[units.length++] = (uint16_t)(0xD7C0 + (c >> 10));
-            units.at[units.length++] = (uint16_t)(0xDC00 + (c & 0x3FF));
-        }
+int rattle_repeat(unsigned form, unsigned call, const struct text *text, size_t times, struct output *output) {
+    switch (call) {
+        case NORMALIZE_TO: return repeated(form, BENCHMARK_WRITE, text, times, output);
+        case IS_NORMALIZED: return repeated(form, BENCHMARK_CHECK, text, times, output);
+        case NORMALIZE: return repeated(form, BENCHMARK_OWN, text, times, output);
+        case NORMALIZE_ITER: return repeated(form, BENCHMARK_ITERATE, text, times, output);
+        default: return exported(form, call, text, times, output);
     }
-    return units;
 }
 
-static uint32_t digest_of(const uint8_t *at, size_t length) {
-    uint32_t digest = 0;
-    for (size_t i = 0; i < length; i++) digest = digest * 31 + at[i];
-    return digest;
+int port_repeat(unsigned form, unsigned call, const struct text *text, size_t times, struct output *output) {
+    switch (call) {
+        case IS_NORMALIZED: return repeated(form, BENCHMARK_PORT_CHECK, text, times, output);
+        case NORMALIZE: return repeated(form, BENCHMARK_PORT_WRITE, text, times, output);
+        case NORMALIZE_ITER: return repeated(form, BENCHMARK_PORT_ITERATE, text, times, output);
+        default: return 0;
+    }
 }
 
-static uint64_t least(const uint64_t *times, size_t count) {
-    uint64_t best = times[0];
-    for (size_t i = 1; i < count; i++)
-        if (times[i] < best) best = times[i];
-    return best;
+/* Timing. */
+
+static int is_check(unsigned call) {
+    return call == IS_NORMALIZED || call == IS_NORMALIZED_UTF8 || call == IS_NORMALIZED_UTF16;
 }
 
-static void say(const char *file, const char *form, const char *call, const uint64_t *times, size_t rounds, size_t size, uint64_t length,
-                uint32_t digest) {
-    uint64_t passed = least(times, rounds);
-    double rate = passed ? (double)size * 1e3 / (double)passed : 0;
-    printf("%s\t%s\t%s\t%llu\t%llu\t%u\t%.2f\n", file, form, call, (unsigned long long)passed, (unsigned long long)length,
-           (unsigned)digest, rate);
+/* A call of a library on a text. */
+struct cell {
+    unsigned form, call;
+    const struct library *library;
+    const struct text *text;
+    size_t times;
+    uint64_t all;   /* the least time of so many calls */
+    uint64_t *none; /* the least time of no call, by this library, to this form */
+    bool is_slow;
+};
+
+static uint64_t least_times_of_none[FORMS][2][COUNT_OF_LIBRARIES];
+
+#define NO_CALL UINT64_MAX
+
+static uint64_t spent(const struct cell *cell, size_t times) {
+    char nothing;
+    struct output output = {&nothing, 0, 0};
+    uint64_t begin = now();
+    return cell->library->repeat(cell->form, cell->call, cell->text, times, &output) ? now() - begin : NO_CALL;
 }
 
-/* The steps of a round: those that make no form, and each call of each form. */
-static void ask(struct normalizer_step *steps) {
-    size_t count = 0;
-    for (uint8_t call = 0; call < PLAIN_CALLS; call++) steps[count++] = (struct normalizer_step){.call = call};
-    for (uint8_t form = 0; form < NORMALIZER_FORMS; form++)
-        for (uint8_t call = PLAIN_CALLS; call < NORMALIZER_CALLS; call++)
-            steps[count++] = (struct normalizer_step){.form = form, .call = call};
+/* How much more time the calls took than none. */
+static uint64_t passed(const struct cell *cell) {
+    return cell->all > *cell->none ? cell->all - *cell->none : 1;
 }
 
-static void run(const char *path, struct records records, struct bytes text, size_t rounds) {
-    struct units units = units_of(text);
-    struct normalizer_step steps[STEPS], first[STEPS];
-    struct normalizer_start start;
-    uint64_t *times = room((STEPS + 2) * rounds * sizeof *times);
-    uint64_t *copies = times + STEPS * rounds, *loops = copies + rounds;
-    uint8_t *copy = room(text.length), *written = room(text.length);
-    memset(copy, ' ', text.length);
-    memset(written, ' ', text.length);
+static void sample(struct cell *cell) {
+    uint64_t none = spent(cell, 0), all = spent(cell, cell->times);
+    if (none < *cell->none) *cell->none = none;
+    if (all < cell->all) cell->all = all;
+}
+
+/* The first sample: one call, which says how many make a sample. */
+static void begin(struct cell *cell) {
+    cell->times = 1;
+    cell->all = UINT64_MAX;
+    sample(cell);
+    cell->is_slow = passed(cell) > SLOW;
+    if (cell->is_slow) return;
+    cell->times = SAMPLE / passed(cell) + 1;
+    if (cell->times > MOST_TIMES) cell->times = MOST_TIMES;
+    cell->all = UINT64_MAX;
+}
+
+/* The checksum Adler-32 of bytes. */
+static uint32_t digest_of(const uint8_t *at, size_t size) {
+    uint32_t sum = 1, sums = 0;
+    for (size_t i = 0; i < size; i++) {
+        sum = (sum + at[i]) % 65521;
+        sums = (sums + sum) % 65521;
+    }
+    return sums << 16 | sum;
+}
+
+static struct text text_of(struct file file) {
     size_t length = 0;
-    for (size_t round = 0; round < rounds; round++) {
-        uint64_t begin = now();
-        memcpy(copy, text.at, text.length);
-        copies[round] = now() - begin;
-        begin = now();
-        length = recoded(text, written);
-        loops[round] = now() - begin;
-        ask(steps);
-        if (normalizer_benchmark(records.at, records.length, text.at, text.length, units.at, units.length, &start, steps, STEPS))
-            stop("a call of the library failed", path);
-        if (!round) memcpy(first, steps, sizeof steps);
-        for (size_t i = 0; i < STEPS; i++) {
-            if (steps[i].length != first[i].length || steps[i].digest != first[i].digest)
-                stop("a call wrote something else in another round", path);
-            times[i * rounds + round] = steps[i].nanoseconds;
+    uint16_t *units = room_of(2 * file.length);
+    for (size_t i = 0; i < file.length;) {
+        uint32_t first = file.at[i++];
+        unsigned more = first < 0x80 ? 0 : first < 0xE0 ? 1 : first < 0xF0 ? 2 : 3;
+        uint32_t c = more ? first & (0x3Fu >> more) : first;
+        for (; more; more--) c = c << 6 | (file.at[i++] & 0x3Fu);
+        if (c < 0x10000) {
+            units[length++] = (uint16_t)c;
+        } else {
+            units[length++] = (uint16_t)(0xD7C0 + (c >> 10));
+            units[length++] = (uint16_t)(0xDC00 + (c & 0x3FF));
         }
     }
-    say(path, "", "memcpy", copies, rounds, text.length, text.length, digest_of(copy, text.length));
-    say(path, "", "decode and encode in C", loops, rounds, text.length, length, digest_of(written, length));
-    for (size_t i = 0; i < STEPS; i++)
-        say(path, first[i].call < PLAIN_CALLS ? "" : FORM_NAMES[first[i].form], CALL_NAMES[first[i].call], times + i * rounds, rounds,
-            text.length, first[i].length, first[i].digest);
-    free(copy);
-    free(written);
-    free(times);
-    free(units.at);
+    return (struct text){file.at, file.length, units, length};
 }
 
-/* What it takes before the first text: the library builds new data in each round, with an empty text. */
-static void run_start(struct records records, size_t rounds) {
-    uint64_t *times = room((1 + NORMALIZER_FORMS) * rounds * sizeof *times);
-    uint8_t no_text = 0;
-    uint16_t no_units = 0;
-    struct normalizer_step no_steps;
-    for (size_t round = 0; round < rounds; round++) {
-        struct normalizer_start start;
-        if (normalizer_benchmark(records.at, records.length, &no_text, 0, &no_units, 0, &start, &no_steps, 0))
-            stop("a call of the library failed", "start");
-        times[round] = start.build;
-        for (size_t form = 0; form < NORMALIZER_FORMS; form++) times[(1 + form) * rounds + round] = start.constructors[form];
+static struct text form_of(unsigned form, const struct text *text) {
+    size_t room = 16 * text->length;
+    struct file written = {room_of(room), 0};
+    if (icu_normalizer_normalize_utf8(&normalizer, form, text->bytes, text->length, written.at, room, &written.length))
+        stop("a form can't be made", FORM_NAMES[form]);
+    return text_of(written);
+}
+
+static void say_written(const struct cell *cell) {
+    size_t room = 16 * (cell->text->length + 1);
+    struct output output = {room_of(room), room, 0};
+    cell->library->repeat(cell->form, cell->call, cell->text, 1, &output);
+    size_t size = is_check(cell->call) ? 0 : cell->call == NORMALIZE_UTF16_TO ? 2 * output.length : output.length;
+    printf("%s\t%s\t%s\t%llu\t%zu\t%u\n", FORM_NAMES[cell->form], CALL_NAMES[cell->call], cell->library->name,
+           (unsigned long long)(passed(cell) / cell->times), output.length, digest_of(output.at, size));
+    free(output.at);
+}
+
+/* Libraries take turns: a round has a sample of each cell. Checks are timed on the text in the form. */
+static void time_calls(struct text text, size_t rounds, const char *without) {
+    static struct cell cells[FORMS * CALLS * COUNT_OF_LIBRARIES];
+    struct text forms[FORMS];
+    size_t count = 0;
+    for (unsigned form = 0; form < FORMS; form++) {
+        forms[form] = form_of(form, &text);
+        for (unsigned call = 0; call < CALLS; call++)
+            for (size_t i = 0; i < COUNT_OF_LIBRARIES; i++) {
+                struct cell cell = {.form = form, .call = call, .library = &LIBRARIES[i]};
+                cell.text = is_check(call) ? &forms[form] : &text;
+                cell.none = &least_times_of_none[form][is_check(call)][i];
+                *cell.none = UINT64_MAX;
+                if (strcmp(LIBRARIES[i].name, without) && spent(&cell, 0) != NO_CALL) cells[count++] = cell;
+            }
     }
-    say("", "", "build", times, rounds, 0, 0, 0);
-    for (size_t form = 0; form < NORMALIZER_FORMS; form++)
-        say("", FORM_NAMES[form], "constructor", times + (1 + form) * rounds, rounds, 0, 0, 0);
-    free(times);
+    for (size_t i = 0; i < count; i++) begin(&cells[i]);
+    for (size_t round = 0; round < rounds; round++)
+        for (size_t i = 0; i < count; i++)
+            if (!cells[i].is_slow) sample(&cells[i]);
+    for (size_t i = 0; i < count; i++) say_written(&cells[i]);
 }
 
-/* The place of a name in a list, or the length of the list. */
-static size_t place_of(const char *name, const char *const *names, size_t count) {
-    size_t place = 0;
-    while (place < count && strcmp(name, names[place])) place++;
-    return place;
-}
-
-/* One call on one text, repeated. */
-static int run_row(char **arguments) {
-    size_t form = place_of(arguments[0], FORM_NAMES, NORMALIZER_FORMS), call = place_of(arguments[1], CALL_NAMES, NORMALIZER_CALLS);
-    size_t times = (size_t)strtoul(arguments[3], NULL, 10);
-    if (form == NORMALIZER_FORMS || call == NORMALIZER_CALLS || !times) stop("no such form, call or number", "--row");
-    struct records records = records_of(arguments[2]);
-    struct bytes text = bytes_of(arguments[4]);
-    struct units units = units_of(text);
-    struct normalizer_start start;
-    struct normalizer_step *steps = room(times * sizeof *steps);
-    uint64_t *passed = room(times * sizeof *passed);
-    for (size_t i = 0; i < times; i++) steps[i] = (struct normalizer_step){.form = (uint8_t)form, .call = (uint8_t)call};
-    if (normalizer_benchmark(records.at, records.length, text.at, text.length, units.at, units.length, &start, steps, times))
-        stop("a call of the library failed", arguments[4]);
-    for (size_t i = 0; i < times; i++) passed[i] = steps[i].nanoseconds;
-    say(arguments[4], arguments[0], arguments[1], passed, times, text.length, steps[0].length, steps[0].digest);
-    free(passed);
-    free(steps);
-    free(units.at);
-    free(text.at);
-    free(records.at);
+static unsigned place_of(const char *name, const char *const *names, unsigned count) {
+    for (unsigned i = 0; i < count; i++)
+        if (!strcmp(names[i], name)) return i;
+    stop("there is none of this name", name);
     return 0;
 }
 
+static void time_row(struct text text, size_t times, char **names) {
+    unsigned form = place_of(names[0], FORM_NAMES, FORMS), call = place_of(names[1], CALL_NAMES, CALLS);
+    struct text in_form = form_of(form, &text);
+    struct cell cell = {.form = form, .call = call, .text = is_check(call) ? &in_form : &text, .times = times};
+    for (size_t i = 0; i < COUNT_OF_LIBRARIES; i++)
+        if (!strcmp(LIBRARIES[i].name, names[2])) cell.library = &LIBRARIES[i];
+    if (!cell.library) stop("there is no such library", names[2]);
+    uint64_t none = cell.all = UINT64_MAX;
+    cell.none = &none;
+    sample(&cell);
+    say_written(&cell);
+}
+
+static uint64_t build_spent(unsigned form, uint64_t times) {
+    (void)form;
+    uint64_t begin = now();
+    if (normalizer_benchmark_build(unicode_data.at, unicode_data.length, exclusions.at, exclusions.length, times))
+        stop("no data were built", "build");
+    return now() - begin;
+}
+
+static uint64_t constructors_spent(unsigned form, uint64_t times) {
+    uint64_t begin = now();
+    if (normalizer_benchmark_construct(unicode_data.at, unicode_data.length, exclusions.at, exclusions.length, form,
+                                       times))
+        stop("no normalizer was made", FORM_NAMES[form]);
+    return now() - begin;
+}
+
+static uint64_t open_spent(unsigned form, uint64_t times) {
+    (void)form;
+    icu_normalizer opened = ICU_NORMALIZER_CLOSED;
+    uint64_t begin = now();
+    for (uint64_t i = 0; i < times; i++)
+        if (icu_normalizer_open_unicode_data(&opened, unicode_data.at, unicode_data.length, exclusions.at,
+                                             exclusions.length))
+            stop("no handle was opened", "open");
+    uint64_t all = now() - begin;
+    icu_normalizer_close(&opened);
+    return all;
+}
+
+static void time_step(const char *name, uint64_t (*spent)(unsigned, uint64_t), unsigned form, uint64_t times,
+                      size_t rounds) {
+    uint64_t none = UINT64_MAX, all = UINT64_MAX;
+    for (size_t round = 0; round < rounds; round++) {
+        uint64_t without = spent(form, 0), with = spent(form, times);
+        if (without < none) none = without;
+        if (with < all) all = with;
+    }
+    printf("%s\t%llu\n", name, (unsigned long long)((all - none) / times));
+}
+
+static void time_start(size_t rounds) {
+    time_step("Records::build", build_spent, 0, 4, rounds);
+    for (unsigned form = 0; form < FORMS; form++) time_step(FORM_NAMES[form], constructors_spent, form, 50, rounds);
+    time_step("open", open_spent, 0, 4, rounds);
+}
+
+/* Writes the seconds and the kilobytes at the peak of a program to standard error. */
+static int run_child(char **command) {
+    struct timespec begin, end;
+    struct rusage usage;
+    int status;
+    clock_gettime(CLOCK_MONOTONIC, &begin);
+    pid_t child = fork();
+    if (!child) {
+        execvp(command[0], command);
+        _exit(127);
+    }
+    if (child < 0 || wait4(child, &status, 0, &usage) != child) stop("it can't be run", command[0]);
+    clock_gettime(CLOCK_MONOTONIC, &end);
+    double seconds = (double)(end.tv_sec - begin.tv_sec) + (double)(end.tv_nsec - begin.tv_nsec) * 1e-9;
+    fprintf(stderr, "%.6f %ld\n", seconds, usage.ru_maxrss);
+    return status ? 1 : 0;
+}
+
 int main(int count, char **arguments) {
-    if (count == 7 && !strcmp(arguments[1], "--row")) return run_row(arguments + 2);
-    size_t rounds = count < 3 ? 0 : (size_t)strtoul(arguments[2], NULL, 10);
-    if (!rounds) {
-        fprintf(stderr, "usage: program RECORDS ROUNDS FILE.. | program --row FORM CALL RECORDS TIMES FILE\n");
-        return 2;
+    if (count > 2 && !strcmp(arguments[1], "child")) return run_child(arguments + 2);
+    size_t rounds = count > 3 ? (size_t)strtoul(arguments[3], NULL, 10) : 0;
+    if (!rounds) stop("wrong arguments", "see the head of program.c");
+    /* Memory that is freed stays in the process, so that calls don't pay for getting it anew. */
+    mallopt(M_MMAP_THRESHOLD, 1 << 30);
+    mallopt(M_TRIM_THRESHOLD, 1 << 30);
+    open_data(arguments[2]);
+    if (!strcmp(arguments[1], "start")) {
+        time_start(rounds);
+    } else if (!strcmp(arguments[1], "row") && count == 8) {
+        time_row(text_of(file_of(arguments[4], "")), rounds, arguments + 5);
+    } else if (!strcmp(arguments[1], "calls") && count > 4) {
+        time_calls(text_of(file_of(arguments[4], "")), rounds, count > 5 ? arguments[5] : "");
     }
-    struct records records = records_of(arguments[1]);
-    run_start(records, rounds);
-    for (int i = 3; i < count; i++) {
-        struct bytes text = bytes_of(arguments[i]);
-        run(arguments[i], records, text, rounds);
-        free(text.at);
-    }
-    free(records.at);
+    icu_normalizer_close(&normalizer);
     return 0;
 }
