@@ -71,6 +71,14 @@ static inline const char *icu_normalizer_status_text(icu_normalizer_status statu
     }
 }
 
+/* The first mismatch of an input with its form. If there is none, the numbers are 0. */
+typedef struct icu_normalizer_mismatch {
+    size_t offset;     /* how many units come before it */
+    uint32_t found;    /* the character there */
+    uint32_t expected; /* the character that the form has there */
+    bool exists;       /* whether there is a mismatch */
+} icu_normalizer_mismatch;
+
 /* ---- the functions of the library */
 
 icu_normalizer_status icu_normalizer_open_unicode_data_nonnull(icu_normalizer *normalizer,
@@ -88,6 +96,10 @@ icu_normalizer_status icu_normalizer_split_utf8_nonnull(icu_normalizer *normaliz
     const uint8_t *input, size_t input_length, size_t *cut);
 icu_normalizer_status icu_normalizer_split_utf16_nonnull(icu_normalizer *normalizer, icu_normalizer_form form,
     const uint16_t *input, size_t input_length, size_t *cut);
+icu_normalizer_status icu_normalizer_first_mismatch_utf8_nonnull(icu_normalizer *normalizer, icu_normalizer_form form,
+    const uint8_t *input, size_t input_length, icu_normalizer_mismatch *mismatch);
+icu_normalizer_status icu_normalizer_first_mismatch_utf16_nonnull(icu_normalizer *normalizer, icu_normalizer_form form,
+    const uint16_t *input, size_t input_length, icu_normalizer_mismatch *mismatch);
 
 /* Closes the handle, which then has no normalizers. A closed handle stays closed. */
 void icu_normalizer_close(icu_normalizer *normalizer);
@@ -150,6 +162,22 @@ static inline icu_normalizer_status icu_normalizer_split_utf16(icu_normalizer *n
     const uint16_t *input, size_t input_length, size_t *cut) {
     const uint16_t none = 0;
     return icu_normalizer_split_utf16_nonnull(normalizer, form, input_length ? input : &none, input_length, cut);
+}
+
+/* Sets `*mismatch` to the first place where `input` is ill-formed or differs from its form. At an ill-formed sequence,
+   U+FFFD is found, and may be expected too. More units after a well-formed `input` never remove the mismatch, nor move
+   it later. */
+static inline icu_normalizer_status icu_normalizer_first_mismatch_utf8(icu_normalizer *normalizer,
+    icu_normalizer_form form, const uint8_t *input, size_t input_length, icu_normalizer_mismatch *mismatch) {
+    const uint8_t none = 0;
+    return icu_normalizer_first_mismatch_utf8_nonnull(
+        normalizer, form, input_length ? input : &none, input_length, mismatch);
+}
+static inline icu_normalizer_status icu_normalizer_first_mismatch_utf16(icu_normalizer *normalizer,
+    icu_normalizer_form form, const uint16_t *input, size_t input_length, icu_normalizer_mismatch *mismatch) {
+    const uint16_t none = 0;
+    return icu_normalizer_first_mismatch_utf16_nonnull(
+        normalizer, form, input_length ? input : &none, input_length, mismatch);
 }
 
 #ifdef __cplusplus

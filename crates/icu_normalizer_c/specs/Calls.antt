@@ -3,8 +3,10 @@ use Rattle.std.specs.Prelude.{◌≡◌, ◌⊎◌, ◌↔◌, ℕ, ◌<◌, Boo
 use Rattle.normalizer_text.specs.Encodings.{Encoding}
 use Rattle.normalizer_input.specs.EncodedForm.{encoded_form}
 use Rattle.normalizer_input.specs.InputCut.{IsInputCut, IsInputNormalized}
+use Rattle.normalizer_input.specs.declared.offence.Offence.{Offence}
 use Rattle.normalizer_builder.specs.Building.{IsSmallest}
 use Rattle.normalizer_built.specs.declared.NormalForm.{NormalForm}
+use Rattle.normalizer_calls.specs.Checks.{IsLastingOffence}
 use Rattle.normalizer_calls.specs.Forms.{MadeForm}
 use Rattle.normalizer_records.specs.Entry.{Entry}
 use Rattle.normalizer_records.specs.declared.records.BuildError.{BuildError}
@@ -20,10 +22,12 @@ use Rattle.icu_normalizer_c.specs.declared.fault.Fault.TheVariants.{
   Records,
 }
 use Rattle.icu_normalizer_c.specs.declared.handle.Handle.{Handle}
+use Rattle.icu_normalizer_c.specs.declared.mismatch.Mismatch.{Mismatch}
 use Rattle.icu_normalizer_c.specs.declared.normalizers.Normalizers.{Normalizers}
 use Rattle.icu_normalizer_c.specs.Buffers.{Fills, Tells}
 use Rattle.icu_normalizer_c.specs.Forms.{last_form, number_of}
 use Rattle.icu_normalizer_c.specs.Made.{MakeBy, made_in}
+use Rattle.icu_normalizer_c.specs.Mismatches.{mismatch_of}
 use Rattle.icu_normalizer_c.specs.Status.{status_of}
 
 -- the number is the status of an outcome of this kind
@@ -88,3 +92,9 @@ TellsNormalized e input before after m outcome =
 abbrev pub TellsCut : Encoding → (input : List ℕ) → (before after : ℕ) → MadeForm → Result ⊤ Fault → Type 0
 TellsCut e input before after m outcome =
     Tells m e input (IsInputCut e m.reading m.form input) before after outcome
+
+-- the caller is told the first mismatch of the input, or that it is well-formed and normalized
+abbrev pub TellsMismatch : Encoding → (input : List ℕ) → (before after : Mismatch) → MadeForm → Result ⊤ Fault → Type 0
+TellsMismatch e input before after m outcome =
+    Tells m e input (λ told. (answer : Option Offence) × (told ≡ mismatch_of answer) × IsLastingOffence m e input answer)
+    before after outcome

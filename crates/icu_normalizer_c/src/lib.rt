@@ -6,6 +6,7 @@ mod checking;
 mod fault;
 mod form;
 mod handle;
+mod mismatch;
 mod normalizer;
 mod normalizers;
 mod opening;

@@ -2,15 +2,18 @@
 ghost use Rattle.std.specs.Prelude.{◌≡◌};
 ghost use Rattle.std.specs.Cow.{cow_slice_items, cow_str_bytes, IsBorrowedSlice, IsBorrowedStr};
 ghost use Rattle.normalizer_text.specs.Encodings.{Encoding, decoded_in};
-ghost use Rattle.normalizer_calls.specs.Checks.{AnswersOf, ChecksForm, IsSplitAtCut};
+ghost use Rattle.normalizer_calls.specs.Checks.{AnswersOf, ChecksForm, FindsOffence, IsSplitAtCut};
 ghost use Rattle.normalizer_input.specs.InputCut.{IsInputCut};
 ghost use Rattle.normalizer_calls.specs.Owned.{HandsOutForm};
-ghost use Rattle.icu_normalizer_c.specs.Calls.{TellsCut, TellsNormalized, WritesForm};
+ghost use Rattle.icu_normalizer_c.specs.Calls.{TellsCut, TellsMismatch, TellsNormalized, WritesForm};
 ghost use Rattle.icu_normalizer_c.specs.Made.{made_by};
 
 use crate::buffer::fill;
 use crate::fault::Fault;
-use icu_normalizer::{ComposingNormalizerBorrowed, DecomposingNormalizerBorrowed, NormalizeError};
+use crate::mismatch::Mismatch;
+use icu_normalizer::{
+    ComposingNormalizerBorrowed, DecomposingNormalizerBorrowed, NormalizeError, Offence,
+};
 use std::alloc::Global;
 use std::borrow::{CowSlice, CowStr};
 
@@ -87,6 +90,27 @@ impl<'a> Normalizer<'a> {
         Ok(prefix.len())
     }
 
+    /// Reports the first mismatch of `input`.
+    pub(crate) fn tell_mismatch_utf8(
+        &self,
+        input: &[u8],
+        reported: &mut Mismatch,
+    ) -> Result<(), Fault>
+        ensures { TellsMismatch Encoding.Utf8 input.now reported.old reported.new (made_by self.now) result }
+    {
+        *reported = Mismatch::of(self.first_offence_utf8(input)?);
+        Ok(())
+    }
+
+    fn first_offence_utf8(&self, input: &[u8]) -> Result<Option<Offence>, NormalizeError>
+        ensures { FindsOffence (made_by self.now) Encoding.Utf8 input.now result }
+    {
+        match self {
+            Normalizer::Decomposing(n) => n.first_offence_utf8(input),
+            Normalizer::Composing(n) => n.first_offence_utf8(input),
+        }
+    }
+
     /// Writes the form of what `input` decodes to, encoded as it is.
     pub(crate) fn write_utf16(
         &self,
@@ -153,5 +177,26 @@ impl<'a> Normalizer<'a> {
             Normalizer::Composing(n) => n.split_normalized_utf16(input)?,
         };
         Ok(prefix.len())
+    }
+
+    /// Reports the first mismatch of `input`.
+    pub(crate) fn tell_mismatch_utf16(
+        &self,
+        input: &[u16],
+        reported: &mut Mismatch,
+    ) -> Result<(), Fault>
+        ensures { TellsMismatch Encoding.Utf16 input.now reported.old reported.new (made_by self.now) result }
+    {
+        *reported = Mismatch::of(self.first_offence_utf16(input)?);
+        Ok(())
+    }
+
+    fn first_offence_utf16(&self, input: &[u16]) -> Result<Option<Offence>, NormalizeError>
+        ensures { FindsOffence (made_by self.now) Encoding.Utf16 input.now result }
+    {
+        match self {
+            Normalizer::Decomposing(n) => n.first_offence_utf16(input),
+            Normalizer::Composing(n) => n.first_offence_utf16(input),
+        }
     }
 }

@@ -46,7 +46,10 @@ static void closed(icu_normalizer *normalizer) {
     EXPECT(icu_normalizer_is_normalized_utf8(normalizer, 9, bytes_of("a"), 1, &is) == ICU_NORMALIZER_NOT_OPEN);
     EXPECT(icu_normalizer_split_utf8(normalizer, ICU_NORMALIZER_NFC, bytes_of("a"), 1, &number)
         == ICU_NORMALIZER_NOT_OPEN);
-    EXPECT(output[0] == 1 && number == 7 && is);
+    icu_normalizer_mismatch mismatch = {9, 9, 9, true};
+    EXPECT(icu_normalizer_first_mismatch_utf16(normalizer, ICU_NORMALIZER_NFC, NULL, 0, &mismatch)
+        == ICU_NORMALIZER_NOT_OPEN);
+    EXPECT(output[0] == 1 && number == 7 && is && mismatch.exists && mismatch.offset == 9);
     icu_normalizer_close(normalizer);
 }
 
@@ -87,6 +90,22 @@ static void utf8(icu_normalizer *normalizer) {
         normalizer, ICU_NORMALIZER_NFD, bytes_of(text), length, &is)) == ICU_NORMALIZER_OK && is);
     EXPECT(unless_refused(icu_normalizer_split_utf8(
         normalizer, ICU_NORMALIZER_NFKD, bytes_of(text), length, &number)) == ICU_NORMALIZER_OK && number == 4);
+
+    icu_normalizer_mismatch mismatch = {9, 9, 9, true};
+    EXPECT(icu_normalizer_first_mismatch_utf8(normalizer, 4, bytes_of(text), length, &mismatch)
+        == ICU_NORMALIZER_UNKNOWN_FORM);
+    EXPECT(mismatch.offset == 9 && mismatch.found == 9 && mismatch.expected == 9 && mismatch.exists);
+    EXPECT(unless_refused(icu_normalizer_first_mismatch_utf8(
+        normalizer, ICU_NORMALIZER_NFC, bytes_of(text), length, &mismatch)) == ICU_NORMALIZER_OK);
+    EXPECT(mismatch.exists && mismatch.offset == 0 && mismatch.found == 0x65 && mismatch.expected == 0xE9);
+    EXPECT(unless_refused(icu_normalizer_first_mismatch_utf8(
+        normalizer, ICU_NORMALIZER_NFD, bytes_of(text), length, &mismatch)) == ICU_NORMALIZER_OK);
+    EXPECT(!mismatch.exists && mismatch.offset == 0 && mismatch.found == 0 && mismatch.expected == 0);
+    EXPECT(unless_refused(icu_normalizer_first_mismatch_utf8(
+        normalizer, ICU_NORMALIZER_NFC, bytes_of("a\xEF\xBF\xBD\xFF" "b"), 6, &mismatch)) == ICU_NORMALIZER_OK);
+    EXPECT(mismatch.exists && mismatch.offset == 4 && mismatch.found == 0xFFFD && mismatch.expected == 0xFFFD);
+    EXPECT(unless_refused(icu_normalizer_first_mismatch_utf8(
+        normalizer, ICU_NORMALIZER_NFC, NULL, 0, &mismatch)) == ICU_NORMALIZER_OK && !mismatch.exists);
 }
 
 static void utf16(icu_normalizer *normalizer) {
@@ -103,6 +122,10 @@ static void utf16(icu_normalizer *normalizer) {
         normalizer, ICU_NORMALIZER_NFD, text, 2, &is)) == ICU_NORMALIZER_OK && is);
     EXPECT(unless_refused(icu_normalizer_split_utf16(
         normalizer, ICU_NORMALIZER_NFD, text, 4, &number)) == ICU_NORMALIZER_OK && number == 2);
+    icu_normalizer_mismatch mismatch;
+    EXPECT(unless_refused(icu_normalizer_first_mismatch_utf16(
+        normalizer, ICU_NORMALIZER_NFD, text, 4, &mismatch)) == ICU_NORMALIZER_OK);
+    EXPECT(mismatch.exists && mismatch.offset == 2 && mismatch.found == 0xFFFD && mismatch.expected == 0xFFFD);
 }
 
 int main(int count, char **words) {

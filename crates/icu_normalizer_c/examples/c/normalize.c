@@ -1,7 +1,9 @@
 /* Writes the form of standard input to standard output: normalize DIRECTORY FORM. The directory has UnicodeData.txt and
-   CompositionExclusions.txt, and the form is nfd, nfc, nfkd or nfkc. */
+   CompositionExclusions.txt, and the form is nfd, nfc, nfkd or nfkc. After a third word, `check`, it writes the first
+   mismatch instead: the offset in bytes, the character found, and the one expected; or `normalized`. */
 #include "icu_normalizer.h"
 
+#include <inttypes.h>
 #include <stdio.h>
 #include <stdlib.h>
 #include <string.h>
@@ -54,8 +56,36 @@ static icu_normalizer_form form_of(const char *word) {
     return 0;
 }
 
+static void check(icu_normalizer *normalizer, icu_normalizer_form form, struct bytes input) {
+    icu_normalizer_mismatch mismatch;
+    icu_normalizer_status status =
+        icu_normalizer_first_mismatch_utf8(normalizer, form, input.at, input.length, &mismatch);
+    if (status != ICU_NORMALIZER_OK) stop("standard input", icu_normalizer_status_text(status));
+    if (mismatch.exists)
+        printf("%zu %04" PRIX32 " %04" PRIX32 "\n", mismatch.offset, mismatch.found, mismatch.expected);
+    else
+        puts("normalized");
+}
+
+static void normalize(icu_normalizer *normalizer, icu_normalizer_form form, struct bytes input) {
+    struct bytes output = {NULL, 0};
+    size_t needed = input.length + 1;
+    icu_normalizer_status status;
+    do {
+        uint8_t *grown = realloc(output.at, needed);
+        if (!grown) stop("standard input", "out of memory");
+        output = (struct bytes){grown, needed};
+        status = icu_normalizer_normalize_utf8(
+            normalizer, form, input.at, input.length, output.at, output.length, &needed);
+    } while (status == ICU_NORMALIZER_BUFFER_TOO_SMALL);
+    if (status != ICU_NORMALIZER_OK) stop("standard input", icu_normalizer_status_text(status));
+    if (fwrite(output.at, 1, needed, stdout) != needed) stop("standard output", "it can't be written");
+    free(output.at);
+}
+
 int main(int count, char **words) {
-    if (count != 3) stop("usage", "normalize DIRECTORY FORM");
+    bool checks = count == 4 && strcmp(words[3], "check") == 0;
+    if (count != 3 && !checks) stop("usage", "normalize DIRECTORY FORM [check]");
     icu_normalizer_form form = form_of(words[2]);
     struct bytes unicode_data = read_file(words[1], "UnicodeData.txt");
     struct bytes exclusions = read_file(words[1], "CompositionExclusions.txt");
@@ -67,21 +97,12 @@ int main(int count, char **words) {
     if (status != ICU_NORMALIZER_OK) stop(words[1], icu_normalizer_status_text(status));
 
     struct bytes input = read_all(stdin, "standard input");
-    struct bytes output = {NULL, 0};
-    size_t needed = input.length + 1;
-    do {
-        uint8_t *grown = realloc(output.at, needed);
-        if (!grown) stop("standard input", "out of memory");
-        output = (struct bytes){grown, needed};
-        status = icu_normalizer_normalize_utf8(
-            &normalizer, form, input.at, input.length, output.at, output.length, &needed);
-    } while (status == ICU_NORMALIZER_BUFFER_TOO_SMALL);
+    if (checks)
+        check(&normalizer, form, input);
+    else
+        normalize(&normalizer, form, input);
     icu_normalizer_close(&normalizer);
-    if (status != ICU_NORMALIZER_OK) stop("standard input", icu_normalizer_status_text(status));
-
-    if (fwrite(output.at, 1, needed, stdout) != needed || fflush(stdout))
-        stop("standard output", "it can't be written");
-    free(output.at);
     free(input.at);
+    if (fflush(stdout)) stop("standard output", "it can't be written");
     return 0;
 }

@@ -1,9 +1,11 @@
 // Writes the form of standard input to standard output: normalize DIRECTORY FORM. The directory has UnicodeData.txt and
-// CompositionExclusions.txt, and the form is nfd, nfc, nfkd or nfkc.
+// CompositionExclusions.txt, and the form is nfd, nfc, nfkd or nfkc. After a third word, `check`, it writes the first
+// mismatch instead: the offset in bytes, the character found, and the one expected; or `normalized`.
 #include "normalizer.hpp"
 
 #include <array>
 #include <fstream>
+#include <iomanip>
 #include <iostream>
 #include <iterator>
 
@@ -24,12 +26,27 @@ static NormalForm form_of(const std::string &word) {
     throw std::runtime_error(word + ": it is no form");
 }
 
+static void write(const std::optional<icu_normalizer_mismatch> &mismatch) {
+    if (!mismatch) {
+        std::cout << "normalized\n";
+        return;
+    }
+    std::cout << mismatch->offset << std::hex << std::uppercase << std::setfill('0');
+    std::cout << ' ' << std::setw(4) << mismatch->found << ' ' << std::setw(4) << mismatch->expected << '\n';
+}
+
 int main(int count, char **words) try {
-    if (count != 3) throw std::runtime_error("usage: normalize DIRECTORY FORM");
+    bool checks = count == 4 && words[3] == std::string("check");
+    if (count != 3 && !checks) throw std::runtime_error("usage: normalize DIRECTORY FORM [check]");
     std::string directory = words[1];
     Normalizer normalizer(file(directory + "/UnicodeData.txt"), file(directory + "/CompositionExclusions.txt"));
-    std::string output = normalizer.normalize(form_of(words[2]), all_of(std::cin, "standard input"));
-    if (!(std::cout << output << std::flush)) throw std::runtime_error("standard output: it can't be written");
+    NormalForm form = form_of(words[2]);
+    std::string input = all_of(std::cin, "standard input");
+    if (checks)
+        write(normalizer.first_mismatch(form, input));
+    else
+        std::cout << normalizer.normalize(form, input);
+    if (!(std::cout << std::flush)) throw std::runtime_error("standard output: it can't be written");
 } catch (const std::exception &error) {
     std::cerr << "normalize: " << error.what() << '\n';
     return 2;

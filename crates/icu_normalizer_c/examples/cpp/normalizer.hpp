@@ -5,6 +5,7 @@
 #include "icu_normalizer.h"
 
 #include <new>
+#include <optional>
 #include <stdexcept>
 #include <string>
 #include <string_view>
@@ -60,6 +61,15 @@ public:
         return cut;
     }
 
+    // The first place where the input is ill-formed or differs from its form, if there is one.
+    std::optional<icu_normalizer_mismatch> first_mismatch(NormalForm form, std::string_view input) {
+        return mismatch<uint8_t>(icu_normalizer_first_mismatch_utf8, form, input);
+    }
+
+    std::optional<icu_normalizer_mismatch> first_mismatch(NormalForm form, std::u16string_view input) {
+        return mismatch<uint16_t>(icu_normalizer_first_mismatch_utf16, form, input);
+    }
+
 private:
     icu_normalizer handle = ICU_NORMALIZER_CLOSED;
 
@@ -72,6 +82,13 @@ private:
 
     template <class Unit, class Text> static const Unit *units(Text text) {
         return reinterpret_cast<const Unit *>(text.data());
+    }
+
+    template <class Unit, class Call, class Text>
+    std::optional<icu_normalizer_mismatch> mismatch(Call call, NormalForm form, Text input) {
+        icu_normalizer_mismatch found = {};
+        check(call(&handle, number(form), units<Unit>(input), input.size(), &found));
+        return found.exists ? std::optional(found) : std::nullopt;
     }
 
     template <class Owned, class Unit, class Call, class Text>

@@ -22,6 +22,17 @@ class _Handle(ctypes.Structure):
     _fields_ = [("normalizers", ctypes.c_void_p), ("is_open", ctypes.c_bool)]
 
 
+class Mismatch(ctypes.Structure):
+    """The first mismatch of a text: how many bytes of UTF-8 come before it, the character found, and the one expected."""
+
+    _fields_ = [
+        ("offset", ctypes.c_size_t),
+        ("found", ctypes.c_uint32),
+        ("expected", ctypes.c_uint32),
+        ("exists", ctypes.c_bool),
+    ]
+
+
 def _check(status):
     if status == OUT_OF_MEMORY:
         raise MemoryError
@@ -77,6 +88,12 @@ class Normalizer:
         _check(self._call("split", form, encoded, ctypes.byref(cut)))
         parts = encoded[: cut.value], encoded[cut.value :]
         return tuple(part.decode() for part in parts) if isinstance(text, str) else parts
+
+    def first_mismatch(self, form, text):
+        """The first place where a text is ill-formed or differs from its form, or None."""
+        told = Mismatch()
+        _check(self._call("first_mismatch", form, _encoded(text), ctypes.byref(told)))
+        return told if told.exists else None
 
     def _call(self, name, form, text, *others):
         call = getattr(self._calls, f"icu_normalizer_{name}_utf8_nonnull")
