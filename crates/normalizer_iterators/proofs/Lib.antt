@@ -1,6 +1,7 @@
 pub mod ComposingLemmas
 pub mod CompositionLemmas
 pub mod DecompositionLemmas
+pub mod InOrderLemmas
 pub mod ItemLemmas
 pub mod LazyLemmas
 pub mod MarkLemmas

@@ -41,14 +41,22 @@ BufferedTo-none d e units waiting agrees front open_marks none = record {
 }
 
 -- what is left to read begins with the character of the step
+pub decoded-left : (e : Encoding) (units : List ℕ) (position : ℕ) (s : Step) → position < length units → s ≡ first_in e (drop position units)
+    → decoded_in e (drop position units) ≡ s.character ∷ decoded_in e (drop (position + s.width) units)
+decoded-left e units position s inside is =
+    let some : 0 < length (drop position units) = omega (arith, length-drop position units) in
+    decoded-some (first_in e) (IsDecoding-first e) (drop position units) some
+    ∙ ap (λ t. t.character ∷ decoded_in e (drop t.width (drop position units))) (sym is)
+    ∙ ap (λ us. s.character ∷ decoded_in e us) (drop-drop s.width position units)
+
+-- at the end nothing is left
+pub decoded-all : (e : Encoding) (units : List ℕ) (position : ℕ) → length units ≤ position → decoded_in e (drop position units) ≡ []
+decoded-all e units position past = ap (decoded_in e) (drop_all position units past) ∙ decoded-nil (first_in e)
+
 expand-left : (d : Reading) (e : Encoding) (units : List ℕ) (position : ℕ) (s : Step) → position < length units → s ≡ first_in e (drop position units)
     → expand d (decoded_in e (drop position units)) ≡ d.list s.character ++ expand d (decoded_in e (drop (position + s.width) units))
 unfolding expand
-expand-left d e units position s inside is =
-    let some : 0 < length (drop position units) = omega (arith, length-drop position units) in
-    ap (expand d) (decoded-some (first_in e) (IsDecoding-first e) (drop position units) some
-    ∙ ap (λ t. t.character ∷ decoded_in e (drop t.width (drop position units))) (sym is)
-    ∙ ap (λ us. s.character ∷ decoded_in e us) (drop-drop s.width position units))
+expand-left d e units position s inside is = ap (expand d) (decoded-left e units position s inside is)
 
 -- a step takes some of the units that are left
 pub step-some : (e : Encoding) (units : List ℕ) (position : ℕ) (s : Step) → position < length units → s ≡ first_in e (drop position units)
@@ -86,7 +94,7 @@ pub BufferedTo-end : (d : Reading) (e : Encoding) (units : List ℕ) (position :
     → reordered d waiting [] ≡ nfd d (decoded_in e units)
 unfolding nfd expand
 BufferedTo-end d e units position waiting before past =
-    ap (λ us. reordered d waiting (expand d us)) (sym (ap (decoded_in e) (drop_all position units past) ∙ decoded-nil (first_in e))) ∙ before.text
+    ap (λ us. reordered d waiting (expand d us)) (sym (decoded-all e units position past)) ∙ before.text
 
 length-nfd : (d : Reading) (x : List ℕ) → length (nfd d x) ≡ length (expand d x)
 unfolding nfd
@@ -96,7 +104,7 @@ pub BufferedTo-short : (d : Reading) (e : Encoding) (units : List ℕ) (position
     → length (nfd d (decoded_in e units)) ≤ places
 unfolding expand
 BufferedTo-short d e units position waiting before past =
-    let none : expand d (decoded_in e (drop position units)) ≡ [] = ap (expand d) (ap (decoded_in e) (drop_all position units past) ∙ decoded-nil (first_in e)) in
+    let none : expand d (decoded_in e (drop position units)) ≡ [] = ap (expand d) (decoded-all e units position past) in
     omega (arith, before.held, before.fits, ap length none, length-nfd d (decoded_in e units))
 
 -- what holds on success holds if the test says so

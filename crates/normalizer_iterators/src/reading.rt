@@ -19,6 +19,7 @@ use std::alloc::AllocError;
 
 /// Buffers the characters that continue what comes before them, in canonical order, up to the first boundary. Returns
 /// the character after it, which is not buffered, or None if the delegate has ended. The first was read before.
+#[inline(always)]
 pub(crate) fn read_on<I: Iterator<Item = char> + Drop>(
     characters: &CharacterData<'_>,
     ignored: IgnoredCharacters,

@@ -20,7 +20,7 @@ ghost use Rattle.normalizer_iterators.specs.WaitingList.{held, ordered, reordere
 use crate::read::ReadCharacter;
 use crate::reading::push_from;
 use crate::segment::short_text::ShortText;
-use crate::waiting::WaitingList;
+use crate::waiting::{Classed, WaitingList};
 use normalizer_tables::CanonicalCompositions;
 use normalizer_tables::characters::{CharacterData, IgnoredCharacters};
 use normalizer_text::Units;
@@ -88,11 +88,51 @@ impl SegmentBuffers {
         ensures fits { length (expand (reading_by characters.now ignored []) (decoded_in U.encoding (U.units units)))
             ≤ places → IsTrue result }
     {
+        if compose_in_order(characters, pairs, units, &mut self.text) {
+            return true;
+        }
         if !read_all(characters, ignored, units, &mut self.waiting) {
             return false;
         }
         compose_all(pairs, &mut self.waiting, &mut self.text)
     }
+}
+
+/// Composes what the units decode to, if each character is its own list, they are in canonical order, and they fit.
+#[inline(always)]
+fn compose_in_order<U: Units>(
+    characters: &CharacterData<'_>,
+    pairs: &CanonicalCompositions,
+    units: U,
+    text: &mut ShortText,
+) -> bool
+    ensures { IsTrue result → (ignored : IgnoredCharacters) → so_far text.new ≡
+        compose_by_starters (reading_by characters.now Dropped pairs.now)
+        (nfd (reading_by characters.now ignored []) (decoded_in U.encoding (U.units units))) }
+{
+    text.clear();
+    let mut position = 0;
+    let mut last = 0;
+    while position < units.len() {
+        let step = units.step_at(position);
+        let read = ReadCharacter::new(characters, 0, step.character);
+        let Some(class) = read.class_of_itself(characters) else {
+            return false;
+        };
+        if 0 < class && class < last {
+            return false;
+        }
+        let next = Classed {
+            character: step.character,
+            class,
+        };
+        if !text.compose(pairs, next) {
+            return false;
+        }
+        last = class;
+        position += step.width;
+    }
+    true
 }
 
 /// Buffers the lists of what the units decode to, in canonical order, if they fit.

@@ -1,4 +1,4 @@
-use Rattle.std.proofs.Common.{◌≡◌, true, ap, sym, ◌∙◌, ◌==◌}
+use Rattle.std.proofs.Common.{ap, sym, ◌∙◌}
 use Rattle.normalizer_tables.specs.Words.{is_plain}
 use Rattle.normalizer_iterators.proofs.PlainLemmas.{PassesUnseen-plain}
 use Rattle.normalizer_iterators.proofs.read.ReadCharacter.is_plain.Goals as goal

@@ -7,6 +7,13 @@ use Rattle.normalizer_iterators.proofs.ComposingLemmas.{nfc-reading_by, pair-rea
 use Rattle.normalizer_iterators.proofs.SegmentLemmas.{AgreesWith-reading_by}
 use Rattle.normalizer_iterators.proofs.segment.SegmentBuffers.compose.Goals as goal
 
+pub returns-then-compose_in_order-clause-text : goal.returns-then-compose_in_order-clause-text
+returns-then-compose_in_order-clause-text g c = λ _.
+    let s = c.args.characters.now in
+    let pairs = c.args.pairs.now in
+    c.compose_in_order.ensures c.if-compose_in_order.true c.args.ignored
+    ∙ sym (nfc-reading_by s c.args.ignored pairs (record { starters = c.requires.starters }) (decoded_in g.U.Units.encoding (g.U.Units.units c.args.units)))
+
 pub returns-clause-text : goal.returns-clause-text
 returns-clause-text g c = λ composed.
     let s = c.args.characters.now in
