@@ -23,7 +23,7 @@
 #include <unistd.h>
 
 /* How long the calls of a sample are to take, in nanoseconds. A call that takes more than SLOW is made once only. */
-#define SAMPLE 30000000u
+#define SAMPLE 20000000u
 #define SLOW 250000000u
 #define MOST_TIMES 1000u
 
@@ -172,12 +172,9 @@ struct cell {
     const struct library *library;
     const struct text *text;
     size_t times;
-    uint64_t all;   /* the least time of so many calls */
-    uint64_t *none; /* the least time of no call, by this library, to this form */
+    uint64_t none, all; /* the least time of no call, and of so many */
     bool is_slow;
 };
-
-static uint64_t least_times_of_none[FORMS][2][COUNT_OF_LIBRARIES];
 
 #define NO_CALL UINT64_MAX
 
@@ -190,25 +187,27 @@ static uint64_t spent(const struct cell *cell, size_t times) {
 
 /* How much more time the calls took than none. */
 static uint64_t passed(const struct cell *cell) {
-    return cell->all > *cell->none ? cell->all - *cell->none : 1;
+    return cell->all > cell->none ? cell->all - cell->none : 1;
 }
 
 static void sample(struct cell *cell) {
     uint64_t none = spent(cell, 0), all = spent(cell, cell->times);
-    if (none < *cell->none) *cell->none = none;
+    if (none < cell->none) cell->none = none;
     if (all < cell->all) cell->all = all;
 }
 
-/* The first sample: one call, which says how many make a sample. */
+/* Finds how many calls make a sample. */
 static void begin(struct cell *cell) {
-    cell->times = 1;
-    cell->all = UINT64_MAX;
-    sample(cell);
-    cell->is_slow = passed(cell) > SLOW;
-    if (cell->is_slow) return;
-    cell->times = SAMPLE / passed(cell) + 1;
-    if (cell->times > MOST_TIMES) cell->times = MOST_TIMES;
-    cell->all = UINT64_MAX;
+    for (size_t times = 1; times != cell->times;) {
+        cell->times = times;
+        cell->none = cell->all = UINT64_MAX;
+        sample(cell);
+        cell->is_slow = passed(cell) / times > SLOW;
+        if (cell->is_slow || passed(cell) > SAMPLE - SAMPLE / 4) return;
+        times = times * SAMPLE / passed(cell) + 1;
+        if (times > 16 * cell->times) times = 16 * cell->times;
+        if (times > MOST_TIMES) times = MOST_TIMES;
+    }
 }
 
 /* The checksum Adler-32 of bytes. */
@@ -268,8 +267,6 @@ static void time_calls(struct text text, size_t rounds, const char *without) {
             for (size_t i = 0; i < COUNT_OF_LIBRARIES; i++) {
                 struct cell cell = {.form = form, .call = call, .library = &LIBRARIES[i]};
                 cell.text = is_check(call) ? &forms[form] : &text;
-                cell.none = &least_times_of_none[form][is_check(call)][i];
-                *cell.none = UINT64_MAX;
                 if (strcmp(LIBRARIES[i].name, without) && spent(&cell, 0) != NO_CALL) cells[count++] = cell;
             }
     }
@@ -294,8 +291,7 @@ static void time_row(struct text text, size_t times, char **names) {
     for (size_t i = 0; i < COUNT_OF_LIBRARIES; i++)
         if (!strcmp(LIBRARIES[i].name, names[2])) cell.library = &LIBRARIES[i];
     if (!cell.library) stop("there is no such library", names[2]);
-    uint64_t none = cell.all = UINT64_MAX;
-    cell.none = &none;
+    cell.none = cell.all = UINT64_MAX;
     sample(&cell);
     say_written(&cell);
 }
