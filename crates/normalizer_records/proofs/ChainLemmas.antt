@@ -1,6 +1,6 @@
 -- Chains of records through a character, by what leads on from it and what leads to it.
 use Rattle.std.proofs.Common.{◌≡◌, ◌||◌, ◌&&◌, not, ◌≢◌, Bool, ℕ, zero, suc, ◌+◌, ◌-◌, ◌≤◌, ◌<◌, ◌↔◌, List, [], ◌∷◌, ◌++◌, length, get_or, min, take, refl, Some, None, is_some}
-use Rattle.std.proofs.Common.{inl, inr, sym, ap, subst, ◌∙◌, arith, append_assoc, length-append, map, flat_map, find, true, false, ◌==◌, if◌then◌else◌, Contains, IsTrue}
+use Rattle.std.proofs.Common.{inl, inr, sym, ap, subst, ◌∙◌, arith, append_assoc, length-append, drop, map, flat_map, find, true, false, ◌==◌, if◌then◌else◌, Contains, IsTrue}
 use Rattle.std.specs.BTreeSet.{BTreeSet, contains, IsFromIterResult}
 use Rattle.std.specs.Option.{option_map_or}
 use Rattle.std.specs.Ordering.{nat_cmp}
@@ -8,6 +8,7 @@ use Rattle.std.proofs.lemmas.Bool.{cases_eq, true≢false}
 use Rattle.std.proofs.lemmas.Cmp.{nat_cmp_total}
 use Rattle.std.proofs.lemmas.Bool.Decides.{Decides-and, Decides-or, nat_tests}
 use Rattle.std.specs.List.{list_any}
+use Rattle.std.proofs.Math.Seq.{split_at}
 use Rattle.std.proofs.lemmas.List.{get_or_default, get_or-map, length-map, take_all, take_more, length-take}
 use Rattle.std.proofs.lemmas.List.Elements.{Contains-get_or, Contains-append_cases, Contains-append_left, Contains-append_right}
 use Rattle.std.proofs.lemmas.List.Folds.{Any-from_list_any, list_any-from_Any}
@@ -131,6 +132,17 @@ module _ (records : List Entry) where
       pub IsBetween-more : (n : ℕ) → IsSetOf (LeadsOn records (suc n)) leading → IsTrue old ↔ IsBetween records P n (suc k) c → IsTrue new ↔ IsBetween records P (suc n) k c
       unfolding IsBetween
       IsBetween-more n on from = rw is (Decides-or _ _ from (Decides-and _ _ (on c) (h c)))
+
+  -- if no character is led to by so many records, no chain is long
+  pub no_long_chain : (k : ℕ) (led : BTreeSet ℕ) → k ≤ 16 → IsSetOf (IsLedTo records k) led → length led.keys ≡ 0 → (c : ℕ) → IsOnLongChain records c → ⊥
+  unfolding IsOnLongChain
+  no_long_chain k led low is none c (before, after, chain, long) =
+      let xs = before ++ c ∷ after in
+      let d = get_or xs k 0 in
+      let split : xs ≡ take k xs ++ d ∷ drop (suc k) xs = split_at xs k 0 (omega arith) in
+      let reached = led_from_chain k d (take k xs) (drop (suc k) xs) (omega (arith, length-take k xs)) (subst (IsChain records) split chain) in
+      let within = ((btree_set_contains_iff nat_cmp_total exact_unsigned led d).0 ((is d).1 reached)).1 in
+      absurd (omega arith)
 
   -- some character is on a long chain exactly if there is one
   pub HasChainFault-some : (s : BTreeSet ℕ) → IsSetOf (IsOnLongChain records) s → (b : Bool) → IsTrue b ↔ (length s.keys ≡ 0) → IsTrue (not b) ↔ HasChainFault records

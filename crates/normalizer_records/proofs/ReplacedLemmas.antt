@@ -1,5 +1,5 @@
 -- The expansion is the result of replacing until nothing changes.
-use Rattle.std.proofs.Common.{◌≡◌, ◌≢◌, ℕ, zero, suc, ◌+◌, ◌↔◌, true, false, List, [], ◌∷◌, ◌++◌, refl, Option, is_some, sym, ap, subst, subst₂, ◌∙◌}
+use Rattle.std.proofs.Common.{◌≡◌, ◌≢◌, ℕ, zero, suc, ◌↔◌, true, false, List, [], ◌∷◌, ◌++◌, refl, Option, is_some, sym, ap, subst, subst₂, ◌∙◌}
 use Rattle.std.proofs.Common.{arith, inl, inr, ◌⊎◌, All, Contains, append_assoc, flat_map}
 use Rattle.std.specs.Option.{option_map_or}
 use Rattle.std.proofs.lemmas.Bool.{cases_Bool}

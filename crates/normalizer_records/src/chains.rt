@@ -117,6 +117,20 @@ fn leading_on(
     Ok(leading)
 }
 
+/// Whether no chain has more than 16 records: some number of at most 16 records leads to no character.
+fn are_chains_short(alloc: Global, records: &[Record]) -> Result<bool, AllocError>
+    requires { AreRising records.now }
+    ensures { IfOk result (λ b. IsTrue b → (c : ℕ) → ¬ IsOnLongChain records.now c) }
+{
+    let mut led = recorded(alloc, records)?;
+    let mut count = 0;
+    while count < CHAIN_LIMIT && !led.is_empty() {
+        led = all_ends(alloc, records, &led)?;
+        count += 1;
+    }
+    Ok(led.is_empty())
+}
+
 /// The characters on chains of more than 16 records, each with the next one's character in its mapping.
 pub(crate) fn on_long_chains(
     alloc: Global,
@@ -125,8 +139,11 @@ pub(crate) fn on_long_chains(
     requires { AreRising records.now }
     ensures { IfOk result (IsSetOf (IsOnLongChain records.now)) }
 {
-    let recorded = recorded(alloc, records)?;
     let mut found = BTreeSet::new(alloc);
+    if are_chains_short(alloc, records)? {
+        return Ok(found);
+    }
+    let recorded = recorded(alloc, records)?;
     leading_on(alloc, records, CHAIN_LIMIT, &recorded, &mut found)?;
     Ok(found)
 }

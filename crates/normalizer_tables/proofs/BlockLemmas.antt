@@ -1,13 +1,14 @@
 -- The words of a table in blocks.
 use Rattle.std.proofs.Common.{add-one, ltb, nat_eq, ◌≡◌, ℕ, ◌+◌, ◌*◌, ◌/◌, ◌%◌, ◌<◌, ◌≤◌, List, [], ◌∷◌, ◌++◌, length, get_or}
-use Rattle.std.proofs.Common.{Bool, None, refl, inl, inr, arith, ap, sym, subst, ◌∙◌, zero, suc, zero-add}
+use Rattle.std.proofs.Common.{cond, Bool, None, refl, inl, inr, arith, ap, sym, subst, ◌∙◌, zero, suc, zero-add}
 use Rattle.std.specs.List.{position, position_or_len}
 use Rattle.std.proofs.lemmas.Grind.{common_steps}
 use Rattle.std.proofs.lemmas.List.Sums.{passes_at_first, prefix_len-le-length}
 use Rattle.std.specs.Cmp.Lexicographic.{pointwise, bytes_decides}
 use Rattle.std.proofs.lemmas.List.{ext_get_or, get_or_read, get_or_push, get_or_append_left, length_push}
 use Rattle.std.proofs.lemmas.List.FromFn.{get_or-map-range_with_len, length-map-range_with_len, map-range_with_len_more}
-use Rattle.std.proofs.lemmas.Bool.{cases_lt, cond_both, ltb-true, ltb-false}
+use Rattle.std.proofs.lemmas.Bool.{cases_lt, cond_both, ltb-true, ltb-false, eq-eqb, ne_eqb}
+use Rattle.std.proofs.lemmas.List.Folds.{position_or_len_push}
 use Rattle.normalizer_tables.specs.Table.{Block, block_places}
 use Rattle.normalizer_tables.specs.inner.Blocks.{block_at, stored_word, stored_words, block_of, number_in, joined, blocks_to, numbers_to, IsStored}
 use Rattle.normalizer_tables.specs.Ranges.{WordRange, word_in, words_of}
@@ -54,6 +55,24 @@ module _ (bs : List Block) (b : Block) where
 
   joined-length : length (joined bs b) ≤ length bs + 1
   joined-length = cond_both (ltb (number_in bs b) (length bs)) bs (bs ++ b ∷ []) (λ cs. length cs ≤ length bs + 1) (λ _. omega arith) (λ _. omega (arith, length_push bs b))
+
+-- the number of a kept block stays when another joins
+pub number_in-kept : (bs : List Block) (b other : Block) → number_in bs b < length bs → (number_in (joined bs other) b ≡ number_in bs b) × (number_in bs b < length (joined bs other))
+number_in-kept bs b other kept = (
+  cond_both (ltb (number_in bs other) (length bs)) bs (bs ++ other ∷ []) (λ cs. number_in cs b ≡ number_in bs b) (λ _. refl)
+      (λ _. position_or_len_push (pointwise nat_eq b) bs other ∙ ap (λ c. cond c (length bs + cond (pointwise nat_eq b other) 0 1) (number_in bs b)) (ne_eqb _ _ (λ same. absurd (omega arith)))),
+  (joined-earlier bs other (number_in bs b) kept).0,
+)
+
+-- and is that of the block that has joined
+pub number_in-joined : (bs : List Block) (b : Block) → (number_in (joined bs b) b ≡ number_in bs b) × (number_in bs b < length (joined bs b))
+number_in-joined bs b = (
+  cond_both (ltb (number_in bs b) (length bs)) bs (bs ++ b ∷ []) (λ cs. number_in cs b ≡ number_in bs b) (λ _. refl)
+      (λ new.
+      let last : number_in bs b ≡ length bs = omega (arith, ltb-false _ _ new, number_in-le bs b) in
+      position_or_len_push (pointwise nat_eq b) bs b ∙ rw (last, (bytes_decides b b).1 refl, eq-eqb (length bs) (length bs) refl) (omega arith)),
+  (joined-here bs b).0,
+)
 
 -- one more place
 pub blocks_to-more : (words : List ℕ) (n : ℕ) → blocks_to words (n + 1) ≡ joined (blocks_to words n) (block_of words n)

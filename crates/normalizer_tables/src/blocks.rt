@@ -1,8 +1,8 @@
 //! How the words of a table are stored: in blocks of 64 code points each, equal blocks once.
-ghost use Rattle.std.specs.Prelude.{◌≡◌, ◌+◌, ◌≤◌, ◌<◌, IfOk, ℕ, position, nat_eq, slice_index};
+ghost use Rattle.std.specs.Prelude.{◌≡◌, ◌+◌, ◌≤◌, ◌<◌, IfOk, OnOk, ℕ, position, nat_eq, replicate, slice_index};
 ghost use Rattle.std.specs.Cmp.Lexicographic.{pointwise};
 ghost use Rattle.normalizer_tables.specs.Table.{block_count};
-ghost use Rattle.normalizer_tables.specs.inner.Blocks.{AreFrom, AreLeft, IsJoined, IsRun};
+ghost use Rattle.normalizer_tables.specs.inner.Blocks.{AreFrom, AreLeft, IsBlockOf, IsJoined, IsKnown, IsNumbered, IsRun};
 ghost use Rattle.normalizer_tables.specs.Ranges.{word_in, words_of, IsRangeList};
 ghost use Rattle.normalizer_tables.specs.Table.{code_points, IsNextWithWord};
 
@@ -43,10 +43,11 @@ impl Blocks {
     {
         let mut blocks = Vec::new(alloc);
         let mut numbers = Vec::with_capacity(alloc, PLACES as usize)?;
+        let mut known = None;
         let mut left = ranges;
         for place in 0..PLACES {
-            let (block, next) = block_from(left, place * BLOCK);
-            numbers.push(joined(&mut blocks, block)? as u16)?;
+            let (number, next) = numbered(&mut blocks, &mut known, left, place * BLOCK)?;
+            numbers.push(number as u16)?;
             left = next;
         }
         Ok(Blocks { blocks, numbers })
@@ -142,17 +143,58 @@ fn number_of(blocks: &[[u32; 64]], block: &[u32; 64]) -> Option<usize>
     blocks.iter().position(|kept| block == kept)
 }
 
+/// The number of the block of 64 numbers from one on, and the ranges that don't end among them. `known` is a word with
+/// the number of the block that has it alone.
+fn numbered<'r>(
+    blocks: &mut Vec<[u32; 64]>,
+    known: &mut Option<(u32, usize)>,
+    ranges: &'r [(u32, u32, u32)],
+    start: u32,
+) -> Result<(usize, &'r [(u32, u32, u32)]), AllocError>
+    requires known { IsKnown blocks.old.items known.old }
+    requires ranges { AreFrom start ranges.now }
+    requires room { start ≤ 0x10FFC0 }
+    ensures number { IfOk result (λ r. IsNumbered ranges.now start blocks.old.items blocks.new.items r.0) }
+    ensures left { IfOk result (λ r. AreLeft ranges.now (start + 64) r.1.now) }
+    ensures known { OnOk result (IsKnown blocks.new.items known.new) }
+{
+    let (word, last) = run_from(ranges, start);
+    if start + 63 <= last {
+        let number = joined_word(blocks, known, word)?;
+        return Ok((number, behind(ranges, start + 63)));
+    }
+    let (block, left) = block_from(ranges, start);
+    let number = joined(blocks, block)?;
+    Ok((number, left))
+}
+
+/// The number of the block that has one word alone. The block isn't made if it is known.
+fn joined_word(
+    blocks: &mut Vec<[u32; 64]>,
+    known: &mut Option<(u32, usize)>,
+    word: u32,
+) -> Result<usize, AllocError>
+    requires { IsKnown blocks.old.items known.old }
+    ensures number { IfOk result (IsJoined blocks.old.items (replicate 64 word) blocks.new.items) }
+    ensures known { OnOk result (IsKnown blocks.new.items known.new) }
+{
+    match *known {
+        Some((kept, number)) if kept == word => Ok(number),
+        _ => {
+            let number = joined(blocks, [word; 64])?;
+            *known = Some((word, number));
+            Ok(number)
+        }
+    }
+}
+
 /// The words of 64 numbers from one on, and the ranges that don't end among them.
 fn block_from(ranges: &[(u32, u32, u32)], start: u32) -> ([u32; 64], &[(u32, u32, u32)])
     requires ranges { AreFrom start ranges.now }
     requires room { start ≤ 0x10FFC0 }
-    ensures block { (k : ℕ) → k < 64 → slice_index result.0 k ≡ word_in ranges.now (start + k) }
+    ensures block { IsBlockOf ranges.now start result.0 }
     ensures left { AreLeft ranges.now (start + 64) result.1.now }
 {
-    let (word, last) = run_from(ranges, start);
-    if start + 63 <= last {
-        return ([word; 64], behind(ranges, start + 63));
-    }
     let mut block = [0; 64];
     let mut left = ranges;
     for offset in 0..BLOCK {

@@ -1,5 +1,5 @@
 -- How many records lead on from a character, and to it.
-use Rattle.std.specs.Prelude.{◌≡◌, ◌↔◌, ℕ, zero, suc, ◌⊎◌, List, [], ◌∷◌, Contains, IsTrue, if◌then◌else◌}
+use Rattle.std.specs.Prelude.{◌↔◌, ℕ, zero, suc, ◌⊎◌, List, [], ◌∷◌, Contains, IsTrue, if◌then◌else◌}
 use Rattle.std.specs.BTreeSet.{BTreeSet, contains}
 use Rattle.std.specs.List.{list_any}
 use Rattle.std.specs.Ordering.{nat_cmp}

@@ -1,6 +1,7 @@
 -- How the words of a table are stored: in blocks of 64 code points each, equal blocks once.
-use Rattle.std.specs.Prelude.{◌≡◌, ℕ, zero, suc, ◌*◌, ◌/◌, ◌%◌, ◌≤◌, List, [], ◌∷◌, ◌++◌, All, cond, length, map}
-use Rattle.std.specs.Prelude.{Bool, ◌&&◌, nat_eq, nat_le, nat_lt, slice_index, slice_index_or}
+use Rattle.std.specs.Prelude.{◌≡◌, ℕ, zero, suc, ◌+◌, ◌*◌, ◌/◌, ◌%◌, ◌≤◌, ◌<◌, List, [], ◌∷◌, ◌++◌, All, cond, length}
+use Rattle.std.specs.Prelude.{Bool, ◌&&◌, map, nat_eq, nat_le, nat_lt, replicate, slice_index, slice_index_or}
+use Rattle.std.specs.Prelude.{IfSome, Option}
 use Rattle.std.specs.Cmp.Lexicographic.{pointwise}
 use Rattle.std.specs.List.{position_or_len, range_with_len}
 use Rattle.normalizer_tables.specs.Ranges.{WordRange, IsRangeList, word_in}
@@ -34,6 +35,14 @@ joined blocks block = cond (nat_lt (number_in blocks block) (length blocks)) blo
 abbrev pub IsJoined : List Block → Block → List Block → ℕ → Type 0
 IsJoined old block new number = (new ≡ joined old block) × (number ≡ number_in old block)
 
+-- the block of one word alone
+abbrev pub block_with : ℕ → Block
+block_with word = replicate 64 word
+
+-- the word, if any, comes with the number of the block that has it alone
+abbrev pub IsKnown : List Block → Option (ℕ × ℕ) → Type 0
+IsKnown blocks known = IfSome known (λ k. (number_in blocks (block_with k.0) ≡ k.1) × (k.1 < length blocks))
+
 -- the blocks of the first places, each once, in the order of their first use
 unfoldable pub blocks_to : List ℕ → ℕ → List Block
 blocks_to words zero = []
@@ -61,6 +70,15 @@ pub record AreFrom (n : ℕ) (ranges : List WordRange) : Type 0 where
 pub record AreLeft (ranges : List WordRange) (n : ℕ) (left : List WordRange) : Type 0 where
   pub from : AreFrom n left
   pub words : (m : ℕ) → n ≤ m → word_in left m ≡ word_in ranges m
+
+-- the block has the words of 64 numbers from `start` on
+pub record IsBlockOf (ranges : List WordRange) (start : ℕ) (block : Block) : Type 0 where
+  pub long : length block ≡ 64
+  pub words : (k : ℕ) → k < 64 → slice_index block k ≡ word_in ranges (start + k)
+
+-- the number is that of this block, which is added if it is none of those kept
+unfoldable pub IsNumbered : List WordRange → ℕ → List Block → List Block → ℕ → Type 0
+IsNumbered ranges start old new number = (block : Block) × IsBlockOf ranges start block × IsJoined old block new number
 
 -- the numbers up to `last` have the word, and no range ends before `last`
 pub record IsRun (ranges : List WordRange) (n word last : ℕ) : Type 0 where

@@ -1,0 +1,12 @@
+use Rattle.std.proofs.Common.{◌-◌, ◌≤◌}
+use Rattle.normalizer_records.specs.inner.Chains.{IsLedTo, IsSetOf}
+use Rattle.normalizer_records.proofs.chains.are_chains_short.Given as goal
+
+abbrev pub invariant-loop-count : goal.invariant-loop-count
+invariant-loop-count l = record {
+  within : l.count ≤ 16;
+  led : IsSetOf (IsLedTo l.records l.count) l.led;
+}
+
+abbrev pub decreases-loop-count : goal.decreases-loop-count
+decreases-loop-count l = 16 - l.count
