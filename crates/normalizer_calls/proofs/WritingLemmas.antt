@@ -1,10 +1,7 @@
 -- Writing the characters of an iterator.
 use Rattle.std.proofs.Common.{◌≡◌, ℕ, List, [], ◌∷◌, ◌++◌, Option, Some, None, Result, Ok, Err, append_assoc, append-nil, refl, ap, sym, subst, ◌∙◌, arith, inl}
 use Rattle.std.proofs.lemmas.Result.{IfOk-weaker}
-use Rattle.std.specs.Prelude.{⊤, Bool, OnErr, IsErrOf}
-use Rattle.normal_forms.specs.declared.Form.{Form}
-use Rattle.normal_forms.specs.Forms.{normal_form}
-use Rattle.normal_forms.specs.Reading.{Reading}
+use Rattle.std.specs.Prelude.{⊤, OnErr, IsErrOf}
 use Rattle.normal_forms.specs.ShortRuns.{HasShortRuns}
 use Rattle.normalizer_text.specs.declared.sink.SinkError.{SinkError}
 use Rattle.normalizer_text.specs.Encodings.{Encoding, encoded_in}
@@ -15,6 +12,7 @@ use Rattle.normalizer_iterators.specs.declared.error.NormalizeError.{NormalizeEr
 use Rattle.normalizer_iterators.specs.declared.error.NormalizeError.TheVariants.{Memory, Sink}
 use Rattle.normalizer_iterators.specs.Items.{SpellsOk, SpellsUnless}
 use Rattle.normalizer_iterators.proofs.ItemLemmas.{SpellsOk-next, SpellsOk-no_fault, SpellsUnless-end, SpellsUnless-fault, SpellsUnless-next}
+use Rattle.normalizer_calls.specs.Forms.{MadeForm, form_of}
 use Rattle.normalizer_calls.specs.Writing.{TellsLengthFirst, TookBeginning, WritesForm}
 use Rattle.normalizer_calls.specs.inner.Writing.{WritesText}
 
@@ -171,14 +169,14 @@ module _ {S : Type 0} (e : Encoding) (taken : S → List ℕ) (refused left : S 
 
 -- the form was written, whose text is the form of x
 pub WritesForm-text : {S : Type 0} {offered : List ℕ → List ℕ → Type 0} (e : Encoding) (taken : S → List ℕ) (refused left : S → S → Type 0)
-    (refuses : S → List ℕ → Type 0) (has_class_form : ℕ → Bool) (d : Reading) (form : Form) (x y : List ℕ) (old : S) (answer : Result ⊤ NormalizeError) (new : S)
-    → x ≡ y → WritesText e taken refused left refuses offered (normal_form d form x) old answer new → (HasShortRuns has_class_form d x → ¬ IsErrOf answer Memory)
-    → WritesForm e taken refused left has_class_form d form y old answer new
-WritesForm-text {S = S} {offered = offered} e taken refused left refuses has_class_form d form x y old answer new same h room =
-    subst (λ z. WritesForm e taken refused left has_class_form d form z old answer new) same (record { written = h.written; ahead = h.ahead; fault = h.fault; room = room; begun = begun answer h })
+    (refuses : S → List ℕ → Type 0) (m : MadeForm) (x y : List ℕ) (old : S) (answer : Result ⊤ NormalizeError) (new : S)
+    → x ≡ y → WritesText e taken refused left refuses offered (form_of m x) old answer new → (HasShortRuns m.has_class_form m.reading x → ¬ IsErrOf answer Memory)
+    → WritesForm e taken refused left m y old answer new
+WritesForm-text {S = S} {offered = offered} e taken refused left refuses m x y old answer new same h room =
+    subst (λ z. WritesForm e taken refused left m z old answer new) same (record { written = h.written; ahead = h.ahead; fault = h.fault; room = room; begun = begun answer h })
   where
-    begun : (answer : Result ⊤ NormalizeError) → WritesText e taken refused left refuses offered (normal_form d form x) old answer new
-        → OnErr answer (((s t : S) → left s t → TakesNothing taken s t) → TookBeginning e taken (normal_form d form x) old new)
+    begun : (answer : Result ⊤ NormalizeError) → WritesText e taken refused left refuses offered (form_of m x) old answer new
+        → OnErr answer (((s t : S) → left s t → TakesNothing taken s t) → TookBeginning e taken (form_of m x) old new)
     begun (Ok done) h = tt
     begun (Err Memory) h = λ _. h.begun refl
     begun (Err Sink) h = λ keeps.

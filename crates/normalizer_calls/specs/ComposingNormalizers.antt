@@ -2,10 +2,9 @@
 use Rattle.std.specs.Prelude.{List}
 use Rattle.normalizer_tables.specs.Characters.{Characters, characters_from}
 use Rattle.normalizer_tables.specs.Pairs.{Pair}
+use Rattle.normalizer_calls.specs.declared.borrowed.NormalizerBorrowed.{NormalizerBorrowed}
+use Rattle.normalizer_calls.specs.declared.composing_form.ComposingForm.{ComposingForm}
 use Rattle.normalizer_calls.specs.declared.composing_normalizer.ComposingNormalizer.{ComposingNormalizer}
-use Rattle.normalizer_calls.specs.declared.composing_normalizer.ComposingNormalizerBorrowed.{
-  ComposingNormalizerBorrowed,
-}
 
 -- the data that it owns
 abbrev pub composing_data_of : ComposingNormalizer → Characters
@@ -20,9 +19,9 @@ abbrev pub data_and_pairs_of : ComposingNormalizer → Characters × List Pair
 data_and_pairs_of n = (composing_data_of n, pairs_of n)
 
 -- the data that it borrows
-abbrev pub composing_data_of_borrowed : ComposingNormalizerBorrowed → Characters
-composing_data_of_borrowed n = n.characters
+abbrev pub composing_data_of_borrowed : NormalizerBorrowed ComposingForm → Characters
+composing_data_of_borrowed n = n.form.characters
 
 -- the pairs that it borrows
-abbrev pub pairs_of_borrowed : ComposingNormalizerBorrowed → List Pair
-pairs_of_borrowed n = n.pairs.now
+abbrev pub pairs_of_borrowed : NormalizerBorrowed ComposingForm → List Pair
+pairs_of_borrowed n = n.form.pairs.now

@@ -6,23 +6,25 @@ ghost use Rattle.normalizer_calls.specs.BeginsApart.{BeginsApart};
 ghost use Rattle.normalizer_calls.specs.Boundaries.{has_composing_boundary, has_decomposing_boundary};
 ghost use Rattle.normalizer_calls.specs.Forms.{composed_by, decomposed_by};
 
-use crate::{ComposingNormalizerBorrowed, DecomposingNormalizerBorrowed};
+use crate::borrowed::NormalizerBorrowed;
+use crate::composing_form::ComposingForm;
+use crate::decomposing_form::DecomposingForm;
 use normalizer_tables::characters::CharacterData;
 use normalizer_tables::condition::Bounds;
 use normalizer_tables::word::is_backward_combining;
 
-impl<'a> DecomposingNormalizerBorrowed<'a> {
+impl<'a> NormalizerBorrowed<DecomposingForm<'a>> {
     /// Returns whether a text may be divided before `character`: its decomposition begins with a starter (The Unicode
     /// Standard, D107). If so, a text that begins with it is normalized apart from what comes before it.
     pub fn has_boundary_before(&self, character: char) -> bool
         ensures exactly { result ≡ has_decomposing_boundary self.now character }
         ensures apart { result ≡ true → BeginsApart (decomposed_by self.now).reading Decomposing character }
     {
-        !self.characters.has_class_form(character)
+        !self.form.characters.has_class_form(character)
     }
 }
 
-impl<'a> ComposingNormalizerBorrowed<'a> {
+impl<'a> NormalizerBorrowed<ComposingForm<'a>> {
     /// Returns whether a text may be divided before `character`: its word has no BACKWARD_COMBINING, or it is below the
     /// bound of composing. Then its decomposition begins with a starter that composes with nothing before it (UAX #15,
     /// section 9.1), and a text that begins with it is normalized apart from what comes before it.
@@ -30,7 +32,7 @@ impl<'a> ComposingNormalizerBorrowed<'a> {
         ensures exactly { result ≡ has_composing_boundary self.now character }
         ensures apart { result ≡ true → BeginsApart (composed_by self.now).reading Composing character }
     {
-        is_taken_to_begin_safely(&self.characters, self.bounds, character)
+        is_taken_to_begin_safely(&self.form.characters, self.form.bounds, character)
     }
 }
 

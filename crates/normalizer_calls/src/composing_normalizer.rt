@@ -1,13 +1,6 @@
 //! Composing normalizers over the data of a provider.
-ghost use Rattle.std.specs.Prelude.{◌≡◌, All, IfOk, IfErr};
-ghost use Rattle.std.specs.Iterator.{IsFinite};
-ghost use Rattle.normal_forms.specs.Forms.{nfc};
-ghost use Rattle.normalizer_tables.specs.Characters.{has_class_form, characters_from};
-ghost use Rattle.normalizer_tables.specs.Ignored.{ignored_list};
-ghost use Rattle.normalizer_tables.specs.PairConditions.{HasOrderedLists};
-ghost use Rattle.normalizer_tables.specs.Readings.{reading_by};
-ghost use Rattle.normalizer_tables.specs.declared.characters.IgnoredCharacters.TheVariants.{Dropped};
-ghost use Rattle.normalizer_iterators.specs.Items.{GivesForm};
+ghost use Rattle.std.specs.Prelude.{◌≡◌, IfOk, IfErr};
+ghost use Rattle.normalizer_tables.specs.Characters.{characters_from};
 ghost use Rattle.normalizer_calls.specs.Acceptance.{bounds_of, nfd_data, nfkd_data, AnswersHeld};
 ghost use Rattle.normalizer_calls.specs.ComposingAcceptance.{
   with_pairs,
@@ -16,9 +9,9 @@ ghost use Rattle.normalizer_calls.specs.ComposingAcceptance.{
 };
 ghost use Rattle.normalizer_calls.specs.Serving.{ServesComposing};
 
-use normalizer_iterators::composition::composed;
-use normalizer_iterators::{Composition, NormalizeError};
-use normalizer_tables::characters::{CharacterData, IgnoredCharacters};
+use crate::borrowed::{ComposingNormalizerBorrowed, NormalizerBorrowed};
+use crate::composing_form::ComposingForm;
+use normalizer_tables::characters::CharacterData;
 use normalizer_tables::check::first_failing;
 use normalizer_tables::condition::{Bounds, COMPOSING};
 use normalizer_tables::loaded::LoadedData;
@@ -164,61 +157,12 @@ impl ComposingNormalizer {
             false,
         );
         let bounds = Bounds::of_cap(characters.cap());
-        ComposingNormalizerBorrowed {
-            characters: characters.passing_unseen_below(bounds.decomposition),
-            pairs: &self.pairs,
-            bounds,
+        NormalizerBorrowed {
+            form: ComposingForm {
+                characters: characters.passing_unseen_below(bounds.decomposition),
+                pairs: &self.pairs,
+                bounds,
+            },
         }
-    }
-}
-
-/// A normalizer to NFC or NFKC over borrowed data: the calls on text are its methods.
-#[derive(Drop)]
-pub struct ComposingNormalizerBorrowed<'a> {
-    pub(crate) characters: CharacterData<'a>,
-    pub(crate) pairs: &'a CanonicalCompositions,
-    pub(crate) bounds: Bounds,
-    ghost serves: { ServesComposing characters bounds pairs.now },
-}
-
-impl<'a> ComposingNormalizerBorrowed<'a> {
-    ghost use Rattle.normalizer_calls.specs.ComposingNormalizers.{composing_data_of_borrowed, pairs_of_borrowed};
-    ghost use Rattle.normalizer_iterators.specs.Composition.{data_of_composition, pairs_of_composition};
-
-    /// Returns an iterator over the characters of the composed form of what `iter` yields. It reads `iter` up to the
-    /// first boundary when it is made.
-    ///
-    /// # Errors
-    /// `Memory` if reading up to the first boundary needed memory that was refused. Items are `Result`s for the same
-    /// reason: after one `Err`, only `None` comes. Memory is needed only if more than 17 characters are buffered at a
-    /// time.
-    ///
-    /// # Examples
-    /// ```rust
-    /// collected(alloc, normalizer.normalize_iter(Utf8Chars::new(bytes))?)
-    /// ```
-    pub fn normalize_iter<I: Iterator<Item = char> + Drop>(
-        &self,
-        iter: I,
-    ) -> Result<Composition<'a, I>, NormalizeError>
-        requires can { I.can_next iter }
-        requires ends { IsFinite (I.remaining iter) }
-        ensures form { GivesForm I.next_gives ⟦<Composition<'a, I> as Iterator>⟧.next_gives
-            (has_class_form (composing_data_of_borrowed self.now))
-            (reading_by (composing_data_of_borrowed self.now) Dropped (pairs_of_borrowed self.now)) nfc iter result }
-        ensures ready { IfOk result ⟦<Composition<'a, I> as Iterator>⟧.can_next }
-        ensures held { IfOk result (λ it. (data_of_composition it ≡ composing_data_of_borrowed self.now) ×
-            (pairs_of_composition it ≡ pairs_of_borrowed self.now)) }
-        ensures results { IfOk result (λ it.
-            All (HasOrderedLists (data_of_composition it) (ignored_list Dropped)) (pairs_of_composition it)) }
-    {
-        let characters = self.characters.copied();
-        composed(
-            characters,
-            IgnoredCharacters::Dropped,
-            self.pairs,
-            self.bounds,
-            iter,
-        )
     }
 }

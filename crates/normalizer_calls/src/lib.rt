@@ -2,10 +2,13 @@
 //! units, and the mapper.
 #![tactic(auto)]
 
+mod borrowed;
 mod boundaries;
 mod checks;
+mod composing_form;
 mod composing_normalizer;
-mod form_items;
+mod decomposing_form;
+mod forming;
 pub mod laws;
 mod normalizer;
 mod offence;
@@ -17,7 +20,8 @@ mod unchecked;
 mod uts46;
 mod writing;
 
-pub use composing_normalizer::{ComposingNormalizer, ComposingNormalizerBorrowed};
-pub use normalizer::{DecomposingNormalizer, DecomposingNormalizerBorrowed};
+pub use borrowed::{ComposingNormalizerBorrowed, DecomposingNormalizerBorrowed};
+pub use composing_normalizer::ComposingNormalizer;
+pub use normalizer::DecomposingNormalizer;
 pub use normalizer_input::Offence;
 pub use uts46::{Uts46Mapper, Uts46MapperBorrowed};

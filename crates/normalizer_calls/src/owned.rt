@@ -1,24 +1,23 @@
 //! The forms of text, bytes and 16-bit units, borrowed from the input if it is already normalized.
 ghost use Rattle.std.specs.Prelude.{◌≡◌, ◌++◌, [], chars, IfOk, IsOk, IsOkUnless, OnOk, string_bytes};
 ghost use Rattle.std.specs.Cow.{cow_slice_items, cow_str_bytes, IsBorrowedSlice, IsBorrowedStr};
-ghost use Rattle.normal_forms.specs.ShortRuns.{HasShortRuns};
-ghost use Rattle.normalizer_text.specs.Encodings.{Encoding, decoded_in};
+ghost use Rattle.normalizer_text.specs.Encodings.{Encoding};
 ghost use Rattle.normalizer_input.specs.EncodedForm.{encoded_form};
 ghost use Rattle.normalizer_input.specs.InputCut.{IsInputCut, IsInputNormalized};
-ghost use Rattle.normalizer_calls.specs.Forms.{composed_by, decomposed_by, made_form};
+ghost use Rattle.normalizer_calls.specs.Forms.{HasShortUnits};
 ghost use Rattle.normalizer_calls.specs.Owned.{HandsOutForm, HandsOutFormOfText};
 ghost use Rattle.normalizer_calls.specs.inner.Owned.{WroteUnlessOwn};
 
-use crate::form_items::FormItems;
-use crate::offence::{LawfulItems, cut_of, laws_hold};
+use crate::borrowed::NormalizerBorrowed;
+use crate::forming::Forming;
+use crate::offence::cut_of;
 use crate::splits::text_of;
 use crate::writing::form_to;
-use crate::{ComposingNormalizerBorrowed, DecomposingNormalizerBorrowed};
 use normalizer_iterators::NormalizeError;
+use normalizer_text::Units;
 use normalizer_text::check_sink::Expected;
 use normalizer_text::output::Output;
 use normalizer_text::sink::SinkError;
-use normalizer_text::{Chars, Units};
 use std::alloc::Global;
 use std::borrow::{CowSlice, CowStr};
 
@@ -55,15 +54,16 @@ impl<'t> Growing<&'t [u16]> for Vec<u16> {
 
 /// Writes the form of units that are cut at a place: the prefix as it is, and the form of the rest. Room for as many
 /// units is made first.
-fn write_from_cut<U: Units, N: FormItems<Chars<U>>, O: Growing<U>>(
+fn write_from_cut<U: Units, N: Forming, O: Growing<U>>(
     normalizer: &N,
     units: U,
     place: usize,
     output: &mut O,
 ) -> Result<(), NormalizeError>
-    requires { IsInputCut U.encoding (N.reading normalizer.now) N.form (U.units units) place }
-    ensures { OnOk result (O.taken output.new ≡
-        O.taken output.old ++ encoded_form U.encoding (N.reading normalizer.now) N.form (U.units units)) }
+    requires { IsInputCut U.encoding (N.made normalizer.now).reading (N.made normalizer.now).form
+        (U.units units) place }
+    ensures { let m = N.made normalizer.now in OnOk result (O.taken output.new ≡
+        O.taken output.old ++ encoded_form U.encoding m.reading m.form (U.units units)) }
 {
     output.make_room(units.len())?;
     output.write_piece(units.before(place))?;
@@ -71,17 +71,15 @@ fn write_from_cut<U: Units, N: FormItems<Chars<U>>, O: Growing<U>>(
 }
 
 /// Writes the form of the units, unless they are well-formed and normalized. A refused write is reported as `Memory`.
-fn write_unless_own<U: Expected, N: LawfulItems<Chars<U>>, O: Growing<U>>(
+fn write_unless_own<U: Expected, N: Forming, O: Growing<U>>(
     normalizer: &N,
     units: U,
     output: &mut O,
 ) -> Result<bool, NormalizeError>
-    ensures wrote { IfOk result (λ own. WroteUnlessOwn O.taken
-        (made_form (N.has_class_form normalizer.now) (N.reading normalizer.now) N.form)
+    ensures wrote { IfOk result (λ own. WroteUnlessOwn O.taken (N.made normalizer.now)
         U.encoding (U.units units) output.old own output.new) }
-    ensures room { HasShortRuns (N.has_class_form normalizer.now) (N.reading normalizer.now)
-        (decoded_in U.encoding (U.units units)) →
-        IsInputNormalized U.encoding (N.reading normalizer.now) N.form (U.units units) → IsOk result }
+    ensures room { let m = N.made normalizer.now in HasShortUnits m U.encoding (U.units units) →
+        IsInputNormalized U.encoding m.reading m.form (U.units units) → IsOk result }
     ensures refused { IsOkUnless result NormalizeError.Memory }
 {
     let Some(place) = cut_of(normalizer, units)? else {
@@ -93,16 +91,15 @@ fn write_unless_own<U: Expected, N: LawfulItems<Chars<U>>, O: Growing<U>>(
     }
 }
 
-/// The form of a text; the contract speaks of its bytes.
-fn form_of_utf8<'t, N: LawfulItems<Chars<&'t str>>>(
+/// The form of a text.
+fn form_of_utf8<'t, N: Forming>(
     normalizer: &N,
-    alloc: Global,
     text: &'t str,
 ) -> Result<CowStr<'t, Global>, NormalizeError>
     ensures { HandsOutForm cow_str_bytes IsBorrowedStr
-        (made_form (N.has_class_form normalizer.now) (N.reading normalizer.now) N.form) Encoding.Utf8 text.now result }
+        (N.made normalizer.now) Encoding.Utf8 text.now result }
 {
-    let mut owned = String::new(alloc);
+    let mut owned = String::new(normalizer.allocator());
     if write_unless_own::<&'t str, N, String>(normalizer, text, &mut owned)? {
         Ok(CowStr::Borrowed(text))
     } else {
@@ -110,29 +107,15 @@ fn form_of_utf8<'t, N: LawfulItems<Chars<&'t str>>>(
     }
 }
 
-/// The form of a text; the contract speaks of its characters.
-fn form_of_str<'t, N: LawfulItems<Chars<&'t str>>>(
-    normalizer: &N,
-    alloc: Global,
-    text: &'t str,
-) -> Result<CowStr<'t, Global>, NormalizeError>
-    ensures { HandsOutFormOfText (made_form (N.has_class_form normalizer.now) (N.reading normalizer.now) N.form)
-        (chars text.now) result }
-{
-    laws_hold::<&'t str, N>(normalizer);
-    form_of_utf8(normalizer, alloc, text)
-}
-
 /// The form of what bytes decode to.
-fn form_of_bytes<'t, N: LawfulItems<Chars<&'t [u8]>>>(
+fn form_of_bytes<'t, N: Forming>(
     normalizer: &N,
-    alloc: Global,
     bytes: &'t [u8],
 ) -> Result<CowStr<'t, Global>, NormalizeError>
     ensures { HandsOutForm cow_str_bytes IsBorrowedStr
-        (made_form (N.has_class_form normalizer.now) (N.reading normalizer.now) N.form) Encoding.Utf8 bytes.now result }
+        (N.made normalizer.now) Encoding.Utf8 bytes.now result }
 {
-    let mut owned = String::new(alloc);
+    let mut owned = String::new(normalizer.allocator());
     if write_unless_own::<&'t [u8], N, String>(normalizer, bytes, &mut owned)? {
         Ok(CowStr::Borrowed(text_of(bytes)))
     } else {
@@ -141,16 +124,14 @@ fn form_of_bytes<'t, N: LawfulItems<Chars<&'t [u8]>>>(
 }
 
 /// The form of what 16-bit units decode to.
-fn form_of_utf16<'t, N: LawfulItems<Chars<&'t [u16]>>>(
+fn form_of_utf16<'t, N: Forming>(
     normalizer: &N,
-    alloc: Global,
     units: &'t [u16],
 ) -> Result<CowSlice<'t, u16, Global>, NormalizeError>
     ensures { HandsOutForm cow_slice_items IsBorrowedSlice
-        (made_form (N.has_class_form normalizer.now) (N.reading normalizer.now) N.form) Encoding.Utf16
-        units.now result }
+        (N.made normalizer.now) Encoding.Utf16 units.now result }
 {
-    let mut owned = Vec::new(alloc);
+    let mut owned = Vec::new(normalizer.allocator());
     if write_unless_own::<&'t [u16], N, Vec<u16>>(normalizer, units, &mut owned)? {
         Ok(CowSlice::Borrowed(units))
     } else {
@@ -158,8 +139,8 @@ fn form_of_utf16<'t, N: LawfulItems<Chars<&'t [u16]>>>(
     }
 }
 
-impl<'a> DecomposingNormalizerBorrowed<'a> {
-    /// Returns the decomposed form of `text`. It borrows from `text` exactly if `text` is already normalized. Exactly
+impl<F: Forming> NormalizerBorrowed<F> {
+    /// Returns the normal form of `text`. It borrows from `text` exactly if `text` is already normalized. Exactly
     /// the texts equivalent to `text` have this form.
     ///
     /// # Errors
@@ -171,28 +152,27 @@ impl<'a> DecomposingNormalizerBorrowed<'a> {
     /// let key = normalizer.normalize(text)?;
     /// ```
     pub fn normalize<'t>(&self, text: &'t str) -> Result<CowStr<'t, Global>, NormalizeError>
-        ensures { HandsOutFormOfText (decomposed_by self.now) (chars text.now) result }
+        ensures { HandsOutFormOfText (F.made self.now.form) (chars text.now) result }
     {
-        form_of_str(self, self.characters.allocator(), text)
+        form_of_utf8(&self.form, text)
     }
 
-    /// Returns the decomposed form of what `bytes` decode to, in UTF-8. It borrows from `bytes` exactly if they are
+    /// Returns the normal form of what `bytes` decode to, in UTF-8. It borrows from `bytes` exactly if they are
     /// well-formed and already normalized. Each maximal ill-formed subpart reads as U+FFFD.
     ///
     /// # Errors
     /// `Memory` if an allocation was refused. If `bytes` are normalized and at most 17 characters are buffered at a
     /// time, none is made.
     pub fn normalize_utf8<'t>(&self, bytes: &'t [u8]) -> Result<CowStr<'t, Global>, NormalizeError>
-        ensures { HandsOutForm cow_str_bytes IsBorrowedStr (decomposed_by self.now) Encoding.Utf8 bytes.now result }
+        ensures { HandsOutForm cow_str_bytes IsBorrowedStr (F.made self.now.form) Encoding.Utf8 bytes.now result }
     {
-        let alloc = self.characters.allocator();
         match str::from_utf8(bytes) {
-            Ok(text) => form_of_utf8(self, alloc, text),
-            Err(_) => form_of_bytes(self, alloc, bytes),
+            Ok(text) => form_of_utf8(&self.form, text),
+            Err(_) => form_of_bytes(&self.form, bytes),
         }
     }
 
-    /// Returns the decomposed form of what 16-bit units decode to, in UTF-16. It borrows from `units` exactly if they
+    /// Returns the normal form of what 16-bit units decode to, in UTF-16. It borrows from `units` exactly if they
     /// are well-formed and already normalized. Each unpaired surrogate reads as U+FFFD.
     ///
     /// # Errors
@@ -203,59 +183,8 @@ impl<'a> DecomposingNormalizerBorrowed<'a> {
         units: &'t [u16],
     ) -> Result<CowSlice<'t, u16, Global>, NormalizeError>
         ensures { HandsOutForm cow_slice_items IsBorrowedSlice
-            (decomposed_by self.now) Encoding.Utf16 units.now result }
+            (F.made self.now.form) Encoding.Utf16 units.now result }
     {
-        form_of_utf16(self, self.characters.allocator(), units)
-    }
-}
-
-impl<'a> ComposingNormalizerBorrowed<'a> {
-    /// Returns the composed form of `text`. It borrows from `text` exactly if `text` is already normalized. Exactly
-    /// the texts equivalent to `text` have this form.
-    ///
-    /// # Errors
-    /// `Memory` if an allocation was refused. If `text` is normalized and at most 17 characters are buffered at a
-    /// time, none is made.
-    ///
-    /// # Examples
-    /// ```rust
-    /// let key = normalizer.normalize(text)?;
-    /// ```
-    pub fn normalize<'t>(&self, text: &'t str) -> Result<CowStr<'t, Global>, NormalizeError>
-        ensures { HandsOutFormOfText (composed_by self.now) (chars text.now) result }
-    {
-        form_of_str(self, self.characters.allocator(), text)
-    }
-
-    /// Returns the composed form of what `bytes` decode to, in UTF-8. It borrows from `bytes` exactly if they are
-    /// well-formed and already normalized. Each maximal ill-formed subpart reads as U+FFFD.
-    ///
-    /// # Errors
-    /// `Memory` if an allocation was refused. If `bytes` are normalized and at most 17 characters are buffered at a
-    /// time, none is made.
-    pub fn normalize_utf8<'t>(&self, bytes: &'t [u8]) -> Result<CowStr<'t, Global>, NormalizeError>
-        ensures { HandsOutForm cow_str_bytes IsBorrowedStr (composed_by self.now) Encoding.Utf8 bytes.now result }
-    {
-        let alloc = self.characters.allocator();
-        match str::from_utf8(bytes) {
-            Ok(text) => form_of_utf8(self, alloc, text),
-            Err(_) => form_of_bytes(self, alloc, bytes),
-        }
-    }
-
-    /// Returns the composed form of what 16-bit units decode to, in UTF-16. It borrows from `units` exactly if they
-    /// are well-formed and already normalized. Each unpaired surrogate reads as U+FFFD.
-    ///
-    /// # Errors
-    /// `Memory` if an allocation was refused. If `units` are normalized and at most 17 characters are buffered at a
-    /// time, none is made.
-    pub fn normalize_utf16<'t>(
-        &self,
-        units: &'t [u16],
-    ) -> Result<CowSlice<'t, u16, Global>, NormalizeError>
-        ensures { HandsOutForm cow_slice_items IsBorrowedSlice
-            (composed_by self.now) Encoding.Utf16 units.now result }
-    {
-        form_of_utf16(self, self.characters.allocator(), units)
+        form_of_utf16(&self.form, units)
     }
 }

@@ -3,7 +3,7 @@ ghost use Rattle.std.specs.Prelude.{◌≡◌, ◌<◌, ◌≤◌, length, take}
 ghost use Rattle.normalizer_input.specs.InputCut.{IsInputNormalized};
 ghost use Rattle.normalizer_calls.specs.inner.Passing.{IsHandedOn, IsPart, IsRunEnd, IsSegmentEnd, next_class};
 
-use crate::form_items::FormItems;
+use crate::forming::Forming;
 use normalizer_text::{Chars, Step, Units};
 
 // U+FFFD, as which errors read.
@@ -19,7 +19,7 @@ struct Run {
 /// Returns the class of a step that is passed on as it is after a character of class `last`.
 #[inline(always)]
 #[tactic(auto, unfolding(crate::specs::inner::Passing::next_class, crate::specs::inner::Passing::class_of_step, crate::specs::inner::Passing::following))]
-fn next_class<U: Units, N: FormItems<Chars<U>>>(normalizer: &N, last: u8, step: Step) -> Option<u8>
+fn next_class<N: Forming>(normalizer: &N, last: u8, step: Step) -> Option<u8>
     ensures { result ≡ next_class (N.passed_class normalizer.now) last step }
 {
     if step.character == char::REPLACEMENT_CHARACTER {
@@ -34,7 +34,7 @@ fn next_class<U: Units, N: FormItems<Chars<U>>>(normalizer: &N, last: u8, step: 
 }
 
 /// Returns the run of characters that are passed on as they are: marks as long as their classes don't fall.
-fn run_end<U: Units, N: FormItems<Chars<U>>>(normalizer: &N, units: U) -> Run
+fn run_end<U: Units, N: Forming>(normalizer: &N, units: U) -> Run
     ensures { IsRunEnd (N.passed_class normalizer.now) U.encoding (U.units units) result.marks result.end }
 {
     normalizer.passed_characters_stand_apart();
@@ -61,7 +61,7 @@ fn run_end<U: Units, N: FormItems<Chars<U>>>(normalizer: &N, units: U) -> Run
 
 /// Returns the end of the segment that begins with the first character: before the next one that is normalized apart.
 #[inline(always)]
-pub(crate) fn segment_end<U: Units, N: FormItems<Chars<U>>>(normalizer: &N, units: U) -> usize
+pub(crate) fn segment_end<U: Units, N: Forming>(normalizer: &N, units: U) -> usize
     requires { 0 < length (U.units units) }
     ensures { IsSegmentEnd (N.beginning normalizer.now) U.encoding (U.units units) result }
 {
@@ -78,11 +78,11 @@ pub(crate) fn segment_end<U: Units, N: FormItems<Chars<U>>>(normalizer: &N, unit
 
 /// Returns the end of the front of the units that is passed on as it is: of a run, without the last character if it may
 /// compose with what follows, and without the marks at its end if what follows may be ordered among them.
-pub(crate) fn passed_end<U: Units, N: FormItems<Chars<U>>>(normalizer: &N, units: U) -> usize
+pub(crate) fn passed_end<U: Units, N: Forming>(normalizer: &N, units: U) -> usize
     ensures handed { IsHandedOn (N.passed_class normalizer.now) (N.beginning normalizer.now) N.held_back
         U.encoding (U.units units) result }
-    ensures part { 0 < result → IsPart U.encoding (N.reading normalizer.now) N.form (U.units units) result ×
-        IsInputNormalized U.encoding (N.reading normalizer.now) N.form (take result (U.units units)) }
+    ensures part { let m = N.made normalizer.now in 0 < result → IsPart U.encoding m.reading m.form (U.units units)
+        result × IsInputNormalized U.encoding m.reading m.form (take result (U.units units)) }
 {
     normalizer.passed_characters_stand_apart();
     let run = run_end(normalizer, units);

@@ -3,12 +3,13 @@ ghost use Rattle.std.specs.Prelude.{◌≡◌, None};
 ghost use Rattle.normalizer_tables.specs.NfdData.{IsSoundNfdData};
 ghost use Rattle.normalizer_tables.specs.Characters.{characters_from};
 
-use crate::normalizer::DecomposingNormalizerBorrowed;
+use crate::borrowed::NormalizerBorrowed;
+use crate::decomposing_form::DecomposingForm;
 use normalizer_tables::characters::CharacterData;
 use normalizer_tables::condition::GREATEST_BOUNDS;
 use normalizer_tables::{DecompositionData, DecompositionTables};
 
-impl<'a> DecomposingNormalizerBorrowed<'a> {
+impl<'a> NormalizerBorrowed<DecomposingForm<'a>> {
     ghost use Rattle.normalizer_calls.specs.Normalizers.{data_of_borrowed};
 
     /// Makes a normalizer to NFD over canonical data that the caller has checked. Nothing is copied or checked.
@@ -29,9 +30,11 @@ impl<'a> DecomposingNormalizerBorrowed<'a> {
         ensures { data_of_borrowed result ≡ characters_from decompositions.now tables.now None }
     {
         let characters = CharacterData::new(decompositions, tables, None, false);
-        DecomposingNormalizerBorrowed {
-            characters: characters.passing_unseen_below(GREATEST_BOUNDS.decomposition),
-            bounds: GREATEST_BOUNDS,
+        NormalizerBorrowed {
+            form: DecomposingForm {
+                characters: characters.passing_unseen_below(GREATEST_BOUNDS.decomposition),
+                bounds: GREATEST_BOUNDS,
+            },
         }
     }
 }

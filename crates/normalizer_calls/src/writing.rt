@@ -1,20 +1,19 @@
 //! Writing the characters of an iterator to an output.
-ghost use Rattle.std.specs.Prelude.{ℕ, ◌≡◌, ◌<◌, List, length, Err, IfErr, IfOk, IsErrOf};
+ghost use Rattle.std.specs.Prelude.{ℕ, ◌≡◌, ◌<◌, List, length, Err, IfErr, IfOk, IsErrOf, IsOk, IsOkUnless};
 ghost use Rattle.std.specs.Iterator.{IsFinite};
-ghost use Rattle.normal_forms.specs.Forms.{normal_form};
-ghost use Rattle.normal_forms.specs.ShortRuns.{HasShortRuns};
-ghost use Rattle.normalizer_text.specs.Encodings.{decoded_in};
 ghost use Rattle.normalizer_iterators.specs.Items.{SpellsOk, SpellsUnless};
-ghost use Rattle.normalizer_calls.specs.inner.Passing.{IsHandedOn, IsSegmentEnd, StandsInInput, WrotePart};
+ghost use Rattle.normalizer_calls.specs.Forms.{form_in, HasShortUnits};
+ghost use Rattle.normalizer_calls.specs.inner.Offences.{IsFirstOrNone};
+ghost use Rattle.normalizer_calls.specs.inner.Passing.{IsHandedOn, IsSegmentEnd};
 ghost use Rattle.normalizer_calls.specs.Writing.{TellsLengthFirst};
-ghost use Rattle.normalizer_calls.specs.inner.Writing.{NothingOffered, WritesText};
+ghost use Rattle.normalizer_calls.specs.inner.Writing.{NothingOffered, WritesPart, WritesText, WritesUnits};
 
-use crate::form_items::FormItems;
+use crate::forming::Forming;
 use crate::runs::{passed_end, segment_end};
 use normalizer_iterators::{NormalizeError, SegmentBuffers};
 use normalizer_tables::members::Members;
+use normalizer_text::Units;
 use normalizer_text::output::Output;
-use normalizer_text::{Chars, Units};
 
 /// Writes the characters, each after the one before, up to the first error.
 pub(crate) fn write_items<U: Units, I, O: Output<U>>(
@@ -33,6 +32,22 @@ where
         output.write_char(item?)?;
     }
     Ok(())
+}
+
+/// Returns the first character of an iterator, if there is one.
+pub(crate) fn first_item<I>(mut items: I) -> Result<Option<char>, NormalizeError>
+where
+    I: Iterator<Item = Result<char, NormalizeError>> + Drop,
+    requires { I.can_next items }
+    ensures first { (x : List ℕ) → SpellsUnless I.next_gives NormalizeError.Memory items x →
+        IfOk result (IsFirstOrNone x) × IsOkUnless result NormalizeError.Memory }
+    ensures room { (x : List ℕ) → SpellsOk I.next_gives items x → IsOk result }
+{
+    match items.next() {
+        Some(Ok(first)) => Ok(Some(first)),
+        Some(Err(fault)) => Err(fault),
+        None => Ok(None),
+    }
 }
 
 /// Writes the members of a list, each after the one before.
@@ -68,7 +83,7 @@ fn write_text<U: Units, O: Output<U>>(text: &[char], output: &mut O) -> Result<(
 
 /// Writes the form of what the units decode to, character by character: from the list of a single character, from the
 /// buffers if it fits, or from an iterator.
-fn write_segment<U: Units, N: FormItems<Chars<U>>, O: Output<U>>(
+fn write_segment<U: Units, N: Forming, O: Output<U>>(
     normalizer: &N,
     units: U,
     buffers: &mut SegmentBuffers,
@@ -76,10 +91,9 @@ fn write_segment<U: Units, N: FormItems<Chars<U>>, O: Output<U>>(
 ) -> Result<(), NormalizeError>
     requires { 0 < length (U.units units) }
     ensures text { WritesText U.encoding O.taken O.refused O.left O.refuses NothingOffered
-        (normal_form (N.reading normalizer.now) N.form (decoded_in U.encoding (U.units units)))
-        output.old result output.new }
-    ensures room { HasShortRuns (N.has_class_form normalizer.now) (N.reading normalizer.now)
-        (decoded_in U.encoding (U.units units)) → ¬ IsErrOf result NormalizeError.Memory }
+        (form_in (N.made normalizer.now) U.encoding (U.units units)) output.old result output.new }
+    ensures room { HasShortUnits (N.made normalizer.now) U.encoding (U.units units) →
+        ¬ IsErrOf result NormalizeError.Memory }
 {
     let first = units.step_at(0);
     if first.width == units.len() {
@@ -90,13 +104,12 @@ fn write_segment<U: Units, N: FormItems<Chars<U>>, O: Output<U>>(
     if normalizer.short_form(units, buffers) {
         return write_text::<U, O>(buffers.text(), output);
     }
-    let items = normalizer.items(Chars::new(units))?;
-    write_items(items, output)
+    normalizer.write_items(units, output)
 }
 
 /// Writes the run of characters at the front of the units that is passed on as it is, in one piece, and returns its
 /// end: 0 if there is none.
-fn write_run<U: Units, N: FormItems<Chars<U>>, O: Output<U>>(
+fn write_run<U: Units, N: Forming, O: Output<U>>(
     normalizer: &N,
     units: U,
     output: &mut O,
@@ -104,12 +117,10 @@ fn write_run<U: Units, N: FormItems<Chars<U>>, O: Output<U>>(
     ensures run { IfOk result (IsHandedOn (N.passed_class normalizer.now) (N.beginning normalizer.now) N.held_back
         U.encoding (U.units units)) }
     ensures none { IfOk result (λ end. end ≡ 0 → output.new ≡ output.old) }
-    ensures part { IfOk result (λ end. 0 < end → WrotePart O.taken O.refused
-        U.encoding (N.reading normalizer.now) N.form (U.units units) output.old end output.new) }
-    ensures refused { IfErr result (λ fault. WritesText U.encoding O.taken O.refused O.left O.refuses
-        (StandsInInput U.encoding (N.reading normalizer.now) N.form (U.units units))
-        (normal_form (N.reading normalizer.now) N.form (decoded_in U.encoding (U.units units)))
-        output.old (Err fault) output.new) }
+    ensures part { IfOk result (λ end. 0 < end → WritesPart O.taken O.refused U.encoding
+        (N.made normalizer.now) (U.units units) output.old end output.new) }
+    ensures refused { IfErr result (λ fault. WritesUnits U.encoding O.taken O.refused O.left O.refuses
+        (N.made normalizer.now) (U.units units) output.old (Err fault) output.new) }
     ensures room { ¬ IsErrOf result NormalizeError.Memory }
 {
     let end = passed_end(normalizer, units);
@@ -120,7 +131,7 @@ fn write_run<U: Units, N: FormItems<Chars<U>>, O: Output<U>>(
 }
 
 /// Writes the form of the segment at the front of the units, and returns its end.
-fn write_front_segment<U: Units, N: FormItems<Chars<U>>, O: Output<U>>(
+fn write_front_segment<U: Units, N: Forming, O: Output<U>>(
     normalizer: &N,
     units: U,
     buffers: &mut SegmentBuffers,
@@ -128,14 +139,12 @@ fn write_front_segment<U: Units, N: FormItems<Chars<U>>, O: Output<U>>(
 ) -> Result<usize, NormalizeError>
     requires { 0 < length (U.units units) }
     ensures segment { IfOk result (IsSegmentEnd (N.beginning normalizer.now) U.encoding (U.units units)) }
-    ensures part { IfOk result (λ end. WrotePart O.taken O.refused
-        U.encoding (N.reading normalizer.now) N.form (U.units units) output.old end output.new) }
-    ensures refused { IfErr result (λ fault. WritesText U.encoding O.taken O.refused O.left O.refuses
-        (StandsInInput U.encoding (N.reading normalizer.now) N.form (U.units units))
-        (normal_form (N.reading normalizer.now) N.form (decoded_in U.encoding (U.units units)))
-        output.old (Err fault) output.new) }
-    ensures room { HasShortRuns (N.has_class_form normalizer.now) (N.reading normalizer.now)
-        (decoded_in U.encoding (U.units units)) → ¬ IsErrOf result NormalizeError.Memory }
+    ensures part { IfOk result (λ end. WritesPart O.taken O.refused U.encoding
+        (N.made normalizer.now) (U.units units) output.old end output.new) }
+    ensures refused { IfErr result (λ fault. WritesUnits U.encoding O.taken O.refused O.left O.refuses
+        (N.made normalizer.now) (U.units units) output.old (Err fault) output.new) }
+    ensures room { HasShortUnits (N.made normalizer.now) U.encoding (U.units units) →
+        ¬ IsErrOf result NormalizeError.Memory }
 {
     normalizer.passed_characters_stand_apart();
     let end = segment_end(normalizer, units);
@@ -144,17 +153,15 @@ fn write_front_segment<U: Units, N: FormItems<Chars<U>>, O: Output<U>>(
 }
 
 /// Writes the form of what the units decode to: runs, and the segments between them.
-fn write_parts<U: Units, N: FormItems<Chars<U>>, O: Output<U>>(
+fn write_parts<U: Units, N: Forming, O: Output<U>>(
     normalizer: &N,
     units: U,
     output: &mut O,
 ) -> Result<(), NormalizeError>
-    ensures text { WritesText U.encoding O.taken O.refused O.left O.refuses
-        (StandsInInput U.encoding (N.reading normalizer.now) N.form (U.units units))
-        (normal_form (N.reading normalizer.now) N.form (decoded_in U.encoding (U.units units)))
-        output.old result output.new }
-    ensures room { HasShortRuns (N.has_class_form normalizer.now) (N.reading normalizer.now)
-        (decoded_in U.encoding (U.units units)) → ¬ IsErrOf result NormalizeError.Memory }
+    ensures text { WritesUnits U.encoding O.taken O.refused O.left O.refuses (N.made normalizer.now)
+        (U.units units) output.old result output.new }
+    ensures room { HasShortUnits (N.made normalizer.now) U.encoding (U.units units) →
+        ¬ IsErrOf result NormalizeError.Memory }
 {
     let mut position = write_run(normalizer, units, output)?;
     if position == units.len() {
@@ -169,17 +176,15 @@ fn write_parts<U: Units, N: FormItems<Chars<U>>, O: Output<U>>(
 }
 
 /// Writes the form of what the units decode to. The output first receives the number of units.
-pub(crate) fn form_to<U: Units, N: FormItems<Chars<U>>, O: Output<U>>(
+pub(crate) fn form_to<U: Units, N: Forming, O: Output<U>>(
     normalizer: &N,
     units: U,
     output: &mut O,
 ) -> Result<(), NormalizeError>
-    ensures text { WritesText U.encoding O.taken O.refused O.left O.refuses
-        (StandsInInput U.encoding (N.reading normalizer.now) N.form (U.units units))
-        (normal_form (N.reading normalizer.now) N.form (decoded_in U.encoding (U.units units)))
-        output.old result output.new }
-    ensures room { HasShortRuns (N.has_class_form normalizer.now) (N.reading normalizer.now)
-        (decoded_in U.encoding (U.units units)) → ¬ IsErrOf result NormalizeError.Memory }
+    ensures text { WritesUnits U.encoding O.taken O.refused O.left O.refuses (N.made normalizer.now)
+        (U.units units) output.old result output.new }
+    ensures room { HasShortUnits (N.made normalizer.now) U.encoding (U.units units) →
+        ¬ IsErrOf result NormalizeError.Memory }
     ensures first { TellsLengthFirst O.taken O.hinted (length (U.units units)) output.old result output.new }
 {
     output.begin(units.len())?;

@@ -3,7 +3,9 @@ use Rattle.std.specs.Prelude.{◌≡◌, ℕ, ◌≤◌, ◌⊎◌, List, ◌++�
 use Rattle.normalizer_text.specs.Encodings.{Encoding, encoded_in}
 use Rattle.normalizer_iterators.specs.declared.error.NormalizeError.{NormalizeError}
 use Rattle.normalizer_iterators.specs.declared.error.NormalizeError.TheVariants.{Memory, Sink}
+use Rattle.normalizer_calls.specs.Forms.{MadeForm, form_in}
 use Rattle.normalizer_calls.specs.Writing.{TookBeginning}
+use Rattle.normalizer_calls.specs.inner.Passing.{StandsInInput, WrotePart}
 
 -- nothing is offered but characters, one by one
 abbrev pub NothingOffered : List ℕ → List ℕ → Type 0
@@ -32,3 +34,14 @@ module _ {S : Type 0} (e : Encoding) (taken : S → List ℕ) where
     pub fault : IsErrOf answer Sink → refused old new
     pub refusal : IsErrOf answer Sink → WasRefusedPiece left refuses offered text old new
     pub begun : IsErrOf answer Memory → TookBeginning e taken text old new
+
+module _ {S : Type 0} where
+  -- the form of the units was written, or the output refused a piece of them or of it, or memory was refused
+  abbrev pub WritesUnits : Encoding → (S → List ℕ) → (S → S → Type 0) → (S → S → Type 0) → (S → List ℕ → Type 0)
+      → MadeForm → List ℕ → S → Result ⊤ NormalizeError → S → Type 0
+  WritesUnits e taken refused left refuses m units =
+      WritesText e taken refused left refuses (StandsInInput e m.reading m.form units) (form_in m e units)
+
+  -- a part of the units was written
+  abbrev pub WritesPart : (S → List ℕ) → (S → S → Type 0) → Encoding → MadeForm → List ℕ → S → ℕ → S → Type 0
+  WritesPart taken refused e m units = WrotePart taken refused e m.reading m.form units

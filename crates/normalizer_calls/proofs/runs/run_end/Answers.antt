@@ -12,23 +12,23 @@ loop-end-init g c =
 
 pub overflow_add-end : goal.overflow_add-end
 overflow_add-end g c =
-    let most = within_step (g.N.FormItems.passed_class c.args.normalizer.now) g.U.Units.encoding (g.U.Units.units c.args.units) c.loop-end.end c.step_at-step.result c.step_at-step.ensures
+    let most = within_step (g.N.Forming.passed_class c.args.normalizer.now) g.U.Units.encoding (g.U.Units.units c.args.units) c.loop-end.end c.step_at-step.result c.step_at-step.ensures
     (omega (arith, c.len.ensures)) c.loop-end.invariant.to_end.boundary in
     omega (arith, c.len.ensures)
 
 pub overflow_add-end-else-class-eq0 : goal.overflow_add-end-else-class-eq0
 overflow_add-end-else-class-eq0 g c =
-    let most = within_step (g.N.FormItems.passed_class c.args.normalizer.now) g.U.Units.encoding (g.U.Units.units c.args.units) c.loop-end.end c.step_at-step.result c.step_at-step.ensures
+    let most = within_step (g.N.Forming.passed_class c.args.normalizer.now) g.U.Units.encoding (g.U.Units.units c.args.units) c.loop-end.end c.step_at-step.result c.step_at-step.ensures
     (omega (arith, c.len.ensures)) c.loop-end.invariant.to_end.boundary in
     omega (arith, c.len.ensures)
 
 pub end_of_below-end-requires-then-class-eq0 : goal.end_of_below-end-requires-then-class-eq0
 end_of_below-end-requires-then-class-eq0 g c =
-    within_step (g.N.FormItems.passed_class c.args.normalizer.now) _ _ _ _ c.step_at-step.ensures (omega (arith, c.len.ensures)) c.loop-end.invariant.to_end.boundary
+    within_step (g.N.Forming.passed_class c.args.normalizer.now) _ _ _ _ c.step_at-step.ensures (omega (arith, c.len.ensures)) c.loop-end.invariant.to_end.boundary
 
 pub loop-end-preserved-then-class-eq0 : goal.loop-end-preserved-then-class-eq0
 loop-end-preserved-then-class-eq0 g c =
-    let passed = g.N.FormItems.passed_class c.args.normalizer.now in
+    let passed = g.N.Forming.passed_class c.args.normalizer.now in
     let units = g.U.Units.units c.args.units in
     let starter = sym c.in-Some.ensures ∙ ap (λ k. Some k) c.if-class-eq0.true in
     let run = IsRun-starters _ _ _ _
@@ -44,11 +44,11 @@ loop-end-preserved g c =
 pub loop-end-smaller-then-class-eq0 : goal.loop-end-smaller-then-class-eq0
 loop-end-smaller-then-class-eq0 g c =
     let units = g.U.Units.units c.args.units in
-    let some = some_step (g.N.FormItems.passed_class c.args.normalizer.now) g.U.Units.encoding units c.loop-end.end c.step_at-step.result c.step_at-step.ensures (omega (arith, c.len.ensures)) in
+    let some = some_step (g.N.Forming.passed_class c.args.normalizer.now) g.U.Units.encoding units c.loop-end.end c.step_at-step.result c.step_at-step.ensures (omega (arith, c.len.ensures)) in
     omega (arith, c.len.ensures, c.end_of_below-end-then-class-eq0.ensures)
 
 pub loop-end-smaller : goal.loop-end-smaller
 loop-end-smaller g c =
     let units = g.U.Units.units c.args.units in
-    let some = some_step (g.N.FormItems.passed_class c.args.normalizer.now) g.U.Units.encoding units c.loop-end.end c.step_at-step.result c.step_at-step.ensures (omega (arith, c.len.ensures)) in
+    let some = some_step (g.N.Forming.passed_class c.args.normalizer.now) g.U.Units.encoding units c.loop-end.end c.step_at-step.result c.step_at-step.ensures (omega (arith, c.len.ensures)) in
     omega (arith, c.len.ensures)

@@ -7,7 +7,7 @@ use Rattle.normalizer_calls.proofs.runs.segment_end.Goals as goal
 
 pub loop-end-init : goal.loop-end-init
 loop-end-init g c = (
-  some_step (g.N.FormItems.passed_class c.args.normalizer.now) g.U.Units.encoding (g.U.Units.units c.args.units) 0 c.step_at-end.result c.step_at-end.ensures c.requires,
+  some_step (g.N.Forming.passed_class c.args.normalizer.now) g.U.Units.encoding (g.U.Units.units c.args.units) 0 c.step_at-end.result c.step_at-end.ensures c.requires,
   boundary-first (first_in g.U.Units.encoding) (IsDecoding-first g.U.Units.encoding) (g.U.Units.units c.args.units) c.step_at-end.result (record { some = c.requires; is = c.step_at-end.ensures }),
 )
 
@@ -15,25 +15,25 @@ pub returns-then-begins : goal.returns-then-begins
 returns-then-begins g c = record {
   some = c.loop-end.invariant.0;
   boundary = c.loop-end.invariant.1;
-  next = λ _. ap (λ s. g.N.FormItems.beginning c.args.normalizer.now s.character) (sym c.step_at-step.ensures) ∙ sym c.begins.ensures ∙ c.if-begins.true;
+  next = λ _. ap (λ s. g.N.Forming.beginning c.args.normalizer.now s.character) (sym c.step_at-step.ensures) ∙ sym c.begins.ensures ∙ c.if-begins.true;
 }
 
 pub overflow_add-end : goal.overflow_add-end
 overflow_add-end g c =
-    let most = within_step (g.N.FormItems.passed_class c.args.normalizer.now) g.U.Units.encoding (g.U.Units.units c.args.units) c.loop-end.end c.step_at-step.result
+    let most = within_step (g.N.Forming.passed_class c.args.normalizer.now) g.U.Units.encoding (g.U.Units.units c.args.units) c.loop-end.end c.step_at-step.result
     c.step_at-step.ensures (omega (arith, c.len.ensures)) c.loop-end.invariant.1 in
     omega (arith, c.len.ensures)
 
 pub loop-end-smaller : goal.loop-end-smaller
 loop-end-smaller g c =
-    let some = some_step (g.N.FormItems.passed_class c.args.normalizer.now) g.U.Units.encoding (g.U.Units.units c.args.units) c.loop-end.end c.step_at-step.result
+    let some = some_step (g.N.Forming.passed_class c.args.normalizer.now) g.U.Units.encoding (g.U.Units.units c.args.units) c.loop-end.end c.step_at-step.result
     c.step_at-step.ensures (omega (arith, c.len.ensures)) in
     omega (arith, c.len.ensures)
 
 pub loop-end-preserved : goal.loop-end-preserved
 loop-end-preserved g c = (
   omega (arith, c.loop-end.invariant.0),
-  boundary-step (g.N.FormItems.passed_class c.args.normalizer.now) g.U.Units.encoding (g.U.Units.units c.args.units) c.loop-end.end c.step_at-step.result
+  boundary-step (g.N.Forming.passed_class c.args.normalizer.now) g.U.Units.encoding (g.U.Units.units c.args.units) c.loop-end.end c.step_at-step.result
       c.step_at-step.ensures (omega (arith, c.len.ensures)) c.loop-end.invariant.1,
 )
 

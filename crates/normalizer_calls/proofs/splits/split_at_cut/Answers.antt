@@ -10,7 +10,7 @@ after-requires g c = boundary_at_cut _ _ _ _ _ c.in_ok-place.ensures.is
 
 pub returns : goal.returns
 returns g c = record {
-  is = rw (c.before-2.ensures, c.after.ensures) (IsSplitAtCut-parts _ _ _ (g.met.N.LawfulItems.suits c.args.normalizer.now) _ c.in_ok-place.ensures.is);
+  is = rw (c.before-2.ensures, c.after.ensures) (IsSplitAtCut-parts _ _ _ (g.met.N.Forming.suits c.args.normalizer.now) _ c.in_ok-place.ensures.is);
   room = λ _. refl;
   refused = tt;
 }

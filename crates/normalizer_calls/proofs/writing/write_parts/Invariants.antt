@@ -4,7 +4,7 @@ use Rattle.normalizer_calls.proofs.writing.write_parts.Given as goal
 
 abbrev pub invariant-loop-position : goal.invariant-loop-position
 invariant-loop-position g l =
-    WroteUpTo g.U.Units.encoding (g.N.FormItems.reading l.normalizer) g.N.FormItems.form g.O.Output.taken g.O.Output.refused (g.U.Units.units l.units) l.fn.output l.position l.output
+    WroteUpTo g.U.Units.encoding (g.N.Forming.made l.normalizer).reading (g.N.Forming.made l.normalizer).form g.O.Output.taken g.O.Output.refused (g.U.Units.units l.units) l.fn.output l.position l.output
 
 abbrev pub decreases-loop-position : goal.decreases-loop-position
 decreases-loop-position g l = length (g.U.Units.units l.units) - l.position
