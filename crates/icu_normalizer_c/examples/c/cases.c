@@ -1,11 +1,13 @@
 /* Compares the calls of icu_normalizer.h with worked cases: cases DIRECTORY FILE. A line of FILE has the number of bits
    of a unit, 8 or 16, and an input and its NFD, NFC, NFKD and NFKC, each a `.` and its units in hexadecimal. Each array
-   that is passed has a block of its own, of just its length, so that a sanitizer sees what goes past its end. */
+   that is passed ends right before memory that can't be accessed, so that what goes past its end stops the program. */
+#define _DEFAULT_SOURCE
 #include "icu_normalizer.h"
 
 #include <stdio.h>
 #include <stdlib.h>
 #include <string.h>
+#include <sys/mman.h>
 
 #define EXPECT(holds) ((holds) ? (void)0 : failed(#holds, __LINE__))
 
@@ -15,6 +17,23 @@ static void failed(const char *what, int line) {
     fprintf(stderr, "cases.c:%d: not so: %s, of line %zu\n", line, what, line_number);
     exit(1);
 }
+
+enum { ROOM = 1 << 18 };
+
+/* Memory that ends right before memory that can't be accessed. */
+static uint8_t *fenced(void) {
+    uint8_t *made = mmap(NULL, 2 * ROOM, PROT_READ | PROT_WRITE, MAP_PRIVATE | MAP_ANONYMOUS, -1, 0);
+    EXPECT(made != MAP_FAILED && mprotect(made + ROOM, ROOM, PROT_NONE) == 0);
+    return made;
+}
+
+/* The last bytes of such memory. */
+static void *last(uint8_t *memory, size_t size) {
+    EXPECT(size <= ROOM);
+    return memory + ROOM - size;
+}
+
+static uint8_t *inputs, *outputs;
 
 static void *block(size_t size) {
     void *made = malloc(size);
@@ -64,18 +83,16 @@ static icu_normalizer_status normalize(icu_normalizer *normalizer, icu_normalize
 static void compare(icu_normalizer *normalizer, icu_normalizer_form form, size_t bits, const void *input, size_t length,
     const void *wanted, size_t wanted_length) {
     size_t needed = 0, cut = 0;
-    void *output = wanted_length ? block(wanted_length * bits / 8) : NULL;
+    void *output = wanted_length ? last(outputs, wanted_length * bits / 8) : NULL;
     EXPECT(normalize(normalizer, form, bits, input, length, output, wanted_length, &needed) == ICU_NORMALIZER_OK);
     EXPECT(needed == wanted_length);
     EXPECT(!needed || memcmp(output, wanted, needed * bits / 8) == 0);
-    free(output);
     if (wanted_length) {
-        void *small = wanted_length > 1 ? block((wanted_length - 1) * bits / 8) : NULL;
+        void *small = wanted_length > 1 ? last(outputs, (wanted_length - 1) * bits / 8) : NULL;
         needed = 0;
         EXPECT(normalize(normalizer, form, bits, input, length, small, wanted_length - 1, &needed)
             == ICU_NORMALIZER_BUFFER_TOO_SMALL);
         EXPECT(needed == wanted_length);
-        free(small);
     }
     bool is = false, is_same = length == wanted_length && (!length || memcmp(input, wanted, length * bits / 8) == 0);
     icu_normalizer_mismatch mismatch;
@@ -103,6 +120,8 @@ int main(int count, char **words) {
         == ICU_NORMALIZER_OK);
     free(exclusions);
     free(data);
+    inputs = fenced();
+    outputs = fenced();
     FILE *cases = fopen(words[2], "r");
     EXPECT(cases);
     static char line[65536];
@@ -110,14 +129,15 @@ int main(int count, char **words) {
         line_number++;
         line[strcspn(line, "\n")] = 0;
         size_t bits = strcmp(strtok(line, " "), "8") == 0 ? 8 : 16, length;
-        void *input = units_of(strtok(NULL, " "), bits, &length);
+        void *units = units_of(strtok(NULL, " "), bits, &length), *input = last(inputs, length * bits / 8);
+        if (length) memcpy(input, units, length * bits / 8);
+        free(units);
         for (icu_normalizer_form form = 0; form < 4; form++) {
             size_t wanted_length;
             void *wanted = units_of(strtok(NULL, " "), bits, &wanted_length);
             compare(&normalizer, form, bits, input, length, wanted, wanted_length);
             free(wanted);
         }
-        free(input);
     }
     fclose(cases);
     icu_normalizer_close(&normalizer);
