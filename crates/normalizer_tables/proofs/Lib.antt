@@ -25,9 +25,6 @@ pub mod PlainCharacters
 pub mod RangeLists
 pub mod ReadLemmas
 pub mod RisingLists
-pub mod RowEquality
-pub mod RowLemmas
-pub mod RowLookUps
 pub mod SoundLists
 pub mod StoredParts
 pub mod SyllableLemmas

@@ -1,5 +1,5 @@
 -- Members of lists, and lists in the tables.
-use Rattle.std.proofs.Common.{◌≡◌, ℕ, suc, add-one, drop-cons, slice_get, ◌∷◌, [], ◌+◌, ◌-◌, true, List, take, drop, Some, None, arith, ◌∙◌, ap}
+use Rattle.std.proofs.Common.{◌≡◌, ℕ, suc, add-one, drop-cons, slice_get, ◌∷◌, [], ◌+◌, true, List, take, drop, Some, None, arith, ◌∙◌, ap}
 use Rattle.std.specs.Char.{IsScalar}
 use Rattle.std.specs.List.{list_all}
 use lib.Utf8.{scalar}

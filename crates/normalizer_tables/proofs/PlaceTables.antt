@@ -1,16 +1,15 @@
 -- The places of characters in a list, by a table.
-use Rattle.std.proofs.Common.{◌≡◌, ◌≢◌, ℕ, ◌<◌, ◌≤◌, ◌+◌, ◌-◌, ◌==◌, Bool, true, false, nat_lt, List, [], ◌∷◌, AllPairs, All, length, get_or, map, find, cond, not, Some, None, refl, arith, ap, sym, ◌∙◌, inl, inr, zero, suc}
+use Rattle.std.proofs.Common.{◌≡◌, ◌≢◌, ℕ, ◌<◌, ◌≤◌, ◌+◌, ◌-◌, ◌==◌, true, false, List, [], ◌∷◌, AllPairs, length, get_or, map, find, cond, not, Some, None, refl, arith, ap, sym, ◌∙◌, inl, inr, zero, suc}
 use Rattle.std.proofs.lemmas.Bool.{cases_lt, eqb-true, lt-ltb, le-ltb}
 use Rattle.std.proofs.lemmas.Bool.Decides.{nat_tests}
 use Rattle.std.proofs.lemmas.List.{get_or-map, length-map}
-use Rattle.std.proofs.lemmas.List.Elements.{All-tail}
 use Rattle.std.proofs.lemmas.List.Folds.{find_at}
 use Rattle.std.proofs.lemmas.List.FromFn.{get_or-map-range_with_len, length-map-range_with_len}
 use Rattle.std.proofs.lemmas.List.Sums.{fails_before_first, passes_at_first}
 use Rattle.std.proofs.lemmas.Option.{same_Some, slice_get_past}
 use Rattle.std.specs.List.{position_or_len, range_with_len, slice_get}
 use Rattle.normalizer_tables.specs.Places.{place_word, place_in, ArePlaces}
-use Rattle.normalizer_tables.specs.Ranges.{WordRange, IsRange, IsRangeList, IsTableOf, word_in}
+use Rattle.normalizer_tables.specs.Ranges.{WordRange, IsRangeList, IsTableOf, word_in}
 use Rattle.normalizer_tables.specs.Table.{Table, word_at, code_points}
 use Rattle.normalizer_tables.proofs.WordsInRanges.{Misses, word_in-held, word_in-missed}
 

@@ -1,8 +1,7 @@
 -- The pairs of characters that have a primary composite (The Unicode Standard, D114), Hangul ones included.
 use Rattle.std.specs.Prelude.{◌≡◌, ℕ, Bool, true, ◌&&◌, ◌||◌, ◌==◌, nat_eq, nat_lt, List, AllPairs, find, Option}
-use Rattle.std.specs.Prelude.{None, if◌then◌else◌, ◌-◌, not, length, count_by, slice_index_or}
+use Rattle.std.specs.Prelude.{None, if◌then◌else◌, slice_index_or}
 use Rattle.std.specs.Option.{option_map}
-use Rattle.std.specs.List.{range_with_len}
 use Rattle.std.specs.Int.{is_in_range}
 use Rattle.normalizer_tables.specs.HangulComposition.{compose_hangul}
 
@@ -47,11 +46,3 @@ IsNeverSecond pairs second = (first : ℕ) → pair_of pairs first second ≡ No
 -- the pair at a place
 unfoldable pub pair_at : List Pair → ℕ → Pair
 pair_at pairs place = slice_index_or pairs place (0, 0, 0)
-
--- the first pair begins a row, and so does one with another second than the pair before it
-unfoldable pub begins_row : List Pair → ℕ → Bool
-begins_row pairs place = (place == 0) || not ((pair_at pairs (place - 1)).0 == (pair_at pairs place).0)
-
--- how many rows there are: runs of equal neighbouring seconds
-unfoldable pub row_count : List Pair → ℕ
-row_count pairs = count_by (begins_row pairs) (range_with_len 0 (length pairs))

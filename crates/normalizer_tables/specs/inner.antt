@@ -3,5 +3,4 @@ pub mod Blocks
 pub mod Buckets
 pub mod Members
 pub mod Read
-pub mod Rows
 pub mod Walk

@@ -25,7 +25,7 @@ mod table;
 pub mod word;
 
 pub use nfd_check::check_nfd_data;
-pub use pairs::{CanonicalCompositions, compose, is_never_second, row_count};
+pub use pairs::{CanonicalCompositions, compose, is_never_second};
 pub use provider::{
     DataError, DataMarker, DataMarkerInfo, DataProvider, DecompositionData, DecompositionTables,
     NonRecursiveDecompositionSupplement, NormalizerNfcV1, NormalizerNfdDataV1,

@@ -9,14 +9,11 @@ ghost use Rattle.normalizer_tables.specs.Pairs.{
   AreRising,
   IsNeverSecond,
 };
-ghost use Rattle.normalizer_tables.specs.Pairs.{row_count};
 
 mod buckets;
-mod rows;
 
 use crate::hangul::{compose_hangul, is_never_hangul_second};
 use crate::pairs::buckets::PairBuckets;
-use crate::pairs::rows::PairRows;
 use crate::table::TableError;
 use std::alloc::AllocError;
 use std::marker::Model;
@@ -24,10 +21,8 @@ use std::marker::Model;
 /// The pairs of characters that compose: a list of triples of second character, first character and result.
 #[derive(Drop)]
 pub struct CanonicalCompositions {
-    /// For look-ups of two characters.
     pairs: PairBuckets,
-    /// For look-ups of a second. Those halve a list that rises, and scan another.
-    rows: PairRows,
+    /// Look-ups of a second halve a list that rises, and scan another.
     is_rising: bool,
 }
 
@@ -39,7 +34,7 @@ impl Model for CanonicalCompositions {
 
     ghost view = { λ c. c.pairs };
 
-    ghost invariant = { λ c. (IsTrue c.is_rising ↔ AreRising c.pairs) × (c.rows ≡ c.pairs) };
+    ghost invariant = { λ c. IsTrue c.is_rising ↔ AreRising c.pairs };
 }
 
 impl CanonicalCompositions {
@@ -53,13 +48,8 @@ impl CanonicalCompositions {
         ensures refused { IsOkUnless result TableError.Memory }
     {
         let is_rising = are_rising(&pairs);
-        let rows = PairRows::from_pairs(*pairs.allocator(), &pairs)?;
         let pairs = PairBuckets::from_pairs(pairs)?;
-        Ok(CanonicalCompositions {
-            pairs,
-            rows,
-            is_rising,
-        })
+        Ok(CanonicalCompositions { pairs, is_rising })
     }
 
     /// Whether the list strictly rises by second, then by first.
@@ -102,7 +92,7 @@ impl CanonicalCompositions {
         ensures { IsTrue result ↔ ((first : ℕ) → listed_result self.now first second ≡ None) }
     {
         if self.is_rising {
-            self.rows.is_never_second_by_halving(second)
+            has_no_second_by_halving(self.pairs.as_slice(), second)
         } else {
             has_no_second(&self.pairs, second)
         }
@@ -134,31 +124,24 @@ pub fn is_never_second(pairs: &CanonicalCompositions, second: char) -> bool
     }
 }
 
-/// Returns how many rows of equal neighbouring seconds are kept.
-pub fn row_count(pairs: &CanonicalCompositions) -> usize
-    ensures { result ≡ row_count pairs.now }
-{
-    pairs.rows.count()
-}
-
 /// Equal exactly if the lists are.
 impl PartialEq for CanonicalCompositions {
     ghost use Rattle.std.specs.Cmp.{partial_equiv_from_equiv};
     ghost use Rattle.std.specs.Cmp.Lexicographic.{pointwise};
     ghost use Rattle.normalizer_tables.specs.Pairs.{same_pair};
-    ghost use Rattle.normalizer_tables.specs.inner.Rows.{same_pairs_equiv};
+    ghost use Rattle.normalizer_tables.specs.inner.Buckets.{same_pairs_equiv};
 
     ghost eq = { pointwise same_pair };
 
     ghost laws = { partial_equiv_from_equiv same_pairs_equiv };
 
     fn eq(&self, other: &Self) -> bool {
-        self.rows == other.rows
+        self.pairs.as_slice() == other.pairs.as_slice()
     }
 }
 
 impl Eq for CanonicalCompositions {
-    ghost use Rattle.normalizer_tables.specs.inner.Rows.{same_pairs_equiv};
+    ghost use Rattle.normalizer_tables.specs.inner.Buckets.{same_pairs_equiv};
 
     ghost laws = { same_pairs_equiv };
 }
@@ -169,7 +152,6 @@ impl Clone for CanonicalCompositions {
     fn clone(&self) -> Result<Self, AllocError> {
         Ok(CanonicalCompositions {
             pairs: self.pairs.clone()?,
-            rows: self.rows.clone()?,
             is_rising: self.is_rising,
         })
     }
@@ -192,6 +174,18 @@ fn has_no_second(pairs: &PairBuckets, second: char) -> bool
         }
     }
     true
+}
+
+/// Whether no pair of a list that rises has this second.
+fn has_no_second_by_halving(pairs: &[(char, char, char)], second: char) -> bool
+    requires { AreRising pairs.now }
+    ensures { IsTrue result ↔ ((first : ℕ) → listed_result pairs.now first second ≡ None) }
+{
+    let place = pairs.partition_point(|pair| pair.0 < second);
+    match pairs.get(place) {
+        Some(pair) if pair.0 == second => false,
+        _ => true,
+    }
 }
 
 #[tactic(auto, unfolding(crate::specs::Pairs::is_before))]

@@ -1,6 +1,6 @@
 //! The pairs of characters that compose: how they are held, and which characters are never second.
 use normalizer_tables::pair_check::are_sound_pairs;
-use normalizer_tables::{CanonicalCompositions, compose, is_never_second, row_count};
+use normalizer_tables::{CanonicalCompositions, compose, is_never_second};
 use std::alloc::Global;
 
 /// Second, first and result.
@@ -150,23 +150,4 @@ fn holds_lists_that_fall(rt: HostRuntime) {
     assert!(rt; has_falling_pairs(rt.alloc(), &copy));
     assert!(rt; composes_falling_pairs(&copy));
     assert!(rt; tells_falling_seconds(&copy));
-}
-
-/// Pairs of three seconds, of which the first two have one.
-const OF_THREE_SECONDS: [Pair; 4] = [
-    ('\u{302}', 'e', 'ê'),
-    ('\u{302}', '\u{1EB9}', '\u{1EC7}'),
-    ('\u{308}', 'a', 'ä'),
-    ('\u{323}', 'e', '\u{1EB9}'),
-];
-
-fn rows_of(alloc: Global, pairs: &[Pair]) -> Option<usize> {
-    Some(row_count(&compositions(alloc, pairs)?))
-}
-
-#[test]
-fn equal_neighbouring_seconds_are_kept_once(rt: HostRuntime) {
-    assert_eq!(rt; rows_of(rt.alloc(), &[]), Some(0));
-    assert_eq!(rt; rows_of(rt.alloc(), &OF_THREE_SECONDS), Some(3));
-    assert_eq!(rt; rows_of(rt.alloc(), &FALLING), Some(3));
 }

@@ -1,6 +1,15 @@
 -- How pairs are found by both characters: each is in a bucket, and the places of a bucket's pairs are a chain.
 use Rattle.std.specs.Prelude.{◌≡◌, ◌≢◌, ℕ, ◌+◌, ◌*◌, ◌%◌, ◌≤◌, ◌<◌, List, length, slice_index}
-use Rattle.normalizer_tables.specs.Pairs.{Pair, pair_at}
+use Rattle.std.specs.Cmp.{IsEquivalence}
+use Rattle.std.specs.Cmp.Lexicographic.{pointwise}
+use Rattle.std.proofs.lemmas.Cmp.{and_equiv, lists_equiv, nat_eq_equiv, on_equiv}
+use Rattle.normalizer_tables.specs.Pairs.{Pair, same_pair, pair_at}
+
+-- the test of two lists of pairs is an equivalence
+pub same_pairs_equiv : IsEquivalence (pointwise same_pair)
+same_pairs_equiv = lists_equiv
+    (and_equiv (and_equiv (on_equiv (λ (p : Pair). p.0) nat_eq_equiv) (on_equiv (λ (p : Pair). p.1) nat_eq_equiv))
+    (on_equiv (λ (p : Pair). p.2) nat_eq_equiv))
 
 -- how many buckets there are
 abbrev pub bucket_count : ℕ

@@ -63,6 +63,13 @@ impl PairBuckets {
         self.pairs[place]
     }
 
+    /// The pairs as a slice.
+    pub(crate) fn as_slice(&self) -> &[(char, char, char)]
+        ensures { result.now ≡ self.now }
+    {
+        &self.pairs
+    }
+
     /// The result of the first pair of two characters.
     pub(crate) fn result_of(&self, first: char, second: char) -> Option<char>
         ensures { result ≡ listed_result self.now first second }

@@ -1,7 +1,6 @@
 use Rattle.std.proofs.Common.{arith, sym, ◌∙◌}
 use Rattle.std.proofs.lemmas.List.{get_or-replicate, length-replicate}
 use Rattle.normalizer_tables.specs.inner.Blocks.{IsNumbered, block_with}
-use Rattle.normalizer_tables.proofs.BlockLemmas.{number_in-kept}
 use Rattle.normalizer_tables.proofs.blocks.numbered.Goals as goal
 
 pub returns-then-start-last-clause-number : goal.returns-then-start-last-clause-number

@@ -1,4 +1,4 @@
-use Rattle.std.proofs.Common.{◌≡◌, ◌<◌, ◌+◌, ℕ, arith, length, get_or, Err, refl, sym, ◌∙◌, ap, below_more}
+use Rattle.std.proofs.Common.{◌≡◌, arith, length, get_or, Err, sym, ◌∙◌, ap, below_more}
 use Rattle.std.proofs.lemmas.List.{get_or_read}
 use Rattle.std.proofs.lemmas.List.FromFn.{map-range_with_len_more}
 use Rattle.normalizer_tables.specs.Table.{code_points}
