@@ -25,7 +25,7 @@
 extern "C" {
 #endif
 
-/* Normalizers to the four forms, or none. A program may move it, and changes nothing in it. */
+/* Normalizers to the four forms and perhaps a mapper, or none. A program may move it, and changes nothing in it. */
 typedef struct icu_normalizer {
     void *normalizers;
     bool is_open;
@@ -44,7 +44,7 @@ typedef uint32_t icu_normalizer_form;
 /* How a call ended. */
 typedef uint32_t icu_normalizer_status;
 #define ICU_NORMALIZER_OK 0u
-/* The buffer is too small for the form; `*needed` says how long the form is. */
+/* The buffer is too small for what is written; `*needed` says how long that is. */
 #define ICU_NORMALIZER_BUFFER_TOO_SMALL 1u
 /* An allocation was refused. */
 #define ICU_NORMALIZER_OUT_OF_MEMORY 2u
@@ -52,21 +52,27 @@ typedef uint32_t icu_normalizer_status;
 #define ICU_NORMALIZER_UNKNOWN_FORM 3u
 /* The handle has no normalizers. */
 #define ICU_NORMALIZER_NOT_OPEN 4u
-/* A line of UnicodeData.txt or CompositionExclusions.txt is wrong. */
+/* A line of a data file is wrong. */
 #define ICU_NORMALIZER_WRONG_LINE 5u
-/* The characters of the data files can't be built into tables. */
+/* The records of characters, together, can't be built into tables. */
 #define ICU_NORMALIZER_WRONG_RECORDS 6u
+/* The handle has no mapper. */
+#define ICU_NORMALIZER_NO_MAPPER 7u
+/* A record is wrong by itself. */
+#define ICU_NORMALIZER_WRONG_RECORD 8u
 
 /* Returns what a status means, in English. */
 static inline const char *icu_normalizer_status_text(icu_normalizer_status status) {
     switch (status) {
         case ICU_NORMALIZER_OK: return "no error";
-        case ICU_NORMALIZER_BUFFER_TOO_SMALL: return "the buffer is too small for the form";
+        case ICU_NORMALIZER_BUFFER_TOO_SMALL: return "the buffer is too small";
         case ICU_NORMALIZER_OUT_OF_MEMORY: return "out of memory";
         case ICU_NORMALIZER_UNKNOWN_FORM: return "no form has this number";
         case ICU_NORMALIZER_NOT_OPEN: return "the normalizer isn't open";
         case ICU_NORMALIZER_WRONG_LINE: return "a line of a data file is wrong";
-        case ICU_NORMALIZER_WRONG_RECORDS: return "the characters of the data files can't be built into tables";
+        case ICU_NORMALIZER_WRONG_RECORDS: return "the records of characters can't be built into tables";
+        case ICU_NORMALIZER_NO_MAPPER: return "the normalizer has no mapper";
+        case ICU_NORMALIZER_WRONG_RECORD: return "a record is wrong";
         default: return "no status has this number";
     }
 }
@@ -79,11 +85,69 @@ typedef struct icu_normalizer_mismatch {
     bool exists;       /* whether there is a mismatch */
 } icu_normalizer_mismatch;
 
+/* A record of one character: its class and its mapping, as in a line of UnicodeData.txt. The mapping is a part of an
+   array of code points that is passed with the records, not replaced further. Of length 0 it is none, and the two flags
+   are then ignored. */
+typedef struct icu_normalizer_record {
+    size_t mapping_start;  /* where the mapping begins in the array */
+    size_t mapping_length; /* how many code points it has */
+    uint32_t character;
+    uint8_t combining_class; /* the canonical combining class */
+    bool is_compatibility;   /* whether the mapping is a compatibility mapping */
+    bool is_excluded;        /* whether the character is excluded from composition */
+} icu_normalizer_record;
+
+/* Where data are wrong, and why. */
+typedef struct icu_normalizer_defect {
+    size_t place;    /* the line of a file, from 1; how many records come before a record; or a condition, else 0 */
+    uint32_t source; /* which data */
+    uint32_t reason; /* what is wrong */
+} icu_normalizer_defect;
+
+/* Which data. The records together may also be those that files say. */
+#define ICU_NORMALIZER_UNICODE_DATA 0u
+#define ICU_NORMALIZER_COMPOSITION_EXCLUSIONS 1u
+#define ICU_NORMALIZER_IDNA_MAPPING_TABLE 2u
+#define ICU_NORMALIZER_ONE_RECORD 3u
+#define ICU_NORMALIZER_ALL_RECORDS 4u
+
+/* Returns what the reason of a defect means, in English: 1 to 8 are of lines, 9 is of one record, 10 to 18 are of the
+   records together. With reason 17, the place is the number of the condition (docs/CONDITIONS.md). */
+static inline const char *icu_normalizer_reason_text(uint32_t reason) {
+    switch (reason) {
+        case 1: return "the line has too few fields";
+        case 2: return "the code point is not a hexadecimal number up to 10FFFF";
+        case 3: return "the canonical combining class is not a number from 0 to 254";
+        case 4: return "the mapping is not a list of characters";
+        case 5: return "the status is not one of Unicode Technical Standard #46";
+        case 6: return "the code points don't strictly rise";
+        case 7: return "a range of code points is not closed";
+        case 8: return "a class or a mapping of what is not one character";
+        case 9: return "the code point is no character, or the mapping is not characters of the array";
+        case 10: return "the records don't strictly rise by character";
+        case 11: return "a record of U+FFFD, a conjoining jamo or a Hangul syllable";
+        case 12: return "a class of 255, or a list that begins with a mark";
+        case 13: return "a mapping of a wrong length or with a character that it may not have";
+        case 14: return "more than 16 records lead from one to the next";
+        case 15: return "a list is too long";
+        case 16: return "two records have the same pair";
+        case 17: return "the data break a written condition";
+        case 18: return "the lists have more items than the tables hold";
+        default: return "no reason has this number";
+    }
+}
+
 /* ---- the functions of the library */
 
 icu_normalizer_status icu_normalizer_open_unicode_data_nonnull(icu_normalizer *normalizer,
     const uint8_t *unicode_data, size_t unicode_data_length,
     const uint8_t *exclusions, size_t exclusions_length);
+icu_normalizer_status icu_normalizer_open_files_nonnull(icu_normalizer *normalizer,
+    const uint8_t *unicode_data, size_t unicode_data_length, const uint8_t *exclusions, size_t exclusions_length,
+    const uint8_t *idna_table, size_t idna_table_length, uint32_t disallowed_limit, icu_normalizer_defect *defect);
+icu_normalizer_status icu_normalizer_open_records_nonnull(icu_normalizer *normalizer,
+    const icu_normalizer_record *records, size_t records_length, const uint32_t *codes, size_t codes_length,
+    const uint8_t *idna_table, size_t idna_table_length, uint32_t disallowed_limit, icu_normalizer_defect *defect);
 icu_normalizer_status icu_normalizer_normalize_utf8_nonnull(icu_normalizer *normalizer, icu_normalizer_form form,
     const uint8_t *input, size_t input_length, uint8_t *output, size_t output_length, size_t *needed);
 icu_normalizer_status icu_normalizer_normalize_utf16_nonnull(icu_normalizer *normalizer, icu_normalizer_form form,
@@ -100,14 +164,23 @@ icu_normalizer_status icu_normalizer_first_mismatch_utf8_nonnull(icu_normalizer 
     const uint8_t *input, size_t input_length, icu_normalizer_mismatch *mismatch);
 icu_normalizer_status icu_normalizer_first_mismatch_utf16_nonnull(icu_normalizer *normalizer, icu_normalizer_form form,
     const uint16_t *input, size_t input_length, icu_normalizer_mismatch *mismatch);
+icu_normalizer_status icu_normalizer_map_utf8_nonnull(icu_normalizer *normalizer,
+    const uint8_t *input, size_t input_length, uint8_t *output, size_t output_length, size_t *needed);
+icu_normalizer_status icu_normalizer_map_utf16_nonnull(icu_normalizer *normalizer,
+    const uint16_t *input, size_t input_length, uint16_t *output, size_t output_length, size_t *needed);
+icu_normalizer_status icu_normalizer_validate_utf8_nonnull(icu_normalizer *normalizer,
+    const uint8_t *input, size_t input_length, uint8_t *output, size_t output_length, size_t *needed);
+icu_normalizer_status icu_normalizer_validate_utf16_nonnull(icu_normalizer *normalizer,
+    const uint16_t *input, size_t input_length, uint16_t *output, size_t output_length, size_t *needed);
 
 /* Closes the handle, which then has no normalizers. A closed handle stays closed. */
 void icu_normalizer_close(icu_normalizer *normalizer);
 
 /* ---- the same, for arrays that may be null if they have no units */
 
-/* Opens normalizers by the bytes of UnicodeData.txt and CompositionExclusions.txt, of any version of Unicode. What the
-   handle had is closed. On WRONG_LINE, WRONG_RECORDS and OUT_OF_MEMORY the handle keeps what it had. */
+/* Opens normalizers by the bytes of UnicodeData.txt and CompositionExclusions.txt, of any version of Unicode, without a
+   mapper. What the handle had is closed. On an error the handle keeps what it had: WRONG_LINE, WRONG_RECORDS,
+   OUT_OF_MEMORY. */
 static inline icu_normalizer_status icu_normalizer_open_unicode_data(icu_normalizer *normalizer,
     const uint8_t *unicode_data, size_t unicode_data_length,
     const uint8_t *exclusions, size_t exclusions_length) {
@@ -115,6 +188,33 @@ static inline icu_normalizer_status icu_normalizer_open_unicode_data(icu_normali
     return icu_normalizer_open_unicode_data_nonnull(normalizer,
         unicode_data_length ? unicode_data : &none, unicode_data_length,
         exclusions_length ? exclusions : &none, exclusions_length);
+}
+
+/* The same, with a mapper by the bytes of IdnaMappingTable.txt, if that maps, ignores or disallows a character. Its
+   disallowed ranges of more than `disallowed_limit` code points are left out, and a mapper leaves their characters as
+   they are; most of them are unassigned. With 0x110000 none is left out. On WRONG_LINE and WRONG_RECORDS `*defect` says
+   where the data are wrong; else it is unchanged. */
+static inline icu_normalizer_status icu_normalizer_open_files(icu_normalizer *normalizer,
+    const uint8_t *unicode_data, size_t unicode_data_length, const uint8_t *exclusions, size_t exclusions_length,
+    const uint8_t *idna_table, size_t idna_table_length, uint32_t disallowed_limit, icu_normalizer_defect *defect) {
+    const uint8_t none = 0;
+    return icu_normalizer_open_files_nonnull(normalizer,
+        unicode_data_length ? unicode_data : &none, unicode_data_length,
+        exclusions_length ? exclusions : &none, exclusions_length,
+        idna_table_length ? idna_table : &none, idna_table_length, disallowed_limit, defect);
+}
+
+/* The same, with records in place of the first two files. They rise by character, and `codes` has the code points of
+   their mappings. Characters without a class and a mapping need none. On WRONG_RECORD `*defect` says which is wrong. */
+static inline icu_normalizer_status icu_normalizer_open_records(icu_normalizer *normalizer,
+    const icu_normalizer_record *records, size_t records_length, const uint32_t *codes, size_t codes_length,
+    const uint8_t *idna_table, size_t idna_table_length, uint32_t disallowed_limit, icu_normalizer_defect *defect) {
+    const icu_normalizer_record no_record = {0, 0, 0, 0, false, false};
+    const uint32_t no_code = 0;
+    const uint8_t none = 0;
+    return icu_normalizer_open_records_nonnull(normalizer,
+        records_length ? records : &no_record, records_length, codes_length ? codes : &no_code, codes_length,
+        idna_table_length ? idna_table : &none, idna_table_length, disallowed_limit, defect);
 }
 
 /* Each call below ends with NOT_OPEN if the handle has no normalizers, else with UNKNOWN_FORM if no form has the
@@ -178,6 +278,42 @@ static inline icu_normalizer_status icu_normalizer_first_mismatch_utf16(icu_norm
     const uint16_t none = 0;
     return icu_normalizer_first_mismatch_utf16_nonnull(
         normalizer, form, input_length ? input : &none, input_length, mismatch);
+}
+
+/* The calls below use the mapper (Unicode Technical Standard #46, section 4). Each ends with NOT_OPEN if the handle has
+   no normalizers, else with NO_MAPPER if it has no mapper. `*needed` is how many units are written: on success, and on
+   BUFFER_TOO_SMALL. STD3 rules, Punycode and the other steps of the standard are left to the caller. */
+
+/* Writes `input` mapped and in NFC to `output`: ignored characters are dropped, disallowed ones become U+FFFD. */
+static inline icu_normalizer_status icu_normalizer_map_utf8(icu_normalizer *normalizer,
+    const uint8_t *input, size_t input_length, uint8_t *output, size_t output_length, size_t *needed) {
+    const uint8_t none = 0;
+    uint8_t nothing;
+    return icu_normalizer_map_utf8_nonnull(normalizer, input_length ? input : &none, input_length,
+        output_length ? output : &nothing, output_length, needed);
+}
+static inline icu_normalizer_status icu_normalizer_map_utf16(icu_normalizer *normalizer,
+    const uint16_t *input, size_t input_length, uint16_t *output, size_t output_length, size_t *needed) {
+    const uint16_t none = 0;
+    uint16_t nothing;
+    return icu_normalizer_map_utf16_nonnull(normalizer, input_length ? input : &none, input_length,
+        output_length ? output : &nothing, output_length, needed);
+}
+
+/* The same, but ignored characters become U+FFFD too. Mapped text is valid only if this leaves it unchanged. */
+static inline icu_normalizer_status icu_normalizer_validate_utf8(icu_normalizer *normalizer,
+    const uint8_t *input, size_t input_length, uint8_t *output, size_t output_length, size_t *needed) {
+    const uint8_t none = 0;
+    uint8_t nothing;
+    return icu_normalizer_validate_utf8_nonnull(normalizer, input_length ? input : &none, input_length,
+        output_length ? output : &nothing, output_length, needed);
+}
+static inline icu_normalizer_status icu_normalizer_validate_utf16(icu_normalizer *normalizer,
+    const uint16_t *input, size_t input_length, uint16_t *output, size_t output_length, size_t *needed) {
+    const uint16_t none = 0;
+    uint16_t nothing;
+    return icu_normalizer_validate_utf16_nonnull(normalizer, input_length ? input : &none, input_length,
+        output_length ? output : &nothing, output_length, needed);
 }
 
 #ifdef __cplusplus

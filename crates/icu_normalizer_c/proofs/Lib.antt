@@ -1,2 +1,3 @@
 mod AsBox
 mod MadeLemmas
+mod OpeningLemmas

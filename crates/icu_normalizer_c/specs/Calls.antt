@@ -1,32 +1,27 @@
 -- What the calls of C do.
 use Rattle.std.specs.Prelude.{◌≡◌, ◌⊎◌, ◌↔◌, ℕ, ◌<◌, Bool, List, [], ⊤, Result, Ok, Err, Option, Some, None, IsTrue}
-use Rattle.normalizer_text.specs.Encodings.{Encoding}
+use Rattle.normalizer_tables.specs.declared.characters.IgnoredCharacters.{IgnoredCharacters}
+use Rattle.normalizer_text.specs.Encodings.{Encoding, encoded_in, decoded_in}
 use Rattle.normalizer_input.specs.EncodedForm.{encoded_form}
 use Rattle.normalizer_input.specs.InputCut.{IsInputCut, IsInputNormalized}
 use Rattle.normalizer_input.specs.declared.offence.Offence.{Offence}
-use Rattle.normalizer_builder.specs.Building.{IsSmallest}
 use Rattle.normalizer_built.specs.declared.NormalForm.{NormalForm}
 use Rattle.normalizer_calls.specs.Checks.{IsLastingOffence}
 use Rattle.normalizer_calls.specs.Forms.{MadeForm}
-use Rattle.normalizer_records.specs.Entry.{Entry}
-use Rattle.normalizer_records.specs.declared.records.BuildError.{BuildError}
-use Rattle.normalizer_ucd.specs.declared.error.LineFault.{LineFault}
-use Rattle.normalizer_ucd.specs.UnicodeData.{records_of}
+use Rattle.normalizer_calls.specs.declared.uts46.Uts46Mapper.{Uts46Mapper}
+use Rattle.normalizer_calls.specs.Mappers.{mapper_data_of}
+use Rattle.normalizer_calls.specs.Uts46.{MapperData}
 use Rattle.icu_normalizer_c.specs.declared.fault.Fault.{Fault}
-use Rattle.icu_normalizer_c.specs.declared.fault.Fault.TheVariants.{
-  BufferTooSmall,
-  Memory,
-  UnknownForm,
-  NotOpen,
-  Line,
-  Records,
-}
+use Rattle.icu_normalizer_c.specs.declared.fault.Fault.TheVariants.{UnknownForm, NotOpen, NoMapper}
+use Rattle.icu_normalizer_c.specs.declared.defect.Defect.{Defect}
 use Rattle.icu_normalizer_c.specs.declared.handle.Handle.{Handle}
 use Rattle.icu_normalizer_c.specs.declared.mismatch.Mismatch.{Mismatch}
 use Rattle.icu_normalizer_c.specs.declared.normalizers.Normalizers.{Normalizers}
 use Rattle.icu_normalizer_c.specs.Buffers.{Fills, Tells}
+use Rattle.icu_normalizer_c.specs.Defects.{defect_after}
 use Rattle.icu_normalizer_c.specs.Forms.{last_form, number_of}
-use Rattle.icu_normalizer_c.specs.Made.{MakeBy, made_in}
+use Rattle.icu_normalizer_c.specs.Made.{made_in}
+use Rattle.icu_normalizer_c.specs.Mapping.{mapped_in}
 use Rattle.icu_normalizer_c.specs.Mismatches.{mismatch_of}
 use Rattle.icu_normalizer_c.specs.Status.{status_of}
 
@@ -34,31 +29,14 @@ use Rattle.icu_normalizer_c.specs.Status.{status_of}
 abbrev pub IsStatus : ℕ → (Result ⊤ Fault → Type 0) → Type 0
 IsStatus number Is = (outcome : Result ⊤ Fault) × (number ≡ status_of outcome) × Is outcome
 
+-- the same of an outcome whose defect, if it has one, the caller is told
+abbrev pub IsStatusReporting : ℕ → (before after : Defect) → (Result ⊤ Fault → Type 0) → Type 0
+IsStatusReporting number before after Is =
+    (outcome : Result ⊤ Fault) × (number ≡ status_of outcome) × (after ≡ defect_after outcome before) × Is outcome
+
 -- the normalizers of a handle, or none
 abbrev pub held : Handle → Option Normalizers
 held h = h.slot.value
-
--- why the bytes of the two files give no normalizers
-abbrev pub IsFaultOf : (unicode_data exclusions : List ℕ) → Fault → Type 0
-IsFaultOf unicode_data exclusions Line = (fault : LineFault) × (records_of unicode_data exclusions ≡ Err fault)
-IsFaultOf unicode_data exclusions Records =
-    (records : List Entry) × (error : BuildError) × (records_of unicode_data exclusions ≡ Ok records)
-    × IsSmallest records [] error
-IsFaultOf unicode_data exclusions Memory = ⊤
-IsFaultOf unicode_data exclusions BufferTooSmall = ⊥
-IsFaultOf unicode_data exclusions UnknownForm = ⊥
-IsFaultOf unicode_data exclusions NotOpen = ⊥
-
--- the normalizers make the forms by the records of the two files
-abbrev pub AreOfFiles : (unicode_data exclusions : List ℕ) → Normalizers → Type 0
-AreOfFiles unicode_data exclusions n =
-    (records : List Entry) × (records_of unicode_data exclusions ≡ Ok records) × MakeBy n records
-
--- the handle has normalizers by the records of the two files, or what it had before
-abbrev pub Opens : (unicode_data exclusions : List ℕ) → (before after : Option Normalizers) → Result ⊤ Fault → Type 0
-Opens unicode_data exclusions before after (Ok done) =
-    (n : Normalizers) × (after ≡ Some n) × AreOfFiles unicode_data exclusions n
-Opens unicode_data exclusions before after (Err fault) = (after ≡ before) × IsFaultOf unicode_data exclusions fault
 
 -- the form that the normalizers make and that has the number
 abbrev pub IsNumbered : Normalizers → (number : ℕ) → MadeForm → Type 0
@@ -98,3 +76,21 @@ abbrev pub TellsMismatch : Encoding → (input : List ℕ) → (before after : M
 TellsMismatch e input before after m outcome =
     Tells m e input (λ told. (answer : Option Offence) × (told ≡ mismatch_of answer) × IsLastingOffence m e input answer)
     before after outcome
+
+-- a call at the mapper of normalizers, unless they have none
+abbrev pub AtMapper : Option Uts46Mapper → (Unchanged : Type 0) → (MapperData → Result ⊤ Fault → Type 0)
+    → Result ⊤ Fault → Type 0
+AtMapper None Unchanged Is outcome = (outcome ≡ Err NoMapper) × Unchanged
+AtMapper (Some m) Unchanged Is outcome = Is (mapper_data_of m) outcome
+
+-- a call at the mapper of a handle, unless it has no normalizers or no mapper
+abbrev pub OverMapper : Option Normalizers → (Unchanged : Type 0) → (MapperData → Result ⊤ Fault → Type 0)
+    → Result ⊤ Fault → Type 0
+OverMapper None Unchanged Is outcome = (outcome ≡ Err NotOpen) × Unchanged
+OverMapper (Some n) Unchanged Is outcome = AtMapper n.mapper Unchanged Is outcome
+
+-- what the input is mapped to goes to the buffer, encoded as it is, its ignored characters dropped or replaced
+abbrev pub WritesMapped : Encoding → IgnoredCharacters → (input before after : List ℕ) → (told_before told : ℕ)
+    → MapperData → Result ⊤ Fault → Type 0
+WritesMapped e i input before after told_before told h outcome =
+    Fills (encoded_in e (mapped_in h i (decoded_in e input))) before after told_before told outcome

@@ -1,7 +1,11 @@
 pub mod Buffers
 pub mod Calls
+pub mod Defects
 pub mod Forms
 pub mod Made
+pub mod Mapping
 pub mod Mismatches
+pub mod Opening
+pub mod PlainRecords
 pub mod Slots
 pub mod Status

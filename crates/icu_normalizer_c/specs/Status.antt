@@ -12,6 +12,8 @@ use Rattle.icu_normalizer_c.specs.declared.fault.Fault.TheVariants.{
   NotOpen,
   Line,
   Records,
+  NoMapper,
+  Record,
 }
 
 abbrev pub number_of : Fault → ℕ
@@ -19,8 +21,10 @@ number_of BufferTooSmall = 1
 number_of Memory = 2
 number_of UnknownForm = 3
 number_of NotOpen = 4
-number_of Line = 5
-number_of Records = 6
+number_of (Line fault) = 5
+number_of (Records error) = 6
+number_of NoMapper = 7
+number_of (Record fault) = 8
 
 -- 0, or the number of the fault
 abbrev pub status_of : Result ⊤ Fault → ℕ
@@ -29,9 +33,9 @@ status_of (Err fault) = number_of fault
 
 -- what a line of a file, or what records build, is refused as
 abbrev pub fault_of_file : UcdError → Fault
-fault_of_file (ucd.Line fault) = Line
+fault_of_file (ucd.Line fault) = Line fault
 fault_of_file ucd.Memory = Memory
 
 abbrev pub fault_of_build : BuildError → Fault
 fault_of_build build_error.Memory = Memory
-fault_of_build error = Records
+fault_of_build error = Records error

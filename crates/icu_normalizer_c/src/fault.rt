@@ -2,15 +2,15 @@
 ghost use Rattle.std.specs.Prelude.{◌≡◌};
 ghost use Rattle.icu_normalizer_c.specs.Status.{fault_of_build, fault_of_file, number_of, status_of};
 
-use icu_normalizer::NormalizeError;
+use icu_normalizer::{DataError, NormalizeError};
 use normalizer_records::BuildError;
-use normalizer_ucd::UcdError;
-use std::alloc::AllocError;
+use normalizer_ucd::{LineFault, UcdError};
+use std::alloc::{AllocError, AllocFailed};
 
 /// Why a call failed.
 #[derive(Clone, Copy, Debug, PartialEq, Eq)]
 pub enum Fault {
-    /// The buffer is too small for the form.
+    /// The buffer is too small for what is written.
     BufferTooSmall,
     /// An allocation was refused.
     Memory,
@@ -19,9 +19,13 @@ pub enum Fault {
     /// The handle has no normalizers.
     NotOpen,
     /// A line of a data file is wrong.
-    Line,
+    Line(LineFault),
     /// The records can't be built.
-    Records,
+    Records(BuildError),
+    /// The handle has no mapper.
+    NoMapper,
+    /// The record after so many is wrong.
+    Record(usize),
 }
 
 impl Fault {
@@ -34,8 +38,10 @@ impl Fault {
             Fault::Memory => 2,
             Fault::UnknownForm => 3,
             Fault::NotOpen => 4,
-            Fault::Line => 5,
-            Fault::Records => 6,
+            Fault::Line(_) => 5,
+            Fault::Records(_) => 6,
+            Fault::NoMapper => 7,
+            Fault::Record(_) => 8,
         }
     }
 }
@@ -55,7 +61,7 @@ impl From<UcdError> for Fault {
 
     fn from(error: UcdError) -> Fault {
         match error {
-            UcdError::Line(_) => Fault::Line,
+            UcdError::Line(fault) => Fault::Line(fault),
             UcdError::Memory => Fault::Memory,
         }
     }
@@ -67,7 +73,7 @@ impl From<BuildError> for Fault {
     fn from(error: BuildError) -> Fault {
         match error {
             BuildError::Memory => Fault::Memory,
-            _ => Fault::Records,
+            other => Fault::Records(other),
         }
     }
 }
@@ -89,6 +95,27 @@ impl From<AllocError> for Fault {
     ghost from_gives = { λ _ fault. fault ≡ Memory };
 
     fn from(_error: AllocError) -> Fault {
+        Fault::Memory
+    }
+}
+
+impl From<DataError> for Fault {
+    ghost use Rattle.icu_normalizer_c.specs.declared.fault.Fault.TheVariants.{Memory};
+
+    ghost from_gives = { λ _ fault. fault ≡ Memory };
+
+    // The data were built from records: nothing but memory is refused.
+    fn from(_error: DataError) -> Fault {
+        Fault::Memory
+    }
+}
+
+impl<T: Drop> From<AllocFailed<T>> for Fault {
+    ghost use Rattle.icu_normalizer_c.specs.declared.fault.Fault.TheVariants.{Memory};
+
+    ghost from_gives = { λ _ fault. fault ≡ Memory };
+
+    fn from(_error: AllocFailed<T>) -> Fault {
         Fault::Memory
     }
 }

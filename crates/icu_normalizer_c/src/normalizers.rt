@@ -1,27 +1,31 @@
-//! Normalizers to the four forms, over the same data.
+//! Normalizers to the four forms and a mapper, over the same data.
 ghost use Rattle.std.specs.Prelude.{◌≡◌, ◌<◌, IfOk, IsOkUnless, List, MatchResult};
 ghost use Rattle.normalizer_builder.specs.Building.{Builds};
 ghost use Rattle.normalizer_builder.specs.Built.{AreBuilt, data_in};
-ghost use Rattle.normalizer_records.specs.Entry.{Entry, MapperEntry};
+ghost use Rattle.normalizer_records.specs.Entry.{Entry};
 ghost use Rattle.icu_normalizer_c.specs.Calls.{IsNumbered};
 ghost use Rattle.icu_normalizer_c.specs.Forms.{last_form};
 ghost use Rattle.icu_normalizer_c.specs.declared.fault.Fault.TheVariants.{UnknownForm};
-ghost use Rattle.icu_normalizer_c.specs.Made.{made_by, made_in, MakeBy};
+ghost use Rattle.icu_normalizer_c.specs.Made.{made_by, made_in, MakeBy, MapBy};
 
 use crate::fault::Fault;
 use crate::form::form_numbered;
 use crate::normalizer::Normalizer;
-use icu_normalizer::{Built, ComposingNormalizer, DecomposingNormalizer, NormalizeError};
+use icu_normalizer::uts46::Uts46Mapper;
+use icu_normalizer::{
+    Built, ComposingNormalizer, DecomposingNormalizer, NormalizeError, Uts46Record,
+};
 use normalizer_built::{
-    NormalForm, nfc_normalizer, nfd_normalizer, nfkc_normalizer, nfkd_normalizer,
+    NormalForm, built_mapper, nfc_normalizer, nfd_normalizer, nfkc_normalizer, nfkd_normalizer,
 };
 
-/// Normalizers to the four forms, over the same data.
+/// Normalizers to the four forms, over the same data, and a mapper if it has records.
 pub struct Normalizers {
     pub(crate) nfd: DecomposingNormalizer,
     pub(crate) nfc: ComposingNormalizer,
     pub(crate) nfkd: DecomposingNormalizer,
     pub(crate) nfkc: ComposingNormalizer,
+    pub(crate) mapper: Option<Uts46Mapper>,
 }
 
 // Written out, so that each place that drops one makes one call.
@@ -32,16 +36,19 @@ impl Drop for Normalizers {
             nfc: _nfc,
             nfkd: _nfkd,
             nfkc: _nfkc,
+            mapper: _mapper,
         } = self;
     }
 }
 
 impl Normalizers {
-    /// Returns the normalizers over built data.
-    pub(crate) fn over(built: &Built) -> Result<Normalizers, NormalizeError>
+    /// Returns the normalizers over built data, and their mapper if it has these records.
+    pub(crate) fn over(built: &Built, mapper: &[Uts46Record]) -> Result<Normalizers, NormalizeError>
         requires { AreBuilt (data_in built.now) }
-        ensures makes { (records : List Entry) (mapper : List MapperEntry) → Builds records mapper (data_in built.now) →
+        ensures makes { (records : List Entry) → Builds records mapper.now (data_in built.now) →
             IfOk result (λ n. MakeBy n records) }
+        ensures maps { (records : List Entry) → Builds records mapper.now (data_in built.now) →
+            IfOk result (λ n. MapBy n.mapper records mapper.now) }
         ensures refused { IsOkUnless result NormalizeError.Memory }
     {
         Ok(Normalizers {
@@ -49,6 +56,7 @@ impl Normalizers {
             nfc: nfc_normalizer(built)?,
             nfkd: nfkd_normalizer(built)?,
             nfkc: nfkc_normalizer(built)?,
+            mapper: mapper_over(built, mapper)?,
         })
     }
 
@@ -73,5 +81,21 @@ impl Normalizers {
             Some(form) => Ok(self.to(form)),
             None => Err(Fault::UnknownForm),
         }
+    }
+}
+
+/// Returns the mapper over built data, if it has these records.
+fn mapper_over(built: &Built, mapper: &[Uts46Record]) -> Result<Option<Uts46Mapper>, NormalizeError>
+    requires { AreBuilt (data_in built.now) }
+    ensures maps { (records : List Entry) → Builds records mapper.now (data_in built.now) →
+        IfOk result (λ m. MapBy m records mapper.now) }
+    ensures refused { IsOkUnless result NormalizeError.Memory }
+{
+    if mapper.is_empty() {
+        return Ok(None);
+    }
+    match built_mapper(built) {
+        Ok(mapper) => Ok(Some(mapper)),
+        Err(_) => Err(NormalizeError::Memory),
     }
 }

@@ -1,16 +1,28 @@
 //! Opening and closing.
-ghost use Rattle.std.specs.Prelude.{◌≡◌, MatchResult, None};
-ghost use Rattle.icu_normalizer_c.specs.Calls.{held, AreOfFiles, IsFaultOf, IsStatus, Opens};
+ghost use Rattle.std.specs.Prelude.{◌≡◌, [], MatchResult, None, Ok};
+ghost use Rattle.icu_normalizer_c.specs.Calls.{held, IsStatus, IsStatusReporting};
+ghost use Rattle.icu_normalizer_c.specs.Made.{MakeBy, MapBy};
+ghost use Rattle.icu_normalizer_c.specs.Opening.{
+  both,
+  IsBuildFault,
+  of_idna_table,
+  of_unicode_data,
+  Opens,
+  Reads,
+};
+ghost use Rattle.icu_normalizer_c.specs.PlainRecords.{entries_of};
 
+use crate::defect::{Defect, status_reporting};
 use crate::fault::{Fault, status};
 use crate::handle::Handle;
 use crate::normalizers::Normalizers;
-use icu_normalizer::Records;
-use normalizer_ucd::records_of_unicode_data;
+use crate::plain_records::{PlainRecord, records_of_plain};
+use icu_normalizer::{Record, Records, Uts46Record};
+use normalizer_ucd::{Disallowed, records_of_unicode_data, uts46_records_of_idna_table};
 use std::alloc::Global;
 
-/// Opens the normalizers by the bytes of `UnicodeData.txt` and `CompositionExclusions.txt`. What the handle had is
-/// closed.
+/// Opens normalizers by the bytes of `UnicodeData.txt` and `CompositionExclusions.txt`, with no mapper. What the handle
+/// had is closed.
 ///
 /// # Errors
 /// `Line`, `Records` or `Memory`. The handle then has what it had.
@@ -21,7 +33,8 @@ pub extern "C" fn icu_normalizer_open_unicode_data_nonnull(
     unicode_data: &[u8],
     exclusions: &[u8],
 ) -> u32
-    ensures { IsStatus result (Opens unicode_data.now exclusions.now (held handle.old) (held handle.new)) }
+    ensures { IsStatus result (Opens (both (of_unicode_data unicode_data.now exclusions.now) (Ok []))
+        (held handle.old) (held handle.new)) }
 {
     status(open_unicode_data(alloc, handle, unicode_data, exclusions))
 }
@@ -32,16 +45,99 @@ fn open_unicode_data(
     unicode_data: &[u8],
     exclusions: &[u8],
 ) -> Result<(), Fault>
-    ensures { Opens unicode_data.now exclusions.now (held handle.old) (held handle.new) result }
+    ensures { Opens (both (of_unicode_data unicode_data.now exclusions.now) (Ok []))
+        (held handle.old) (held handle.new) result }
 {
-    let normalizers = normalizers_of_files(alloc, unicode_data, exclusions)?;
-    match Box::new(alloc, normalizers) {
-        Ok(normalizers) => {
-            handle.put(alloc, normalizers);
-            Ok(())
-        }
-        Err(_) => Err(Fault::Memory),
-    }
+    let records = unicode_data_records(alloc, unicode_data, exclusions)?;
+    open(alloc, handle, &records, &[])
+}
+
+/// Opens normalizers by the bytes of `UnicodeData.txt` and `CompositionExclusions.txt`, and their mapper by those of
+/// `IdnaMappingTable.txt`, without its disallowed ranges of more than `disallowed_limit` code points. If nothing is
+/// mapped there is no mapper. What the handle had is closed.
+///
+/// # Errors
+/// `Line`, `Records` or `Memory`. The handle then has what it had. `defect` says where a file is wrong.
+#[unsafe(no_mangle)]
+pub extern "C" fn icu_normalizer_open_files_nonnull(
+    alloc: Global,
+    handle: &mut Handle,
+    unicode_data: &[u8],
+    exclusions: &[u8],
+    idna_table: &[u8],
+    disallowed_limit: u32,
+    defect: &mut Defect,
+) -> u32
+    ensures { IsStatusReporting result defect.old defect.new (Opens
+        (both (of_unicode_data unicode_data.now exclusions.now) (of_idna_table idna_table.now disallowed_limit))
+        (held handle.old) (held handle.new)) }
+{
+    let outcome = open_files(
+        alloc,
+        handle,
+        unicode_data,
+        exclusions,
+        idna_table,
+        disallowed_limit,
+    );
+    status_reporting(outcome, defect)
+}
+
+fn open_files(
+    alloc: Global,
+    handle: &mut Handle,
+    unicode_data: &[u8],
+    exclusions: &[u8],
+    idna_table: &[u8],
+    disallowed_limit: u32,
+) -> Result<(), Fault>
+    ensures { Opens
+        (both (of_unicode_data unicode_data.now exclusions.now) (of_idna_table idna_table.now disallowed_limit))
+        (held handle.old) (held handle.new) result }
+{
+    let records = unicode_data_records(alloc, unicode_data, exclusions)?;
+    let mapper = idna_table_records(alloc, idna_table, disallowed_limit)?;
+    open(alloc, handle, &records, &mapper)
+}
+
+/// Opens normalizers by records of characters, whose mappings are parts of `codes`, and their mapper by the bytes of
+/// `IdnaMappingTable.txt`, without its disallowed ranges of more than `disallowed_limit` code points. If nothing is
+/// mapped there is no mapper. What the handle had is closed.
+///
+/// # Errors
+/// `Record`, `Line`, `Records` or `Memory`. The handle then has what it had. `defect` says which record is wrong.
+#[unsafe(no_mangle)]
+pub extern "C" fn icu_normalizer_open_records_nonnull(
+    alloc: Global,
+    handle: &mut Handle,
+    records: &[PlainRecord],
+    codes: &[u32],
+    idna_table: &[u8],
+    disallowed_limit: u32,
+    defect: &mut Defect,
+) -> u32
+    ensures { IsStatusReporting result defect.old defect.new (Opens
+        (both (entries_of codes.now records.now) (of_idna_table idna_table.now disallowed_limit))
+        (held handle.old) (held handle.new)) }
+{
+    let outcome = open_records(alloc, handle, records, codes, idna_table, disallowed_limit);
+    status_reporting(outcome, defect)
+}
+
+fn open_records(
+    alloc: Global,
+    handle: &mut Handle,
+    records: &[PlainRecord],
+    codes: &[u32],
+    idna_table: &[u8],
+    disallowed_limit: u32,
+) -> Result<(), Fault>
+    ensures { Opens (both (entries_of codes.now records.now) (of_idna_table idna_table.now disallowed_limit))
+        (held handle.old) (held handle.new) result }
+{
+    let records = records_of_plain(alloc, codes, records)?;
+    let mapper = idna_table_records(alloc, idna_table, disallowed_limit)?;
+    open(alloc, handle, &records, &mapper)
 }
 
 /// Closes what the handle has, if it has normalizers.
@@ -52,16 +148,54 @@ pub extern "C" fn icu_normalizer_close(alloc: Global, handle: &mut Handle)
     handle.take(alloc);
 }
 
-/// Returns the normalizers by the bytes of `UnicodeData.txt` and `CompositionExclusions.txt`.
-fn normalizers_of_files(
+fn unicode_data_records(
     alloc: Global,
     unicode_data: &[u8],
     exclusions: &[u8],
-) -> Result<Normalizers, Fault>
-    ensures { MatchResult result (AreOfFiles unicode_data.now exclusions.now)
-        (IsFaultOf unicode_data.now exclusions.now) }
+) -> Result<Vec<Record>, Fault>
+    ensures { Reads (λ v. v.items) result (of_unicode_data unicode_data.now exclusions.now) }
 {
-    let records = records_of_unicode_data(alloc, unicode_data, exclusions)?;
-    let built = Records::build(alloc, &records, &[])?;
-    Ok(Normalizers::over(&built)?)
+    Ok(records_of_unicode_data(alloc, unicode_data, exclusions)?)
+}
+
+fn idna_table_records(
+    alloc: Global,
+    idna_table: &[u8],
+    disallowed_limit: u32,
+) -> Result<Vec<Uts46Record>, Fault>
+    ensures { Reads (λ v. v.items) result (of_idna_table idna_table.now disallowed_limit) }
+{
+    let disallowed = Disallowed::RangesUpTo(disallowed_limit);
+    Ok(uts46_records_of_idna_table(alloc, idna_table, disallowed)?)
+}
+
+/// Opens what records build.
+fn open(
+    alloc: Global,
+    handle: &mut Handle,
+    records: &[Record],
+    mapper: &[Uts46Record],
+) -> Result<(), Fault>
+    ensures { Opens (Ok (records.now, mapper.now)) (held handle.old) (held handle.new) result }
+{
+    let normalizers = normalizers_of(alloc, records, mapper)?;
+    match Box::new(alloc, normalizers) {
+        Ok(normalizers) => {
+            handle.put(alloc, normalizers);
+            Ok(())
+        }
+        Err(_) => Err(Fault::Memory),
+    }
+}
+
+fn normalizers_of(
+    alloc: Global,
+    records: &[Record],
+    mapper: &[Uts46Record],
+) -> Result<Normalizers, Fault>
+    ensures { MatchResult result (λ n. MakeBy n records.now × MapBy n.mapper records.now mapper.now)
+        (IsBuildFault records.now mapper.now) }
+{
+    let built = Records::build(alloc, records, mapper)?;
+    Ok(Normalizers::over(&built, mapper)?)
 }

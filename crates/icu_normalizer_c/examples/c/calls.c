@@ -50,6 +50,7 @@ static void closed(icu_normalizer *normalizer) {
     EXPECT(icu_normalizer_first_mismatch_utf16(normalizer, ICU_NORMALIZER_NFC, NULL, 0, &mismatch)
         == ICU_NORMALIZER_NOT_OPEN);
     EXPECT(output[0] == 1 && number == 7 && is && mismatch.exists && mismatch.offset == 9);
+    EXPECT(icu_normalizer_map_utf8(normalizer, NULL, 0, output, 4, &number) == ICU_NORMALIZER_NOT_OPEN && number == 7);
     icu_normalizer_close(normalizer);
 }
 
@@ -128,6 +129,86 @@ static void utf16(icu_normalizer *normalizer) {
     EXPECT(mismatch.exists && mismatch.offset == 2 && mismatch.found == 0xFFFD && mismatch.expected == 0xFFFD);
 }
 
+/* A few lines of IdnaMappingTable.txt: U+24B6 maps to U+0061, U+00AD is ignored, U+0378 and U+0379 are disallowed. */
+static const char table[] = "00AD ; ignored\n0378..0379 ; disallowed # NA\n24B6 ; mapped ; 0061\n";
+
+static void mapping(icu_normalizer *normalizer) {
+    const char *text = "\xE2\x92\xB6\xC2\xAD\xCC\x88\xCD\xB8";
+    size_t length = strlen(text), number = 7;
+    uint8_t output[16] = {0xAA};
+    EXPECT(unless_refused(icu_normalizer_map_utf8(normalizer, bytes_of(text), length, output, 4, &number))
+        == ICU_NORMALIZER_BUFFER_TOO_SMALL);
+    EXPECT(number == 5 && output[0] == 0xAA);
+    EXPECT(unless_refused(icu_normalizer_map_utf8(normalizer, bytes_of(text), length, output, 5, &number))
+        == ICU_NORMALIZER_OK);
+    EXPECT(number == 5 && memcmp(output, "\xC3\xA4\xEF\xBF\xBD", 5) == 0 && output[5] == 0);
+    EXPECT(unless_refused(icu_normalizer_validate_utf8(normalizer, bytes_of(text), length, output, 16, &number))
+        == ICU_NORMALIZER_OK);
+    EXPECT(number == 9 && memcmp(output, "a\xEF\xBF\xBD\xCC\x88\xEF\xBF\xBD", 9) == 0);
+    EXPECT(unless_refused(icu_normalizer_map_utf8(normalizer, NULL, 0, NULL, 0, &number)) == ICU_NORMALIZER_OK);
+    EXPECT(number == 0);
+    const uint16_t units[] = {0x24B6, 0xAD, 0x308, 0xD834, 0xDD1E, 0xDC00};
+    uint16_t wide[6] = {0};
+    EXPECT(unless_refused(icu_normalizer_map_utf16(normalizer, units, 6, wide, 6, &number)) == ICU_NORMALIZER_OK);
+    EXPECT(number == 4 && wide[0] == 0xE4 && wide[1] == 0xD834 && wide[2] == 0xDD1E && wide[3] == 0xFFFD && !wide[4]);
+    EXPECT(unless_refused(icu_normalizer_validate_utf16(normalizer, units, 3, wide, 6, &number)) == ICU_NORMALIZER_OK);
+    EXPECT(number == 3 && wide[0] == 0x61 && wide[1] == 0xFFFD && wide[2] == 0x308);
+}
+
+/* The records of U+00E4, U+0308 and U+FB01, and what is refused. */
+static void records(icu_normalizer *normalizer) {
+    const uint32_t codes[] = {0x61, 0x308, 0x66, 0x69, 0xD800};
+    icu_normalizer_record three[] = {
+        {0, 2, 0xE4, 0, false, false}, {0, 0, 0x308, 230, false, false}, {2, 2, 0xFB01, 0, true, false}};
+    icu_normalizer_defect defect = {7, 7, 7};
+    EXPECT(unless_refused(icu_normalizer_open_records(
+        normalizer, three, 3, codes, 5, bytes_of(table), strlen(table), 0x110000, &defect)) == ICU_NORMALIZER_OK);
+    EXPECT(defect.place == 7 && defect.source == 7 && defect.reason == 7);
+    uint8_t output[8];
+    size_t number = 0;
+    EXPECT(unless_refused(icu_normalizer_normalize_utf8(
+        normalizer, ICU_NORMALIZER_NFKC, bytes_of("a\xCC\x88\xEF\xAC\x81"), 6, output, 8, &number))
+        == ICU_NORMALIZER_OK);
+    EXPECT(number == 4 && memcmp(output, "\xC3\xA4" "fi", 4) == 0);
+    mapping(normalizer);
+
+    three[2].mapping_length = 3;
+    EXPECT(unless_refused(icu_normalizer_open_records(normalizer, three, 3, codes, 5, NULL, 0, 0, &defect))
+        == ICU_NORMALIZER_WRONG_RECORD);
+    EXPECT(defect.place == 2 && defect.source == ICU_NORMALIZER_ONE_RECORD && defect.reason == 9);
+    three[2].mapping_start = (size_t)-1;
+    EXPECT(unless_refused(icu_normalizer_open_records(normalizer, three, 3, codes, 5, NULL, 0, 0, &defect))
+        == ICU_NORMALIZER_WRONG_RECORD);
+    three[2].mapping_start = 2;
+    three[2].mapping_length = 2;
+    three[1].character = 0x110000;
+    EXPECT(unless_refused(icu_normalizer_open_records(normalizer, three, 3, codes, 5, NULL, 0, 0, &defect))
+        == ICU_NORMALIZER_WRONG_RECORD && defect.place == 1);
+    three[1].character = 0xE4;
+    EXPECT(unless_refused(icu_normalizer_open_records(normalizer, three, 3, codes, 5, NULL, 0, 0, &defect))
+        == ICU_NORMALIZER_WRONG_RECORDS);
+    EXPECT(defect.place == 0 && defect.source == ICU_NORMALIZER_ALL_RECORDS && defect.reason == 10);
+    mapping(normalizer);
+    EXPECT(unless_refused(icu_normalizer_open_records(normalizer, NULL, 0, NULL, 0, NULL, 0, 0, &defect))
+        == ICU_NORMALIZER_OK);
+    EXPECT(icu_normalizer_map_utf8(normalizer, NULL, 0, NULL, 0, &number) == ICU_NORMALIZER_NO_MAPPER);
+}
+
+/* Why files are refused, and where. */
+static void files(icu_normalizer *normalizer) {
+    icu_normalizer_defect defect = {7, 7, 7};
+    const char *data = "0041;;;0;;;\n\n0040;;;0;;;\n", *exclusions = "0958\nX\n", *lines = "0041 ; never\n";
+    EXPECT(unless_refused(icu_normalizer_open_files(
+        normalizer, bytes_of(data), strlen(data), NULL, 0, NULL, 0, 0, &defect)) == ICU_NORMALIZER_WRONG_LINE);
+    EXPECT(defect.place == 3 && defect.source == ICU_NORMALIZER_UNICODE_DATA && defect.reason == 6);
+    EXPECT(unless_refused(icu_normalizer_open_files(normalizer, bytes_of(data), strlen(data), bytes_of(exclusions),
+        strlen(exclusions), NULL, 0, 0, &defect)) == ICU_NORMALIZER_WRONG_LINE);
+    EXPECT(defect.place == 2 && defect.source == ICU_NORMALIZER_COMPOSITION_EXCLUSIONS && defect.reason == 2);
+    EXPECT(unless_refused(icu_normalizer_open_files(
+        normalizer, NULL, 0, NULL, 0, bytes_of(lines), strlen(lines), 0, &defect)) == ICU_NORMALIZER_WRONG_LINE);
+    EXPECT(defect.place == 1 && defect.source == ICU_NORMALIZER_IDNA_MAPPING_TABLE && defect.reason == 5);
+}
+
 int main(int count, char **words) {
     if (count != 2) failed("calls DIRECTORY", __LINE__);
     icu_normalizer normalizer = ICU_NORMALIZER_CLOSED;
@@ -154,6 +235,21 @@ int main(int count, char **words) {
     status = icu_normalizer_open_unicode_data(&normalizer, data, data_length, exclusions, exclusions_length);
     EXPECT(status == ICU_NORMALIZER_OK || status == ICU_NORMALIZER_OUT_OF_MEMORY);
     utf8(&normalizer);
+    size_t number = 7;
+    EXPECT(icu_normalizer_map_utf8(&normalizer, NULL, 0, NULL, 0, &number) == ICU_NORMALIZER_NO_MAPPER && number == 7);
+    /* With a mapper. */
+    icu_normalizer_defect defect = {7, 7, 7};
+    status = icu_normalizer_open_files(&normalizer, data, data_length, exclusions, exclusions_length,
+        (const uint8_t *)table, sizeof table - 1, 2, &defect);
+    EXPECT(status == ICU_NORMALIZER_OK || status == ICU_NORMALIZER_OUT_OF_MEMORY);
+    EXPECT(defect.place == 7 && defect.source == 7 && defect.reason == 7);
+    utf8(&normalizer);
+    if (status == ICU_NORMALIZER_OK) mapping(&normalizer);
+    icu_normalizer other = ICU_NORMALIZER_CLOSED;
+    files(&other);
+    closed(&other);
+    records(&other);
+    icu_normalizer_close(&other);
     icu_normalizer_close(&normalizer);
     closed(&normalizer);
     free(exclusions);

@@ -20,6 +20,18 @@ public:
             &handle, units<uint8_t>(unicode_data), unicode_data.size(), units<uint8_t>(exclusions), exclusions.size()));
     }
 
+    // With a mapper by the bytes of IdnaMappingTable.txt, without its disallowed ranges of more code points than that.
+    Normalizer(std::string_view unicode_data, std::string_view exclusions, std::string_view idna_table,
+        uint32_t disallowed_limit = 0x110000) {
+        icu_normalizer_defect defect = {};
+        auto status = icu_normalizer_open_files(&handle, units<uint8_t>(unicode_data), unicode_data.size(),
+            units<uint8_t>(exclusions), exclusions.size(), units<uint8_t>(idna_table), idna_table.size(),
+            disallowed_limit, &defect);
+        if (status == ICU_NORMALIZER_WRONG_LINE)
+            throw std::runtime_error(std::to_string(defect.place) + ": " + icu_normalizer_reason_text(defect.reason));
+        check(status);
+    }
+
     Normalizer(Normalizer &&other) noexcept : handle(other.handle) {
         other.handle = icu_normalizer ICU_NORMALIZER_CLOSED;
     }
@@ -29,11 +41,29 @@ public:
     ~Normalizer() { icu_normalizer_close(&handle); }
 
     std::string normalize(NormalForm form, std::string_view input) {
-        return normalized<std::string, uint8_t>(icu_normalizer_normalize_utf8, form, input);
+        return written<std::string, uint8_t>(icu_normalizer_normalize_utf8, input, number(form));
     }
 
     std::u16string normalize(NormalForm form, std::u16string_view input) {
-        return normalized<std::u16string, uint16_t>(icu_normalizer_normalize_utf16, form, input);
+        return written<std::u16string, uint16_t>(icu_normalizer_normalize_utf16, input, number(form));
+    }
+
+    // The input mapped by Unicode Technical Standard #46, in NFC.
+    std::string map(std::string_view input) {
+        return written<std::string, uint8_t>(icu_normalizer_map_utf8, input);
+    }
+
+    std::u16string map(std::u16string_view input) {
+        return written<std::u16string, uint16_t>(icu_normalizer_map_utf16, input);
+    }
+
+    // The same, with U+FFFD for ignored characters. Mapped text is valid only if this leaves it unchanged.
+    std::string validate(std::string_view input) {
+        return written<std::string, uint8_t>(icu_normalizer_validate_utf8, input);
+    }
+
+    std::u16string validate(std::u16string_view input) {
+        return written<std::u16string, uint16_t>(icu_normalizer_validate_utf16, input);
     }
 
     bool is_normalized(NormalForm form, std::string_view input) {
@@ -91,12 +121,12 @@ private:
         return found.exists ? std::optional(found) : std::nullopt;
     }
 
-    template <class Owned, class Unit, class Call, class Text>
-    Owned normalized(Call call, NormalForm form, Text input) {
+    template <class Owned, class Unit, class Call, class Text, class... Words>
+    Owned written(Call call, Text input, Words... words) {
         Owned output(input.size() + 1, 0);
         for (;;) {
             size_t needed = 0;
-            auto status = call(&handle, number(form), units<Unit>(input), input.size(),
+            auto status = call(&handle, words..., units<Unit>(input), input.size(),
                 reinterpret_cast<Unit *>(output.data()), output.size(), &needed);
             if (status != ICU_NORMALIZER_BUFFER_TOO_SMALL) check(status);
             output.resize(needed);

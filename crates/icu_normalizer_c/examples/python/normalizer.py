@@ -2,12 +2,13 @@
 import ctypes
 from enum import IntEnum
 
-OK, BUFFER_TOO_SMALL, OUT_OF_MEMORY, UNKNOWN_FORM, NOT_OPEN, WRONG_LINE, WRONG_RECORDS = range(7)
+OK, BUFFER_TOO_SMALL, OUT_OF_MEMORY, UNKNOWN_FORM, NOT_OPEN, WRONG_LINE, WRONG_RECORDS, NO_MAPPER = range(8)
 TEXTS = {
     UNKNOWN_FORM: "no form has this number",
     NOT_OPEN: "the normalizer isn't open",
     WRONG_LINE: "a line of a data file is wrong",
-    WRONG_RECORDS: "the characters of the data files can't be built into tables",
+    WRONG_RECORDS: "the records of characters can't be built into tables",
+    NO_MAPPER: "the normalizer has no mapper",
 }
 
 
@@ -23,7 +24,7 @@ class _Handle(ctypes.Structure):
 
 
 class Mismatch(ctypes.Structure):
-    """The first mismatch of a text: how many bytes of UTF-8 come before it, the character found, and the one expected."""
+    """The first mismatch of a text: how many bytes come before it, the character found, and the one expected."""
 
     _fields_ = [
         ("offset", ctypes.c_size_t),
@@ -33,26 +34,37 @@ class Mismatch(ctypes.Structure):
     ]
 
 
-def _check(status):
+class _Defect(ctypes.Structure):
+    _fields_ = [("place", ctypes.c_size_t), ("source", ctypes.c_uint32), ("reason", ctypes.c_uint32)]
+
+
+FILES = ("UnicodeData.txt", "CompositionExclusions.txt", "IdnaMappingTable.txt")
+
+
+def _check(status, defect=None):
     if status == OUT_OF_MEMORY:
         raise MemoryError
+    if status == WRONG_LINE:
+        raise ValueError(f"{FILES[defect.source]}:{defect.place}: {TEXTS[status]}")
     if status != OK:
         raise ValueError(TEXTS[status])
 
 
 class Normalizer:
-    """Normalizers to the four forms, by the bytes of UnicodeData.txt and CompositionExclusions.txt.
+    """Normalizers to the four forms, by the bytes of UnicodeData.txt and CompositionExclusions.txt, and a mapper by
+    those of IdnaMappingTable.txt, without its disallowed ranges of more than `disallowed_limit` code points.
 
     Input is a `str`, or bytes of UTF-8, whose ill-formed parts read as U+FFFD.
     """
 
-    def __init__(self, library, unicode_data, exclusions):
+    def __init__(self, library, unicode_data, exclusions, idna_table=b"", disallowed_limit=0x110000):
         self._calls = ctypes.CDLL(library)
-        self._handle = _Handle()
-        opened = self._calls.icu_normalizer_open_unicode_data_nonnull(
-            ctypes.byref(self._handle), *_array(unicode_data), *_array(exclusions)
+        self._handle, defect = _Handle(), _Defect()
+        files = *_array(unicode_data), *_array(exclusions), *_array(idna_table)
+        opened = self._calls.icu_normalizer_open_files_nonnull(
+            ctypes.byref(self._handle), *files, ctypes.c_uint32(disallowed_limit), ctypes.byref(defect)
         )
-        _check(opened)
+        _check(opened, defect)
 
     def close(self):
         self._calls.icu_normalizer_close(ctypes.byref(self._handle))
@@ -65,12 +77,24 @@ class Normalizer:
 
     def normalize(self, form, text):
         """The form of a `str` as a `str`, or of bytes as bytes."""
+        return self._written("normalize", text, ctypes.c_uint32(form))
+
+    def map(self, text):
+        """A text mapped by Unicode Technical Standard #46, in NFC."""
+        return self._written("map", text)
+
+    def validate(self, text):
+        """The same, with U+FFFD for ignored characters. Mapped text is valid only if this leaves it unchanged."""
+        return self._written("validate", text)
+
+    def _written(self, name, text, *words):
         if isinstance(text, str):
-            return self.normalize(form, _encoded(text)).decode()
+            return self._written(name, _encoded(text), *words).decode()
         room, needed = len(text) + 1, ctypes.c_size_t()
         while True:
             output = ctypes.create_string_buffer(room)
-            status = self._call("normalize", form, text, output, ctypes.c_size_t(room), ctypes.byref(needed))
+            others = output, ctypes.c_size_t(room), ctypes.byref(needed)
+            status = self._call(name, *words, *_array(text), *others)
             if status != BUFFER_TOO_SMALL:
                 _check(status)
                 return output.raw[: needed.value]
@@ -79,25 +103,27 @@ class Normalizer:
     def is_normalized(self, form, text):
         """Whether a text is normalized, or bytes are well-formed and normalized."""
         told = ctypes.c_bool()
-        _check(self._call("is_normalized", form, _encoded(text), ctypes.byref(told)))
+        _check(self._told("is_normalized", form, _encoded(text), told))
         return told.value
 
     def split(self, form, text):
         """The beginning that stays as it is, and the rest."""
         encoded, cut = _encoded(text), ctypes.c_size_t()
-        _check(self._call("split", form, encoded, ctypes.byref(cut)))
+        _check(self._told("split", form, encoded, cut))
         parts = encoded[: cut.value], encoded[cut.value :]
         return tuple(part.decode() for part in parts) if isinstance(text, str) else parts
 
     def first_mismatch(self, form, text):
         """The first place where a text is ill-formed or differs from its form, or None."""
         told = Mismatch()
-        _check(self._call("first_mismatch", form, _encoded(text), ctypes.byref(told)))
+        _check(self._told("first_mismatch", form, _encoded(text), told))
         return told if told.exists else None
 
-    def _call(self, name, form, text, *others):
-        call = getattr(self._calls, f"icu_normalizer_{name}_utf8_nonnull")
-        return call(ctypes.byref(self._handle), ctypes.c_uint32(form), *_array(text), *others)
+    def _told(self, name, form, text, told):
+        return self._call(name, ctypes.c_uint32(form), *_array(text), ctypes.byref(told))
+
+    def _call(self, name, *words):
+        return getattr(self._calls, f"icu_normalizer_{name}_utf8_nonnull")(ctypes.byref(self._handle), *words)
 
 
 def _encoded(text):

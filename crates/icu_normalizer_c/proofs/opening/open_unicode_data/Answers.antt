@@ -1,6 +1,8 @@
-use Rattle.std.proofs.Common.{Some, ap, ◌∙◌}
+use Rattle.std.proofs.Common.{[], Ok, refl}
+use Rattle.icu_normalizer_c.proofs.OpeningLemmas.{opens-both}
 use Rattle.icu_normalizer_c.proofs.opening.open_unicode_data.Goals as goal
 
-pub returns-in-Ok : goal.returns-in-Ok
-returns-in-Ok c =
-    (c.in_ok-normalizers.normalizers, c.put.ensures ∙ ap (λ n. Some n) c.in-Ok.ensures.ok, c.in_ok-normalizers.ensures)
+pub returns : goal.returns
+returns c =
+    opens-both _ (Ok []) c.in_ok-records.records.items [] c.in_ok-records.ensures refl _ _ _
+    (rw (← c.deref.ensures.value) c.open.ensures)

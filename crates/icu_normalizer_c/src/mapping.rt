@@ -1,0 +1,297 @@
+//! Mapping and validating text by Unicode Technical Standard #46.
+ghost use Rattle.std.specs.Prelude.{◌≡◌, ℕ, List, IfErr, IfOk, encode_utf8_all, string_bytes};
+ghost use Rattle.std.specs.Iterator.{IsFinite};
+ghost use Rattle.normalizer_calls.specs.Mappers.{mapper_data_of_borrowed};
+ghost use Rattle.normalizer_iterators.specs.Items.{SpellsUnless};
+ghost use Rattle.normalizer_text.specs.Encodings.{Encoding, decoded_in};
+ghost use Rattle.normalizer_text.specs.Utf16.{encode_utf16_all};
+ghost use Rattle.icu_normalizer_c.specs.Calls.{held, AtMapper, IsStatus, OverMapper, WritesMapped};
+ghost use Rattle.icu_normalizer_c.specs.Mapping.{mapped_in};
+
+use crate::buffer::fill;
+use crate::fault::{Fault, status};
+use crate::handle::Handle;
+use crate::normalizers::Normalizers;
+use icu_normalizer::NormalizeError;
+use icu_normalizer::uts46::Uts46MapperBorrowed;
+use normalizer_iterators::laws::text_comes_unless_a_fault_does;
+use normalizer_tables::characters::IgnoredCharacters;
+use normalizer_text::{Chars, Units};
+use std::alloc::{AllocError, Global};
+
+/// Writes what `input` decodes to, mapped and in NFC, in UTF-8: ignored characters are dropped, and disallowed ones become
+/// U+FFFD. `needed` is then how many units there are.
+///
+/// # Errors
+/// `NotOpen`, `NoMapper`, `Memory`, or `BufferTooSmall`, after which `needed` is how many units there are. `output` is
+/// then unchanged.
+#[unsafe(no_mangle)]
+pub extern "C" fn icu_normalizer_map_utf8_nonnull(
+    alloc: Global,
+    handle: &mut Handle,
+    input: &[u8],
+    output: &mut [u8],
+    needed: &mut usize,
+) -> u32
+    ensures status { IsStatus result (OverMapper (held handle.old)
+        ((output.new ≡ output.old) × (needed.new ≡ needed.old))
+        (WritesMapped Encoding.Utf8 IgnoredCharacters.Dropped input.now output.old output.new needed.old needed.new)) }
+    ensures kept { held handle.new ≡ held handle.old }
+{
+    status(map_utf8(
+        alloc,
+        handle,
+        IgnoredCharacters::Dropped,
+        input,
+        output,
+        needed,
+    ))
+}
+
+/// Writes what `input` decodes to, mapped and in NFC, in UTF-8: ignored and disallowed characters become U+FFFD. `needed`
+/// is then how many units there are. Mapped text is valid only if this leaves it unchanged.
+///
+/// # Errors
+/// `NotOpen`, `NoMapper`, `Memory`, or `BufferTooSmall`, after which `needed` is how many units there are. `output` is
+/// then unchanged.
+#[unsafe(no_mangle)]
+pub extern "C" fn icu_normalizer_validate_utf8_nonnull(
+    alloc: Global,
+    handle: &mut Handle,
+    input: &[u8],
+    output: &mut [u8],
+    needed: &mut usize,
+) -> u32
+    ensures status { IsStatus result (OverMapper (held handle.old)
+        ((output.new ≡ output.old) × (needed.new ≡ needed.old))
+        (WritesMapped Encoding.Utf8 IgnoredCharacters.Replaced input.now output.old output.new needed.old needed.new)) }
+    ensures kept { held handle.new ≡ held handle.old }
+{
+    status(map_utf8(
+        alloc,
+        handle,
+        IgnoredCharacters::Replaced,
+        input,
+        output,
+        needed,
+    ))
+}
+
+fn map_utf8(
+    alloc: Global,
+    handle: &mut Handle,
+    ignored: IgnoredCharacters,
+    input: &[u8],
+    output: &mut [u8],
+    needed: &mut usize,
+) -> Result<(), Fault>
+    ensures over { OverMapper (held handle.old) ((output.new ≡ output.old) × (needed.new ≡ needed.old))
+        (WritesMapped Encoding.Utf8 ignored input.now output.old output.new needed.old needed.new) result }
+    ensures kept { held handle.new ≡ held handle.old }
+{
+    let Some(normalizers) = handle.take(alloc) else {
+        return Err(Fault::NotOpen);
+    };
+    let outcome = map_utf8_at(alloc, &normalizers, ignored, input, output, needed);
+    handle.put(alloc, normalizers);
+    outcome
+}
+
+fn map_utf8_at(
+    alloc: Global,
+    normalizers: &Normalizers,
+    ignored: IgnoredCharacters,
+    input: &[u8],
+    output: &mut [u8],
+    needed: &mut usize,
+) -> Result<(), Fault>
+    ensures { AtMapper normalizers.now.mapper ((output.new ≡ output.old) × (needed.new ≡ needed.old))
+        (WritesMapped Encoding.Utf8 ignored input.now output.old output.new needed.old needed.new) result }
+{
+    let Some(mapper) = &normalizers.mapper else {
+        return Err(Fault::NoMapper);
+    };
+    write_utf8(alloc, &mapper.as_borrowed(), ignored, input, output, needed)
+}
+
+fn write_utf8(
+    alloc: Global,
+    mapper: &Uts46MapperBorrowed<'_>,
+    ignored: IgnoredCharacters,
+    input: &[u8],
+    output: &mut [u8],
+    needed: &mut usize,
+) -> Result<(), Fault>
+    ensures { WritesMapped Encoding.Utf8 ignored input.now output.old output.new needed.old needed.new
+        (mapper_data_of_borrowed mapper.now) result }
+{
+    let characters = mapped(alloc, mapper, ignored, input)?;
+    let mapped = encoded_utf8(alloc, &characters)?;
+    fill(mapped.as_bytes(), output, needed)
+}
+
+/// Writes what `input` decodes to, mapped and in NFC, in UTF-16: ignored characters are dropped, and disallowed ones become
+/// U+FFFD. `needed` is then how many units there are.
+///
+/// # Errors
+/// `NotOpen`, `NoMapper`, `Memory`, or `BufferTooSmall`, after which `needed` is how many units there are. `output` is
+/// then unchanged.
+#[unsafe(no_mangle)]
+pub extern "C" fn icu_normalizer_map_utf16_nonnull(
+    alloc: Global,
+    handle: &mut Handle,
+    input: &[u16],
+    output: &mut [u16],
+    needed: &mut usize,
+) -> u32
+    ensures status { IsStatus result (OverMapper (held handle.old)
+        ((output.new ≡ output.old) × (needed.new ≡ needed.old))
+        (WritesMapped Encoding.Utf16 IgnoredCharacters.Dropped input.now output.old output.new needed.old needed.new)) }
+    ensures kept { held handle.new ≡ held handle.old }
+{
+    status(map_utf16(
+        alloc,
+        handle,
+        IgnoredCharacters::Dropped,
+        input,
+        output,
+        needed,
+    ))
+}
+
+/// Writes what `input` decodes to, mapped and in NFC, in UTF-16: ignored and disallowed characters become U+FFFD. `needed`
+/// is then how many units there are. Mapped text is valid only if this leaves it unchanged.
+///
+/// # Errors
+/// `NotOpen`, `NoMapper`, `Memory`, or `BufferTooSmall`, after which `needed` is how many units there are. `output` is
+/// then unchanged.
+#[unsafe(no_mangle)]
+pub extern "C" fn icu_normalizer_validate_utf16_nonnull(
+    alloc: Global,
+    handle: &mut Handle,
+    input: &[u16],
+    output: &mut [u16],
+    needed: &mut usize,
+) -> u32
+    ensures status { IsStatus result (OverMapper (held handle.old)
+        ((output.new ≡ output.old) × (needed.new ≡ needed.old))
+        (WritesMapped Encoding.Utf16 IgnoredCharacters.Replaced input.now output.old output.new needed.old needed.new)) }
+    ensures kept { held handle.new ≡ held handle.old }
+{
+    status(map_utf16(
+        alloc,
+        handle,
+        IgnoredCharacters::Replaced,
+        input,
+        output,
+        needed,
+    ))
+}
+
+fn map_utf16(
+    alloc: Global,
+    handle: &mut Handle,
+    ignored: IgnoredCharacters,
+    input: &[u16],
+    output: &mut [u16],
+    needed: &mut usize,
+) -> Result<(), Fault>
+    ensures over { OverMapper (held handle.old) ((output.new ≡ output.old) × (needed.new ≡ needed.old))
+        (WritesMapped Encoding.Utf16 ignored input.now output.old output.new needed.old needed.new) result }
+    ensures kept { held handle.new ≡ held handle.old }
+{
+    let Some(normalizers) = handle.take(alloc) else {
+        return Err(Fault::NotOpen);
+    };
+    let outcome = map_utf16_at(alloc, &normalizers, ignored, input, output, needed);
+    handle.put(alloc, normalizers);
+    outcome
+}
+
+fn map_utf16_at(
+    alloc: Global,
+    normalizers: &Normalizers,
+    ignored: IgnoredCharacters,
+    input: &[u16],
+    output: &mut [u16],
+    needed: &mut usize,
+) -> Result<(), Fault>
+    ensures { AtMapper normalizers.now.mapper ((output.new ≡ output.old) × (needed.new ≡ needed.old))
+        (WritesMapped Encoding.Utf16 ignored input.now output.old output.new needed.old needed.new) result }
+{
+    let Some(mapper) = &normalizers.mapper else {
+        return Err(Fault::NoMapper);
+    };
+    write_utf16(alloc, &mapper.as_borrowed(), ignored, input, output, needed)
+}
+
+fn write_utf16(
+    alloc: Global,
+    mapper: &Uts46MapperBorrowed<'_>,
+    ignored: IgnoredCharacters,
+    input: &[u16],
+    output: &mut [u16],
+    needed: &mut usize,
+) -> Result<(), Fault>
+    ensures { WritesMapped Encoding.Utf16 ignored input.now output.old output.new needed.old needed.new
+        (mapper_data_of_borrowed mapper.now) result }
+{
+    let characters = mapped(alloc, mapper, ignored, input)?;
+    let mapped = encoded_utf16(alloc, &characters)?;
+    fill(mapped.as_slice(), output, needed)
+}
+
+/// Returns the text that units decode to, mapped, in NFC.
+fn mapped<U: Units>(
+    alloc: Global,
+    mapper: &Uts46MapperBorrowed<'_>,
+    ignored: IgnoredCharacters,
+    units: U,
+) -> Result<Vec<char>, Fault>
+    ensures text { IfOk result (λ text. text.items
+        ≡ mapped_in (mapper_data_of_borrowed mapper.now) ignored (decoded_in U.encoding (U.units units))) }
+    ensures errors { IfErr result (λ fault. fault ≡ Fault.Memory) }
+{
+    match ignored {
+        IgnoredCharacters::Dropped => collected(alloc, mapper.map_normalize(Chars::new(units))?),
+        IgnoredCharacters::Replaced => {
+            collected(alloc, mapper.normalize_validate(Chars::new(units))?)
+        }
+    }
+}
+
+/// Returns the characters, up to the first error, which is `Memory`.
+fn collected<I: Iterator<Item = Result<char, NormalizeError>> + Drop>(
+    alloc: Global,
+    items: I,
+) -> Result<Vec<char>, Fault>
+    requires can { I.can_next items }
+    requires ends { IsFinite (I.remaining items) }
+    ensures text { (x : List ℕ) → SpellsUnless I.next_gives NormalizeError.Memory items x →
+        IfOk result (λ characters. characters.items ≡ x) }
+    ensures errors { IfErr result (λ fault. fault ≡ Fault.Memory) }
+{
+    text_comes_unless_a_fault_does::<NormalizeError, I>();
+    let mut characters = Vec::new(alloc);
+    for item in items {
+        characters.push(item?)?;
+    }
+    Ok(characters)
+}
+
+fn encoded_utf8(alloc: Global, characters: &[char]) -> Result<String, AllocError>
+    ensures { IfOk result (λ text. string_bytes text ≡ encode_utf8_all characters.now) }
+{
+    characters.iter().copied().collect(alloc)
+}
+
+fn encoded_utf16(alloc: Global, characters: &[char]) -> Result<Vec<u16>, AllocError>
+    ensures { IfOk result (λ units. units.items ≡ encode_utf16_all characters.now) }
+{
+    let mut units = Vec::new(alloc);
+    for c in characters {
+        let mut buffer = [0; 2];
+        units.extend_from_slice(c.encode_utf16(&mut buffer))?;
+    }
+    Ok(units)
+}
