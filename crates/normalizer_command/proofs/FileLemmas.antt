@@ -6,10 +6,9 @@ use Rattle.std.proofs.Math.ListN.{drop_of_length-le}
 use Rattle.normalizer_io.specs.declared.outcome.Answer.{Answer}
 use Rattle.normalizer_command.specs.declared.fault.Fault.{Fault}
 use Rattle.normalizer_command.specs.declared.fault.Fault.TheVariants.{Write}
-use Rattle.normalizer_command.specs.declared.reply.Task.{Task}
 use Rattle.normalizer_command.specs.Devices.{Devices}
-use Rattle.normalizer_command.specs.Making.{Making}
 use Rattle.normalizer_command.specs.Outcomes.{AreDone, IsDone, State}
+use Rattle.normalizer_command.specs.Works.{Work}
 
 abbrev pub texts : List (Bor (List ℕ)) → List (List ℕ)
 texts names = map (λ name. name.now) names
@@ -20,21 +19,21 @@ name_at names i = (get_or names i (record { ref_ptr = (0, 0); now = [] })).now
 one_more : (names : List (Bor (List ℕ))) (i : ℕ) → i < length names → texts (drop i names) ≡ name_at names i ∷ texts (drop (i + 1) names)
 one_more names i lt = let e : i + 1 ≡ suc i = omega arith in rw e (ap texts (drop-cons names i (record { ref_ptr = (0, 0); now = [] }) lt))
 
-module _ {W : Type 0} (d : Devices W) (task : Task) (m : Making) (names : List (Bor (List ℕ))) (i : ℕ) (s next : State W)
-    (outcome : Result Answer Fault) (lt : i < length names) (done : IsDone d task m (name_at names i) s next outcome) where
+module _ {W : Type 0} (d : Devices W) (w : Work) (names : List (Bor (List ℕ))) (i : ℕ) (s next : State W)
+    (outcome : Result Answer Fault) (lt : i < length names) (done : IsDone d w (name_at names i) s next outcome) where
   -- one more file, and those after it
-  pub goes_on : (end : State W) → ¬ IsErrOf outcome Write → AreDone d task m (texts (drop (i + 1) names)) next end
-      → AreDone d task m (texts (drop i names)) s end
+  pub goes_on : (end : State W) → ¬ IsErrOf outcome Write → AreDone d w (texts (drop (i + 1) names)) next end
+      → AreDone d w (texts (drop i names)) s end
   unfolding AreDone
   goes_on end unrefused rest = rw (one_more names i lt) (outcome, next, done, (λ refused. absurd (unrefused refused)), λ _. rest)
 
   -- the last file, whose write is refused
-  pub stops : IsErrOf outcome Write → AreDone d task m (texts (drop i names)) s next
+  pub stops : IsErrOf outcome Write → AreDone d w (texts (drop i names)) s next
   unfolding AreDone
   stops refused = rw (one_more names i lt) (outcome, next, done, (λ _. refl), λ unrefused. absurd (unrefused refused))
 
 -- no file is left
-pub is_done : {W : Type 0} (d : Devices W) (task : Task) (m : Making) (names : List (Bor (List ℕ))) (i : ℕ) (s : State W)
-    → length names ≤ i → AreDone d task m (texts (drop i names)) s s
+pub is_done : {W : Type 0} (d : Devices W) (w : Work) (names : List (Bor (List ℕ))) (i : ℕ) (s : State W)
+    → length names ≤ i → AreDone d w (texts (drop i names)) s s
 unfolding AreDone
-is_done d task m names i s le = rw (drop_of_length-le names le) refl
+is_done d w names i s le = rw (drop_of_length-le names le) refl

@@ -1,6 +1,10 @@
--- The forms that normalizers over built data make.
-use Rattle.std.proofs.Common.{◌≡◌, List, refl}
-use Rattle.normal_forms.specs.Forms.{normal_form}
+-- What normalizers and the mapper over built data make.
+use Rattle.std.proofs.Common.{◌≡◌, List, [], ◌∷◌, refl}
+use Rattle.normal_forms.specs.Forms.{nfc, normal_form}
+use Rattle.normal_forms.proofs.AlikeReadings.{nfc-alike}
+use Rattle.normalizer_tables.specs.Readings.{reading_by}
+use Rattle.normalizer_tables.specs.declared.characters.IgnoredCharacters.TheVariants.{Dropped, Replaced}
+use Rattle.normalizer_calls.specs.Uts46.{MapperData}
 use Rattle.normalizer_packing.specs.declared.Packed.{Packed}
 use Rattle.normalizer_packing.specs.declared.entry.Kind.TheVariants as kind
 use Rattle.normalizer_packing.specs.ReadBack.{characters_of}
@@ -13,7 +17,7 @@ use Rattle.normalizer_calls.specs.declared.composing_normalizer.ComposingNormali
 use Rattle.normalizer_calls.specs.Normalizers.{data_of}
 use Rattle.normalizer_calls.specs.ComposingNormalizers.{composing_data_of, pairs_of}
 use Rattle.normalizer_built.specs.declared.normalizer.Normalizer.TheVariants as normalizer
-use Rattle.normalizer_command.specs.Making.{making_by, Makes}
+use Rattle.normalizer_command.specs.Making.{making_by, mapper_reading, mapping_by, Makes, Maps}
 
 module _ (n : DecomposingNormalizer) (records : List Entry) (mapper : List MapperEntry) (p : Packed) (builds : Builds records mapper p) where
   pub makes-nfd : data_of n ≡ characters_of p kind.Canonical → Makes (normalizer.Decomposing n) (making_by records Nfd)
@@ -32,3 +36,14 @@ module _ (n : ComposingNormalizer) (records : List Entry) (mapper : List MapperE
   pub makes-nfkc : composing_data_of n ≡ characters_of p kind.Compatibility → pairs_of n ≡ p.compositions → Makes (normalizer.Composing n) (making_by records Nfkc)
   unfolding normal_form
   makes-nfkc held pairs = record { kind = refl; same = λ x. rw (held, pairs) (form_of_data-recorded records mapper p builds.means Nfkc x) }
+
+-- a mapper over built data maps by the records
+pub maps-recorded : (h : MapperData) (records : List Entry) (uts46 : List MapperEntry) (p : Packed) → Builds records uts46 p
+    → h ≡ (characters_of p kind.Mapper, p.compositions) → Maps h (mapping_by records uts46)
+maps-recorded h records uts46 p builds held =
+    let means = builds.means in
+    rw held (record {
+      same_map = nfc-alike (reading_by (characters_of p kind.Mapper) Dropped p.compositions) (mapper_reading records uts46 []) (means.mapper []) means.mapper_classes means.pairs;
+      same_validate = nfc-alike (reading_by (characters_of p kind.Mapper) Replaced p.compositions) (mapper_reading records uts46 (0xFFFD ∷ [])) (means.mapper (0xFFFD ∷ [])) means.mapper_classes
+          means.pairs;
+    })

@@ -1,6 +1,7 @@
 pub mod Data
 pub mod Devices
 pub mod Faults
+pub mod Lines
 pub mod Making
 pub mod Mismatches
 pub mod Outcomes
@@ -9,3 +10,4 @@ pub mod Reports
 pub mod Runs
 pub mod Versions
 pub mod Words
+pub mod Works

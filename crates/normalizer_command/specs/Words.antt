@@ -2,6 +2,8 @@
 use Rattle.std.specs.Prelude.{◌≡◌, ℕ, List, codes}
 use Rattle.normalizer_built.specs.declared.NormalForm.{NormalForm}
 use Rattle.normalizer_built.specs.declared.NormalForm.TheVariants.{Nfd, Nfc, Nfkd, Nfkc}
+use Rattle.normalizer_command.specs.declared.mapping.MapperTask.{MapperTask}
+use Rattle.normalizer_command.specs.declared.mapping.MapperTask.TheVariants.{Map, Validate}
 use Rattle.normalizer_command.specs.declared.reply.Task.{Task}
 use Rattle.normalizer_command.specs.declared.reply.Task.TheVariants.{Write, Check, Locate}
 
@@ -17,3 +19,8 @@ abbrev pub NamesTask : Task → List ℕ → Type 0
 NamesTask Write word = ⊥
 NamesTask Check word = word ≡ codes "check"
 NamesTask Locate word = word ≡ codes "where"
+
+-- the word of a task of the mapper
+abbrev pub NamesMapperTask : MapperTask → List ℕ → Type 0
+NamesMapperTask Map word = word ≡ codes "map"
+NamesMapperTask Validate word = word ≡ codes "validate"

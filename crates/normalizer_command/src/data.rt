@@ -1,16 +1,29 @@
 //! The data of a directory of Unicode's files.
 ghost use Rattle.std.specs.Prelude.{◌≡◌, List, IfOk, IfErr, IfSome, string_bytes};
 ghost use Rattle.normalizer_builder.specs.Built.{data_in};
-ghost use Rattle.normalizer_command.specs.Data.{AreBuiltOf, AreFiles, IsFaultOf, name_of, path_of};
+ghost use Rattle.normalizer_command.specs.Data.{
+  AreBuiltOf,
+  AreFiles,
+  AreRecorded,
+  IsFaultOf,
+  IsFile,
+  IsTable,
+  name_of,
+  path_of,
+};
 ghost use Rattle.normalizer_command.specs.Faults.{fault_of_file, IsFileFault};
-ghost use Rattle.normalizer_records.specs.Entry.{Entry};
+ghost use Rattle.normalizer_records.specs.Entry.{Entry, MapperEntry};
 ghost use Rattle.normalizer_ucd.specs.declared.error.LineFault.{LineFault};
 
 use crate::fault::Fault;
 use crate::inputs::Inputs;
+use crate::worker::Command;
 use normalizer_builder::{Built, Records};
 use normalizer_io::read_all;
-use normalizer_ucd::{UcdError, UcdFile, records_of_unicode_data};
+use normalizer_records::{Record, Uts46Record};
+use normalizer_ucd::{
+    Disallowed, UcdError, UcdFile, records_of_unicode_data, uts46_records_of_idna_table,
+};
 use std::alloc::{AllocError, Global};
 
 /// A file of a directory that failed.
@@ -38,19 +51,51 @@ fn name_of(file: UcdFile) -> &'static str
     }
 }
 
-/// The bytes of the two files.
+/// The bytes of the files of a directory.
+#[derive(Drop)]
+pub(crate) struct DataFiles {
+    pub(crate) unicode_data: Vec<u8>,
+    pub(crate) exclusions: Vec<u8>,
+    pub(crate) table: Vec<u8>,
+}
+
+/// The bytes of the files that a command needs.
 pub(crate) fn read_files<I: Inputs>(
     alloc: Global,
     inputs: &I,
     directory: &str,
-) -> Result<(Vec<u8>, Vec<u8>), DataFault>
-    ensures files { IfOk result (λ r. AreFiles (I.bytes_of inputs.now) directory.now r.0.items r.1.items) }
+    command: Command,
+) -> Result<DataFiles, DataFault>
+    ensures files { IfOk result (λ r. AreFiles (I.bytes_of inputs.now) directory.now command
+        r.unicode_data.items r.exclusions.items r.table.items) }
     ensures fault { IfErr result (λ e. IsFileFault (I.cannot_open inputs.now (path_of directory.now e.file))
         (I.read_refused inputs.now (path_of directory.now e.file)) ⊥ e.fault) }
 {
     let unicode_data = read_file(alloc, inputs, directory, UcdFile::UnicodeData)?;
     let exclusions = read_file(alloc, inputs, directory, UcdFile::CompositionExclusions)?;
-    Ok((unicode_data, exclusions))
+    let table = read_table(alloc, inputs, directory, command)?;
+    Ok(DataFiles {
+        unicode_data,
+        exclusions,
+        table,
+    })
+}
+
+// The bytes of the mapping table, if a command needs it.
+fn read_table<I: Inputs>(
+    alloc: Global,
+    inputs: &I,
+    directory: &str,
+    command: Command,
+) -> Result<Vec<u8>, DataFault>
+    ensures table { IfOk result (λ v. IsTable (I.bytes_of inputs.now) directory.now command v.items) }
+    ensures fault { IfErr result (λ e. IsFileFault (I.cannot_open inputs.now (path_of directory.now e.file))
+        (I.read_refused inputs.now (path_of directory.now e.file)) ⊥ e.fault) }
+{
+    match command {
+        Command::OfForm(..) => Ok(Vec::new(alloc)),
+        Command::OfMapper(_) => read_file(alloc, inputs, directory, UcdFile::IdnaMappingTable),
+    }
 }
 
 /// The bytes of a file of a directory.
@@ -60,7 +105,7 @@ pub(crate) fn read_file<I: Inputs>(
     directory: &str,
     file: UcdFile,
 ) -> Result<Vec<u8>, DataFault>
-    ensures bytes { IfOk result (λ v. IfSome (I.bytes_of inputs.now (path_of directory.now file)) (λ all. v.items ≡ all)) }
+    ensures bytes { IfOk result (λ v. IsFile (I.bytes_of inputs.now) directory.now file v.items) }
     ensures fault { IfErr result (λ e. IsFileFault (I.cannot_open inputs.now (path_of directory.now e.file))
         (I.read_refused inputs.now (path_of directory.now e.file)) ⊥ e.fault) }
 {
@@ -76,7 +121,7 @@ fn read<I: Inputs>(
     directory: &str,
     file: UcdFile,
 ) -> Result<Vec<u8>, Fault>
-    ensures bytes { IfOk result (λ v. IfSome (I.bytes_of inputs.now (path_of directory.now file)) (λ all. v.items ≡ all)) }
+    ensures bytes { IfOk result (λ v. IsFile (I.bytes_of inputs.now) directory.now file v.items) }
     ensures fault { IfErr result (IsFileFault (I.cannot_open inputs.now (path_of directory.now file))
         (I.read_refused inputs.now (path_of directory.now file)) ⊥) }
 {
@@ -85,24 +130,39 @@ fn read<I: Inputs>(
     Ok(read_all(alloc, &mut input)?)
 }
 
-/// The data that the records of the two files build.
-pub(crate) fn built(
-    alloc: Global,
-    unicode_data: &[u8],
-    exclusions: &[u8],
-) -> Result<Built, DataFault>
-    ensures built { IfOk result (λ b. (records : List Entry)
-        × AreBuiltOf unicode_data.now exclusions.now records (data_in b)) }
-    ensures fault { IfErr result (λ e. IsFaultOf unicode_data.now exclusions.now e.file e.fault) }
+/// The data that the records of the files build.
+pub(crate) fn built(alloc: Global, files: &DataFiles) -> Result<Built, DataFault>
+    ensures built { IfOk result (λ b. (records : List Entry) × (uts46 : List MapperEntry) × AreBuiltOf
+        files.now.unicode_data.items files.now.exclusions.items files.now.table.items records uts46 (data_in b)) }
+    ensures fault { IfErr result (λ e. IsFaultOf
+        files.now.unicode_data.items files.now.exclusions.items files.now.table.items e.file e.fault) }
 {
-    match records_of_unicode_data(alloc, unicode_data, exclusions) {
-        Ok(records) => match Records::build(alloc, &records, &[]) {
-            Ok(built) => Ok(built),
-            Err(error) => Err(DataFault {
-                file: UcdFile::UnicodeData,
-                fault: Fault::from(error),
-            }),
-        },
+    let (records, uts46) = records_of(alloc, files)?;
+    match Records::build(alloc, &records, &uts46) {
+        Ok(built) => Ok(built),
+        Err(error) => Err(DataFault {
+            file: UcdFile::UnicodeData,
+            fault: Fault::from(error),
+        }),
+    }
+}
+
+// The records that the files yield.
+fn records_of(
+    alloc: Global,
+    files: &DataFiles,
+) -> Result<(Vec<Record>, Vec<Uts46Record>), DataFault>
+    ensures recorded { IfOk result (λ r. AreRecorded
+        files.now.unicode_data.items files.now.exclusions.items files.now.table.items r.0.items r.1.items) }
+    ensures fault { IfErr result (λ e. IsFaultOf
+        files.now.unicode_data.items files.now.exclusions.items files.now.table.items e.file e.fault) }
+{
+    let records = match records_of_unicode_data(alloc, &files.unicode_data, &files.exclusions) {
+        Ok(records) => records,
+        Err(error) => return Err(of_file(error)),
+    };
+    match uts46_records_of_idna_table(alloc, &files.table, Disallowed::All) {
+        Ok(uts46) => Ok((records, uts46)),
         Err(error) => Err(of_file(error)),
     }
 }

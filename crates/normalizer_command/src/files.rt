@@ -1,40 +1,39 @@
-//! A task over files.
+//! A command over files.
 ghost use Rattle.std.specs.Prelude.{◌≡◌, ◌≢◌, ◌↔◌, ◌⊎◌, IsTrue, map, IfOk, IfErr, IsErrOf};
 ghost use Rattle.normalizer_streams.specs.Streams.{IsEndless};
 ghost use Rattle.normalizer_command.specs.Devices.{devices};
 ghost use Rattle.normalizer_command.specs.Faults.{IsFileFault};
-ghost use Rattle.normalizer_command.specs.Making.{Making, Makes};
 ghost use Rattle.normalizer_command.specs.Outcomes.{AreDone, IsCutOff, IsWritten, Leaves, greater, state, status_of};
 ghost use Rattle.normalizer_command.specs.Reports.{Tells};
+ghost use Rattle.normalizer_command.specs.Works.{Does, RepliesAtEnd, Work};
 
 use crate::fault::Fault;
 use crate::inputs::{Inputs, Reports};
 use crate::reply::Task;
-use normalizer_built::Normalizer;
+use crate::worker::Worker;
 use normalizer_io::{Answer, Source, Target, read_all, write_all};
 use normalizer_streams::write_form;
 use std::alloc::Global;
 
-/// Does the task with each file in turn, up to a refused write, and returns the exit status: the greatest of those of
+/// Does a worker's work with each file in turn, up to a refused write, and returns the exit status: the greatest of those of
 /// the files.
 pub(crate) fn over_files<I: Inputs, W: Target, R: Reports>(
     alloc: Global,
-    normalizer: &Normalizer,
-    task: Task,
+    worker: &Worker,
     inputs: &I,
     names: &[&str],
     writer: &mut W,
     reports: &mut R,
 ) -> u8
-    ensures { (m : Making) → Makes normalizer.now m →
+    ensures { (w : Work) → Does worker.now w →
         AreDone
         (devices (I.bytes_of inputs.now) (I.cannot_open inputs.now) (I.read_refused inputs.now) W.taken W.refused)
-        task m (map (λ name. name.now) names.now)
+        w (map (λ name. name.now) names.now)
         (state writer.old (R.told reports.old) 0) (state writer.new (R.told reports.new) result) }
 {
     let mut status = 0;
     for name in names {
-        let outcome = over_file(alloc, normalizer, task, inputs, name, writer);
+        let outcome = over_file(alloc, worker, inputs, name, writer);
         tell(reports, name, outcome);
         status = greater(status, status_of(outcome));
         if is_refused_write(outcome) {
@@ -47,72 +46,69 @@ pub(crate) fn over_files<I: Inputs, W: Target, R: Reports>(
 // Reads one file, and writes the reply to it.
 fn over_file<I: Inputs, W: Target>(
     alloc: Global,
-    normalizer: &Normalizer,
-    task: Task,
+    worker: &Worker,
     inputs: &I,
     name: &str,
     writer: &mut W,
 ) -> Result<Answer, Fault>
-    ensures done { (m : Making) → Makes normalizer.now m → IfOk result
-        (IsWritten task m name.now (I.bytes_of inputs.now name.now) (W.taken writer.old) (W.taken writer.new)) }
+    ensures done { (w : Work) → Does worker.now w → IfOk result
+        (IsWritten w name.now (I.bytes_of inputs.now name.now) (W.taken writer.old) (W.taken writer.new)) }
     ensures why { IfErr result (IsFileFault (I.cannot_open inputs.now name.now)
         (I.read_refused inputs.now name.now ⊎ IsEndless (I.bytes_of inputs.now name.now))
         (W.refused writer.old writer.new)) }
-    ensures left { (m : Making) → Makes normalizer.now m →
-        IfErr result (λ fault. Leaves task fault (writer.new ≡ writer.old)
-        (IsCutOff task m name.now (I.bytes_of inputs.now name.now) (W.taken writer.old) (W.taken writer.new))) }
+    ensures left { (w : Work) → Does worker.now w →
+        IfErr result (λ fault. Leaves w fault (writer.new ≡ writer.old)
+        (IsCutOff w name.now (I.bytes_of inputs.now name.now) (W.taken writer.old) (W.taken writer.new))) }
 {
     let mut input = inputs.open(name)?;
-    over_input(alloc, normalizer, task, name, &mut input, writer)
+    over_input(alloc, worker, name, &mut input, writer)
 }
 
 // Writes the form while it reads; else reads to the end, computes the reply, and only then writes it.
 fn over_input<S: Source, W: Target>(
     alloc: Global,
-    normalizer: &Normalizer,
-    task: Task,
+    worker: &Worker,
     name: &str,
     input: &mut S,
     writer: &mut W,
 ) -> Result<Answer, Fault>
-    ensures done { (m : Making) → Makes normalizer.now m → IfOk result
-        (IsWritten task m name.now (S.left input.old) (W.taken writer.old) (W.taken writer.new)) }
+    ensures done { (w : Work) → Does worker.now w → IfOk result
+        (IsWritten w name.now (S.left input.old) (W.taken writer.old) (W.taken writer.new)) }
     ensures why { IfErr result (IsFileFault (λ _. ⊥) (S.refused input.old input.new ⊎ IsEndless (S.left input.old))
         (W.refused writer.old writer.new)) }
-    ensures left { (m : Making) → Makes normalizer.now m →
-        IfErr result (λ fault. Leaves task fault (writer.new ≡ writer.old)
-        (IsCutOff task m name.now (S.left input.old) (W.taken writer.old) (W.taken writer.new))) }
+    ensures left { (w : Work) → Does worker.now w →
+        IfErr result (λ fault. Leaves w fault (writer.new ≡ writer.old)
+        (IsCutOff w name.now (S.left input.old) (W.taken writer.old) (W.taken writer.new))) }
 {
-    match task {
-        Task::Write => {
+    match worker {
+        Worker::OfForm(Task::Write, normalizer) => {
             write_form(alloc, normalizer, input, writer)?;
             Ok(Answer::Done)
         }
-        Task::Check | Task::Locate => write_reply(alloc, normalizer, task, name, input, writer),
+        _ => write_reply(alloc, worker, name, input, writer),
     }
 }
 
 // Reads to the end, computes the reply, and only then writes it.
 fn write_reply<S: Source, W: Target>(
     alloc: Global,
-    normalizer: &Normalizer,
-    task: Task,
+    worker: &Worker,
     name: &str,
     input: &mut S,
     writer: &mut W,
 ) -> Result<Answer, Fault>
-    requires { task ≢ Task.Write }
-    ensures done { (m : Making) → Makes normalizer.now m → IfOk result
-        (IsWritten task m name.now (S.left input.old) (W.taken writer.old) (W.taken writer.new)) }
+    requires { RepliesAtEnd worker.now }
+    ensures done { (w : Work) → Does worker.now w → IfOk result
+        (IsWritten w name.now (S.left input.old) (W.taken writer.old) (W.taken writer.new)) }
     ensures why { IfErr result (IsFileFault (λ _. ⊥) (S.refused input.old input.new)
         (W.refused writer.old writer.new)) }
-    ensures cut { (m : Making) → Makes normalizer.now m → IsErrOf result Fault.Write →
-        IsCutOff task m name.now (S.left input.old) (W.taken writer.old) (W.taken writer.new) }
+    ensures cut { (w : Work) → Does worker.now w → IsErrOf result Fault.Write →
+        IsCutOff w name.now (S.left input.old) (W.taken writer.old) (W.taken writer.new) }
     ensures unwritten { IfErr result (λ fault. fault ≢ Fault.Write → writer.new ≡ writer.old) }
 {
     let bytes = read_all(alloc, input)?;
-    let reply = task.reply(alloc, normalizer, name, &bytes)?;
-    write_all(writer, reply.output.as_bytes())?;
+    let reply = worker.reply(alloc, name, &bytes)?;
+    write_all(writer, &reply.output)?;
     Ok(reply.answer)
 }
 

@@ -1,13 +1,16 @@
 //! The program `uninorm` but for its files and standard streams.
 #![tactic(auto)]
 
+mod characters;
 mod data;
 pub mod fault;
 mod files;
 pub mod inputs;
+pub mod mapping;
 mod mismatch;
 mod normalizers;
 pub mod reply;
 pub mod run;
 pub mod version;
 pub mod words;
+pub mod worker;

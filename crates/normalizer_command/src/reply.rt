@@ -1,8 +1,9 @@
 //! What is done with a file.
 ghost use Rattle.std.specs.Prelude.{◌≡◌, ◌≢◌, ◌≤◌, IfOk, IfSome, IsOkUnless, length, string_bytes};
+ghost use Rattle.normalizer_command.specs.Lines.{line_of};
 ghost use Rattle.normalizer_command.specs.Making.{Making, Makes};
 ghost use Rattle.normalizer_command.specs.Mismatches.{TellsMismatch};
-ghost use Rattle.normalizer_command.specs.Replies.{IsReply, line_of};
+ghost use Rattle.normalizer_command.specs.Replies.{IsReplyOfForm};
 
 use crate::fault::Fault;
 use crate::mismatch::mismatch_line;
@@ -22,11 +23,11 @@ pub enum Task {
     Locate,
 }
 
-/// Whether the file is in the form, with the text that is written.
+/// Whether all is as it is to be, with the bytes that are written.
 #[derive(Drop)]
 pub struct Reply {
     pub(crate) answer: Answer,
-    pub(crate) output: String,
+    pub(crate) output: Vec<u8>,
 }
 
 impl Task {
@@ -40,7 +41,7 @@ impl Task {
     ) -> Result<Reply, Fault>
         requires { self ≢ Task.Write }
         ensures reply { (m : Making) → Makes normalizer.now m →
-            IfOk result (λ r. IsReply self m name.now bytes.now r.answer (string_bytes r.output)) }
+            IfOk result (λ r. IsReplyOfForm self m name.now bytes.now r.answer r.output.items) }
         ensures refused { IsOkUnless result Fault.Memory }
     {
         match self {
@@ -49,12 +50,12 @@ impl Task {
                 if normalizer.is_normalized(bytes)? {
                     Ok(Reply {
                         answer: Answer::Done,
-                        output: String::new(alloc),
+                        output: Vec::new(alloc),
                     })
                 } else {
                     Ok(Reply {
                         answer: Answer::No,
-                        output: line(alloc, name)?,
+                        output: line(alloc, name)?.into_bytes(),
                     })
                 }
             }
@@ -74,16 +75,16 @@ fn located(
     mismatch: Option<Offence>,
 ) -> Result<Reply, AllocError>
     requires { IfSome mismatch (λ o. o.place ≤ length bytes.now) }
-    ensures { IfOk result (λ r. TellsMismatch name.now bytes.now mismatch r.answer (string_bytes r.output)) }
+    ensures { IfOk result (λ r. TellsMismatch name.now bytes.now mismatch r.answer r.output.items) }
 {
     match mismatch {
         Some(mismatch) => Ok(Reply {
             answer: Answer::No,
-            output: mismatch_line(alloc, name, bytes, mismatch)?,
+            output: mismatch_line(alloc, name, bytes, mismatch)?.into_bytes(),
         }),
         None => Ok(Reply {
             answer: Answer::Done,
-            output: String::new(alloc),
+            output: Vec::new(alloc),
         }),
     }
 }

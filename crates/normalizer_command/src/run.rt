@@ -1,34 +1,32 @@
 //! A run over files.
-ghost use Rattle.std.specs.Prelude.{◌≡◌, ◌⊎◌, map, List, ℕ, IfOk, IfErr, OnErr, IsOkUnless};
+ghost use Rattle.std.specs.Prelude.{◌≡◌, ◌⊎◌, map, List, ℕ, IfOk, IfErr, OnErr};
 ghost use Rattle.normalizer_builder.specs.Built.{AreBuilt, data_in};
 ghost use Rattle.normalizer_builder.specs.Building.{Builds};
 ghost use Rattle.normalizer_records.specs.Entry.{Entry, MapperEntry};
 ghost use Rattle.normalizer_command.specs.Data.{IsDataFault, path_of};
 ghost use Rattle.normalizer_command.specs.Devices.{devices};
-ghost use Rattle.normalizer_command.specs.Making.{making_by};
 ghost use Rattle.normalizer_command.specs.Outcomes.{AreDone, state};
 ghost use Rattle.normalizer_command.specs.Reports.{Tells};
 ghost use Rattle.normalizer_command.specs.Runs.{IsRun, RunsByFiles};
+ghost use Rattle.normalizer_command.specs.Works.{work_by};
 
 use crate::data::{DataFault, built, path, read_files};
 use crate::fault::Fault;
 use crate::files::over_files;
 use crate::inputs::{Inputs, Reports};
-use crate::normalizers::normalizer_to;
-use crate::reply::Task;
+use crate::worker::{Command, worker_for};
 use normalizer_builder::Built;
-use normalizer_built::NormalForm;
 use normalizer_io::Target;
 use normalizer_iterators::NormalizeError;
 use normalizer_ucd::UcdFile;
 use std::alloc::Global;
 
-/// Does the task with each file in turn, by Unicode's files in a directory, and returns the exit status: 0; 1 if a file
-/// isn't in the form; 2 if one failed. If Unicode's files fail, that is reported, and nothing is written.
+/// Does a command with each file in turn, by Unicode's files in a directory, and returns the exit status: 0; 1 if a file
+/// isn't in the form, or has a line that isn't valid; 2 if one failed. If Unicode's files fail, that is reported, and
+/// nothing is written.
 pub fn run<I: Inputs, W: Target, R: Reports>(
     alloc: Global,
-    task: Task,
-    form: NormalForm,
+    command: Command,
     directory: &str,
     names: &[&str],
     inputs: &I,
@@ -37,10 +35,10 @@ pub fn run<I: Inputs, W: Target, R: Reports>(
 ) -> u8
     ensures { IsRun
         (devices (I.bytes_of inputs.now) (I.cannot_open inputs.now) (I.read_refused inputs.now) W.taken W.refused)
-        task form directory.now (map (λ name. name.now) names.now)
+        command directory.now (map (λ name. name.now) names.now)
         (state writer.old (R.told reports.old) 0) (state writer.new (R.told reports.new) result) }
 {
-    match run_by_files(alloc, task, form, directory, names, inputs, writer, reports) {
+    match run_by_files(alloc, command, directory, names, inputs, writer, reports) {
         Ok(status) => status,
         Err(error) => {
             tell(alloc, directory, error, reports);
@@ -52,8 +50,7 @@ pub fn run<I: Inputs, W: Target, R: Reports>(
 // The exit status, or why there are no data: then nothing is written or reported.
 fn run_by_files<I: Inputs, W: Target, R: Reports>(
     alloc: Global,
-    task: Task,
-    form: NormalForm,
+    command: Command,
     directory: &str,
     names: &[&str],
     inputs: &I,
@@ -62,17 +59,17 @@ fn run_by_files<I: Inputs, W: Target, R: Reports>(
 ) -> Result<u8, DataFault>
     ensures done { IfOk result (λ status. RunsByFiles
         (devices (I.bytes_of inputs.now) (I.cannot_open inputs.now) (I.read_refused inputs.now) W.taken W.refused)
-        task form directory.now (map (λ name. name.now) names.now)
+        command directory.now (map (λ name. name.now) names.now)
         (state writer.old (R.told reports.old) 0) (state writer.new (R.told reports.new) status)) }
     ensures fault { IfErr result (λ e. IsDataFault
         (devices (I.bytes_of inputs.now) (I.cannot_open inputs.now) (I.read_refused inputs.now) W.taken W.refused)
-        directory.now e.file e.fault) }
+        directory.now command e.file e.fault) }
     ensures unwritten { OnErr result (writer.new ≡ writer.old) }
     ensures untold { OnErr result (reports.new ≡ reports.old) }
 {
-    let (unicode_data, exclusions) = read_files(alloc, inputs, directory)?;
-    let data = built(alloc, &unicode_data, &exclusions)?;
-    match over_data(alloc, &data, task, form, names, inputs, writer, reports) {
+    let files = read_files(alloc, inputs, directory, command)?;
+    let data = built(alloc, &files)?;
+    match over_data(alloc, &data, command, names, inputs, writer, reports) {
         Ok(status) => Ok(status),
         Err(_) => Err(DataFault {
             file: UcdFile::UnicodeData,
@@ -81,28 +78,27 @@ fn run_by_files<I: Inputs, W: Target, R: Reports>(
     }
 }
 
-// The exit status, unless there was not enough memory for the normalizer.
+// The exit status, unless there was not enough memory for the normalizer or the mapper.
 fn over_data<I: Inputs, W: Target, R: Reports>(
     alloc: Global,
     data: &Built,
-    task: Task,
-    form: NormalForm,
+    command: Command,
     names: &[&str],
     inputs: &I,
     writer: &mut W,
     reports: &mut R,
 ) -> Result<u8, NormalizeError>
     requires { AreBuilt (data_in «data».now) }
-    ensures done { (records : List Entry) (mapper : List MapperEntry) → Builds records mapper (data_in «data».now) →
+    ensures done { (records : List Entry) (uts46 : List MapperEntry) → Builds records uts46 (data_in «data».now) →
         IfOk result (λ status. AreDone
         (devices (I.bytes_of inputs.now) (I.cannot_open inputs.now) (I.read_refused inputs.now) W.taken W.refused)
-        task (making_by records form) (map (λ name. name.now) names.now)
+        (work_by records uts46 command) (map (λ name. name.now) names.now)
         (state writer.old (R.told reports.old) 0) (state writer.new (R.told reports.new) status)) }
     ensures unwritten { OnErr result (writer.new ≡ writer.old) }
     ensures untold { OnErr result (reports.new ≡ reports.old) }
 {
-    let normalizer = normalizer_to(data, form)?;
-    Ok(over_files(alloc, &normalizer, task, inputs, names, writer, reports))
+    let worker = worker_for(data, command)?;
+    Ok(over_files(alloc, &worker, inputs, names, writer, reports))
 }
 
 /// Reports which of Unicode's files failed, and why. (Its directory is named if there is no memory for its path.)

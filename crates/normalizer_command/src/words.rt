@@ -1,10 +1,13 @@
 //! The words that the program is started with.
 ghost use Rattle.std.specs.Prelude.{◌≡◌, ◌↔◌, Some};
 ghost use Rattle.normalizer_built.specs.declared.NormalForm.{NormalForm};
+ghost use Rattle.normalizer_command.specs.declared.mapping.MapperTask.{MapperTask};
 ghost use Rattle.normalizer_command.specs.declared.reply.Task.{Task};
-ghost use Rattle.normalizer_command.specs.Words.{NamesForm, NamesTask};
+ghost use Rattle.normalizer_command.specs.Words.{NamesForm, NamesMapperTask, NamesTask};
 
+use crate::mapping::MapperTask;
 use crate::reply::Task;
+use crate::worker::Command as FileCommand;
 use clap::{Arg, ArgAction, ArgMatches, Command, Error};
 use normalizer_built::NormalForm;
 use std::alloc::{AllocError, Global};
@@ -12,13 +15,18 @@ use std::alloc::{AllocError, Global};
 /// What the commands do.
 const WORD_HELP: &str =
     "nfc, nfd, nfkc or nfkd: write that form. check FORM: print the names of files that aren't in \
-    the form. where FORM: print the first mismatch of each";
+    the form. where FORM: print the first mismatch of each. map: write the lines, each mapped by UTS #46 (Map and \
+    Normalize). validate: print the numbers of the lines that aren't valid";
 
 /// What the output and the status say.
 const AFTER_HELP: &str =
     "where prints FILE:LINE:BYTE: found U+0061, wanted U+00E4. Lines and bytes in a line count from 1; \
-    an ill-formed sequence is found as U+FFFD.\nStatus: 0; check and where: 1 if a file isn't in the form; \
-    2 if a file failed.";
+    an ill-formed sequence is found as U+FFFD.\nmap and validate need IdnaMappingTable.txt in the directory too. \
+    Each line is a text of its own, without its line feed. map drops ignored characters, and writes U+FFFD for \
+    disallowed ones. A line is valid if mapping leaves it as it is, and it has no ignored or disallowed character \
+    and no U+FFFD; Punycode, STD3 rules, hyphens, joiners and bidi are not checked. validate prints FILE:LINE: invalid.\n\
+    The forms are written while a file is read; the other commands read each file whole first.\n\
+    Status: 0; check and where: 1 if a file isn't in the form; validate: 1 if a line isn't valid; 2 if a file failed.";
 
 /// The message if a command that needs a form has none.
 const NO_FORM: &str = "a form is missing: nfc, nfd, nfkc or nfkd";
@@ -38,9 +46,7 @@ pub enum Request<'a> {
 #[derive(Drop)]
 pub struct FileRequest<'a> {
     /// What to do with each file.
-    pub task: Task,
-    /// The form.
-    pub form: NormalForm,
+    pub command: FileCommand,
     /// The directory of Unicode's files, if one is named.
     pub directory: Option<&'a str>,
     /// The names of the files; `-` is standard input.
@@ -63,21 +69,30 @@ fn request_of<'a>(alloc: Global, matches: &ArgMatches<'a>) -> Result<Request<'a>
     }
     let names = matches.get_strs("file").unwrap_or(&[]);
     let word = matches.get_str("command").unwrap_or("");
+    if let Some(task) = mapper_task_named(word) {
+        return over_files(alloc, FileCommand::OfMapper(task), directory, names);
+    }
     match (task_named(word), form_named(word), names) {
         (Some(task), _, [form, names @ ..]) => match form_named(form) {
-            Some(form) => over_files(alloc, task, form, directory, names),
+            Some(form) => over_files(alloc, FileCommand::OfForm(task, form), directory, names),
             None => Ok(Request::Unclear(NO_FORM)),
         },
         (Some(_), _, []) => Ok(Request::Unclear(NO_FORM)),
-        (None, Some(form), names) => over_files(alloc, Task::Write, form, directory, names),
+        (None, Some(form), names) => {
+            over_files(
+                alloc,
+                FileCommand::OfForm(Task::Write, form),
+                directory,
+                names,
+            )
+        }
         (None, None, _) => Ok(Request::Unclear("a command is missing: see --help")),
     }
 }
 
 fn over_files<'a>(
     alloc: Global,
-    task: Task,
-    form: NormalForm,
+    command: FileCommand,
     directory: Option<&'a str>,
     named: &[&'a str],
 ) -> Result<Request<'a>, AllocError> {
@@ -87,11 +102,21 @@ fn over_files<'a>(
     }
     names.extend_from_slice(named)?;
     Ok(Request::Files(FileRequest {
-        task,
-        form,
+        command,
         directory,
         names,
     }))
+}
+
+// The command of the mapper.
+fn mapper_task_named(word: &str) -> Option<MapperTask>
+    ensures { (task : MapperTask) → (result ≡ Some task) ↔ NamesMapperTask task word.now }
+{
+    match word {
+        "map" => Some(MapperTask::Map),
+        "validate" => Some(MapperTask::Validate),
+        _ => None,
+    }
 }
 
 // The command that is followed by a form.
@@ -121,7 +146,10 @@ fn command<'a>(alloc: Global) -> Result<Command<'a>, AllocError> {
     let word = Arg::new(alloc, "command")
         .value_name("COMMAND")
         .help(WORD_HELP)
-        .value_parser(["nfc", "nfd", "nfkc", "nfkd", "check", "where"].as_slice())
+        .value_parser([
+            "nfc", "nfd", "nfkc", "nfkd", "check", "where", "map", "validate",
+        ]
+        .as_slice())
         .hide_possible_values(true);
     let files = Arg::new(alloc, "file")
         .value_name("FILE")
@@ -129,7 +157,7 @@ fn command<'a>(alloc: Global) -> Result<Command<'a>, AllocError> {
         .num_args(0..)
         .help("Files; standard input if there are none, or for -");
     let directory = Arg::new(alloc, "data").long("data").value_name("DIR").help(
-        "The directory of UnicodeData.txt and CompositionExclusions.txt",
+        "The directory of UnicodeData.txt, CompositionExclusions.txt and, for map and validate, IdnaMappingTable.txt",
     );
     let version = Arg::new(alloc, "version")
         .long("version")

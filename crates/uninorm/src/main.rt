@@ -1,5 +1,5 @@
-//! The program `uninorm`: it writes the normal forms of files or of standard input, and the names of files that aren't
-//! in a form.
+//! The program `uninorm`: it writes the normal forms of files or of standard input, the names of files that aren't in a
+//! form, and lines mapped or validated for domain names.
 #![tactic(auto)]
 
 mod standard;
@@ -60,8 +60,7 @@ fn over_files(rt: &HostRuntime, words: &[String], request: &FileRequest<'_>) -> 
     };
     run(
         rt.alloc(),
-        request.task,
-        request.form,
+        request.command,
         directory.as_str(),
         &request.names,
         &Named(rt),

@@ -1,14 +1,14 @@
 use Rattle.std.proofs.Common.{drop, map}
 use Rattle.normalizer_command.specs.Devices.{devices}
-use Rattle.normalizer_command.specs.Making.{Making, Makes}
 use Rattle.normalizer_command.specs.Outcomes.{AreDone, State, state}
+use Rattle.normalizer_command.specs.Works.{Does, Work}
 use Rattle.normalizer_command.proofs.files.over_files.Given as goal
 
 -- what follows for the files that are left follows for all
 abbrev pub invariant-loop-name : goal.invariant-loop-name
 invariant-loop-name g l = let d = devices (g.I.Inputs.bytes_of l.inputs) (g.I.Inputs.cannot_open l.inputs)
     (g.I.Inputs.read_refused l.inputs) g.W.Target.taken g.W.Target.refused in
-    (m : Making) → Makes l.normalizer m → (end : State _)
-    → AreDone d l.task m (map (λ name. name.now) (drop l.name-index l.names))
+    (w : Work) → Does l.worker w → (end : State _)
+    → AreDone d w (map (λ name. name.now) (drop l.name-index l.names))
     (state l.writer (g.R.Reports.told l.reports) l.status) end
-    → AreDone d l.task m (map (λ name. name.now) l.names) (state l.fn.writer (g.R.Reports.told l.fn.reports) 0) end
+    → AreDone d w (map (λ name. name.now) l.names) (state l.fn.writer (g.R.Reports.told l.fn.reports) 0) end

@@ -1,0 +1,35 @@
+//! The characters of an iterator, and their UTF-8.
+ghost use Rattle.std.specs.Prelude.{◌≡◌, List, ℕ, IfOk, IsOkUnless, string_bytes, encode_utf8_all};
+ghost use Rattle.std.specs.Iterator.{IsFinite};
+ghost use Rattle.normalizer_iterators.specs.Items.{SpellsUnless};
+
+use crate::fault::Fault;
+use normalizer_iterators::NormalizeError;
+use normalizer_iterators::laws::text_comes_unless_a_fault_does;
+use std::alloc::{AllocError, Global};
+
+/// The characters, up to the first error, which is `Memory`.
+pub(crate) fn collected<I: Iterator<Item = Result<char, NormalizeError>> + Drop>(
+    alloc: Global,
+    items: I,
+) -> Result<Vec<char>, Fault>
+    requires can { I.can_next items }
+    requires ends { IsFinite (I.remaining items) }
+    ensures text { (x : List ℕ) → SpellsUnless I.next_gives NormalizeError.Memory items x →
+        IfOk result (λ characters. characters.items ≡ x) }
+    ensures refused { IsOkUnless result Fault.Memory }
+{
+    text_comes_unless_a_fault_does::<NormalizeError, I>();
+    let mut characters = Vec::new(alloc);
+    for item in items {
+        characters.push(item?)?;
+    }
+    Ok(characters)
+}
+
+/// The UTF-8 of characters.
+pub(crate) fn encoded(alloc: Global, characters: &[char]) -> Result<String, AllocError>
+    ensures { IfOk result (λ text. string_bytes text ≡ encode_utf8_all characters.now) }
+{
+    characters.iter().copied().collect(alloc)
+}
