@@ -4,7 +4,7 @@ ghost use Rattle.std.specs.Cow.{cow_slice_items, cow_str_bytes, IsBorrowedSlice,
 ghost use Rattle.normalizer_text.specs.Encodings.{Encoding, decoded_in};
 ghost use Rattle.normalizer_calls.specs.Checks.{AnswersOf, ChecksForm, FindsOffence, IsSplitAtCut};
 ghost use Rattle.normalizer_input.specs.InputCut.{IsInputCut};
-ghost use Rattle.normalizer_calls.specs.Owned.{HandsOutForm};
+ghost use Rattle.normalizer_calls.specs.Owned.{ReturnsForm};
 ghost use Rattle.icu_normalizer_c.specs.Calls.{TellsCut, TellsMismatch, TellsNormalized, WritesForm};
 ghost use Rattle.icu_normalizer_c.specs.Made.{made_by};
 
@@ -42,7 +42,7 @@ impl<'a> Normalizer<'a> {
     }
 
     fn normalize_utf8<'t>(&self, input: &'t [u8]) -> Result<CowStr<'t, Global>, NormalizeError>
-        ensures { HandsOutForm cow_str_bytes IsBorrowedStr (made_by self.now) Encoding.Utf8 input.now result }
+        ensures { ReturnsForm cow_str_bytes IsBorrowedStr (made_by self.now) Encoding.Utf8 input.now result }
     {
         match self {
             Normalizer::Decomposing(n) => n.normalize_utf8(input),
@@ -131,7 +131,7 @@ impl<'a> Normalizer<'a> {
         &self,
         input: &'t [u16],
     ) -> Result<CowSlice<'t, u16, Global>, NormalizeError>
-        ensures { HandsOutForm cow_slice_items IsBorrowedSlice (made_by self.now) Encoding.Utf16 input.now result }
+        ensures { ReturnsForm cow_slice_items IsBorrowedSlice (made_by self.now) Encoding.Utf16 input.now result }
     {
         match self {
             Normalizer::Decomposing(n) => n.normalize_utf16(input),

@@ -19,7 +19,7 @@ use Rattle.normalizer_input.specs.EncodedForm.{encoded_form}
 use Rattle.normalizer_input.proofs.EncodedFormLemmas.{is_normalized_iff_encoded_form}
 use Rattle.normalizer_input.specs.InputCut.{IsInputCut, IsInputNormalized}
 use Rattle.normalizer_calls.specs.Forms.{MadeForm}
-use Rattle.normalizer_calls.specs.Owned.{HandsOutForm, IsEncodedFormOf}
+use Rattle.normalizer_calls.specs.Owned.{ReturnsForm, IsEncodedFormOf}
 
 -- the prefix and the form of the rest are the form of the whole
 pub form_from_cut : (e : Encoding) (d : Reading) (form : Form) (units : List ℕ) (place : ℕ) → IsInputCut e d form units place
@@ -93,16 +93,16 @@ module _ {S : Type 0} (taken : S → List ℕ) (m : MadeForm) (e : Encoding) (un
 -- what was returned
 module _ {S A : Type 0} (content : A → List ℕ) (IsBorrowed : A → Type 0) (taken : S → List ℕ) (m : MadeForm) (e : Encoding) (units : List ℕ) (old new : S)
     (own : Bool) (wrote : WroteUnlessOwn taken m e units old own new) (z : A) where
-  pub HandsOutForm-borrowed : IsTrue own → content z ≡ units → IsBorrowed z → HandsOutForm content IsBorrowed m e units (Ok z)
-  HandsOutForm-borrowed is same borrowed = record {
+  pub ReturnsForm-borrowed : IsTrue own → content z ≡ units → IsBorrowed z → ReturnsForm content IsBorrowed m e units (Ok z)
+  ReturnsForm-borrowed is same borrowed = record {
     form = subst (IsEncodedFormOf m e units) (sym same) (wrote.kept is);
     borrows = (λ _. wrote.is_own.0 is, λ _. borrowed);
     room = λ _ _. refl;
     refused = tt;
   }
 
-  pub HandsOutForm-owned : IsFalse own → taken old ≡ [] → content z ≡ taken new → ¬ IsBorrowed z → HandsOutForm content IsBorrowed m e units (Ok z)
-  HandsOutForm-owned is empty same owned =
+  pub ReturnsForm-owned : IsFalse own → taken old ≡ [] → content z ≡ taken new → ¬ IsBorrowed z → ReturnsForm content IsBorrowed m e units (Ok z)
+  ReturnsForm-owned is empty same owned =
       let written = wrote.wrote is in
       let form : IsEncodedFormOf m e units (content z) = subst (IsEncodedFormOf m e units) (sym (same ∙ written.1 ∙ ap (λ l. l ++ written.0) empty)) written.2 in
       let differs : ¬ IsInputNormalized e m.reading m.form units = (λ normalized. (let no : false ≡ true = sym is ∙ wrote.is_own.1 normalized in cc)) in record {

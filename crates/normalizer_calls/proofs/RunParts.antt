@@ -22,7 +22,7 @@ use Rattle.normalizer_text.proofs.StepLemmas.{decoded-IsText, decoded-some, rest
 use Rattle.normalizer_text.proofs.Utf8Lemmas.{by_cases}
 use Rattle.normalizer_input.specs.InputCut.{IsInputNormalized}
 use Rattle.normalizer_calls.specs.BeginsApart.{BeginsApart}
-use Rattle.normalizer_calls.specs.inner.Passing.{Divides, HasHeldBack, IsHandedOn, IsPart, IsRunEnd, IsSegmentEnd, MayFollow, MayPass, PassesTo, replacement}
+use Rattle.normalizer_calls.specs.inner.Passing.{Divides, HasHeldBack, IsPassedOn, IsPart, IsRunEnd, IsSegmentEnd, MayFollow, MayPass, PassesTo, replacement}
 use Rattle.normalizer_calls.specs.inner.Passing.{class_after, class_of_step, next_class}
 use Rattle.normalizer_calls.proofs.PassingLemmas.{Divides-after, Divides-end, Divides-next, IsNormalized-before_starter, IsNormalized-mark, IsNormalized-mark_before, IsNormalized-run, normal_form-nil}
 use Rattle.normalizer_calls.proofs.RunLemmas.{IsRun-le, PassesTo-held, class_after-ends, class_of_step-passed, next_class-passed, next_held}
@@ -273,8 +273,8 @@ module _ (passed : ℕ → Option ℕ) (e : Encoding) (units : List ℕ) (marks 
       inl (omega (arith, empty, length-take-le run units (IsRun-le passed e units marks run is_run.last is_run.run).1), refl)
 
 module _ (passed : ℕ → Option ℕ) (beginning : ℕ → Bool) (held_back : Bool) (e : Encoding) (units : List ℕ) (marks run : ℕ) (is_run : IsRunEnd passed e units marks run) where
-  pub IsHandedOn-to_end : (len : ℕ) → len ≡ length units → run ≡ len → IsHandedOn passed beginning held_back e units run
-  IsHandedOn-to_end len length_is end = record {
+  pub IsPassedOn-to_end : (len : ℕ) → len ≡ length units → run ≡ len → IsPassedOn passed beginning held_back e units run
+  IsPassedOn-to_end len length_is end = record {
     marks = marks;
     run = run;
     is_run = is_run;
@@ -285,8 +285,8 @@ module _ (passed : ℕ → Option ℕ) (beginning : ℕ → Bool) (held_back : B
   }
 
   module _ (len : ℕ) (length_is : len ≡ length units) (goes_on : run ≢ len) where
-    pub IsHandedOn-held : held_back ≡ true → (end : ℕ) → HasHeldBack e units run end → IsHandedOn passed beginning held_back e units end
-    IsHandedOn-held held end back = record {
+    pub IsPassedOn-held : held_back ≡ true → (end : ℕ) → HasHeldBack e units run end → IsPassedOn passed beginning held_back e units end
+    IsPassedOn-held held end back = record {
       marks = marks;
       run = run;
       is_run = is_run;
@@ -296,8 +296,8 @@ module _ (passed : ℕ → Option ℕ) (beginning : ℕ → Bool) (held_back : B
       with_marks = λ _ free _. absurd (true≢false (sym held ∙ free));
     }
 
-    pub IsHandedOn-apart : held_back ≡ false → beginning (first_in e (drop run units)).character ≡ true → IsHandedOn passed beginning held_back e units run
-    IsHandedOn-apart free begins = record {
+    pub IsPassedOn-apart : held_back ≡ false → beginning (first_in e (drop run units)).character ≡ true → IsPassedOn passed beginning held_back e units run
+    IsPassedOn-apart free begins = record {
       marks = marks;
       run = run;
       is_run = is_run;
@@ -307,8 +307,8 @@ module _ (passed : ℕ → Option ℕ) (beginning : ℕ → Bool) (held_back : B
       with_marks = λ _ _ other. absurd (true≢false (sym begins ∙ other));
     }
 
-    pub IsHandedOn-before_marks : held_back ≡ false → (marks ≡ run) ⊎ (beginning (first_in e (drop run units)).character ≡ false) → IsHandedOn passed beginning held_back e units marks
-    IsHandedOn-before_marks free why = record {
+    pub IsPassedOn-before_marks : held_back ≡ false → (marks ≡ run) ⊎ (beginning (first_in e (drop run units)).character ≡ false) → IsPassedOn passed beginning held_back e units marks
+    IsPassedOn-before_marks free why = record {
       marks = marks;
       run = run;
       is_run = is_run;

@@ -30,7 +30,7 @@ use Rattle.normalizer_input.proofs.InputEncodingLemmas.{input_offence_iff_text}
 use Rattle.normalizer_iterators.specs.declared.error.NormalizeError.{NormalizeError}
 use Rattle.normalizer_calls.specs.Checks.{ChecksForm, ChecksText, IsLastingOffenceOfText, IsSplitAtCut, IsTextSplitAtCut}
 use Rattle.normalizer_calls.specs.Forms.{MadeForm}
-use Rattle.normalizer_calls.specs.Owned.{HandsOutForm, HandsOutFormOfText, IsEncodedFormOf, IsFormOf}
+use Rattle.normalizer_calls.specs.Owned.{ReturnsForm, ReturnsFormOfText, IsEncodedFormOf, IsFormOf}
 
 module _ (m : MadeForm) (text : List ℕ) (utf8 : IsUtf8 text) where
   well_formed : IsWellFormed first_of_utf8 text
@@ -120,9 +120,9 @@ module _ (m : MadeForm) (text : List ℕ) (utf8 : IsUtf8 text) where
         subst (λ y. IsFormOf m y (chars (cow_str_bytes z))) (decoded-chars text utf8)
         (subst (IsFormOf m (decoded_utf8 text)) (decoded-chars (cow_str_bytes z) content_utf8) h.text)
 
-  pub HandsOutFormOfText-bytes : SuitsTexts m.reading m.form → (answer : Result (CowStr Global) NormalizeError) → HandsOutForm cow_str_bytes IsBorrowedStr m Encoding.Utf8 text answer
-      → HandsOutFormOfText m (chars text) answer
-  HandsOutFormOfText-bytes suits answer h =
+  pub ReturnsFormOfText-bytes : SuitsTexts m.reading m.form → (answer : Result (CowStr Global) NormalizeError) → ReturnsForm cow_str_bytes IsBorrowedStr m Encoding.Utf8 text answer
+      → ReturnsFormOfText m (chars text) answer
+  ReturnsFormOfText-bytes suits answer h =
       let is = decoded-chars text utf8 in
       record {
         form = IfOk-weaker answer _ _ (λ z k. form_of_text z k suits) h.form;

@@ -29,7 +29,7 @@ pub record IsEncodedFormOf (m : MadeForm) (e : Encoding) (units content : List �
 
 -- The form of the units was returned, borrowed exactly if they are well-formed and normalized. `Memory` is the only
 -- error, and if they are, it never comes over short runs.
-pub record HandsOutForm {A : Type 0} (content : A → List ℕ) (IsBorrowed : A → Type 0) (m : MadeForm) (e : Encoding)
+pub record ReturnsForm {A : Type 0} (content : A → List ℕ) (IsBorrowed : A → Type 0) (m : MadeForm) (e : Encoding)
     (units : List ℕ) (answer : Result A NormalizeError) : Type 0 where
   pub form : IfOk answer (λ z. IsEncodedFormOf m e units (content z))
   pub borrows : IfOk answer (λ z. IsBorrowed z ↔ IsInputNormalized e m.reading m.form units)
@@ -39,7 +39,7 @@ pub record HandsOutForm {A : Type 0} (content : A → List ℕ) (IsBorrowed : A 
 
 -- The form of a text was returned, borrowed exactly if the text is normalized. `Memory` is the only error, and if the
 -- text is normalized, it never comes over short runs.
-pub record HandsOutFormOfText (m : MadeForm) (x : List ℕ) (answer : Result (CowStr Global) NormalizeError)
+pub record ReturnsFormOfText (m : MadeForm) (x : List ℕ) (answer : Result (CowStr Global) NormalizeError)
     : Type 0 where
   pub form : IfOk answer (λ z. IsFormOf m x (chars (cow_str_bytes z)))
   pub borrows : IfOk answer (λ z. IsBorrowedStr z ↔ IsNormalized m.reading m.form x)

@@ -5,7 +5,7 @@ ghost use Rattle.normal_forms.specs.Forms.{nfd};
 ghost use Rattle.normalizer_tables.specs.Characters.{has_class_form};
 ghost use Rattle.normalizer_tables.specs.Readings.{reading_by};
 ghost use Rattle.normalizer_tables.specs.declared.characters.IgnoredCharacters.TheVariants.{Dropped};
-ghost use Rattle.normalizer_iterators.specs.Items.{GivesForm};
+ghost use Rattle.normalizer_iterators.specs.Items.{YieldsForm};
 ghost use Rattle.normalizer_calls.specs.Serving.{ServesDecomposing};
 
 use crate::borrowed::NormalizerBorrowed;
@@ -30,7 +30,7 @@ impl<'a> DecomposingForm<'a> {
     ) -> Result<Decomposition<'a, I>, NormalizeError>
         requires can { I.can_next iter }
         requires ends { IsFinite (I.remaining iter) }
-        ensures form { GivesForm I.next_gives ⟦<Decomposition<'a, I> as Iterator>⟧.next_gives
+        ensures form { YieldsForm I.next_gives ⟦<Decomposition<'a, I> as Iterator>⟧.next_gives
             (has_class_form self.now.characters) (reading_by self.now.characters Dropped []) nfd iter result }
         ensures ready { IfOk result ⟦<Decomposition<'a, I> as Iterator>⟧.can_next }
     {
@@ -59,7 +59,7 @@ impl<'a> NormalizerBorrowed<DecomposingForm<'a>> {
     ) -> Result<Decomposition<'a, I>, NormalizeError>
         requires can { I.can_next iter }
         requires ends { IsFinite (I.remaining iter) }
-        ensures form { GivesForm I.next_gives ⟦<Decomposition<'a, I> as Iterator>⟧.next_gives
+        ensures form { YieldsForm I.next_gives ⟦<Decomposition<'a, I> as Iterator>⟧.next_gives
             (has_class_form (data_of_borrowed self.now))
             (reading_by (data_of_borrowed self.now) Dropped []) nfd iter result }
         ensures ready { IfOk result ⟦<Decomposition<'a, I> as Iterator>⟧.can_next }

@@ -5,7 +5,7 @@ ghost use Rattle.normalizer_text.specs.Encodings.{Encoding};
 ghost use Rattle.normalizer_input.specs.EncodedForm.{encoded_form};
 ghost use Rattle.normalizer_input.specs.InputCut.{IsInputCut, IsInputNormalized};
 ghost use Rattle.normalizer_calls.specs.Forms.{HasShortUnits};
-ghost use Rattle.normalizer_calls.specs.Owned.{HandsOutForm, HandsOutFormOfText};
+ghost use Rattle.normalizer_calls.specs.Owned.{ReturnsForm, ReturnsFormOfText};
 ghost use Rattle.normalizer_calls.specs.inner.Owned.{WroteUnlessOwn};
 
 use crate::borrowed::NormalizerBorrowed;
@@ -96,7 +96,7 @@ fn form_of_utf8<'t, N: Forming>(
     normalizer: &N,
     text: &'t str,
 ) -> Result<CowStr<'t, Global>, NormalizeError>
-    ensures { HandsOutForm cow_str_bytes IsBorrowedStr
+    ensures { ReturnsForm cow_str_bytes IsBorrowedStr
         (N.made normalizer.now) Encoding.Utf8 text.now result }
 {
     let mut owned = String::new(normalizer.allocator());
@@ -112,7 +112,7 @@ fn form_of_bytes<'t, N: Forming>(
     normalizer: &N,
     bytes: &'t [u8],
 ) -> Result<CowStr<'t, Global>, NormalizeError>
-    ensures { HandsOutForm cow_str_bytes IsBorrowedStr
+    ensures { ReturnsForm cow_str_bytes IsBorrowedStr
         (N.made normalizer.now) Encoding.Utf8 bytes.now result }
 {
     let mut owned = String::new(normalizer.allocator());
@@ -128,7 +128,7 @@ fn form_of_utf16<'t, N: Forming>(
     normalizer: &N,
     units: &'t [u16],
 ) -> Result<CowSlice<'t, u16, Global>, NormalizeError>
-    ensures { HandsOutForm cow_slice_items IsBorrowedSlice
+    ensures { ReturnsForm cow_slice_items IsBorrowedSlice
         (N.made normalizer.now) Encoding.Utf16 units.now result }
 {
     let mut owned = Vec::new(normalizer.allocator());
@@ -152,7 +152,7 @@ impl<F: Forming> NormalizerBorrowed<F> {
     /// let key = normalizer.normalize(text)?;
     /// ```
     pub fn normalize<'t>(&self, text: &'t str) -> Result<CowStr<'t, Global>, NormalizeError>
-        ensures { HandsOutFormOfText (F.made self.now.form) (chars text.now) result }
+        ensures { ReturnsFormOfText (F.made self.now.form) (chars text.now) result }
     {
         form_of_utf8(&self.form, text)
     }
@@ -164,7 +164,7 @@ impl<F: Forming> NormalizerBorrowed<F> {
     /// `Memory` if an allocation was refused. If `bytes` are normalized and at most 17 characters are buffered at a
     /// time, none is made.
     pub fn normalize_utf8<'t>(&self, bytes: &'t [u8]) -> Result<CowStr<'t, Global>, NormalizeError>
-        ensures { HandsOutForm cow_str_bytes IsBorrowedStr (F.made self.now.form) Encoding.Utf8 bytes.now result }
+        ensures { ReturnsForm cow_str_bytes IsBorrowedStr (F.made self.now.form) Encoding.Utf8 bytes.now result }
     {
         match str::from_utf8(bytes) {
             Ok(text) => form_of_utf8(&self.form, text),
@@ -182,7 +182,7 @@ impl<F: Forming> NormalizerBorrowed<F> {
         &self,
         units: &'t [u16],
     ) -> Result<CowSlice<'t, u16, Global>, NormalizeError>
-        ensures { HandsOutForm cow_slice_items IsBorrowedSlice
+        ensures { ReturnsForm cow_slice_items IsBorrowedSlice
             (F.made self.now.form) Encoding.Utf16 units.now result }
     {
         form_of_utf16(&self.form, units)

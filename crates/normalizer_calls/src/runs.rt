@@ -1,7 +1,7 @@
 //! The ends of runs of characters that are passed on as they are, and of the segments between them.
 ghost use Rattle.std.specs.Prelude.{◌≡◌, ◌<◌, ◌≤◌, length, take};
 ghost use Rattle.normalizer_input.specs.InputCut.{IsInputNormalized};
-ghost use Rattle.normalizer_calls.specs.inner.Passing.{IsHandedOn, IsPart, IsRunEnd, IsSegmentEnd, next_class};
+ghost use Rattle.normalizer_calls.specs.inner.Passing.{IsPassedOn, IsPart, IsRunEnd, IsSegmentEnd, next_class};
 
 use crate::forming::Forming;
 use normalizer_text::{Chars, Step, Units};
@@ -79,7 +79,7 @@ pub(crate) fn segment_end<U: Units, N: Forming>(normalizer: &N, units: U) -> usi
 /// Returns the end of the front of the units that is passed on as it is: of a run, without the last character if it may
 /// compose with what follows, and without the marks at its end if what follows may be ordered among them.
 pub(crate) fn passed_end<U: Units, N: Forming>(normalizer: &N, units: U) -> usize
-    ensures handed { IsHandedOn (N.passed_class normalizer.now) (N.beginning normalizer.now) N.held_back
+    ensures handed { IsPassedOn (N.passed_class normalizer.now) (N.beginning normalizer.now) N.held_back
         U.encoding (U.units units) result }
     ensures part { let m = N.made normalizer.now in 0 < result → IsPart U.encoding m.reading m.form (U.units units)
         result × IsInputNormalized U.encoding m.reading m.form (take result (U.units units)) }

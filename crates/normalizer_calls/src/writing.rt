@@ -4,7 +4,7 @@ ghost use Rattle.std.specs.Iterator.{IsFinite};
 ghost use Rattle.normalizer_iterators.specs.Items.{SpellsOk, SpellsUnless};
 ghost use Rattle.normalizer_calls.specs.Forms.{form_in, HasShortUnits};
 ghost use Rattle.normalizer_calls.specs.inner.Offences.{IsFirstOrNone};
-ghost use Rattle.normalizer_calls.specs.inner.Passing.{IsHandedOn, IsSegmentEnd};
+ghost use Rattle.normalizer_calls.specs.inner.Passing.{IsPassedOn, IsSegmentEnd};
 ghost use Rattle.normalizer_calls.specs.Writing.{TellsLengthFirst};
 ghost use Rattle.normalizer_calls.specs.inner.Writing.{NothingOffered, WritesPart, WritesText, WritesUnits};
 
@@ -114,7 +114,7 @@ fn write_run<U: Units, N: Forming, O: Output<U>>(
     units: U,
     output: &mut O,
 ) -> Result<usize, NormalizeError>
-    ensures run { IfOk result (IsHandedOn (N.passed_class normalizer.now) (N.beginning normalizer.now) N.held_back
+    ensures run { IfOk result (IsPassedOn (N.passed_class normalizer.now) (N.beginning normalizer.now) N.held_back
         U.encoding (U.units units)) }
     ensures none { IfOk result (λ end. end ≡ 0 → output.new ≡ output.old) }
     ensures part { IfOk result (λ end. 0 < end → WritesPart O.taken O.refused U.encoding

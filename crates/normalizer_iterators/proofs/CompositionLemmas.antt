@@ -16,7 +16,7 @@ use Rattle.normalizer_iterators.specs.Delegate.{Extent, MayGive}
 use Rattle.normalizer_iterators.specs.NextItem.{CameFirst, GaveFirst}
 use Rattle.normalizer_iterators.specs.StayingMarks.{staying}
 use Rattle.normalizer_iterators.specs.MarkRuns.{HasShortMarkRuns}
-use Rattle.normalizer_iterators.specs.inner.Passing.{PassesOn, GivesStarter}
+use Rattle.normalizer_iterators.specs.inner.Passing.{PassesOn, YieldsStarter}
 use Rattle.normalizer_iterators.specs.Composing.{composed_ahead, ahead_left, UnlessEnded, IsBeforeStarter, WillGiveBehind, GivesShort, ComposesStarter}
 use Rattle.normalizer_iterators.specs.Composition.{CanCompose, ComposesOn, CompositionSteps, StaysShort, WillGive, items_left, pairing_by}
 use Rattle.normalizer_iterators.proofs.MarkRunLemmas.{HasShortMarkRuns-rest}
@@ -324,7 +324,7 @@ module _ {I : Type 0} (can : I → Type 0) (gives : I → Option ℕ → I → T
           kept = (on.kept.0 ∙ step.kept.0, on.kept.1);
         }
 
-    pub Goes-first_starter : (c : ℕ) (n : Decomposition I) (r : Result ℕ NormalizeError) (t : Composition I) → GivesStarter can gives left s.decomposed c n
+    pub Goes-first_starter : (c : ℕ) (n : Decomposition I) (r : Result ℕ NormalizeError) (t : Composition I) → YieldsStarter can gives left s.decomposed c n
         → ComposesOn can gives left c n s.pairs.now r t → MakesProgress {A = Result ℕ NormalizeError} (CanCompose can left) (λ v. at_most (items_left left v)) s (Some r) t
     Goes-first_starter c n r t given on = Goes-item s r t on.ready (omega (arith, on.fewer, given.fewer, left_in_source))
 

@@ -21,8 +21,8 @@ use Rattle.normalizer_iterators.specs.declared.error.NormalizeError.TheVariants.
 use Rattle.normalizer_iterators.specs.Composing.{composed_ahead, UnlessEnded}
 use Rattle.normalizer_iterators.specs.Delegate.{ComesBehind, Extent, MayGive}
 use Rattle.normalizer_iterators.specs.Delegate.Extent.{to_end, so_far}
-use Rattle.normalizer_iterators.specs.NextItem.{CameFirst, GivesNext, IsFormOfSource}
-use Rattle.normalizer_iterators.specs.Items.{Answers, GivesForm, GivesFormOfRun, HasEnded, SpellsOk, SpellsUnless}
+use Rattle.normalizer_iterators.specs.NextItem.{CameFirst, YieldsNext, IsFormOfSource}
+use Rattle.normalizer_iterators.specs.Items.{Answers, YieldsForm, YieldsFormOfRun, HasEnded, SpellsOk, SpellsUnless}
 
 -- ---- the next item of an iterator
 
@@ -77,7 +77,7 @@ module _ {S E : Type 0} (gives : S → Option (Result ℕ E) → S → Type 0) w
 
 -- an iterator of normalized text spells what is to come of it
 module _ {S : Type 0} (WillGive : S → List ℕ → Type 0) (StaysShort IsEnded : S → Type 0) (steps : S → Option (Result ℕ NormalizeError) → S → Type 0)
-    (item : (s : S) (r : Option (Result ℕ NormalizeError)) (t : S) → steps s r t → GivesNext WillGive StaysShort IsEnded s r t) where
+    (item : (s : S) (r : Option (Result ℕ NormalizeError)) (t : S) → steps s r t → YieldsNext WillGive StaysShort IsEnded s r t) where
   stays_ended : (s : S) (r : Option (Result ℕ NormalizeError)) (t : S) → IsEnded s → steps s r t → (r ≡ None) × IsEnded t
   stays_ended s r t ended step =
       let gave = item s r t step in
@@ -94,14 +94,14 @@ module _ {S : Type 0} (WillGive : S → List ℕ → Type 0) (StaysShort IsEnded
   pub SpellsUnless-to_come : (s : S) (x : List ℕ) → WillGive s x → SpellsUnless steps Memory s x
   SpellsUnless-to_come s [] h = λ r t step. at_end r t (item s r t step)
     where
-      at_end : (r : Option (Result ℕ NormalizeError)) (t : S) → GivesNext WillGive StaysShort IsEnded s r t
+      at_end : (r : Option (Result ℕ NormalizeError)) (t : S) → YieldsNext WillGive StaysShort IsEnded s r t
           → MatchOption r (HasEnded steps t) (λ i. MatchResult i (λ c. ⊥) (λ e. (e ≡ Memory) × HasEnded steps t))
       at_end None t gave = HasEnded-ended t gave.ends
       at_end (Some (Ok c)) t gave = let first = gave.first [] h in let none : [] ≡ c ∷ first.0 = first.1 in absurd (cc)
       at_end (Some (Err e)) t gave = (gave.fault, HasEnded-ended t gave.ends)
   SpellsUnless-to_come s (c ∷ x) h = λ r t step. at_item (λ u. SpellsUnless-to_come u x) r t (item s r t step)
     where
-      at_item : ((u : S) → WillGive u x → SpellsUnless steps Memory u x) → (r : Option (Result ℕ NormalizeError)) (t : S) → GivesNext WillGive StaysShort IsEnded s r t
+      at_item : ((u : S) → WillGive u x → SpellsUnless steps Memory u x) → (r : Option (Result ℕ NormalizeError)) (t : S) → YieldsNext WillGive StaysShort IsEnded s r t
           → MatchOption r ⊥ (λ i. MatchResult i (λ d. (d ≡ c) × SpellsUnless steps Memory t x) (λ e. (e ≡ Memory) × HasEnded steps t))
       at_item on None t gave = let none : c ∷ x ≡ [] = (gave.first (c ∷ x) h).0 in absurd (cc)
       at_item on (Some (Ok d)) t gave =
@@ -113,7 +113,7 @@ module _ {S : Type 0} (WillGive : S → List ℕ → Type 0) (StaysShort IsEnded
   pub SpellsOk-to_come : (s : S) (x : List ℕ) → WillGive s x → StaysShort s → SpellsOk steps s x
   SpellsOk-to_come s [] h short = record { at = all }
     where
-      at_end : (r : Option (Result ℕ NormalizeError)) (t : S) → GivesNext WillGive StaysShort IsEnded s r t → (r ≡ None) × IsEnded t
+      at_end : (r : Option (Result ℕ NormalizeError)) (t : S) → YieldsNext WillGive StaysShort IsEnded s r t → (r ≡ None) × IsEnded t
       at_end None t gave = (refl, gave.ends)
       at_end (Some (Ok c)) t gave = let first = gave.first [] h in let none : [] ≡ c ∷ first.0 = first.1 in absurd (cc)
       at_end (Some (Err e)) t gave = absurd (cc ((gave.room short).0))
@@ -125,7 +125,7 @@ module _ {S : Type 0} (WillGive : S → List ℕ → Type 0) (StaysShort IsEnded
           All-cons (λ q. q ≡ None) r rs next.0 ((HasEnded-ended answers.0 next.1).at rs t answers.2)
   SpellsOk-to_come s (c ∷ x) h short = λ r t step. at_item (λ u. SpellsOk-to_come u x) r t (item s r t step)
     where
-      at_item : ((u : S) → WillGive u x → StaysShort u → SpellsOk steps u x) → (r : Option (Result ℕ NormalizeError)) (t : S) → GivesNext WillGive StaysShort IsEnded s r t → (r ≡ Some (Ok c))
+      at_item : ((u : S) → WillGive u x → StaysShort u → SpellsOk steps u x) → (r : Option (Result ℕ NormalizeError)) (t : S) → YieldsNext WillGive StaysShort IsEnded s r t → (r ≡ Some (Ok c))
           × SpellsOk steps t x
       at_item on None t gave = let none : c ∷ x ≡ [] = (gave.first (c ∷ x) h).0 in absurd (cc)
       at_item on (Some (Ok d)) t gave =
@@ -153,16 +153,16 @@ module _ {I : Type 0} (can : I → Type 0) (gives : I → Option ℕ → I → T
 
 module _ {I S : Type 0} (source_gives : I → Option ℕ → I → Type 0) (MayCome : Extent → S → List ℕ → Type 0) (WillGive : S → List ℕ → Type 0) (StaysShort IsEnded : S → Type 0)
     (steps : S → Option (Result ℕ NormalizeError) → S → Type 0)
-    (item : (s : S) (r : Option (Result ℕ NormalizeError)) (t : S) → steps s r t → GivesNext WillGive StaysShort IsEnded s r t)
+    (item : (s : S) (r : Option (Result ℕ NormalizeError)) (t : S) → steps s r t → YieldsNext WillGive StaysShort IsEnded s r t)
     (came : (s : S) (r : Option (Result ℕ NormalizeError)) (t : S) → steps s r t → (e : Extent) → CameFirst (MayCome e) s r t) where
   -- what may come after a run may come before it, after what the run yielded
   may_come_before : (e : Extent) (s : S) (xs : List ℕ) (t : S) (out : List ℕ) → Yields steps s (map Ok xs) t → MayCome e t out → MayCome e s (xs ++ out)
   may_come_before e s [] t out run h = subst (λ u. MayCome e u out) (sym run) h
   may_come_before e s (x ∷ xs) t out run h = came s (Some (Ok x)) run.0 run.1 e (xs ++ out) (may_come_before e run.0 xs t out run.2 h)
 
-  GivesFormOfRun-made : ((s : S) → (out : List ℕ) × MayCome so_far s out) → (form : List ℕ → List ℕ) (source : I) (it : S) → IsFormOfSource source_gives MayCome form source it
-      → GivesFormOfRun source_gives steps form source it
-  GivesFormOfRun-made some form source it is = record {
+  YieldsFormOfRun-made : ((s : S) → (out : List ℕ) × MayCome so_far s out) → (form : List ℕ → List ℕ) (source : I) (it : S) → IsFormOfSource source_gives MayCome form source it
+      → YieldsFormOfRun source_gives steps form source it
+  YieldsFormOfRun-made some form source it is = record {
     whole = λ out run.
         let (after, all) = run in
         let (last, yields, end) = all in
@@ -203,16 +203,16 @@ module _ {I : Type 0} (can : I → Type 0) (gives : I → Option ℕ → I → T
         record { unread = y.0; source = unless_ended s.ahead (WillGive (MayGive gives so_far) s.decomposed y.0) y.1; text = refl },
       )
 
-  pub GivesFormOfRun-decomposition : (form : List ℕ → List ℕ) (source : I) (it : Decomposition I) → IsFormOfSource gives (λ e. WillGive (MayGive gives e)) form source it
-      → GivesFormOfRun gives (DecompositionSteps can gives left) form source it
-  GivesFormOfRun-decomposition =
-      GivesFormOfRun-made gives (λ e. WillGive (MayGive gives e)) (WillGive (Spells gives)) (StaysShort gives) IsEnded (DecompositionSteps can gives left)
+  pub YieldsFormOfRun-decomposition : (form : List ℕ → List ℕ) (source : I) (it : Decomposition I) → IsFormOfSource gives (λ e. WillGive (MayGive gives e)) form source it
+      → YieldsFormOfRun gives (DecompositionSteps can gives left) form source it
+  YieldsFormOfRun-decomposition =
+      YieldsFormOfRun-made gives (λ e. WillGive (MayGive gives e)) (WillGive (Spells gives)) (StaysShort gives) IsEnded (DecompositionSteps can gives left)
       (λ s r t step. step.item) (λ s r t step. step.came) some_decomposed
 
-  pub GivesFormOfRun-composition : (form : List ℕ → List ℕ) (source : I) (it : Composition I) → IsFormOfSource gives (λ e. composition.WillGive (MayGive gives e)) form source it
-      → GivesFormOfRun gives (CompositionSteps can gives left) form source it
-  GivesFormOfRun-composition =
-      GivesFormOfRun-made gives (λ e. composition.WillGive (MayGive gives e)) (composition.WillGive (Spells gives)) (composition.StaysShort gives) composition.IsEnded
+  pub YieldsFormOfRun-composition : (form : List ℕ → List ℕ) (source : I) (it : Composition I) → IsFormOfSource gives (λ e. composition.WillGive (MayGive gives e)) form source it
+      → YieldsFormOfRun gives (CompositionSteps can gives left) form source it
+  YieldsFormOfRun-composition =
+      YieldsFormOfRun-made gives (λ e. composition.WillGive (MayGive gives e)) (composition.WillGive (Spells gives)) (composition.StaysShort gives) composition.IsEnded
       (CompositionSteps can gives left) (λ s r t step. step.item) (λ s r t step. step.came) some_composed
 
 -- ---- the result of a constructor
@@ -221,16 +221,16 @@ module _ {I S : Type 0} (source_gives : I → Option ℕ → I → Type 0) (Will
     (unless : (s : S) (x : List ℕ) → WillGive s x → SpellsUnless steps Memory s x) (always : (s : S) (x : List ℕ) → WillGive s x → StaysShort s → SpellsOk steps s x) (f : ℕ
     → Bool) (d : Reading) (form : Reading → List ℕ → List ℕ) (source : I) where
   -- the runs of a text may be short by any reading that has the same lists
-  pub GivesForm-made : (IsMade : S → Type 0) → ((it : S) → IsMade it → GivesFormOfRun source_gives steps (form d) source it)
+  pub YieldsForm-made : (IsMade : S → Type 0) → ((it : S) → IsMade it → YieldsFormOfRun source_gives steps (form d) source it)
       → (IsShort : List ℕ → Type 0) → ((x : List ℕ) → HasShortRuns f d x → IsShort x) → (made : Result S NormalizeError)
       → IfOk made (λ it. (x : List ℕ) → Spells source_gives source x → WillGive it (form d x)) → IfOk made (λ it. (x : List ℕ) → Spells source_gives source x → IsShort x → StaysShort it)
       → ((x : List ℕ) → Spells source_gives source x → IsShort x → IsOk made) → IfOk made IsMade → IsOkUnless made Memory
-      → GivesForm source_gives steps f d form source made
-  GivesForm-made IsMade ran IsShort is_short (Ok it) text short succeeds came refused = record {
+      → YieldsForm source_gives steps f d form source made
+  YieldsForm-made IsMade ran IsShort is_short (Ok it) text short succeeds came refused = record {
     text = λ x h. unless it (form d x) (text x h);
     short = λ x h runs. always it (form d x) (text x h) (short x h (is_short x runs));
     run = ran it came;
     refused = refused;
   }
-  GivesForm-made IsMade ran IsShort is_short (Err e) text short succeeds came refused =
+  YieldsForm-made IsMade ran IsShort is_short (Err e) text short succeeds came refused =
       record { text = tt; short = λ x h runs. absurd (cc (succeeds x h (is_short x runs))); run = tt; refused = refused }

@@ -26,7 +26,7 @@ use Rattle.normalizer_iterators.specs.Delegate.{ComesBehind, Extent, IsReadyBehi
 use Rattle.normalizer_iterators.specs.Decomposition.{StaysShort, WillGive, pending_of, reading_of}
 use Rattle.normalizer_iterators.specs.LazyComposing.{IsPassed, StandsApart, StandsApartIn, PassedBeginAnew, SuitsLazyComposing}
 use Rattle.normalizer_iterators.specs.LazyReading.{longest_list}
-use Rattle.normalizer_iterators.specs.inner.Passing.{AllPassed, StandsAtPassed, IsAtPassed, PassesOn, GivesStarter}
+use Rattle.normalizer_iterators.specs.inner.Passing.{AllPassed, StandsAtPassed, IsAtPassed, PassesOn, YieldsStarter}
 use Rattle.normalizer_iterators.specs.inner.ReadingOn.{ReadsChunk}
 use Rattle.normalizer_iterators.specs.ToCome.{IsToCome, reads_left}
 use Rattle.normalizer_iterators.specs.WaitingList.{ordered}
@@ -212,9 +212,9 @@ module _ {I : Type 0} (can : I → Type 0) (gives : I → Option ℕ → I → T
                 omega (arith, before, after, fewer_by following (size (left t.delegate)) (size (left s.delegate)) both.1);
           }
 
-    pub GivesStarter-next : (t : Decomposition I) (first : ℕ) → t.characters ≡ s.characters → t.ignored ≡ s.ignored
-        → ReadsChunk can gives left (has_class_form s.characters) (reading_of s) c s.delegate first (pending_of t) t.delegate t.waiting → GivesStarter can gives left s first t
-    GivesStarter-next t first characters ignored r =
+    pub YieldsStarter-next : (t : Decomposition I) (first : ℕ) → t.characters ≡ s.characters → t.ignored ≡ s.ignored
+        → ReadsChunk can gives left (has_class_form s.characters) (reading_of s) c s.delegate first (pending_of t) t.delegate t.waiting → YieldsStarter can gives left s first t
+    YieldsStarter-next t first characters ignored r =
         record {
           steps = Steps-chunk can gives left s c pending here.waiting t first characters ignored r;
           starter = λ others. (first_apart.safely first r.others r.members).0;

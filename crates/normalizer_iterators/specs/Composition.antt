@@ -16,7 +16,7 @@ use Rattle.normalizer_iterators.specs.declared.error.NormalizeError.TheVariants.
 use Rattle.normalizer_iterators.specs.Composing.{UnlessEnded, WillGiveBehind, GivesShort, ahead_left}
 use Rattle.normalizer_iterators.specs.Decomposition as decomposition
 use Rattle.normalizer_iterators.specs.Delegate.{Extent, MayGive}
-use Rattle.normalizer_iterators.specs.NextItem.{CameFirst, GaveFirst, GivesNext}
+use Rattle.normalizer_iterators.specs.NextItem.{CameFirst, GaveFirst, YieldsNext}
 use Rattle.normalizer_iterators.specs.StayingMarks.{staying}
 
 module _ {I : Type 0} where
@@ -71,7 +71,7 @@ module _ {I : Type 0} where
   -- what a call of `next` returned and left
   pub record CompositionSteps (can : I → Type 0) (gives : I → Option ℕ → I → Type 0) (left : I → Count)
       (s : Composition I) (r : Option (Result ℕ NormalizeError)) (t : Composition I) : Type 0 where
-    pub item : GivesNext (WillGive (Spells gives)) (StaysShort gives) IsEnded s r t
+    pub item : YieldsNext (WillGive (Spells gives)) (StaysShort gives) IsEnded s r t
     pub came : (e : Extent) → CameFirst (WillGive (MayGive gives e)) s r t
     pub ready : CanCompose can left s → CanCompose can left t
     pub kept : (t.decomposed.characters ≡ s.decomposed.characters) × (t.pairs.now ≡ s.pairs.now)

@@ -11,7 +11,7 @@ use Rattle.normalizer_iterators.specs.declared.error.NormalizeError.{NormalizeEr
 use Rattle.normalizer_iterators.specs.declared.waiting.Classed.{Classed}
 use Rattle.normalizer_iterators.specs.Delegate.{Extent, IsReadyBehind, MayGive}
 use Rattle.normalizer_iterators.specs.LazyReading.{longest_list}
-use Rattle.normalizer_iterators.specs.NextItem.{CameFirst, GivesNext}
+use Rattle.normalizer_iterators.specs.NextItem.{CameFirst, YieldsNext}
 use Rattle.normalizer_iterators.specs.Reads.{character_of}
 use Rattle.normalizer_iterators.specs.ToCome.{IsToCome, AreShortToCome, reads_left}
 use Rattle.normalizer_iterators.specs.WaitingList.{ordered}
@@ -54,7 +54,7 @@ module _ {I : Type 0} where
   -- what a call of `next` returned and left
   pub record DecompositionSteps (can : I → Type 0) (gives : I → Option ℕ → I → Type 0) (left : I → Count)
       (s : Decomposition I) (r : Option (Result ℕ NormalizeError)) (t : Decomposition I) : Type 0 where
-    pub item : GivesNext (WillGive (Spells gives)) (StaysShort gives) IsEnded s r t
+    pub item : YieldsNext (WillGive (Spells gives)) (StaysShort gives) IsEnded s r t
     pub came : (e : Extent) → CameFirst (WillGive (MayGive gives e)) s r t
     pub ready : CanDecompose can left s → CanDecompose can left t
     pub kept : (t.characters ≡ s.characters) × (t.ignored ≡ s.ignored)

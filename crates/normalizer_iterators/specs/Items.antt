@@ -42,7 +42,7 @@ module _ {I S : Type 0} (source_gives : I → Option ℕ → I → Type 0)
   -- characters that came up to the first `None` are the form of what the source yielded up to its own; other
   -- characters, as those before a fault, are the front of the form of what it yielded so far. A fault is `Memory`, and
   -- then comes `None` forever.
-  pub record GivesFormOfRun (form : List ℕ → List ℕ) (source : I) (it : S) : Type 0 where
+  pub record YieldsFormOfRun (form : List ℕ → List ℕ) (source : I) (it : S) : Type 0 where
     pub whole : (out : List ℕ) → Drains gives it (map Ok out) → (x : List ℕ)
         × Drains source_gives source x × (out ≡ form x)
     pub front : (out : List ℕ) (now : S) → Yields gives it (map Ok out) now → (x : List ℕ)
@@ -51,10 +51,10 @@ module _ {I S : Type 0} (source_gives : I → Option ℕ → I → Type 0)
         → (e ≡ Memory) × HasEnded gives now
 
   -- the form of each text that the source spells, unless memory is refused, which it never is over short runs
-  pub record GivesForm (has_class_form : ℕ → Bool) (d : Reading) (form : Reading → List ℕ → List ℕ) (source : I)
+  pub record YieldsForm (has_class_form : ℕ → Bool) (d : Reading) (form : Reading → List ℕ → List ℕ) (source : I)
       (made : Result S NormalizeError) : Type 0 where
     pub text : IfOk made (λ it. (x : List ℕ) → Spells source_gives source x → SpellsUnless gives Memory it (form d x))
     pub short : (x : List ℕ) → Spells source_gives source x → HasShortRuns has_class_form d x
         → IsOkAnd made (λ it. SpellsOk gives it (form d x))
-    pub run : IfOk made (GivesFormOfRun (form d) source)
+    pub run : IfOk made (YieldsFormOfRun (form d) source)
     pub refused : IsOkUnless made Memory

@@ -24,7 +24,7 @@ CameFirst MayCome s r t =
 -- A call from s returned r and left t: the first character of what was to come, or None if nothing was; or the fault
 -- `Memory`. After a fault and after None nothing is to come, and None comes forever. If all runs that are to come are
 -- short, there is no fault.
-pub record GivesNext {S : Type 0} (WillGive : S → List ℕ → Type 0) (StaysShort IsEnded : S → Type 0) (s : S)
+pub record YieldsNext {S : Type 0} (WillGive : S → List ℕ → Type 0) (StaysShort IsEnded : S → Type 0) (s : S)
     (r : Option (Result ℕ NormalizeError)) (t : S) : Type 0 where
   pub first : (out : List ℕ) → WillGive s out → MatchOption r ((out ≡ []) × WillGive t [])
       (λ item. MatchResult item (GaveFirst WillGive out t) (λ _. WillGive t []))

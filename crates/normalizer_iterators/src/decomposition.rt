@@ -11,7 +11,7 @@ ghost use Rattle.normalizer_tables.specs.Readings.{reading_by};
 ghost use Rattle.normalizer_tables.specs.declared.characters.IgnoredCharacters.TheVariants.{Dropped};
 ghost use Rattle.normalizer_text.specs.Steps.{Spells};
 ghost use Rattle.normalizer_iterators.specs.Delegate.{HasRead, IsReadyBehind, MayGive};
-ghost use Rattle.normalizer_iterators.specs.Items.{GivesForm};
+ghost use Rattle.normalizer_iterators.specs.Items.{YieldsForm};
 ghost use Rattle.normalizer_iterators.specs.LazyReading.{SuitsLazyReading};
 ghost use Rattle.normalizer_iterators.specs.NextItem.{IsFormOfSource};
 ghost use Rattle.normalizer_iterators.specs.WaitingList.{AgreesWith, ordered, unordered};
@@ -74,7 +74,7 @@ impl<'data, I: Iterator<Item = char> + Drop> Decomposition<'data, I> {
         requires can { I.can_next delegate }
         requires ends { IsFinite (I.remaining delegate) }
         requires sound { IsSoundNfdData decompositions.now tables.now }
-        ensures form { GivesForm I.next_gives ⟦<Decomposition<'data, I> as Iterator>⟧.next_gives
+        ensures form { YieldsForm I.next_gives ⟦<Decomposition<'data, I> as Iterator>⟧.next_gives
             (has_class_form (characters_from decompositions.now tables.now None))
             (reading_by (characters_from decompositions.now tables.now None) Dropped []) nfd delegate result }
         ensures ready { IfOk result ⟦<Decomposition<'data, I> as Iterator>⟧.can_next }
@@ -208,7 +208,7 @@ pub fn decomposed<'data, I: Iterator<Item = char> + Drop>(
     requires can { I.can_next delegate }
     requires ends { IsFinite (I.remaining delegate) }
     requires suits { SuitsLazyReading (has_class_form characters) (reading_by characters ignored []) }
-    ensures form { GivesForm I.next_gives ⟦<Decomposition<'data, I> as Iterator>⟧.next_gives
+    ensures form { YieldsForm I.next_gives ⟦<Decomposition<'data, I> as Iterator>⟧.next_gives
         (has_class_form characters.entry)
         (reading_by characters.entry ignored []) nfd delegate result }
     ensures ready { IfOk result ⟦<Decomposition<'data, I> as Iterator>⟧.can_next }

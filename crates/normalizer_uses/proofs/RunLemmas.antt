@@ -1,7 +1,7 @@
 -- Runs of iterators whose calls may fail.
 use Rattle.std.proofs.Common.{◌≡◌, ℕ, List, [], ◌∷◌, ◌++◌, map, Option, Some, Result, Ok, Err, refl, sym, subst, MatchResult, IfOk, IsOkUnless, ◌⊎◌, inl, inr}
 use Rattle.std.specs.Iterator.{Drains, Yields}
-use Rattle.normalizer_iterators.specs.Items.{GivesFormOfRun}
+use Rattle.normalizer_iterators.specs.Items.{YieldsFormOfRun}
 use Rattle.normalizer_iterators.specs.declared.error.NormalizeError.{NormalizeError}
 use Rattle.normalizer_iterators.specs.declared.error.NormalizeError.TheVariants.{Memory}
 use Rattle.normalizer_uses.specs.Runs.{GaveFault}
@@ -18,7 +18,7 @@ module _ {S : Type 0} (gives : S → Option (Result ℕ NormalizeError) → S �
   Yields-more s (b ∷ out) t c u run step = (run.0, run.1, Yields-more run.0 out t c u run.2 step)
 
   -- a fault that came of an iterator of normalized text is `Memory`
-  pub IsOkUnless-run : {A I : Type 0} (source_gives : I → Option ℕ → I → Type 0) (form : List ℕ → List ℕ) (source : I) (s : S) → GivesFormOfRun source_gives gives form source s
+  pub IsOkUnless-run : {A I : Type 0} (source_gives : I → Option ℕ → I → Type 0) (form : List ℕ → List ℕ) (source : I) (s : S) → YieldsFormOfRun source_gives gives form source s
       → (Is : A → Type 0) (r : Result A NormalizeError) → MatchResult r Is (λ e. (e ≡ Memory) ⊎ GaveFault gives s e) → IsOkUnless r Memory
   IsOkUnless-run source_gives form source s run Is (Ok a) h = tt
   IsOkUnless-run source_gives form source s run Is (Err e) (inl memory) = memory

@@ -79,7 +79,7 @@ HasHeldBack e units run end =
 
 -- the part of a run that is passed on: all of it if the units end; all but the last character if that is held back; all
 -- but the marks at its end, unless the next character begins apart
-pub record IsHandedOn (passed : ℕ → Option ℕ) (beginning : ℕ → Bool) (held_back : Bool) (e : Encoding)
+pub record IsPassedOn (passed : ℕ → Option ℕ) (beginning : ℕ → Bool) (held_back : Bool) (e : Encoding)
     (units : List ℕ) (end : ℕ) : Type 0 where
   pub marks : ℕ
   pub run : ℕ

@@ -51,7 +51,7 @@ module _ {I : Type 0} where
     pub fewer : items_left left t < items_left left s
 
   -- the first member of a list was yielded, a starter
-  pub record GivesStarter (can : I → Type 0) (gives : I → Option ℕ → I → Type 0) (left : I → Count)
+  pub record YieldsStarter (can : I → Type 0) (gives : I → Option ℕ → I → Type 0) (left : I → Count)
       (s : Decomposition I) (c : ℕ) (t : Decomposition I) : Type 0 where
     pub steps : DecompositionSteps can gives left s (Some (Ok c)) t
     pub starter : (pairs : List Pair) → IsStarter (reading_by s.characters Dropped pairs) c
@@ -63,4 +63,4 @@ module _ {I : Type 0} where
   Passes can gives left pairs s (Some (Err e)) t =
       DecompositionSteps can gives left s (Some (Err e)) t × (items_left left t < items_left left s)
   Passes can gives left pairs s (Some (Ok (Itself c))) t = PassesOn can gives left pairs s c t
-  Passes can gives left pairs s (Some (Ok (FirstMember c))) t = GivesStarter can gives left s c t
+  Passes can gives left pairs s (Some (Ok (FirstMember c))) t = YieldsStarter can gives left s c t

@@ -1,12 +1,12 @@
 use Rattle.std.proofs.Common.{arith, inl, inr, sym}
-use Rattle.normalizer_calls.proofs.RunParts.{HasHeldBack-last, HasHeldBack-none, IsHandedOn-apart, IsHandedOn-before_marks, IsHandedOn-held, IsHandedOn-to_end}
+use Rattle.normalizer_calls.proofs.RunParts.{HasHeldBack-last, HasHeldBack-none, IsPassedOn-apart, IsPassedOn-before_marks, IsPassedOn-held, IsPassedOn-to_end}
 use Rattle.normalizer_calls.proofs.RunLemmas.{IsRun-le}
 use Rattle.normalizer_calls.proofs.RunParts.{passed_apart, passed_before_marks, passed_held, passed_to_end}
 use Rattle.normalizer_calls.proofs.runs.passed_end.Goals as goal
 use Rattle.normalizer_calls.proofs.runs.passed_end.Goals.{else-run-via-then-run+else-begins, else-run-via-else-run}
 
 pub returns-then-run-len-clause-handed : goal.returns-then-run-len-clause-handed
-returns-then-run-len-clause-handed g c = IsHandedOn-to_end _ _ _ _ _ _ _ c.run_end-run.ensures _ c.len.ensures c.if-run-len.true
+returns-then-run-len-clause-handed g c = IsPassedOn-to_end _ _ _ _ _ _ _ c.run_end-run.ensures _ c.len.ensures c.if-run-len.true
 
 pub returns-then-run-len-clause-part : goal.returns-then-run-len-clause-part
 returns-then-run-len-clause-part g c =
@@ -15,7 +15,7 @@ returns-then-run-len-clause-part g c =
 
 pub returns-in-Some-clause-handed : goal.returns-in-Some-clause-handed
 returns-in-Some-clause-handed g c =
-    IsHandedOn-held _ _ _ _ _ _ _ c.run_end-run.ensures _ c.len.ensures c.if-run-len.false (sym c.if-holds_back.ensures) _
+    IsPassedOn-held _ _ _ _ _ _ _ c.run_end-run.ensures _ c.len.ensures c.if-run-len.false (sym c.if-holds_back.ensures) _
     (HasHeldBack-last _ _ _ _ _ c.run_end-run.ensures _ c.before-then-holds_back.ensures _ c.in-Some.ensures)
 
 pub returns-in-Some-clause-part : goal.returns-in-Some-clause-part
@@ -25,7 +25,7 @@ returns-in-Some-clause-part g c =
 
 pub returns-in-None-clause-handed : goal.returns-in-None-clause-handed
 returns-in-None-clause-handed g c =
-    IsHandedOn-held _ _ _ _ _ _ _ c.run_end-run.ensures _ c.len.ensures c.if-run-len.false (sym c.if-holds_back.ensures) _
+    IsPassedOn-held _ _ _ _ _ _ _ c.run_end-run.ensures _ c.len.ensures c.if-run-len.false (sym c.if-holds_back.ensures) _
     (HasHeldBack-none _ _ _ _ _ c.run_end-run.ensures _ c.before-then-holds_back.ensures c.in-None.ensures)
 
 pub step_at-requires : goal.step_at-requires
@@ -35,7 +35,7 @@ step_at-requires g c =
 
 pub returns-then-begins-clause-handed : goal.returns-then-begins-clause-handed
 returns-then-begins-clause-handed g c =
-    IsHandedOn-apart _ _ _ _ _ _ _ c.run_end-run.ensures _ c.len.ensures c.if-run-len.false (sym c.if-holds_back.ensures) (rw c.step_at.ensures at (sym c.if-begins.ensures))
+    IsPassedOn-apart _ _ _ _ _ _ _ c.run_end-run.ensures _ c.len.ensures c.if-run-len.false (sym c.if-holds_back.ensures) (rw c.step_at.ensures at (sym c.if-begins.ensures))
 
 pub returns-then-begins-clause-part : goal.returns-then-begins-clause-part
 returns-then-begins-clause-part g c =
@@ -45,7 +45,7 @@ returns-then-begins-clause-part g c =
 pub returns-clause-handed : goal.returns-clause-handed
 returns-clause-handed g c =
     let le = (IsRun-le _ _ _ _ _ _ c.run_end-run.ensures.run).0 in
-    IsHandedOn-before_marks _ _ _ _ _ _ _ c.run_end-run.ensures _ c.len.ensures c.if-run-len.false (sym c.if-holds_back.ensures)
+    IsPassedOn-before_marks _ _ _ _ _ _ _ c.run_end-run.ensures _ c.len.ensures c.if-run-len.false (sym c.if-holds_back.ensures)
     (elim c.else-run.branch [
       | else-run-via-then-run+else-begins w ↦ inr (rw w.step_at.ensures at (sym w.if-begins.ensures))
       | else-run-via-else-run w ↦ inl (omega (arith, w.if-run.false))

@@ -7,7 +7,7 @@ use Rattle.normalizer_text.specs.Steps.{Spells}
 use Rattle.normalizer_iterators.specs.Delegate.{MayGive}
 use Rattle.normalizer_iterators.specs.NextItem.{IsFormOfSource}
 use Rattle.normalizer_iterators.specs.Decomposition.{WillGive, StaysShort, DecompositionSteps}
-use Rattle.normalizer_iterators.proofs.ItemLemmas.{GivesForm-made, GivesFormOfRun-decomposition, SpellsOk-decomposition, SpellsUnless-decomposition}
+use Rattle.normalizer_iterators.proofs.ItemLemmas.{YieldsForm-made, YieldsFormOfRun-decomposition, SpellsOk-decomposition, SpellsUnless-decomposition}
 use Rattle.normalizer_iterators.proofs.decomposition.decomposed.Goals as goal
 
 pub returns-clause-form : goal.returns-clause-form
@@ -16,9 +16,9 @@ returns-clause-form g c =
     let gives = g.I.Iterator.next_gives in
     let left = g.I.Iterator.remaining in
     let made = c.over.ensures in
-    GivesForm-made gives (WillGive (Spells gives)) (StaysShort gives) (DecompositionSteps can gives left) (SpellsUnless-decomposition can gives left) (SpellsOk-decomposition can gives left)
+    YieldsForm-made gives (WillGive (Spells gives)) (StaysShort gives) (DecompositionSteps can gives left) (SpellsUnless-decomposition can gives left) (SpellsOk-decomposition can gives left)
     (has_class_form c.args.characters) (reading_by c.args.characters c.args.ignored []) nfd c.args.delegate
     (IsFormOfSource gives (λ e. WillGive (MayGive gives e)) (nfd (reading_by c.args.characters c.args.ignored [])) c.args.delegate)
-    (GivesFormOfRun-decomposition can gives left (nfd (reading_by c.args.characters c.args.ignored [])) c.args.delegate)
+    (YieldsFormOfRun-decomposition can gives left (nfd (reading_by c.args.characters c.args.ignored [])) c.args.delegate)
     (HasShortRuns (has_class_form c.args.characters) (reading_by c.args.characters c.args.ignored [])) (λ x runs. runs)
     c.over.result made.text made.short made.succeeds made.came made.refused

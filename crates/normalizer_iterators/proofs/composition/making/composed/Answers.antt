@@ -8,7 +8,7 @@ use Rattle.normalizer_iterators.specs.Delegate.{MayGive}
 use Rattle.normalizer_iterators.specs.NextItem.{IsFormOfSource}
 use Rattle.normalizer_iterators.specs.Composition.{WillGive, StaysShort, CompositionSteps}
 use Rattle.normalizer_iterators.proofs.ComposingLemmas.{HasShortRuns-reading_by}
-use Rattle.normalizer_iterators.proofs.ItemLemmas.{GivesForm-made, GivesFormOfRun-composition, SpellsOk-composition, SpellsUnless-composition}
+use Rattle.normalizer_iterators.proofs.ItemLemmas.{YieldsForm-made, YieldsFormOfRun-composition, SpellsOk-composition, SpellsUnless-composition}
 use Rattle.normalizer_iterators.proofs.composition.making.composed.Goals as goal
 
 pub returns-clause-form : goal.returns-clause-form
@@ -18,8 +18,8 @@ returns-clause-form g c =
     let left = g.I.Iterator.remaining in
     let s = c.args.characters in
     let made = c.over.ensures in
-    GivesForm-made gives (WillGive (Spells gives)) (StaysShort gives) (CompositionSteps can gives left) (SpellsUnless-composition can gives left) (SpellsOk-composition can gives left)
+    YieldsForm-made gives (WillGive (Spells gives)) (StaysShort gives) (CompositionSteps can gives left) (SpellsUnless-composition can gives left) (SpellsOk-composition can gives left)
     (has_class_form s) (reading_by s c.args.ignored c.args.pairs.now) nfc c.args.delegate
     (IsFormOfSource gives (λ e. WillGive (MayGive gives e)) (nfc (reading_by s c.args.ignored c.args.pairs.now)) c.args.delegate)
-    (GivesFormOfRun-composition can gives left (nfc (reading_by s c.args.ignored c.args.pairs.now)) c.args.delegate) (HasShortRuns (has_class_form s) (reading_by s c.args.ignored []))
+    (YieldsFormOfRun-composition can gives left (nfc (reading_by s c.args.ignored c.args.pairs.now)) c.args.delegate) (HasShortRuns (has_class_form s) (reading_by s c.args.ignored []))
     (HasShortRuns-reading_by (has_class_form s) s c.args.ignored c.args.pairs.now) c.over.result made.text made.short made.succeeds made.came made.refused

@@ -4,7 +4,7 @@ use Rattle.normalizer_iterators.specs.LazyComposing.{StandsApartIn}
 use Rattle.normalizer_iterators.specs.Reads.{character_of}
 use Rattle.normalizer_iterators.proofs.DecompositionLemmas.{Steps-ended, Steps-read, Goes-read, ready_behind}
 use Rattle.normalizer_iterators.proofs.ReadingLemmas.{HasRead-as, IsReadyBehind-next}
-use Rattle.normalizer_iterators.proofs.PassingLemmas.{all_anew, all_apart, PassesOn-next, GivesStarter-next}
+use Rattle.normalizer_iterators.proofs.PassingLemmas.{all_anew, all_apart, PassesOn-next, YieldsStarter-next}
 use Rattle.normalizer_iterators.proofs.composition.passing.pass_next.Goals as goal
 
 pub next-requires : goal.next-requires
@@ -63,7 +63,7 @@ returns-in-Ok g c = λ pairs suits here.
     let ready = ready_behind g.I.Iterator.can_next g.I.Iterator.remaining s c.in_ok-read.read.character pending c.requires.can in
     let near = c.next.ensures.goes.on ready.1 in
     let read = HasRead-as g.I.Iterator.can_next g.I.Iterator.next_gives g.I.Iterator.remaining _ _ _ _ c.read_from-following.ensures.character c.next.ensures.steps near in
-    GivesStarter-next g.I.Iterator.can_next g.I.Iterator.next_gives g.I.Iterator.remaining pairs s here c.args.bounds suits c.in_ok-read.read.character pending _ c.in-Ok.first c.in-Ok.ensures.kept.0
+    YieldsStarter-next g.I.Iterator.can_next g.I.Iterator.next_gives g.I.Iterator.remaining pairs s here c.args.bounds suits c.in_ok-read.read.character pending _ c.in-Ok.first c.in-Ok.ensures.kept.0
     c.in-Ok.ensures.kept.1 (c.in-Ok.ensures.ok s.delegate read)
 
 pub returns-in-Err : goal.returns-in-Err
