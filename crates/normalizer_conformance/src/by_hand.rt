@@ -11,21 +11,30 @@ use icu_normalizer::{
 };
 use std::alloc::Global;
 
-/// The words of one kind that rows set, if they set any.
-#[derive(Drop)]
-struct Words {
-    is_given: bool,
+/// What rows set of one kind of data.
+pub struct Part {
+    has_words: bool,
     ranges: Vec<Range>,
     past: u32,
     cap: u16,
-}
-
-/// The lists that words of one kind point into, if rows set any.
-#[derive(Drop)]
-struct Lists {
-    is_given: bool,
+    has_lists: bool,
     scalars16: Vec<u16>,
     scalars24: Vec<char>,
+}
+
+// Written out, so that each place that drops one makes one call.
+impl Drop for Part {
+    fn drop(self) {
+        let Part {
+            has_words: _,
+            ranges: _ranges,
+            past: _,
+            cap: _,
+            has_lists: _,
+            scalars16: _scalars16,
+            scalars24: _scalars24,
+        } = self;
+    }
 }
 
 /// Second character, first character and composite.
@@ -34,15 +43,10 @@ type Pair = (char, char, char);
 /// Whether a row sets a part of data, or removes one.
 pub fn gives_data(row: &[&str]) -> bool {
     match row {
-        [name, part] if *name == "no" && *part == "pairs" => true,
-        [name, kind, ..] if is_kind(kind) => is_of_kind(name),
-        [name, ..] => matches!(*name, "pairs" | "pair"),
+        [name, "nfd" | "nfkd" | "uts46" | "supplement", ..] => is_of_kind(name),
+        [name, ..] => matches!(*name, "pairs" | "pair") || matches!(row, ["no", "pairs"]),
         [] => false,
     }
-}
-
-fn is_kind(word: &str) -> bool {
-    matches!(word, "nfd" | "nfkd" | "uts46" | "supplement")
 }
 
 fn is_of_kind(name: &str) -> bool {
@@ -54,35 +58,51 @@ fn is_of_kind(name: &str) -> bool {
 
 /// The numbers that a word such as `1161..1175` says, or that of one alone, twice.
 pub fn numbers(word: &str) -> Result<(u32, u32), Fault> {
-    match word.split_once("..") {
-        Some((first, last)) => Ok((hexadecimal(first)?, hexadecimal(last)?)),
-        None => {
-            let number = hexadecimal(word)?;
-            Ok((number, number))
-        }
-    }
+    let (first, last) = word.split_once("..").unwrap_or((word, word));
+    Ok((hexadecimal(first)?, hexadecimal(last)?))
 }
 
-impl Words {
-    fn none(alloc: Global) -> Words {
-        Words {
-            is_given: false,
+impl Part {
+    /// What rows set of a kind.
+    pub fn of(alloc: Global, rows: &[&str], kind: &str) -> Result<Part, Fault> {
+        let mut part = Part {
+            has_words: false,
             ranges: Vec::new(alloc),
             past: 0,
             cap: 0,
-        }
+            has_lists: false,
+            scalars16: Vec::new(alloc),
+            scalars24: Vec::new(alloc),
+        };
+        part.take_all(alloc, rows, kind)?;
+        Ok(part)
     }
 
-    /// Takes one more row.
+    fn take_all(&mut self, alloc: Global, rows: &[&str], kind: &str) -> Result<(), Fault> {
+        for row in rows {
+            if let [name, of, rest @ ..] = words(alloc, row)?.as_slice() {
+                if *of == kind {
+                    self.take(alloc, name, rest)?;
+                }
+            }
+        }
+        Ok(())
+    }
+
     fn take(&mut self, alloc: Global, name: &str, rest: &[&str]) -> Result<(), Fault> {
         match name {
             "range" => self.take_range(alloc, rest)?,
             "cap" => self.cap = u16::read(only(rest)?)?,
             "past" => self.past = hexadecimal(only(rest)?)?,
-            "no" => return self.take_none(alloc, only(rest)?),
-            _ => return Ok(()),
+            "scalars16" => self.scalars16 = all(alloc, rest)?,
+            "scalars24" => self.scalars24 = all(alloc, rest)?,
+            _ => return self.take_none(only(rest)?),
         }
-        self.is_given = true;
+        if name.starts_with("scalars") {
+            self.has_lists = true;
+        } else {
+            self.has_words = true;
+        }
         Ok(())
     }
 
@@ -95,30 +115,54 @@ impl Words {
         Ok(())
     }
 
-    fn take_none(&mut self, alloc: Global, part: &str) -> Result<(), Fault> {
-        if part == "words" {
-            *self = Words::none(alloc);
+    fn take_none(&mut self, part: &str) -> Result<(), Fault> {
+        match part {
+            "lists" => self.has_lists = false,
+            "words" => {
+                self.has_words = false;
+                self.ranges.clear();
+            }
+            _ => return Err(Fault::Unreadable),
         }
         Ok(())
     }
-}
 
-/// The words of a kind that rows set.
-fn words_of(alloc: Global, rows: &[&str], kind: &str) -> Result<Words, Fault> {
-    let mut given = Words::none(alloc);
-    take_words(alloc, &mut given, rows, kind)?;
-    Ok(given)
-}
+    /// The words, as data.
+    pub fn data(&self, alloc: Global) -> Result<Option<DecompositionData>, Fault> {
+        if !self.has_words {
+            return Ok(None);
+        }
+        Ok(Some(DecompositionData {
+            table: CodePointTable::from_ranges(self.ranges.to_vec(alloc)?, self.past)?,
+            passthrough_cap: self.cap,
+        }))
+    }
 
-fn take_words(alloc: Global, given: &mut Words, rows: &[&str], kind: &str) -> Result<(), Fault> {
-    for row in rows {
-        if let [name, of, rest @ ..] = words(alloc, row)?.as_slice() {
-            if *of == kind {
-                given.take(alloc, name, rest)?;
-            }
+    /// The lists, as tables.
+    pub fn tables(&self, alloc: Global) -> Result<Option<DecompositionTables>, Fault> {
+        if !self.has_lists {
+            return Ok(None);
+        }
+        let scalars16 = self.scalars16.to_vec(alloc)?;
+        Ok(Some(DecompositionTables {
+            scalars16: Scalars16::from(scalars16),
+            scalars24: Scalars24::from(self.scalars24.to_vec(alloc)?),
+        }))
+    }
+
+    /// The words and the characters, as a supplement.
+    pub fn supplement(
+        &self,
+        alloc: Global,
+    ) -> Result<Option<NonRecursiveDecompositionSupplement>, Fault> {
+        match self.data(alloc)? {
+            None => Ok(None),
+            Some(data) => Ok(Some(NonRecursiveDecompositionSupplement {
+                table: data.table,
+                scalars24: Scalars24::from(self.scalars24.to_vec(alloc)?),
+            })),
         }
     }
-    Ok(())
 }
 
 /// The one word.
@@ -129,60 +173,16 @@ fn only<'a>(rest: &[&'a str]) -> Result<&'a str, Fault> {
     }
 }
 
-impl Lists {
-    fn none(alloc: Global) -> Lists {
-        Lists {
-            is_given: false,
-            scalars16: Vec::new(alloc),
-            scalars24: Vec::new(alloc),
-        }
-    }
-
-    /// Takes one more row.
-    fn take(&mut self, alloc: Global, name: &str, rest: &[&str]) -> Result<(), Fault> {
-        match name {
-            "scalars16" => self.scalars16 = all(alloc, rest)?,
-            "scalars24" => self.scalars24 = all(alloc, rest)?,
-            "no" => return self.take_none(alloc, only(rest)?),
-            _ => return Ok(()),
-        }
-        self.is_given = true;
-        Ok(())
-    }
-
-    fn take_none(&mut self, alloc: Global, part: &str) -> Result<(), Fault> {
-        if part == "lists" {
-            *self = Lists::none(alloc);
-        }
-        Ok(())
-    }
-}
-
-/// The lists of a kind that rows set.
-fn lists_of(alloc: Global, rows: &[&str], kind: &str) -> Result<Lists, Fault> {
-    let mut given = Lists::none(alloc);
-    take_lists(alloc, &mut given, rows, kind)?;
-    Ok(given)
-}
-
-fn take_lists(alloc: Global, given: &mut Lists, rows: &[&str], kind: &str) -> Result<(), Fault> {
-    for row in rows {
-        if let [name, of, rest @ ..] = words(alloc, row)?.as_slice() {
-            if *of == kind {
-                given.take(alloc, name, rest)?;
-            }
-        }
-    }
-    Ok(())
-}
-
-/// The pairs that rows set.
-fn pairs_of(alloc: Global, rows: &[&str]) -> Result<Option<Vec<Pair>>, Fault> {
+/// The pairs that rows set, as data.
+pub fn compositions(alloc: Global, rows: &[&str]) -> Result<Option<CanonicalCompositions>, Fault> {
     let mut found = None;
     for row in rows {
         found = next_pairs(alloc, found, words(alloc, row)?.as_slice())?;
     }
-    Ok(found)
+    match found {
+        Some(pairs) => Ok(Some(CanonicalCompositions::from_pairs(pairs)?)),
+        None => Ok(None),
+    }
 }
 
 /// The pairs after one more row.
@@ -192,82 +192,20 @@ fn next_pairs(
     row: &[&str],
 ) -> Result<Option<Vec<Pair>>, Fault> {
     match row {
-        [name, characters @ ..] if *name == "pairs" => Ok(Some(pairs(alloc, characters)?)),
-        [name, second, first, composite] if *name == "pair" => {
-            let mut pairs = found.unwrap_or(Vec::new(alloc));
-            pairs.push((character(second)?, character(first)?, character(composite)?))?;
-            Ok(Some(pairs))
-        }
-        [name, part] if *name == "no" && *part == "pairs" => Ok(None),
+        ["pairs", characters @ ..] => with_pairs(Vec::new(alloc), characters),
+        ["pair", characters @ ..] => with_pairs(found.unwrap_or(Vec::new(alloc)), characters),
+        ["no", "pairs"] => Ok(None),
         _ => Ok(found),
     }
 }
 
-/// Pairs, three characters each.
-fn pairs(alloc: Global, characters: &[&str]) -> Result<Vec<Pair>, Fault> {
-    let mut pairs = Vec::new(alloc);
+/// Pairs, and further ones of three characters each.
+fn with_pairs(mut pairs: Vec<Pair>, characters: &[&str]) -> Result<Option<Vec<Pair>>, Fault> {
     for three in characters.chunks(3) {
         let [second, first, composite] = three else {
             return Err(Fault::Unreadable);
         };
         pairs.push((character(second)?, character(first)?, character(composite)?))?;
     }
-    Ok(pairs)
-}
-
-/// The words that rows set, as data.
-pub fn decomposition_data(
-    alloc: Global,
-    rows: &[&str],
-    kind: &str,
-) -> Result<Option<DecompositionData>, Fault> {
-    let given = words_of(alloc, rows, kind)?;
-    if !given.is_given {
-        return Ok(None);
-    }
-    Ok(Some(DecompositionData {
-        table: CodePointTable::from_ranges(given.ranges, given.past)?,
-        passthrough_cap: given.cap,
-    }))
-}
-
-/// The lists that rows set, as tables.
-pub fn decomposition_tables(
-    alloc: Global,
-    rows: &[&str],
-    kind: &str,
-) -> Result<Option<DecompositionTables>, Fault> {
-    let given = lists_of(alloc, rows, kind)?;
-    if !given.is_given {
-        return Ok(None);
-    }
-    Ok(Some(DecompositionTables {
-        scalars16: Scalars16::from(given.scalars16),
-        scalars24: Scalars24::from(given.scalars24),
-    }))
-}
-
-/// The pairs that rows set, as data.
-pub fn compositions(alloc: Global, rows: &[&str]) -> Result<Option<CanonicalCompositions>, Fault> {
-    match pairs_of(alloc, rows)? {
-        Some(pairs) => Ok(Some(CanonicalCompositions::from_pairs(pairs)?)),
-        None => Ok(None),
-    }
-}
-
-/// The supplement that rows set.
-pub fn supplement(
-    alloc: Global,
-    rows: &[&str],
-) -> Result<Option<NonRecursiveDecompositionSupplement>, Fault> {
-    let given = words_of(alloc, rows, "supplement")?;
-    if !given.is_given {
-        return Ok(None);
-    }
-    let table = CodePointTable::from_ranges(given.ranges, given.past)?;
-    let lists = lists_of(alloc, rows, "supplement")?;
-    Ok(Some(NonRecursiveDecompositionSupplement {
-        table,
-        scalars24: Scalars24::from(lists.scalars24),
-    }))
+    Ok(Some(pairs))
 }

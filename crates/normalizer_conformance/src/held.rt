@@ -1,5 +1,8 @@
 //! A provider that may lack each of its parts: it holds what rows make by hand, or what records build.
-use crate::by_hand::{compositions, decomposition_data, decomposition_tables, supplement};
+ghost use Rattle.std.specs.Prelude.{◌≡◌, ◌↔◌, ◌⊎◌, IfOk, IfErr, IsErrOf, IsNone, Some};
+ghost use Rattle.normalizer_tables.specs.declared.provider.DataError.TheVariants.{Memory, Provider};
+
+use crate::by_hand::{Part, compositions};
 use crate::fault::Fault;
 use icu_normalizer::{
     Built, CanonicalCompositions, DataError, DataMarkerInfo, DataProvider, DecompositionData,
@@ -51,30 +54,40 @@ impl Held {
 
     /// Takes what rows make by hand.
     pub fn take_rows(&mut self, alloc: Global, rows: &[&str]) -> Result<(), Fault> {
-        self.take_words(alloc, rows)?;
-        self.take_lists(alloc, rows)?;
+        for kind in ["nfd", "nfkd", "uts46", "supplement"] {
+            self.take_part(alloc, kind, &Part::of(alloc, rows, kind)?)?;
+        }
         self.pairs = compositions(alloc, rows)?;
-        self.supplement = supplement(alloc, rows)?;
         Ok(())
     }
 
-    fn take_words(&mut self, alloc: Global, rows: &[&str]) -> Result<(), Fault> {
-        self.canonical = decomposition_data(alloc, rows, "nfd")?;
-        self.compatibility = decomposition_data(alloc, rows, "nfkd")?;
-        self.mapper = decomposition_data(alloc, rows, "uts46")?;
+    fn take_part(&mut self, alloc: Global, kind: &str, part: &Part) -> Result<(), Fault> {
+        match kind {
+            "nfd" => self.take_canonical(alloc, part)?,
+            "nfkd" => self.take_compatibility(alloc, part)?,
+            "uts46" => self.mapper = part.data(alloc)?,
+            _ => self.supplement = part.supplement(alloc)?,
+        }
         Ok(())
     }
 
-    fn take_lists(&mut self, alloc: Global, rows: &[&str]) -> Result<(), Fault> {
-        self.tables = decomposition_tables(alloc, rows, "nfd")?;
-        self.supplementary = decomposition_tables(alloc, rows, "nfkd")?;
+    fn take_canonical(&mut self, alloc: Global, part: &Part) -> Result<(), Fault> {
+        self.canonical = part.data(alloc)?;
+        self.tables = part.tables(alloc)?;
+        Ok(())
+    }
+
+    fn take_compatibility(&mut self, alloc: Global, part: &Part) -> Result<(), Fault> {
+        self.compatibility = part.data(alloc)?;
+        self.supplementary = part.tables(alloc)?;
         Ok(())
     }
 
     /// Takes all that was built.
     pub fn take_built(&mut self, built: &Built) -> Result<(), Fault> {
         self.take_built_words(built)?;
-        self.take_built_lists(built)?;
+        self.tables = Some(<Built as DataProvider<NormalizerNfdTablesV1>>::load(built)?);
+        self.supplementary = Some(<Built as DataProvider<NormalizerNfkdTablesV1>>::load(built)?);
         self.pairs = Some(<Built as DataProvider<NormalizerNfcV1>>::load(built)?);
         self.supplement = Some(<Built as DataProvider<NormalizerNfdSupplementV1>>::load(built)?);
         Ok(())
@@ -86,11 +99,17 @@ impl Held {
         self.mapper = Some(<Built as DataProvider<NormalizerUts46DataV1>>::load(built)?);
         Ok(())
     }
+}
 
-    fn take_built_lists(&mut self, built: &Built) -> Result<(), Fault> {
-        self.tables = Some(<Built as DataProvider<NormalizerNfdTablesV1>>::load(built)?);
-        self.supplementary = Some(<Built as DataProvider<NormalizerNfkdTablesV1>>::load(built)?);
-        Ok(())
+/// A copy of a part, if it is held.
+fn loaded<T: Clone>(part: &Option<T>, marker: DataMarkerInfo) -> Result<T, DataError>
+    ensures ok { ((x : T) (c : T) → T.is_clone x c → c ≡ x) → IfOk result (λ d. part.now ≡ Some d) }
+    ensures missing { IsErrOf result (Provider marker) ↔ IsNone part.now }
+    ensures refused { IfErr result (λ e. (e ≡ Provider marker) ⊎ (e ≡ Memory)) }
+{
+    match part {
+        Some(data) => data.clone().map_err(|_| DataError::Memory),
+        None => Err(DataError::Provider(marker)),
     }
 }
 
@@ -98,13 +117,7 @@ impl DataProvider<NormalizerNfdDataV1> for Held {
     ghost held = { λ p. p.canonical };
 
     fn load(&self) -> Result<DecompositionData, DataError> {
-        match &self.canonical {
-            Some(data) => match data.clone() {
-                Ok(copy) => Ok(copy),
-                Err(_) => Err(DataError::Memory),
-            },
-            None => Err(DataError::Provider(DataMarkerInfo::NormalizerNfdDataV1)),
-        }
+        loaded(&self.canonical, DataMarkerInfo::NormalizerNfdDataV1)
     }
 }
 
@@ -112,13 +125,7 @@ impl DataProvider<NormalizerNfkdDataV1> for Held {
     ghost held = { λ p. p.compatibility };
 
     fn load(&self) -> Result<DecompositionData, DataError> {
-        match &self.compatibility {
-            Some(data) => match data.clone() {
-                Ok(copy) => Ok(copy),
-                Err(_) => Err(DataError::Memory),
-            },
-            None => Err(DataError::Provider(DataMarkerInfo::NormalizerNfkdDataV1)),
-        }
+        loaded(&self.compatibility, DataMarkerInfo::NormalizerNfkdDataV1)
     }
 }
 
@@ -126,13 +133,7 @@ impl DataProvider<NormalizerUts46DataV1> for Held {
     ghost held = { λ p. p.mapper };
 
     fn load(&self) -> Result<DecompositionData, DataError> {
-        match &self.mapper {
-            Some(data) => match data.clone() {
-                Ok(copy) => Ok(copy),
-                Err(_) => Err(DataError::Memory),
-            },
-            None => Err(DataError::Provider(DataMarkerInfo::NormalizerUts46DataV1)),
-        }
+        loaded(&self.mapper, DataMarkerInfo::NormalizerUts46DataV1)
     }
 }
 
@@ -140,13 +141,7 @@ impl DataProvider<NormalizerNfdTablesV1> for Held {
     ghost held = { λ p. p.tables };
 
     fn load(&self) -> Result<DecompositionTables, DataError> {
-        match &self.tables {
-            Some(data) => match data.clone() {
-                Ok(copy) => Ok(copy),
-                Err(_) => Err(DataError::Memory),
-            },
-            None => Err(DataError::Provider(DataMarkerInfo::NormalizerNfdTablesV1)),
-        }
+        loaded(&self.tables, DataMarkerInfo::NormalizerNfdTablesV1)
     }
 }
 
@@ -154,13 +149,7 @@ impl DataProvider<NormalizerNfkdTablesV1> for Held {
     ghost held = { λ p. p.supplementary };
 
     fn load(&self) -> Result<DecompositionTables, DataError> {
-        match &self.supplementary {
-            Some(data) => match data.clone() {
-                Ok(copy) => Ok(copy),
-                Err(_) => Err(DataError::Memory),
-            },
-            None => Err(DataError::Provider(DataMarkerInfo::NormalizerNfkdTablesV1)),
-        }
+        loaded(&self.supplementary, DataMarkerInfo::NormalizerNfkdTablesV1)
     }
 }
 
@@ -168,13 +157,7 @@ impl DataProvider<NormalizerNfcV1> for Held {
     ghost held = { λ p. p.pairs };
 
     fn load(&self) -> Result<CanonicalCompositions, DataError> {
-        match &self.pairs {
-            Some(data) => match data.clone() {
-                Ok(copy) => Ok(copy),
-                Err(_) => Err(DataError::Memory),
-            },
-            None => Err(DataError::Provider(DataMarkerInfo::NormalizerNfcV1)),
-        }
+        loaded(&self.pairs, DataMarkerInfo::NormalizerNfcV1)
     }
 }
 
@@ -182,12 +165,6 @@ impl DataProvider<NormalizerNfdSupplementV1> for Held {
     ghost held = { λ p. p.supplement };
 
     fn load(&self) -> Result<NonRecursiveDecompositionSupplement, DataError> {
-        match &self.supplement {
-            Some(data) => match data.clone() {
-                Ok(copy) => Ok(copy),
-                Err(_) => Err(DataError::Memory),
-            },
-            None => Err(DataError::Provider(DataMarkerInfo::NormalizerNfdSupplementV1)),
-        }
+        loaded(&self.supplement, DataMarkerInfo::NormalizerNfdSupplementV1)
     }
 }

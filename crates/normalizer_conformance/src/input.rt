@@ -1,7 +1,10 @@
 //! Inputs as rows write them: characters `0061 0308`, or `bytes 61 CC 88`, or `units 0061 0308`.
+use crate::encoded::{Results, results_of, results_of_text};
 use crate::fault::Fault;
+use crate::normalizer::Normalizer;
+use crate::spelling::{spelled_all, spelled_text};
 use crate::words::{all, character};
-use std::alloc::{AllocError, Global};
+use std::alloc::Global;
 
 /// An input in one of the three encodings.
 #[derive(Drop)]
@@ -15,14 +18,39 @@ impl Input {
     /// The input that words spell.
     pub fn read(alloc: Global, words: &[&str]) -> Result<Input, Fault> {
         match words {
-            [encoding, input @ ..] if *encoding == "bytes" => {
-                Ok(Input::Bytes(all(alloc, input)?))
-            }
-            [encoding, input @ ..] if *encoding == "units" => {
-                Ok(Input::Units(all(alloc, input)?))
-            }
+            ["bytes", input @ ..] => Ok(Input::Bytes(all(alloc, input)?)),
+            ["units", input @ ..] => Ok(Input::Units(all(alloc, input)?)),
             characters => Ok(Input::Text(text(alloc, characters)?)),
         }
+    }
+
+    /// What the calls of a normalizer return for it.
+    pub fn results(&self, alloc: Global, normalizer: &Normalizer) -> Result<Results, Fault> {
+        match self {
+            Input::Text(text) => results_of_text(alloc, normalizer, text),
+            Input::Bytes(bytes) => results_of(alloc, normalizer, bytes.as_slice()),
+            Input::Units(units) => results_of(alloc, normalizer, units.as_slice()),
+        }
+    }
+
+    /// The two parts at a cut.
+    pub fn spelled_parts(&self, alloc: Global, cut: usize) -> Result<String, Fault> {
+        let (front, rest) = match self {
+            Input::Text(text) => {
+                let (front, rest) = text.split_at_checked(cut).ok_or(Fault::Divided)?;
+                (spelled_text(alloc, front)?, spelled_text(alloc, rest)?)
+            }
+            Input::Bytes(bytes) => {
+                let (front, rest) = bytes.split_at_checked(cut).ok_or(Fault::Divided)?;
+                (spelled_all(alloc, front)?, spelled_all(alloc, rest)?)
+            }
+            Input::Units(units) => {
+                let (front, rest) = units.split_at_checked(cut).ok_or(Fault::Divided)?;
+                (spelled_all(alloc, front)?, spelled_all(alloc, rest)?)
+            }
+        };
+        let parts = format!(in alloc; "{front} | {rest}")?;
+        Ok(String::from_str(alloc, parts.trim())?)
     }
 }
 
@@ -33,9 +61,4 @@ pub fn text(alloc: Global, words: &[&str]) -> Result<String, Fault> {
         text.push(character(word)?)?;
     }
     Ok(text)
-}
-
-/// The UTF-16 of a text.
-pub fn utf16(alloc: Global, text: &str) -> Result<Vec<u16>, AllocError> {
-    text.encode_utf16().collect(alloc)
 }

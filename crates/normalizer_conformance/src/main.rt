@@ -1,51 +1,90 @@
 //! Compares results of the library with rows of data. The arguments name files; each row has a question, its input and
 //! the expected result, as `nfc 0061 0308 = 00E4`. Written are the rows with another result, and the number of rows of
 //! each file. A row without `=` sets the data of later questions (`setting`); `questions` has the words of the others.
+//!
+//! `before ROW..` compares the rows once each, and `again ROW..` the last of them three times, so that a script can
+//! refuse each growth of memory of the second time. `before-short FORM` and `again-short FORM` do so for the items of a
+//! text that need none. `refused` has what the status then says.
 #![tactic(auto)]
 
 mod by_hand;
 mod comparison;
+mod encoded;
 mod fault;
 mod held;
 mod input;
-mod normalizers;
+mod normalizer;
 mod questions;
 mod ranges;
 mod record_rows;
+mod refused;
 mod setting;
 mod spelling;
 mod words;
 
-pub use comparison::{Difference, differences, row_count};
-use std::alloc::Global;
+use comparison::{row_count, what_differs, without_comment};
+use refused::Stage;
+use setting::Setting;
 use std::process::ExitCode;
 use std::{env, fs, io};
 
 fn main(rt: HostRuntime) -> ExitCode {
-    match compared(&rt) {
-        Ok(0) => ExitCode::SUCCESS,
-        Ok(_) => ExitCode::from(1),
-        Err(_) => ExitCode::from(2),
+    match status(&rt) {
+        Ok(status) => ExitCode::from(status),
+        Err(_) => ExitCode::from(5),
     }
 }
 
-/// How many rows differ in the files that the arguments name.
-fn compared(rt: &HostRuntime) -> io::Result<usize> {
-    let mut count = 0usize;
-    for file in env::args(rt)?.skip(1) {
-        count = count.saturating_add(compared_file(rt, rt.alloc(), file.as_str())?);
+/// The status for the arguments: 0 if no row differs.
+fn status(rt: &HostRuntime) -> io::Result<u8> {
+    let arguments: Vec<String> = env::args(rt)?.skip(1).collect(rt.alloc())?;
+    let mut names = Vec::new(rt.alloc());
+    for argument in &arguments {
+        names.push(argument.as_str())?;
     }
-    Ok(count)
+    match names.as_slice() {
+        ["before", rows @ ..] => Ok(refused::status(rt.alloc(), Stage::Before, rows)),
+        ["again", rows @ ..] => Ok(refused::status(rt.alloc(), Stage::Again, rows)),
+        ["before-short", form] => Ok(refused::short_status(rt.alloc(), Stage::Before, form)),
+        ["again-short", form] => Ok(refused::short_status(rt.alloc(), Stage::Again, form)),
+        files => compared(rt, files),
+    }
+}
+
+/// Compares the rows of files.
+fn compared(rt: &HostRuntime, files: &[&str]) -> io::Result<u8> {
+    let mut status = 0;
+    for file in files {
+        let text = fs::read_to_string(rt, file)?;
+        if compared_file(rt, file, &text)? > 0 {
+            status = 1;
+        }
+    }
+    Ok(status)
 }
 
 /// Writes how many rows a file has and those that differ, and returns how many differ.
-fn compared_file(rt: &HostRuntime, alloc: Global, file: &str) -> io::Result<usize> {
-    let text = fs::read_to_string(rt, file)?;
-    let found = differences(alloc, text.as_str())?;
-    let count = row_count(text.as_str());
+fn compared_file(rt: &HostRuntime, file: &str, text: &str) -> io::Result<usize> {
+    let count = row_count(text);
     println!(rt; "{file}: {count} rows")?;
-    for difference in &found {
-        println!(rt; "{file}:{difference}")?;
+    let mut setting = Setting::new(rt.alloc());
+    compared_rows(rt, &mut setting, file, text)
+}
+
+fn compared_rows<'a>(
+    rt: &HostRuntime,
+    setting: &mut Setting<'a>,
+    file: &str,
+    text: &'a str,
+) -> io::Result<usize> {
+    let mut count = 0usize;
+    for (place, line) in text.lines().enumerate() {
+        let row = without_comment(line);
+        if let Some(answer) = what_differs(setting, row)? {
+            let number = place.saturating_add(1);
+            println!(rt; "{file}:{number}: {row} answered: {answer}")?;
+            count = count.saturating_add(1);
+        }
     }
-    Ok(found.len())
+    Ok(count)
 }

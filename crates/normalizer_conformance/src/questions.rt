@@ -1,49 +1,88 @@
 //! The questions of rows, a line each.
 use crate::fault::Fault;
+use crate::held::Held;
 use crate::setting::Setting;
 use std::alloc::Global;
 
 mod calls;
 mod data;
 mod decoding;
-mod forms;
 mod mapping;
+mod parts;
 mod plain;
 mod properties;
 mod recorded;
 
 /// The result of a question.
-pub fn answer(
-    alloc: Global,
-    setting: &mut Setting<'_>,
-    question: &[&str],
-) -> Result<String, Fault> {
+pub type Answer = Result<String, Fault>;
+
+/// The result of a question.
+pub fn answer(setting: &mut Setting<'_>, question: &[&str]) -> Answer {
+    let alloc = setting.alloc;
     let [name, rest @ ..] = question else {
         return Err(Fault::Unreadable);
     };
     match *name {
-        "nfd" | "nfc" | "nfkd" | "nfkc" => forms::form(alloc, setting, name, rest),
-        "is" => calls::is_own(alloc, setting, rest),
-        "split" => calls::split(alloc, setting, rest),
-        "offence" => calls::offence(alloc, setting, rest),
-        "owned" => calls::owned(alloc, setting, rest),
-        "unchecked" => forms::unchecked(alloc, setting, rest),
-        "by-records" => forms::by_records(alloc, setting, rest),
-        "plain" | "plain-cut" => plain::asked(alloc, setting, name, rest),
-        "map" | "validate" | "virama" => mapping::asked(alloc, setting, name, rest),
-        "class" => properties::class(alloc, setting, rest),
+        "nfd" | "nfc" | "nfkd" | "nfkc" => of_form(setting, "form", question),
+        "is" | "split" | "offence" | "owned" => of_form(setting, name, rest),
         "compose" => properties::composite(alloc, setting, rest),
-        "decompose" | "shaped" => properties::step(alloc, setting, name, rest),
+        "plain" | "plain-cut" => plain::asked(alloc, setting, name, rest),
+        "by-records" | "build" | "record" | "mapper" | "count" => {
+            of_records(alloc, setting, name, rest)
+        }
         "decode" => decoding::decoded(alloc, rest),
         "head" => decoding::head(alloc, rest),
-        "word" => data::word(alloc, setting, rest),
-        "cap" => data::cap(alloc, setting, rest),
-        "try" => data::constructed(alloc, setting, rest),
-        "check" => data::checked(alloc, setting, rest),
-        "build" => recorded::build(alloc, setting, rest),
-        "record" => recorded::record(alloc, setting, rest),
-        "mapper" => recorded::mapper_record(alloc, setting, rest),
-        "count" => recorded::count(alloc, setting, rest),
+        "every" => decoding::every(alloc, rest),
+        "ranges" => parts::ranges(alloc, rest),
+        "said" if matches!(rest, ["build"]) => recorded::said(setting),
+        _ => of_data(alloc, setting.held()?, name, rest),
+    }
+}
+
+/// The result of a question about an input.
+fn of_form(setting: &mut Setting<'_>, name: &str, question: &[&str]) -> Answer {
+    let [form, input @ ..] = question else {
+        return Err(Fault::Unreadable);
+    };
+    calls::asked(setting.alloc, setting.normalizer(form)?, name, input)
+}
+
+/// The result of a question about records.
+fn of_records(alloc: Global, setting: &Setting<'_>, name: &str, rest: &[&str]) -> Answer {
+    match name {
+        "by-records" => calls::by_records(alloc, setting, rest),
+        "build" => recorded::build(setting, rest),
+        "record" => recorded::record(alloc, setting.records(), rest),
+        "mapper" => recorded::mapper_record(alloc, setting.mapper(), rest),
+        _ => recorded::count(alloc, setting, rest),
+    }
+}
+
+/// The result of a question about data.
+fn of_data(alloc: Global, held: &Held, name: &str, rest: &[&str]) -> Answer {
+    match name {
+        "unchecked" => calls::unchecked(alloc, held, rest),
+        "map" | "validate" | "virama" => mapping::asked(alloc, held, name, rest),
+        "class" => properties::class(alloc, held, rest),
+        "decompose" | "shaped" => properties::step(alloc, held, name, rest),
+        "word" => data::word(alloc, held, rest),
+        "cap" => data::cap(alloc, held, rest),
+        "try" => data::constructed(alloc, held, rest),
+        "check" => data::checked(alloc, held, rest),
+        "said" => data::said(alloc, held, rest),
+        _ => of_parts(alloc, held, name, rest),
+    }
+}
+
+/// The result of a question about parts of data.
+fn of_parts(alloc: Global, held: &Held, name: &str, rest: &[&str]) -> Answer {
+    match name {
+        "joined" => parts::joined(alloc, held, rest),
+        "never-second" => parts::never_second(alloc, held, rest),
+        "seconds" | "blocks" => parts::counted(alloc, held, name, rest),
+        "lists" => parts::lists(alloc, held, rest),
+        "same" => parts::same(alloc, held, rest),
+        "copies" => parts::copies(alloc, held),
         _ => Err(Fault::Unreadable),
     }
 }

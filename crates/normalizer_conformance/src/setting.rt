@@ -2,7 +2,7 @@
 use crate::by_hand::{gives_data, numbers};
 use crate::fault::Fault;
 use crate::held::Held;
-use crate::normalizers::Normalizer;
+use crate::normalizer::{Normalizer, form_named};
 use crate::record_rows::{mapper_record_of, push_records, record_of};
 use crate::words::{character, words};
 use icu_normalizer::{BuildError, Record, Records, Uts46Record};
@@ -10,20 +10,13 @@ use normalizer_rows::{mapper_records, records};
 use normalizer_uses::NormalForm;
 use std::alloc::Global;
 
-/// The source of the data.
-#[derive(Clone, Copy)]
-enum Source {
-    Records,
-    ByHand,
-}
-
 /// What questions are about.
 pub struct Setting<'a> {
-    alloc: Global,
+    pub alloc: Global,
     records: Vec<Record>,
     mapper: Vec<Uts46Record>,
     rows: Vec<&'a str>,
-    source: Source,
+    is_by_hand: bool,
     held: Held,
     is_held: bool,
     normalizer: Option<(NormalForm, Normalizer)>,
@@ -37,7 +30,7 @@ impl Drop for Setting<'_> {
             records: _records,
             mapper: _mapper,
             rows: _rows,
-            source: _source,
+            is_by_hand: _is_by_hand,
             held: _held,
             is_held: _is_held,
             normalizer: _normalizer,
@@ -48,12 +41,17 @@ impl Drop for Setting<'_> {
 impl<'a> Setting<'a> {
     /// No records.
     pub fn new(alloc: Global) -> Setting<'a> {
+        Setting::over(alloc, Vec::new(alloc))
+    }
+
+    /// Data by hand.
+    fn over(alloc: Global, rows: Vec<&'a str>) -> Setting<'a> {
         Setting {
             alloc,
             records: Vec::new(alloc),
             mapper: Vec::new(alloc),
-            rows: Vec::new(alloc),
-            source: Source::Records,
+            rows,
+            is_by_hand: true,
             held: Held::nothing(),
             is_held: false,
             normalizer: None,
@@ -62,20 +60,6 @@ impl<'a> Setting<'a> {
 
     /// The setting for one question: data by hand with further rows.
     pub fn edited(&self, edits: &'a str) -> Result<Setting<'a>, Fault> {
-        let rows = self.edited_rows(edits)?;
-        Ok(Setting {
-            alloc: self.alloc,
-            records: Vec::new(self.alloc),
-            mapper: Vec::new(self.alloc),
-            rows,
-            source: Source::ByHand,
-            held: Held::nothing(),
-            is_held: false,
-            normalizer: None,
-        })
-    }
-
-    fn edited_rows(&self, edits: &'a str) -> Result<Vec<&'a str>, Fault> {
         let mut rows = self.rows.to_vec(self.alloc)?;
         for edit in edits.split(" and ") {
             if !gives_data(&words(self.alloc, edit)?) {
@@ -83,7 +67,7 @@ impl<'a> Setting<'a> {
             }
             rows.push(edit)?;
         }
-        Ok(rows)
+        Ok(Setting::over(self.alloc, rows))
     }
 
     /// Takes a row that sets something: a record, records, or a part of data by hand.
@@ -94,45 +78,64 @@ impl<'a> Setting<'a> {
     }
 
     fn take(&mut self, row: &'a str, words: &[&str]) -> Result<(), Fault> {
+        let [name, rest @ ..] = words else {
+            return Err(Fault::Unreadable);
+        };
+        self.is_by_hand = false;
+        match *name {
+            "record" => self.take_record(rest),
+            "mapper" => self.take_mapper_record(rest),
+            "records" => self.take_records(rest),
+            _ => self.take_row(row, words),
+        }
+    }
+
+    fn take_record(&mut self, words: &[&str]) -> Result<(), Fault> {
+        let [c, words @ ..] = words else {
+            return Err(Fault::Unreadable);
+        };
+        self.records
+            .push(record_of(self.alloc, character(c)?, words)?)?;
+        Ok(())
+    }
+
+    fn take_mapper_record(&mut self, words: &[&str]) -> Result<(), Fault> {
+        let [c, words @ ..] = words else {
+            return Err(Fault::Unreadable);
+        };
+        self.mapper
+            .push(mapper_record_of(self.alloc, character(c)?, words)?)?;
+        Ok(())
+    }
+
+    fn take_records(&mut self, words: &[&str]) -> Result<(), Fault> {
         match words {
-            [name, first, rest @ ..] if *name == "record" => self.take_record(first, rest),
-            [name, first, rest @ ..] if *name == "mapper" => self.take_mapper_record(first, rest),
-            [name, set] if *name == "records" => self.take_set(set),
-            [name, range, rest @ ..] if *name == "records" => {
-                self.source = Source::Records;
+            [set] => self.take_set(set),
+            [range, rest @ ..] => {
                 push_records(self.alloc, &mut self.records, numbers(range)?, rest)
             }
-            [name, part] if *name == "data" && *part == "none" => {
-                self.source = Source::ByHand;
+            [] => Err(Fault::Unreadable),
+        }
+    }
+
+    /// Takes a row of data by hand. `data none` sets none.
+    fn take_row(&mut self, row: &'a str, words: &[&str]) -> Result<(), Fault> {
+        self.is_by_hand = true;
+        if gives_data(words) {
+            self.rows.push(row)?;
+            return Ok(());
+        }
+        match words {
+            ["data", "none"] => {
                 self.rows.clear();
-                Ok(())
-            }
-            row_of_data if gives_data(row_of_data) => {
-                self.source = Source::ByHand;
-                self.rows.push(row)?;
                 Ok(())
             }
             _ => Err(Fault::Unreadable),
         }
     }
 
-    fn take_record(&mut self, c: &str, words: &[&str]) -> Result<(), Fault> {
-        self.source = Source::Records;
-        self.records
-            .push(record_of(self.alloc, character(c)?, words)?)?;
-        Ok(())
-    }
-
-    fn take_mapper_record(&mut self, c: &str, words: &[&str]) -> Result<(), Fault> {
-        self.source = Source::Records;
-        self.mapper
-            .push(mapper_record_of(self.alloc, character(c)?, words)?)?;
-        Ok(())
-    }
-
     /// Takes the records of a set in the place of all before.
     fn take_set(&mut self, set: &str) -> Result<(), Fault> {
-        self.source = Source::Records;
         match set {
             "rows" => {
                 self.records = records(self.alloc)?;
@@ -165,22 +168,19 @@ impl<'a> Setting<'a> {
 
     /// Makes the data.
     fn make(&mut self) -> Result<(), Fault> {
-        match self.source {
-            Source::ByHand => self.held.take_rows(self.alloc, &self.rows),
-            Source::Records => match Records::build(self.alloc, &self.records, &self.mapper) {
-                Ok(built) => self.held.take_built(&built),
-                Err(_) => Err(Fault::Unreadable),
-            },
+        if self.is_by_hand {
+            return self.held.take_rows(self.alloc, &self.rows);
+        }
+        match Records::build(self.alloc, &self.records, &self.mapper) {
+            Ok(built) => self.held.take_built(&built),
+            Err(BuildError::Memory) => Err(Fault::Memory),
+            Err(_) => Err(Fault::Unreadable),
         }
     }
 
     /// The data, which are made once.
     pub fn held(&mut self) -> Result<&Held, Fault> {
-        if !self.is_held {
-            self.make()?;
-            self.is_held = true;
-        }
-        Ok(&self.held)
+        Ok(self.held_and_records()?.0)
     }
 
     /// The data, and the records.
@@ -192,8 +192,9 @@ impl<'a> Setting<'a> {
         Ok((&self.held, &self.records))
     }
 
-    /// The normalizer to a form, which is kept while the form is the same.
-    pub fn normalizer(&mut self, form: NormalForm) -> Result<&Normalizer, Fault> {
+    /// The normalizer to the form of this name, which is kept while the form is the same.
+    pub fn normalizer(&mut self, name: &str) -> Result<&Normalizer, Fault> {
+        let form = form_named(name)?;
         if !self.has_normalizer(form) {
             self.normalizer = Some((form, Normalizer::new(self.held()?, form)?));
         }

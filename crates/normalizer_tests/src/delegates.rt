@@ -1,6 +1,5 @@
 //! How often a delegate is called, and ended iterators, over the record set `rows`.
 use crate::over_rows::{nfc, nfd};
-use icu_normalizer::{ComposingNormalizerBorrowed, DecomposingNormalizerBorrowed};
 use std::alloc::Global;
 use std::cell::Cell;
 
@@ -35,80 +34,40 @@ impl<'a> Iterator for Asked<'a> {
 /// An item, U+0000 for a fault, and how often the delegate was called up to it.
 type Step = (Option<char>, usize);
 
-/// How often the delegate was called when a decomposition was made, and the steps that follow.
-fn decomposing_steps(alloc: Global, answers: &[Option<char>], items: usize) -> Option<Vec<Step>> {
-    let normalizer = nfd(alloc)?;
-    steps_by_decomposing(alloc, &normalizer.as_borrowed(), answers, items)
-}
-
-fn steps_by_decomposing(
-    alloc: Global,
-    normalizer: &DecomposingNormalizerBorrowed,
-    answers: &[Option<char>],
-    items: usize,
-) -> Option<Vec<Step>> {
-    let count = Cell::new(0);
-    let mut decomposition = normalizer
-        .normalize_iter(Asked {
-            answers,
+/// Whether an iterator takes these steps: how often the delegate was called when it was made, and each item.
+macro_rules! takes_steps {
+    ($normalizer:expr, $answers:expr, $steps:expr) => {{
+        let count = Cell::new(0);
+        let asked = Asked {
+            answers: $answers,
             next: 0,
             count: &count,
-        })
-        .ok()?;
-    let mut found = Vec::new(alloc);
-    for place in 0..items {
-        let item = if place == 0 {
-            None
-        } else {
-            decomposition.next()
         };
-        found
-            .push((item.map(|item| item.unwrap_or('\0')), count.get()))
-            .ok()?;
-    }
-    Some(found)
+        match $normalizer.normalize_iter(asked) {
+            Ok(mut items) => {
+                let mut are_right = true;
+                for place in 0..$steps.len() {
+                    let item = if place == 0 { None } else { items.next() };
+                    let step = (item.map(|item| item.unwrap_or('\0')), count.get());
+                    are_right = are_right && step == $steps[place];
+                }
+                are_right
+            }
+            Err(_) => false,
+        }
+    }};
 }
 
 fn is_decomposed_by(alloc: Global, answers: &[Option<char>], steps: &[Step]) -> bool {
-    match decomposing_steps(alloc, answers, steps.len()) {
-        Some(found) => found.as_slice() == steps,
+    match nfd(alloc) {
+        Some(normalizer) => takes_steps!(normalizer.as_borrowed(), answers, steps),
         None => false,
     }
 }
 
-/// The same of a composition.
-fn composing_steps(alloc: Global, answers: &[Option<char>], items: usize) -> Option<Vec<Step>> {
-    let normalizer = nfc(alloc)?;
-    steps_by_composing(alloc, &normalizer.as_borrowed(), answers, items)
-}
-
-fn steps_by_composing(
-    alloc: Global,
-    normalizer: &ComposingNormalizerBorrowed,
-    answers: &[Option<char>],
-    items: usize,
-) -> Option<Vec<Step>> {
-    let count = Cell::new(0);
-    let mut composition = normalizer
-        .normalize_iter(Asked {
-            answers,
-            next: 0,
-            count: &count,
-        })
-        .ok()?;
-    let mut found = Vec::new(alloc);
-    for place in 0..items {
-        let item = if place == 0 { None } else { composition.next() };
-        found
-            .push((item.map(|item| item.unwrap_or('\0')), count.get()))
-            .ok()?;
-    }
-    Some(found)
-}
-
 fn is_composed_by(alloc: Global, answers: &[Option<char>], steps: &[Step]) -> bool {
-    match composing_steps(alloc, answers, steps.len()) {
-        Some(found) => found.as_slice() == steps,
+    match nfc(alloc) {
+        Some(normalizer) => takes_steps!(normalizer.as_borrowed(), answers, steps),
         None => false,
     }
 }

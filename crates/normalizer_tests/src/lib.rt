@@ -2,28 +2,16 @@
 #![tactic(auto)]
 
 #[cfg(test)]
-mod decoding;
-#[cfg(test)]
 mod delegates;
-#[cfg(test)]
-mod handed_in;
-#[cfg(test)]
-mod letters;
 #[cfg(test)]
 mod over_rows;
 #[cfg(test)]
 mod packing;
 #[cfg(test)]
-mod pairs;
-#[cfg(test)]
-mod parts;
+mod program;
 #[cfg(test)]
 mod readme;
 #[cfg(test)]
 mod sinks;
-#[cfg(test)]
-mod step;
-#[cfg(test)]
-mod tables;
 #[cfg(test)]
 mod texts;

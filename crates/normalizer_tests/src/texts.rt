@@ -1,5 +1,9 @@
-//! The printed texts of faults.
-use icu_normalizer::{BuildError, DataError, DataMarkerInfo, NormalizeError, TableError};
+//! The printed texts of faults that no row has, and the places of markers.
+use icu_normalizer::{
+    BuildError, DataError, DataMarker, DataMarkerInfo, NormalizeError, NormalizerNfcV1,
+    NormalizerNfdDataV1, NormalizerNfdSupplementV1, NormalizerNfdTablesV1, NormalizerNfkdDataV1,
+    NormalizerNfkdTablesV1, NormalizerUts46DataV1, TableError,
+};
 use std::alloc::Global;
 use std::fmt::Display;
 
@@ -11,15 +15,14 @@ fn is_shown_as<T: Display>(alloc: Global, value: &T, text: &str) -> bool {
     }
 }
 
-#[test]
-fn faults_of_tables_have_a_text(rt: HostRuntime) {
-    let text = "the ranges of a table overlap, don't rise, or leave the code points";
-    assert!(rt; is_shown_as(rt.alloc(), &TableError::Ranges, text));
-    assert!(rt; is_shown_as(rt.alloc(), &TableError::Memory, "out of memory"));
-}
+const UNFIT: BuildError = BuildError::Unfit {
+    marker: DataMarkerInfo::NormalizerNfdTablesV1,
+    condition: 7,
+};
 
 #[test]
-fn faults_of_normalizing_have_a_text(rt: HostRuntime) {
+fn faults_have_a_text(rt: HostRuntime) {
+    assert!(rt; is_shown_as(rt.alloc(), &TableError::Memory, "out of memory"));
     assert!(rt; is_shown_as(rt.alloc(), &NormalizeError::Memory, "out of memory"));
     assert!(rt;
         is_shown_as(
@@ -28,86 +31,19 @@ fn faults_of_normalizing_have_a_text(rt: HostRuntime) {
             "the sink refused a write"
         )
     );
-}
-
-const MARKER: DataMarkerInfo = DataMarkerInfo::NormalizerNfdTablesV1;
-
-static FAULTS_OF_DATA: [(DataError, &str); 4] = [
-    (
-        DataError::Provider(MARKER),
-        "no data are held for NormalizerNfdTablesV1",
-    ),
-    (
-        DataError::FutureExtension(MARKER),
-        "the data of NormalizerNfdTablesV1 are too large for this version",
-    ),
-    (
-        DataError::Invalid {
-            marker: MARKER,
-            condition: 7,
-        },
-        "the data of NormalizerNfdTablesV1 break condition 7",
-    ),
-    (DataError::Memory, "out of memory"),
-];
-
-/// The first fault of data with another text.
-fn wrong_text_of_data(alloc: Global) -> Option<usize> {
-    FAULTS_OF_DATA
-        .iter()
-        .position(|row| !is_shown_as(alloc, &row.0, row.1))
+    assert!(rt; is_shown_as(rt.alloc(), &DataError::Memory, "out of memory"));
+    assert!(rt; is_shown_as(rt.alloc(), &BuildError::Memory, "out of memory"));
+    let text = "the data of NormalizerNfdTablesV1 break condition 7";
+    assert!(rt; is_shown_as(rt.alloc(), &UNFIT, text));
 }
 
 #[test]
-fn faults_of_data_have_a_text(rt: HostRuntime) {
-    assert_eq!(rt; wrong_text_of_data(rt.alloc()), None);
-}
-
-static FAULTS_OF_RECORDS: [(BuildError, &str); 10] = [
-    (
-        BuildError::Order,
-        "the records don't strictly rise by character",
-    ),
-    (
-        BuildError::Fixed,
-        "a record of U+FFFD, a conjoining jamo or a Hangul syllable",
-    ),
-    (
-        BuildError::Class,
-        "a class of 255, or a list that begins with a mark",
-    ),
-    (
-        BuildError::Mapping,
-        "a mapping of a wrong length or with a character that it may not have",
-    ),
-    (
-        BuildError::Chain,
-        "more than 16 records lead from one to the next",
-    ),
-    (BuildError::Length, "a list is too long"),
-    (BuildError::Pair, "two records give the same pair"),
-    (
-        BuildError::Unfit {
-            marker: MARKER,
-            condition: 7,
-        },
-        "the data of NormalizerNfdTablesV1 break condition 7",
-    ),
-    (
-        BuildError::TableFull,
-        "the lists have more items than the tables hold",
-    ),
-    (BuildError::Memory, "out of memory"),
-];
-
-/// The first fault of records with another text.
-fn wrong_text_of_records(alloc: Global) -> Option<usize> {
-    FAULTS_OF_RECORDS
-        .iter()
-        .position(|row| !is_shown_as(alloc, &row.0, row.1))
-}
-
-#[test]
-fn faults_of_records_have_a_text(rt: HostRuntime) {
-    assert_eq!(rt; wrong_text_of_records(rt.alloc()), None);
+fn markers_have_their_place(rt: HostRuntime) {
+    assert!(rt; NormalizerNfdDataV1::INFO as usize == 0);
+    assert!(rt; NormalizerNfkdDataV1::INFO as usize == 1);
+    assert!(rt; NormalizerUts46DataV1::INFO as usize == 2);
+    assert!(rt; NormalizerNfdTablesV1::INFO as usize == 3);
+    assert!(rt; NormalizerNfkdTablesV1::INFO as usize == 4);
+    assert!(rt; NormalizerNfcV1::INFO as usize == 5);
+    assert!(rt; NormalizerNfdSupplementV1::INFO as usize == 6);
 }

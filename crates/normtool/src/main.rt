@@ -2,11 +2,6 @@
 //! to, reports whether they are normalized or the first place at which they are not, or maps the text for domain names.
 #![tactic(auto)]
 
-#[cfg(test)]
-mod memory;
-#[cfg(test)]
-mod tests;
-
 use normalizer_io::{Input, Output};
 use normalizer_program::ending::{ToolFault, ending};
 use normalizer_program::program::program;

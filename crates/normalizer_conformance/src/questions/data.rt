@@ -1,10 +1,9 @@
 //! `word nfd 00E4`, `cap nfd`: what data say. `try nfc`, `try mapper`, `check nfd`: the result of a constructor or of a
-//! check of data.
+//! check of data; `said nfc` has the text of the error.
+use super::Answer;
 use crate::fault::Fault;
 use crate::held::Held;
-use crate::normalizers::Normalizer;
-use crate::questions::forms::form_named;
-use crate::setting::Setting;
+use crate::normalizer::{Normalizer, form_named};
 use crate::spelling::acceptance;
 use crate::words::hexadecimal;
 use icu_normalizer::properties::{
@@ -14,7 +13,7 @@ use icu_normalizer::uts46::Uts46Mapper;
 use icu_normalizer::{CodePointTable, DataError, DecompositionData, check_nfd_data};
 use std::alloc::Global;
 
-fn data_named<'a>(held: &'a Held, kind: &str) -> Result<&'a DecompositionData, Fault> {
+pub fn data_named<'a>(held: &'a Held, kind: &str) -> Result<&'a DecompositionData, Fault> {
     let data = match kind {
         "nfd" => &held.canonical,
         "nfkd" => &held.compatibility,
@@ -24,7 +23,7 @@ fn data_named<'a>(held: &'a Held, kind: &str) -> Result<&'a DecompositionData, F
     data.as_ref().ok_or(Fault::Unreadable)
 }
 
-fn table_named<'a>(held: &'a Held, kind: &str) -> Result<&'a CodePointTable, Fault> {
+pub fn table_named<'a>(held: &'a Held, kind: &str) -> Result<&'a CodePointTable, Fault> {
     match (kind, &held.supplement) {
         ("supplement", Some(supplement)) => Ok(&supplement.table),
         _ => Ok(&data_named(held, kind)?.table),
@@ -32,12 +31,12 @@ fn table_named<'a>(held: &'a Held, kind: &str) -> Result<&'a CodePointTable, Fau
 }
 
 /// The word of a number, by each call.
-pub fn word(alloc: Global, setting: &mut Setting<'_>, question: &[&str]) -> Result<String, Fault> {
+pub fn word(alloc: Global, held: &Held, question: &[&str]) -> Answer {
     let [kind, number] = question else {
         return Err(Fault::Unreadable);
     };
     let number = hexadecimal(number)?;
-    let table = table_named(setting.held()?, kind)?;
+    let table = table_named(held, kind)?;
     let word = table.get32(number);
     if is_word_of_character(table, number, word) && is_word_of_unit(table, number, word) {
         Ok(format!(in alloc; "{:08X}", word)?)
@@ -61,24 +60,31 @@ fn is_word_of_unit(table: &CodePointTable, number: u32, word: u32) -> bool {
 }
 
 /// The number below which a loop that composes may pass every character without looking up its word.
-pub fn cap(alloc: Global, setting: &mut Setting<'_>, question: &[&str]) -> Result<String, Fault> {
+pub fn cap(alloc: Global, held: &Held, question: &[&str]) -> Answer {
     let [kind] = question else {
         return Err(Fault::Unreadable);
     };
-    let cap = data_named(setting.held()?, kind)?.passthrough_cap;
+    let cap = data_named(held, kind)?.passthrough_cap;
     Ok(format!(in alloc; "{:04X}", cap)?)
 }
 
 /// The result of a constructor.
-pub fn constructed(
-    alloc: Global,
-    setting: &mut Setting<'_>,
-    question: &[&str],
-) -> Result<String, Fault> {
+pub fn constructed(alloc: Global, held: &Held, question: &[&str]) -> Answer {
     let [name] = question else {
         return Err(Fault::Unreadable);
     };
-    acceptance(alloc, refusal(setting.held()?, name)?)
+    acceptance(alloc, refusal(held, name)?)
+}
+
+/// The text of the error of a constructor.
+pub fn said(alloc: Global, held: &Held, question: &[&str]) -> Answer {
+    let [name] = question else {
+        return Err(Fault::Unreadable);
+    };
+    match refusal(held, name)? {
+        Some(DataError::Memory) | None => Err(Fault::Unreadable),
+        Some(error) => Ok(format!(in alloc; "{error}")?),
+    }
 }
 
 fn refusal(held: &Held, name: &str) -> Result<Option<DataError>, Fault> {
@@ -92,15 +98,10 @@ fn refusal(held: &Held, name: &str) -> Result<Option<DataError>, Fault> {
 }
 
 /// The result of the check of canonical data.
-pub fn checked(
-    alloc: Global,
-    setting: &mut Setting<'_>,
-    question: &[&str],
-) -> Result<String, Fault> {
+pub fn checked(alloc: Global, held: &Held, question: &[&str]) -> Answer {
     let ["nfd"] = question else {
         return Err(Fault::Unreadable);
     };
-    let held = setting.held()?;
     let (Some(words), Some(tables)) = (&held.canonical, &held.tables) else {
         return Err(Fault::Unreadable);
     };

@@ -1,14 +1,16 @@
 //! `decode bytes E2 98 E2 98 83`, `decode units D800 DC00`, `decode 0061 0308`: the characters, from the front, from
-//! the back and in turn. `head E0 80 80`: the same of bytes, also put before 62, after 61 and between the two.
+//! the back and in turn. `head E0 80 80`: the same of bytes, also put before 62, after 61 and between the two. `every 2
+//! 61 80`: how many strings of this many of the bytes are decoded as by std: all.
+use super::Answer;
 use crate::fault::Fault;
 use crate::input::Input;
 use crate::spelling::spelled_all;
-use crate::words::all;
+use crate::words::{all, decimal};
 use normalizer_text::{Chars, Units};
-use std::alloc::{AllocError, Global};
+use std::alloc::Global;
 
 /// The characters that an input decodes to.
-pub fn decoded(alloc: Global, input: &[&str]) -> Result<String, Fault> {
+pub fn decoded(alloc: Global, input: &[&str]) -> Answer {
     let characters = match Input::read(alloc, input)? {
         Input::Text(text) => from_everywhere(alloc, text.as_str())?,
         Input::Bytes(bytes) => from_everywhere(alloc, bytes.as_slice())?,
@@ -20,49 +22,55 @@ pub fn decoded(alloc: Global, input: &[&str]) -> Result<String, Fault> {
 /// The characters from the front, if they are the same from the back and from both in turn.
 fn from_everywhere<U: Units>(alloc: Global, units: U) -> Result<Vec<char>, Fault> {
     let front: Vec<char> = Chars::new(units).collect(alloc)?;
-    let back = from_back(alloc, units)?;
-    let turns = in_turn(alloc, units)?;
-    if front.as_slice() == back.as_slice() && front.as_slice() == turns.as_slice() {
+    if Chars::new(units).rev().eq(front.iter().rev().copied()) && come_in_turn(units, &front) {
         Ok(front)
     } else {
         Err(Fault::Divided)
     }
 }
 
-fn from_back<U: Units>(alloc: Global, units: U) -> Result<Vec<char>, AllocError> {
-    let mut found: Vec<char> = Chars::new(units).rev().collect(alloc)?;
-    found.reverse();
-    Ok(found)
-}
-
-/// The characters, taken from the front and from the back in turn and put between those that were taken before.
-fn in_turn<U: Units>(alloc: Global, units: U) -> Result<Vec<char>, AllocError> {
+/// Whether the characters come from the back and from the front in turn, and each time the others are left.
+fn come_in_turn<U: Units>(units: U, characters: &[char]) -> bool {
     let mut chars = Chars::new(units);
-    let mut found = Vec::new(alloc);
-    for place in 0..units.len() {
-        let Some(character) = next_in_turn(&mut chars, place) else {
-            break;
+    let mut left = characters;
+    for place in 0..characters.len() {
+        let parted = if place.is_multiple_of(2) {
+            left.split_last()
+        } else {
+            left.split_first()
         };
-        found.insert(found.len().div_ceil(2), character)?;
+        let Some((wanted, others)) = parted else {
+            return false;
+        };
+        if next_in_turn(&mut chars, place) != Some(*wanted) || !is_left(&chars, others) {
+            return false;
+        }
+        left = others;
     }
-    Ok(found)
+    chars.next().is_none() && chars.next_back().is_none()
 }
 
 fn next_in_turn<U: Units>(chars: &mut Chars<U>, place: usize) -> Option<char> {
     if place.is_multiple_of(2) {
-        chars.next()
-    } else {
         chars.next_back()
+    } else {
+        chars.next()
     }
 }
 
+fn is_left<U: Units>(chars: &Chars<U>, characters: &[char]) -> bool {
+    let left = chars.as_slice();
+    Units::is_empty(left) == characters.is_empty()
+        && Chars::new(left).eq(characters.iter().copied())
+}
+
 /// What bytes decode to, if they do so in each place.
-pub fn head(alloc: Global, input: &[&str]) -> Result<String, Fault> {
+pub fn head(alloc: Global, input: &[&str]) -> Answer {
     let head: Vec<u8> = all(alloc, input)?;
     let alone = from_everywhere(alloc, head.as_slice())?;
-    if stands_between(alloc, b"", (&head, &alone), b"b")?
-        && stands_between(alloc, b"a", (&head, &alone), b"")?
-        && stands_between(alloc, b"a", (&head, &alone), b"b")?
+    if stands_between(alloc, "", (&head, &alone), "b")?
+        && stands_between(alloc, "a", (&head, &alone), "")?
+        && stands_between(alloc, "a", (&head, &alone), "b")?
     {
         spelled_all(alloc, &alone)
     } else {
@@ -73,29 +81,55 @@ pub fn head(alloc: Global, input: &[&str]) -> Result<String, Fault> {
 /// Whether bytes between ASCII letters decode to these characters between the letters.
 fn stands_between(
     alloc: Global,
-    before: &[u8],
+    before: &str,
     head: (&[u8], &[char]),
-    after: &[u8],
+    after: &str,
 ) -> Result<bool, Fault> {
-    let bytes = put_together(alloc, &[before, head.0, after])?;
+    let mut bytes = before.as_bytes().to_vec(alloc)?;
+    bytes.extend_from_slice(head.0)?;
+    bytes.extend_from_slice(after.as_bytes())?;
     let text = from_everywhere(alloc, bytes.as_slice())?;
-    let (first, last) = (characters_of(alloc, before)?, characters_of(alloc, after)?);
-    let wanted = put_together(alloc, &[first.as_slice(), head.1, last.as_slice()])?;
-    Ok(text.as_slice() == wanted.as_slice())
+    let wanted = before
+        .chars()
+        .chain(head.1.iter().copied())
+        .chain(after.chars());
+    Ok(text.iter().copied().eq(wanted))
 }
 
-fn put_together<T: Copy + Drop>(alloc: Global, parts: &[&[T]]) -> Result<Vec<T>, AllocError> {
-    let mut all = Vec::new(alloc);
-    for part in parts {
-        all.extend_from_slice(part)?;
-    }
-    Ok(all)
+/// How many strings of some bytes, of this length, decode as in std.
+pub fn every(alloc: Global, question: &[&str]) -> Answer {
+    let [length, letters @ ..] = question else {
+        return Err(Fault::Unreadable);
+    };
+    let letters: Vec<u8> = all(alloc, letters)?;
+    let count = count_of_alike(alloc, decimal(length)?, &letters)?;
+    Ok(format!(in alloc; "{count}")?)
 }
 
-fn characters_of(alloc: Global, letters: &[u8]) -> Result<Vec<char>, AllocError> {
-    let mut all = Vec::new(alloc);
-    for letter in letters {
-        all.push(char::from(*letter))?;
+fn count_of_alike(alloc: Global, length: u32, letters: &[u8]) -> Result<usize, Fault> {
+    let mut count = 0usize;
+    for number in 0..letters.len().saturating_pow(length) {
+        if decodes_as_in_std(alloc, &string_of(alloc, number, length, letters)?)? {
+            count = count.saturating_add(1);
+        }
     }
-    Ok(all)
+    Ok(count)
+}
+
+/// The bytes whose places among the letters are the digits of a number.
+fn string_of(alloc: Global, number: usize, length: u32, letters: &[u8]) -> Result<Vec<u8>, Fault> {
+    let mut bytes = Vec::new(alloc);
+    let mut rest = number;
+    for _ in 0..length {
+        let digit = rest.checked_rem(letters.len()).ok_or(Fault::Unreadable)?;
+        bytes.push(*letters.get(digit).ok_or(Fault::Unreadable)?)?;
+        rest = rest.checked_div(letters.len()).ok_or(Fault::Unreadable)?;
+    }
+    Ok(bytes)
+}
+
+fn decodes_as_in_std(alloc: Global, bytes: &[u8]) -> Result<bool, Fault> {
+    let characters = from_everywhere(alloc, bytes)?;
+    let text = String::from_utf8_lossy(alloc, bytes)?;
+    Ok(text.as_str().chars().eq(characters.iter().copied()))
 }

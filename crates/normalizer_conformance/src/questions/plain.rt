@@ -1,5 +1,6 @@
 //! `plain nfd 1EC7`: the form by the plain program of `normal_forms`, over what the data say of the characters of the
 //! records and over the pairs of those. `plain-cut nfd 0065 0302`: how many characters may be cut off.
+use super::Answer;
 use crate::fault::Fault;
 use crate::held::Held;
 use crate::setting::Setting;
@@ -99,12 +100,7 @@ fn canonical_form_named(name: &str) -> Result<Form, Fault> {
 }
 
 /// The form of a text (`plain`), or how many of its characters may be cut off (`plain-cut`).
-pub fn asked(
-    alloc: Global,
-    setting: &mut Setting<'_>,
-    name: &str,
-    question: &[&str],
-) -> Result<String, Fault> {
+pub fn asked(alloc: Global, setting: &mut Setting<'_>, name: &str, question: &[&str]) -> Answer {
     let [form, text @ ..] = question else {
         return Err(Fault::Unreadable);
     };
@@ -119,7 +115,7 @@ fn asked_of_data(
     name: &str,
     form: Form,
     text: &[char],
-) -> Result<String, Fault> {
+) -> Answer {
     let lines = lines_at(alloc, setting)?;
     let pairs = pair_rows(alloc, setting.records())?;
     let characters = character_rows(alloc, &lines)?;
@@ -133,16 +129,11 @@ fn asked_of_data(
     }
 }
 
-fn spelled_form(
-    alloc: Global,
-    rows: &Rows<'_>,
-    form: Form,
-    text: &[char],
-) -> Result<String, Fault> {
+fn spelled_form(alloc: Global, rows: &Rows<'_>, form: Form, text: &[char]) -> Answer {
     spelled_all(alloc, &normal_form(alloc, rows, form, text)?)
 }
 
-fn spelled_cut(alloc: Global, rows: &Rows<'_>, form: Form, text: &[char]) -> Result<String, Fault> {
+fn spelled_cut(alloc: Global, rows: &Rows<'_>, form: Form, text: &[char]) -> Answer {
     let count = cut(alloc, rows, form, text)?;
     Ok(format!(in alloc; "{count}")?)
 }

@@ -1,6 +1,7 @@
 //! `class 0340 = 230`: the canonical combining class of a number. `decompose AC01 = expansion AC00 11A8`: one step of
 //! decomposition; `shaped 2126 = 03A9 0000`: what a shaper gets for it. `compose 0061 0308 = 00E4`: what two characters
 //! compose to. Each is checked by every call, of owned and of borrowed properties, and by the shaper traits.
+use super::Answer;
 use crate::fault::Fault;
 use crate::held::Held;
 use crate::setting::Setting;
@@ -11,15 +12,14 @@ use icu_normalizer::properties::{
     CanonicalCombiningClass, CanonicalCombiningClassMap, CanonicalComposition,
     CanonicalDecomposition, Decomposed,
 };
-use normalizer_uses::NormalForm;
 use std::alloc::Global;
 
 /// The class of a number.
-pub fn class(alloc: Global, setting: &mut Setting<'_>, question: &[&str]) -> Result<String, Fault> {
+pub fn class(alloc: Global, held: &Held, question: &[&str]) -> Answer {
     let [number] = question else {
         return Err(Fault::Unreadable);
     };
-    let class = class_of_number(setting.held()?, hexadecimal(number)?)?;
+    let class = class_of_number(held, hexadecimal(number)?)?;
     Ok(format!(in alloc; "{class}")?)
 }
 
@@ -49,19 +49,11 @@ fn is_told_class<C: CombiningClassFunc>(classes: &C, character: char, class: u8)
 }
 
 /// One step of the canonical decomposition of a character (`decompose`), or what a shaper gets for it.
-pub fn step(
-    alloc: Global,
-    setting: &mut Setting<'_>,
-    name: &str,
-    question: &[&str],
-) -> Result<String, Fault> {
+pub fn step(alloc: Global, held: &Held, name: &str, question: &[&str]) -> Answer {
     let [digits] = question else {
         return Err(Fault::Unreadable);
     };
-    step_of_data(alloc, setting.held()?, name, character(digits)?)
-}
-
-fn step_of_data(alloc: Global, held: &Held, name: &str, character: char) -> Result<String, Fault> {
+    let character = character(digits)?;
     let steps = CanonicalDecomposition::try_new_unstable(held)?;
     match name {
         "decompose" => spelled_step(alloc, steps.as_borrowed().decompose(character)),
@@ -69,7 +61,7 @@ fn step_of_data(alloc: Global, held: &Held, name: &str, character: char) -> Resu
     }
 }
 
-fn spelled_step(alloc: Global, step: Decomposed) -> Result<String, Fault> {
+fn spelled_step(alloc: Global, step: Decomposed) -> Answer {
     match step {
         Decomposed::Default => Ok(String::from_str(alloc, "default")?),
         Decomposed::Singleton(a) => {
@@ -84,7 +76,7 @@ fn spelled_step(alloc: Global, step: Decomposed) -> Result<String, Fault> {
 }
 
 /// What a shaper gets for the step of a character.
-fn shaped(alloc: Global, steps: &CanonicalDecomposition, character: char) -> Result<String, Fault> {
+fn shaped(alloc: Global, steps: &CanonicalDecomposition, character: char) -> Answer {
     let mapping = told_step(steps, character);
     if told_step(&steps, character) != mapping
         || told_step(&steps.as_borrowed(), character) != mapping
@@ -102,14 +94,12 @@ fn told_step<D: DecomposeFunc>(steps: &D, character: char) -> Option<(char, char
 }
 
 /// What two characters compose to, or `none`.
-pub fn composite(alloc: Global, setting: &mut Setting<'_>, pair: &[&str]) -> Result<String, Fault> {
+pub fn composite(alloc: Global, setting: &mut Setting<'_>, pair: &[&str]) -> Answer {
     let [first, second] = pair else {
         return Err(Fault::Unreadable);
     };
     let (first, second) = (character(first)?, character(second)?);
-    let composite = setting
-        .normalizer(NormalForm::Nfc)?
-        .composite(first, second)?;
+    let composite = setting.normalizer("nfc")?.composite(first, second)?;
     if !is_composite_of_data(setting.held()?, first, second, composite)? {
         return Err(Fault::Divided);
     }

@@ -1,0 +1,362 @@
+//! What the calls of a normalizer return for an input, in each of the three encodings.
+ghost use Rattle.std.specs.Prelude.{IfOk};
+ghost use Rattle.std.specs.Iterator.{IsFinite};
+
+use crate::fault::Fault;
+use crate::normalizer::Normalizer;
+use icu_normalizer::{NormalizeError, Offence, Utf8Chars, Utf16Chars};
+use std::alloc::Global;
+use std::borrow::{CowSlice, CowStr};
+
+/// What the calls return for an input. Places are in its units.
+#[derive(Drop, PartialEq)]
+pub struct Results {
+    /// The form.
+    pub form: Vec<char>,
+    /// Whether the input is well-formed and normalized, so that the form is the input, borrowed.
+    pub is_own: bool,
+    /// How many units may be cut off.
+    pub cut: usize,
+    /// The first mismatch.
+    pub offence: Option<Offence>,
+}
+
+/// An input in an encoding, and the calls on it.
+pub trait Encoded: Copy {
+    /// How many units it has.
+    fn count(self) -> usize;
+
+    /// The form as it is returned, and whether it is borrowed.
+    fn form(self, alloc: Global, normalizer: &Normalizer) -> Result<(Vec<char>, bool), Fault>;
+
+    /// Whether the form is written to a sink after what is there. A refused write leaves a beginning of it.
+    fn is_written(
+        self,
+        alloc: Global,
+        normalizer: &Normalizer,
+        form: &[char],
+    ) -> Result<bool, Fault>;
+
+    /// Whether an iterator yields the form.
+    fn is_yielded(self, normalizer: &Normalizer, form: &[char]) -> Result<bool, Fault>;
+
+    /// Whether the input is normalized.
+    fn is_own(self, normalizer: &Normalizer) -> Result<bool, NormalizeError>;
+
+    /// The length of the front that may be cut off, if the two parts are the input.
+    fn cut(self, normalizer: &Normalizer) -> Result<usize, Fault>;
+
+    /// The first mismatch.
+    fn offence(self, normalizer: &Normalizer) -> Result<Option<Offence>, NormalizeError>;
+}
+
+/// What the calls return, if they agree.
+pub fn results_of<E: Encoded>(
+    alloc: Global,
+    normalizer: &Normalizer,
+    input: E,
+) -> Result<Results, Fault> {
+    let (form, is_own) = input.form(alloc, normalizer)?;
+    let (cut, offence) = places(alloc, normalizer, input, &form)?;
+    let agree = is_own == input.is_own(normalizer)?
+        && is_own == (cut == input.count())
+        && is_own == offence.is_none();
+    let results = Results {
+        form,
+        is_own,
+        cut,
+        offence,
+    };
+    if agree {
+        Ok(results)
+    } else {
+        Err(Fault::Divided)
+    }
+}
+
+/// The cut and the first mismatch, if each call makes this form.
+fn places<E: Encoded>(
+    alloc: Global,
+    normalizer: &Normalizer,
+    input: E,
+    form: &[char],
+) -> Result<(usize, Option<Offence>), Fault> {
+    if input.is_written(alloc, normalizer, form)? && input.is_yielded(normalizer, form)? {
+        Ok((input.cut(normalizer)?, input.offence(normalizer)?))
+    } else {
+        Err(Fault::Divided)
+    }
+}
+
+/// What the calls return for a text, if they agree in the three encodings.
+pub fn results_of_text(
+    alloc: Global,
+    normalizer: &Normalizer,
+    text: &str,
+) -> Result<Results, Fault> {
+    let of_text = results_of(alloc, normalizer, text)?;
+    if are_results_of_bytes(alloc, normalizer, text.as_bytes(), &of_text)?
+        && are_results_of_units(alloc, normalizer, text, &of_text)?
+    {
+        Ok(of_text)
+    } else {
+        Err(Fault::Divided)
+    }
+}
+
+fn are_results_of_bytes(
+    alloc: Global,
+    normalizer: &Normalizer,
+    bytes: &[u8],
+    wanted: &Results,
+) -> Result<bool, Fault> {
+    Ok(results_of(alloc, normalizer, bytes)? == *wanted)
+}
+
+fn are_results_of_units(
+    alloc: Global,
+    normalizer: &Normalizer,
+    text: &str,
+    wanted: &Results,
+) -> Result<bool, Fault> {
+    let units: Vec<u16> = text.encode_utf16().collect(alloc)?;
+    let found = results_of(alloc, normalizer, units.as_slice())?;
+    Ok(
+        found.form == wanted.form
+            && found.is_own == wanted.is_own
+            && Some(found.cut) == in_units(text, wanted.cut)
+            && found.offence == offence_in_units(text, wanted.offence),
+    )
+}
+
+/// A place of a text in 16-bit units.
+fn in_units(text: &str, place: usize) -> Option<usize> {
+    Some(text.get(..place)?.encode_utf16().count())
+}
+
+fn offence_in_units(text: &str, offence: Option<Offence>) -> Option<Offence> {
+    let offence = offence?;
+    Some(Offence {
+        place: in_units(text, offence.place)?,
+        found: offence.found,
+        wanted: offence.wanted,
+    })
+}
+
+/// Whether the items are these characters. After a fault there must be none.
+pub fn are<I>(mut items: I, characters: &[char]) -> Result<bool, Fault>
+where
+    I: Iterator<Item = Result<char, NormalizeError>> + Drop,
+    requires can { I.can_next items }
+    requires ends { IsFinite (I.remaining items) }
+{
+    for character in characters {
+        match items.next() {
+            Some(Ok(found)) if found == *character => {}
+            Some(Err(_)) => {
+                return if items.next().is_none() {
+                    Err(Fault::Memory)
+                } else {
+                    Err(Fault::Divided)
+                };
+            }
+            _ => return Ok(false),
+        }
+    }
+    Ok(items.next().is_none())
+}
+
+/// The result of a call of the normalizer, of whichever kind it is.
+macro_rules! called {
+    ($normalizer:expr, $call:ident($($argument:expr),*)) => {
+        match $normalizer {
+            Normalizer::Decomposing(normalizer) => normalizer.as_borrowed().$call($($argument),*),
+            Normalizer::Composing(normalizer) => normalizer.as_borrowed().$call($($argument),*),
+        }
+    };
+}
+
+/// Whether the iterator over an input, of whichever kind it is, yields a form.
+macro_rules! yielded {
+    ($normalizer:expr, $input:expr, $form:expr) => {
+        match $normalizer {
+            Normalizer::Decomposing(normalizer) => {
+                are(normalizer.as_borrowed().normalize_iter($input)?, $form)
+            }
+            Normalizer::Composing(normalizer) => {
+                are(normalizer.as_borrowed().normalize_iter($input)?, $form)
+            }
+        }
+    };
+}
+
+/// What a sink holds before the form is written to it.
+const BEFORE: &str = "held: ";
+
+/// Whether a sink holds all of the form, or after a fault a beginning of it.
+fn holds(written: Result<(), NormalizeError>, sink: &str, form: &[char]) -> Result<bool, Fault> {
+    let Some(after) = sink.strip_prefix(BEFORE) else {
+        return Ok(false);
+    };
+    let is_beginning = after
+        .chars()
+        .zip(form.iter().copied())
+        .all(|(found, wanted)| found == wanted);
+    let count = after.chars().count();
+    match written {
+        Ok(()) => Ok(is_beginning && count == form.len()),
+        Err(_) if is_beginning && count <= form.len() => Err(Fault::Memory),
+        Err(_) => Ok(false),
+    }
+}
+
+fn characters(alloc: Global, form: &CowStr<'_, Global>) -> Result<(Vec<char>, bool), Fault> {
+    let characters = form.as_str().chars().collect(alloc)?;
+    Ok((characters, matches!(form, CowStr::Borrowed(_))))
+}
+
+impl Encoded for &str {
+    fn count(self) -> usize {
+        self.len()
+    }
+
+    fn form(self, alloc: Global, normalizer: &Normalizer) -> Result<(Vec<char>, bool), Fault> {
+        characters(alloc, &called!(normalizer, normalize(self))?)
+    }
+
+    fn is_written(
+        self,
+        alloc: Global,
+        normalizer: &Normalizer,
+        form: &[char],
+    ) -> Result<bool, Fault> {
+        let mut sink = String::from_str(alloc, BEFORE)?;
+        holds(
+            called!(normalizer, normalize_to(self, &mut sink)),
+            &sink,
+            form,
+        )
+    }
+
+    fn is_yielded(self, normalizer: &Normalizer, form: &[char]) -> Result<bool, Fault> {
+        yielded!(normalizer, self.chars(), form)
+    }
+
+    fn is_own(self, normalizer: &Normalizer) -> Result<bool, NormalizeError> {
+        called!(normalizer, is_normalized(self))
+    }
+
+    fn cut(self, normalizer: &Normalizer) -> Result<usize, Fault> {
+        let (front, rest) = called!(normalizer, split_normalized(self))?;
+        cut_between(self.strip_prefix(front) == Some(rest), front.len())
+    }
+
+    fn offence(self, normalizer: &Normalizer) -> Result<Option<Offence>, NormalizeError> {
+        called!(normalizer, first_offence(self))
+    }
+}
+
+fn cut_between(are_the_input: bool, cut: usize) -> Result<usize, Fault> {
+    if are_the_input {
+        Ok(cut)
+    } else {
+        Err(Fault::Divided)
+    }
+}
+
+impl Encoded for &[u8] {
+    fn count(self) -> usize {
+        self.len()
+    }
+
+    fn form(self, alloc: Global, normalizer: &Normalizer) -> Result<(Vec<char>, bool), Fault> {
+        characters(alloc, &called!(normalizer, normalize_utf8(self))?)
+    }
+
+    fn is_written(
+        self,
+        alloc: Global,
+        normalizer: &Normalizer,
+        form: &[char],
+    ) -> Result<bool, Fault> {
+        let mut sink = String::from_str(alloc, BEFORE)?;
+        holds(
+            called!(normalizer, normalize_utf8_to(self, &mut sink)),
+            &sink,
+            form,
+        )
+    }
+
+    fn is_yielded(self, normalizer: &Normalizer, form: &[char]) -> Result<bool, Fault> {
+        yielded!(normalizer, Utf8Chars::new(self), form)
+    }
+
+    fn is_own(self, normalizer: &Normalizer) -> Result<bool, NormalizeError> {
+        called!(normalizer, is_normalized_utf8(self))
+    }
+
+    fn cut(self, normalizer: &Normalizer) -> Result<usize, Fault> {
+        let (front, rest) = called!(normalizer, split_normalized_utf8(self))?;
+        cut_between(
+            self.strip_prefix(front.as_bytes()) == Some(rest),
+            front.len(),
+        )
+    }
+
+    fn offence(self, normalizer: &Normalizer) -> Result<Option<Offence>, NormalizeError> {
+        called!(normalizer, first_offence_utf8(self))
+    }
+}
+
+impl Encoded for &[u16] {
+    fn count(self) -> usize {
+        self.len()
+    }
+
+    fn form(self, alloc: Global, normalizer: &Normalizer) -> Result<(Vec<char>, bool), Fault> {
+        let form = called!(normalizer, normalize_utf16(self))?;
+        let text = text_of_units(alloc, form.as_slice())?;
+        Ok((
+            text.chars().collect(alloc)?,
+            matches!(form, CowSlice::Borrowed(_)),
+        ))
+    }
+
+    fn is_written(
+        self,
+        alloc: Global,
+        normalizer: &Normalizer,
+        form: &[char],
+    ) -> Result<bool, Fault> {
+        let mut sink: Vec<u16> = BEFORE.encode_utf16().collect(alloc)?;
+        let written = called!(normalizer, normalize_utf16_to(self, &mut sink));
+        holds(written, &text_of_units(alloc, &sink)?, form)
+    }
+
+    fn is_yielded(self, normalizer: &Normalizer, form: &[char]) -> Result<bool, Fault> {
+        yielded!(normalizer, Utf16Chars::new(self), form)
+    }
+
+    fn is_own(self, normalizer: &Normalizer) -> Result<bool, NormalizeError> {
+        called!(normalizer, is_normalized_utf16(self))
+    }
+
+    fn cut(self, normalizer: &Normalizer) -> Result<usize, Fault> {
+        let (front, rest) = called!(normalizer, split_normalized_utf16(self))?;
+        cut_between(self.strip_prefix(front) == Some(rest), front.len())
+    }
+
+    fn offence(self, normalizer: &Normalizer) -> Result<Option<Offence>, NormalizeError> {
+        called!(normalizer, first_offence_utf16(self))
+    }
+}
+
+/// The text of units, if these are its UTF-16.
+fn text_of_units(alloc: Global, units: &[u16]) -> Result<String, Fault> {
+    let text: String = Utf16Chars::new(units).collect(alloc)?;
+    if text.encode_utf16().eq(units.iter().copied()) {
+        Ok(text)
+    } else {
+        Err(Fault::Divided)
+    }
+}

@@ -1,0 +1,114 @@
+//! What parts of data hold before any check. `joined 0061 0308 = 00E4`, `never-second 0301 = yes`, `seconds = 3`: what
+//! pairs compose to, whether a character is second in none, how many rows of equal seconds there are. `blocks nfd = 3`:
+//! how many blocks of words. `lists nfd = 0065 | 1D157`: the lists. `same nfd nfkd = yes`: whether words are equal.
+//! `copies = yes`: whether each part equals its copy. `ranges 0..5 1 6 2 = accepted`: whether words of ranges are made.
+use super::Answer;
+use crate::by_hand::numbers;
+use crate::fault::Fault;
+use crate::held::Held;
+use crate::questions::data::{data_named, table_named};
+use crate::spelling::{Spelled, spelled_all, spelled_bool};
+use crate::words::{character, hexadecimal};
+use icu_normalizer::{CanonicalCompositions, CodePointTable, DecompositionTables, TableError};
+use normalizer_tables::{block_count, compose, is_never_second, row_count};
+use std::alloc::Global;
+
+fn pairs_of(held: &Held) -> Result<&CanonicalCompositions, Fault> {
+    held.pairs.as_ref().ok_or(Fault::Unreadable)
+}
+
+/// What two characters compose to, or `none`.
+pub fn joined(alloc: Global, held: &Held, question: &[&str]) -> Answer {
+    let [first, second] = question else {
+        return Err(Fault::Unreadable);
+    };
+    match compose(pairs_of(held)?, character(first)?, character(second)?) {
+        Some(composite) => composite.spelled(alloc),
+        None => Ok(String::from_str(alloc, "none")?),
+    }
+}
+
+/// Whether a character is second in no pair.
+pub fn never_second(alloc: Global, held: &Held, question: &[&str]) -> Answer {
+    let [second] = question else {
+        return Err(Fault::Unreadable);
+    };
+    spelled_bool(alloc, is_never_second(pairs_of(held)?, character(second)?))
+}
+
+/// How many rows of equal seconds pairs are in, or how many blocks a table has.
+pub fn counted(alloc: Global, held: &Held, name: &str, question: &[&str]) -> Answer {
+    let count = match (name, question) {
+        ("seconds", []) => row_count(pairs_of(held)?),
+        ("blocks", [kind]) => block_count(table_named(held, kind)?),
+        _ => return Err(Fault::Unreadable),
+    };
+    Ok(format!(in alloc; "{count}")?)
+}
+
+/// The lists of canonical words, as they went in.
+pub fn lists(alloc: Global, held: &Held, question: &[&str]) -> Answer {
+    match (question, &held.tables) {
+        (["nfd"], Some(tables)) => lists_of(alloc, tables),
+        _ => Err(Fault::Unreadable),
+    }
+}
+
+fn lists_of(alloc: Global, tables: &DecompositionTables) -> Answer {
+    let units: Vec<u16> = tables.scalars16.clone()?.into();
+    let characters: Vec<char> = tables.scalars24.clone()?.into();
+    if units.len() != tables.scalars16.len()
+        || units.is_empty() != tables.scalars16.is_empty()
+        || characters.len() != tables.scalars24.len()
+        || characters.is_empty() != tables.scalars24.is_empty()
+    {
+        return Err(Fault::Divided);
+    }
+    let units = spelled_all(alloc, &units)?;
+    let characters = spelled_all(alloc, &characters)?;
+    Ok(format!(in alloc; "{units} | {characters}")?)
+}
+
+/// Whether the words of two kinds are equal.
+pub fn same(alloc: Global, held: &Held, question: &[&str]) -> Answer {
+    let [first, second] = question else {
+        return Err(Fault::Unreadable);
+    };
+    spelled_bool(alloc, data_named(held, first)? == data_named(held, second)?)
+}
+
+/// Whether each part that is held equals its copy.
+pub fn copies(alloc: Global, held: &Held) -> Answer {
+    let are_equal = is_copied(&held.canonical)?
+        && is_copied(&held.compatibility)?
+        && is_copied(&held.mapper)?
+        && is_copied(&held.tables)?
+        && is_copied(&held.supplementary)?
+        && is_copied(&held.pairs)?
+        && is_copied(&held.supplement)?;
+    spelled_bool(alloc, are_equal)
+}
+
+fn is_copied<T: Clone + PartialEq + Drop>(part: &Option<T>) -> Result<bool, Fault> {
+    match part {
+        Some(part) => Ok(part.clone()? == *part),
+        None => Ok(true),
+    }
+}
+
+/// Whether words of these ranges are made, or why not.
+pub fn ranges(alloc: Global, question: &[&str]) -> Answer {
+    let mut ranges = Vec::new(alloc);
+    for two in question.chunks(2) {
+        let [range, word] = two else {
+            return Err(Fault::Unreadable);
+        };
+        let (first, last) = numbers(range)?;
+        ranges.push((first, last, hexadecimal(word)?))?;
+    }
+    match CodePointTable::from_ranges(ranges, 0) {
+        Ok(_) => Ok(String::from_str(alloc, "accepted")?),
+        Err(TableError::Memory) => Err(Fault::Memory),
+        Err(error) => Ok(format!(in alloc; "{error}")?),
+    }
+}
