@@ -79,7 +79,7 @@ fn of_parts(alloc: Global, held: &Held, name: &str, rest: &[&str]) -> Answer {
     match name {
         "joined" => parts::joined(alloc, held, rest),
         "never-second" => parts::never_second(alloc, held, rest),
-        "seconds" | "blocks" => parts::counted(alloc, held, name, rest),
+        "blocks" => parts::counted(alloc, held, rest),
         "lists" => parts::lists(alloc, held, rest),
         "same" => parts::same(alloc, held, rest),
         "copies" => parts::copies(alloc, held),

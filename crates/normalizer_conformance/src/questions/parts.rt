@@ -1,7 +1,7 @@
-//! What parts of data hold before any check. `joined 0061 0308 = 00E4`, `never-second 0301 = yes`, `seconds = 3`: what
-//! pairs compose to, whether a character is second in none, how many rows of equal seconds there are. `blocks nfd = 3`:
-//! how many blocks of words. `lists nfd = 0065 | 1D157`: the lists. `same nfd nfkd = yes`: whether words are equal.
-//! `copies = yes`: whether each part equals its copy. `ranges 0..5 1 6 2 = accepted`: whether words of ranges are made.
+//! What parts of data hold before any check. `joined 0061 0308 = 00E4`, `never-second 0301 = yes`: what pairs compose to,
+//! whether a character is second in none. `blocks nfd = 3`: how many blocks of words. `lists nfd = 0065 | 1D157`: the
+//! lists. `same nfd nfkd = yes`: whether words are equal. `copies = yes`: whether each part equals its copy. `ranges 0..5
+//! 1 6 2 = accepted`: whether words of ranges are made.
 use super::Answer;
 use crate::by_hand::numbers;
 use crate::fault::Fault;
@@ -10,7 +10,7 @@ use crate::questions::data::{data_named, table_named};
 use crate::spelling::{Spelled, spelled_all, spelled_bool};
 use crate::words::{character, hexadecimal};
 use icu_normalizer::{CanonicalCompositions, CodePointTable, DecompositionTables, TableError};
-use normalizer_tables::{block_count, compose, is_never_second, row_count};
+use normalizer_tables::{block_count, compose, is_never_second};
 use std::alloc::Global;
 
 fn pairs_of(held: &Held) -> Result<&CanonicalCompositions, Fault> {
@@ -36,13 +36,12 @@ pub fn never_second(alloc: Global, held: &Held, question: &[&str]) -> Answer {
     spelled_bool(alloc, is_never_second(pairs_of(held)?, character(second)?))
 }
 
-/// How many rows of equal seconds pairs are in, or how many blocks a table has.
-pub fn counted(alloc: Global, held: &Held, name: &str, question: &[&str]) -> Answer {
-    let count = match (name, question) {
-        ("seconds", []) => row_count(pairs_of(held)?),
-        ("blocks", [kind]) => block_count(table_named(held, kind)?),
-        _ => return Err(Fault::Unreadable),
+/// How many blocks a table has.
+pub fn counted(alloc: Global, held: &Held, question: &[&str]) -> Answer {
+    let [kind] = question else {
+        return Err(Fault::Unreadable);
     };
+    let count = block_count(table_named(held, kind)?);
     Ok(format!(in alloc; "{count}")?)
 }
 
