@@ -54,7 +54,7 @@ typedef uint32_t icu_normalizer_status;
 #define ICU_NORMALIZER_NOT_OPEN 4u
 /* A line of a data file is wrong. */
 #define ICU_NORMALIZER_WRONG_LINE 5u
-/* The records of characters, together, can't be built into tables. */
+/* The records, together, can't be built into tables. */
 #define ICU_NORMALIZER_WRONG_RECORDS 6u
 /* The handle has no mapper. */
 #define ICU_NORMALIZER_NO_MAPPER 7u
@@ -70,7 +70,7 @@ static inline const char *icu_normalizer_status_text(icu_normalizer_status statu
         case ICU_NORMALIZER_UNKNOWN_FORM: return "no form has this number";
         case ICU_NORMALIZER_NOT_OPEN: return "the normalizer isn't open";
         case ICU_NORMALIZER_WRONG_LINE: return "a line of a data file is wrong";
-        case ICU_NORMALIZER_WRONG_RECORDS: return "the records of characters can't be built into tables";
+        case ICU_NORMALIZER_WRONG_RECORDS: return "the records can't be built into tables";
         case ICU_NORMALIZER_NO_MAPPER: return "the normalizer has no mapper";
         case ICU_NORMALIZER_WRONG_RECORD: return "a record is wrong";
         default: return "no status has this number";
@@ -97,9 +97,39 @@ typedef struct icu_normalizer_record {
     bool is_excluded;        /* whether the character is excluded from composition */
 } icu_normalizer_record;
 
-/* Where data are wrong, and why. */
+/* What a mapper does with a character (Unicode Technical Standard #46, section 4). */
+#define ICU_NORMALIZER_MAPPED 0u     /* it is mapped to the mapping, of at least one character */
+#define ICU_NORMALIZER_IGNORED 1u    /* it is dropped */
+#define ICU_NORMALIZER_DISALLOWED 2u /* it becomes U+FFFD */
+
+/* A record of one character for the mapper. The mapping is a part of the same array, mapped fully; unless the status is
+   MAPPED it is best of length 0, and isn't used. */
+typedef struct icu_normalizer_mapper_record {
+    size_t mapping_start;  /* where the mapping begins in the array */
+    size_t mapping_length; /* how many code points it has */
+    uint32_t character;
+    uint32_t status; /* what the mapper does with it */
+} icu_normalizer_mapper_record;
+
+/* Where data are wrong, and why. It is written on three statuses only:
+   - WRONG_LINE: the first line that is wrong, of CompositionExclusions.txt, then of UnicodeData.txt, then of
+     IdnaMappingTable.txt.
+   - WRONG_RECORD: the first record that is wrong by itself, whatever the others are, of those of characters, then of
+     those of the mapper.
+   - WRONG_RECORDS: each record is right by itself, but all can't be built into tables. The reason is the first of 10
+     to 16 that is so, else 18 or 17. No record is named: the place is 0; with reason 17 it is the number of the first
+     written condition that the tables break (docs/CONDITIONS.md).
+
+   By the reason of WRONG_RECORDS a program can find the records. With 10, it compares neighbours in each array; with 11
+   and 13, it looks at each record alone; with 16, it compares the canonical mappings of two characters that aren't
+   excluded. With 12, 14 and 15, it follows the mappings: the list of a character is its mapping, with each character
+   replaced by its own mapping until nothing changes.
+
+   Records of the mapper may be wrong only together with those of characters. With Unicode's own data, to map U+0041
+   alone, to U+0061, is refused with reason 17 and condition 8: a member of a list must read to itself, but the list of
+   U+00C0 has U+0041. IdnaMappingTable.txt maps U+00C0 and all others whose lists have U+0041 too. */
 typedef struct icu_normalizer_defect {
-    size_t place;    /* the line of a file, from 1; how many records come before a record; or a condition, else 0 */
+    size_t place;    /* the line of a file, from 1; how many records come before a record; a condition; or 0 */
     uint32_t source; /* which data */
     uint32_t reason; /* what is wrong */
 } icu_normalizer_defect;
@@ -110,9 +140,10 @@ typedef struct icu_normalizer_defect {
 #define ICU_NORMALIZER_IDNA_MAPPING_TABLE 2u
 #define ICU_NORMALIZER_ONE_RECORD 3u
 #define ICU_NORMALIZER_ALL_RECORDS 4u
+#define ICU_NORMALIZER_ONE_MAPPER_RECORD 5u
 
-/* Returns what the reason of a defect means, in English: 1 to 8 are of lines, 9 is of one record, 10 to 18 are of the
-   records together. With reason 17, the place is the number of the condition (docs/CONDITIONS.md). */
+/* Returns what the reason of a defect means, in English: 1 to 8 are of lines, 9 of one record, 10 to 18 of the records
+   together. */
 static inline const char *icu_normalizer_reason_text(uint32_t reason) {
     switch (reason) {
         case 1: return "the line has too few fields";
@@ -123,7 +154,7 @@ static inline const char *icu_normalizer_reason_text(uint32_t reason) {
         case 6: return "the code points don't strictly rise";
         case 7: return "a range of code points is not closed";
         case 8: return "a class or a mapping of what is not one character";
-        case 9: return "the code point is no character, or the mapping is not characters of the array";
+        case 9: return "the code point is no character, no status has the number, or the mapping is not of the array";
         case 10: return "the records don't strictly rise by character";
         case 11: return "a record of U+FFFD, a conjoining jamo or a Hangul syllable";
         case 12: return "a class of 255, or a list that begins with a mark";
@@ -146,8 +177,9 @@ icu_normalizer_status icu_normalizer_open_files_nonnull(icu_normalizer *normaliz
     const uint8_t *unicode_data, size_t unicode_data_length, const uint8_t *exclusions, size_t exclusions_length,
     const uint8_t *idna_table, size_t idna_table_length, uint32_t disallowed_limit, icu_normalizer_defect *defect);
 icu_normalizer_status icu_normalizer_open_records_nonnull(icu_normalizer *normalizer,
-    const icu_normalizer_record *records, size_t records_length, const uint32_t *codes, size_t codes_length,
-    const uint8_t *idna_table, size_t idna_table_length, uint32_t disallowed_limit, icu_normalizer_defect *defect);
+    const icu_normalizer_record *records, size_t records_length,
+    const icu_normalizer_mapper_record *mapper_records, size_t mapper_records_length,
+    const uint32_t *codes, size_t codes_length, icu_normalizer_defect *defect);
 icu_normalizer_status icu_normalizer_normalize_utf8_nonnull(icu_normalizer *normalizer, icu_normalizer_form form,
     const uint8_t *input, size_t input_length, uint8_t *output, size_t output_length, size_t *needed);
 icu_normalizer_status icu_normalizer_normalize_utf16_nonnull(icu_normalizer *normalizer, icu_normalizer_form form,
@@ -204,17 +236,19 @@ static inline icu_normalizer_status icu_normalizer_open_files(icu_normalizer *no
         idna_table_length ? idna_table : &none, idna_table_length, disallowed_limit, defect);
 }
 
-/* The same, with records in place of the first two files. They rise by character, and `codes` has the code points of
-   their mappings. Characters without a class and a mapping need none. On WRONG_RECORD `*defect` says which is wrong. */
+/* The same, with records in place of the files: those of characters, which without a class and a mapping need none, and
+   those of the mapper, which is left out if there are none. Both rise by character, and `codes` has the code points of
+   all mappings. On WRONG_RECORD and WRONG_RECORDS `*defect` says which is wrong, or why; else it is unchanged. */
 static inline icu_normalizer_status icu_normalizer_open_records(icu_normalizer *normalizer,
-    const icu_normalizer_record *records, size_t records_length, const uint32_t *codes, size_t codes_length,
-    const uint8_t *idna_table, size_t idna_table_length, uint32_t disallowed_limit, icu_normalizer_defect *defect) {
+    const icu_normalizer_record *records, size_t records_length,
+    const icu_normalizer_mapper_record *mapper_records, size_t mapper_records_length,
+    const uint32_t *codes, size_t codes_length, icu_normalizer_defect *defect) {
     const icu_normalizer_record no_record = {0, 0, 0, 0, false, false};
+    const icu_normalizer_mapper_record no_mapper_record = {0, 0, 0, 0};
     const uint32_t no_code = 0;
-    const uint8_t none = 0;
-    return icu_normalizer_open_records_nonnull(normalizer,
-        records_length ? records : &no_record, records_length, codes_length ? codes : &no_code, codes_length,
-        idna_table_length ? idna_table : &none, idna_table_length, disallowed_limit, defect);
+    return icu_normalizer_open_records_nonnull(normalizer, records_length ? records : &no_record, records_length,
+        mapper_records_length ? mapper_records : &no_mapper_record, mapper_records_length,
+        codes_length ? codes : &no_code, codes_length, defect);
 }
 
 /* Each call below ends with NOT_OPEN if the handle has no normalizers, else with UNKNOWN_FORM if no form has the

@@ -17,7 +17,7 @@ use Rattle.icu_normalizer_c.specs.declared.defect.Defect.{Defect}
 use Rattle.icu_normalizer_c.specs.declared.handle.Handle.{Handle}
 use Rattle.icu_normalizer_c.specs.declared.mismatch.Mismatch.{Mismatch}
 use Rattle.icu_normalizer_c.specs.declared.normalizers.Normalizers.{Normalizers}
-use Rattle.icu_normalizer_c.specs.Buffers.{Fills, Tells}
+use Rattle.icu_normalizer_c.specs.Buffers.{Fills, Reports}
 use Rattle.icu_normalizer_c.specs.Defects.{defect_after}
 use Rattle.icu_normalizer_c.specs.Forms.{last_form, number_of}
 use Rattle.icu_normalizer_c.specs.Made.{made_in}
@@ -29,7 +29,7 @@ use Rattle.icu_normalizer_c.specs.Status.{status_of}
 abbrev pub IsStatus : ℕ → (Result ⊤ Fault → Type 0) → Type 0
 IsStatus number Is = (outcome : Result ⊤ Fault) × (number ≡ status_of outcome) × Is outcome
 
--- the same of an outcome whose defect, if it has one, the caller is told
+-- the same of an outcome whose defect, if it has one, is reported
 abbrev pub IsStatusReporting : ℕ → (before after : Defect) → (Result ⊤ Fault → Type 0) → Type 0
 IsStatusReporting number before after Is =
     (outcome : Result ⊤ Fault) × (number ≡ status_of outcome) × (after ≡ defect_after outcome before) × Is outcome
@@ -49,32 +49,39 @@ AtForm n number Unchanged Is outcome =
     ((last_form < number) × (outcome ≡ Err UnknownForm) × Unchanged)
     ⊎ ((m : MadeForm) × IsNumbered n number m × Is m outcome)
 
+-- a call at the normalizers of a handle, unless it has none
+abbrev pub OverHeld : Option Normalizers → (Unchanged : Type 0) → (Normalizers → Result ⊤ Fault → Type 0)
+    → Result ⊤ Fault → Type 0
+OverHeld None Unchanged Is outcome = (outcome ≡ Err NotOpen) × Unchanged
+OverHeld (Some n) Unchanged Is outcome = Is n outcome
+
 -- a call at a form of the normalizers of a handle, unless it has none
 abbrev pub Over : Option Normalizers → (number : ℕ) → (Unchanged : Type 0) → (MadeForm → Result ⊤ Fault → Type 0)
     → Result ⊤ Fault → Type 0
-Over None number Unchanged Is outcome = (outcome ≡ Err NotOpen) × Unchanged
-Over (Some n) number Unchanged Is outcome = AtForm n number Unchanged Is outcome
+Over h number Unchanged Is outcome = OverHeld h Unchanged (λ n. AtForm n number Unchanged Is) outcome
 
 -- the encoded form of the input goes to the buffer
-abbrev pub WritesForm : Encoding → (input before after : List ℕ) → (told_before told : ℕ) → MadeForm → Result ⊤ Fault
+abbrev pub WritesForm : Encoding → (input before after : List ℕ) → (count_before count : ℕ) → MadeForm → Result ⊤ Fault
     → Type 0
-WritesForm e input before after told_before told m outcome =
-    Fills (encoded_form e m.reading m.form input) before after told_before told outcome
+WritesForm e input before after count_before count m outcome =
+    Fills (encoded_form e m.reading m.form input) before after count_before count outcome
 
--- the caller is told whether the input is well-formed and normalized
-abbrev pub TellsNormalized : Encoding → (input : List ℕ) → (before after : Bool) → MadeForm → Result ⊤ Fault → Type 0
-TellsNormalized e input before after m outcome =
-    Tells m e input (λ yes. IsTrue yes ↔ IsInputNormalized e m.reading m.form input) before after outcome
+-- it is reported whether the input is well-formed and normalized
+abbrev pub ReportsNormalized : Encoding → (input : List ℕ) → (before after : Bool) → MadeForm → Result ⊤ Fault
+    → Type 0
+ReportsNormalized e input before after m outcome =
+    Reports m e input (λ yes. IsTrue yes ↔ IsInputNormalized e m.reading m.form input) before after outcome
 
--- the caller is told the cut of the input
-abbrev pub TellsCut : Encoding → (input : List ℕ) → (before after : ℕ) → MadeForm → Result ⊤ Fault → Type 0
-TellsCut e input before after m outcome =
-    Tells m e input (IsInputCut e m.reading m.form input) before after outcome
+-- the cut of the input is reported
+abbrev pub ReportsCut : Encoding → (input : List ℕ) → (before after : ℕ) → MadeForm → Result ⊤ Fault → Type 0
+ReportsCut e input before after m outcome =
+    Reports m e input (IsInputCut e m.reading m.form input) before after outcome
 
--- the caller is told the first mismatch of the input, or that it is well-formed and normalized
-abbrev pub TellsMismatch : Encoding → (input : List ℕ) → (before after : Mismatch) → MadeForm → Result ⊤ Fault → Type 0
-TellsMismatch e input before after m outcome =
-    Tells m e input (λ told. (answer : Option Offence) × (told ≡ mismatch_of answer) × IsLastingOffence m e input answer)
+-- the first mismatch of the input is reported, or that it is well-formed and normalized
+abbrev pub ReportsMismatch : Encoding → (input : List ℕ) → (before after : Mismatch) → MadeForm → Result ⊤ Fault
+    → Type 0
+ReportsMismatch e input before after m outcome =
+    Reports m e input (λ it. (answer : Option Offence) × (it ≡ mismatch_of answer) × IsLastingOffence m e input answer)
     before after outcome
 
 -- a call at the mapper of normalizers, unless they have none
@@ -86,11 +93,10 @@ AtMapper (Some m) Unchanged Is outcome = Is (mapper_data_of m) outcome
 -- a call at the mapper of a handle, unless it has no normalizers or no mapper
 abbrev pub OverMapper : Option Normalizers → (Unchanged : Type 0) → (MapperData → Result ⊤ Fault → Type 0)
     → Result ⊤ Fault → Type 0
-OverMapper None Unchanged Is outcome = (outcome ≡ Err NotOpen) × Unchanged
-OverMapper (Some n) Unchanged Is outcome = AtMapper n.mapper Unchanged Is outcome
+OverMapper h Unchanged Is outcome = OverHeld h Unchanged (λ n. AtMapper n.mapper Unchanged Is) outcome
 
 -- what the input is mapped to goes to the buffer, encoded as it is, its ignored characters dropped or replaced
-abbrev pub WritesMapped : Encoding → IgnoredCharacters → (input before after : List ℕ) → (told_before told : ℕ)
+abbrev pub WritesMapped : Encoding → IgnoredCharacters → (input before after : List ℕ) → (count_before count : ℕ)
     → MapperData → Result ⊤ Fault → Type 0
-WritesMapped e i input before after told_before told h outcome =
-    Fills (encoded_in e (mapped_in h i (decoded_in e input))) before after told_before told outcome
+WritesMapped e i input before after count_before count h outcome =
+    Fills (encoded_in e (mapped_in h i (decoded_in e input))) before after count_before count outcome

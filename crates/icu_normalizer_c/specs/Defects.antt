@@ -8,16 +8,7 @@ use Rattle.normalizer_ucd.specs.declared.error.UcdFile.{UcdFile}
 use Rattle.normalizer_ucd.specs.declared.error.UcdFile.TheVariants as files
 use Rattle.icu_normalizer_c.specs.declared.defect.Defect.{Defect}
 use Rattle.icu_normalizer_c.specs.declared.fault.Fault.{Fault}
-use Rattle.icu_normalizer_c.specs.declared.fault.Fault.TheVariants.{
-  BufferTooSmall,
-  Memory,
-  UnknownForm,
-  NotOpen,
-  Line,
-  Records,
-  NoMapper,
-  Record,
-}
+use Rattle.icu_normalizer_c.specs.declared.fault.Fault.TheVariants.{Line, Records, Record, MapperRecord}
 
 abbrev pub number_of_file : UcdFile → ℕ
 number_of_file files.UnicodeData = 0
@@ -57,11 +48,8 @@ defect_of (Line f) before =
     record { place = f.place.line; source = number_of_file f.place.file; reason = number_of_problem f.problem }
 defect_of (Record index) before = record { place = index; source = 3; reason = 9 }
 defect_of (Records e) before = record { place = condition_of_error e; source = 4; reason = number_of_error e }
-defect_of BufferTooSmall before = before
-defect_of Memory before = before
-defect_of UnknownForm before = before
-defect_of NotOpen before = before
-defect_of NoMapper before = before
+defect_of (MapperRecord index) before = record { place = index; source = 5; reason = 9 }
+defect_of fault before = before
 
 abbrev pub defect_after : Result ⊤ Fault → Defect → Defect
 defect_after (Ok done) before = before

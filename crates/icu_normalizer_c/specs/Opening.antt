@@ -8,16 +8,7 @@ use Rattle.normalizer_ucd.specs.declared.idna_table.Disallowed.TheVariants.{Rang
 use Rattle.normalizer_ucd.specs.IdnaTable.{uts46_records_of}
 use Rattle.normalizer_ucd.specs.UnicodeData.{records_of}
 use Rattle.icu_normalizer_c.specs.declared.fault.Fault.{Fault}
-use Rattle.icu_normalizer_c.specs.declared.fault.Fault.TheVariants.{
-  BufferTooSmall,
-  Memory,
-  UnknownForm,
-  NotOpen,
-  Line,
-  Records,
-  NoMapper,
-  Record,
-}
+use Rattle.icu_normalizer_c.specs.declared.fault.Fault.TheVariants.{Memory, Line, Records}
 use Rattle.icu_normalizer_c.specs.declared.normalizers.Normalizers.{Normalizers}
 use Rattle.icu_normalizer_c.specs.Made.{MakeBy, MapBy}
 
@@ -53,12 +44,7 @@ of_idna_table table limit = of_lines (uts46_records_of (RangesUpTo limit) table)
 abbrev pub IsBuildFault : List Entry → List MapperEntry → Fault → Type 0
 IsBuildFault records mapper Memory = ⊤
 IsBuildFault records mapper (Records error) = IsSmallest records mapper error
-IsBuildFault records mapper (Line fault) = ⊥
-IsBuildFault records mapper (Record index) = ⊥
-IsBuildFault records mapper BufferTooSmall = ⊥
-IsBuildFault records mapper UnknownForm = ⊥
-IsBuildFault records mapper NotOpen = ⊥
-IsBuildFault records mapper NoMapper = ⊥
+IsBuildFault records mapper fault = ⊥
 
 -- why nothing is opened by a source: its own fault, or that of building, or memory was refused
 abbrev pub IsFaultOf : Source → Fault → Type 0

@@ -14,6 +14,7 @@ use Rattle.icu_normalizer_c.specs.declared.fault.Fault.TheVariants.{
   Records,
   NoMapper,
   Record,
+  MapperRecord,
 }
 
 abbrev pub number_of : Fault → ℕ
@@ -24,7 +25,8 @@ number_of NotOpen = 4
 number_of (Line fault) = 5
 number_of (Records error) = 6
 number_of NoMapper = 7
-number_of (Record fault) = 8
+number_of (Record index) = 8
+number_of (MapperRecord index) = 8
 
 -- 0, or the number of the fault
 abbrev pub status_of : Result ⊤ Fault → ℕ

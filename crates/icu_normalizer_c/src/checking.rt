@@ -1,19 +1,92 @@
 //! Whether inputs are normalized, and how far.
-ghost use Rattle.std.specs.Prelude.{◌≡◌};
+ghost use Rattle.std.specs.Prelude.{◌≡◌, ◌↔◌, IsTrue};
+ghost use Rattle.normalizer_input.specs.InputCut.{IsInputCut, IsInputNormalized};
 ghost use Rattle.normalizer_text.specs.Encodings.{Encoding};
-ghost use Rattle.icu_normalizer_c.specs.Calls.{
-  held,
-  AtForm,
-  IsStatus,
-  Over,
-  TellsCut,
-  TellsNormalized,
-};
+ghost use Rattle.icu_normalizer_c.specs.Calls.{held, IsStatus, Over, ReportsCut, ReportsNormalized};
 
-use crate::fault::{Fault, status};
 use crate::handle::Handle;
-use crate::normalizers::Normalizers;
+use crate::normalizers::Normalizer;
+use crate::question::{Question, report};
+use icu_normalizer::NormalizeError;
 use std::alloc::Global;
+
+/// Whether an input is well-formed and normalized.
+#[derive(Drop)]
+struct IsNormalized<U>(U);
+
+impl<'a> Question for IsNormalized<&'a [u8]> {
+    type Answer = bool;
+
+    ghost encoding = { Encoding.Utf8 };
+
+    ghost units = { λ q. q.0.now };
+
+    ghost is = { λ q m yes. IsTrue yes ↔ IsInputNormalized Encoding.Utf8 m.reading m.form q.0.now };
+
+    fn ask(&self, normalizer: &Normalizer<'_>) -> Result<bool, NormalizeError> {
+        match normalizer {
+            Normalizer::Decomposing(n) => n.is_normalized_utf8(self.0),
+            Normalizer::Composing(n) => n.is_normalized_utf8(self.0),
+        }
+    }
+}
+
+impl<'a> Question for IsNormalized<&'a [u16]> {
+    type Answer = bool;
+
+    ghost encoding = { Encoding.Utf16 };
+
+    ghost units = { λ q. q.0.now };
+
+    ghost is = { λ q m yes. IsTrue yes ↔ IsInputNormalized Encoding.Utf16 m.reading m.form q.0.now };
+
+    fn ask(&self, normalizer: &Normalizer<'_>) -> Result<bool, NormalizeError> {
+        match normalizer {
+            Normalizer::Decomposing(n) => n.is_normalized_utf16(self.0),
+            Normalizer::Composing(n) => n.is_normalized_utf16(self.0),
+        }
+    }
+}
+
+/// The cut of an input.
+#[derive(Drop)]
+struct Cut<U>(U);
+
+impl<'a> Question for Cut<&'a [u8]> {
+    type Answer = usize;
+
+    ghost encoding = { Encoding.Utf8 };
+
+    ghost units = { λ q. q.0.now };
+
+    ghost is = { λ q m cut. IsInputCut Encoding.Utf8 m.reading m.form q.0.now cut };
+
+    fn ask(&self, normalizer: &Normalizer<'_>) -> Result<usize, NormalizeError> {
+        let (prefix, _) = match normalizer {
+            Normalizer::Decomposing(n) => n.split_normalized_utf8(self.0)?,
+            Normalizer::Composing(n) => n.split_normalized_utf8(self.0)?,
+        };
+        Ok(prefix.len())
+    }
+}
+
+impl<'a> Question for Cut<&'a [u16]> {
+    type Answer = usize;
+
+    ghost encoding = { Encoding.Utf16 };
+
+    ghost units = { λ q. q.0.now };
+
+    ghost is = { λ q m cut. IsInputCut Encoding.Utf16 m.reading m.form q.0.now cut };
+
+    fn ask(&self, normalizer: &Normalizer<'_>) -> Result<usize, NormalizeError> {
+        let (prefix, _) = match normalizer {
+            Normalizer::Decomposing(n) => n.split_normalized_utf16(self.0)?,
+            Normalizer::Composing(n) => n.split_normalized_utf16(self.0)?,
+        };
+        Ok(prefix.len())
+    }
+}
 
 /// Reports whether `input` is well-formed UTF-8 and normalized.
 ///
@@ -28,42 +101,29 @@ pub extern "C" fn icu_normalizer_is_normalized_utf8_nonnull(
     reported: &mut bool,
 ) -> u32
     ensures status { IsStatus result (Over (held handle.old) form (reported.new ≡ reported.old)
-        (TellsNormalized Encoding.Utf8 input.now reported.old reported.new)) }
+        (ReportsNormalized Encoding.Utf8 input.now reported.old reported.new)) }
     ensures kept { held handle.new ≡ held handle.old }
 {
-    status(is_normalized_utf8(alloc, handle, form, input, reported))
+    report(alloc, handle, form, &IsNormalized(input), reported)
 }
 
-fn is_normalized_utf8(
+/// Reports whether `input` is well-formed UTF-16 and normalized.
+///
+/// # Errors
+/// `NotOpen`, `UnknownForm`, or `Memory`, which never comes over short runs. `reported` is then unchanged.
+#[unsafe(no_mangle)]
+pub extern "C" fn icu_normalizer_is_normalized_utf16_nonnull(
     alloc: Global,
     handle: &mut Handle,
     form: u32,
-    input: &[u8],
+    input: &[u16],
     reported: &mut bool,
-) -> Result<(), Fault>
-    ensures over { Over (held handle.old) form (reported.new ≡ reported.old)
-        (TellsNormalized Encoding.Utf8 input.now reported.old reported.new) result }
+) -> u32
+    ensures status { IsStatus result (Over (held handle.old) form (reported.new ≡ reported.old)
+        (ReportsNormalized Encoding.Utf16 input.now reported.old reported.new)) }
     ensures kept { held handle.new ≡ held handle.old }
 {
-    let Some(normalizers) = handle.take(alloc) else {
-        return Err(Fault::NotOpen);
-    };
-    let outcome = is_normalized_utf8_at(&normalizers, form, input, reported);
-    handle.put(alloc, normalizers);
-    outcome
-}
-
-fn is_normalized_utf8_at(
-    normalizers: &Normalizers,
-    form: u32,
-    input: &[u8],
-    reported: &mut bool,
-) -> Result<(), Fault>
-    ensures { AtForm normalizers.now form (reported.new ≡ reported.old)
-        (TellsNormalized Encoding.Utf8 input.now reported.old reported.new) result }
-{
-    let normalizer = normalizers.numbered(form)?;
-    normalizer.tell_normalized_utf8(input, reported)
+    report(alloc, handle, form, &IsNormalized(input), reported)
 }
 
 /// Reports the cut of `input` in UTF-8: the greatest number of units that are well-formed and that the form begins
@@ -80,93 +140,10 @@ pub extern "C" fn icu_normalizer_split_utf8_nonnull(
     reported: &mut usize,
 ) -> u32
     ensures status { IsStatus result (Over (held handle.old) form (reported.new ≡ reported.old)
-        (TellsCut Encoding.Utf8 input.now reported.old reported.new)) }
+        (ReportsCut Encoding.Utf8 input.now reported.old reported.new)) }
     ensures kept { held handle.new ≡ held handle.old }
 {
-    status(split_utf8(alloc, handle, form, input, reported))
-}
-
-fn split_utf8(
-    alloc: Global,
-    handle: &mut Handle,
-    form: u32,
-    input: &[u8],
-    reported: &mut usize,
-) -> Result<(), Fault>
-    ensures over { Over (held handle.old) form (reported.new ≡ reported.old)
-        (TellsCut Encoding.Utf8 input.now reported.old reported.new) result }
-    ensures kept { held handle.new ≡ held handle.old }
-{
-    let Some(normalizers) = handle.take(alloc) else {
-        return Err(Fault::NotOpen);
-    };
-    let outcome = split_utf8_at(&normalizers, form, input, reported);
-    handle.put(alloc, normalizers);
-    outcome
-}
-
-fn split_utf8_at(
-    normalizers: &Normalizers,
-    form: u32,
-    input: &[u8],
-    reported: &mut usize,
-) -> Result<(), Fault>
-    ensures { AtForm normalizers.now form (reported.new ≡ reported.old)
-        (TellsCut Encoding.Utf8 input.now reported.old reported.new) result }
-{
-    let normalizer = normalizers.numbered(form)?;
-    normalizer.tell_cut_utf8(input, reported)
-}
-
-/// Reports whether `input` is well-formed UTF-16 and normalized.
-///
-/// # Errors
-/// `NotOpen`, `UnknownForm`, or `Memory`, which never comes over short runs. `reported` is then unchanged.
-#[unsafe(no_mangle)]
-pub extern "C" fn icu_normalizer_is_normalized_utf16_nonnull(
-    alloc: Global,
-    handle: &mut Handle,
-    form: u32,
-    input: &[u16],
-    reported: &mut bool,
-) -> u32
-    ensures status { IsStatus result (Over (held handle.old) form (reported.new ≡ reported.old)
-        (TellsNormalized Encoding.Utf16 input.now reported.old reported.new)) }
-    ensures kept { held handle.new ≡ held handle.old }
-{
-    status(is_normalized_utf16(alloc, handle, form, input, reported))
-}
-
-fn is_normalized_utf16(
-    alloc: Global,
-    handle: &mut Handle,
-    form: u32,
-    input: &[u16],
-    reported: &mut bool,
-) -> Result<(), Fault>
-    ensures over { Over (held handle.old) form (reported.new ≡ reported.old)
-        (TellsNormalized Encoding.Utf16 input.now reported.old reported.new) result }
-    ensures kept { held handle.new ≡ held handle.old }
-{
-    let Some(normalizers) = handle.take(alloc) else {
-        return Err(Fault::NotOpen);
-    };
-    let outcome = is_normalized_utf16_at(&normalizers, form, input, reported);
-    handle.put(alloc, normalizers);
-    outcome
-}
-
-fn is_normalized_utf16_at(
-    normalizers: &Normalizers,
-    form: u32,
-    input: &[u16],
-    reported: &mut bool,
-) -> Result<(), Fault>
-    ensures { AtForm normalizers.now form (reported.new ≡ reported.old)
-        (TellsNormalized Encoding.Utf16 input.now reported.old reported.new) result }
-{
-    let normalizer = normalizers.numbered(form)?;
-    normalizer.tell_normalized_utf16(input, reported)
+    report(alloc, handle, form, &Cut(input), reported)
 }
 
 /// Reports the cut of `input` in UTF-16: the greatest number of units that are well-formed and that the form begins
@@ -183,40 +160,8 @@ pub extern "C" fn icu_normalizer_split_utf16_nonnull(
     reported: &mut usize,
 ) -> u32
     ensures status { IsStatus result (Over (held handle.old) form (reported.new ≡ reported.old)
-        (TellsCut Encoding.Utf16 input.now reported.old reported.new)) }
+        (ReportsCut Encoding.Utf16 input.now reported.old reported.new)) }
     ensures kept { held handle.new ≡ held handle.old }
 {
-    status(split_utf16(alloc, handle, form, input, reported))
-}
-
-fn split_utf16(
-    alloc: Global,
-    handle: &mut Handle,
-    form: u32,
-    input: &[u16],
-    reported: &mut usize,
-) -> Result<(), Fault>
-    ensures over { Over (held handle.old) form (reported.new ≡ reported.old)
-        (TellsCut Encoding.Utf16 input.now reported.old reported.new) result }
-    ensures kept { held handle.new ≡ held handle.old }
-{
-    let Some(normalizers) = handle.take(alloc) else {
-        return Err(Fault::NotOpen);
-    };
-    let outcome = split_utf16_at(&normalizers, form, input, reported);
-    handle.put(alloc, normalizers);
-    outcome
-}
-
-fn split_utf16_at(
-    normalizers: &Normalizers,
-    form: u32,
-    input: &[u16],
-    reported: &mut usize,
-) -> Result<(), Fault>
-    ensures { AtForm normalizers.now form (reported.new ≡ reported.old)
-        (TellsCut Encoding.Utf16 input.now reported.old reported.new) result }
-{
-    let normalizer = normalizers.numbered(form)?;
-    normalizer.tell_cut_utf16(input, reported)
+    report(alloc, handle, form, &Cut(input), reported)
 }

@@ -97,6 +97,13 @@ pub(crate) fn status_reporting(outcome: Result<(), Fault>, defect: &mut Defect) 
                 reason: 9,
             };
         }
+        Err(Fault::MapperRecord(index)) => {
+            *defect = Defect {
+                place: index,
+                source: 5,
+                reason: 9,
+            };
+        }
         Err(Fault::Records(error)) => *defect = Defect::of_error(error),
         _ => {}
     }

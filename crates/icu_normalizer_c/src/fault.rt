@@ -26,6 +26,8 @@ pub enum Fault {
     NoMapper,
     /// The record after so many is wrong.
     Record(usize),
+    /// The record of the mapper after so many is wrong.
+    MapperRecord(usize),
 }
 
 impl Fault {
@@ -41,7 +43,7 @@ impl Fault {
             Fault::Line(_) => 5,
             Fault::Records(_) => 6,
             Fault::NoMapper => 7,
-            Fault::Record(_) => 8,
+            Fault::Record(_) | Fault::MapperRecord(_) => 8,
         }
     }
 }

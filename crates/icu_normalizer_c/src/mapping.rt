@@ -3,15 +3,16 @@ ghost use Rattle.std.specs.Prelude.{◌≡◌, ℕ, List, IfErr, IfOk, encode_ut
 ghost use Rattle.std.specs.Iterator.{IsFinite};
 ghost use Rattle.normalizer_calls.specs.Mappers.{mapper_data_of_borrowed};
 ghost use Rattle.normalizer_iterators.specs.Items.{SpellsUnless};
-ghost use Rattle.normalizer_text.specs.Encodings.{Encoding, decoded_in};
+ghost use Rattle.normalizer_text.specs.Encodings.{Encoding, decoded_in, encoded_in};
 ghost use Rattle.normalizer_text.specs.Utf16.{encode_utf16_all};
 ghost use Rattle.icu_normalizer_c.specs.Calls.{held, AtMapper, IsStatus, OverMapper, WritesMapped};
 ghost use Rattle.icu_normalizer_c.specs.Mapping.{mapped_in};
 
 use crate::buffer::fill;
-use crate::fault::{Fault, status};
+use crate::fault::Fault;
 use crate::handle::Handle;
 use crate::normalizers::Normalizers;
+use crate::text::{Text, write};
 use icu_normalizer::NormalizeError;
 use icu_normalizer::uts46::Uts46MapperBorrowed;
 use normalizer_iterators::laws::text_comes_unless_a_fault_does;
@@ -19,8 +20,57 @@ use normalizer_tables::characters::IgnoredCharacters;
 use normalizer_text::{Chars, Units};
 use std::alloc::{AllocError, Global};
 
-/// Writes what `input` decodes to, mapped and in NFC, in UTF-8: ignored characters are dropped, and disallowed ones become
-/// U+FFFD. `needed` is then how many units there are.
+/// What an input is mapped to.
+#[derive(Drop)]
+struct Mapped<U> {
+    ignored: IgnoredCharacters,
+    input: U,
+}
+
+impl<'a> Text for Mapped<&'a [u8]> {
+    type Unit = u8;
+
+    ghost at = { λ t Unchanged Is n. AtMapper n.mapper Unchanged (λ h.
+        Is (encoded_in Encoding.Utf8 (mapped_in h t.ignored (decoded_in Encoding.Utf8 t.input.now)))) };
+
+    fn write(
+        &self,
+        alloc: Global,
+        normalizers: &Normalizers,
+        output: &mut [u8],
+        needed: &mut usize,
+    ) -> Result<(), Fault> {
+        let Some(mapper) = &normalizers.mapper else {
+            return Err(Fault::NoMapper);
+        };
+        let mapper = mapper.as_borrowed();
+        write_utf8(alloc, &mapper, self.ignored, self.input, output, needed)
+    }
+}
+
+impl<'a> Text for Mapped<&'a [u16]> {
+    type Unit = u16;
+
+    ghost at = { λ t Unchanged Is n. AtMapper n.mapper Unchanged (λ h.
+        Is (encoded_in Encoding.Utf16 (mapped_in h t.ignored (decoded_in Encoding.Utf16 t.input.now)))) };
+
+    fn write(
+        &self,
+        alloc: Global,
+        normalizers: &Normalizers,
+        output: &mut [u16],
+        needed: &mut usize,
+    ) -> Result<(), Fault> {
+        let Some(mapper) = &normalizers.mapper else {
+            return Err(Fault::NoMapper);
+        };
+        let mapper = mapper.as_borrowed();
+        write_utf16(alloc, &mapper, self.ignored, self.input, output, needed)
+    }
+}
+
+/// Writes what `input` decodes to, mapped and in NFC, in UTF-8. Ignored characters are dropped, and disallowed ones
+/// become U+FFFD. `needed` is then how many units there are.
 ///
 /// # Errors
 /// `NotOpen`, `NoMapper`, `Memory`, or `BufferTooSmall`, after which `needed` is how many units there are. `output` is
@@ -38,18 +88,12 @@ pub extern "C" fn icu_normalizer_map_utf8_nonnull(
         (WritesMapped Encoding.Utf8 IgnoredCharacters.Dropped input.now output.old output.new needed.old needed.new)) }
     ensures kept { held handle.new ≡ held handle.old }
 {
-    status(map_utf8(
-        alloc,
-        handle,
-        IgnoredCharacters::Dropped,
-        input,
-        output,
-        needed,
-    ))
+    let ignored = IgnoredCharacters::Dropped;
+    write(alloc, handle, &Mapped { ignored, input }, output, needed)
 }
 
-/// Writes what `input` decodes to, mapped and in NFC, in UTF-8: ignored and disallowed characters become U+FFFD. `needed`
-/// is then how many units there are. Mapped text is valid only if this leaves it unchanged.
+/// Writes what `input` decodes to, mapped and in NFC, in UTF-8. Ignored and disallowed characters become U+FFFD.
+/// `needed` is then how many units there are. Mapped text is valid only if this leaves it unchanged.
 ///
 /// # Errors
 /// `NotOpen`, `NoMapper`, `Memory`, or `BufferTooSmall`, after which `needed` is how many units there are. `output` is
@@ -67,71 +111,12 @@ pub extern "C" fn icu_normalizer_validate_utf8_nonnull(
         (WritesMapped Encoding.Utf8 IgnoredCharacters.Replaced input.now output.old output.new needed.old needed.new)) }
     ensures kept { held handle.new ≡ held handle.old }
 {
-    status(map_utf8(
-        alloc,
-        handle,
-        IgnoredCharacters::Replaced,
-        input,
-        output,
-        needed,
-    ))
+    let ignored = IgnoredCharacters::Replaced;
+    write(alloc, handle, &Mapped { ignored, input }, output, needed)
 }
 
-fn map_utf8(
-    alloc: Global,
-    handle: &mut Handle,
-    ignored: IgnoredCharacters,
-    input: &[u8],
-    output: &mut [u8],
-    needed: &mut usize,
-) -> Result<(), Fault>
-    ensures over { OverMapper (held handle.old) ((output.new ≡ output.old) × (needed.new ≡ needed.old))
-        (WritesMapped Encoding.Utf8 ignored input.now output.old output.new needed.old needed.new) result }
-    ensures kept { held handle.new ≡ held handle.old }
-{
-    let Some(normalizers) = handle.take(alloc) else {
-        return Err(Fault::NotOpen);
-    };
-    let outcome = map_utf8_at(alloc, &normalizers, ignored, input, output, needed);
-    handle.put(alloc, normalizers);
-    outcome
-}
-
-fn map_utf8_at(
-    alloc: Global,
-    normalizers: &Normalizers,
-    ignored: IgnoredCharacters,
-    input: &[u8],
-    output: &mut [u8],
-    needed: &mut usize,
-) -> Result<(), Fault>
-    ensures { AtMapper normalizers.now.mapper ((output.new ≡ output.old) × (needed.new ≡ needed.old))
-        (WritesMapped Encoding.Utf8 ignored input.now output.old output.new needed.old needed.new) result }
-{
-    let Some(mapper) = &normalizers.mapper else {
-        return Err(Fault::NoMapper);
-    };
-    write_utf8(alloc, &mapper.as_borrowed(), ignored, input, output, needed)
-}
-
-fn write_utf8(
-    alloc: Global,
-    mapper: &Uts46MapperBorrowed<'_>,
-    ignored: IgnoredCharacters,
-    input: &[u8],
-    output: &mut [u8],
-    needed: &mut usize,
-) -> Result<(), Fault>
-    ensures { WritesMapped Encoding.Utf8 ignored input.now output.old output.new needed.old needed.new
-        (mapper_data_of_borrowed mapper.now) result }
-{
-    let characters = mapped(alloc, mapper, ignored, input)?;
-    let mapped = encoded_utf8(alloc, &characters)?;
-    fill(mapped.as_bytes(), output, needed)
-}
-
-/// Writes what `input` decodes to, mapped and in NFC, in UTF-16: ignored characters are dropped, and disallowed ones become
-/// U+FFFD. `needed` is then how many units there are.
+/// Writes what `input` decodes to, mapped and in NFC, in UTF-16. Ignored characters are dropped, and disallowed ones
+/// become U+FFFD. `needed` is then how many units there are.
 ///
 /// # Errors
 /// `NotOpen`, `NoMapper`, `Memory`, or `BufferTooSmall`, after which `needed` is how many units there are. `output` is
@@ -149,18 +134,12 @@ pub extern "C" fn icu_normalizer_map_utf16_nonnull(
         (WritesMapped Encoding.Utf16 IgnoredCharacters.Dropped input.now output.old output.new needed.old needed.new)) }
     ensures kept { held handle.new ≡ held handle.old }
 {
-    status(map_utf16(
-        alloc,
-        handle,
-        IgnoredCharacters::Dropped,
-        input,
-        output,
-        needed,
-    ))
+    let ignored = IgnoredCharacters::Dropped;
+    write(alloc, handle, &Mapped { ignored, input }, output, needed)
 }
 
-/// Writes what `input` decodes to, mapped and in NFC, in UTF-16: ignored and disallowed characters become U+FFFD. `needed`
-/// is then how many units there are. Mapped text is valid only if this leaves it unchanged.
+/// Writes what `input` decodes to, mapped and in NFC, in UTF-16. Ignored and disallowed characters become U+FFFD.
+/// `needed` is then how many units there are. Mapped text is valid only if this leaves it unchanged.
 ///
 /// # Errors
 /// `NotOpen`, `NoMapper`, `Memory`, or `BufferTooSmall`, after which `needed` is how many units there are. `output` is
@@ -178,51 +157,24 @@ pub extern "C" fn icu_normalizer_validate_utf16_nonnull(
         (WritesMapped Encoding.Utf16 IgnoredCharacters.Replaced input.now output.old output.new needed.old needed.new)) }
     ensures kept { held handle.new ≡ held handle.old }
 {
-    status(map_utf16(
-        alloc,
-        handle,
-        IgnoredCharacters::Replaced,
-        input,
-        output,
-        needed,
-    ))
+    let ignored = IgnoredCharacters::Replaced;
+    write(alloc, handle, &Mapped { ignored, input }, output, needed)
 }
 
-fn map_utf16(
+fn write_utf8(
     alloc: Global,
-    handle: &mut Handle,
+    mapper: &Uts46MapperBorrowed<'_>,
     ignored: IgnoredCharacters,
-    input: &[u16],
-    output: &mut [u16],
+    input: &[u8],
+    output: &mut [u8],
     needed: &mut usize,
 ) -> Result<(), Fault>
-    ensures over { OverMapper (held handle.old) ((output.new ≡ output.old) × (needed.new ≡ needed.old))
-        (WritesMapped Encoding.Utf16 ignored input.now output.old output.new needed.old needed.new) result }
-    ensures kept { held handle.new ≡ held handle.old }
+    ensures { WritesMapped Encoding.Utf8 ignored input.now output.old output.new needed.old needed.new
+        (mapper_data_of_borrowed mapper.now) result }
 {
-    let Some(normalizers) = handle.take(alloc) else {
-        return Err(Fault::NotOpen);
-    };
-    let outcome = map_utf16_at(alloc, &normalizers, ignored, input, output, needed);
-    handle.put(alloc, normalizers);
-    outcome
-}
-
-fn map_utf16_at(
-    alloc: Global,
-    normalizers: &Normalizers,
-    ignored: IgnoredCharacters,
-    input: &[u16],
-    output: &mut [u16],
-    needed: &mut usize,
-) -> Result<(), Fault>
-    ensures { AtMapper normalizers.now.mapper ((output.new ≡ output.old) × (needed.new ≡ needed.old))
-        (WritesMapped Encoding.Utf16 ignored input.now output.old output.new needed.old needed.new) result }
-{
-    let Some(mapper) = &normalizers.mapper else {
-        return Err(Fault::NoMapper);
-    };
-    write_utf16(alloc, &mapper.as_borrowed(), ignored, input, output, needed)
+    let characters = mapped_characters(alloc, mapper, ignored, input)?;
+    let mapped = encoded_utf8(alloc, &characters)?;
+    fill(mapped.as_bytes(), output, needed)
 }
 
 fn write_utf16(
@@ -236,13 +188,13 @@ fn write_utf16(
     ensures { WritesMapped Encoding.Utf16 ignored input.now output.old output.new needed.old needed.new
         (mapper_data_of_borrowed mapper.now) result }
 {
-    let characters = mapped(alloc, mapper, ignored, input)?;
+    let characters = mapped_characters(alloc, mapper, ignored, input)?;
     let mapped = encoded_utf16(alloc, &characters)?;
     fill(mapped.as_slice(), output, needed)
 }
 
 /// Returns the text that units decode to, mapped, in NFC.
-fn mapped<U: Units>(
+fn mapped_characters<U: Units>(
     alloc: Global,
     mapper: &Uts46MapperBorrowed<'_>,
     ignored: IgnoredCharacters,

@@ -1,13 +1,15 @@
 //! The first mismatches of inputs.
-ghost use Rattle.std.specs.Prelude.{◌≡◌};
+ghost use Rattle.std.specs.Prelude.{◌≡◌, Option};
 ghost use Rattle.normalizer_text.specs.Encodings.{Encoding};
-ghost use Rattle.icu_normalizer_c.specs.Calls.{held, AtForm, IsStatus, Over, TellsMismatch};
+ghost use Rattle.icu_normalizer_c.specs.Calls.{held, IsStatus, Over, ReportsMismatch};
+ghost use Rattle.normalizer_calls.specs.Checks.{IsLastingOffence};
+ghost use Rattle.normalizer_input.specs.declared.offence.Offence.{Offence};
 ghost use Rattle.icu_normalizer_c.specs.Mismatches.{mismatch_of};
 
-use crate::fault::{Fault, status};
 use crate::handle::Handle;
-use crate::normalizers::Normalizers;
-use icu_normalizer::Offence;
+use crate::normalizers::Normalizer;
+use crate::question::{Question, report};
+use icu_normalizer::{NormalizeError, Offence};
 use std::alloc::Global;
 
 /// The first mismatch of an input, if it has one. If not, the numbers are 0.
@@ -46,6 +48,48 @@ impl Mismatch {
     }
 }
 
+/// The first mismatch of an input.
+#[derive(Drop)]
+struct FirstMismatch<U>(U);
+
+impl<'a> Question for FirstMismatch<&'a [u8]> {
+    type Answer = Mismatch;
+
+    ghost encoding = { Encoding.Utf8 };
+
+    ghost units = { λ q. q.0.now };
+
+    ghost is = { λ q m it. (answer : Option Offence) × (it ≡ mismatch_of answer) ×
+        IsLastingOffence m Encoding.Utf8 q.0.now answer };
+
+    fn ask(&self, normalizer: &Normalizer<'_>) -> Result<Mismatch, NormalizeError> {
+        let offence = match normalizer {
+            Normalizer::Decomposing(n) => n.first_offence_utf8(self.0)?,
+            Normalizer::Composing(n) => n.first_offence_utf8(self.0)?,
+        };
+        Ok(Mismatch::of(offence))
+    }
+}
+
+impl<'a> Question for FirstMismatch<&'a [u16]> {
+    type Answer = Mismatch;
+
+    ghost encoding = { Encoding.Utf16 };
+
+    ghost units = { λ q. q.0.now };
+
+    ghost is = { λ q m it. (answer : Option Offence) × (it ≡ mismatch_of answer) ×
+        IsLastingOffence m Encoding.Utf16 q.0.now answer };
+
+    fn ask(&self, normalizer: &Normalizer<'_>) -> Result<Mismatch, NormalizeError> {
+        let offence = match normalizer {
+            Normalizer::Decomposing(n) => n.first_offence_utf16(self.0)?,
+            Normalizer::Composing(n) => n.first_offence_utf16(self.0)?,
+        };
+        Ok(Mismatch::of(offence))
+    }
+}
+
 /// Reports the first place where `input` is ill-formed UTF-8 or differs from its form: the offset in units, the
 /// character found there and the one expected. At an ill-formed sequence, U+FFFD is found.
 ///
@@ -60,42 +104,10 @@ pub extern "C" fn icu_normalizer_first_mismatch_utf8_nonnull(
     reported: &mut Mismatch,
 ) -> u32
     ensures status { IsStatus result (Over (held handle.old) form (reported.new ≡ reported.old)
-        (TellsMismatch Encoding.Utf8 input.now reported.old reported.new)) }
+        (ReportsMismatch Encoding.Utf8 input.now reported.old reported.new)) }
     ensures kept { held handle.new ≡ held handle.old }
 {
-    status(first_mismatch_utf8(alloc, handle, form, input, reported))
-}
-
-fn first_mismatch_utf8(
-    alloc: Global,
-    handle: &mut Handle,
-    form: u32,
-    input: &[u8],
-    reported: &mut Mismatch,
-) -> Result<(), Fault>
-    ensures over { Over (held handle.old) form (reported.new ≡ reported.old)
-        (TellsMismatch Encoding.Utf8 input.now reported.old reported.new) result }
-    ensures kept { held handle.new ≡ held handle.old }
-{
-    let Some(normalizers) = handle.take(alloc) else {
-        return Err(Fault::NotOpen);
-    };
-    let outcome = first_mismatch_utf8_at(&normalizers, form, input, reported);
-    handle.put(alloc, normalizers);
-    outcome
-}
-
-fn first_mismatch_utf8_at(
-    normalizers: &Normalizers,
-    form: u32,
-    input: &[u8],
-    reported: &mut Mismatch,
-) -> Result<(), Fault>
-    ensures { AtForm normalizers.now form (reported.new ≡ reported.old)
-        (TellsMismatch Encoding.Utf8 input.now reported.old reported.new) result }
-{
-    let normalizer = normalizers.numbered(form)?;
-    normalizer.tell_mismatch_utf8(input, reported)
+    report(alloc, handle, form, &FirstMismatch(input), reported)
 }
 
 /// Reports the first place where `input` is ill-formed UTF-16 or differs from its form: the offset in units, the
@@ -112,40 +124,8 @@ pub extern "C" fn icu_normalizer_first_mismatch_utf16_nonnull(
     reported: &mut Mismatch,
 ) -> u32
     ensures status { IsStatus result (Over (held handle.old) form (reported.new ≡ reported.old)
-        (TellsMismatch Encoding.Utf16 input.now reported.old reported.new)) }
+        (ReportsMismatch Encoding.Utf16 input.now reported.old reported.new)) }
     ensures kept { held handle.new ≡ held handle.old }
 {
-    status(first_mismatch_utf16(alloc, handle, form, input, reported))
-}
-
-fn first_mismatch_utf16(
-    alloc: Global,
-    handle: &mut Handle,
-    form: u32,
-    input: &[u16],
-    reported: &mut Mismatch,
-) -> Result<(), Fault>
-    ensures over { Over (held handle.old) form (reported.new ≡ reported.old)
-        (TellsMismatch Encoding.Utf16 input.now reported.old reported.new) result }
-    ensures kept { held handle.new ≡ held handle.old }
-{
-    let Some(normalizers) = handle.take(alloc) else {
-        return Err(Fault::NotOpen);
-    };
-    let outcome = first_mismatch_utf16_at(&normalizers, form, input, reported);
-    handle.put(alloc, normalizers);
-    outcome
-}
-
-fn first_mismatch_utf16_at(
-    normalizers: &Normalizers,
-    form: u32,
-    input: &[u16],
-    reported: &mut Mismatch,
-) -> Result<(), Fault>
-    ensures { AtForm normalizers.now form (reported.new ≡ reported.old)
-        (TellsMismatch Encoding.Utf16 input.now reported.old reported.new) result }
-{
-    let normalizer = normalizers.numbered(form)?;
-    normalizer.tell_mismatch_utf16(input, reported)
+    report(alloc, handle, form, &FirstMismatch(input), reported)
 }

@@ -10,14 +10,21 @@ ghost use Rattle.icu_normalizer_c.specs.Made.{made_by, made_in, MakeBy, MapBy};
 
 use crate::fault::Fault;
 use crate::form::form_numbered;
-use crate::normalizer::Normalizer;
 use icu_normalizer::uts46::Uts46Mapper;
 use icu_normalizer::{
-    Built, ComposingNormalizer, DecomposingNormalizer, NormalizeError, Uts46Record,
+    Built, ComposingNormalizer, ComposingNormalizerBorrowed, DecomposingNormalizer,
+    DecomposingNormalizerBorrowed, NormalizeError, Uts46Record,
 };
 use normalizer_built::{
     NormalForm, built_mapper, nfc_normalizer, nfd_normalizer, nfkc_normalizer, nfkd_normalizer,
 };
+
+/// A normalizer of either kind, over borrowed data.
+#[derive(Drop)]
+pub enum Normalizer<'a> {
+    Decomposing(DecomposingNormalizerBorrowed<'a>),
+    Composing(ComposingNormalizerBorrowed<'a>),
+}
 
 /// Normalizers to the four forms, over the same data, and a mapper if it has records.
 pub struct Normalizers {

@@ -10,13 +10,13 @@ ghost use Rattle.icu_normalizer_c.specs.Opening.{
   Opens,
   Reads,
 };
-ghost use Rattle.icu_normalizer_c.specs.PlainRecords.{entries_of};
+ghost use Rattle.icu_normalizer_c.specs.PlainRecords.{entries_of, mapper_entries_of};
 
 use crate::defect::{Defect, status_reporting};
 use crate::fault::{Fault, status};
 use crate::handle::Handle;
 use crate::normalizers::Normalizers;
-use crate::plain_records::{PlainRecord, records_of_plain};
+use crate::plain_records::{PlainMapperRecord, PlainRecord, records_of_plain};
 use icu_normalizer::{Record, Records, Uts46Record};
 use normalizer_ucd::{Disallowed, records_of_unicode_data, uts46_records_of_idna_table};
 use std::alloc::Global;
@@ -100,27 +100,25 @@ fn open_files(
     open(alloc, handle, &records, &mapper)
 }
 
-/// Opens normalizers by records of characters, whose mappings are parts of `codes`, and their mapper by the bytes of
-/// `IdnaMappingTable.txt`, without its disallowed ranges of more than `disallowed_limit` code points. If nothing is
-/// mapped there is no mapper. What the handle had is closed.
+/// Opens normalizers by records of characters, and their mapper by records of the mapper. Mappings are parts of `codes`.
+/// Without records of the mapper there is none. What the handle had is closed.
 ///
 /// # Errors
-/// `Record`, `Line`, `Records` or `Memory`. The handle then has what it had. `defect` says which record is wrong.
+/// `Record`, `MapperRecord`, `Records` or `Memory`. The handle then has what it had. `defect` says which record is wrong.
 #[unsafe(no_mangle)]
 pub extern "C" fn icu_normalizer_open_records_nonnull(
     alloc: Global,
     handle: &mut Handle,
     records: &[PlainRecord],
+    mapper_records: &[PlainMapperRecord],
     codes: &[u32],
-    idna_table: &[u8],
-    disallowed_limit: u32,
     defect: &mut Defect,
 ) -> u32
     ensures { IsStatusReporting result defect.old defect.new (Opens
-        (both (entries_of codes.now records.now) (of_idna_table idna_table.now disallowed_limit))
+        (both (entries_of codes.now records.now) (mapper_entries_of codes.now mapper_records.now))
         (held handle.old) (held handle.new)) }
 {
-    let outcome = open_records(alloc, handle, records, codes, idna_table, disallowed_limit);
+    let outcome = open_records(alloc, handle, records, mapper_records, codes);
     status_reporting(outcome, defect)
 }
 
@@ -128,15 +126,14 @@ fn open_records(
     alloc: Global,
     handle: &mut Handle,
     records: &[PlainRecord],
+    mapper_records: &[PlainMapperRecord],
     codes: &[u32],
-    idna_table: &[u8],
-    disallowed_limit: u32,
 ) -> Result<(), Fault>
-    ensures { Opens (both (entries_of codes.now records.now) (of_idna_table idna_table.now disallowed_limit))
+    ensures { Opens (both (entries_of codes.now records.now) (mapper_entries_of codes.now mapper_records.now))
         (held handle.old) (held handle.new) result }
 {
     let records = records_of_plain(alloc, codes, records)?;
-    let mapper = idna_table_records(alloc, idna_table, disallowed_limit)?;
+    let mapper = records_of_plain(alloc, codes, mapper_records)?;
     open(alloc, handle, &records, &mapper)
 }
 

@@ -155,14 +155,53 @@ static void mapping(icu_normalizer *normalizer) {
     EXPECT(number == 3 && wide[0] == 0x61 && wide[1] == 0xFFFD && wide[2] == 0x308);
 }
 
-/* The records of U+00E4, U+0308 and U+FB01, and what is refused. */
+/* Which record of the mapper is refused, and why. Records of characters are looked at before. */
+static void wrong_mapper_records(icu_normalizer *normalizer, icu_normalizer_record *three,
+    icu_normalizer_mapper_record *four, const uint32_t *codes) {
+    icu_normalizer_defect defect = {7, 7, 7};
+    four[1].status = 3;
+    EXPECT(unless_refused(icu_normalizer_open_records(normalizer, three, 3, four, 4, codes, 5, &defect))
+        == ICU_NORMALIZER_WRONG_RECORD);
+    EXPECT(defect.place == 1 && defect.source == ICU_NORMALIZER_ONE_MAPPER_RECORD && defect.reason == 9);
+    four[1].status = ICU_NORMALIZER_DISALLOWED;
+    four[3].mapping_start = 4;
+    EXPECT(unless_refused(icu_normalizer_open_records(normalizer, three, 3, four, 4, codes, 5, &defect))
+        == ICU_NORMALIZER_WRONG_RECORD && defect.place == 3);
+    EXPECT(unless_refused(icu_normalizer_open_records(normalizer, three, 3, four, 4, codes, 4, &defect))
+        == ICU_NORMALIZER_WRONG_RECORD && defect.place == 3);
+    three[0].mapping_length = 6;
+    EXPECT(unless_refused(icu_normalizer_open_records(normalizer, three, 3, four, 4, codes, 5, &defect))
+        == ICU_NORMALIZER_WRONG_RECORD);
+    EXPECT(defect.place == 0 && defect.source == ICU_NORMALIZER_ONE_RECORD && defect.reason == 9);
+    three[0].mapping_length = 2;
+    four[3].mapping_start = 0;
+    four[2].character = 0x378;
+    EXPECT(unless_refused(icu_normalizer_open_records(normalizer, three, 3, four, 4, codes, 5, &defect))
+        == ICU_NORMALIZER_WRONG_RECORDS);
+    EXPECT(defect.place == 0 && defect.source == ICU_NORMALIZER_ALL_RECORDS && defect.reason == 10);
+    four[2].character = 0x379;
+    four[3].mapping_length = 0;
+    EXPECT(unless_refused(icu_normalizer_open_records(normalizer, three, 3, four, 4, codes, 5, &defect))
+        == ICU_NORMALIZER_WRONG_RECORDS && defect.place == 0 && defect.reason == 13);
+    four[3].mapping_length = 1;
+    /* U+0061 mapped alone: the list of U+00E4 has it. */
+    const icu_normalizer_mapper_record one = {2, 1, 0x61, ICU_NORMALIZER_MAPPED};
+    EXPECT(unless_refused(icu_normalizer_open_records(normalizer, three, 3, &one, 1, codes, 5, &defect))
+        == ICU_NORMALIZER_WRONG_RECORDS);
+    EXPECT(defect.place == 8 && defect.source == ICU_NORMALIZER_ALL_RECORDS && defect.reason == 17);
+}
+
+/* The records of U+00E4, U+0308 and U+FB01, those of a mapper that say what the lines above do, and what is refused. */
 static void records(icu_normalizer *normalizer) {
     const uint32_t codes[] = {0x61, 0x308, 0x66, 0x69, 0xD800};
     icu_normalizer_record three[] = {
         {0, 2, 0xE4, 0, false, false}, {0, 0, 0x308, 230, false, false}, {2, 2, 0xFB01, 0, true, false}};
+    icu_normalizer_mapper_record four[] = {{0, 0, 0xAD, ICU_NORMALIZER_IGNORED},
+        {0, 0, 0x378, ICU_NORMALIZER_DISALLOWED}, {0, 0, 0x379, ICU_NORMALIZER_DISALLOWED},
+        {0, 1, 0x24B6, ICU_NORMALIZER_MAPPED}};
     icu_normalizer_defect defect = {7, 7, 7};
-    EXPECT(unless_refused(icu_normalizer_open_records(
-        normalizer, three, 3, codes, 5, bytes_of(table), strlen(table), 0x110000, &defect)) == ICU_NORMALIZER_OK);
+    EXPECT(unless_refused(icu_normalizer_open_records(normalizer, three, 3, four, 4, codes, 5, &defect))
+        == ICU_NORMALIZER_OK);
     EXPECT(defect.place == 7 && defect.source == 7 && defect.reason == 7);
     uint8_t output[8];
     size_t number = 0;
@@ -173,23 +212,25 @@ static void records(icu_normalizer *normalizer) {
     mapping(normalizer);
 
     three[2].mapping_length = 3;
-    EXPECT(unless_refused(icu_normalizer_open_records(normalizer, three, 3, codes, 5, NULL, 0, 0, &defect))
+    EXPECT(unless_refused(icu_normalizer_open_records(normalizer, three, 3, four, 4, codes, 5, &defect))
         == ICU_NORMALIZER_WRONG_RECORD);
     EXPECT(defect.place == 2 && defect.source == ICU_NORMALIZER_ONE_RECORD && defect.reason == 9);
     three[2].mapping_start = (size_t)-1;
-    EXPECT(unless_refused(icu_normalizer_open_records(normalizer, three, 3, codes, 5, NULL, 0, 0, &defect))
+    EXPECT(unless_refused(icu_normalizer_open_records(normalizer, three, 3, NULL, 0, codes, 5, &defect))
         == ICU_NORMALIZER_WRONG_RECORD);
     three[2].mapping_start = 2;
     three[2].mapping_length = 2;
     three[1].character = 0x110000;
-    EXPECT(unless_refused(icu_normalizer_open_records(normalizer, three, 3, codes, 5, NULL, 0, 0, &defect))
+    EXPECT(unless_refused(icu_normalizer_open_records(normalizer, three, 3, NULL, 0, codes, 5, &defect))
         == ICU_NORMALIZER_WRONG_RECORD && defect.place == 1);
     three[1].character = 0xE4;
-    EXPECT(unless_refused(icu_normalizer_open_records(normalizer, three, 3, codes, 5, NULL, 0, 0, &defect))
+    EXPECT(unless_refused(icu_normalizer_open_records(normalizer, three, 3, NULL, 0, codes, 5, &defect))
         == ICU_NORMALIZER_WRONG_RECORDS);
     EXPECT(defect.place == 0 && defect.source == ICU_NORMALIZER_ALL_RECORDS && defect.reason == 10);
+    three[1].character = 0x308;
+    wrong_mapper_records(normalizer, three, four, codes);
     mapping(normalizer);
-    EXPECT(unless_refused(icu_normalizer_open_records(normalizer, NULL, 0, NULL, 0, NULL, 0, 0, &defect))
+    EXPECT(unless_refused(icu_normalizer_open_records(normalizer, NULL, 0, NULL, 0, NULL, 0, &defect))
         == ICU_NORMALIZER_OK);
     EXPECT(icu_normalizer_map_utf8(normalizer, NULL, 0, NULL, 0, &number) == ICU_NORMALIZER_NO_MAPPER);
 }
@@ -245,6 +286,15 @@ int main(int count, char **words) {
     EXPECT(defect.place == 7 && defect.source == 7 && defect.reason == 7);
     utf8(&normalizer);
     if (status == ICU_NORMALIZER_OK) mapping(&normalizer);
+    /* U+0041 mapped alone: the list of U+00C0 has it. */
+    if (status == ICU_NORMALIZER_OK) {
+        status = icu_normalizer_open_files(&normalizer, data, data_length, exclusions, exclusions_length,
+            bytes_of("0041 ; mapped ; 0061\n"), 21, 0, &defect);
+        EXPECT(status == ICU_NORMALIZER_WRONG_RECORDS || status == ICU_NORMALIZER_OUT_OF_MEMORY);
+        if (status == ICU_NORMALIZER_WRONG_RECORDS)
+            EXPECT(defect.place == 8 && defect.source == ICU_NORMALIZER_ALL_RECORDS && defect.reason == 17);
+        mapping(&normalizer);
+    }
     icu_normalizer other = ICU_NORMALIZER_CLOSED;
     files(&other);
     closed(&other);

@@ -1,6 +1,8 @@
 /* Compares the calls of icu_normalizer.h with worked cases: cases DIRECTORY FILE. A line of FILE has the number of bits
-   of a unit, 8 or 16, and an input and its NFD, NFC, NFKD and NFKC, each a `.` and its units in hexadecimal. Each array
-   that is passed ends right before memory that can't be accessed, so that what goes past its end stops the program. */
+   of a unit, 8 or 16, and an input and its NFD, NFC, NFKD and NFKC, each a `.` and its units in hexadecimal. Each case is
+   compared twice: each array that is passed ends right before memory that can't be accessed, then begins right after
+   such memory, so that what goes past its end or before its beginning stops the program. Buffers have room for each
+   number of units from none to one more than is needed. */
 #define _DEFAULT_SOURCE
 #include "icu_normalizer.h"
 
@@ -11,26 +13,28 @@
 
 #define EXPECT(holds) ((holds) ? (void)0 : failed(#holds, __LINE__))
 
-static size_t line_number = 0;
+static size_t line_number = 0, rooms = 0;
 
 static void failed(const char *what, int line) {
     fprintf(stderr, "cases.c:%d: not so: %s, of line %zu\n", line, what, line_number);
     exit(1);
 }
 
-enum { ROOM = 1 << 18 };
+enum { ROOM = 1 << 21, UNWRITTEN = 0xA5 };
 
-/* Memory that ends right before memory that can't be accessed. */
+/* Memory between memory that can't be accessed. */
 static uint8_t *fenced(void) {
-    uint8_t *made = mmap(NULL, 2 * ROOM, PROT_READ | PROT_WRITE, MAP_PRIVATE | MAP_ANONYMOUS, -1, 0);
-    EXPECT(made != MAP_FAILED && mprotect(made + ROOM, ROOM, PROT_NONE) == 0);
-    return made;
+    uint8_t *made = mmap(NULL, 3 * ROOM, PROT_NONE, MAP_PRIVATE | MAP_ANONYMOUS, -1, 0);
+    EXPECT(made != MAP_FAILED && mprotect(made + ROOM, ROOM, PROT_READ | PROT_WRITE) == 0);
+    return made + ROOM;
 }
 
-/* The last bytes of such memory. */
-static void *last(uint8_t *memory, size_t size) {
+enum side { LAST, FIRST };
+
+/* So many bytes at one side of such memory. Of none the pointer is null. */
+static void *at(enum side side, uint8_t *memory, size_t size) {
     EXPECT(size <= ROOM);
-    return memory + ROOM - size;
+    return !size ? NULL : side == FIRST ? memory : memory + ROOM - size;
 }
 
 static uint8_t *inputs, *outputs;
@@ -80,20 +84,26 @@ static icu_normalizer_status normalize(icu_normalizer *normalizer, icu_normalize
                      : icu_normalizer_normalize_utf16(normalizer, form, input, length, output, room, needed);
 }
 
+/* Buffers of all sizes: what is needed is written if there is room for it, and nothing else. */
+static void compare_rooms(icu_normalizer *normalizer, icu_normalizer_form form, size_t bits, enum side side,
+    const void *input, size_t length, const void *wanted, size_t wanted_length) {
+    size_t width = bits / 8;
+    for (size_t room = 0; room <= wanted_length + 1; room++) {
+        uint8_t *output = at(side, outputs, room * width);
+        size_t needed = 0, written = room < wanted_length ? 0 : wanted_length * width;
+        if (room) memset(output, UNWRITTEN, room * width);
+        icu_normalizer_status status = normalize(normalizer, form, bits, input, length, output, room, &needed);
+        EXPECT(status == (room < wanted_length ? ICU_NORMALIZER_BUFFER_TOO_SMALL : ICU_NORMALIZER_OK));
+        EXPECT(needed == wanted_length);
+        EXPECT(!written || memcmp(output, wanted, written) == 0);
+        for (size_t place = written; place < room * width; place++) EXPECT(output[place] == UNWRITTEN);
+        rooms++;
+    }
+}
+
 static void compare(icu_normalizer *normalizer, icu_normalizer_form form, size_t bits, const void *input, size_t length,
     const void *wanted, size_t wanted_length) {
-    size_t needed = 0, cut = 0;
-    void *output = wanted_length ? last(outputs, wanted_length * bits / 8) : NULL;
-    EXPECT(normalize(normalizer, form, bits, input, length, output, wanted_length, &needed) == ICU_NORMALIZER_OK);
-    EXPECT(needed == wanted_length);
-    EXPECT(!needed || memcmp(output, wanted, needed * bits / 8) == 0);
-    if (wanted_length) {
-        void *small = wanted_length > 1 ? last(outputs, (wanted_length - 1) * bits / 8) : NULL;
-        needed = 0;
-        EXPECT(normalize(normalizer, form, bits, input, length, small, wanted_length - 1, &needed)
-            == ICU_NORMALIZER_BUFFER_TOO_SMALL);
-        EXPECT(needed == wanted_length);
-    }
+    size_t cut = 0;
     bool is = false, is_same = length == wanted_length && (!length || memcmp(input, wanted, length * bits / 8) == 0);
     icu_normalizer_mismatch mismatch;
     icu_normalizer_status status;
@@ -110,37 +120,147 @@ static void compare(icu_normalizer *normalizer, icu_normalizer_form form, size_t
     EXPECT(mismatch.offset == (is_same ? 0 : cut));
 }
 
-int main(int count, char **words) {
-    EXPECT(count == 3);
+/* The units of a line, at each side. */
+static void compare_line(icu_normalizer *normalizer, char *line) {
+    size_t bits = strcmp(strtok(line, " "), "8") == 0 ? 8 : 16, length;
+    void *units = units_of(strtok(NULL, " "), bits, &length);
+    for (icu_normalizer_form form = 0; form < 4; form++) {
+        size_t wanted_length;
+        void *wanted = units_of(strtok(NULL, " "), bits, &wanted_length);
+        for (enum side side = LAST; side <= FIRST; side++) {
+            void *input = at(side, inputs, length * bits / 8);
+            if (length) memcpy(input, units, length * bits / 8);
+            compare(normalizer, form, bits, input, length, wanted, wanted_length);
+            compare_rooms(normalizer, form, bits, side, input, length, wanted, wanted_length);
+        }
+        free(wanted);
+    }
+    free(units);
+}
+
+/* The bytes of a file, at a side of memory between memory that can't be accessed. */
+static uint8_t *placed(enum side side, uint8_t *memory, const uint8_t *bytes, size_t length) {
+    uint8_t *found = at(side, memory, length);
+    if (length) memcpy(found, bytes, length);
+    return found;
+}
+
+/* Opens by arrays at each side. */
+static void open_files(icu_normalizer *normalizer, const char *directory) {
     size_t data_length, exclusions_length;
-    uint8_t *data = file(words[1], "UnicodeData.txt", &data_length);
-    uint8_t *exclusions = file(words[1], "CompositionExclusions.txt", &exclusions_length);
-    icu_normalizer normalizer = ICU_NORMALIZER_CLOSED;
-    EXPECT(icu_normalizer_open_unicode_data(&normalizer, data, data_length, exclusions, exclusions_length)
-        == ICU_NORMALIZER_OK);
+    uint8_t *data = file(directory, "UnicodeData.txt", &data_length);
+    uint8_t *exclusions = file(directory, "CompositionExclusions.txt", &exclusions_length);
+    uint8_t *first = fenced(), *second = fenced(), *third = fenced();
+    const uint8_t table[] = "00AD ; ignored\n0378..0379 ; disallowed\n24B6 ; mapped ; 0061";
+    icu_normalizer_defect defect = {7, 7, 7};
+    for (enum side side = LAST; side <= FIRST; side++) {
+        EXPECT(icu_normalizer_open_files(normalizer, placed(side, first, data, data_length), data_length,
+            placed(side, second, exclusions, exclusions_length), exclusions_length,
+            placed(side, third, table, sizeof table - 1), sizeof table - 1, 2, &defect) == ICU_NORMALIZER_OK);
+        EXPECT(icu_normalizer_open_unicode_data(normalizer, placed(side, first, data, data_length), data_length,
+            placed(side, second, exclusions, exclusions_length), exclusions_length) == ICU_NORMALIZER_OK);
+    }
     free(exclusions);
     free(data);
+}
+
+/* Opens by records at each side, whose mappings are at both ends of the code points. */
+static void open_records(void) {
+    const icu_normalizer_record records[] = {{0, 2, 0xE4, 0, false, false}, {0, 0, 0x308, 230, false, false}};
+    const icu_normalizer_mapper_record mapper_records[] = {
+        {2, 0, 0xAD, ICU_NORMALIZER_IGNORED}, {1, 1, 0x24B6, ICU_NORMALIZER_MAPPED}};
+    const uint32_t codes[] = {0x61, 0x308};
+    uint8_t *first = fenced(), *second = fenced(), *third = fenced();
+    for (enum side side = LAST; side <= FIRST; side++) {
+        icu_normalizer normalizer = ICU_NORMALIZER_CLOSED;
+        icu_normalizer_defect defect = {7, 7, 7};
+        const void *plain = placed(side, first, (const uint8_t *)records, sizeof records);
+        const void *mapped = placed(side, second, (const uint8_t *)mapper_records, sizeof mapper_records);
+        const void *points = placed(side, third, (const uint8_t *)codes, sizeof codes);
+        EXPECT(icu_normalizer_open_records(&normalizer, plain, 2, mapped, 2, points, 2, &defect) == ICU_NORMALIZER_OK);
+        EXPECT(icu_normalizer_open_records(&normalizer, plain, 2, mapped, 2, points, 1, &defect)
+            == ICU_NORMALIZER_WRONG_RECORD && defect.place == 0 && defect.source == ICU_NORMALIZER_ONE_RECORD);
+        EXPECT(icu_normalizer_open_records(&normalizer, NULL, 0, mapped, 2, points, 1, &defect)
+            == ICU_NORMALIZER_WRONG_RECORD && defect.place == 0 && defect.source == ICU_NORMALIZER_ONE_MAPPER_RECORD);
+        icu_normalizer_close(&normalizer);
+    }
+}
+
+/* Each call at arrays of none, all of them null. */
+static void compare_empty(void) {
+    icu_normalizer normalizer = ICU_NORMALIZER_CLOSED;
+    icu_normalizer_defect defect = {7, 7, 7};
+    const icu_normalizer_mapper_record one = {0, 0, 0xAD, ICU_NORMALIZER_IGNORED};
+    EXPECT(icu_normalizer_open_unicode_data(&normalizer, NULL, 0, NULL, 0) == ICU_NORMALIZER_OK);
+    EXPECT(icu_normalizer_open_files(&normalizer, NULL, 0, NULL, 0, NULL, 0, 0, &defect) == ICU_NORMALIZER_OK);
+    EXPECT(icu_normalizer_open_records(&normalizer, NULL, 0, NULL, 0, NULL, 0, &defect) == ICU_NORMALIZER_OK);
+    EXPECT(icu_normalizer_open_records(&normalizer, NULL, 0, &one, 1, NULL, 0, &defect) == ICU_NORMALIZER_OK);
+    for (icu_normalizer_form form = 0; form < 4; form++)
+        for (size_t bits = 8; bits <= 16; bits += 8) {
+            compare(&normalizer, form, bits, NULL, 0, NULL, 0);
+            compare_rooms(&normalizer, form, bits, LAST, NULL, 0, NULL, 0);
+        }
+    size_t needed = 7;
+    EXPECT(icu_normalizer_map_utf8(&normalizer, NULL, 0, NULL, 0, &needed) == ICU_NORMALIZER_OK && needed == 0);
+    needed = 7;
+    EXPECT(icu_normalizer_map_utf16(&normalizer, NULL, 0, NULL, 0, &needed) == ICU_NORMALIZER_OK && needed == 0);
+    needed = 7;
+    EXPECT(icu_normalizer_validate_utf8(&normalizer, NULL, 0, NULL, 0, &needed) == ICU_NORMALIZER_OK && needed == 0);
+    needed = 7;
+    EXPECT(icu_normalizer_validate_utf16(&normalizer, NULL, 0, NULL, 0, &needed) == ICU_NORMALIZER_OK && needed == 0);
+    icu_normalizer_close(&normalizer);
+}
+
+/* Mapping with arrays at each side, into buffers of all sizes: U+24B6 U+00AD U+0308 U+0378 to U+00E4 U+FFFD. */
+static void compare_mapped(void) {
+    static const char table[] = "00AD ; ignored\n0378..0379 ; disallowed\n24B6 ; mapped ; 0061\n";
+    static const char data[] = "00E4;;;0;;0061 0308\n0308;;;230;;\n";
+    static const uint8_t text[] = "\xE2\x92\xB6\xC2\xAD\xCC\x88\xCD\xB8", mapped[] = "\xC3\xA4\xEF\xBF\xBD";
+    static const uint16_t units[] = {0x24B6, 0xAD, 0x308, 0x378}, wide[] = {0xE4, 0xFFFD};
+    icu_normalizer normalizer = ICU_NORMALIZER_CLOSED;
+    icu_normalizer_defect defect = {7, 7, 7};
+    EXPECT(icu_normalizer_open_files(&normalizer, (const uint8_t *)data, sizeof data - 1, NULL, 0,
+        (const uint8_t *)table, sizeof table - 1, 2, &defect) == ICU_NORMALIZER_OK);
+    for (enum side side = LAST; side <= FIRST; side++)
+        for (size_t room = 0; room <= 6; room++) {
+            size_t needed = 0;
+            uint8_t *output = at(side, outputs, room);
+            if (room) memset(output, UNWRITTEN, room);
+            EXPECT(icu_normalizer_map_utf8(&normalizer, placed(side, inputs, text, sizeof text - 1), sizeof text - 1,
+                output, room, &needed) == (room < 5 ? ICU_NORMALIZER_BUFFER_TOO_SMALL : ICU_NORMALIZER_OK));
+            EXPECT(needed == 5 && (room < 5 || memcmp(output, mapped, 5) == 0));
+            for (size_t place = room < 5 ? 0 : 5; place < room; place++) EXPECT(output[place] == UNWRITTEN);
+            if (room > 3) continue;
+            uint16_t *wide_output = at(side, outputs, 2 * room);
+            if (room) memset(wide_output, UNWRITTEN, 2 * room);
+            EXPECT(icu_normalizer_map_utf16(&normalizer,
+                (const void *)placed(side, inputs, (const uint8_t *)units, sizeof units), 4, wide_output, room, &needed)
+                == (room < 2 ? ICU_NORMALIZER_BUFFER_TOO_SMALL : ICU_NORMALIZER_OK));
+            EXPECT(needed == 2 && (room < 2 || memcmp(wide_output, wide, 4) == 0));
+            for (size_t place = room < 2 ? 0 : 2; place < room; place++) EXPECT(wide_output[place] == 0xA5A5);
+        }
+    icu_normalizer_close(&normalizer);
+}
+
+int main(int count, char **words) {
+    EXPECT(count == 3);
     inputs = fenced();
     outputs = fenced();
+    compare_empty();
+    open_records();
+    compare_mapped();
+    icu_normalizer normalizer = ICU_NORMALIZER_CLOSED;
+    open_files(&normalizer, words[1]);
     FILE *cases = fopen(words[2], "r");
     EXPECT(cases);
     static char line[65536];
     while (fgets(line, sizeof line, cases)) {
         line_number++;
         line[strcspn(line, "\n")] = 0;
-        size_t bits = strcmp(strtok(line, " "), "8") == 0 ? 8 : 16, length;
-        void *units = units_of(strtok(NULL, " "), bits, &length), *input = last(inputs, length * bits / 8);
-        if (length) memcpy(input, units, length * bits / 8);
-        free(units);
-        for (icu_normalizer_form form = 0; form < 4; form++) {
-            size_t wanted_length;
-            void *wanted = units_of(strtok(NULL, " "), bits, &wanted_length);
-            compare(&normalizer, form, bits, input, length, wanted, wanted_length);
-            free(wanted);
-        }
+        compare_line(&normalizer, line);
     }
     fclose(cases);
     icu_normalizer_close(&normalizer);
-    printf("%zu\n", line_number);
+    printf("%zu %zu\n", line_number, rooms);
     return 0;
 }

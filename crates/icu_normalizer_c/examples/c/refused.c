@@ -91,8 +91,10 @@ static void run(void) {
     const uint32_t codes[] = {0x61, 0x308};
     const icu_normalizer_record records[] = {
         {0, 2, 0xE4, 0, false, false}, {0, 0, 0x308, 230, false, false}, {0, 0, 0x323, 220, false, false}};
-    bool is_open = is_done(icu_normalizer_open_records(&normalizer, records, 3, codes, 2, (const uint8_t *)table,
-        sizeof table - 1, 0, &defect));
+    const icu_normalizer_mapper_record mapper_records[] = {
+        {0, 1, 0x41, ICU_NORMALIZER_MAPPED}, {0, 0, 0xAD, ICU_NORMALIZER_IGNORED}};
+    bool is_open =
+        is_done(icu_normalizer_open_records(&normalizer, records, 3, mapper_records, 2, codes, 2, &defect));
     if (is_open) calls(&normalizer);
     is_open |= is_done(icu_normalizer_open_files(&normalizer, (const uint8_t *)data, sizeof data - 1, NULL, 0,
         (const uint8_t *)table, sizeof table - 1, 0, &defect));

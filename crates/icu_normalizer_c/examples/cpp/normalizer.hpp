@@ -27,7 +27,7 @@ public:
         auto status = icu_normalizer_open_files(&handle, units<uint8_t>(unicode_data), unicode_data.size(),
             units<uint8_t>(exclusions), exclusions.size(), units<uint8_t>(idna_table), idna_table.size(),
             disallowed_limit, &defect);
-        if (status == ICU_NORMALIZER_WRONG_LINE)
+        if (status == ICU_NORMALIZER_WRONG_LINE || status == ICU_NORMALIZER_WRONG_RECORDS)
             throw std::runtime_error(std::to_string(defect.place) + ": " + icu_normalizer_reason_text(defect.reason));
         check(status);
     }

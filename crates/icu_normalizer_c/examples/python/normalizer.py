@@ -2,13 +2,15 @@
 import ctypes
 from enum import IntEnum
 
-OK, BUFFER_TOO_SMALL, OUT_OF_MEMORY, UNKNOWN_FORM, NOT_OPEN, WRONG_LINE, WRONG_RECORDS, NO_MAPPER = range(8)
+OK, BUFFER_TOO_SMALL, OUT_OF_MEMORY, UNKNOWN_FORM, NOT_OPEN = range(5)
+WRONG_LINE, WRONG_RECORDS, NO_MAPPER, WRONG_RECORD = range(5, 9)
 TEXTS = {
     UNKNOWN_FORM: "no form has this number",
     NOT_OPEN: "the normalizer isn't open",
     WRONG_LINE: "a line of a data file is wrong",
-    WRONG_RECORDS: "the records of characters can't be built into tables",
+    WRONG_RECORDS: "the records can't be built into tables",
     NO_MAPPER: "the normalizer has no mapper",
+    WRONG_RECORD: "a record is wrong",
 }
 
 
@@ -46,6 +48,8 @@ def _check(status, defect=None):
         raise MemoryError
     if status == WRONG_LINE:
         raise ValueError(f"{FILES[defect.source]}:{defect.place}: {TEXTS[status]}")
+    if status == WRONG_RECORDS and defect:
+        raise ValueError(f"{TEXTS[status]}: reason {defect.reason}, condition {defect.place}")
     if status != OK:
         raise ValueError(TEXTS[status])
 

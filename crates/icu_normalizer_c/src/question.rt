@@ -1,0 +1,91 @@
+//! Questions about inputs.
+ghost use Rattle.std.specs.Prelude.{◌≡◌, ℕ, List};
+ghost use Rattle.normalizer_text.specs.Encodings.{Encoding, decoded_in};
+ghost use Rattle.normalizer_calls.specs.Checks.{AnswersOf};
+ghost use Rattle.normalizer_calls.specs.Forms.{MadeForm};
+ghost use Rattle.icu_normalizer_c.specs.Buffers.{Reports};
+ghost use Rattle.icu_normalizer_c.specs.Calls.{held, AtForm, IsStatus, Over};
+ghost use Rattle.icu_normalizer_c.specs.Made.{made_by};
+
+use crate::fault::{Fault, status};
+use crate::handle::Handle;
+use crate::normalizers::{Normalizer, Normalizers};
+use icu_normalizer::NormalizeError;
+use std::alloc::Global;
+
+/// A question about an input at a form.
+pub(crate) trait Question {
+    type Answer: Copy;
+
+    /// The encoding of the input.
+    ghost encoding: { Encoding };
+
+    /// The units of the input.
+    ghost units: { Self → List ℕ };
+
+    /// Which answer is right.
+    ghost is: { Self → MadeForm → Self.Answer → Type 0 };
+
+    fn ask(&self, normalizer: &Normalizer<'_>) -> Result<Self::Answer, NormalizeError>
+        ensures { AnswersOf (made_by normalizer.now) (decoded_in encoding (units self.now))
+            (is self.now (made_by normalizer.now)) result };
+}
+
+/// Reports the answer to a question at a form of the normalizers of a handle, and returns the status.
+pub(crate) fn report<Q: Question>(
+    alloc: Global,
+    handle: &mut Handle,
+    form: u32,
+    question: &Q,
+    reported: &mut Q::Answer,
+) -> u32
+    ensures status { IsStatus result (Over (held handle.old) form (reported.new ≡ reported.old) (λ m.
+        Reports m Q.encoding (Q.units question.now) (Q.is question.now m) reported.old reported.new)) }
+    ensures kept { held handle.new ≡ held handle.old }
+{
+    status(report_over(alloc, handle, form, question, reported))
+}
+
+fn report_over<Q: Question>(
+    alloc: Global,
+    handle: &mut Handle,
+    form: u32,
+    question: &Q,
+    reported: &mut Q::Answer,
+) -> Result<(), Fault>
+    ensures over { Over (held handle.old) form (reported.new ≡ reported.old) (λ m.
+        Reports m Q.encoding (Q.units question.now) (Q.is question.now m) reported.old reported.new) result }
+    ensures kept { held handle.new ≡ held handle.old }
+{
+    let Some(normalizers) = handle.take(alloc) else {
+        return Err(Fault::NotOpen);
+    };
+    let outcome = report_at(&normalizers, form, question, reported);
+    handle.put(alloc, normalizers);
+    outcome
+}
+
+fn report_at<Q: Question>(
+    normalizers: &Normalizers,
+    form: u32,
+    question: &Q,
+    reported: &mut Q::Answer,
+) -> Result<(), Fault>
+    ensures { AtForm normalizers.now form (reported.new ≡ reported.old) (λ m.
+        Reports m Q.encoding (Q.units question.now) (Q.is question.now m) reported.old reported.new) result }
+{
+    let normalizer = normalizers.numbered(form)?;
+    report_by(&normalizer, question, reported)
+}
+
+fn report_by<Q: Question>(
+    normalizer: &Normalizer<'_>,
+    question: &Q,
+    reported: &mut Q::Answer,
+) -> Result<(), Fault>
+    ensures { Reports (made_by normalizer.now) Q.encoding (Q.units question.now)
+        (Q.is question.now (made_by normalizer.now)) reported.old reported.new result }
+{
+    *reported = question.ask(normalizer)?;
+    Ok(())
+}

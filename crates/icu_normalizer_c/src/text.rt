@@ -1,0 +1,66 @@
+//! Texts for the buffers of callers.
+ghost use Rattle.std.specs.Prelude.{◌≡◌, List, ⊤, Result};
+ghost use Rattle.icu_normalizer_c.specs.declared.fault.Fault.{Fault};
+ghost use Rattle.icu_normalizer_c.specs.Buffers.{Fills};
+ghost use Rattle.icu_normalizer_c.specs.Calls.{held, IsStatus, OverHeld};
+ghost use Rattle.icu_normalizer_c.specs.declared.normalizers.Normalizers.{Normalizers};
+
+use crate::fault::{Fault, status};
+use crate::handle::Handle;
+use crate::normalizers::Normalizers;
+use std::alloc::Global;
+
+/// A text that normalizers or their mapper make of an input.
+pub(crate) trait Text {
+    type Unit: Copy;
+
+    /// A call that makes the text, if there is its form or a mapper; of the text's units this is said.
+    ghost at: { Self → (Type 0) → (List Self.Unit → Result ⊤ Fault → Type 0) → Normalizers → Result ⊤ Fault → Type 0 };
+
+    fn write(
+        &self,
+        alloc: Global,
+        normalizers: &Normalizers,
+        output: &mut [Self::Unit],
+        needed: &mut usize,
+    ) -> Result<(), Fault>
+        ensures { at self.now ((output.new ≡ output.old) × (needed.new ≡ needed.old))
+            (λ units. Fills units output.old output.new needed.old needed.new) normalizers.now result };
+}
+
+/// Writes a text that the normalizers of a handle make, and returns the status.
+pub(crate) fn write<T: Text>(
+    alloc: Global,
+    handle: &mut Handle,
+    text: &T,
+    output: &mut [T::Unit],
+    needed: &mut usize,
+) -> u32
+    ensures status { IsStatus result (OverHeld (held handle.old)
+        ((output.new ≡ output.old) × (needed.new ≡ needed.old))
+        (T.at text.now ((output.new ≡ output.old) × (needed.new ≡ needed.old))
+        (λ units. Fills units output.old output.new needed.old needed.new))) }
+    ensures kept { held handle.new ≡ held handle.old }
+{
+    status(write_over(alloc, handle, text, output, needed))
+}
+
+fn write_over<T: Text>(
+    alloc: Global,
+    handle: &mut Handle,
+    text: &T,
+    output: &mut [T::Unit],
+    needed: &mut usize,
+) -> Result<(), Fault>
+    ensures over { OverHeld (held handle.old) ((output.new ≡ output.old) × (needed.new ≡ needed.old))
+        (T.at text.now ((output.new ≡ output.old) × (needed.new ≡ needed.old))
+        (λ units. Fills units output.old output.new needed.old needed.new)) result }
+    ensures kept { held handle.new ≡ held handle.old }
+{
+    let Some(normalizers) = handle.take(alloc) else {
+        return Err(Fault::NotOpen);
+    };
+    let outcome = text.write(alloc, &normalizers, output, needed);
+    handle.put(alloc, normalizers);
+    outcome
+}
