@@ -168,20 +168,23 @@ static void open_files(icu_normalizer *normalizer, const char *directory) {
 static void open_records(void) {
     const icu_normalizer_record records[] = {{0, 2, 0xE4, 0, false, false}, {0, 0, 0x308, 230, false, false}};
     const icu_normalizer_mapper_record mapper_records[] = {
-        {2, 0, 0xAD, ICU_NORMALIZER_IGNORED}, {1, 1, 0x24B6, ICU_NORMALIZER_MAPPED}};
-    const uint32_t codes[] = {0x61, 0x308};
+        {2, 0, 0xAD, ICU_NORMALIZER_IGNORED}, {2, 1, 0x24B7, ICU_NORMALIZER_MAPPED}};
+    const uint32_t codes[] = {0x61, 0x308, 0x62};
     uint8_t *first = fenced(), *second = fenced(), *third = fenced();
     for (enum side side = LAST; side <= FIRST; side++) {
         icu_normalizer normalizer = ICU_NORMALIZER_CLOSED;
         icu_normalizer_defect defect = {7, 7, 7};
         const void *plain = placed(side, first, (const uint8_t *)records, sizeof records);
         const void *mapped = placed(side, second, (const uint8_t *)mapper_records, sizeof mapper_records);
-        const void *points = placed(side, third, (const uint8_t *)codes, sizeof codes);
-        EXPECT(icu_normalizer_open_records(&normalizer, plain, 2, mapped, 2, points, 2, &defect) == ICU_NORMALIZER_OK);
-        EXPECT(icu_normalizer_open_records(&normalizer, plain, 2, mapped, 2, points, 1, &defect)
-            == ICU_NORMALIZER_WRONG_RECORD && defect.place == 0 && defect.source == ICU_NORMALIZER_ONE_RECORD);
-        EXPECT(icu_normalizer_open_records(&normalizer, NULL, 0, mapped, 2, points, 1, &defect)
-            == ICU_NORMALIZER_WRONG_RECORD && defect.place == 0 && defect.source == ICU_NORMALIZER_ONE_MAPPER_RECORD);
+        const uint32_t *points = (const void *)placed(side, third, (const uint8_t *)codes, sizeof codes);
+        EXPECT(icu_normalizer_open_records(&normalizer, plain, 2, mapped, 2, points, 3, &defect) == ICU_NORMALIZER_OK);
+        for (size_t count = 0; count < 3; count++) {
+            points = (const void *)placed(side, third, (const uint8_t *)codes, count * sizeof codes[0]);
+            EXPECT(icu_normalizer_open_records(&normalizer, plain, 2, mapped, 2, points, count, &defect)
+                == ICU_NORMALIZER_WRONG_RECORD);
+            EXPECT(defect.source == (count < 2 ? ICU_NORMALIZER_ONE_RECORD : ICU_NORMALIZER_ONE_MAPPER_RECORD));
+            EXPECT(defect.place == (count < 2 ? 0 : 1));
+        }
         icu_normalizer_close(&normalizer);
     }
 }
