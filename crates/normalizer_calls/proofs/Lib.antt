@@ -1,5 +1,6 @@
 pub mod AcceptedData
 pub mod CheckLemmas
+pub mod KeptLemmas
 pub mod MapperLemmas
 pub mod MemberLemmas
 pub mod OwnedLemmas

@@ -46,10 +46,7 @@ impl<F: Forming> NormalizerBorrowed<F> {
     pub fn is_normalized_utf8(&self, bytes: &[u8]) -> Result<bool, NormalizeError>
         ensures { ChecksForm (F.made self.now.form) Encoding.Utf8 bytes.now result }
     {
-        match str::from_utf8(bytes) {
-            Ok(text) => is_own_form(&self.form, text),
-            Err(_) => is_own_form(&self.form, bytes),
-        }
+        is_own_form(&self.form, bytes)
     }
 
     /// Returns whether 16-bit units are well-formed UTF-16 that is already in its normal form.
@@ -95,10 +92,7 @@ impl<F: Forming> NormalizerBorrowed<F> {
     pub fn first_offence_utf8(&self, bytes: &[u8]) -> Result<Option<Offence>, NormalizeError>
         ensures { FindsOffence (F.made self.now.form) Encoding.Utf8 bytes.now result }
     {
-        match str::from_utf8(bytes) {
-            Ok(text) => offence_of(&self.form, text),
-            Err(_) => offence_of(&self.form, bytes),
-        }
+        offence_of(&self.form, bytes)
     }
 
     /// Returns the first place where 16-bit units are ill-formed or differ from their normal form: the offset in

@@ -13,11 +13,12 @@ ghost use Rattle.normalizer_iterators.specs.Segment.{text};
 ghost use Rattle.normalizer_calls.specs.BeginsApart.{BeginsApart};
 ghost use Rattle.normalizer_calls.specs.Forms.{form_by, form_in, form_of, HasShortUnits, MadeForm};
 ghost use Rattle.normalizer_calls.specs.inner.Offences.{IsFirstOrNone};
-ghost use Rattle.normalizer_calls.specs.inner.Passing.{MayFollow, MayPass};
+ghost use Rattle.normalizer_calls.specs.inner.Passing.{IsKeptSegment, MayFollow, MayPass};
 ghost use Rattle.normalizer_calls.specs.inner.Writing.{NothingOffered, WritesText};
 
 use crate::composing_form::ComposingForm;
 use crate::decomposing_form::DecomposingForm;
+use crate::kept::kept_segment;
 use crate::writing::{first_item, write_items};
 use normalizer_iterators::{NormalizeError, SegmentBuffers};
 use normalizer_tables::characters::IgnoredCharacters;
@@ -61,6 +62,12 @@ pub trait Forming {
     /// Whether what begins with a character is normalized apart from what comes before.
     fn begins(&self, character: char) -> bool
         ensures { result ≡ beginning self.now character };
+
+    /// Returns the end of the segment in front, if it is seen to be well-formed and normalized while it is read.
+    fn kept_segment<U: Units>(&self, units: U) -> Option<usize>
+        requires { 0 < length (U.units units) }
+        ensures { let m = made self.now in IfSome result (IsKeptSegment (beginning self.now) U.encoding
+            m.reading m.form (U.units units)) };
 
     /// The form of a character alone, if its list is that.
     fn form_of_one(&self, character: char) -> Option<Members<'_>>
@@ -146,6 +153,10 @@ impl<'a> Forming for DecomposingForm<'a> {
         (character as u32) < self.bounds.decomposition || !self.characters.has_class_form(character)
     }
 
+    fn kept_segment<U: Units>(&self, _units: U) -> Option<usize> {
+        None
+    }
+
     fn form_of_one(&self, character: char) -> Option<Members<'_>> {
         Some(
             self.characters
@@ -216,6 +227,10 @@ impl<'a> Forming for ComposingForm<'a> {
         let word = self.characters.word_of(character);
         (!is_non_round_trip(word) && !is_backward_combining(word))
             || (character as u32) < self.bounds.composition
+    }
+
+    fn kept_segment<U: Units>(&self, units: U) -> Option<usize> {
+        kept_segment(self, units)
     }
 
     fn form_of_one(&self, _character: char) -> Option<Members<'_>> {

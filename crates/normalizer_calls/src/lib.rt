@@ -9,6 +9,7 @@ mod composing_form;
 mod composing_normalizer;
 mod decomposing_form;
 mod forming;
+mod kept;
 pub mod laws;
 mod normalizer;
 mod offence;

@@ -1,7 +1,8 @@
 //! The ends of runs of characters that are passed on as they are, and of the segments between them.
 ghost use Rattle.std.specs.Prelude.{◌≡◌, ◌<◌, ◌≤◌, length, take};
 ghost use Rattle.normalizer_input.specs.InputCut.{IsInputNormalized};
-ghost use Rattle.normalizer_calls.specs.inner.Passing.{IsPassedOn, IsPart, IsRunEnd, IsSegmentEnd, next_class};
+ghost use Rattle.normalizer_calls.specs.inner.Passing.{IsKeptTo, IsPassedOn, IsPart, IsRunEnd, IsSegmentEnd};
+ghost use Rattle.normalizer_calls.specs.inner.Passing.{next_class};
 
 use crate::forming::Forming;
 use normalizer_text::{Chars, Step, Units};
@@ -14,6 +15,13 @@ const REPLACEMENT: u32 = char::REPLACEMENT_CHARACTER as u32;
 struct Run {
     marks: usize,
     end: usize,
+}
+
+/// The end of a segment, and whether the character that follows is passed on as it is.
+#[derive(Clone, Copy)]
+pub(crate) struct Segment {
+    pub(crate) end: usize,
+    pub(crate) is_before_run: bool,
 }
 
 /// Returns the class of a step that is passed on as it is after a character of class `last`.
@@ -59,21 +67,23 @@ fn run_end<U: Units, N: Forming>(normalizer: &N, units: U) -> Run
     Run { marks, end }
 }
 
-/// Returns the end of the segment that begins with the first character: before the next one that is normalized apart.
+/// Returns the segment that begins with the first character: it ends before the next one that is normalized apart.
 #[inline(always)]
-pub(crate) fn segment_end<U: Units, N: Forming>(normalizer: &N, units: U) -> usize
+pub(crate) fn front_segment<U: Units, N: Forming>(normalizer: &N, units: U) -> Segment
     requires { 0 < length (U.units units) }
-    ensures { IsSegmentEnd (N.beginning normalizer.now) U.encoding (U.units units) result }
+    ensures { IsSegmentEnd (N.beginning normalizer.now) U.encoding (U.units units) result.end }
 {
     let mut end = units.step_at(0).width;
     while end < units.len() {
         let step = units.step_at(end);
         if normalizer.begins(step.character) {
-            return end;
+            let is_before_run = normalizer.passed_class(step.character).is_some();
+            return Segment { end, is_before_run };
         }
         end += step.width;
     }
-    end
+    let is_before_run = false;
+    Segment { end, is_before_run }
 }
 
 /// Returns the end of the front of the units that is passed on as it is: of a run, without the last character if it may
@@ -99,4 +109,21 @@ pub(crate) fn passed_end<U: Units, N: Forming>(normalizer: &N, units: U) -> usiz
         return run.end;
     }
     run.marks
+}
+
+/// Returns the end of the front of the units that is kept as it is: runs, and segments between them that are seen to
+/// stay.
+pub(crate) fn kept_end<U: Units, N: Forming>(normalizer: &N, units: U) -> usize
+    ensures { let m = N.made normalizer.now in IsKeptTo U.encoding m.reading m.form (U.units units) result }
+{
+    normalizer.passed_characters_stand_apart();
+    let mut end = passed_end(normalizer, units);
+    while end < units.len() {
+        let Some(segment) = normalizer.kept_segment(units.after(end)) else {
+            return end;
+        };
+        end += segment;
+        end += passed_end(normalizer, units.after(end));
+    }
+    end
 }

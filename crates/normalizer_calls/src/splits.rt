@@ -72,16 +72,8 @@ impl<F: Forming> NormalizerBorrowed<F> {
         ensures { AnswersOf (F.made self.now.form) (decoded_utf8 bytes.now)
             (λ parts. IsSplitAtCut (F.made self.now.form) Encoding.Utf8 bytes.now parts.0.now parts.1.now) result }
     {
-        match str::from_utf8(bytes) {
-            Ok(text) => {
-                let (prefix, rest) = split_at_cut(&self.form, text)?;
-                Ok((prefix, rest.as_bytes()))
-            }
-            Err(_) => {
-                let (prefix, rest) = split_at_cut(&self.form, bytes)?;
-                Ok((text_of(prefix), rest))
-            }
-        }
+        let (prefix, rest) = split_at_cut(&self.form, bytes)?;
+        Ok((text_of(prefix), rest))
     }
 
     /// Splits 16-bit units so that the first part is well-formed and their form is the first part followed by the form

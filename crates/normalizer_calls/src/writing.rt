@@ -4,12 +4,12 @@ ghost use Rattle.std.specs.Iterator.{IsFinite};
 ghost use Rattle.normalizer_iterators.specs.Items.{SpellsOk, SpellsUnless};
 ghost use Rattle.normalizer_calls.specs.Forms.{form_in, HasShortUnits};
 ghost use Rattle.normalizer_calls.specs.inner.Offences.{IsFirstOrNone};
-ghost use Rattle.normalizer_calls.specs.inner.Passing.{IsPassedOn, IsSegmentEnd};
+ghost use Rattle.normalizer_calls.specs.inner.Passing.{IsSegmentEnd};
 ghost use Rattle.normalizer_calls.specs.Writing.{TellsLengthFirst};
 ghost use Rattle.normalizer_calls.specs.inner.Writing.{NothingOffered, WritesPart, WritesText, WritesUnits};
 
 use crate::forming::Forming;
-use crate::runs::{passed_end, segment_end};
+use crate::runs::{Segment, front_segment, kept_end};
 use normalizer_iterators::{NormalizeError, SegmentBuffers};
 use normalizer_tables::members::Members;
 use normalizer_text::Units;
@@ -107,15 +107,12 @@ fn write_segment<U: Units, N: Forming, O: Output<U>>(
     normalizer.write_items(units, output)
 }
 
-/// Writes the run of characters at the front of the units that is passed on as it is, in one piece, and returns its
-/// end: 0 if there is none.
+/// Writes the front of the units that is kept as it is, in one piece, and returns its end: 0 if there is none.
 fn write_run<U: Units, N: Forming, O: Output<U>>(
     normalizer: &N,
     units: U,
     output: &mut O,
 ) -> Result<usize, NormalizeError>
-    ensures run { IfOk result (IsPassedOn (N.passed_class normalizer.now) (N.beginning normalizer.now) N.held_back
-        U.encoding (U.units units)) }
     ensures none { IfOk result (λ end. end ≡ 0 → output.new ≡ output.old) }
     ensures part { IfOk result (λ end. 0 < end → WritesPart O.taken O.refused U.encoding
         (N.made normalizer.now) (U.units units) output.old end output.new) }
@@ -123,33 +120,34 @@ fn write_run<U: Units, N: Forming, O: Output<U>>(
         (N.made normalizer.now) (U.units units) output.old (Err fault) output.new) }
     ensures room { ¬ IsErrOf result NormalizeError.Memory }
 {
-    let end = passed_end(normalizer, units);
+    let end = kept_end(normalizer, units);
     if end > 0 {
         output.write_piece(units.before(end))?;
     }
     Ok(end)
 }
 
-/// Writes the form of the segment at the front of the units, and returns its end.
+/// Writes the form of the segment at the front of the units, and returns that.
 fn write_front_segment<U: Units, N: Forming, O: Output<U>>(
     normalizer: &N,
     units: U,
     buffers: &mut SegmentBuffers,
     output: &mut O,
-) -> Result<usize, NormalizeError>
+) -> Result<Segment, NormalizeError>
     requires { 0 < length (U.units units) }
-    ensures segment { IfOk result (IsSegmentEnd (N.beginning normalizer.now) U.encoding (U.units units)) }
-    ensures part { IfOk result (λ end. WritesPart O.taken O.refused U.encoding
-        (N.made normalizer.now) (U.units units) output.old end output.new) }
+    ensures segment { IfOk result (λ segment. IsSegmentEnd (N.beginning normalizer.now)
+        U.encoding (U.units units) segment.end) }
+    ensures part { IfOk result (λ segment. WritesPart O.taken O.refused U.encoding
+        (N.made normalizer.now) (U.units units) output.old segment.end output.new) }
     ensures refused { IfErr result (λ fault. WritesUnits U.encoding O.taken O.refused O.left O.refuses
         (N.made normalizer.now) (U.units units) output.old (Err fault) output.new) }
     ensures room { HasShortUnits (N.made normalizer.now) U.encoding (U.units units) →
         ¬ IsErrOf result NormalizeError.Memory }
 {
     normalizer.passed_characters_stand_apart();
-    let end = segment_end(normalizer, units);
-    write_segment(normalizer, units.before(end), buffers, output)?;
-    Ok(end)
+    let segment = front_segment(normalizer, units);
+    write_segment(normalizer, units.before(segment.end), buffers, output)?;
+    Ok(segment)
 }
 
 /// Writes the form of what the units decode to: runs, and the segments between them.
@@ -169,8 +167,11 @@ fn write_parts<U: Units, N: Forming, O: Output<U>>(
     }
     let mut buffers = normalizer.segment_buffers();
     while position < units.len() {
-        position += write_front_segment(normalizer, units.after(position), &mut buffers, output)?;
-        position += write_run(normalizer, units.after(position), output)?;
+        let segment = write_front_segment(normalizer, units.after(position), &mut buffers, output)?;
+        position += segment.end;
+        if segment.is_before_run {
+            position += write_run(normalizer, units.after(position), output)?;
+        }
     }
     Ok(())
 }

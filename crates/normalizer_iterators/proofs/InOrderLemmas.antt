@@ -26,7 +26,7 @@ NeighboursFit d [] = Unit {0}
 NeighboursFit d (a ∷ []) = Unit {0}
 NeighboursFit d (a ∷ b ∷ x) = (is_reorderable d a b ≡ false) × NeighboursFit d (b ∷ x)
 
-order-fit : (d : Reading) (x : List ℕ) → NeighboursFit d x → order d x ≡ x
+pub order-fit : (d : Reading) (x : List ℕ) → NeighboursFit d x → order d x ≡ x
 unfolding insert
 order-fit d [] fit = order-nil d
 order-fit d (a ∷ []) fit = order-cons d a [] ∙ ap (insert d a) (order-nil d)
@@ -45,7 +45,7 @@ no_pair : (d : Reading) (a b last : ℕ) → d.class a ≡ last → (0 < d.class
 unfolding is_reorderable
 no_pair d a b last is fits = grind (arith, nat_tests)
 
-fit-more : (d : Reading) (x : List ℕ) (last c : ℕ) → NeighboursFit d x → EndsWith d x last → (0 < d.class c → d.class c < last → ⊥) → NeighboursFit d (x ++ c ∷ [])
+pub fit-more : (d : Reading) (x : List ℕ) (last c : ℕ) → NeighboursFit d x → EndsWith d x last → (0 < d.class c → d.class c < last → ⊥) → NeighboursFit d (x ++ c ∷ [])
 fit-more d x last c fit (inl none) fits = subst (λ l. NeighboursFit d (l ++ c ∷ [])) (sym none) tt
 fit-more d x last c fit (inr end) fits =
     let pushed = NeighboursFit-push d end.0 end.1 c (subst (NeighboursFit d) end.2 fit) (no_pair d end.1 c last end.3 fits) in

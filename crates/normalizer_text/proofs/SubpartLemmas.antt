@@ -1,17 +1,18 @@
 -- The step that decoding finds in front of bytes is the standard's, and no other is.
-use Rattle.std.proofs.Common.{◌≡◌, ℕ, zero, suc, ◌<◌, ◌≤◌, inl, inr, List, [], ◌∷◌, ◌++◌, length, length-take-le}
-use Rattle.std.proofs.Common.{take, drop, take-append-drop, map, Some, None, arith, lit<, lit≤, refl, ap, sym, subst, ◌∙◌, ⊎_elim}
+use Rattle.std.proofs.Common.{◌≡◌, ℕ, true, zero, suc, ◌<◌, ◌≤◌, inl, inr, List, [], ◌∷◌, ◌++◌, length, length-take-le}
+use Rattle.std.proofs.Common.{take, drop, take-append-drop, get_or, map, Some, None, arith, lit<, lit≤, refl, ap, sym, subst, ◌∙◌, ⊎_elim}
 use Rattle.std.specs.Prelude.{slice_index_or}
 use Rattle.std.specs.List.{Contains}
 use Rattle.std.proofs.lemmas.Bool.{cases_Bool}
 use Rattle.normalizer_text.specs.declared.step.Step.{Step}
 use Rattle.normalizer_text.specs.Steps.{read, replaced}
-use Rattle.normalizer_text.specs.Utf8.{ByteRange, Row, well_formed_sequences, row_of, allows, matched, scalar_value, first_by_row, first_of_utf8}
+use Rattle.normalizer_text.specs.Utf8.{ByteRange, Row, continuation, well_formed_sequences, row_of, allows, matched, scalar_value, first_by_row, first_of_utf8}
 use Rattle.normalizer_text.specs.MaximalSubparts.{IsWithin, AreWithin, IsWellFormedSequence, BeginsSequence, IsMaximalSubpart, IsStepOfUtf8}
 use Rattle.normalizer_text.proofs.MatchLemmas.{allows-true, matched-le, AreWithin-matched}
 use Rattle.normalizer_text.proofs.RowLemmas.{Each, find-Each, row_of-IsRow, by_row-whole}
 use Rattle.normalizer_text.proofs.SequenceLemmas.{row-ascii, row-two, row-E0, row-E1, row-ED, row-EE, row-F0, row-F1, row-F4, allows_from, matched-AreWithin}
-use Rattle.normalizer_text.proofs.SequenceLemmas.{HasRow-sequence}
+use Rattle.normalizer_text.proofs.SequenceLemmas.{HasRow-sequence, first-sequence}
+use Rattle.normalizer_text.specs.inner.Trails.{BeginsWithSequence, LeadsThree}
 use Rattle.normalizer_text.proofs.Sequences.{IsSequence}
 use Rattle.normalizer_text.proofs.Utf8Lemmas.{by_cases}
 
@@ -77,6 +78,31 @@ sequence_of_bounds [] s = absurd s
 sequence_of_bounds (b ∷ bs) s =
     let k = HasRow-sequence b bs s in
     record { row = k.r; listed = (row_of-IsTableRow b k.r k.is).listed; within = (lead-IsWithin b k.r k.is, k.within) }
+
+-- ---- sequences in front
+
+pub BeginsWithSequence-two : (bytes : List ℕ) → 1 < length bytes → 0xC2 ≤ get_or bytes 0 0 → get_or bytes 0 0 ≤ 0xDF → allows continuation (get_or bytes 1 0) ≡ true
+    → BeginsWithSequence bytes 2
+BeginsWithSequence-two [] more = absurd (omega arith)
+BeginsWithSequence-two (a ∷ []) more = absurd (omega arith)
+BeginsWithSequence-two (a ∷ b ∷ bs) more = λ least greatest second.
+    let s = allows-true continuation b second in (omega arith, sequence_of_bounds (a ∷ b ∷ []) (least, greatest, s.0, s.1))
+
+pub BeginsWithSequence-three : (bytes : List ℕ) → 2 < length bytes → LeadsThree (get_or bytes 0 0) (get_or bytes 1 0) → allows continuation (get_or bytes 2 0) ≡ true
+    → BeginsWithSequence bytes 3
+BeginsWithSequence-three [] more = absurd (omega arith)
+BeginsWithSequence-three (a ∷ []) more = absurd (omega arith)
+BeginsWithSequence-three (a ∷ b ∷ []) more = absurd (omega arith)
+BeginsWithSequence-three (a ∷ b ∷ c ∷ bs) more = λ leads third.
+    let t = allows-true continuation c third in
+    (omega arith, sequence_of_bounds (a ∷ b ∷ c ∷ []) (leads.0, leads.1, leads.2, leads.3, leads.4, leads.5, t.0, t.1))
+
+-- the step in front of bytes that begin with a sequence
+pub first-begins : (bytes : List ℕ) (n : ℕ) → BeginsWithSequence bytes n → read (scalar_value (take n bytes)) n ≡ first_of_utf8 bytes
+first-begins bytes n s =
+    ap (λ k. read (scalar_value (take n bytes)) k) (sym (length-take-le n bytes s.0))
+    ∙ sym (first-sequence (take n bytes) (drop n bytes) (bounds_of_sequence (take n bytes) s.1))
+    ∙ ap first_of_utf8 (take-append-drop n bytes)
 
 -- ---- beginnings of a sequence
 

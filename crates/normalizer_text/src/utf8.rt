@@ -1,10 +1,11 @@
 //! Decoding bytes that may not be UTF-8, with U+FFFD for ill-formed sequences (The Unicode Standard, section 3.9).
-ghost use Rattle.std.specs.Prelude.{◌≡◌, ◌+◌, ◌<◌, ◌≤◌, length, option_map, slice_index_or};
+ghost use Rattle.std.specs.Prelude.{◌≡◌, ◌+◌, ◌<◌, ◌≤◌, IsTrue, length, option_map, slice_index_or};
 ghost use Rattle.std.specs.Str.{continuation_len};
 ghost use Rattle.normalizer_text.specs.Scans.{low_byte};
 ghost use Rattle.normalizer_text.specs.Steps.{IsWellFormed};
 ghost use Rattle.normalizer_text.specs.Utf8.{continuation, allows, row_of, matched, scalar_value, first_of_utf8};
 ghost use Rattle.normalizer_text.specs.MaximalSubparts.{IsWellFormedSequence};
+ghost use Rattle.normalizer_text.specs.inner.Trails.{BeginsWithSequence, LeadsThree};
 
 use crate::step::Step;
 
@@ -131,6 +132,56 @@ pub(crate) fn first_step_of_well_formed(bytes: &[u8]) -> Step
     Step::read(character_of(&bytes[..width]), width)
 }
 
+// Whether bytes begin with a sequence of two.
+#[inline(always)]
+fn begins_with_two(bytes: &[u8]) -> bool
+    ensures { IsTrue result → BeginsWithSequence bytes.now 2 }
+{
+    if bytes.len() < 2 {
+        return false;
+    }
+    if !leads_two(bytes[0]) {
+        return false;
+    }
+    is_continuation(bytes[1])
+}
+
+// Whether bytes begin with a sequence of three.
+#[inline(always)]
+fn begins_with_three(bytes: &[u8]) -> bool
+    ensures { IsTrue result → BeginsWithSequence bytes.now 3 }
+{
+    if bytes.len() < 3 {
+        return false;
+    }
+    if !leads_three(bytes[0], bytes[1]) {
+        return false;
+    }
+    is_continuation(bytes[2])
+}
+
+// Whether a byte begins a sequence of two.
+#[inline(always)]
+fn leads_two(lead: u8) -> bool
+    ensures { IsTrue result → (0xC2 ≤ lead) × (lead ≤ 0xDF) }
+{
+    0xC2 <= lead && lead <= 0xDF
+}
+
+// Whether two bytes begin a sequence of three.
+#[inline(always)]
+fn leads_three(lead: u8, second: u8) -> bool
+    ensures { IsTrue result → LeadsThree lead second }
+{
+    match lead {
+        0xE1..=0xEC => is_continuation(second),
+        0xEE..=0xEF => is_continuation(second),
+        0xE0 => 0xA0 <= second && second <= 0xBF,
+        0xED => 0x80 <= second && second <= 0x9F,
+        _ => false,
+    }
+}
+
 // The step in front of bytes of which there are some.
 #[inline(always)]
 pub(crate) fn first_step(bytes: &[u8]) -> Step
@@ -140,6 +191,10 @@ pub(crate) fn first_step(bytes: &[u8]) -> Step
     let lead = bytes[0];
     if lead < 0x80 {
         Step::read(char::from(lead), 1)
+    } else if begins_with_three(bytes) {
+        Step::read(character_of(&bytes[..3]), 3)
+    } else if begins_with_two(bytes) {
+        Step::read(character_of(&bytes[..2]), 2)
     } else {
         first_step_of_more(bytes)
     }

@@ -1,7 +1,7 @@
 -- Text whose form is made in parts: runs of characters that are passed on as they are, and what is between them.
-use Rattle.std.specs.Prelude.{◌≡◌, ◌≢◌, ℕ, ◌+◌, ◌<◌, ◌⊎◌, Bool, true, false, ◌||◌, ◌==◌, nat_le, if◌then◌else◌}
+use Rattle.std.specs.Prelude.{◌≡◌, ◌≢◌, ℕ, ◌+◌, ◌<◌, ◌≤◌, ◌⊎◌, Bool, true, false, ◌||◌, ◌==◌, nat_le, if◌then◌else◌}
 use Rattle.std.specs.Prelude.{List, [], ◌∷◌, ◌++◌, length, take, drop, All, Option, Some, None, option_and_then}
-use Rattle.normal_forms.specs.Reading.{Reading, ReadsAsItself}
+use Rattle.normal_forms.specs.Reading.{Reading, IsStarter, ReadsAsItself}
 use Rattle.normal_forms.specs.declared.Form.{Form}
 use Rattle.normal_forms.specs.declared.Form.TheVariants.{Decomposing}
 use Rattle.normal_forms.specs.Forms.{normal_form, IsNormalized}
@@ -10,6 +10,7 @@ use Rattle.normalizer_text.specs.declared.step.Step.{Step}
 use Rattle.normalizer_text.specs.Encodings.{Encoding, first_in, encoded_in, decoded_in}
 use Rattle.normalizer_text.specs.Steps.{IsBoundary, IsLastStep}
 use Rattle.normalizer_input.specs.EncodedForm.{encoded_form}
+use Rattle.normalizer_input.specs.InputCut.{IsInputNormalized}
 use Rattle.normalizer_calls.specs.BeginsApart.{BeginsApart}
 
 -- however much of the rest is read after the front, both are normalized apart
@@ -103,6 +104,33 @@ pub record IsPart (e : Encoding) (d : Reading) (form : Form) (units : List ℕ) 
   pub boundary : IsBoundary (first_in e) units end
   pub divides : (front : List ℕ)
       → Divides d form (front ++ decoded_in e (take end units)) (decoded_in e (drop end units))
+
+-- a character ends at the place, and the units up to it, if there are some, are a part, well-formed and normalized
+pub record IsKeptTo (e : Encoding) (d : Reading) (form : Form) (units : List ℕ) (end : ℕ) : Type 0 where
+  pub boundary : IsBoundary (first_in e) units end
+  pub part : 0 < end → IsPart e d form units end × IsInputNormalized e d form (take end units)
+
+-- a segment ends at the place, and is well-formed and normalized
+pub record IsKeptSegment (beginning : ℕ → Bool) (e : Encoding) (d : Reading) (form : Form) (units : List ℕ) (end : ℕ)
+    : Type 0 where
+  pub segment : IsSegmentEnd beginning e units end
+  pub own : IsInputNormalized e d form (take end units)
+
+-- the step is no error, and its character is a starter and its own list
+pub record IsOwnStarter (d : Reading) (s : Step) : Type 0 where
+  pub right : s.is_error ≡ false
+  pub itself : ReadsAsItself d s.character
+  pub starter : IsStarter d s.character
+
+-- the step is no error, and its character is a mark of class k that stays after a starter and marks of classes up to
+-- `last`: it is its own list, in canonical order, and doesn't compose with the starter
+pub record StaysMark (d : Reading) (starter last : ℕ) (s : Step) (k : ℕ) : Type 0 where
+  pub right : s.is_error ≡ false
+  pub itself : ReadsAsItself d s.character
+  pub class : d.class s.character ≡ k
+  pub mark : 0 < k
+  pub ordered : last ≤ k
+  pub alone : d.pair starter s.character ≡ None
 
 -- a piece of the units, after units whose form is the front
 pub record StandsInInput (e : Encoding) (d : Reading) (form : Form) (units front piece : List ℕ) : Type 0 where

@@ -1,8 +1,18 @@
 -- What the bytes that may follow a first byte are, as the decoder has them.
-use Rattle.std.specs.Prelude.{◌-◌, ◌==◌, List, [], ◌∷◌, replicate, if◌then◌else◌}
+use Rattle.std.specs.Prelude.{◌≡◌, ℕ, ◌-◌, ◌≤◌, ◌==◌, List, [], ◌∷◌, length, replicate, take, if◌then◌else◌}
 use Rattle.normalizer_text.specs.declared.utf8.Trail.{Trail}
 use Rattle.normalizer_text.specs.Utf8.{ByteRange, range, continuation}
+use Rattle.normalizer_text.specs.MaximalSubparts.{IsWellFormedSequence}
 
 -- the places of the bytes after the first one
 abbrev pub places : Trail → List ByteRange
 places t = if t.length == 0 then [] else range t.least t.greatest ∷ replicate (t.length - 1) continuation
+
+-- the first n bytes are a well-formed sequence
+abbrev pub BeginsWithSequence : List ℕ → ℕ → Type 0
+BeginsWithSequence bytes n = (n ≤ length bytes) × IsWellFormedSequence (take n bytes)
+
+-- the two bytes begin a well-formed sequence of three
+abbrev pub LeadsThree : ℕ → ℕ → Type 0
+LeadsThree a b =
+    (0xE0 ≤ a) × (a ≤ 0xEF) × (a ≡ 0xE0 → 0xA0 ≤ b) × (a ≡ 0xED → b ≤ 0x9F) × (0x80 ≤ b) × (b ≤ 0xBF)

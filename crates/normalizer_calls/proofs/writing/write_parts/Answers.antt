@@ -23,60 +23,70 @@ returns-then-position-len-clause-text g c =
     (rw c.in_ok-position.was at c.write_run.ensures.none) (rw c.in_ok-position.was at c.write_run.ensures.part) in
     WritesText-parts _ _ _ g.O.Output.taken g.O.Output.refused g.O.Output.left g.O.Output.refuses _ _ _ _ first (omega (arith, c.len.ensures, c.if-position-len.true))
 
-pub returns-in_err-position-2-clause-text : goal.returns-in_err-position-2-clause-text
-returns-in_err-position-2-clause-text g c =
-    let is : c.from_residual-in_err-position-2.result ≡ Err c.in_err-position-2.field-0.0 = search rules in
+pub returns-in_err-segment-clause-text : goal.returns-in_err-segment-clause-text
+returns-in_err-segment-clause-text g c =
+    let is : c.from_residual-in_err-segment.result ≡ Err c.in_err-segment.field-0.0 = search rules in
     rw is
     (WritesText-behind _ _ _ g.O.Output.taken g.O.Output.refused g.O.Output.left g.O.Output.refuses _ _ _ _ c.loop-position.invariant _ c.after.ensures _ _
-    (rw c.in_err-position-2.was at c.write_front_segment.ensures.refused))
+    (rw c.in_err-segment.was at c.write_front_segment.ensures.refused))
 
-pub returns-in_err-position-2-clause-room : goal.returns-in_err-position-2-clause-room
-returns-in_err-position-2-clause-room g c = λ short.
-    let is : c.from_residual-in_err-position-2.result ≡ Err c.in_err-position-2.field-0.0 = search rules in
+pub returns-in_err-segment-clause-room : goal.returns-in_err-segment-clause-room
+returns-in_err-segment-clause-room g c = λ short.
+    let is : c.from_residual-in_err-segment.result ≡ Err c.in_err-segment.field-0.0 = search rules in
     let short_behind = HasShortRuns-behind _ _ _ g.O.Output.taken g.O.Output.refused g.O.Output.left g.O.Output.refuses _ _ _ _ c.loop-position.invariant _ c.after.ensures _ short in
-    not_handed_on _ _ _ _ c.in_err-position-2.was is (c.write_front_segment.ensures.room short_behind)
+    not_handed_on _ _ _ _ c.in_err-segment.was is (c.write_front_segment.ensures.room short_behind)
 
 pub overflow_add-position : goal.overflow_add-position
 overflow_add-position g c =
     let so_far = WroteUpTo-more _ _ _ g.O.Output.taken g.O.Output.refused g.O.Output.left g.O.Output.refuses _ _ _ _ c.loop-position.invariant _ c.after.ensures _ _
-    (rw c.in_ok-position-2.was at c.write_front_segment.ensures.part) in
+    (rw c.in_ok-segment.was at c.write_front_segment.ensures.part) in
     let most = WroteUpTo-le _ _ _ g.O.Output.taken g.O.Output.refused g.O.Output.left g.O.Output.refuses _ _ _ _ so_far in
     omega (arith, c.len.ensures)
 
-pub after-requires-in-loop-position : goal.after-requires-in-loop-position
-after-requires-in-loop-position g c =
+pub after-requires-then-segment : goal.after-requires-then-segment
+after-requires-then-segment g c =
     let so_far = WroteUpTo-more _ _ _ g.O.Output.taken g.O.Output.refused g.O.Output.left g.O.Output.refuses _ _ _ _ c.loop-position.invariant _ c.after.ensures _ _
-    (rw c.in_ok-position-2.was at c.write_front_segment.ensures.part) in
+    (rw c.in_ok-segment.was at c.write_front_segment.ensures.part) in
     so_far.boundary
 
-pub returns-in_err-position-3-clause-text : goal.returns-in_err-position-3-clause-text
-returns-in_err-position-3-clause-text g c =
+pub returns-in_err-position-2-clause-text : goal.returns-in_err-position-2-clause-text
+returns-in_err-position-2-clause-text g c =
     let so_far = WroteUpTo-more _ _ _ g.O.Output.taken g.O.Output.refused g.O.Output.left g.O.Output.refuses _ _ _ _ c.loop-position.invariant _ c.after.ensures _ _
-    (rw c.in_ok-position-2.was at c.write_front_segment.ensures.part) in
-    let is : c.from_residual-in_err-position-3.result ≡ Err c.in_err-position-3.field-0.0 = search rules in
+    (rw c.in_ok-segment.was at c.write_front_segment.ensures.part) in
+    let is : c.from_residual-in_err-position-2.result ≡ Err c.in_err-position-2.field-0.0 = search rules in
     rw is
-    (WritesText-behind _ _ _ g.O.Output.taken g.O.Output.refused g.O.Output.left g.O.Output.refuses _ _ _ _ so_far _ c.after-in-loop-position.ensures _ _
-    (rw c.in_err-position-3.was at c.write_run-in-loop-position.ensures.refused))
+    (WritesText-behind _ _ _ g.O.Output.taken g.O.Output.refused g.O.Output.left g.O.Output.refuses _ _ _ _ so_far _ c.after-then-segment.ensures _ _
+    (rw c.in_err-position-2.was at c.write_run-then-segment.ensures.refused))
 
-pub overflow_add-position-in-loop-position : goal.overflow_add-position-in-loop-position
-overflow_add-position-in-loop-position g c =
+pub returns-in_err-position-2-clause-room : goal.returns-in_err-position-2-clause-room
+returns-in_err-position-2-clause-room g c = λ short.
+    let is : c.from_residual-in_err-position-2.result ≡ Err c.in_err-position-2.field-0.0 = search rules in
+    not_handed_on _ _ _ _ c.in_err-position-2.was is c.write_run-then-segment.ensures.room
+
+pub overflow_add-position-then-segment : goal.overflow_add-position-then-segment
+overflow_add-position-then-segment g c =
     let so_far = WroteUpTo-more _ _ _ g.O.Output.taken g.O.Output.refused g.O.Output.left g.O.Output.refuses _ _ _ _ c.loop-position.invariant _ c.after.ensures _ _
-    (rw c.in_ok-position-2.was at c.write_front_segment.ensures.part) in
-    let run = WroteUpTo-maybe _ _ _ g.O.Output.taken g.O.Output.refused g.O.Output.left g.O.Output.refuses _ _ _ _ so_far _ c.after-in-loop-position.ensures _ _
-    (rw c.in_ok-position-3.was at c.write_run-in-loop-position.ensures.none) (rw c.in_ok-position-3.was at c.write_run-in-loop-position.ensures.part) in
+    (rw c.in_ok-segment.was at c.write_front_segment.ensures.part) in
+    let run = WroteUpTo-maybe _ _ _ g.O.Output.taken g.O.Output.refused g.O.Output.left g.O.Output.refuses _ _ _ _ so_far _ c.after-then-segment.ensures _ _
+    (rw c.in_ok-position-2.was at c.write_run-then-segment.ensures.none) (rw c.in_ok-position-2.was at c.write_run-then-segment.ensures.part) in
     let most = WroteUpTo-le _ _ _ g.O.Output.taken g.O.Output.refused g.O.Output.left g.O.Output.refuses _ _ _ _ run in
     omega (arith, c.len.ensures)
 
+pub loop-position-preserved-then-segment : goal.loop-position-preserved-then-segment
+loop-position-preserved-then-segment g c =
+    let so_far = WroteUpTo-more _ _ _ g.O.Output.taken g.O.Output.refused g.O.Output.left g.O.Output.refuses _ _ _ _ c.loop-position.invariant _ c.after.ensures _ _
+    (rw c.in_ok-segment.was at c.write_front_segment.ensures.part) in
+    WroteUpTo-maybe _ _ _ g.O.Output.taken g.O.Output.refused g.O.Output.left g.O.Output.refuses _ _ _ _ so_far _ c.after-then-segment.ensures _ _
+    (rw c.in_ok-position-2.was at c.write_run-then-segment.ensures.none) (rw c.in_ok-position-2.was at c.write_run-then-segment.ensures.part)
+
 pub loop-position-preserved : goal.loop-position-preserved
 loop-position-preserved g c =
-    let so_far = WroteUpTo-more _ _ _ g.O.Output.taken g.O.Output.refused g.O.Output.left g.O.Output.refuses _ _ _ _ c.loop-position.invariant _ c.after.ensures _ _
-    (rw c.in_ok-position-2.was at c.write_front_segment.ensures.part) in
-    WroteUpTo-maybe _ _ _ g.O.Output.taken g.O.Output.refused g.O.Output.left g.O.Output.refuses _ _ _ _ so_far _ c.after-in-loop-position.ensures _ _
-    (rw c.in_ok-position-3.was at c.write_run-in-loop-position.ensures.none) (rw c.in_ok-position-3.was at c.write_run-in-loop-position.ensures.part)
+    WroteUpTo-more _ _ _ g.O.Output.taken g.O.Output.refused g.O.Output.left g.O.Output.refuses _ _ _ _ c.loop-position.invariant _ c.after.ensures _ _
+    (rw c.in_ok-segment.was at c.write_front_segment.ensures.part)
 
 pub loop-position-smaller : goal.loop-position-smaller
 loop-position-smaller g c =
-    let some = (rw c.in_ok-position-2.was at c.write_front_segment.ensures.part).part.some in
+    let some = (rw c.in_ok-segment.was at c.write_front_segment.ensures.part).part.some in
     omega arith
 
 pub returns-clause-text : goal.returns-clause-text

@@ -3,7 +3,7 @@ use Rattle.normalizer_text.specs.Encodings.{first_in}
 use Rattle.normalizer_text.proofs.BoundaryLemmas.{boundary-first}
 use Rattle.normalizer_text.proofs.EncodingRules.{IsDecoding-first}
 use Rattle.normalizer_calls.proofs.RunLemmas.{boundary-step, some_step, within_step}
-use Rattle.normalizer_calls.proofs.runs.segment_end.Goals as goal
+use Rattle.normalizer_calls.proofs.runs.front_segment.Goals as goal
 
 pub loop-end-init : goal.loop-end-init
 loop-end-init g c = (

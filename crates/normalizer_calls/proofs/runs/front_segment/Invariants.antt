@@ -1,7 +1,7 @@
 use Rattle.std.proofs.Common.{◌-◌, ◌<◌, length}
 use Rattle.normalizer_text.specs.Encodings.{first_in}
 use Rattle.normalizer_text.specs.Steps.{IsBoundary}
-use Rattle.normalizer_calls.proofs.runs.segment_end.Given as goal
+use Rattle.normalizer_calls.proofs.runs.front_segment.Given as goal
 
 abbrev pub invariant-loop-end : goal.invariant-loop-end
 invariant-loop-end g l = (0 < l.end) × IsBoundary (first_in g.U.Units.encoding) (g.U.Units.units l.units) l.end

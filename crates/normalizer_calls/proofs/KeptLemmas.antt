@@ -1,0 +1,172 @@
+-- Fronts of kept parts, and segments that stay as they are.
+use Rattle.std.proofs.Common.{◌≡◌, ℕ, ◌+◌, ◌<◌, ◌≤◌, false, List, [], ◌∷◌, ◌++◌, length, take, drop, map, refl, sym, ap, subst, ◌∙◌}
+use Rattle.std.proofs.Common.{append_assoc, append-nil, arith, length-drop, inl, inr}
+use Rattle.std.specs.Prelude.{All}
+use Rattle.std.proofs.Math.Nat.{eq-zero-or-pos}
+use Rattle.std.proofs.Math.Seq.{take-add}
+use Rattle.std.proofs.lemmas.List.{drop-drop, map-append}
+use Rattle.std.proofs.lemmas.List.Elements.{All-nil, All-cons, All-append, All-same}
+use Rattle.normal_forms.specs.Reading.{Reading, IsStarter}
+use Rattle.normal_forms.specs.Composition.{compose}
+use Rattle.normal_forms.specs.CompositionByStarters.{compose_after}
+use Rattle.normal_forms.specs.Decomposition.{expand}
+use Rattle.normal_forms.specs.declared.Form.{Form}
+use Rattle.normal_forms.specs.declared.Form.TheVariants.{Composing}
+use Rattle.normal_forms.specs.Forms.{normal_form, nfd, nfc}
+use Rattle.normal_forms.specs.Hypotheses.{HasStarterResults}
+use Rattle.normal_forms.specs.Order.{order}
+use Rattle.normal_forms.proofs.ComposeLemmas.{compose_after-mark, compose_after-nil, compose_by_starters-starter, join-none}
+use Rattle.normal_forms.proofs.ExpandLemmas.{expand-append}
+use Rattle.normal_forms.proofs.VisitLemmas.{compose_is_by_starters}
+use Rattle.normalizer_text.specs.declared.step.Step.{Step}
+use Rattle.normalizer_text.specs.Encodings.{Encoding, first_in, decoded_in}
+use Rattle.normalizer_text.specs.Steps.{steps, IsBoundary}
+use Rattle.normalizer_text.proofs.BoundaryLemmas.{boundary-after, boundary-le, boundary-start, decoded-take-drop, steps-parts, width_of-append}
+use Rattle.normalizer_text.proofs.EncodingRules.{IsDecoding-first}
+use Rattle.normalizer_text.proofs.StepLemmas.{decoded-append, steps-some}
+use Rattle.normalizer_input.specs.InputCut.{IsInputNormalized}
+use Rattle.normalizer_input.proofs.InputBoundaryLemmas.{IsWellFormed-append}
+use Rattle.normalizer_iterators.proofs.InOrderLemmas.{EndsWith, NeighboursFit, fit-more, order-fit}
+use Rattle.normalizer_calls.specs.inner.Passing.{Divides, IsKeptTo, IsOwnStarter, IsPart, StaysMark}
+
+-- ---- one kept part after another
+
+module _ (e : Encoding) (d : Reading) (form : Form) (units : List ℕ) where
+  abbrev IsOwnPart : List ℕ → ℕ → Type 0
+  IsOwnPart us end = IsPart e d form us end × IsInputNormalized e d form (take end us)
+
+  pub IsKeptTo-first : (end : ℕ) → (0 < end → IsOwnPart units end) → IsKeptTo e d form units end
+  IsKeptTo-first end part = record {
+    boundary = elim (eq-zero-or-pos end) [
+      | inl none ↦ subst (IsBoundary (first_in e) units) (sym none) (boundary-start (first_in e) (IsDecoding-first e) units)
+      | inr some ↦ (part some).0.boundary
+    ];
+    part = part;
+  }
+
+  module _ (a b : ℕ) (before : IsOwnPart units a) (behind : IsOwnPart (drop a units) b) where
+    text_to : decoded_in e (take (a + b) units) ≡ decoded_in e (take a units) ++ decoded_in e (take b (drop a units))
+    text_to = ap (decoded_in e) (take-add a b units) ∙ decoded-append (first_in e) (IsDecoding-first e) (take a units) (take b (drop a units)) before.1.well_formed
+
+    IsOwnPart-both : IsOwnPart units (a + b)
+    IsOwnPart-both = (
+      record {
+        some = (let some = before.0.some in omega arith);
+        boundary = boundary-after (first_in e) (IsDecoding-first e) units a b before.0.boundary behind.0.boundary;
+        divides = λ front.
+            let x = decoded_in e (take a units) in
+            let y = decoded_in e (take b (drop a units)) in
+            let same : (front ++ x) ++ y ≡ front ++ decoded_in e (take (a + b) units) = append_assoc front x y ∙ ap (λ l. front ++ l) (sym text_to) in
+            let rest : decoded_in e (drop b (drop a units)) ≡ decoded_in e (drop (a + b) units) = ap (decoded_in e) (drop-drop b a units) in
+            subst (λ l. Divides d form l (decoded_in e (drop (a + b) units))) same (subst (λ l. Divides d form ((front ++ x) ++ y) l) rest (behind.0.divides (front ++ x)));
+      },
+      record {
+        well_formed = subst (λ l. All (λ s. s.is_error ≡ false) (steps (first_in e) l)) (sym (take-add a b units))
+            (IsWellFormed-append e (take a units) (take b (drop a units)) before.1.well_formed behind.1.well_formed);
+        own = subst (λ l. normal_form d form l ≡ l) (sym text_to)
+            (before.0.divides [] (decoded_in e (take b (drop a units))) (decoded_in e (drop b (drop a units)))
+            (decoded-take-drop (first_in e) (IsDecoding-first e) (drop a units) b behind.0.boundary)
+            ∙ ap (λ l. l ++ normal_form d form (decoded_in e (take b (drop a units)))) before.1.own
+            ∙ ap (λ l. decoded_in e (take a units) ++ l) behind.1.own);
+      },
+    )
+
+  pub IsKeptTo-more : (a b : ℕ) (rest : List ℕ) → rest ≡ drop a units → IsKeptTo e d form units a → (0 < b → IsOwnPart rest b) → IsKeptTo e d form units (a + b)
+  IsKeptTo-more a b rest is so_far part = elim (eq-zero-or-pos b) [
+    | inl none ↦ let same : a ≡ a + b = omega (arith, none) in subst (IsKeptTo e d form units) same so_far
+    | inr some ↦
+        let behind : IsOwnPart (drop a units) b = subst (λ l. IsOwnPart l b) is (part some) in
+        elim (eq-zero-or-pos a) [
+          | inl first ↦
+              let same : b ≡ a + b = omega (arith, first) in
+              let all : drop a units ≡ units = ap (λ n. drop n units) first in
+              subst (IsKeptTo e d form units) same (IsKeptTo-first b (λ _. subst (λ l. IsOwnPart l b) all behind))
+          | inr before ↦ IsKeptTo-first (a + b) (λ _. IsOwnPart-both a b (so_far.part before) behind)
+        ]
+  ]
+
+  pub IsKeptTo-le : (end : ℕ) → IsKeptTo e d form units end → end ≤ length units
+  IsKeptTo-le end so_far = boundary-le (first_in e) (IsDecoding-first e) units end so_far.boundary
+
+-- ---- a starter and marks that stay after it
+
+pub record KeptMarks (d : Reading) (e : Encoding) (units : List ℕ) (first end last : ℕ) : Type 0 where
+  pub boundary : IsBoundary (first_in e) units end
+  pub right : All (λ s. s.is_error ≡ false) boundary.before
+  pub marks : List ℕ
+  pub text : map (λ s. s.character) boundary.before ≡ first ∷ marks
+  pub own : expand d (first ∷ marks) ≡ first ∷ marks
+  pub fit : NeighboursFit d (first ∷ marks)
+  pub ends : EndsWith d (first ∷ marks) last
+  pub composed : (rest : List ℕ) → compose_after d first [] (marks ++ rest) ≡ compose_after d first marks rest
+
+module _ (d : Reading) (e : Encoding) (units : List ℕ) where
+  pub KeptMarks-first : (s : Step) → s ≡ first_in e (drop 0 units) → 0 < length units → IsOwnStarter d s → KeptMarks d e units s.character s.width 0
+  unfolding expand
+  KeptMarks-first s is some first = record {
+    boundary = record {
+      before = s ∷ [];
+      after = steps (first_in e) (drop s.width units);
+      apart = steps-some (first_in e) (IsDecoding-first e) units some ∙ ap (λ t. t ∷ steps (first_in e) (drop t.width units)) (sym is);
+      taken = omega arith;
+    };
+    right = All-cons (λ t. t.is_error ≡ false) s [] first.right (All-nil (λ t. t.is_error ≡ false));
+    marks = [];
+    text = refl;
+    own = ap (λ l. l ++ []) first.itself;
+    fit = tt;
+    ends = inr ([], s.character, refl, first.starter);
+    composed = λ rest. refl;
+  }
+
+  pub KeptMarks-more : (first end last k : ℕ) (s : Step) → s ≡ first_in e (drop end units) → end < length units → KeptMarks d e units first end last → StaysMark d first last s k
+      → KeptMarks d e units first (end + s.width) k
+  unfolding expand
+  KeptMarks-more first end last k s is more so_far stays =
+      let b = so_far.boundary in
+      let rest = drop end units in
+      let some : 0 < length rest = omega (arith, length-drop end units) in
+      let c = s.character in
+      let x = first ∷ so_far.marks in
+      let class = stays.class in
+      let ordered = stays.ordered in
+      record {
+        boundary = record {
+          before = b.before ++ s ∷ [];
+          after = steps (first_in e) (drop (first_in e rest).width rest);
+          apart = b.apart
+              ∙ ap (λ l. b.before ++ l) (sym (steps-parts (first_in e) (IsDecoding-first e) units end b).1 ∙ steps-some (first_in e) (IsDecoding-first e) rest some)
+              ∙ ap (λ t. b.before ++ t ∷ steps (first_in e) (drop (first_in e rest).width rest)) (sym is)
+              ∙ sym (append_assoc b.before (s ∷ []) (steps (first_in e) (drop (first_in e rest).width rest)));
+          taken = (let n = b.taken in omega (arith, width_of-append b.before (s ∷ [])));
+        };
+        right = All-append (λ t. t.is_error ≡ false) b.before (s ∷ []) so_far.right (All-cons (λ t. t.is_error ≡ false) s [] stays.right (All-nil (λ t. t.is_error ≡ false)));
+        marks = so_far.marks ++ c ∷ [];
+        text = map-append (λ t. t.character) b.before (s ∷ []) ∙ ap (λ l. l ++ c ∷ []) so_far.text;
+        own = expand-append d x (c ∷ []) ∙ ap (λ l. l ++ expand d (c ∷ [])) so_far.own ∙ ap (λ l. x ++ (l ++ [])) stays.itself;
+        fit = fit-more d x last c so_far.fit so_far.ends (λ mark falls. omega (arith, class));
+        ends = inr (x, c, refl, stays.class);
+        composed = λ after.
+            ap (compose_after d first []) (append_assoc so_far.marks (c ∷ []) after)
+            ∙ so_far.composed (c ∷ after)
+            ∙ compose_after-mark d first so_far.marks c after (join-none d first so_far.marks c stays.alone) (let mark = stays.mark in omega (arith, class));
+      }
+
+  -- they are normalized
+  pub KeptMarks-own : (first end last : ℕ) → HasStarterResults d → IsStarter d first → KeptMarks d e units first end last → IsInputNormalized e d Composing (take end units)
+  unfolding normal_form nfc nfd
+  KeptMarks-own first end last results starter k =
+      let same : steps (first_in e) (take end units) ≡ k.boundary.before = (steps-parts (first_in e) (IsDecoding-first e) units end k.boundary).0 in
+      let x = first ∷ k.marks in
+      let text : decoded_in e (take end units) ≡ x = ap (map (λ s. s.character)) same ∙ k.text in
+      record {
+        well_formed = All-same (λ s. s.is_error ≡ false) _ _ same k.right;
+        own = subst (λ l. compose d (order d (expand d l)) ≡ l) (sym text)
+            (ap (λ l. compose d (order d l)) k.own
+            ∙ ap (compose d) (order-fit d x k.fit)
+            ∙ compose_is_by_starters d results x
+            ∙ compose_by_starters-starter d first k.marks starter
+            ∙ ap (compose_after d first []) (sym (append-nil k.marks))
+            ∙ k.composed []
+            ∙ compose_after-nil d first k.marks);
+      }

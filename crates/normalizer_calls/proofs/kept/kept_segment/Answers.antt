@@ -1,0 +1,45 @@
+use Rattle.std.proofs.Common.{None, arith, sym, ap, ◌∙◌}
+use Rattle.normalizer_tables.specs.PairConditions.{is_passed}
+use Rattle.normalizer_calls.proofs.KeptLemmas.{KeptMarks-first, KeptMarks-more, KeptMarks-own}
+use Rattle.normalizer_calls.proofs.RunLemmas.{some_step, within_step}
+use Rattle.normalizer_calls.proofs.kept.kept_segment.Goals as goal
+
+pub loop-end-init : goal.loop-end-init
+loop-end-init g c = (
+  some_step (λ _. None) g.U.Units.encoding (g.U.Units.units c.args.units) 0 c.step_at-first.result c.step_at-first.ensures c.requires,
+  KeptMarks-first _ _ _ _ c.step_at-first.ensures c.requires (c.is_own_starter.ensures c.if-not-is_own_starter.false),
+)
+
+pub returns-then-begins : goal.returns-then-begins
+returns-then-begins g c = record {
+  segment = record {
+    some = c.loop-end.invariant.0;
+    boundary = c.loop-end.invariant.1.boundary;
+    next = λ _. ap (λ s. is_passed c.args.form.now.characters c.args.form.now.bounds s.character) (sym c.step_at-step.ensures) ∙ sym c.begins.ensures ∙ c.if-begins.true;
+  };
+  own = KeptMarks-own _ _ _ _ _ _ c.args.form.now.serves.composing.starters (c.is_own_starter.ensures c.if-not-is_own_starter.false).starter c.loop-end.invariant.1;
+}
+
+pub overflow_add-end : goal.overflow_add-end
+overflow_add-end g c =
+    let most = within_step (λ _. None) g.U.Units.encoding (g.U.Units.units c.args.units) c.loop-end.end c.step_at-step.result
+    c.step_at-step.ensures (omega (arith, c.len.ensures)) c.loop-end.invariant.1.boundary in
+    omega (arith, c.len.ensures)
+
+pub loop-end-smaller : goal.loop-end-smaller
+loop-end-smaller g c =
+    let some = some_step (λ _. None) g.U.Units.encoding (g.U.Units.units c.args.units) c.loop-end.end c.step_at-step.result
+    c.step_at-step.ensures (omega (arith, c.len.ensures)) in
+    omega (arith, c.len.ensures)
+
+pub loop-end-preserved : goal.loop-end-preserved
+loop-end-preserved g c = (
+  omega (arith, c.loop-end.invariant.0),
+  KeptMarks-more _ _ _ _ _ _ _ _ c.step_at-step.ensures (omega (arith, c.len.ensures)) c.loop-end.invariant.1 (rw c.in_ok-last.was at c.class_that_stays.ensures),
+)
+
+pub returns : goal.returns
+returns g c = record {
+  segment = record { some = c.loop-end.invariant.0; boundary = c.loop-end.invariant.1.boundary; next = λ more. absurd (omega (arith, c.len.ensures)) };
+  own = KeptMarks-own _ _ _ _ _ _ c.args.form.now.serves.composing.starters (c.is_own_starter.ensures c.if-not-is_own_starter.false).starter c.loop-end.invariant.1;
+}
