@@ -142,8 +142,8 @@ typedef struct icu_normalizer_defect {
 #define ICU_NORMALIZER_ALL_RECORDS 4u
 #define ICU_NORMALIZER_ONE_MAPPER_RECORD 5u
 
-/* Returns what the reason of a defect means, in English: 1 to 8 are of lines, 9 of one record, 10 to 18 of the records
-   together. */
+/* Returns what the reason of a defect means, in English: 1 to 8, 19 and 20 are of lines, 9 is of one record, 10 to 18
+   are of the records together. With reason 17, the place is the number of the condition (docs/CONDITIONS.md). */
 static inline const char *icu_normalizer_reason_text(uint32_t reason) {
     switch (reason) {
         case 1: return "the line has too few fields";
@@ -164,6 +164,8 @@ static inline const char *icu_normalizer_reason_text(uint32_t reason) {
         case 16: return "two records have the same pair";
         case 17: return "the data break a written condition";
         case 18: return "the lists have more items than the tables hold";
+        case 19: return "the last line has no line feed: the file is cut off";
+        case 20: return "UnicodeData.txt has no canonical mapping of the character";
         default: return "no reason has this number";
     }
 }

@@ -24,6 +24,8 @@ number_of_problem problems.Status = 5
 number_of_problem problems.Order = 6
 number_of_problem problems.Range = 7
 number_of_problem problems.NotACharacter = 8
+number_of_problem problems.CutOff = 19
+number_of_problem problems.Unmapped = 20
 
 abbrev pub number_of_error : BuildError → ℕ
 number_of_error errors.Order = 10

@@ -41,6 +41,8 @@ fn number_of_problem(problem: Problem) -> u32
         Problem::Order => 6,
         Problem::Range => 7,
         Problem::NotACharacter => 8,
+        Problem::CutOff => 19,
+        Problem::Unmapped => 20,
     }
 }
 

@@ -1,23 +1,34 @@
 -- The reply of the mapper, by mappings that make the same.
-use Rattle.std.proofs.Common.{ℕ, List, Result, Ok, Err, IfOk, ◌∙◌}
+use Rattle.std.proofs.Common.{◌≡◌, ℕ, List, [], Result, Ok, Err, IfOk, refl, ap, ◌∙◌}
+use Rattle.std.specs.Prelude.{◌↔◌}
 use Rattle.normalizer_calls.specs.Uts46.{MapperData}
 use Rattle.normalizer_io.specs.declared.outcome.Answer.{Answer}
+use Rattle.normalizer_io.specs.declared.outcome.Answer.TheVariants.{Done}
+use Rattle.normalizer_streams.specs.declared.scheme.EncodingScheme.{EncodingScheme}
+use Rattle.normalizer_streams.specs.Schemes.{encoded_by}
 use Rattle.normalizer_command.specs.declared.fault.Fault.{Fault}
 use Rattle.normalizer_command.specs.declared.mapping.MapperTask.{MapperTask}
 use Rattle.normalizer_command.specs.declared.mapping.MapperTask.TheVariants.{Map, Validate}
 use Rattle.normalizer_command.specs.declared.reply.Reply.{Reply}
-use Rattle.normalizer_command.specs.Lines.{lines_of}
 use Rattle.normalizer_command.specs.Making.{Mapping, Maps, mapping_of}
-use Rattle.normalizer_command.specs.Replies.{IsReplyOfMapper}
-use Rattle.normalizer_command.proofs.LineLemmas.{invalid_lines-by, mapped_lines-by}
+use Rattle.normalizer_command.specs.Replies.{IsReplyOfLines}
+use Rattle.normalizer_command.specs.inner.EachLine.{replies_to}
+use Rattle.normalizer_command.proofs.LineLemmas.{invalid_lines-by, mapped_lines-by, map-replies, validate-replies}
 
-reply-by : (task : MapperTask) (h : MapperData) (m : Mapping) → Maps h m → (name input : List ℕ) (answer : Answer) (output : List ℕ)
-    → IsReplyOfMapper task (mapping_of h) name input answer output → IsReplyOfMapper task m name input answer output
-reply-by Map h m maps name input answer output reply = (reply.0, reply.1 ∙ mapped_lines-by h m maps (lines_of input))
-reply-by Validate h m maps name input answer output reply = record { told = reply.told ∙ invalid_lines-by h m maps name 1 (lines_of input); none = reply.none }
+-- what is written of each line is the reply
+pub reply-lines : (task : MapperTask) (s : EncodingScheme) (m : Mapping) (name : List ℕ) (lines : List (List ℕ)) (output : List ℕ) (r : Reply) → r.output.items ≡ output
+    → (task ≡ Map → r.answer ≡ Done) → (task ≡ Validate → (r.answer ≡ Done) ↔ (output ≡ [])) → output ≡ replies_to task s m name 0 lines
+    → IsReplyOfLines task s m name lines r.answer r.output.items
+reply-lines Map s m name lines output r is done valid written = (done refl, is ∙ written ∙ map-replies s m name lines)
+reply-lines Validate s m name lines output r is done valid written = record { told = is ∙ written ∙ validate-replies s m name 0 lines; none = rw is (valid refl) }
 
-pub replies-by : (task : MapperTask) (h : MapperData) (m : Mapping) → Maps h m → (name input : List ℕ) (r : Result Reply Fault)
-    → IfOk r (λ reply. IsReplyOfMapper task (mapping_of h) name input reply.answer reply.output.items)
-    → IfOk r (λ reply. IsReplyOfMapper task m name input reply.answer reply.output.items)
-replies-by task h m maps name input (Ok reply) own = reply-by task h m maps name input reply.answer reply.output.items own
-replies-by task h m maps name input (Err e) own = tt
+reply-by : (task : MapperTask) (s : EncodingScheme) (h : MapperData) (m : Mapping) → Maps h m → (name : List ℕ) (lines : List (List ℕ)) (answer : Answer) (output : List ℕ)
+    → IsReplyOfLines task s (mapping_of h) name lines answer output → IsReplyOfLines task s m name lines answer output
+reply-by Map s h m maps name lines answer output reply = (reply.0, reply.1 ∙ ap (encoded_by s) (mapped_lines-by h m maps lines))
+reply-by Validate s h m maps name lines answer output reply = record { told = reply.told ∙ invalid_lines-by h m maps name 1 lines; none = reply.none }
+
+pub replies-by : (task : MapperTask) (s : EncodingScheme) (h : MapperData) (m : Mapping) → Maps h m → (name : List ℕ) (lines : List (List ℕ)) (r : Result Reply Fault)
+    → IfOk r (λ reply. IsReplyOfLines task s (mapping_of h) name lines reply.answer reply.output.items)
+    → IfOk r (λ reply. IsReplyOfLines task s m name lines reply.answer reply.output.items)
+replies-by task s h m maps name lines (Ok reply) own = reply-by task s h m maps name lines reply.answer reply.output.items own
+replies-by task s h m maps name lines (Err e) own = tt

@@ -1,6 +1,7 @@
 -- A reply of a worker for a form.
 use Rattle.std.proofs.Common.{◌≡◌, ℕ, List, Result, IfOk, subst}
 use Rattle.normalizer_built.specs.declared.normalizer.Normalizer.{Normalizer}
+use Rattle.normalizer_streams.specs.declared.scheme.EncodingScheme.{EncodingScheme}
 use Rattle.normalizer_command.specs.declared.fault.Fault.{Fault}
 use Rattle.normalizer_command.specs.declared.reply.Reply.{Reply}
 use Rattle.normalizer_command.specs.declared.reply.Task.{Task}
@@ -10,11 +11,11 @@ use Rattle.normalizer_command.specs.Making.{Making, Makes}
 use Rattle.normalizer_command.specs.Replies.{IsReply, IsReplyOfForm}
 use Rattle.normalizer_command.specs.Works.{Does, OfForm, OfMapper, Work}
 
-pub form_replies : (self : Worker) (task : Task) (n : Normalizer) → self ≡ worker.OfForm task n → (name input : List ℕ) (r : Result Reply Fault)
-    → ((m : Making) → Makes n m → IfOk r (λ reply. IsReplyOfForm task m name input reply.answer reply.output.items))
+pub form_replies : (self : Worker) (task : Task) (s : EncodingScheme) (n : Normalizer) → self ≡ worker.OfForm task s n → (name input : List ℕ) (r : Result Reply Fault)
+    → ((m : Making) → Makes n m → IfOk r (λ reply. IsReplyOfForm task s m name input reply.answer reply.output.items))
     → (w : Work) → Does self w → IfOk r (λ reply. IsReply w name input reply.answer reply.output.items)
-form_replies self task n is name input r each (OfForm other m) does =
-    let same : Does (worker.OfForm task n) (OfForm other m) = subst (λ x. Does x (OfForm other m)) is does in
-    subst (λ t. IfOk r (λ reply. IsReplyOfForm t m name input reply.answer reply.output.items)) same.0 (each m same.1)
-form_replies self task n is name input r each (OfMapper other m) does =
-    let never : Does (worker.OfForm task n) (OfMapper other m) = subst (λ x. Does x (OfMapper other m)) is does in absurd never
+form_replies self task s n is name input r each (OfForm other s' m) does =
+    let same : Does (worker.OfForm task s n) (OfForm other s' m) = subst (λ x. Does x (OfForm other s' m)) is does in
+    rw (← same.0, ← same.1) (each m same.2)
+form_replies self task s n is name input r each (OfMapper other s' m) does =
+    let never : Does (worker.OfForm task s n) (OfMapper other s' m) = subst (λ x. Does x (OfMapper other s' m)) is does in absurd never

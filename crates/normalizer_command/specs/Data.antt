@@ -30,8 +30,8 @@ IsFile bytes_of directory file bytes = IfSome (bytes_of (path_of directory file)
 
 -- no table is read for a form
 abbrev pub IsTable : (List ℕ → Option (List ℕ)) → (directory : List ℕ) → Command → (table : List ℕ) → Type 0
-IsTable bytes_of directory (OfForm task form) table = table ≡ []
-IsTable bytes_of directory (OfMapper task) table = IsFile bytes_of directory IdnaMappingTable table
+IsTable bytes_of directory (OfForm task scheme form) table = table ≡ []
+IsTable bytes_of directory (OfMapper task scheme) table = IsFile bytes_of directory IdnaMappingTable table
 
 -- these are the bytes of the files that a command needs, if they are known
 abbrev pub AreFiles : (List ℕ → Option (List ℕ)) → (directory : List ℕ) → Command

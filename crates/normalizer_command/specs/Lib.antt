@@ -11,3 +11,4 @@ pub mod Runs
 pub mod Versions
 pub mod Words
 pub mod Works
+pub mod inner

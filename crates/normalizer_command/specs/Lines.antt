@@ -1,8 +1,7 @@
--- The lines of a file: each mapped by itself, or validated.
+-- The lines of a text: each mapped by itself, or validated.
 use Rattle.std.specs.Prelude.{◌≡◌, ◌↔◌, ℕ, ◌+◌, ◌==◌, ◌&&◌, not, Bool, List, [], ◌∷◌, ◌++◌, map}
-use Rattle.std.specs.Prelude.{bytes_eq, codes, decimal, encode_utf8_all, if◌then◌else◌}
+use Rattle.std.specs.Prelude.{bytes_eq, codes, decimal, if◌then◌else◌}
 use Rattle.std.specs.List.{join_with_byte, list_any, slice_split}
-use Rattle.normalizer_text.specs.Utf8.{decoded_utf8}
 use Rattle.normalizer_io.specs.declared.outcome.Answer.{Answer}
 use Rattle.normalizer_io.specs.declared.outcome.Answer.TheVariants.{Done}
 use Rattle.normalizer_command.specs.Making.{Mapping}
@@ -15,28 +14,16 @@ line_of text = text ++ (line_feed ∷ [])
 
 -- what is between line feeds: one line more than there are line feeds
 abbrev pub lines_of : List ℕ → List (List ℕ)
-lines_of input = slice_split (λ b. b == line_feed) input
-
--- the UTF-8 of what mapping makes of the text of a line
-abbrev pub mapped_line : Mapping → List ℕ → List ℕ
-mapped_line m line = encode_utf8_all (m.map (decoded_utf8 line))
-
--- what comes before a line
-abbrev pub feed_unless : (is_first : Bool) → List ℕ
-feed_unless is_first = if is_first then [] else line_feed ∷ []
+lines_of text = slice_split (λ c. c == line_feed) text
 
 -- the lines, each mapped by itself, with line feeds between them
 abbrev pub mapped_lines : Mapping → List (List ℕ) → List ℕ
-mapped_lines m lines = join_with_byte line_feed (map (mapped_line m) lines)
+mapped_lines m lines = join_with_byte line_feed (map m.map lines)
 
--- the UTF-8 of the text is the line, and the text has no U+FFFD (bytes_eq decides of any two lists of numbers whether
--- they are the same)
-abbrev pub is_kept : (line text : List ℕ) → Bool
-is_kept line text = not (list_any (λ c. c == 0xFFFD) text) && bytes_eq (encode_utf8_all text) line
-
--- validation keeps the line as it is, and it has no U+FFFD
+-- validation keeps the line as it is, and it has no U+FFFD (bytes_eq decides of any two lists of numbers whether they
+-- are the same)
 abbrev pub is_valid_line : Mapping → List ℕ → Bool
-is_valid_line m line = is_kept line (m.validate (decoded_utf8 line))
+is_valid_line m line = not (list_any (λ c. c == 0xFFFD) line) && bytes_eq (m.validate line) line
 
 -- NAME:LINE: invalid
 abbrev pub invalid_line : (name : List ℕ) → (number : ℕ) → List ℕ

@@ -1,33 +1,40 @@
 -- What is written of the first mismatch of a file.
-use Rattle.std.specs.Prelude.{◌≡◌, ℕ, ◌+◌, ◌-◌, ◌==◌, not, true, List, [], ◌∷◌, ◌++◌, codes, count_by, decimal, length}
+use Rattle.std.specs.Prelude.{◌≡◌, ℕ, ◌+◌, ◌-◌, ◌*◌, ◌==◌, not, true, List, [], ◌∷◌, ◌++◌, codes, count_by, decimal, length}
 use Rattle.std.specs.Prelude.{Option, Some, None, replicate, reverse, take, take_while}
 use Rattle.std.specs.Fmt.{digits}
 use Rattle.normalizer_input.specs.declared.offence.Offence.{Offence}
+use Rattle.normalizer_streams.specs.declared.scheme.EncodingScheme.{EncodingScheme}
+use Rattle.normalizer_streams.specs.Schemes.{unit_len, units_of}
 use Rattle.normalizer_io.specs.declared.outcome.Answer.{Answer}
 use Rattle.normalizer_io.specs.declared.outcome.Answer.TheVariants.{Done, No}
 
--- the number of a line, from 1, after what comes before a place: lines end with U+000A
+-- the number of a line, from 1, after the units before a place: lines end with U+000A
 abbrev pub line_after : List ℕ → ℕ
-line_after front = count_by (λ b. b == 0x0A) front + 1
+line_after front = count_by (λ u. u == 0x0A) front + 1
+
+-- how many units of its line come before the place
+abbrev pub units_before : List ℕ → ℕ
+units_before front = length (take_while (λ u. not (u == 0x0A)) (reverse front))
 
 -- the number of a byte in its line, from 1
-abbrev pub byte_after : List ℕ → ℕ
-byte_after front = length (take_while (λ b. not (b == 0x0A)) (reverse front)) + 1
+abbrev pub byte_after : EncodingScheme → List ℕ → ℕ
+byte_after s front = units_before front * unit_len s + 1
 
 -- upper-case hexadecimal digits, at least four with zeros in front (The Unicode Standard, appendix A)
 abbrev pub code_point_digits : ℕ → List ℕ
 code_point_digits c = let shown = digits 16 true c in replicate (4 - length shown) 0x30 ++ shown
 
 -- NAME:LINE:BYTE
-abbrev pub position : (name front : List ℕ) → List ℕ
-position name front = name ++ (codes ":" ++ (decimal (line_after front) ++ (codes ":" ++ decimal (byte_after front))))
+abbrev pub position : EncodingScheme → (name front : List ℕ) → List ℕ
+position s name front =
+    name ++ (codes ":" ++ (decimal (line_after front) ++ (codes ":" ++ decimal (byte_after s front))))
 
 -- NAME:LINE:BYTE: found U+0061, wanted U+00E4
-abbrev pub mismatch_line : (name input : List ℕ) → Offence → List ℕ
-mismatch_line name input o = position name (take o.place input) ++ (codes ": found U+" ++ (code_point_digits o.found
+abbrev pub mismatch_line : EncodingScheme → (name input : List ℕ) → Offence → List ℕ
+mismatch_line s name input o = position s name (take o.place (units_of s input)) ++ (codes ": found U+" ++ (code_point_digits o.found
     ++ (codes ", wanted U+" ++ (code_point_digits o.wanted ++ (0x0A ∷ [])))))
 
 -- no, and one line; or yes, and nothing, if there is no mismatch
-abbrev pub TellsMismatch : (name input : List ℕ) → Option Offence → Answer → (output : List ℕ) → Type 0
-TellsMismatch name input None answer output = (answer ≡ Done) × (output ≡ [])
-TellsMismatch name input (Some o) answer output = (answer ≡ No) × (output ≡ mismatch_line name input o)
+abbrev pub TellsMismatch : EncodingScheme → (name input : List ℕ) → Option Offence → Answer → (output : List ℕ) → Type 0
+TellsMismatch s name input None answer output = (answer ≡ Done) × (output ≡ [])
+TellsMismatch s name input (Some o) answer output = (answer ≡ No) × (output ≡ mismatch_line s name input o)

@@ -53,8 +53,8 @@ greater a b = if nat_lt a b then b else a
 -- What work leaves that fails so: nothing is written, or a front of the reply is. A form is written while its file is
 -- read, another reply only then.
 abbrev pub Leaves : Work → Fault → (Unwritten CutOff : Type 0) → Type 0
-Leaves (OfForm task.Write m) (Open kind) Unwritten CutOff = Unwritten
-Leaves (OfForm task.Write m) fault Unwritten CutOff = CutOff
+Leaves (OfForm task.Write scheme m) (Open kind) Unwritten CutOff = Unwritten
+Leaves (OfForm task.Write scheme m) fault Unwritten CutOff = CutOff
 Leaves other Write Unwritten CutOff = CutOff
 Leaves other fault Unwritten CutOff = Unwritten
 

@@ -2,6 +2,7 @@
 use Rattle.std.specs.Prelude.{◌≡◌, List, ⊤}
 use Rattle.normalizer_records.specs.Entry.{Entry, MapperEntry}
 use Rattle.normalizer_calls.specs.Mappers.{mapper_data_of}
+use Rattle.normalizer_streams.specs.declared.scheme.EncodingScheme.{EncodingScheme}
 use Rattle.normalizer_command.specs.declared.mapping.MapperTask.{MapperTask}
 use Rattle.normalizer_command.specs.declared.reply.Task.{Task}
 use Rattle.normalizer_command.specs.declared.reply.Task.TheVariants as task
@@ -13,22 +14,23 @@ use Rattle.normalizer_command.specs.Making.{Making, Makes, Mapping, Maps, making
 
 -- something of a normal form, or something of the mapper
 pub data Work : Type 0 where
-  OfForm : Task → Making → Work
-  OfMapper : MapperTask → Mapping → Work
+  OfForm : Task → EncodingScheme → Making → Work
+  OfMapper : MapperTask → EncodingScheme → Mapping → Work
 
 -- the work of a command, by what records mean
 abbrev pub work_by : List Entry → List MapperEntry → Command → Work
-work_by records uts46 (command.OfForm task form) = OfForm task (making_by records form)
-work_by records uts46 (command.OfMapper task) = OfMapper task (mapping_by records uts46)
+work_by records uts46 (command.OfForm task scheme form) = OfForm task scheme (making_by records form)
+work_by records uts46 (command.OfMapper task scheme) = OfMapper task scheme (mapping_by records uts46)
 
 -- the worker does this work
 abbrev pub Does : Worker → Work → Type 0
-Does (worker.OfForm task n) (OfForm task' m) = (task ≡ task') × Makes n m
-Does (worker.OfForm task n) (OfMapper task' m) = ⊥
-Does (worker.OfMapper task n) (OfForm task' m) = ⊥
-Does (worker.OfMapper task n) (OfMapper task' m) = (task ≡ task') × Maps (mapper_data_of n) m
+Does (worker.OfForm task scheme n) (OfForm task' scheme' m) = (task ≡ task') × (scheme ≡ scheme') × Makes n m
+Does (worker.OfForm task scheme n) (OfMapper task' scheme' m) = ⊥
+Does (worker.OfMapper task scheme n) (OfForm task' scheme' m) = ⊥
+Does (worker.OfMapper task scheme n) (OfMapper task' scheme' m) =
+    (task ≡ task') × (scheme ≡ scheme') × Maps (mapper_data_of n) m
 
 -- it reads a file to its end before it writes, as for all but writing a form
 abbrev pub RepliesAtEnd : Worker → Type 0
-RepliesAtEnd (worker.OfForm task.Write n) = ⊥
+RepliesAtEnd (worker.OfForm task.Write scheme n) = ⊥
 RepliesAtEnd other = ⊤

@@ -1,12 +1,12 @@
-//! The characters of an iterator, and their UTF-8.
-ghost use Rattle.std.specs.Prelude.{◌≡◌, List, ℕ, IfOk, IsOkUnless, string_bytes, encode_utf8_all};
+//! The characters of an iterator.
+ghost use Rattle.std.specs.Prelude.{◌≡◌, List, ℕ, IfOk, IsOkUnless};
 ghost use Rattle.std.specs.Iterator.{IsFinite};
 ghost use Rattle.normalizer_iterators.specs.Items.{SpellsUnless};
 
 use crate::fault::Fault;
 use normalizer_iterators::NormalizeError;
 use normalizer_iterators::laws::text_comes_unless_a_fault_does;
-use std::alloc::{AllocError, Global};
+use std::alloc::Global;
 
 /// The characters, up to the first error, which is `Memory`.
 pub(crate) fn collected<I: Iterator<Item = Result<char, NormalizeError>> + Drop>(
@@ -25,11 +25,4 @@ pub(crate) fn collected<I: Iterator<Item = Result<char, NormalizeError>> + Drop>
         characters.push(item?)?;
     }
     Ok(characters)
-}
-
-/// The UTF-8 of characters.
-pub(crate) fn encoded(alloc: Global, characters: &[char]) -> Result<String, AllocError>
-    ensures { IfOk result (λ text. string_bytes text ≡ encode_utf8_all characters.now) }
-{
-    characters.iter().copied().collect(alloc)
 }

@@ -94,7 +94,7 @@ fn read_table<I: Inputs>(
 {
     match command {
         Command::OfForm(..) => Ok(Vec::new(alloc)),
-        Command::OfMapper(_) => read_file(alloc, inputs, directory, UcdFile::IdnaMappingTable),
+        Command::OfMapper(..) => read_file(alloc, inputs, directory, UcdFile::IdnaMappingTable),
     }
 }
 

@@ -81,8 +81,8 @@ fn over_input<S: Source, W: Target>(
         (IsCutOff w name.now (S.left input.old) (W.taken writer.old) (W.taken writer.new))) }
 {
     match worker {
-        Worker::OfForm(Task::Write, normalizer) => {
-            write_form(alloc, normalizer, input, writer)?;
+        Worker::OfForm(Task::Write, scheme, normalizer) => {
+            write_form(alloc, *scheme, normalizer, input, writer)?;
             Ok(Answer::Done)
         }
         _ => write_reply(alloc, worker, name, input, writer),

@@ -1,28 +1,18 @@
 //! What is done with a file by the mapper.
-ghost use Rattle.std.specs.Prelude.{◌≡◌, ◌↔◌, ◌==◌, ◌++◌, [], IfOk, IsOkUnless, OnOk, map, bytes_eq, string_bytes};
+ghost use Rattle.std.specs.Prelude.{◌≡◌, ◌↔◌, ◌<◌, ◌+◌, ◌^◌, ◌==◌, ◌++◌, [], IfOk, IsOkUnless, map, bytes_eq, string_bytes};
 ghost use Rattle.std.specs.List.{list_any};
-ghost use Rattle.normalizer_text.specs.Utf8.{decoded_utf8};
 ghost use Rattle.normalizer_calls.specs.Mappers.{mapper_data_of, mapper_data_of_borrowed};
-ghost use Rattle.normalizer_command.specs.Lines.{
-  feed_unless,
-  invalid_line,
-  invalid_lines,
-  is_kept,
-  is_valid_line,
-  lines_of,
-  mapped_line,
-  mapped_lines,
-  told_unless,
-};
+ghost use Rattle.normalizer_command.specs.Lines.{invalid_line, is_valid_line, lines_of, told_unless};
 ghost use Rattle.normalizer_command.specs.Making.{mapping_of, Mapping, Maps};
-ghost use Rattle.normalizer_command.specs.Replies.{IsReplyOfMapper};
+ghost use Rattle.normalizer_command.specs.Replies.{IsReplyOfLines, IsReplyOfMapper};
+ghost use Rattle.normalizer_command.specs.inner.EachLine.{feed_unless, replies_to, reply_to};
 
-use crate::characters::{collected, encoded};
+use crate::characters::collected;
 use crate::fault::Fault;
 use crate::reply::Reply;
 use normalizer_calls::{Uts46Mapper, Uts46MapperBorrowed};
 use normalizer_io::Answer;
-use normalizer_text::Utf8Chars;
+use normalizer_streams::EncodingScheme;
 use std::alloc::{AllocError, Global};
 
 /// What is done with a file by the mapper.
@@ -39,176 +29,173 @@ impl MapperTask {
     pub(crate) fn reply(
         self,
         alloc: Global,
+        scheme: EncodingScheme,
         mapper: &Uts46Mapper,
         name: &str,
         bytes: &[u8],
     ) -> Result<Reply, Fault>
         ensures reply { (m : Mapping) → Maps (mapper_data_of mapper.now) m →
-            IfOk result (λ r. IsReplyOfMapper self m name.now bytes.now r.answer r.output.items) }
+            IfOk result (λ r. IsReplyOfMapper self scheme m name.now bytes.now r.answer r.output.items) }
         ensures refused { IsOkUnless result Fault.Memory }
     {
-        self.reply_by(alloc, &mapper.as_borrowed(), name, bytes)
+        let text = scheme.decode(alloc, bytes)?;
+        self.reply_to_text(alloc, scheme, &mapper.as_borrowed(), name, &text)
     }
 
-    // Returns the reply, by the mapper's data.
-    fn reply_by(
+    // Returns the reply to a text, by the mapper's data.
+    fn reply_to_text(
         self,
         alloc: Global,
+        scheme: EncodingScheme,
         mapper: &Uts46MapperBorrowed<'_>,
         name: &str,
-        bytes: &[u8],
+        text: &[char],
     ) -> Result<Reply, Fault>
-        ensures reply { IfOk result (λ r. IsReplyOfMapper self (mapping_of (mapper_data_of_borrowed mapper.now))
-            name.now bytes.now r.answer r.output.items) }
+        ensures reply { IfOk result (λ r. IsReplyOfLines self scheme (mapping_of (mapper_data_of_borrowed mapper.now))
+            name.now (lines_of text.now) r.answer r.output.items) }
         ensures refused { IsOkUnless result Fault.Memory }
     {
-        let lines = lines(alloc, bytes)?;
+        let lines = lines(alloc, text)?;
+        let output = self.replies_to(alloc, scheme, mapper, name, &lines)?;
+        Ok(self.finished(output))
+    }
+
+    // The reply with this output: yes if nothing is reported.
+    fn finished(self, output: Vec<u8>) -> Reply
+        ensures output { result.output.items ≡ output.items }
+        ensures mapped { self ≡ MapperTask.Map → result.answer ≡ Answer.Done }
+        ensures valid { self ≡ MapperTask.Validate → (result.answer ≡ Answer.Done) ↔ (output.items ≡ []) }
+    {
+        let answer = match self {
+            MapperTask::Validate if !output.is_empty() => Answer::No,
+            _ => Answer::Done,
+        };
+        Reply { answer, output }
+    }
+
+    // What is written of the lines.
+    fn replies_to(
+        self,
+        alloc: Global,
+        scheme: EncodingScheme,
+        mapper: &Uts46MapperBorrowed<'_>,
+        name: &str,
+        lines: &[&[char]],
+    ) -> Result<Vec<u8>, Fault>
+        ensures written { IfOk result (λ output. output.items ≡ replies_to self scheme
+            (mapping_of (mapper_data_of_borrowed mapper.now)) name.now 0 (map (λ line. line.now) lines.now)) }
+        ensures refused { IsOkUnless result Fault.Memory }
+    {
+        let mut output = Vec::new(alloc);
+        for (index, line) in lines.iter().enumerate() {
+            let reply = self.reply_to(alloc, scheme, mapper, name, index, line)?;
+            output.extend_from_slice(&reply)?;
+        }
+        Ok(output)
+    }
+
+    // What is written of a line.
+    fn reply_to(
+        self,
+        alloc: Global,
+        scheme: EncodingScheme,
+        mapper: &Uts46MapperBorrowed<'_>,
+        name: &str,
+        index: usize,
+        line: &[char],
+    ) -> Result<Vec<u8>, Fault>
+        requires { index + 1 < 2 ^ 64 }
+        ensures written { IfOk result (λ reply. reply.items ≡ reply_to self scheme
+            (mapping_of (mapper_data_of_borrowed mapper.now)) name.now index line.now) }
+        ensures refused { IsOkUnless result Fault.Memory }
+    {
         match self {
-            MapperTask::Map => Ok(Reply {
-                answer: Answer::Done,
-                output: mapped_lines(alloc, mapper, &lines)?,
-            }),
-            MapperTask::Validate => Ok(validation(invalid_lines(alloc, mapper, name, &lines)?)),
+            MapperTask::Map => {
+                let mapped = mapped_line(alloc, mapper, index == 0, line)?;
+                Ok(scheme.encode(alloc, &mapped)?)
+            }
+            MapperTask::Validate => {
+                let is_valid = is_valid_line(alloc, mapper, line)?;
+                Ok(told_unless(alloc, is_valid, name, index + 1)?)
+            }
         }
     }
 }
 
-// The reply of these lines: yes if there is none.
-fn validation(output: Vec<u8>) -> Reply
-    ensures output { result.output.items ≡ output.items }
-    ensures answer { (result.answer ≡ Answer.Done) ↔ (output.items ≡ []) }
-{
-    let answer = if output.is_empty() {
-        Answer::Done
-    } else {
-        Answer::No
-    };
-    Reply { answer, output }
-}
-
 // What is between line feeds.
-fn lines(alloc: Global, bytes: &[u8]) -> Result<Vec<&[u8]>, AllocError>
-    ensures { IfOk result (λ lines. map (λ line. line.now) lines.items ≡ lines_of bytes.now) }
+fn lines(alloc: Global, text: &[char]) -> Result<Vec<&[char]>, AllocError>
+    ensures { IfOk result (λ lines. map (λ line. line.now) lines.items ≡ lines_of text.now) }
 {
-    bytes.split(|b| *b == b'\n').collect(alloc)
+    text.split(|c| *c == '\n').collect(alloc)
 }
 
-// The lines, each mapped by itself, with line feeds between them.
-fn mapped_lines(
-    alloc: Global,
-    mapper: &Uts46MapperBorrowed<'_>,
-    lines: &[&[u8]],
-) -> Result<Vec<u8>, Fault>
-    ensures mapped { IfOk result (λ output. output.items ≡
-        mapped_lines (mapping_of (mapper_data_of_borrowed mapper.now)) (map (λ line. line.now) lines.now)) }
-    ensures refused { IsOkUnless result Fault.Memory }
-{
-    let mut output = Vec::new(alloc);
-    for (index, line) in lines.iter().enumerate() {
-        push_mapped(alloc, mapper, index == 0, line, &mut output)?;
-    }
-    Ok(output)
-}
-
-// Adds a line, mapped; but for the first, after a line feed.
-fn push_mapped(
-    alloc: Global,
-    mapper: &Uts46MapperBorrowed<'_>,
-    is_first: bool,
-    line: &[u8],
-    output: &mut Vec<u8>,
-) -> Result<(), Fault>
-    ensures pushed { OnOk result (output.new.items ≡ output.old.items ++ (feed_unless is_first
-        ++ mapped_line (mapping_of (mapper_data_of_borrowed mapper.now)) line.now)) }
-    ensures refused { IsOkUnless result Fault.Memory }
-{
-    let mapped = mapped_line(alloc, mapper, line)?;
-    output.extend_from_slice(feed_unless(is_first))?;
-    output.extend_from_slice(mapped.as_bytes())?;
-    Ok(())
-}
-
-// A line feed, or nothing.
-fn feed_unless(is_first: bool) -> &'static [u8]
-    ensures { result.now ≡ feed_unless is_first }
-{
-    if is_first { b"" } else { b"\n" }
-}
-
-// The UTF-8 of what mapping makes of the text of a line.
+// A line, mapped; but for the first, after a line feed.
 fn mapped_line(
     alloc: Global,
     mapper: &Uts46MapperBorrowed<'_>,
-    line: &[u8],
-) -> Result<String, Fault>
-    ensures mapped { IfOk result (λ text. string_bytes text
-        ≡ mapped_line (mapping_of (mapper_data_of_borrowed mapper.now)) line.now) }
+    is_first: bool,
+    line: &[char],
+) -> Result<Vec<char>, Fault>
+    ensures mapped { IfOk result (λ text. text.items
+        ≡ feed_unless is_first ++ (mapping_of (mapper_data_of_borrowed mapper.now)).map line.now) }
     ensures refused { IsOkUnless result Fault.Memory }
 {
+    let mut text = feed_unless(alloc, is_first)?;
     let mapped = mapped(alloc, mapper, line)?;
-    Ok(encoded(alloc, &mapped)?)
+    text.extend_from_slice(&mapped)?;
+    Ok(text)
 }
 
-// What mapping makes of the text that bytes decode to.
-fn mapped(alloc: Global, mapper: &Uts46MapperBorrowed<'_>, bytes: &[u8]) -> Result<Vec<char>, Fault>
-    ensures text { IfOk result (λ m. m.items
-        ≡ (mapping_of (mapper_data_of_borrowed mapper.now)).map (decoded_utf8 bytes.now)) }
+// A line feed, or nothing.
+fn feed_unless(alloc: Global, is_first: bool) -> Result<Vec<char>, AllocError>
+    ensures { IfOk result (λ text. text.items ≡ feed_unless is_first) }
+{
+    let mut text = Vec::new(alloc);
+    if !is_first {
+        text.push('\n')?;
+    }
+    Ok(text)
+}
+
+// What mapping makes of a text.
+fn mapped(
+    alloc: Global,
+    mapper: &Uts46MapperBorrowed<'_>,
+    text: &[char],
+) -> Result<Vec<char>, Fault>
+    ensures text { IfOk result (λ m. m.items ≡ (mapping_of (mapper_data_of_borrowed mapper.now)).map text.now) }
     ensures refused { IsOkUnless result Fault.Memory }
 {
-    let characters = mapper.map_normalize(Utf8Chars::new(bytes))?;
+    let characters = mapper.map_normalize(text.iter().copied())?;
     collected(alloc, characters)
 }
 
-// What validation makes of the text that bytes decode to.
+// What validation makes of a text.
 fn validated(
     alloc: Global,
     mapper: &Uts46MapperBorrowed<'_>,
-    bytes: &[u8],
+    text: &[char],
 ) -> Result<Vec<char>, Fault>
-    ensures text { IfOk result (λ v. v.items
-        ≡ (mapping_of (mapper_data_of_borrowed mapper.now)).validate (decoded_utf8 bytes.now)) }
+    ensures text { IfOk result (λ v. v.items ≡ (mapping_of (mapper_data_of_borrowed mapper.now)).validate text.now) }
     ensures refused { IsOkUnless result Fault.Memory }
 {
-    let characters = mapper.normalize_validate(Utf8Chars::new(bytes))?;
+    let characters = mapper.normalize_validate(text.iter().copied())?;
     collected(alloc, characters)
 }
 
-// Whether all lines are valid, with the numbers of those that aren't.
-fn invalid_lines(
+// The report of a line, unless it is valid.
+fn told_unless(
     alloc: Global,
-    mapper: &Uts46MapperBorrowed<'_>,
-    name: &str,
-    lines: &[&[u8]],
-) -> Result<Vec<u8>, Fault>
-    ensures told { IfOk result (λ output. output.items ≡ invalid_lines
-        (mapping_of (mapper_data_of_borrowed mapper.now)) name.now 1 (map (λ line. line.now) lines.now)) }
-    ensures refused { IsOkUnless result Fault.Memory }
-{
-    let mut output = Vec::new(alloc);
-    for (index, line) in lines.iter().enumerate() {
-        push_invalid(alloc, mapper, name, index + 1, line, &mut output)?;
-    }
-    Ok(output)
-}
-
-// Adds the number of a line, unless it is valid.
-fn push_invalid(
-    alloc: Global,
-    mapper: &Uts46MapperBorrowed<'_>,
+    is_valid: bool,
     name: &str,
     number: usize,
-    line: &[u8],
-    output: &mut Vec<u8>,
-) -> Result<(), Fault>
-    ensures pushed { OnOk result (output.new.items ≡ output.old.items ++ told_unless
-        (is_valid_line (mapping_of (mapper_data_of_borrowed mapper.now)) line.now) name.now number) }
-    ensures refused { IsOkUnless result Fault.Memory }
+) -> Result<Vec<u8>, AllocError>
+    ensures { IfOk result (λ report. report.items ≡ told_unless is_valid name.now number) }
 {
-    if !is_valid_line(alloc, mapper, line)? {
-        let report = invalid_line(alloc, name, number)?;
-        output.extend_from_slice(report.as_bytes())?;
+    if is_valid {
+        return Ok(Vec::new(alloc));
     }
-    Ok(())
+    Ok(invalid_line(alloc, name, number)?.into_bytes())
 }
 
 // The name of the file, and the number of a line.
@@ -218,29 +205,21 @@ fn invalid_line(alloc: Global, name: &str, number: usize) -> Result<String, Allo
     format!(in alloc; "{name}:{number}: invalid\n")
 }
 
-// Whether validation keeps a line as it is, and it has no U+FFFD.
+// Whether validation leaves a line as it is, and it has no U+FFFD.
 fn is_valid_line(
     alloc: Global,
     mapper: &Uts46MapperBorrowed<'_>,
-    line: &[u8],
+    line: &[char],
 ) -> Result<bool, Fault>
     ensures valid { IfOk result (λ valid. valid ≡
         is_valid_line (mapping_of (mapper_data_of_borrowed mapper.now)) line.now) }
     ensures refused { IsOkUnless result Fault.Memory }
 {
     let text = validated(alloc, mapper, line)?;
-    Ok(is_kept(alloc, line, &text)?)
+    Ok(!holds_replacement(line) && is_same(&text, line))
 }
 
-// Whether the UTF-8 of a text is the line, and the text has no U+FFFD.
-fn is_kept(alloc: Global, line: &[u8], text: &[char]) -> Result<bool, AllocError>
-    ensures { IfOk result (λ kept. kept ≡ is_kept line.now text.now) }
-{
-    let own = encoded(alloc, text)?;
-    Ok(!holds_replacement(text) && is_same(own.as_bytes(), line))
-}
-
-fn is_same(a: &[u8], b: &[u8]) -> bool
+fn is_same(a: &[char], b: &[char]) -> bool
     ensures { result ≡ bytes_eq a.now b.now }
 {
     a == b

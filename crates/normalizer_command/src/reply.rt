@@ -1,5 +1,5 @@
 //! What is done with a file.
-ghost use Rattle.std.specs.Prelude.{◌≡◌, ◌≢◌, ◌≤◌, IfOk, IfSome, IsOkUnless, length, string_bytes};
+ghost use Rattle.std.specs.Prelude.{◌≡◌, ◌≢◌, IfOk, IsOkUnless, string_bytes};
 ghost use Rattle.normalizer_command.specs.Lines.{line_of};
 ghost use Rattle.normalizer_command.specs.Making.{Making, Makes};
 ghost use Rattle.normalizer_command.specs.Mismatches.{TellsMismatch};
@@ -10,6 +10,7 @@ use crate::mismatch::mismatch_line;
 use normalizer_built::Normalizer;
 use normalizer_calls::Offence;
 use normalizer_io::Answer;
+use normalizer_streams::{EncodingScheme, first_offence, is_normalized};
 use std::alloc::{AllocError, Global};
 
 /// What is done with a file.
@@ -35,19 +36,20 @@ impl Task {
     pub(crate) fn reply(
         self,
         alloc: Global,
+        scheme: EncodingScheme,
         normalizer: &Normalizer,
         name: &str,
         bytes: &[u8],
     ) -> Result<Reply, Fault>
         requires { self ≢ Task.Write }
         ensures reply { (m : Making) → Makes normalizer.now m →
-            IfOk result (λ r. IsReplyOfForm self m name.now bytes.now r.answer r.output.items) }
+            IfOk result (λ r. IsReplyOfForm self scheme m name.now bytes.now r.answer r.output.items) }
         ensures refused { IsOkUnless result Fault.Memory }
     {
         match self {
             Task::Write => unreachable!(),
             Task::Check => {
-                if normalizer.is_normalized(bytes)? {
+                if is_normalized(alloc, scheme, normalizer, bytes)? {
                     Ok(Reply {
                         answer: Answer::Done,
                         output: Vec::new(alloc),
@@ -60,8 +62,8 @@ impl Task {
                 }
             }
             Task::Locate => {
-                let mismatch = normalizer.first_offence(bytes)?;
-                Ok(located(alloc, name, bytes, mismatch)?)
+                let mismatch = first_offence(alloc, scheme, normalizer, bytes)?;
+                Ok(located(alloc, scheme, name, bytes, mismatch)?)
             }
         }
     }
@@ -70,17 +72,17 @@ impl Task {
 // No, with the line of the mismatch; yes, with nothing, if there is none.
 fn located(
     alloc: Global,
+    scheme: EncodingScheme,
     name: &str,
     bytes: &[u8],
     mismatch: Option<Offence>,
 ) -> Result<Reply, AllocError>
-    requires { IfSome mismatch (λ o. o.place ≤ length bytes.now) }
-    ensures { IfOk result (λ r. TellsMismatch name.now bytes.now mismatch r.answer r.output.items) }
+    ensures { IfOk result (λ r. TellsMismatch scheme name.now bytes.now mismatch r.answer r.output.items) }
 {
     match mismatch {
         Some(mismatch) => Ok(Reply {
             answer: Answer::No,
-            output: mismatch_line(alloc, name, bytes, mismatch)?.into_bytes(),
+            output: mismatch_line(alloc, scheme, name, bytes, mismatch)?.into_bytes(),
         }),
         None => Ok(Reply {
             answer: Answer::Done,

@@ -1,15 +1,17 @@
 //! The words that the program is started with.
 ghost use Rattle.std.specs.Prelude.{◌≡◌, ◌↔◌, Some};
 ghost use Rattle.normalizer_built.specs.declared.NormalForm.{NormalForm};
+ghost use Rattle.normalizer_streams.specs.declared.scheme.EncodingScheme.{EncodingScheme};
 ghost use Rattle.normalizer_command.specs.declared.mapping.MapperTask.{MapperTask};
 ghost use Rattle.normalizer_command.specs.declared.reply.Task.{Task};
-ghost use Rattle.normalizer_command.specs.Words.{NamesForm, NamesMapperTask, NamesTask};
+ghost use Rattle.normalizer_command.specs.Words.{NamesForm, NamesMapperTask, NamesScheme, NamesTask};
 
 use crate::mapping::MapperTask;
 use crate::reply::Task;
 use crate::worker::Command as FileCommand;
 use clap::{Arg, ArgAction, ArgMatches, Command, Error};
 use normalizer_built::NormalForm;
+use normalizer_streams::{ByteOrder, EncodingScheme};
 use std::alloc::{AllocError, Global};
 
 /// What the commands do.
@@ -17,6 +19,11 @@ const WORD_HELP: &str =
     "nfc, nfd, nfkc or nfkd: write that form. check FORM: print the names of files that aren't in \
     the form. where FORM: print the first mismatch of each. map: write the lines, each mapped by UTS #46 (Map and \
     Normalize). validate: print the numbers of the lines that aren't valid";
+
+/// How text is read and written.
+const ENCODING_HELP: &str =
+    "utf-8 (if none is named), utf-16le or utf-16be: how the files are read, and forms and mapped lines \
+    written; a byte order mark is text. Names and reports are UTF-8";
 
 /// What the output and the status say.
 const AFTER_HELP: &str =
@@ -68,25 +75,33 @@ fn request_of<'a>(alloc: Global, matches: &ArgMatches<'a>) -> Result<Request<'a>
         return Ok(Request::Version(directory));
     }
     let names = matches.get_strs("file").unwrap_or(&[]);
+    match command_of(matches, names) {
+        Ok((command, names)) => over_files(alloc, command, directory, names),
+        Err(reason) => Ok(Request::Unclear(reason)),
+    }
+}
+
+// The command, and the names of its files, or what is missing.
+fn command_of<'n, 'a>(
+    matches: &ArgMatches<'a>,
+    names: &'n [&'a str],
+) -> Result<(FileCommand, &'n [&'a str]), &'static str> {
+    let scheme = matches
+        .get_str("encoding")
+        .and_then(|word| scheme_named(word))
+        .unwrap_or(EncodingScheme::Utf8);
     let word = matches.get_str("command").unwrap_or("");
     if let Some(task) = mapper_task_named(word) {
-        return over_files(alloc, FileCommand::OfMapper(task), directory, names);
+        return Ok((FileCommand::OfMapper(task, scheme), names));
     }
     match (task_named(word), form_named(word), names) {
         (Some(task), _, [form, names @ ..]) => match form_named(form) {
-            Some(form) => over_files(alloc, FileCommand::OfForm(task, form), directory, names),
-            None => Ok(Request::Unclear(NO_FORM)),
+            Some(form) => Ok((FileCommand::OfForm(task, scheme, form), names)),
+            None => Err(NO_FORM),
         },
-        (Some(_), _, []) => Ok(Request::Unclear(NO_FORM)),
-        (None, Some(form), names) => {
-            over_files(
-                alloc,
-                FileCommand::OfForm(Task::Write, form),
-                directory,
-                names,
-            )
-        }
-        (None, None, _) => Ok(Request::Unclear("a command is missing: see --help")),
+        (Some(_), _, []) => Err(NO_FORM),
+        (None, Some(form), names) => Ok((FileCommand::OfForm(Task::Write, scheme, form), names)),
+        (None, None, _) => Err("a command is missing: see --help"),
     }
 }
 
@@ -130,6 +145,17 @@ fn task_named(word: &str) -> Option<Task>
     }
 }
 
+fn scheme_named(word: &str) -> Option<EncodingScheme>
+    ensures { (scheme : EncodingScheme) → (result ≡ Some scheme) ↔ NamesScheme scheme word.now }
+{
+    match word {
+        "utf-8" => Some(EncodingScheme::Utf8),
+        "utf-16le" => Some(EncodingScheme::Utf16(ByteOrder::Little)),
+        "utf-16be" => Some(EncodingScheme::Utf16(ByteOrder::Big)),
+        _ => None,
+    }
+}
+
 fn form_named(word: &str) -> Option<NormalForm>
     ensures { (form : NormalForm) → (result ≡ Some form) ↔ NamesForm form word.now }
 {
@@ -143,34 +169,56 @@ fn form_named(word: &str) -> Option<NormalForm>
 }
 
 fn command<'a>(alloc: Global) -> Result<Command<'a>, AllocError> {
-    let word = Arg::new(alloc, "command")
+    Command::new(alloc, "uninorm")
+        .about("Writes the normal forms of text (Unicode Standard Annex #15)")
+        .after_help(AFTER_HELP)
+        .arg(word(alloc))?
+        .arg(files(alloc))?
+        .arg(directory(alloc))?
+        .arg(encoding(alloc))?
+        .arg(version(alloc))
+}
+
+fn word<'a>(alloc: Global) -> Arg<'a> {
+    Arg::new(alloc, "command")
         .value_name("COMMAND")
         .help(WORD_HELP)
         .value_parser([
             "nfc", "nfd", "nfkc", "nfkd", "check", "where", "map", "validate",
         ]
         .as_slice())
-        .hide_possible_values(true);
-    let files = Arg::new(alloc, "file")
+        .hide_possible_values(true)
+}
+
+fn files<'a>(alloc: Global) -> Arg<'a> {
+    Arg::new(alloc, "file")
         .value_name("FILE")
         .action(ArgAction::Append)
         .num_args(0..)
-        .help("Files; standard input if there are none, or for -");
-    let directory = Arg::new(alloc, "data").long("data").value_name("DIR").help(
+        .help("Files; standard input if there are none, or for -")
+}
+
+fn directory<'a>(alloc: Global) -> Arg<'a> {
+    Arg::new(alloc, "data").long("data").value_name("DIR").help(
         "The directory of UnicodeData.txt, CompositionExclusions.txt and, for map and validate, IdnaMappingTable.txt",
-    );
-    let version = Arg::new(alloc, "version")
+    )
+}
+
+fn encoding<'a>(alloc: Global) -> Arg<'a> {
+    Arg::new(alloc, "encoding")
+        .long("encoding")
+        .value_name("ENCODING")
+        .value_parser(["utf-8", "utf-16le", "utf-16be"].as_slice())
+        .hide_possible_values(true)
+        .help(ENCODING_HELP)
+}
+
+fn version<'a>(alloc: Global) -> Arg<'a> {
+    Arg::new(alloc, "version")
         .long("version")
         .short('V')
         .action(ArgAction::SetTrue)
         .help(
             "Print the version, and the first line of CompositionExclusions.txt, which names that of Unicode",
-        );
-    Command::new(alloc, "uninorm")
-        .about("Writes the normal forms of text in UTF-8 (Unicode Standard Annex #15)")
-        .after_help(AFTER_HELP)
-        .arg(word)?
-        .arg(files)?
-        .arg(directory)?
-        .arg(version)
+        )
 }

@@ -16,24 +16,25 @@ use normalizer_builder::Built;
 use normalizer_built::{NormalForm, Normalizer, built_mapper};
 use normalizer_calls::Uts46Mapper;
 use normalizer_iterators::NormalizeError;
+use normalizer_streams::EncodingScheme;
 use std::alloc::Global;
 
 /// What is done with each file.
 #[derive(Clone, Copy, Debug, PartialEq, Eq)]
 pub enum Command {
     /// Something of a normal form.
-    OfForm(Task, NormalForm),
+    OfForm(Task, EncodingScheme, NormalForm),
     /// Something of the mapper.
-    OfMapper(MapperTask),
+    OfMapper(MapperTask, EncodingScheme),
 }
 
 /// A command with what it needs.
 #[derive(Drop)]
 pub(crate) enum Worker {
     /// Something of a normal form.
-    OfForm(Task, Normalizer),
+    OfForm(Task, EncodingScheme, Normalizer),
     /// Something of the mapper.
-    OfMapper(MapperTask, Uts46Mapper),
+    OfMapper(MapperTask, EncodingScheme, Uts46Mapper),
 }
 
 /// Returns what works for a command, by what the records mean.
@@ -44,8 +45,12 @@ pub(crate) fn worker_for(built: &Built, command: Command) -> Result<Worker, Norm
     ensures refused { IsOkUnless result NormalizeError.Memory }
 {
     match command {
-        Command::OfForm(task, form) => Ok(Worker::OfForm(task, normalizer_to(built, form)?)),
-        Command::OfMapper(task) => Ok(Worker::OfMapper(task, mapper_over(built)?)),
+        Command::OfForm(task, scheme, form) => {
+            Ok(Worker::OfForm(task, scheme, normalizer_to(built, form)?))
+        }
+        Command::OfMapper(task, scheme) => {
+            Ok(Worker::OfMapper(task, scheme, mapper_over(built)?))
+        }
     }
 }
 
@@ -71,8 +76,12 @@ impl Worker {
         ensures refused { IsOkUnless result Fault.Memory }
     {
         match self {
-            Worker::OfForm(task, normalizer) => task.reply(alloc, normalizer, name, bytes),
-            Worker::OfMapper(task, mapper) => task.reply(alloc, mapper, name, bytes),
+            Worker::OfForm(task, scheme, normalizer) => {
+                task.reply(alloc, *scheme, normalizer, name, bytes)
+            }
+            Worker::OfMapper(task, scheme, mapper) => {
+                task.reply(alloc, *scheme, mapper, name, bytes)
+            }
         }
     }
 }

@@ -1,3 +1,4 @@
 pub mod MoveLemmas
 pub mod RunLemmas
+pub mod SchemeLemmas
 pub mod SettledLemmas

@@ -4,6 +4,7 @@ use Rattle.std.proofs.Math.Seq.{take-append_seam, take-append-add}
 use Rattle.std.specs.Io.KnownBytes.{Appends, Consumes, IsAtEnd, Keeps}
 use Rattle.std.proofs.KnownBytes.{Appends-nil, Appends-trans, Consumes-kept, Consumes-nil, Consumes-trans}
 use Rattle.normalizer_io.specs.Transfer.{AppendsFront}
+use Rattle.normalizer_streams.specs.declared.scheme.EncodingScheme.{EncodingScheme}
 use Rattle.normalizer_streams.specs.Streams.{IsFormCutOff, IsFormWritten, IsRun, IsWrittenToRun}
 use Rattle.normalizer_streams.specs.inner.Moves.{Carries, IsCut, IsCutAnyway, IsSettled, Moves}
 
@@ -136,8 +137,8 @@ module _ (form : List ℕ → List ℕ) where
   IsFormCutOff-none l t = IsFormCutOff-moved l l t t t [] (Moves-none l t []) (IsCut-anyway l t t [] (IsCutAnyway-none t []))
 
   -- a read is refused
-  pub IsWrittenToRun-refused : (continues : ℕ → Bool) (l m n t u : Option (List ℕ)) (c : List ℕ) → Moves form l m t u [] c → IsRun continues c → Keeps m n → IsWrittenToRun form continues l n t u
-  IsWrittenToRun-refused continues l m n t u c p r k = record {
+  pub IsWrittenToRun-refused : (scheme : EncodingScheme) (continues : ℕ → Bool) (l m n t u : Option (List ℕ)) (c : List ℕ) → Moves form l m t u [] c → IsRun scheme continues c → Keeps m n → IsWrittenToRun scheme form continues l n t u
+  IsWrittenToRun-refused scheme continues l m n t u c p r k = record {
     read = p.read;
     consumed = Consumes-kept l m n p.read p.consumed k;
     written = p.written;

@@ -1,7 +1,7 @@
 -- A whole character with a boundary before it divides the form of bytes, whatever comes after them.
-use Rattle.std.proofs.Common.{◌≡◌, ℕ, ◌<◌, false, List, ◌++◌, length, take, drop, sym, ap, subst, ◌∙◌, ◌+◌, ◌∷◌, get_or, get_or-drop, arith, length-drop, length-append}
+use Rattle.std.proofs.Common.{◌≡◌, ℕ, ◌<◌, true, false, List, ◌++◌, length, take, drop, sym, ap, subst, ◌∙◌, ◌+◌, ◌∷◌, get_or, get_or-drop, arith, length-drop, length-take, length-append, append_assoc, take-append-drop}
 use Rattle.std.specs.Prelude.{slice_index}
-use Rattle.std.proofs.lemmas.List.{drop-append-le, take-append-le}
+use Rattle.std.proofs.Math.Seq.{drop-append_seam, take-append_seam}
 use Rattle.std.proofs.lemmas.Bool.{false_from_ne_true, true≢false}
 use Rattle.normal_forms.specs.Forms.{normal_form}
 use Rattle.normal_forms.specs.Reading.{Reading}
@@ -13,7 +13,10 @@ use Rattle.normalizer_text.proofs.BoundaryLemmas.{decoded-take-drop}
 use Rattle.normalizer_text.proofs.StepLemmas.{decoded-some}
 use Rattle.normalizer_input.specs.EncodedForm.{encoded_form}
 use Rattle.normalizer_calls.specs.BeginsApart.{BeginsApart}
+use Rattle.normalizer_streams.specs.declared.scheme.EncodingScheme.{EncodingScheme}
+use Rattle.normalizer_streams.specs.Schemes.{bytes_of, encoding_of, first_by, is_aligned, units_of}
 use Rattle.normalizer_streams.specs.inner.Moves.{IsSettled}
+use Rattle.normalizer_streams.proofs.SchemeLemmas.{bytes-append, first-extends, units-append, units-some}
 
 module _ (e : Encoding) (d : Reading) (form : Form) where
   -- the form of units is divided before a character that begins apart
@@ -38,16 +41,38 @@ module _ (e : Encoding) (d : Reading) (form : Form) where
       ∙ ap (encoded_in e) (apart front x) ∙ encoded-append e (normal_form d form front) (normal_form d form (c ∷ x))
       ∙ ap (λ z. encoded_in e (normal_form d form front) ++ encoded_in e (normal_form d form z)) (sym begins)
 
-  pub IsSettled-character : (units : List ℕ) (place : ℕ) → place < length units → (first_in e (drop place units)).is_error ≡ false
-      → BeginsApart d form (first_in e (drop place units)).character → IsSettled (encoded_form e d form) units place
-  IsSettled-character units place within right apart = record {
-    within = omega arith;
-    apart = λ next.
-        let some : 0 < length (drop place units) = omega (arith, length-drop place units) in
-        let below : place < length (units ++ next) = omega (arith, length-append units next) in
-        let front : take place (units ++ next) ≡ take place units = take-append-le place units next (omega arith) in
-        let rest : drop place (units ++ next) ≡ drop place units ++ next = drop-append-le place units next (omega arith) in
-        let same : first_in e (drop place (units ++ next)) ≡ first_in e (drop place units) = ap (first_in e) rest ∙ (IsDecoding-first e).extends (drop place units) next some right in
-        encoded_form-parts (units ++ next) place below (ap (λ s. s.is_error) same ∙ right) (subst (λ s. BeginsApart d form s.character) (sym same) apart)
-        ∙ ap (λ x. encoded_form e d form x ++ encoded_form e d form (drop place (units ++ next))) front ∙ ap (λ x. encoded_form e d form (take place units) ++ encoded_form e d form x) rest;
-  }
+  -- a front, and a rest that begins with a character that begins apart
+  encoded_form-append : (front rest : List ℕ) → 0 < length rest → (first_in e rest).is_error ≡ false → BeginsApart d form (first_in e rest).character
+      → encoded_form e d form (front ++ rest) ≡ encoded_form e d form front ++ encoded_form e d form rest
+  encoded_form-append front rest some right apart =
+      let place = length front in
+      let after : drop place (front ++ rest) ≡ rest = drop-append_seam front rest in
+      let before : take place (front ++ rest) ≡ front = take-append_seam front rest in
+      let within : place < length (front ++ rest) = omega (arith, length-append front rest) in
+      encoded_form-parts (front ++ rest) place within (ap (λ x. (first_in e x).is_error) after ∙ right) (subst (λ x. BeginsApart d form (first_in e x).character) (sym after) apart)
+      ∙ ap (λ x. encoded_form e d form x ++ encoded_form e d form (drop place (front ++ rest))) before ∙ ap (λ x. encoded_form e d form front ++ encoded_form e d form x) after
+
+-- the bytes of the form of what bytes spell
+abbrev pub form_in : EncodingScheme → Reading → Form → List ℕ → List ℕ
+form_in scheme d form bytes = bytes_of scheme (encoded_form (encoding_of scheme) d form (units_of scheme bytes))
+
+pub IsSettled-character : (scheme : EncodingScheme) (d : Reading) (form : Form) (bytes : List ℕ) (place : ℕ) → place < length bytes → is_aligned scheme place ≡ true
+    → (first_by scheme (drop place bytes)).is_error ≡ false → BeginsApart d form (first_by scheme (drop place bytes)).character → IsSettled (form_in scheme d form) bytes place
+IsSettled-character scheme d form bytes place within aligned right apart = record {
+  within = omega arith;
+  apart = λ next.
+      let e = encoding_of scheme in
+      let front = take place bytes in
+      let rest = drop place bytes in
+      let some : 0 < length rest = omega (arith, length-drop place bytes) in
+      let more : 0 < length (rest ++ next) = omega (arith, some, length-append rest next) in
+      let size : length front ≡ place = omega (arith, length-take place bytes) in
+      let whole : bytes ++ next ≡ front ++ (rest ++ next) = ap (λ x. x ++ next) (sym (take-append-drop place bytes)) ∙ append_assoc front rest next in
+      let units : units_of scheme (bytes ++ next) ≡ units_of scheme front ++ units_of scheme (rest ++ next) =
+      ap (units_of scheme) whole ∙ units-append scheme front (rest ++ next) (ap (is_aligned scheme) size ∙ aligned) in
+      let same = first-extends scheme rest next some right in
+      let parts = encoded_form-append e d form (units_of scheme front) (units_of scheme (rest ++ next)) (units-some scheme (rest ++ next) more)
+      (ap (λ s. s.is_error) same ∙ right) (subst (λ s. BeginsApart d form s.character) (sym same) apart) in
+      ap (λ x. bytes_of scheme (encoded_form e d form x)) units ∙ ap (bytes_of scheme) parts
+      ∙ bytes-append scheme (encoded_form e d form (units_of scheme front)) (encoded_form e d form (units_of scheme (rest ++ next)));
+}

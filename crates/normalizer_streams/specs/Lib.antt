@@ -1,2 +1,3 @@
+pub mod Schemes
 pub mod Streams
 pub mod inner

@@ -1,8 +1,6 @@
 -- What becomes of the form of a stream.
-use Rattle.std.specs.Prelude.{◌≡◌, ℕ, ◌-◌, ◌^◌, ◌<◌, ◌≤◌, Bool, false, List, ◌++◌, length, drop, Option, IfSome}
+use Rattle.std.specs.Prelude.{◌≡◌, ℕ, ◌-◌, ◌^◌, ◌<◌, ◌≤◌, Bool, true, false, List, ◌++◌, length, drop, Option, IfSome}
 use Rattle.std.specs.Io.KnownBytes.{Appends, Consumes}
-use Rattle.normalizer_text.specs.Encodings.{Encoding}
-use Rattle.normalizer_text.specs.Utf8.{first_of_utf8}
 use Rattle.normalizer_input.specs.EncodedForm.{encoded_form}
 use Rattle.normalizer_tables.specs.Characters.{has_class_form, word_of}
 use Rattle.normalizer_tables.specs.Words.{is_backward_combining}
@@ -11,11 +9,13 @@ use Rattle.normalizer_calls.specs.Normalizers.{data_of}
 use Rattle.normalizer_built.specs.Normalizers.{kind_by, reading_of}
 use Rattle.normalizer_io.specs.Transfer.{AppendsFront}
 use Rattle.normalizer_built.specs.declared.normalizer.Normalizer.{Normalizer}
+use Rattle.normalizer_streams.specs.Schemes.{bytes_of, encoding_of, first_by, is_aligned, units_of}
+use Rattle.normalizer_streams.specs.declared.scheme.EncodingScheme.{EncodingScheme}
 use Rattle.normalizer_built.specs.declared.normalizer.Normalizer.TheVariants as normalizer
 
--- the UTF-8 of the form of what bytes decode to
-abbrev pub form_by : Normalizer → List ℕ → List ℕ
-form_by n bytes = encoded_form Encoding.Utf8 (reading_of n) (kind_by n) bytes
+-- the bytes of the form of what bytes decode to
+abbrev pub form_by : EncodingScheme → Normalizer → List ℕ → List ℕ
+form_by scheme n bytes = bytes_of scheme (encoded_form (encoding_of scheme) (reading_of n) (kind_by n) (units_of scheme bytes))
 
 -- By the bytes that are left in a source, if it reports them, and by those that a target took before and after: the
 -- target took the form of all of them.
@@ -36,19 +36,20 @@ may_continue (normalizer.Decomposing n) c = has_class_form (data_of n) c
 may_continue (normalizer.Composing n) c = is_backward_combining (word_of (composing_data_of n) c)
 
 -- at the place is a whole character that continues nothing
-pub record IsDivision (continues : ℕ → Bool) (bytes : List ℕ) (place : ℕ) : Type 0 where
+pub record IsDivision (scheme : EncodingScheme) (continues : ℕ → Bool) (bytes : List ℕ) (place : ℕ) : Type 0 where
   pub within : place < length bytes
-  pub whole : (first_of_utf8 (drop place bytes)).is_error ≡ false
-  pub starts : continues (first_of_utf8 (drop place bytes)).character ≡ false
+  pub aligned : is_aligned scheme place ≡ true
+  pub whole : (first_by scheme (drop place bytes)).is_error ≡ false
+  pub starts : continues (first_by scheme (drop place bytes)).character ≡ false
 
 -- no such character is in the bytes, but for their first one
-abbrev pub IsRun : (ℕ → Bool) → List ℕ → Type 0
-IsRun continues bytes = (place : ℕ) → 0 < place → IsDivision continues bytes place → ⊥
+abbrev pub IsRun : EncodingScheme → (ℕ → Bool) → List ℕ → Type 0
+IsRun scheme continues bytes = (place : ℕ) → 0 < place → IsDivision scheme continues bytes place → ⊥
 
 -- Of what was read, the target took the form of all but one run: whatever comes next, that is the beginning of the form
 -- of all, and the rest is the form of the run and what comes next.
-pub record IsWrittenToRun (form : List ℕ → List ℕ) (continues : ℕ → Bool) (left left' before after : Option (List ℕ))
-    : Type 0 where
+pub record IsWrittenToRun (scheme : EncodingScheme) (form : List ℕ → List ℕ) (continues : ℕ → Bool)
+    (left left' before after : Option (List ℕ)) : Type 0 where
   pub read : List ℕ
   pub consumed : Consumes left left' read
   pub written : List ℕ
@@ -56,7 +57,7 @@ pub record IsWrittenToRun (form : List ℕ → List ℕ) (continues : ℕ → Bo
   pub passed : List ℕ
   pub run : List ℕ
   pub parts : read ≡ passed ++ run
-  pub single : IsRun continues run
+  pub single : IsRun scheme continues run
   pub apart : (next : List ℕ) → form (read ++ next) ≡ written ++ form (run ++ next)
 
 -- the source has at least as many bytes as a call reads blocks, if it reports them

@@ -1,8 +1,12 @@
-//! The normal forms of streams of any size. A source is read block by block, what no later byte can change is written,
-//! and only the rest is kept.
+//! The normal forms of bytes in an encoding scheme. Of a stream, a source is read block by block, what no later byte can
+//! change is written, and only the rest is kept.
 #![tactic(auto)]
 
+mod forms;
+mod scheme;
 mod settled;
 mod stream;
 
+pub use forms::{first_offence, is_normalized};
+pub use scheme::{ByteOrder, EncodingScheme};
 pub use stream::write_form;

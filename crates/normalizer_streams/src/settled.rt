@@ -2,24 +2,31 @@
 ghost use Rattle.std.specs.Prelude.{◌≡◌, ℕ, ◌<◌, ◌≤◌, true, false, length, IfNone, IfSome};
 ghost use Rattle.normalizer_calls.specs.BeginsApart.{BeginsApart};
 ghost use Rattle.normalizer_built.specs.Normalizers.{kind_by, reading_of};
+ghost use Rattle.normalizer_streams.specs.Schemes.{is_aligned};
 ghost use Rattle.normalizer_streams.specs.Streams.{form_by, may_continue, IsDivision};
 ghost use Rattle.normalizer_streams.specs.inner.Moves.{IsSettled};
 
+use crate::scheme::EncodingScheme;
 use normalizer_built::Normalizer;
-use normalizer_text::Units;
 
 /// Returns the last settled place after the first `from` bytes, if there is one.
-pub(crate) fn last_settled(normalizer: &Normalizer, bytes: &[u8], from: usize) -> Option<usize>
-    ensures settled { IfSome result (IsSettled (form_by normalizer.now) bytes.now) }
+pub(crate) fn last_settled(
+    scheme: EncodingScheme,
+    normalizer: &Normalizer,
+    bytes: &[u8],
+    from: usize,
+) -> Option<usize>
+    ensures settled { IfSome result (IsSettled (form_by scheme normalizer.now) bytes.now) }
+    ensures aligned { IfSome result (λ place. is_aligned scheme place ≡ true) }
     ensures none { IfNone result ((place : ℕ) → from ≤ place →
-        IsDivision (may_continue normalizer.now) bytes.now place → ⊥) }
+        IsDivision scheme (may_continue normalizer.now) bytes.now place → ⊥) }
     ensures last { IfSome result (λ last. (place : ℕ) → last < place →
-        IsDivision (may_continue normalizer.now) bytes.now place → ⊥) }
+        IsDivision scheme (may_continue normalizer.now) bytes.now place → ⊥) }
 {
     let mut place = bytes.len();
     while place > from {
         place -= 1;
-        if is_settled(normalizer, bytes, place) {
+        if is_settled(scheme, normalizer, bytes, place) {
             return Some(place);
         }
     }
@@ -27,12 +34,21 @@ pub(crate) fn last_settled(normalizer: &Normalizer, bytes: &[u8], from: usize) -
 }
 
 // Whether a whole character is at the place, with a boundary before it.
-fn is_settled(normalizer: &Normalizer, bytes: &[u8], place: usize) -> bool
+fn is_settled(
+    scheme: EncodingScheme,
+    normalizer: &Normalizer,
+    bytes: &[u8],
+    place: usize,
+) -> bool
     requires { place < length bytes.now }
-    ensures settled { result ≡ true → IsSettled (form_by normalizer.now) bytes.now place }
-    ensures missed { result ≡ false → IsDivision (may_continue normalizer.now) bytes.now place → ⊥ }
+    ensures settled { result ≡ true → IsSettled (form_by scheme normalizer.now) bytes.now place }
+    ensures aligned { result ≡ true → is_aligned scheme place ≡ true }
+    ensures missed { result ≡ false → IsDivision scheme (may_continue normalizer.now) bytes.now place → ⊥ }
 {
-    let step = bytes.step_at(place);
+    if !scheme.is_aligned(place) {
+        return false;
+    }
+    let step = scheme.step_at(bytes, place);
     !step.is_error && has_boundary_before(normalizer, step.character)
 }
 

@@ -34,6 +34,8 @@ ghost use Rattle.normalizer_streams.specs.Streams.{
 };
 ghost use Rattle.normalizer_streams.specs.inner.Moves.{Carries, IsCutAnyway, Moves};
 
+use crate::forms::form_of;
+use crate::scheme::EncodingScheme;
 use crate::settled::last_settled;
 use normalizer_built::Normalizer;
 use normalizer_io::{Source, Target, TransferError, write_all};
@@ -42,12 +44,12 @@ use std::alloc::Global;
 // The most bytes that one read returns.
 const BLOCK: usize = 65536;
 
-// A sequence of UTF-8 that is cut short has fewer bytes.
+// What is cut short of a character has fewer bytes.
 const LONGEST_SEQUENCE: usize = 4;
 
-/// Reads to the end, and writes the UTF-8 of the form of the text that all the bytes decode to. Each maximal ill-formed
-/// subpart reads as U+FFFD. What no later byte can change is written after each block of 64 KiB at most, so that only
-/// a run of characters without a boundary between them takes more memory.
+/// Reads to the end, and writes the form of the text that all the bytes decode to, in the same scheme. Each maximal
+/// ill-formed subpart reads as U+FFFD. What no later byte can change is written after each block of 64 KiB at most, so
+/// that only a run of characters without a boundary between them takes more memory.
 ///
 /// # Errors
 /// - `Read` if a read was refused, or the source has no end: after 2^64 - 1 blocks.
@@ -58,42 +60,44 @@ const LONGEST_SEQUENCE: usize = 4;
 /// of all that was read but the last run of characters that may continue one another.
 pub fn write_form<R: Source, W: Target>(
     alloc: Global,
+    scheme: EncodingScheme,
     normalizer: &Normalizer,
     reader: &mut R,
     writer: &mut W,
 ) -> Result<(), TransferError>
-    ensures form { OnOk result (IsFormWritten (form_by normalizer.now)
+    ensures form { OnOk result (IsFormWritten (form_by scheme normalizer.now)
         (R.left reader.old) (W.taken writer.old) (W.taken writer.new)) }
     ensures end { OnOk result (IsAtEnd (R.left reader.new)) }
-    ensures front { OnErr result (IsFormCutOff (form_by normalizer.now)
+    ensures front { OnErr result (IsFormCutOff (form_by scheme normalizer.now)
         (R.left reader.old) (W.taken writer.old) (W.taken writer.new)) }
     ensures read { IsErrOf result TransferError.Read → R.refused reader.old reader.new ⊎ IsEndless (R.left reader.old) }
     ensures so_far { IsErrOf result TransferError.Read →
-        IsWrittenToRun (form_by normalizer.now) (may_continue normalizer.now)
+        IsWrittenToRun scheme (form_by scheme normalizer.now) (may_continue normalizer.now)
         (R.left reader.old) (R.left reader.new) (W.taken writer.old) (W.taken writer.new) }
     ensures write { IsErrOf result TransferError.Write → W.refused writer.old writer.new }
 {
     let mut block = vec![in alloc; 0u8; BLOCK]?;
-    write_blocks(alloc, normalizer, reader, writer, &mut block)
+    write_blocks(alloc, scheme, normalizer, reader, writer, &mut block)
 }
 
 // Reads to the end, as much at a time as a block holds.
 fn write_blocks<R: Source, W: Target>(
     alloc: Global,
+    scheme: EncodingScheme,
     normalizer: &Normalizer,
     reader: &mut R,
     writer: &mut W,
     block: &mut [u8],
 ) -> Result<(), TransferError>
     requires { 0 < length block.old }
-    ensures form { OnOk result (IsFormWritten (form_by normalizer.now)
+    ensures form { OnOk result (IsFormWritten (form_by scheme normalizer.now)
         (R.left reader.old) (W.taken writer.old) (W.taken writer.new)) }
     ensures end { OnOk result (IsAtEnd (R.left reader.new)) }
-    ensures front { OnErr result (IsFormCutOff (form_by normalizer.now)
+    ensures front { OnErr result (IsFormCutOff (form_by scheme normalizer.now)
         (R.left reader.old) (W.taken writer.old) (W.taken writer.new)) }
     ensures read { IsErrOf result TransferError.Read → R.refused reader.old reader.new ⊎ IsEndless (R.left reader.old) }
     ensures so_far { IsErrOf result TransferError.Read →
-        IsWrittenToRun (form_by normalizer.now) (may_continue normalizer.now)
+        IsWrittenToRun scheme (form_by scheme normalizer.now) (may_continue normalizer.now)
         (R.left reader.old) (R.left reader.new) (W.taken writer.old) (W.taken writer.new) }
     ensures write { IsErrOf result TransferError.Write → W.refused writer.old writer.new }
 {
@@ -102,9 +106,9 @@ fn write_blocks<R: Source, W: Target>(
     for _ in 0..u64::MAX {
         let searched = carried.len();
         if !carry_block(reader, block, &mut carried)? {
-            return write_form_of(alloc, normalizer, &carried, writer);
+            return write_form_of(alloc, scheme, normalizer, &carried, writer);
         }
-        write_settled(alloc, normalizer, &mut carried, searched, writer)?;
+        write_settled(alloc, scheme, normalizer, &mut carried, searched, writer)?;
     }
     Err(TransferError::Read)
 }
@@ -135,26 +139,27 @@ fn carry_block<R: Source>(
 // for the last few have been searched.
 fn write_settled<W: Target>(
     alloc: Global,
+    scheme: EncodingScheme,
     normalizer: &Normalizer,
     carried: &mut Vec<u8>,
     searched: usize,
     writer: &mut W,
 ) -> Result<(), TransferError>
-    ensures moved { (left : Option (List ℕ)) → OnOk result (Moves (form_by normalizer.now)
+    ensures moved { (left : Option (List ℕ)) → OnOk result (Moves (form_by scheme normalizer.now)
         left left (W.taken writer.old) (W.taken writer.new) carried.old.items carried.new.items) }
-    ensures run { IsRun (may_continue normalizer.now) (take searched carried.old.items) →
-        OnOk result (IsRun (may_continue normalizer.now) carried.new.items) }
+    ensures run { IsRun scheme (may_continue normalizer.now) (take searched carried.old.items) →
+        OnOk result (IsRun scheme (may_continue normalizer.now) carried.new.items) }
     ensures front { OnErr result
-        (IsCutAnyway (form_by normalizer.now) (W.taken writer.old) (W.taken writer.new) carried.old.items) }
+        (IsCutAnyway (form_by scheme normalizer.now) (W.taken writer.old) (W.taken writer.new) carried.old.items) }
     ensures errors { IfErr result (λ error. (error ≡ TransferError.Write) ⊎ (error ≡ TransferError.Memory)) }
     ensures write { IsErrOf result TransferError.Write → W.refused writer.old writer.new }
     ensures ahead { OnOk result ((later : W) → W.refused writer.new later → W.refused writer.old later) }
 {
     let from = searched.saturating_sub(LONGEST_SEQUENCE);
-    let Some(place) = last_settled(normalizer, carried, from) else {
+    let Some(place) = last_settled(scheme, normalizer, carried, from) else {
         return Ok(());
     };
-    write_form_of(alloc, normalizer, &carried[..place], writer)?;
+    write_form_of(alloc, scheme, normalizer, &carried[..place], writer)?;
     remove_front(carried, place);
     Ok(())
 }
@@ -162,19 +167,20 @@ fn write_settled<W: Target>(
 // Writes the form of some bytes.
 fn write_form_of<W: Target>(
     alloc: Global,
+    scheme: EncodingScheme,
     normalizer: &Normalizer,
     bytes: &[u8],
     writer: &mut W,
 ) -> Result<(), TransferError>
-    ensures form { OnOk result (Appends (W.taken writer.old) (W.taken writer.new) (form_by normalizer.now bytes.now)) }
+    ensures form { OnOk result (Appends (W.taken writer.old) (W.taken writer.new) (form_by scheme normalizer.now bytes.now)) }
     ensures front { OnErr result
-        (AppendsFront (W.taken writer.old) (W.taken writer.new) (form_by normalizer.now bytes.now)) }
+        (AppendsFront (W.taken writer.old) (W.taken writer.new) (form_by scheme normalizer.now bytes.now)) }
     ensures errors { IfErr result (λ error. (error ≡ TransferError.Write) ⊎ (error ≡ TransferError.Memory)) }
     ensures write { IsErrOf result TransferError.Write → W.refused writer.old writer.new }
     ensures ahead { OnOk result ((later : W) → W.refused writer.new later → W.refused writer.old later) }
 {
-    match normalizer.form_of(alloc, bytes) {
-        Ok(form) => write_all(writer, form.as_bytes()),
+    match form_of(alloc, scheme, normalizer, bytes) {
+        Ok(form) => write_all(writer, &form),
         Err(_) => Err(TransferError::Memory),
     }
 }

@@ -1,16 +1,28 @@
 -- Lines and their fields (Unicode Standard Annex #44, section 4.2).
 use Rattle.std.specs.Prelude.{ℕ, ◌+◌, ◌-◌, ◌*◌, ◌^◌, ◌==◌, ◌&&◌, ◌||◌, Bool, nat_lt, nat_le, List, [], ◌∷◌, length, take, drop}
-use Rattle.std.specs.Prelude.{Option, Some, None, Result, Ok, slice_get, if◌then◌else◌}
+use Rattle.std.specs.Prelude.{Option, Some, None, Result, Ok, Err, nat_eq, slice_get, if◌then◌else◌}
 use Rattle.std.specs.Option.{option_and_then, option_map, ok_or}
-use Rattle.std.specs.List.{slice_split, prefix_len, suffix_len, before_first}
+use Rattle.std.specs.List.{slice_split, prefix_len, suffix_len, before_first, ends_with}
 use Rattle.std.specs.Int.{is_in_range}
 use Rattle.std.specs.Char.{is_ascii_whitespace, is_digit, digit_value}
 use Rattle.normalizer_ucd.specs.declared.error.LineFault.{LineFault}
-use Rattle.normalizer_ucd.specs.Reading.{◌>>=◌, read_each}
+use Rattle.normalizer_ucd.specs.declared.error.Problem.TheVariants.{CutOff}
+use Rattle.normalizer_ucd.specs.declared.error.UcdFile.{UcdFile}
+use Rattle.normalizer_ucd.specs.Reading.{◌>>=◌, fault, read_each}
 
 -- what lies between line feeds
 abbrev pub lines : List ℕ → List (List ℕ)
 lines file = slice_split (λ b. b == 0x0A) file
+
+-- a line feed ends the last line; an empty file has none
+abbrev pub is_whole : List ℕ → Bool
+is_whole file = (length file == 0) || ends_with nat_eq file (0x0A ∷ [])
+
+-- the lines of a file that isn't cut off
+unfoldable pub whole_lines : UcdFile → List ℕ → Result (List (List ℕ)) LineFault
+whole_lines name file =
+    if is_whole file then Ok (lines file)
+    else Err (fault (record { file = name; line = length (lines file) }) CutOff)
 
 abbrev pub trim_end : List ℕ → List ℕ
 trim_end text = take (length text - suffix_len is_ascii_whitespace text) text

@@ -14,7 +14,7 @@ use Rattle.normalizer_ucd.specs.declared.idna_table.Disallowed.TheVariants as ch
 use Rattle.normalizer_ucd.specs.declared.idna_table.StatusName.{StatusName}
 use Rattle.normalizer_ucd.specs.declared.idna_table.StatusName.TheVariants as names
 use Rattle.normalizer_ucd.specs.Reading.{◌>>=◌, fault, read_each}
-use Rattle.normalizer_ucd.specs.Fields.{lines, data_of, code_point, is_scalar_value, characters}
+use Rattle.normalizer_ucd.specs.Fields.{whole_lines, data_of, code_point, is_scalar_value, characters}
 use Rattle.normalizer_ucd.specs.UnicodeData.{field_of}
 
 abbrev pub place : ℕ → Place
@@ -134,5 +134,6 @@ entries_of r = flat_map (entries_at r.status) (range_with_len r.first (r.end - r
 -- the records that the table says
 unfoldable pub uts46_records_of : Disallowed → List ℕ → Result (List MapperEntry) LineFault
 uts46_records_of choice table = do
-  ranges ← ranges_in choice (lines table)
+  parts ← whole_lines files.IdnaMappingTable table
+  ranges ← ranges_in choice parts
   Ok (flat_map entries_of ranges)

@@ -13,8 +13,9 @@ use Rattle.normalizer_ucd.specs.declared.unicode_data.Part.{Part}
 use Rattle.normalizer_ucd.specs.declared.unicode_data.Part.TheVariants.{Whole, First, Last}
 use Rattle.normalizer_ucd.specs.declared.unicode_data.Position.{Position}
 use Rattle.normalizer_ucd.specs.Reading.{◌>>=◌, fault, read_each}
-use Rattle.normalizer_ucd.specs.Fields.{lines, data_of, trim, field, number, code_point, is_scalar_value, characters}
-use Rattle.normalizer_ucd.specs.Exclusions.{exclusions_of}
+use Rattle.normalizer_ucd.specs.Fields.{whole_lines, data_of, trim, field, number, code_point, is_scalar_value, characters}
+use Rattle.normalizer_ucd.specs.declared.exclusions.Exclusion.{Exclusion}
+use Rattle.normalizer_ucd.specs.Exclusions.{all_mapped, exclusions_of}
 
 abbrev pub place : ℕ → Place
 place n = record { file = files.UnicodeData; line = n }
@@ -106,11 +107,11 @@ character_of at code Last = Err (fault at problems.NotACharacter)
 abbrev pub is_blank : ℕ → List ℕ → Bool
 is_blank class mapping = (class == 0) && (length mapping == 0)
 
-abbrev pub is_listed : List ℕ → ℕ → Bool
-is_listed exclusions code = list_any (λ e. e == code) exclusions
+abbrev pub is_listed : List Exclusion → ℕ → Bool
+is_listed exclusions code = list_any (λ e. e.code == code) exclusions
 
 -- what is recorded of a code point, if anything is
-unfoldable pub entry_of : List ℕ → Place → ℕ → Part → ℕ → Bool × List ℕ → Result (Option Entry) LineFault
+unfoldable pub entry_of : List Exclusion → Place → ℕ → Part → ℕ → Bool × List ℕ → Result (Option Entry) LineFault
 entry_of exclusions at code part class mapping =
     if is_blank class mapping.1 then Ok None
     else do
@@ -124,7 +125,7 @@ entry_of exclusions at code part class mapping =
       }))
 
 -- the fields of a line
-unfoldable pub read_fields : List ℕ → Place → Position → List ℕ → Result (Position × Option Entry) LineFault
+unfoldable pub read_fields : List Exclusion → Place → Position → List ℕ → Result (Position × Option Entry) LineFault
 read_fields exclusions at position line = do
   code ← code_of at line
   part ← part_of at line
@@ -135,7 +136,7 @@ read_fields exclusions at position line = do
   Ok (next, entry)
 
 -- a line without data says nothing
-unfoldable pub read_line : List ℕ → ℕ → Position → List ℕ → Result (Position × Option Entry) LineFault
+unfoldable pub read_line : List Exclusion → ℕ → Position → List ℕ → Result (Position × Option Entry) LineFault
 read_line exclusions n position line =
     if length (data_of line) == 0 then Ok (position, None)
     else read_fields exclusions (place n) position (data_of line)
@@ -145,14 +146,21 @@ abbrev pub closed : Place → Position → Result (Unit {0}) LineFault
 closed at position = if position.is_open then Err (fault at problems.Range) else Ok tt
 
 -- the records of all lines
-unfoldable pub records_in : List ℕ → List (List ℕ) → Result (List Entry) LineFault
+unfoldable pub records_in : List Exclusion → List (List ℕ) → Result (List Entry) LineFault
 records_in exclusions parts = do
   read ← read_each (read_line exclusions) 1 start parts
   end ← closed (place (length parts)) read.0
   Ok read.1
 
+unfoldable pub records_by : List Exclusion → List ℕ → Result (List Entry) LineFault
+records_by exclusions file = do
+  parts ← whole_lines files.UnicodeData file
+  records_in exclusions parts
+
 -- the records that the two files yield
 unfoldable pub records_of : List ℕ → List ℕ → Result (List Entry) LineFault
 records_of unicode_data composition_exclusions = do
   exclusions ← exclusions_of composition_exclusions
-  records_in exclusions (lines unicode_data)
+  records ← records_by exclusions unicode_data
+  mapped ← all_mapped exclusions records
+  Ok records

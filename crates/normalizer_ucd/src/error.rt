@@ -80,6 +80,12 @@ pub enum Problem {
     /// A surrogate or a range of code points with a class or a mapping.
     #[error("a class or a mapping of what is not one character")]
     NotACharacter,
+    /// The last line has no line feed at its end: the file is cut off.
+    #[error("the last line has no line feed: the file is cut off")]
+    CutOff,
+    /// A character that is excluded from composition has no canonical mapping: the files are of different versions.
+    #[error("UnicodeData.txt has no canonical mapping of the character")]
+    Unmapped,
 }
 
 /// What is wrong, and on which line.

@@ -1,22 +1,38 @@
 //! CompositionExclusions.txt.
 ghost use Rattle.std.specs.Prelude.{◌≡◌, map};
-ghost use Rattle.normalizer_ucd.specs.Exclusions.{exclusion_of, exclusions_in, exclusions_of};
+ghost use Rattle.normalizer_ucd.specs.Exclusions.{
+  all_mapped,
+  exclusion_of,
+  exclusions_in,
+  exclusions_of,
+  is_mapped,
+  place,
+};
 ghost use Rattle.normalizer_ucd.specs.Reading.{Gives};
 
 use crate::error::{Place, Problem, UcdError, UcdFile};
-use crate::text::{code_point, data_of, field, push_found, split};
+use crate::text::{code_point, data_of, field, push_found, whole_lines};
+use normalizer_records::Record;
 use std::alloc::Global;
 
+/// A code point that is excluded from composition, and the number of its line.
+#[derive(Clone, Copy)]
+pub(crate) struct Exclusion {
+    pub(crate) code: u32,
+    pub(crate) line: usize,
+}
+
 /// The code points that the file lists.
-pub(crate) fn exclusions_of(alloc: Global, file: &[u8]) -> Result<Vec<u32>, UcdError>
+#[tactic(auto, unfolding(crate::specs::Exclusions::exclusions_of))]
+pub(crate) fn exclusions_of(alloc: Global, file: &[u8]) -> Result<Vec<Exclusion>, UcdError>
     ensures { Gives (λ v. v.items) result (exclusions_of file.now) }
 {
-    let lines = split(alloc, file, b'\n')?;
+    let lines = whole_lines(alloc, UcdFile::CompositionExclusions, file)?;
     exclusions_in(alloc, &lines)
 }
 
 #[tactic(auto, unfolding(crate::specs::Exclusions::exclusions_in))]
-fn exclusions_in(alloc: Global, lines: &[&[u8]]) -> Result<Vec<u32>, UcdError>
+fn exclusions_in(alloc: Global, lines: &[&[u8]]) -> Result<Vec<Exclusion>, UcdError>
     ensures { Gives (λ v. v.items) result (exclusions_in (map (λ line. line.now) lines.now)) }
 {
     let mut exclusions = Vec::new(alloc);
@@ -28,17 +44,43 @@ fn exclusions_in(alloc: Global, lines: &[&[u8]]) -> Result<Vec<u32>, UcdError>
 }
 
 #[tactic(auto, unfolding(crate::specs::Exclusions::exclusion_of))]
-fn exclusion_of(number: usize, line: &[u8]) -> Result<Option<u32>, UcdError>
+fn exclusion_of(number: usize, line: &[u8]) -> Result<Option<Exclusion>, UcdError>
     ensures { Gives (λ code. (tt, code)) result (exclusion_of number tt line.now) }
 {
     let data = data_of(line);
     if data.is_empty() {
         return Ok(None);
     }
-    let place = Place {
+    let code = field(data, 0).and_then(|text| code_point(text));
+    let code = code.ok_or(place(number).fault(Problem::CodePoint))?;
+    Ok(Some(Exclusion { code, line: number }))
+}
+
+fn place(number: usize) -> Place
+    ensures { result ≡ place number }
+{
+    Place {
         file: UcdFile::CompositionExclusions,
         line: number,
-    };
-    let code = field(data, 0).and_then(|text| code_point(text));
-    Ok(Some(code.ok_or(place.fault(Problem::CodePoint))?))
+    }
+}
+
+/// An error if one of the characters has no canonical mapping.
+#[tactic(auto, unfolding(crate::specs::Exclusions::all_mapped))]
+pub(crate) fn all_mapped(exclusions: &[Exclusion], records: &[Record]) -> Result<(), UcdError>
+    ensures { Gives (λ _. tt) result (all_mapped exclusions.now records.now) }
+{
+    for exclusion in exclusions {
+        if !is_mapped(records, exclusion.code) {
+            return Err(UcdError::Line(place(exclusion.line).fault(Problem::Unmapped)));
+        }
+    }
+    Ok(())
+}
+
+/// Whether the character has a canonical mapping.
+fn is_mapped(records: &[Record], code: u32) -> bool
+    ensures { result ≡ is_mapped records.now code }
+{
+    records.iter().any(|r| r.c as u32 == code && !r.compatibility && !r.mapping.is_empty())
 }

@@ -27,7 +27,7 @@ ghost use Rattle.normalizer_ucd.specs.IdnaTable.{
 ghost use Rattle.normalizer_ucd.specs.Reading.{Gives};
 
 use crate::error::{Place, Problem, UcdError, UcdFile};
-use crate::text::{after_first, before_first, characters, code_point, data_of, push_found, split};
+use crate::text::{after_first, before_first, characters, code_point, data_of, push_found, whole_lines};
 use crate::unicode_data::field_of;
 use normalizer_records::{Uts46Record, Uts46Status};
 use std::alloc::{AllocError, Global};
@@ -78,7 +78,7 @@ impl Model for RangeStatus {
 /// read.
 ///
 /// # Errors
-/// The first line that is wrong, or `Memory`.
+/// The first line that is wrong, or `Memory`. A file that is cut off is refused before its lines are read.
 #[tactic(auto, unfolding(crate::specs::IdnaTable::uts46_records_of))]
 pub fn uts46_records_of_idna_table(
     alloc: Global,
@@ -87,7 +87,7 @@ pub fn uts46_records_of_idna_table(
 ) -> Result<Vec<Uts46Record>, UcdError>
     ensures { Gives (λ v. v.items) result (uts46_records_of disallowed table.now) }
 {
-    let lines = split(alloc, table, b'\n')?;
+    let lines = whole_lines(alloc, UcdFile::IdnaMappingTable, table)?;
     let ranges = ranges_in(alloc, disallowed, &lines)?;
     Ok(records_of(alloc, &ranges)?)
 }

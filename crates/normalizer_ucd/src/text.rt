@@ -9,14 +9,16 @@ ghost use Rattle.normalizer_ucd.specs.Fields.{
   code_point,
   data_of,
   field,
+  is_whole,
   number,
   read_character,
   trim,
+  whole_lines,
   with_digit,
 };
 ghost use Rattle.normalizer_ucd.specs.Reading.{Gives};
 
-use crate::error::{LineFault, UcdError};
+use crate::error::{LineFault, Place, Problem, UcdError, UcdFile};
 use std::alloc::{AllocError, Global};
 
 /// The bytes without white space at either end.
@@ -64,7 +66,7 @@ pub(crate) fn after_first(text: &[u8], at: u8) -> &[u8]
 }
 
 /// The parts between the occurrences of a byte.
-pub(crate) fn split(alloc: Global, text: &[u8], at: u8) -> Result<Vec<&[u8]>, AllocError>
+fn split(alloc: Global, text: &[u8], at: u8) -> Result<Vec<&[u8]>, AllocError>
     ensures { IfOk result (λ v. map (λ part. part.now) v.items ≡ slice_split (λ b. b == at) text.now) }
 {
     let mut parts = Vec::new(alloc);
@@ -75,6 +77,28 @@ pub(crate) fn split(alloc: Global, text: &[u8], at: u8) -> Result<Vec<&[u8]>, Al
         left = rest;
     }
     Ok(parts)
+}
+
+/// The lines of a file that isn't cut off.
+#[tactic(auto, unfolding(crate::specs::Fields::whole_lines))]
+pub(crate) fn whole_lines(alloc: Global, name: UcdFile, file: &[u8]) -> Result<Vec<&[u8]>, UcdError>
+    ensures { Gives (λ v. map (λ part. part.now) v.items) result (whole_lines name file.now) }
+{
+    let lines = split(alloc, file, b'\n')?;
+    if is_whole(file) {
+        return Ok(lines);
+    }
+    let place = Place {
+        file: name,
+        line: lines.len(),
+    };
+    Err(UcdError::Line(place.fault(Problem::CutOff)))
+}
+
+fn is_whole(file: &[u8]) -> bool
+    ensures { result ≡ is_whole file.now }
+{
+    file.is_empty() || file.ends_with(b"\n")
 }
 
 /// A line without its comment.

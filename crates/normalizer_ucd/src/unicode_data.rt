@@ -20,6 +20,7 @@ ghost use Rattle.normalizer_ucd.specs.UnicodeData.{
   place,
   read_fields,
   read_line,
+  records_by,
   records_in,
   records_of,
   step,
@@ -28,9 +29,9 @@ ghost use Rattle.normalizer_ucd.specs.UnicodeData.{
 ghost use Rattle.normalizer_ucd.specs.Reading.{Gives};
 
 use crate::error::{LineFault, Place, Problem, UcdError, UcdFile};
-use crate::exclusions::exclusions_of;
+use crate::exclusions::{Exclusion, all_mapped, exclusions_of};
 use crate::text::{
-    after_first, characters, code_point, data_of, field, number, push_found, split, trim,
+    after_first, characters, code_point, data_of, field, number, push_found, trim, whole_lines,
 };
 use normalizer_records::Record;
 use std::alloc::Global;
@@ -54,7 +55,9 @@ struct Position {
 /// character. A character is excluded from composition if the second file lists it.
 ///
 /// # Errors
-/// The first line that is wrong, or `Memory`. The second file is read before the first.
+/// The first line that is wrong, or `Memory`. A file that is cut off is refused before its lines are read, and the
+/// second file is read before the first. A line of the second file is wrong too if its character has no canonical
+/// mapping in the first: then the files are of different versions.
 ///
 /// # Examples
 /// ```rust
@@ -75,12 +78,22 @@ pub fn records_of_unicode_data(
     ensures { Gives (λ v. v.items) result (records_of unicode_data.now composition_exclusions.now) }
 {
     let exclusions = exclusions_of(alloc, composition_exclusions)?;
-    let lines = split(alloc, unicode_data, b'\n')?;
-    records_in(alloc, &exclusions, &lines)
+    let records = records_by(alloc, &exclusions, unicode_data)?;
+    all_mapped(&exclusions, &records)?;
+    Ok(records)
+}
+
+/// The records of the lines of the first file.
+#[tactic(auto, unfolding(crate::specs::UnicodeData::records_by))]
+fn records_by(alloc: Global, exclusions: &[Exclusion], file: &[u8]) -> Result<Vec<Record>, UcdError>
+    ensures { Gives (λ v. v.items) result (records_by exclusions.now file.now) }
+{
+    let lines = whole_lines(alloc, UcdFile::UnicodeData, file)?;
+    records_in(alloc, exclusions, &lines)
 }
 
 #[tactic(auto, unfolding(crate::specs::UnicodeData::records_in))]
-fn records_in(alloc: Global, exclusions: &[u32], lines: &[&[u8]]) -> Result<Vec<Record>, UcdError>
+fn records_in(alloc: Global, exclusions: &[Exclusion], lines: &[&[u8]]) -> Result<Vec<Record>, UcdError>
     ensures { Gives (λ v. v.items) result (records_in exclusions.now (map (λ line. line.now) lines.now)) }
 {
     let mut records = Vec::new(alloc);
@@ -119,7 +132,7 @@ fn closed(number: usize, position: Position) -> Result<(), UcdError>
 #[tactic(auto, unfolding(crate::specs::UnicodeData::read_line))]
 fn read_line(
     alloc: Global,
-    exclusions: &[u32],
+    exclusions: &[Exclusion],
     number: usize,
     position: Position,
     line: &[u8],
@@ -136,7 +149,7 @@ fn read_line(
 #[tactic(auto, unfolding(crate::specs::UnicodeData::read_fields))]
 fn read_fields(
     alloc: Global,
-    exclusions: &[u32],
+    exclusions: &[Exclusion],
     place: Place,
     position: Position,
     line: &[u8],
@@ -158,16 +171,16 @@ fn is_blank(class: u8, mapping: &[char]) -> bool
     class == 0 && mapping.is_empty()
 }
 
-fn is_listed(exclusions: &[u32], code: u32) -> bool
+fn is_listed(exclusions: &[Exclusion], code: u32) -> bool
     ensures { result ≡ is_listed exclusions.now code }
 {
-    exclusions.iter().any(|excluded| *excluded == code)
+    exclusions.iter().any(|excluded| excluded.code == code)
 }
 
 /// What is recorded of a code point, if anything is.
 #[tactic(auto, unfolding(crate::specs::UnicodeData::entry_of))]
 fn entry_of(
-    exclusions: &[u32],
+    exclusions: &[Exclusion],
     place: Place,
     code: u32,
     part: Part,

@@ -6,4 +6,4 @@ use Rattle.normalizer_command.proofs.mapping.lines.Goals as goal
 
 pub returns : goal.returns
 returns c = map_from_collect _ c.collect.ensures.ran
-    (YieldsList-from_slice_split _ (λ k. k == 0x0A) c.args.bytes.now c.split.ensures.rest c.split.ensures.done c.split.ensures.closure (λ x b q k. search (rules, tests)))
+    (YieldsList-from_slice_split _ (λ k. k == 0x0A) c.args.text.now c.split.ensures.rest c.split.ensures.done c.split.ensures.closure (λ x b q k. search (rules, tests)))

@@ -7,12 +7,12 @@ use Rattle.normalizer_streams.proofs.stream.write_blocks.Goals as goal
 
 pub returns-in_err-carry_block-clause-front : goal.returns-in_err-carry_block-clause-front
 returns-in_err-carry_block-clause-front g c =
-    let form = form_by c.args.normalizer.now in
+    let form = form_by c.args.scheme c.args.normalizer.now in
     OnErr-always _ (IsFormCutOff-moved form _ _ _ _ _ _ c.loop.invariant.moves (IsCut-anyway form _ _ _ _ (IsCutAnyway-none form _ _)))
 
 pub returns-then-not-branch-clause-form : goal.returns-then-not-branch-clause-form
 returns-then-not-branch-clause-form g c =
-    let form = form_by c.args.normalizer.now in
+    let form = form_by c.args.scheme c.args.normalizer.now in
     let block = c.in_ok-carry_block.ensures.carries in
     let moves = Moves-trans form _ _ _ _ _ _ _ _ _ c.loop.invariant.moves (Moves-read form _ _ _ _ _ block.more block.consumed block.appended) in
     OnOk-after _ (λ written. IsFormWritten-end form _ _ _ _ _ _ moves (block.end c.if-not-branch.true) written)
@@ -20,7 +20,7 @@ returns-then-not-branch-clause-form g c =
 
 pub returns-then-not-branch-clause-front : goal.returns-then-not-branch-clause-front
 returns-then-not-branch-clause-front g c =
-    let form = form_by c.args.normalizer.now in
+    let form = form_by c.args.scheme c.args.normalizer.now in
     let block = c.in_ok-carry_block.ensures.carries in
     let moves = Moves-trans form _ _ _ _ _ _ _ _ _ c.loop.invariant.moves (Moves-read form _ _ _ _ _ block.more block.consumed block.appended) in
     OnErr-after _ (λ front. IsFormCutOff-moved form _ _ _ _ _ _ moves (IsCut-end form _ _ _ _ (block.end c.if-not-branch.true) front))
@@ -28,14 +28,14 @@ returns-then-not-branch-clause-front g c =
 
 pub returns-in_err-write_settled-clause-front : goal.returns-in_err-write_settled-clause-front
 returns-in_err-write_settled-clause-front g c =
-    let form = form_by c.args.normalizer.now in
+    let form = form_by c.args.scheme c.args.normalizer.now in
     let block = c.in_ok-carry_block.ensures.carries in
     let moves = Moves-trans form _ _ _ _ _ _ _ _ _ c.loop.invariant.moves (Moves-read form _ _ _ _ _ block.more block.consumed block.appended) in
     OnErr-always _ (IsFormCutOff-moved form _ _ _ _ _ _ moves (IsCut-anyway form _ _ _ _ c.in_err-write_settled.ensures.front))
 
 pub loop-preserved : goal.loop-preserved
 loop-preserved g c =
-    let form = form_by c.args.normalizer.now in
+    let form = form_by c.args.scheme c.args.normalizer.now in
     let block = c.in_ok-carry_block.ensures.carries in
     let size : c.len-searched.result ≡ length c.loop.carried.items = search rules in
     let next = Moves-block form _ _ _ _ _ _ _ _ _ _ c.loop.counter c.loop.invariant.moves c.loop.invariant.counted block c.if-not-branch.false (c.in_ok-write_settled.ensures.moved _) in
@@ -50,7 +50,7 @@ loop-preserved g c =
 
 pub returns-clause-front : goal.returns-clause-front
 returns-clause-front g c =
-    let form = form_by c.args.normalizer.now in
+    let form = form_by c.args.scheme c.args.normalizer.now in
     IsFormCutOff-moved form _ _ _ _ _ _ c.loop.invariant.moves (IsCut-anyway form _ _ _ _ (IsCutAnyway-none form _ _))
 
 pub returns-clause-read : goal.returns-clause-read
@@ -58,9 +58,9 @@ returns-clause-read g c = λ _. inr (read_is_within _ _ c.loop.invariant.moves.r
 
 pub returns-in_err-carry_block-clause-so_far : goal.returns-in_err-carry_block-clause-so_far
 returns-in_err-carry_block-clause-so_far g c = λ refused.
-    IsWrittenToRun-refused (form_by c.args.normalizer.now) (may_continue c.args.normalizer.now) _ _ _ _ _ _ c.loop.invariant.moves c.loop.invariant.run
+    IsWrittenToRun-refused (form_by c.args.scheme c.args.normalizer.now) c.args.scheme (may_continue c.args.normalizer.now) _ _ _ _ _ _ c.loop.invariant.moves c.loop.invariant.run
     (c.in_err-carry_block.ensures.unread (search rules))
 
 pub returns-clause-so_far : goal.returns-clause-so_far
 returns-clause-so_far g c = λ _.
-    IsWrittenToRun-refused (form_by c.args.normalizer.now) (may_continue c.args.normalizer.now) _ _ _ _ _ _ c.loop.invariant.moves c.loop.invariant.run (Keeps-refl _)
+    IsWrittenToRun-refused (form_by c.args.scheme c.args.normalizer.now) c.args.scheme (may_continue c.args.normalizer.now) _ _ _ _ _ _ c.loop.invariant.moves c.loop.invariant.run (Keeps-refl _)

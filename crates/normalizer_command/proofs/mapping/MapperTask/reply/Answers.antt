@@ -1,5 +1,6 @@
 use Rattle.std.proofs.Common.{subst, sym}
 use Rattle.normalizer_calls.specs.Mappers.{mapper_data_of_borrowed}
+use Rattle.normalizer_command.specs.Lines.{lines_of}
 use Rattle.normalizer_command.specs.Making.{Maps}
 use Rattle.normalizer_command.proofs.MapperLemmas.{replies-by}
 use Rattle.normalizer_command.proofs.mapping.MapperTask.reply.Goals as goal
@@ -8,4 +9,5 @@ pub returns-clause-reply : goal.returns-clause-reply
 returns-clause-reply c = λ m maps.
     let own = mapper_data_of_borrowed c.as_borrowed.result in
     let borrowed : Maps own m = subst (λ h. Maps h m) (sym c.as_borrowed.ensures) maps in
-    replies-by c.args.self own m borrowed c.args.name.now c.args.bytes.now c.reply_by.result c.reply_by.ensures.reply
+    let text = rw (c.deref.ensures.value, c.in_ok-text.ensures) at c.reply_to_text.ensures.reply in
+    replies-by c.args.self c.args.scheme own m borrowed c.args.name.now _ c.reply_to_text.result text

@@ -1,0 +1,121 @@
+//! Normalizers over bytes in an encoding scheme.
+ghost use Rattle.std.specs.Prelude.{◌≡◌, ◌↔◌, IfOk, IsOkUnless, IsTrue};
+ghost use Rattle.normalizer_text.specs.Encodings.{Encoding};
+ghost use Rattle.normalizer_input.specs.EncodedForm.{encoded_form};
+ghost use Rattle.normalizer_input.specs.InputCut.{IsInputNormalized};
+ghost use Rattle.normalizer_input.specs.InputOffence.{IsInputOffenceOf};
+ghost use Rattle.normalizer_built.specs.Normalizers.{kind_by, reading_of};
+ghost use Rattle.normalizer_streams.specs.Schemes.{encoding_of, units_of};
+ghost use Rattle.normalizer_streams.specs.Streams.{form_by};
+
+use crate::scheme::EncodingScheme;
+use normalizer_built::Normalizer;
+use normalizer_calls::Offence;
+use normalizer_iterators::NormalizeError;
+use std::alloc::Global;
+
+/// Returns the form of the text that bytes decode to, in the same scheme.
+///
+/// # Errors
+/// `Memory` if an allocation was refused.
+pub(crate) fn form_of(
+    alloc: Global,
+    scheme: EncodingScheme,
+    normalizer: &Normalizer,
+    bytes: &[u8],
+) -> Result<Vec<u8>, NormalizeError>
+    ensures form { IfOk result (λ form. form.items ≡ form_by scheme normalizer.now bytes.now) }
+    ensures refused { IsOkUnless result NormalizeError.Memory }
+{
+    match scheme {
+        EncodingScheme::Utf8 => Ok(normalizer.form_of(alloc, bytes)?.into_bytes()),
+        EncodingScheme::Utf16(order) => {
+            let form = form_of_units(alloc, normalizer, &order.units(alloc, bytes)?)?;
+            Ok(order.spelled(alloc, &form)?)
+        }
+    }
+}
+
+// The form of 16-bit units.
+fn form_of_units(
+    alloc: Global,
+    normalizer: &Normalizer,
+    units: &[u16],
+) -> Result<Vec<u16>, NormalizeError>
+    ensures form { IfOk result (λ form. form.items
+        ≡ encoded_form Encoding.Utf16 (reading_of normalizer.now) (kind_by normalizer.now) units.now) }
+    ensures refused { IsOkUnless result NormalizeError.Memory }
+{
+    let mut form = Vec::new(alloc);
+    let written = match normalizer {
+        Normalizer::Decomposing(n) => n.as_borrowed().normalize_utf16_to(units, &mut form),
+        Normalizer::Composing(n) => n.as_borrowed().normalize_utf16_to(units, &mut form),
+    };
+    // (Units in memory refuse a write only if an allocation is refused.)
+    match written {
+        Ok(()) => Ok(form),
+        Err(_) => Err(NormalizeError::Memory),
+    }
+}
+
+/// Returns whether bytes are well-formed and already normalized.
+///
+/// # Errors
+/// `Memory` if an allocation was refused.
+pub fn is_normalized(
+    alloc: Global,
+    scheme: EncodingScheme,
+    normalizer: &Normalizer,
+    bytes: &[u8],
+) -> Result<bool, NormalizeError>
+    ensures normalized { IfOk result (λ normalized. IsTrue normalized ↔ IsInputNormalized
+        (encoding_of scheme) (reading_of normalizer.now) (kind_by normalizer.now) (units_of scheme bytes.now)) }
+    ensures refused { IsOkUnless result NormalizeError.Memory }
+{
+    match scheme {
+        EncodingScheme::Utf8 => normalizer.is_normalized(bytes),
+        EncodingScheme::Utf16(order) => are_normalized(normalizer, &order.units(alloc, bytes)?),
+    }
+}
+
+fn are_normalized(normalizer: &Normalizer, units: &[u16]) -> Result<bool, NormalizeError>
+    ensures normalized { IfOk result (λ normalized. IsTrue normalized
+        ↔ IsInputNormalized Encoding.Utf16 (reading_of normalizer.now) (kind_by normalizer.now) units.now) }
+    ensures refused { IsOkUnless result NormalizeError.Memory }
+{
+    match normalizer {
+        Normalizer::Decomposing(n) => Ok(n.as_borrowed().is_normalized_utf16(units)?),
+        Normalizer::Composing(n) => Ok(n.as_borrowed().is_normalized_utf16(units)?),
+    }
+}
+
+/// Returns the first place at which bytes are ill-formed or not normalized. It counts units.
+///
+/// # Errors
+/// `Memory` if an allocation was refused.
+pub fn first_offence(
+    alloc: Global,
+    scheme: EncodingScheme,
+    normalizer: &Normalizer,
+    bytes: &[u8],
+) -> Result<Option<Offence>, NormalizeError>
+    ensures offence { IfOk result (IsInputOffenceOf
+        (encoding_of scheme) (reading_of normalizer.now) (kind_by normalizer.now) (units_of scheme bytes.now)) }
+    ensures refused { IsOkUnless result NormalizeError.Memory }
+{
+    match scheme {
+        EncodingScheme::Utf8 => normalizer.first_offence(bytes),
+        EncodingScheme::Utf16(order) => offence_of(normalizer, &order.units(alloc, bytes)?),
+    }
+}
+
+fn offence_of(normalizer: &Normalizer, units: &[u16]) -> Result<Option<Offence>, NormalizeError>
+    ensures offence { IfOk result (λ offence.
+        IsInputOffenceOf Encoding.Utf16 (reading_of normalizer.now) (kind_by normalizer.now) units.now offence) }
+    ensures refused { IsOkUnless result NormalizeError.Memory }
+{
+    match normalizer {
+        Normalizer::Decomposing(n) => Ok(n.as_borrowed().first_offence_utf16(units)?),
+        Normalizer::Composing(n) => Ok(n.as_borrowed().first_offence_utf16(units)?),
+    }
+}
