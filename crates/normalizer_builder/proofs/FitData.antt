@@ -1,7 +1,7 @@
 -- Data that meet all demands, demand by demand.
 use Rattle.std.proofs.Common.{List, All, None, get_or}
 use Rattle.std.proofs.lemmas.List.Elements.{All-contains_itself}
-use Rattle.normalizer_tables.specs.Loaded.{IsMet}
+use Rattle.normalizer_tables.specs.Conditions.{IsMet}
 use Rattle.normalizer_packing.specs.declared.Packed.{Packed}
 use Rattle.normalizer_packing.specs.declared.entry.Kind.{Kind}
 use Rattle.normalizer_records.specs.Entry.{Entry}

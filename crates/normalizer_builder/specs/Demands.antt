@@ -6,9 +6,9 @@ use Rattle.normalizer_tables.specs.declared.condition.Condition.TheVariants.{Fdf
 use Rattle.normalizer_tables.specs.declared.provider.DataMarkerInfo.{DataMarkerInfo}
 use Rattle.normalizer_tables.specs.declared.provider.DataMarkerInfo.TheVariants as marker
 use Rattle.normalizer_tables.specs.AcceptedData.{composing_conditions}
-use Rattle.normalizer_tables.specs.Conditions.{number_of}
+use Rattle.normalizer_tables.specs.Conditions.{IsMet, number_of}
+use Rattle.normalizer_tables.specs.Loaded.{bounds_of_cap, Loaded}
 use Rattle.normalizer_tables.specs.Data.{Supplement}
-use Rattle.normalizer_tables.specs.Loaded.{IsMet, Loaded, bounds_of_cap}
 use Rattle.normalizer_tables.specs.Refusals.{marker_of}
 use Rattle.normalizer_packing.specs.declared.Packed.{Packed}
 use Rattle.normalizer_packing.specs.declared.entry.Kind.{Kind}

@@ -1,6 +1,6 @@
 //! The laws of building. Each function does nothing but call the laws that it rests on: its contract is the law, and
 //! its proof is in `proofs/`.
-ghost use Rattle.std.specs.Prelude.{◌≡◌, ◌≢◌, false, true, All, List, Some};
+ghost use Rattle.std.specs.Prelude.{◌≡◌, ◌≢◌, false, true, All, List};
 ghost use Rattle.normal_forms.specs.declared.Form.{Form};
 ghost use Rattle.normal_forms.specs.Hypotheses.{HasInhabitedLists, SuitsForm};
 ghost use Rattle.normalizer_tables.specs.declared.condition.Condition.{Condition};
@@ -8,25 +8,24 @@ ghost use Rattle.normalizer_tables.specs.declared.provider.DataError.{DataError}
 ghost use Rattle.normalizer_tables.specs.declared.provider.DataMarkerInfo.{DataMarkerInfo};
 ghost use Rattle.normalizer_tables.specs.AcceptedData.{
   AreAcceptedPairs,
+  class_conditions,
   composing_conditions,
   decomposing_conditions,
   IsAccepted,
   step_conditions,
 };
 ghost use Rattle.normalizer_tables.specs.Characters.{Characters};
-ghost use Rattle.normalizer_tables.specs.ClassConditions.{HoldsOfClasses, class_conditions};
-ghost use Rattle.normalizer_tables.specs.Conditions.{IsFirstFailing};
+ghost use Rattle.normalizer_tables.specs.Conditions.{IsMet};
 ghost use Rattle.normalizer_tables.specs.Loaded.{
   bounds_of_cap,
   characters_alone,
   characters_and_pairs,
-  IsMet,
+  classes_loaded,
   Loaded,
 };
 ghost use Rattle.normalizer_tables.specs.PairConditions.{AreSoundPairs};
 ghost use Rattle.normalizer_tables.specs.Pairs.{Pair};
 ghost use Rattle.normalizer_tables.specs.Refusals.{RefusesFirstFailing};
-ghost use Rattle.normalizer_tables.specs.Table.{Table};
 ghost use Rattle.normalizer_packing.specs.declared.Packed.{Packed};
 ghost use Rattle.normalizer_packing.specs.declared.entry.Kind.TheVariants.{Canonical, Compatibility, Mapper};
 ghost use Rattle.normalizer_packing.specs.ReadBack.{characters_of};
@@ -73,7 +72,7 @@ pub fn what_is_built_is_accepted()
     ensures mapper { (records : List Entry) (uts46 : List MapperEntry) (p : Packed) → Builds records uts46 p →
         All (IsMet (characters_and_pairs (characters_of p Mapper) p.compositions)) (composing_conditions true) }
     ensures classes { (records : List Entry) (uts46 : List MapperEntry) (p : Packed) → Builds records uts46 p →
-        All (HoldsOfClasses p.canonical.table) class_conditions }
+        All (IsMet (classes_loaded p.canonical)) class_conditions }
     ensures pairs { (records : List Entry) (uts46 : List MapperEntry) (p : Packed) → Builds records uts46 p →
         AreSoundPairs p.compositions }
     ensures steps { (records : List Entry) (uts46 : List MapperEntry) (p : Packed) → Builds records uts46 p →
@@ -88,10 +87,6 @@ pub fn what_is_built_is_accepted()
 pub fn data_that_meet_conditions_are_accepted()
     ensures refused { (d : Loaded) (conditions : List Condition) (kind : DataMarkerInfo) (e : DataError) →
         All (IsMet d) conditions → ¬ RefusesFirstFailing kind d conditions e }
-    ensures classes { (t : Table) (c : Condition) → All (HoldsOfClasses t) class_conditions →
-        ¬ IsFirstFailing (HoldsOfClasses t) class_conditions (Some c) }
-    ensures alone { (s : Characters) → All (IsMet (characters_alone s)) decomposing_conditions →
-        IsAccepted s (bounds_of_cap s.decompositions.cap) }
     ensures characters { (s : Characters) (pairs : List Pair) →
         All (IsMet (characters_and_pairs s pairs)) (composing_conditions s.is_mapper) →
         IsAccepted s (bounds_of_cap s.decompositions.cap) }

@@ -1,7 +1,6 @@
 //! Whether packed data can be used: the first written condition that they break, of all that constructors require.
 ghost use Rattle.std.specs.Prelude.{◌≡◌, option_map};
-ghost use Rattle.normalizer_tables.specs.Conditions.{IsFirstFailing};
-ghost use Rattle.normalizer_tables.specs.Loaded.{IsMet};
+ghost use Rattle.normalizer_tables.specs.Conditions.{IsFirstFailing, IsMet};
 ghost use Rattle.normalizer_builder.specs.Demands.{
   answer_of,
   characters_of,

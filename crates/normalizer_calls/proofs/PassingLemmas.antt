@@ -21,11 +21,12 @@ use Rattle.normalizer_tables.specs.declared.characters.IgnoredCharacters.TheVari
 use Rattle.normalizer_tables.specs.declared.condition.Bounds.{Bounds}
 use Rattle.normalizer_tables.specs.declared.condition.Condition.TheVariants.{SafeBeginning}
 use Rattle.normalizer_tables.specs.AcceptedData.{AreAcceptedPairs}
+use Rattle.normalizer_tables.specs.Conditions.{IsMet}
+use Rattle.normalizer_tables.specs.PairConditions.{is_passed, is_taken_to_begin_safely, KeepsBeginning}
 use Rattle.normalizer_tables.specs.Characters.{Characters, class_of, class_of_itself, has_class_form, list_of, list_read, named_list, reading_of_word, word_of}
 use Rattle.normalizer_tables.specs.declared.word.WordReading.{WordReading}
 use Rattle.normalizer_tables.specs.declared.word.WordReading.TheVariants.{Ignored, Itself, ClassForm, SpecialForm}
 use Rattle.normalizer_tables.specs.declared.word.WordReading.TheVariants.{TwoCharacters, HangulSyllable, Fdfa, OneCharacter, Listed}
-use Rattle.normalizer_tables.specs.PairConditions.{HoldsOfPairs, KeepsBeginning, PairsHoldAt, is_passed, is_taken_to_begin_safely}
 use Rattle.normalizer_tables.specs.Pairs.{Pair}
 use Rattle.normalizer_tables.specs.Words.{is_backward_combining, is_non_round_trip}
 use Rattle.normalizer_tables.specs.Readings.{reading_by}
@@ -129,10 +130,10 @@ BeginsApart-boundary s b serves c scalar anew = BeginsApart-decomposed s b serve
 -- a character that is taken to begin safely begins apart where text is composed: condition 13
 pub BeginsApart-taken : (s : Characters) (b : Bounds) (pairs : List Pair) → HasStarterResults (reading_by s Dropped pairs) → AreAcceptedPairs s b pairs
     → (c : ℕ) → IsScalar c → is_taken_to_begin_safely s b c ≡ true → BeginsApart (reading_by s Dropped pairs) Composing c
-unfolding HoldsOfPairs PairsHoldAt KeepsBeginning normal_form
+unfolding IsMet KeepsBeginning normal_form
 BeginsApart-taken s b pairs starters accepted c scalar taken =
     let d = reading_by s Dropped pairs in
-    let safe = (accepted 2 SafeBeginning (omega arith)).1 c scalar taken in
+    let safe = accepted 2 SafeBeginning (omega arith) c scalar taken in
     λ front x. nfc-boundary d starters front (c ∷ x) (BeginsSafely-expand d c x safe.begins safe.safely)
 
 -- the form of a character alone is its list

@@ -4,8 +4,9 @@ use Rattle.normalizer_tables.specs.declared.provider.DataError.{DataError}
 use Rattle.normalizer_tables.specs.declared.provider.DataMarkerInfo.{DataMarkerInfo}
 use Rattle.normalizer_tables.specs.declared.provider.DataMarkerInfo.TheVariants as marker
 use Rattle.normalizer_tables.specs.AcceptedData.{composing_conditions}
+use Rattle.normalizer_tables.specs.Conditions.{IsMet}
+use Rattle.normalizer_tables.specs.Loaded.{characters_and_pairs}
 use Rattle.normalizer_tables.specs.Characters.{Characters}
-use Rattle.normalizer_tables.specs.Loaded.{IsMet, characters_and_pairs}
 use Rattle.normalizer_tables.specs.Pairs.{Pair}
 use Rattle.normalizer_tables.specs.Refusals.{RefusesFirstFailing}
 

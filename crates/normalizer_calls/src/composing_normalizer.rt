@@ -12,10 +12,9 @@ ghost use Rattle.normalizer_calls.specs.Serving.{ServesComposing};
 use crate::borrowed::{ComposingNormalizerBorrowed, NormalizerBorrowed};
 use crate::composing_form::ComposingForm;
 use normalizer_tables::characters::CharacterData;
-use normalizer_tables::check::first_failing;
+use normalizer_tables::check::check;
 use normalizer_tables::condition::{Bounds, COMPOSING};
 use normalizer_tables::loaded::LoadedData;
-use normalizer_tables::refusal::refusal_of;
 use normalizer_tables::{
     CanonicalCompositions, DataError, DataMarkerInfo, DataProvider, DecompositionData,
     DecompositionTables, NormalizerNfcV1, NormalizerNfdDataV1, NormalizerNfdTablesV1,
@@ -134,15 +133,13 @@ impl ComposingNormalizer {
         );
         let bounds = Bounds::of_cap(characters.cap());
         let loaded = LoadedData::new(characters, bounds, Some(&pairs), None);
-        match first_failing(&loaded, &COMPOSING) {
-            Some(condition) => Err(refusal_of(marker, condition)),
-            None => Ok(ComposingNormalizer {
-                decompositions,
-                tables,
-                supplementary,
-                pairs,
-            }),
-        }
+        check(&loaded, marker, &COMPOSING)?;
+        Ok(ComposingNormalizer {
+            decompositions,
+            tables,
+            supplementary,
+            pairs,
+        })
     }
 
     /// Returns the normalizer that borrows this one's data.

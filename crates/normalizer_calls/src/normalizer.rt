@@ -14,10 +14,9 @@ ghost use Rattle.normalizer_calls.specs.Serving.{ServesDecomposing};
 use crate::borrowed::{DecomposingNormalizerBorrowed, NormalizerBorrowed};
 use crate::decomposing_form::DecomposingForm;
 use normalizer_tables::characters::CharacterData;
-use normalizer_tables::check::first_failing;
+use normalizer_tables::check::check;
 use normalizer_tables::condition::{Bounds, DECOMPOSING};
 use normalizer_tables::loaded::LoadedData;
-use normalizer_tables::refusal::refusal_of;
 use normalizer_tables::{
     DataError, DataMarkerInfo, DataProvider, DecompositionData, DecompositionTables,
     NormalizerNfdDataV1, NormalizerNfdTablesV1, NormalizerNfkdDataV1, NormalizerNfkdTablesV1,
@@ -113,14 +112,12 @@ impl DecomposingNormalizer {
         );
         let bounds = Bounds::of_cap(characters.cap());
         let loaded = LoadedData::new(characters, bounds, None, None);
-        match first_failing(&loaded, &DECOMPOSING) {
-            Some(condition) => Err(refusal_of(marker, condition)),
-            None => Ok(DecomposingNormalizer {
-                decompositions,
-                tables,
-                supplementary,
-            }),
-        }
+        check(&loaded, marker, &DECOMPOSING)?;
+        Ok(DecomposingNormalizer {
+            decompositions,
+            tables,
+            supplementary,
+        })
     }
 
     /// Returns the normalizer that borrows this one's data.

@@ -13,10 +13,9 @@ ghost use Rattle.normalizer_calls.specs.Uts46.{mapper_data, uts46_data, ServesMa
 use normalizer_iterators::composition::composed;
 use normalizer_iterators::{Composition, NormalizeError};
 use normalizer_tables::characters::{CharacterData, IgnoredCharacters};
-use normalizer_tables::check::first_failing;
+use normalizer_tables::check::check;
 use normalizer_tables::condition::{Bounds, MAPPING};
 use normalizer_tables::loaded::LoadedData;
-use normalizer_tables::refusal::refusal_of;
 use normalizer_tables::{
     CanonicalCompositions, DataError, DataMarkerInfo, DataProvider, DecompositionData,
     DecompositionTables, NormalizerNfcV1, NormalizerNfdTablesV1, NormalizerNfkdTablesV1,
@@ -95,15 +94,13 @@ impl Uts46Mapper {
         let characters = CharacterData::new(&decompositions, &tables, Some(&supplementary), true);
         let bounds = Bounds::of_cap(characters.cap());
         let loaded = LoadedData::new(characters, bounds, Some(&pairs), None);
-        match first_failing(&loaded, &MAPPING) {
-            Some(condition) => Err(refusal_of(DataMarkerInfo::NormalizerUts46DataV1, condition)),
-            None => Ok(Uts46Mapper {
-                decompositions,
-                tables,
-                supplementary,
-                pairs,
-            }),
-        }
+        check(&loaded, DataMarkerInfo::NormalizerUts46DataV1, &MAPPING)?;
+        Ok(Uts46Mapper {
+            decompositions,
+            tables,
+            supplementary,
+            pairs,
+        })
     }
 
     /// Returns the mapper that borrows this one's data.

@@ -9,7 +9,9 @@ use Rattle.normalizer_tables.specs.declared.condition.Condition.TheVariants.{Wor
 use Rattle.normalizer_tables.specs.declared.word.WordReading.{WordReading}
 use Rattle.normalizer_tables.specs.declared.word.WordReading.TheVariants.{Ignored, Itself, ClassForm, SpecialForm}
 use Rattle.normalizer_tables.specs.Characters.{Characters, word_of, reading_of_word, named_list, list_of, class_of, has_class_form}
-use Rattle.normalizer_tables.specs.Conditions.{Holds, HoldsAt, IsSoundWord}
+use Rattle.normalizer_tables.specs.CharacterConditions.{IsSoundWord}
+use Rattle.normalizer_tables.specs.Conditions.{IsMet}
+use Rattle.normalizer_tables.specs.Loaded.{characters_loaded}
 use Rattle.normalizer_tables.specs.PairConditions.{is_passed}
 use Rattle.normalizer_tables.specs.Pairs.{Pair}
 use Rattle.normalizer_tables.specs.SpecialLists.{FixedList, fixed_list_of}
@@ -73,20 +75,20 @@ module _ (s : Characters) (n : ℕ) (h : IsScalar n) where
   unfolding class_of_word
   class_of-form form = class_of-scalar s n h ∙ rw form refl
 
-  module _ (b : Bounds) (bounded : b.composition ≤ 0x0300) (pairs : List Pair) (words : Holds s b Words) (inhabited : list_of s [] n ≡ [] → ⊥)
+  module _ (b : Bounds) (bounded : b.composition ≤ 0x0300) (pairs : List Pair) (words : IsMet (characters_loaded s b) Words) (inhabited : list_of s [] n ≡ [] → ⊥)
       (safely : BeginsSafely (reading_by s Dropped pairs) (list_of s [] n)) (passed : is_passed s b n ≡ true) where
     sound : IsSoundWord s n
-    unfolding Holds HoldsAt
-    sound = words.1 n h
+    unfolding IsMet
+    sound = words n h
 
     below : is_class_form (word_of s n) ≡ true → n < b.composition
     unfolding is_passed
-    below form = ltb-true _ _ (below_bound _ (is_non_round_trip (word_of s n)) (is_backward_combining (word_of s n)) (sound.class_form.flagged form) passed)
+    below form = ltb-true _ _ (below_bound _ (is_non_round_trip (word_of s n)) (is_backward_combining (word_of s n)) (sound.flagged form) passed)
 
     not_ordinary : is_class_form (word_of s n) ≡ true → is_ordinary_class_form (word_of s n) ≡ true → ⊥
     not_ordinary form ordinary =
         let class = class_of-form form in
-        let marked = (sound.class_form.ordinary ordinary).0 in
+        let marked = (sound.class.ordinary ordinary).0 in
         list_of-ordinary ordinary (λ l. (l ≡ [] → ⊥) → BeginsSafely (reading_by s Dropped pairs) l → ⊥) (λ some begins. some refl)
         (λ some begins. let starter : class_of s n ≡ 0 = begins.0 in omega arith) inhabited safely
 
@@ -94,7 +96,7 @@ module _ (s : Characters) (n : ℕ) (h : IsScalar n) where
     not_special form special =
         let low : n < 0x0340 = (let bound = below form in omega arith) in
         let none = ap (option_map (λ (f : FixedList). f.class)) (fixed_list_of-low n low) in
-        cc (none, sound.class_form.special special)
+        cc (none, sound.class.special special)
 
     pub no_class_form-passed : has_class_form s n ≡ false
     unfolding has_class_form is_class_form

@@ -8,10 +8,11 @@ use Rattle.normal_forms.specs.Order.{order}
 use Rattle.normalizer_tables.specs.declared.condition.Condition.TheVariants.{Hangul}
 use Rattle.normalizer_tables.specs.declared.step.Step.TheVariants.{Expansion}
 use Rattle.normalizer_tables.specs.Characters.{Characters, as_text, list_of}
-use Rattle.normalizer_tables.specs.Conditions.{Holds}
+use Rattle.normalizer_tables.specs.Conditions.{IsMet}
+use Rattle.normalizer_tables.specs.Loaded.{characters_loaded}
+use Rattle.normalizer_tables.specs.PairConditions.{HasOrderedLists}
 use Rattle.normalizer_tables.specs.Data.{Supplement}
 use Rattle.normalizer_tables.specs.Hangul.{is_hangul_syllable, hangul_decomposition}
-use Rattle.normalizer_tables.specs.PairConditions.{HasOrderedLists}
 use Rattle.normalizer_tables.specs.Pairs.{pair_of, is_vowel_or_trailing_jamo}
 use Rattle.normalizer_tables.specs.declared.condition.Bounds.{Bounds}
 use Rattle.normalizer_tables.specs.Steps.{hangul_mapping, step_by, step_of, step_to}
@@ -58,11 +59,11 @@ pub step_of-hangul : (s : Characters) (t : Supplement) (n a b : ℕ) → is_hang
 unfolding step_of step_by step_to
 step_of-hangul s t n a b syllable h = rw (syllable, h.mapping, h.text)
 
-pub list_of-hangul : (s : Characters) (b : Bounds) → Holds s b Hangul → (n first second : ℕ)
+pub list_of-hangul : (s : Characters) (b : Bounds) → IsMet (characters_loaded s b) Hangul → (n first second : ℕ)
     → IsHangulMapping n first second → list_of s [] n ≡ order (reading_by s Dropped []) (list_of s [] first ++ list_of s [] second)
 list_of-hangul s b hangul n first second h =
     (HasFaithfulResults-reading_of s b hangul [] [] (All-nil (HasOrderedLists s []))).results first second n h.composes ∙ sym (order-own s [] (pair_of []) _)
 
 -- a syllable's list has two members or three
-pub list_of-hangul_apart : (s : Characters) (b : Bounds) → Holds s b Hangul → (n : ℕ) → is_hangul_syllable n ≡ true → list_of s [] n ≢ n ∷ []
+pub list_of-hangul_apart : (s : Characters) (b : Bounds) → IsMet (characters_loaded s b) Hangul → (n : ℕ) → is_hangul_syllable n ≡ true → list_of s [] n ≢ n ∷ []
 list_of-hangul_apart s b hangul n h e = apart-syllable n n (sym (list_of-syllable s (sound_hangul s b hangul) [] n h) ∙ e)

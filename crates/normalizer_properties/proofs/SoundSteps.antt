@@ -8,12 +8,12 @@ use Rattle.normalizer_tables.specs.declared.condition.Condition.TheVariants.{Han
 use Rattle.normalizer_tables.specs.declared.step.Step.{Step}
 use Rattle.normalizer_tables.specs.declared.step.Step.TheVariants.{Default, Singleton, Expansion}
 use Rattle.normalizer_tables.specs.Characters.{Characters, list_of}
-use Rattle.normalizer_tables.specs.Conditions.{Holds, HoldsAt}
+use Rattle.normalizer_tables.specs.Conditions.{IsMet}
+use Rattle.normalizer_tables.specs.Loaded.{characters_loaded, nfd_bounds}
+use Rattle.normalizer_tables.specs.StepConditions.{HasSoundStep, IsInOrder, IsSoundStep}
 use Rattle.normalizer_tables.specs.Data.{Supplement}
 use Rattle.normalizer_tables.specs.Hangul.{is_hangul_syllable}
 use Rattle.normalizer_tables.specs.declared.condition.Bounds.{Bounds}
-use Rattle.normalizer_tables.specs.StepConditions.{HasSoundStep, HoldsOfSteps, IsInOrder, IsSoundStep, StepsHoldAt}
-use Rattle.normalizer_tables.specs.Loaded.{IsMet}
 use Rattle.normalizer_tables.specs.Steps.{step_of}
 use Rattle.normalizer_tables.specs.Readings.{reading_by}
 use Rattle.normalizer_tables.specs.declared.characters.IgnoredCharacters.TheVariants.{Dropped}
@@ -28,10 +28,10 @@ unfolding order insert
 order-one d c = refl
 
 module _ (s : Characters) (t : Supplement) (b : Bounds) where
-  module _ (in_order : Holds s b Order) where
+  module _ (in_order : IsMet (characters_loaded s b) Order) where
     by_kind : (n : ℕ) (is_scalar : Bool) → scalar n ≡ is_scalar → order (reading_by s Dropped []) (list_of s [] n) ≡ list_of s [] n
-    unfolding Holds HoldsAt
-    by_kind n true h = (in_order.1 n h).ordered
+    unfolding IsMet
+    by_kind n true h = (in_order n h).ordered
     by_kind n false h = rw (list_of-default s [] n (list_read-elsewhere s [] n h)) (order-one (reading_by s Dropped []) n)
 
     ordered : (n : ℕ) → order (reading_by s Dropped []) (list_of s [] n) ≡ list_of s [] n
@@ -53,7 +53,7 @@ module _ (s : Characters) (t : Supplement) (b : Bounds) where
     }
 
   -- the step of a Hangul syllable
-  MeansInLists-hangul : Holds s b Hangul → (n a c : ℕ) → is_hangul_syllable n ≡ true → IsHangulMapping n a c → (step : Step) → Some (Expansion a c) ≡ Some step → MeansInLists s n step
+  MeansInLists-hangul : IsMet (characters_loaded s b) Hangul → (n a c : ℕ) → is_hangul_syllable n ≡ true → IsHangulMapping n a c → (step : Step) → Some (Expansion a c) ≡ Some step → MeansInLists s n step
   MeansInLists-hangul hangul n a c syllable h Default e = cc
   MeansInLists-hangul hangul n a c syllable h (Singleton k) e = cc
   MeansInLists-hangul hangul n a c syllable h (Expansion k m) e = record {
@@ -65,16 +65,16 @@ module _ (s : Characters) (t : Supplement) (b : Bounds) where
         list_of-hangul s b hangul n a c h ∙ rw (first, second) refl;
   }
 
-  module _ (hangul : Holds s b Hangul) (in_order : Holds s b Order) (sound : HoldsOfSteps s t Steps) (n : ℕ) (of_character : IsScalar n) where
+  module _ (hangul : IsMet (characters_loaded s b) Hangul) (in_order : IsMet (characters_loaded s b) Order) (sound : (n : ℕ) → HasSoundStep s t n) (n : ℕ) (of_character : IsScalar n) where
     given : (syllable : Bool) → is_hangul_syllable n ≡ syllable → step_of s t n ≢ None
-    unfolding HoldsOfSteps StepsHoldAt HasSoundStep
+    unfolding HasSoundStep
     given true h none =
         let m = has_mapping n h in
         let some = step_of-hangul s t n m.0 m.1 h m.2 in cc
     given false h none = subst (λ o. IsSomeAnd o (IsSoundStep s n)) none (sound n of_character h)
 
     means : (syllable : Bool) → is_hangul_syllable n ≡ syllable → (step : Step) → step_of s t n ≡ Some step → MeansInLists s n step
-    unfolding HoldsOfSteps StepsHoldAt HasSoundStep
+    unfolding HasSoundStep
     means true h step e =
         let m = has_mapping n h in
         MeansInLists-hangul hangul n m.0 m.1 h m.2 step (sym (step_of-hangul s t n m.0 m.1 h m.2) ∙ e)
@@ -83,10 +83,10 @@ module _ (s : Characters) (t : Supplement) (b : Bounds) where
 pub HasSteps-met : (h : StepData) → SuitsSteps h → HasSteps h.0 h.1
 unfolding IsMet
 HasSteps-met h suits =
-    let hangul = (suits 2 Hangul (omega arith)).0 in
-    let in_order = (suits 5 Order (omega arith)).0 in
-    let sound = (suits 7 Steps (omega arith)).2 in
+    let hangul = suits 2 Hangul (omega arith) in
+    let in_order = suits 5 Order (omega arith) in
+    let sound = suits 7 Steps (omega arith) in
     record {
-      given = λ n of_character. given h.0 h.1 _ hangul in_order sound n of_character (is_hangul_syllable n) refl;
-      means = λ n of_character step e. means h.0 h.1 _ hangul in_order sound n of_character (is_hangul_syllable n) refl step e;
+      given = λ n of_character. given h.0 h.1 nfd_bounds hangul in_order sound n of_character (is_hangul_syllable n) refl;
+      means = λ n of_character step e. means h.0 h.1 nfd_bounds hangul in_order sound n of_character (is_hangul_syllable n) refl step e;
     }

@@ -4,10 +4,10 @@ use Rattle.normalizer_tables.specs.declared.provider.DataError.{DataError}
 use Rattle.normalizer_tables.specs.declared.provider.DataMarkerInfo.{DataMarkerInfo}
 use Rattle.normalizer_tables.specs.declared.provider.DataMarkerInfo.TheVariants as marker
 use Rattle.normalizer_tables.specs.AcceptedData.{step_conditions}
+use Rattle.normalizer_tables.specs.Conditions.{IsMet}
+use Rattle.normalizer_tables.specs.Loaded.{Loaded, nfd_bounds}
 use Rattle.normalizer_tables.specs.Characters.{Characters, characters_from}
 use Rattle.normalizer_tables.specs.Data.{Decompositions, Lists, Supplement}
-use Rattle.normalizer_tables.specs.Loaded.{IsMet, Loaded}
-use Rattle.normalizer_tables.specs.NfdData.{nfd_bounds}
 use Rattle.normalizer_tables.specs.Refusals.{RefusesFirstFailing}
 
 -- canonical data and the supplement

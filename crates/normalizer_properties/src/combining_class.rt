@@ -3,15 +3,19 @@ ghost use Rattle.std.specs.Prelude.{◌≡◌, IfErr, IfOk};
 ghost use Rattle.normalizer_tables.specs.Held.{held_or, AnswersHeld};
 ghost use Rattle.normalizer_properties.specs.ClassData.{
   combining_class,
+  HasNoClassesElsewhere,
   RefusesClasses,
   SuitsClasses,
 };
 
-use normalizer_tables::class_check::first_failing_of_classes;
-use normalizer_tables::refusal::refusal_of;
+use normalizer_tables::characters::CharacterData;
+use normalizer_tables::check::check;
+use normalizer_tables::condition::{CLASSES, GREATEST_BOUNDS};
+use normalizer_tables::loaded::LoadedData;
 use normalizer_tables::word::class_of_word;
 use normalizer_tables::{
-    DataError, DataMarkerInfo, DataProvider, DecompositionData, NormalizerNfdDataV1,
+    DataError, DataMarkerInfo, DataProvider, DecompositionData, DecompositionTables,
+    NormalizerNfdDataV1,
 };
 
 /// A canonical combining class: 0 for starters, else 1 to 254.
@@ -34,7 +38,7 @@ impl CanonicalCombiningClass {
 #[derive(Drop)]
 pub struct CanonicalCombiningClassMap {
     decompositions: DecompositionData,
-    ghost suits: { SuitsClasses decompositions },
+    ghost classes: { HasNoClassesElsewhere decompositions },
 }
 
 impl CanonicalCombiningClassMap {
@@ -68,10 +72,12 @@ impl CanonicalCombiningClassMap {
         ensures ok { IfOk result (λ m. (classes_of m ≡ decompositions) × SuitsClasses decompositions) }
         ensures err { IfErr result (RefusesClasses marker decompositions) }
     {
-        match first_failing_of_classes(&decompositions) {
-            Some(condition) => Err(refusal_of(marker, condition)),
-            None => Ok(CanonicalCombiningClassMap { decompositions }),
-        }
+        // Classes depend on no table of lists.
+        let tables = DecompositionTables::empty(decompositions.table.allocator());
+        let characters = CharacterData::new(&decompositions, &tables, None, false);
+        let loaded = LoadedData::new(characters, GREATEST_BOUNDS, None, None);
+        check(&loaded, marker, &CLASSES)?;
+        Ok(CanonicalCombiningClassMap { decompositions })
     }
 
     /// Returns the map that borrows this one's data.
@@ -88,7 +94,7 @@ impl CanonicalCombiningClassMap {
 #[derive(Clone, Copy)]
 pub struct CanonicalCombiningClassMapBorrowed<'a> {
     decompositions: &'a DecompositionData,
-    ghost suits: { SuitsClasses decompositions.now },
+    ghost classes: { HasNoClassesElsewhere decompositions.now },
 }
 
 impl<'a> CanonicalCombiningClassMapBorrowed<'a> {

@@ -12,10 +12,9 @@ ghost use Rattle.normalizer_properties.specs.StepData.{
 ghost use Rattle.normalizer_properties.specs.StepMeaning.{HasSteps, MeansInLists};
 
 use normalizer_tables::characters::CharacterData;
-use normalizer_tables::check::first_failing;
+use normalizer_tables::check::check;
 use normalizer_tables::condition::{GREATEST_BOUNDS, STEPPING};
 use normalizer_tables::loaded::LoadedData;
-use normalizer_tables::refusal::refusal_of;
 use normalizer_tables::step::{Step as Decomposed, step_of};
 use normalizer_tables::{
     DataError, DataMarkerInfo, DataProvider, DecompositionData, DecompositionTables,
@@ -78,14 +77,12 @@ impl CanonicalDecomposition {
         let characters = CharacterData::new(&decompositions, &tables, None, false);
         // No condition that is checked here depends on the bounds.
         let loaded = LoadedData::new(characters, GREATEST_BOUNDS, None, Some(&supplement));
-        match first_failing(&loaded, &STEPPING) {
-            Some(condition) => Err(refusal_of(marker, condition)),
-            None => Ok(CanonicalDecomposition {
-                decompositions,
-                tables,
-                supplement,
-            }),
-        }
+        check(&loaded, marker, &STEPPING)?;
+        Ok(CanonicalDecomposition {
+            decompositions,
+            tables,
+            supplement,
+        })
     }
 
     /// Returns the same over borrowed data.

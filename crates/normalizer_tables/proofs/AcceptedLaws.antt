@@ -10,13 +10,13 @@ use Rattle.normal_forms.specs.declared.Form.TheVariants.{Decomposing, Composing}
 use Rattle.normal_forms.specs.Hypotheses.{HasFullLists, HasStarterResults, HasFaithfulResults, HasInhabitedLists, HasTextLists, HasScalarResults, SuitsForm}
 use Rattle.normal_forms.proofs.OrderLemmas.{length-order}
 use Rattle.normalizer_tables.specs.declared.condition.Condition.TheVariants as condition
-use Rattle.normalizer_tables.specs.AcceptedData.{IsAccepted, AreAcceptedPairs, SuitsMapper, SuitsTexts, pair_conditions}
+use Rattle.normalizer_tables.specs.AcceptedData.{AreAcceptedPairs, IsAccepted, pair_conditions, SuitsMapper, SuitsTexts}
+use Rattle.normalizer_tables.specs.Conditions.{IsMet}
+use Rattle.normalizer_tables.specs.Loaded.{pairs_loaded}
 use Rattle.normalizer_tables.specs.Characters.{Characters, characters_from}
 use Rattle.normalizer_tables.specs.Data.{Decompositions, Lists}
 use Rattle.normalizer_tables.specs.Ignored.{IgnoredCharacters, Dropped, ignored_list}
-use Rattle.normalizer_tables.specs.Loaded.{IsMet}
 use Rattle.normalizer_tables.specs.NfdData.{IsSoundNfdData, nfd_bounds}
-use Rattle.normalizer_tables.specs.PairConditions.{HoldsOfPairs}
 use Rattle.normalizer_tables.specs.Pairs.{Pair, pair_of}
 use Rattle.normalizer_tables.specs.SoundData.{Bounds, IsSoundData}
 use Rattle.normalizer_tables.specs.Readings.{reading_by, reading_of}
@@ -39,12 +39,11 @@ IsSoundData-accepted s b accepted = record {
 }
 
 pub IsSoundData-handed_in : (decompositions : Decompositions) (tables : Lists) → IsSoundNfdData decompositions tables → IsSoundData (characters_from decompositions tables None) nfd_bounds
-unfolding IsMet
 IsSoundData-handed_in decompositions tables accepted = record {
-  replacement = (accepted 1 condition.ReplacementCharacter (omega arith)).0;
-  words = (accepted 5 condition.Words (omega arith)).0;
-  members = (accepted 6 condition.Members (omega arith)).0;
-  order = (accepted 7 condition.Order (omega arith)).0;
+  replacement = accepted 1 condition.ReplacementCharacter (omega arith);
+  words = accepted 5 condition.Words (omega arith);
+  members = accepted 6 condition.Members (omega arith);
+  order = accepted 7 condition.Order (omega arith);
 }
 
 HasTextLists-sound : (s : Characters) (b : Bounds) → IsSoundData s b → (i : IgnoredCharacters) (pairing : ℕ → ℕ → Option ℕ) → HasTextLists (reading_of s (ignored_list i) pairing)
@@ -111,7 +110,7 @@ module _ (s : Characters) (b : Bounds) (pairs : List Pair) (accepted : IsAccepte
   module _ (plain : s.is_mapper ≡ false) (accepted_pairs : AreAcceptedPairs s b pairs) where
     faithful-accepted : HasFaithfulResults (reading_by s Dropped pairs)
     faithful-accepted =
-        let all : All (HoldsOfPairs s b pairs) (pair_conditions false) = subst (λ m. All (HoldsOfPairs s b pairs) (pair_conditions m)) plain accepted_pairs in
+        let all : All (IsMet (pairs_loaded s b pairs)) (pair_conditions false) = subst (λ m. All (IsMet (pairs_loaded s b pairs)) (pair_conditions m)) plain accepted_pairs in
         HasFaithfulResults-condition s b (accepted 5 condition.Hangul (omega arith)) pairs (all 3 condition.Results (omega arith))
 
     suits : (form : Form) → HasFullLists (reading_by s Dropped pairs) → SuitsForm (reading_by s Dropped pairs) form

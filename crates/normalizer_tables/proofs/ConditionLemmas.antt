@@ -1,5 +1,5 @@
 -- What the parts of the conditions say.
-use Rattle.std.proofs.Common.{◌≡◌, ◌≢◌, ℕ, Bool, true, false, ◌==◌, [], ◌∷◌, All, Some, true≢false, bit_and, refl, ap, sym, ◌∙◌, subst, arith}
+use Rattle.std.proofs.Common.{◌≡◌, ◌≢◌, ◌≤◌, ◌⊎◌, ℕ, Bool, true, false, ◌==◌, [], ◌∷◌, All, Some, true≢false, bit_and, ap, sym, ◌∙◌, subst, arith}
 use Rattle.std.specs.Char.{IsScalar}
 use lib.Utf8.{scalar}
 use Rattle.std.proofs.Math.Bool.{and-false}
@@ -10,22 +10,23 @@ use Rattle.std.proofs.lemmas.Nat.{and_assoc}
 use Rattle.normal_forms.specs.Order.{order, insert}
 use Rattle.normalizer_tables.specs.declared.word.WordReading.TheVariants.{Itself}
 use Rattle.normalizer_tables.specs.declared.condition.Bounds.{Bounds}
-use Rattle.normalizer_tables.specs.declared.condition.Condition.{Condition}
-use Rattle.normalizer_tables.specs.declared.condition.Condition.TheVariants.{Surrogates, PastTheEnd, Hangul, Words, Members, Order, Passthrough, SurrogateClasses, WordClasses}
-use Rattle.normalizer_tables.specs.ClassConditions.{HoldsOfClasses, class_conditions}
+use Rattle.normalizer_tables.specs.declared.condition.Condition.TheVariants.{Surrogates, PastTheEnd, Words, SurrogateClasses, WordClasses}
+use Rattle.normalizer_tables.specs.AcceptedData.{class_conditions}
+use Rattle.normalizer_tables.specs.CharacterConditions.{is_composing_jamo, is_surrogate, IsOrderedList, IsSoundClass, IsSoundWord, KeepsPromise, ReadsToItself}
+use Rattle.normalizer_tables.specs.Conditions.{IsMet}
+use Rattle.normalizer_tables.specs.Loaded.{characters_loaded, classes_loaded}
+use Rattle.normalizer_tables.specs.StepConditions.{HasSoundStep, IsSoundStep}
 use Rattle.normalizer_tables.specs.Data.{Supplement}
-use Rattle.normalizer_tables.specs.StepConditions.{IsSoundStep, HasSoundStep}
+use Rattle.normalizer_tables.specs.Table.{code_points}
 use Rattle.normalizer_tables.specs.Steps.{step_of, step_of_reading}
 use Rattle.normalizer_tables.specs.Hangul.{is_hangul_syllable}
 use Rattle.normalizer_tables.specs.Words.{ignored_marker, is_plain, is_class_form, is_ordinary_class_form, is_special_class_form, class_of_word, read}
 use Rattle.normalizer_tables.specs.Characters.{Characters, word_of, reading_of_word, named_list, list_read, list_of, class_of}
-use Rattle.normalizer_tables.specs.Conditions.{ReadsToItself, IsPlainStarter, IsSoundHangul, IsSoundClassForm, IsSoundWord, IsOrderedList, KeepsPromise, Holds, HoldsAt}
-use Rattle.normalizer_tables.specs.Conditions.{HoldsOverall, is_surrogate, is_composing_jamo}
 use Rattle.normalizer_tables.proofs.CharacterLemmas.{list_read-scalar, list_of-reads, class_of-scalar}
 
-pub IsSoundClassForm-none : (n w : ℕ) → is_class_form w ≡ false → IsSoundClassForm n w
+pub IsSoundClass-none : (n w : ℕ) → is_class_form w ≡ false → IsSoundClass n w
 unfolding is_class_form
-IsSoundClassForm-none n w e = (let none = or_parts _ _ e in record { ordinary = λ h. cc; special = λ h. absurd (true≢false (sym h ∙ none.1)); flagged = λ h. absurd (true≢false (sym h ∙ e)) })
+IsSoundClass-none n w e = (let none = or_parts _ _ e in record { ordinary = λ h. cc; special = λ h. absurd (true≢false (sym h ∙ none.1)) })
 
 -- a word has but one of the class forms
 pub one_class_form : (w : ℕ) → is_ordinary_class_form w ≡ true → is_special_class_form w ≡ true → ⊥
@@ -44,6 +45,10 @@ read-plain n w is_mapper h =
     let unmarked : (w == ignored_marker) ≡ false = grind (arith, nat_tests) in
     rw (unmarked, and-false, h)
 
+pub reading-plain : (s : Characters) (n : ℕ) → is_plain (word_of s n) ≡ true → reading_of_word s n ≡ Itself
+unfolding reading_of_word
+reading-plain s n plain = read-plain n (word_of s n) s.is_mapper plain
+
 pub plain-no_class_form : (w : ℕ) → is_plain w ≡ true → is_class_form w ≡ false
 unfolding is_plain is_class_form is_ordinary_class_form is_special_class_form
 plain-no_class_form w h =
@@ -59,10 +64,11 @@ pub class_of-plain : (s : Characters) (n : ℕ) → scalar n ≡ true → is_pla
 unfolding class_of_word
 class_of-plain s n h plain = class_of-scalar s n h ∙ rw (plain-no_class_form (word_of s n) plain)
 
-IsSoundWord-plain : (s : Characters) (n : ℕ) → scalar n ≡ true → is_plain (word_of s n) ≡ true → IsSoundWord s n
+pub IsSoundWord-plain : (s : Characters) (n : ℕ) → scalar n ≡ true → is_plain (word_of s n) ≡ true → IsSoundWord s n
 IsSoundWord-plain s n h plain = record {
   reads = rw (list_read-plain s n h plain);
-  class_form = IsSoundClassForm-none n (word_of s n) (plain-no_class_form (word_of s n) plain);
+  class = IsSoundClass-none n (word_of s n) (plain-no_class_form (word_of s n) plain);
+  flagged = λ form. absurd (true≢false (sym form ∙ plain-no_class_form (word_of s n) plain));
   marker = λ q. plain-unmarked (word_of s n) plain;
 }
 
@@ -71,7 +77,7 @@ pub itself_reads_in_full : (s : Characters) (n : ℕ) → ReadsToItself s n → 
 unfolding ReadsToItself
 itself_reads_in_full s n itself = rw (list_of-reads s [] n (n ∷ []) itself) (All-cons (ReadsToItself s) n [] itself (All-nil (ReadsToItself s)))
 
-IsOrderedList-plain : (s : Characters) (n : ℕ) → scalar n ≡ true → is_plain (word_of s n) ≡ true → IsOrderedList s n
+pub IsOrderedList-plain : (s : Characters) (n : ℕ) → scalar n ≡ true → is_plain (word_of s n) ≡ true → IsOrderedList s n
 unfolding KeepsPromise reading_of_word order insert
 IsOrderedList-plain s n h plain =
     let itself : list_of s [] n ≡ n ∷ [] = list_of-reads s [] n (n ∷ []) (list_read-plain s n h plain) in
@@ -81,23 +87,7 @@ IsOrderedList-plain s n h plain =
       promise = rw (read-plain n (word_of s n) s.is_mapper plain) tt;
     }
 
-pub no_surrogate : (n : ℕ) → scalar n ≡ true → is_surrogate n ≡ true → ⊥
-unfolding is_surrogate
-no_surrogate n h k = grind (arith, nat_tests)
-
--- a number that no character has, or that has a plain word, breaks no condition but those on surrogates and on Hangul
-pub HoldsAt-quiet : (s : Characters) (b : Bounds) (c : Condition) (n : ℕ) → (IsScalar n → is_plain (word_of s n) ≡ true) → (c ≡ Surrogates → is_surrogate n ≡ true → word_of s n ≡ 0xC000FFFD) →
-    (c ≡ Hangul → IsSoundHangul s n) → HoldsAt s b c n
-unfolding HoldsAt ReadsToItself IsPlainStarter
-HoldsAt-quiet s b Surrogates n plain surrogate hangul = surrogate refl
-HoldsAt-quiet s b Hangul n plain surrogate hangul = hangul refl
-HoldsAt-quiet s b Words n plain surrogate hangul = λ h. IsSoundWord-plain s n h (plain h)
-HoldsAt-quiet s b Members n plain surrogate hangul = λ h. itself_reads_in_full s n (list_read-plain s n h (plain h))
-HoldsAt-quiet s b Order n plain surrogate hangul = λ h. IsOrderedList-plain s n h (plain h)
-HoldsAt-quiet s b Passthrough n plain surrogate hangul = λ h below. (list_read-plain s n h (plain h), class_of-plain s n h (plain h))
-HoldsAt-quiet s b _ n plain surrogate hangul = tt
-
--- nor the one on steps: a character with a plain word has no mapping
+-- a character with a plain word has no mapping
 pub HasSoundStep-plain : (s : Characters) (t : Supplement) (n : ℕ) → (IsScalar n → is_plain (word_of s n) ≡ true) → HasSoundStep s t n
 unfolding HasSoundStep IsSoundStep step_of step_of_reading reading_of_word
 HasSoundStep-plain s t n plain h other = rw (other, read-plain n (word_of s n) s.is_mapper (plain h)) (list_of-reads s [] n (n ∷ []) (list_read-plain s n h (plain h)))
@@ -107,6 +97,11 @@ pub HasSoundStep-hangul : (s : Characters) (t : Supplement) (n : ℕ) → is_han
 unfolding HasSoundStep
 HasSoundStep-hangul s t n hangul h other = cc
 
+-- a number that no character has is a surrogate, or lies past the code points
+pub no_scalar : (n : ℕ) → scalar n ≡ false → (is_surrogate n ≡ true) ⊎ (code_points ≤ n)
+unfolding is_surrogate code_points
+no_scalar n h = grind (arith, nat_tests)
+
 pub syllable-scalar : (n : ℕ) → is_hangul_syllable n ≡ true → scalar n ≡ true
 unfolding is_hangul_syllable
 syllable-scalar n h = grind (arith, nat_tests)
@@ -115,15 +110,14 @@ pub jamo_scalar : (n : ℕ) → is_composing_jamo n ≡ true → scalar n ≡ tr
 unfolding is_composing_jamo
 jamo_scalar n h = grind (arith, nat_tests)
 
-pub IsSoundHangul-elsewhere : (s : Characters) (n : ℕ) → (IsScalar n → ⊥) → IsSoundHangul s n
-unfolding is_composing_jamo
-IsSoundHangul-elsewhere s n h = record { syllable = λ q. absurd (h (syllable-scalar n q)); jamo = λ q. absurd (h (grind (arith, nat_tests))) }
-
 -- what is required for classes alone is part of what is required of whole data
-pub class_conditions-met : (s : Characters) (b : Bounds) → Holds s b Surrogates → Holds s b PastTheEnd → Holds s b Words →
-    All (HoldsOfClasses s.decompositions.table) class_conditions
-unfolding HoldsOfClasses Holds HoldsAt HoldsOverall word_of is_class_form is_ordinary_class_form is_special_class_form
+pub class_conditions-met : (s : Characters) (b : Bounds) → IsMet (characters_loaded s b) Surrogates → IsMet (characters_loaded s b) PastTheEnd →
+    IsMet (characters_loaded s b) Words → All (IsMet (classes_loaded s.decompositions)) class_conditions
+unfolding IsMet word_of is_class_form is_ordinary_class_form is_special_class_form
 class_conditions-met s b surrogates past words =
-    let P = HoldsOfClasses s.decompositions.table in
-    All-cons P SurrogateClasses (PastTheEnd ∷ WordClasses ∷ []) (λ n is. ap is_class_form (surrogates.1 n is)) (All-cons P PastTheEnd (WordClasses ∷ []) past.0
-    (All-cons P WordClasses [] (λ n is. (let form = (words.1 n is).class_form in record { ordinary = form.ordinary; special = form.special })) (All-nil P)))
+    let P = IsMet (classes_loaded s.decompositions) in
+    All-cons P SurrogateClasses (PastTheEnd ∷ WordClasses ∷ []) (λ n is. ap is_class_form (surrogates n is))
+    (All-cons P PastTheEnd (WordClasses ∷ []) past (All-cons P WordClasses [] (λ n is. (words n is).class) (All-nil P)))
+
+-- what a word that is 0, flags aside, says of its character
+pub ruleset plain_words = (read-plain, list_read-plain)

@@ -8,18 +8,19 @@ use Rattle.std.proofs.lemmas.List.{get_or-take, take-append-drop}
 use Rattle.std.proofs.lemmas.List.Elements.{All-contains}
 use Rattle.std.proofs.lemmas.List.Folds.{list_any_at}
 use Rattle.std.proofs.lemmas.Option.{slice_get_within, slice_get-get_or, slice_get_cases, slice_get_past, slice_get_read, get_or_from_slice_get}
+use Rattle.std.specs.Char.{IsScalar}
 use Rattle.normalizer_tables.specs.declared.condition.Condition.{Condition}
-use Rattle.normalizer_tables.specs.Loaded.{Loaded, IsMet, IsMetAt}
 use Rattle.normalizer_tables.specs.declared.condition.Condition.TheVariants.{Hangul}
-use Rattle.normalizer_tables.specs.Conditions.{IsFirstFailing, IsPlaceOfFirstFailing, IsSoundHangul}
-use Rattle.normalizer_tables.specs.inner.Walk.{IsMetApart, IsMetApartAt, is_asked_of_words}
+use Rattle.normalizer_tables.specs.CharacterConditions.{IsSoundHangul}
+use Rattle.normalizer_tables.specs.Conditions.{IsFirstFailing, IsMet, IsPlaceOfFirstFailing}
+use Rattle.normalizer_tables.specs.Loaded.{Loaded}
+use Rattle.normalizer_tables.specs.inner.Walk.{is_asked_of_words, IsMetApart, IsMetAt}
 use Rattle.normalizer_tables.proofs.ListedLemmas.{drop_member}
-use Rattle.normalizer_tables.proofs.LoadedLemmas.{IsMet-at, IsMet-everywhere}
-use Rattle.normalizer_tables.proofs.WalkLemmas.{IsMetAt-apart}
+use Rattle.normalizer_tables.proofs.LoadedLemmas.{IsMet-parts, IsMetAt-unasked}
 
--- what is checked apart is met, and what is checked of the numbers below `number`
+-- what is checked apart is met, and what is checked of the characters below `number`
 abbrev pub IsMetBelow : Loaded → ℕ → Condition → Type 0
-IsMetBelow loaded number c = IsMetApart loaded c × ((n : ℕ) → n < number → IsMetAt loaded c n)
+IsMetBelow loaded number c = IsMetApart loaded c × ((n : ℕ) → n < number → IsScalar n → IsMetAt loaded c n)
 
 -- so much is met of the conditions before this place, and the condition at it fails
 pub record FailsFirst (loaded : Loaded) (conditions : List Condition) (number place : ℕ) : Type 0 where
@@ -34,8 +35,8 @@ slice_get-take conditions n k c h e =
 
 -- checking a number suffices for those from `from` on and below `next`, by the first condition that fails for it
 pub FailsFirst-step : (loaded : Loaded) (conditions : List Condition) (from number next place nearer : ℕ) → FailsFirst loaded conditions from place →
-    ((c : Condition) → IsMetApart loaded c → IsMetAt loaded c number → (n : ℕ) → from ≤ n → n < next → IsMetAt loaded c n) →
-    IsPlaceOfFirstFailing (λ c. IsMetAt loaded c number) (take place conditions) nearer → FailsFirst loaded conditions next nearer
+    ((c : Condition) → IsMetApart loaded c → (IsScalar number → IsMetAt loaded c number) → (n : ℕ) → from ≤ n → n < next → IsScalar n → IsMetAt loaded c n) →
+    IsPlaceOfFirstFailing (λ c. IsScalar number → IsMetAt loaded c number) (take place conditions) nearer → FailsFirst loaded conditions next nearer
 FailsFirst-step loaded conditions from number next place nearer old settles new =
     let short : nearer ≤ min place (length conditions) = simp length-take at new.within in
     record {
@@ -45,11 +46,11 @@ FailsFirst-step loaded conditions from number next place nearer old settles new 
             met.0,
             λ n nh. elim (cases_lt n from) [
               | inl less ↦ met.1 n less
-              | inr behind ↦ settles (slice_index_or conditions k d) met.0 (subst (λ c. IsMetAt loaded c number) (get_or-take place conditions k d (omega arith)) (new.before k d low h)) n behind nh
+              | inr behind ↦ settles (slice_index_or conditions k d) met.0 (subst (λ c. IsScalar number → IsMetAt loaded c number) (get_or-take place conditions k d (omega arith)) (new.before k d low h)) n behind nh
             ],
           ));
       fails = λ c e q. elim (cases_lt nearer place) [
-        | inl less ↦ new.fails c (slice_get-take conditions place nearer c less e) (IsMet-at loaded c number q)
+        | inl less ↦ new.fails c (slice_get-take conditions place nearer c less e) (((IsMet-parts loaded c).0 q).1 number)
         | inr past ↦ old.fails c (let same : nearer ≡ place = omega arith in rw same at e) q
       ];
     }
@@ -62,8 +63,8 @@ All-front P conditions place h k d kh =
 -- if Hangul is among the conditions that are met apart, it is sound
 pub has_sound_hangul : (loaded : Loaded) (conditions : List Condition) (place : ℕ) → IsPlaceOfFirstFailing (IsMetApart loaded) conditions place →
     Contains (take place conditions) Hangul → (n : ℕ) → IsSoundHangul loaded.characters n
-unfolding IsMetApart IsMetApartAt
-has_sound_hangul loaded conditions place h asked = (All-contains (IsMetApart loaded) (take place conditions) Hangul (All-front (IsMetApart loaded) conditions place h.before) asked).1
+unfolding IsMetApart IsMet
+has_sound_hangul loaded conditions place h asked = All-contains (IsMetApart loaded) (take place conditions) Hangul (All-front (IsMetApart loaded) conditions place h.before) asked
 
 -- if these are all numbers, it is the first that fails
 pub FailsFirst-all : (loaded : Loaded) (conditions : List Condition) (number place : ℕ) (r : Option Condition) → FailsFirst loaded conditions number place →
@@ -83,12 +84,11 @@ FailsFirst-all loaded conditions number place (Some c) h all e = (
 -- no condition before the place depends on words
 pub unasked : (loaded : Loaded) (conditions : List Condition) (number place : ℕ) → place ≤ length conditions → list_any is_asked_of_words (take place conditions) ≡ false →
     AllWithin (λ c. IsMetBelow loaded number c → IsMet loaded c) conditions 0 place
-unfolding IsMetApart
 unasked loaded conditions number place within none k d low h met =
     let c = slice_index_or conditions k d in
     let other : is_asked_of_words c ≡ false = false_from_ne_true _ (λ asked.
     (let some = list_any_at is_asked_of_words (take place conditions) k d (simp length-take (omega arith)) (ap is_asked_of_words (get_or-take place conditions k d h) ∙ asked) in cc)) in
-    IsMet-everywhere loaded c met.0.0 (IsMetAt-apart loaded c other met.0)
+    (IsMet-parts loaded c).1 (met.0, λ n is. IsMetAt-unasked loaded c other n)
 
 -- the result of `get` and `copied` on a slice
 pub copied_slice_get : (conditions : List Condition) (place : ℕ) (o : Option (Bor Condition)) → IfSome o (λ x. x.now ≡ get_or conditions place x.now) →

@@ -1,38 +1,87 @@
--- What the conditions say of all that was loaded, part by part.
-use Rattle.std.proofs.Common.{◌≡◌, ℕ, ◌≤◌, inl, inr, true, ◌+◌, List, ◌++◌, length, All, Option, Some, None, IfSome, refl, subst, arith}
+-- What the conditions say of all that was loaded: apart from the walk over words, and of each character.
+use Rattle.std.proofs.Common.{◌≡◌, ◌↔◌, ℕ, ◌+◌, inl, inr, true, false, List, ◌++◌, length, All, Option, Some, None, IfSome, subst, true≢false, arith}
 use Rattle.std.specs.Char.{IsScalar}
-use Rattle.std.proofs.lemmas.Bool.{cases_lt}
+use lib.Utf8.{scalar}
+use Rattle.std.proofs.lemmas.Bool.{cases_Bool}
 use Rattle.std.proofs.lemmas.List.{get_or_append_left, get_or-append-add, length-append}
-use Rattle.normalizer_tables.specs.declared.condition.Condition.{Condition}
-use Rattle.normalizer_tables.specs.declared.condition.Condition.TheVariants.{Surrogates, Hangul, RoundTrip, SafeBeginning, FdfaForms, Steps}
-use Rattle.normalizer_tables.specs.AcceptedData.{AreAcceptedPairs, IsAccepted, composing_conditions, decomposing_conditions, pair_conditions}
-use Rattle.normalizer_tables.specs.Characters.{Characters, word_of}
-use Rattle.normalizer_tables.specs.Conditions.{Holds, IsSoundHangul, is_surrogate}
-use Rattle.normalizer_tables.specs.Data.{Supplement}
-use Rattle.normalizer_tables.specs.Loaded.{Loaded, IsMet, IsMetAt, IsMetOverall, bounds_of_cap, characters_alone, characters_and_pairs}
-use Rattle.normalizer_tables.specs.PairConditions.{HoldsOfPairs, KeepsBeginning, KeepsRoundTrip, PairsHoldAt}
-use Rattle.normalizer_tables.specs.Pairs.{Pair}
-use Rattle.normalizer_tables.specs.Ranges.{IsComplete}
-use Rattle.normalizer_tables.specs.StepConditions.{AvoidsFdfa, HoldsOfSteps, StepsHoldAt}
-use Rattle.normalizer_tables.specs.Words.{is_plain}
-use Rattle.normalizer_tables.proofs.ConditionLemmas.{HasSoundStep-plain, HoldsAt-quiet, IsSoundHangul-elsewhere}
-use Rattle.normalizer_tables.proofs.PairConditionLemmas.{KeepsRoundTrip-plain, scalar_below}
-use Rattle.std.proofs.lemmas.Bool.Decides.{nat_tests}
 use Rattle.std.proofs.lemmas.Option.{IfSome_then}
-use Rattle.normalizer_tables.proofs.FdfaWords.{AvoidsFdfa-all}
+use Rattle.normalizer_tables.specs.declared.condition.Condition.{Condition}
+use Rattle.normalizer_tables.specs.declared.condition.Condition.TheVariants.{Words, Members, Order, Passthrough, Pairs, RoundTrip, SafeBeginning, Results, FdfaForms, Steps, WordClasses, PairOrder}
+use Rattle.normalizer_tables.specs.AcceptedData.{AreAcceptedPairs, composing_conditions, decomposing_conditions, IsAccepted, pair_conditions}
+use Rattle.normalizer_tables.specs.Characters.{Characters}
+use Rattle.normalizer_tables.specs.Conditions.{IsMet}
+use Rattle.normalizer_tables.specs.inner.Walk.{IsMetApart, IsMetAt, KeepsPlainBeginning, is_asked_of_words}
+use Rattle.normalizer_tables.specs.Loaded.{bounds_of_cap, characters_and_pairs, characters_loaded, Loaded}
+use Rattle.normalizer_tables.specs.PairConditions.{KeepsBeginning, KeepsRoundTrip}
+use Rattle.normalizer_tables.specs.Pairs.{Pair}
+use Rattle.normalizer_tables.specs.StepConditions.{HasSoundStep}
 
-pub IsMet-overall : (d : Loaded) (c : Condition) → IsMet d c → IsMetOverall d c
-unfolding IsMet IsMetOverall Holds HoldsOfPairs
-IsMet-overall d c h = (h.0.0, IfSome_then d.pairs h.1 (λ pairs k. k.0))
+pub IfSome-all : {A : Type 0} (P : A → Type 0) → ((a : A) → P a) → (o : Option A) → IfSome o P
+IfSome-all P f None = tt
+IfSome-all P f (Some a) = f a
 
-pub IsMet-at : (d : Loaded) (c : Condition) (n : ℕ) → IsMet d c → IsMetAt d c n
-unfolding IsMet IsMetAt Holds HoldsOfPairs HoldsOfSteps
-IsMet-at d c n h = (h.0.1 n, IfSome_then d.pairs h.1 (λ pairs k. k.1 n), IfSome_then d.supplement h.2 (λ t k. k n))
+-- what each character keeps is kept by all numbers, if nothing is said of others
+IfSome-each : {A : Type 0} (Q : A → ℕ → Type 0) (o : Option A) → ((n : ℕ) → IsScalar n → IfSome o (λ a. Q a n)) → ((a : A) (n : ℕ) → (IsScalar n → Q a n) → Q a n) →
+    IfSome o (λ a. (n : ℕ) → Q a n)
+IfSome-each Q None each of_characters = tt
+IfSome-each Q (Some a) each of_characters = λ n. of_characters a n (λ is. each n is)
 
--- what is met by all that was loaded is met part by part
-pub IsAccepted-met : (s : Characters) → All (IsMet (characters_alone s)) decomposing_conditions → IsAccepted s (bounds_of_cap s.decompositions.cap)
+-- a condition is met exactly if what is checked apart is met, and what is checked of each character
+pub IsMet-parts : (d : Loaded) (c : Condition) → IsMet d c ↔ (IsMetApart d c × ((n : ℕ) → IsScalar n → IsMetAt d c n))
+unfolding IsMet IsMetApart IsMetAt KeepsPlainBeginning KeepsRoundTrip KeepsBeginning HasSoundStep
+IsMet-parts d Words = (λ met. (tt, met), λ parts. parts.1)
+IsMet-parts d Members = (λ met. (tt, met), λ parts. parts.1)
+IsMet-parts d Order = (λ met. (tt, met), λ parts. parts.1)
+IsMet-parts d Passthrough = (λ met. (tt, met), λ parts. parts.1)
+IsMet-parts d RoundTrip = (
+  λ met. (tt, λ n is. IfSome_then d.pairs met (λ pairs keeps. keeps n)),
+  λ parts. IfSome-each (λ pairs n. KeepsRoundTrip d.characters d.bounds pairs n) d.pairs parts.1 (λ pairs n keeps is. keeps is is),
+)
+IsMet-parts d SafeBeginning = (
+  λ met. (IfSome_then d.pairs met (λ pairs keeps n plain. keeps n), λ n is. IfSome_then d.pairs met (λ pairs keeps. keeps n)),
+  λ parts. IfSome-each (λ pairs n. KeepsBeginning d.characters d.bounds pairs n) d.pairs parts.1 (λ pairs n keeps is. keeps is is),
+)
+IsMet-parts d FdfaForms = (
+  λ met. (λ n other. met n, λ n is. met n),
+  λ parts n. elim (cases_Bool (scalar n)) [ inl is ↦ parts.1 n is | inr other ↦ parts.0 n (λ is. cc) ],
+)
+IsMet-parts d Steps = (
+  λ met. (tt, λ n is. IfSome_then d.supplement met (λ t sound. sound n)),
+  λ parts. IfSome-each (λ t n. HasSoundStep d.characters t n) d.supplement parts.1 (λ t n sound is. sound is is),
+)
+IsMet-parts d WordClasses = (λ met. (tt, met), λ parts. parts.1)
+IsMet-parts d _ = (λ met. (met, λ n is. tt), λ parts. parts.0)
+
+-- a condition that says something of no character is met by each
+pub IsMetAt-unasked : (d : Loaded) (c : Condition) → is_asked_of_words c ≡ false → (n : ℕ) → IsMetAt d c n
+unfolding is_asked_of_words IsMetAt
+IsMetAt-unasked d Words e n = absurd (true≢false e)
+IsMetAt-unasked d Members e n = absurd (true≢false e)
+IsMetAt-unasked d Order e n = absurd (true≢false e)
+IsMetAt-unasked d Passthrough e n = absurd (true≢false e)
+IsMetAt-unasked d RoundTrip e n = absurd (true≢false e)
+IsMetAt-unasked d SafeBeginning e n = absurd (true≢false e)
+IsMetAt-unasked d FdfaForms e n = absurd (true≢false e)
+IsMetAt-unasked d Steps e n = absurd (true≢false e)
+IsMetAt-unasked d WordClasses e n = absurd (true≢false e)
+IsMetAt-unasked d _ e n = tt
+
+-- what is met with pairs and a supplement is met without them
+pub IsMet-alone : (d : Loaded) (c : Condition) → IsMet d c → IsMet (characters_loaded d.characters d.bounds) c
 unfolding IsMet
-IsAccepted-met s met = λ k c h. (met k c h).0
+IsMet-alone d Pairs met = tt
+IsMet-alone d RoundTrip met = tt
+IsMet-alone d SafeBeginning met = tt
+IsMet-alone d Results met = tt
+IsMet-alone d Steps met = tt
+IsMet-alone d PairOrder met = tt
+IsMet-alone d _ met = met
+
+-- and with pairs without the supplement
+pub IsMet-unsupplemented : (d : Loaded) (c : Condition) → IsMet d c → IsMet (record { characters = d.characters; bounds = d.bounds; pairs = d.pairs; supplement = None }) c
+unfolding IsMet
+IsMet-unsupplemented d Steps met = tt
+IsMet-unsupplemented d _ met = met
 
 pub All-front : {A : Type 0} (P : A → Type 0) (xs ys : List A) → All P (xs ++ ys) → All P xs
 All-front P xs ys all = λ k c h. subst P (get_or_append_left xs ys c k h) (all k c (omega (arith, h, length-append xs ys)))
@@ -40,69 +89,10 @@ All-front P xs ys all = λ k c h. subst P (get_or_append_left xs ys c k h) (all 
 pub All-behind : {A : Type 0} (P : A → Type 0) (xs ys : List A) → All P (xs ++ ys) → All P ys
 All-behind P xs ys all = λ k c h. subst P (get_or-append-add xs ys k c) (all (length xs + k) c (omega (arith, h, length-append xs ys)))
 
+-- the conditions on words and those on pairs, each by themselves
 pub parts_met : (s : Characters) (pairs : List Pair) → All (IsMet (characters_and_pairs s pairs)) (composing_conditions s.is_mapper) →
     IsAccepted s (bounds_of_cap s.decompositions.cap) × AreAcceptedPairs s (bounds_of_cap s.decompositions.cap) pairs
-unfolding IsMet
 parts_met s pairs met = (
-  λ k c h. (All-front (IsMet (characters_and_pairs s pairs)) decomposing_conditions (pair_conditions s.is_mapper) met k c h).0,
-  λ k c h. (All-behind (IsMet (characters_and_pairs s pairs)) decomposing_conditions (pair_conditions s.is_mapper) met k c h).1,
+  λ k c h. IsMet-alone (characters_and_pairs s pairs) _ (All-front (IsMet (characters_and_pairs s pairs)) decomposing_conditions (pair_conditions s.is_mapper) met k c h),
+  All-behind (IsMet (characters_and_pairs s pairs)) decomposing_conditions (pair_conditions s.is_mapper) met,
 )
-
-pub IfSome-all : {A : Type 0} (P : A → Type 0) → ((a : A) → P a) → (o : Option A) → IfSome o P
-IfSome-all P f None = tt
-IfSome-all P f (Some a) = f a
-
--- nor, by the pairs, any but the one on beginnings
-PairsHoldAt-quiet : (d : Loaded) (o : Option (List Pair)) (c : Condition) (n : ℕ) → (IsScalar n → is_plain (word_of d.characters n) ≡ true) →
-    (c ≡ SafeBeginning → IfSome o (λ pairs. KeepsBeginning d.characters d.bounds pairs n)) → IfSome o (λ pairs. PairsHoldAt d.characters d.bounds pairs c n)
-unfolding PairsHoldAt KeepsRoundTrip
-PairsHoldAt-quiet d o RoundTrip n plain begins = IfSome-all _ (λ pairs h. KeepsRoundTrip-plain d.characters d.bounds pairs n (plain h) h) o
-PairsHoldAt-quiet d o SafeBeginning n plain begins = begins refl
-PairsHoldAt-quiet d o _ n plain begins = IfSome-all _ (λ pairs. tt) o
-
-StepsHoldAt-quiet : (s : Characters) (o : Option Supplement) (c : Condition) (n : ℕ) → (IsScalar n → is_plain (word_of s n) ≡ true) → (c ≡ FdfaForms → IfSome o (λ t. AvoidsFdfa s n)) →
-    IfSome o (λ t. StepsHoldAt s t c n)
-unfolding StepsHoldAt
-StepsHoldAt-quiet s o FdfaForms n plain avoids = avoids refl
-StepsHoldAt-quiet s o Steps n plain avoids = IfSome-all _ (λ t. HasSoundStep-plain s t n plain) o
-StepsHoldAt-quiet s o _ n plain avoids = IfSome-all _ (λ t. tt) o
-
--- a number that no character has, or that has a plain word, can break only what is checked of surrogates, Hangul,
--- beginnings and the form of U+FDFA
-pub IsMetAt-quiet : (d : Loaded) (c : Condition) (n : ℕ) → (IsScalar n → is_plain (word_of d.characters n) ≡ true) → (c ≡ Surrogates → is_surrogate n ≡ true → word_of d.characters n ≡ 0xC000FFFD) →
-    (c ≡ Hangul → IsSoundHangul d.characters n) → (c ≡ SafeBeginning → IfSome d.pairs (λ pairs. KeepsBeginning d.characters d.bounds pairs n)) →
-    (c ≡ FdfaForms → IfSome d.supplement (λ t. AvoidsFdfa d.characters n)) → IsMetAt d c n
-unfolding IsMetAt
-IsMetAt-quiet d c n plain surrogate hangul begins avoids =
-    (HoldsAt-quiet d.characters d.bounds c n plain surrogate hangul, PairsHoldAt-quiet d d.pairs c n plain begins, StepsHoldAt-quiet d.characters d.supplement c n plain avoids)
-
-pub IsMetAt-elsewhere : (d : Loaded) (c : Condition) (n : ℕ) → (IsScalar n → ⊥) → (c ≡ Surrogates → is_surrogate n ≡ true → word_of d.characters n ≡ 0xC000FFFD) →
-    (c ≡ FdfaForms → IfSome d.supplement (λ t. AvoidsFdfa d.characters n)) → IsMetAt d c n
-unfolding KeepsBeginning
-IsMetAt-elsewhere d c n h surrogate avoids =
-    IsMetAt-quiet d c n (λ q. absurd (h q)) surrogate (λ e. IsSoundHangul-elsewhere d.characters n h) (λ e. IfSome-all _ (λ pairs q. absurd (h q)) d.pairs) avoids
-
-IfSome-everywhere : {A : Type 0} (P : A → Type 0) (Q : A → ℕ → Type 0) (o : Option A) → IfSome o P → ((n : ℕ) → IfSome o (λ a. Q a n)) → IfSome o (λ a. P a × ((n : ℕ) → Q a n))
-IfSome-everywhere P Q None h each = tt
-IfSome-everywhere P Q (Some a) h each = (h, each)
-
-pub IsMet-everywhere : (d : Loaded) (c : Condition) → IsMetOverall d c → ((n : ℕ) → IsMetAt d c n) → IsMet d c
-unfolding IsMet IsMetOverall IsMetAt Holds HoldsOfPairs HoldsOfSteps
-IsMet-everywhere d c overall each = (
-  (overall.0, λ n. (each n).0),
-  IfSome-everywhere _ (λ pairs n. PairsHoldAt d.characters d.bounds pairs c n) d.pairs overall.1 (λ n. (each n).1),
-  IfSome_then d.supplement (IfSome-everywhere (λ t. Unit {0}) (λ t n. StepsHoldAt d.characters t c n) d.supplement (IfSome-all _ (λ t. tt) d.supplement) (λ n. (each n).2)) (λ t h. h.1),
-)
-
-avoids_past : (s : Characters) (o : Option Supplement) → IsComplete s.decompositions.table → ((n : ℕ) → n ≤ 0x110000 → IfSome o (λ t. AvoidsFdfa s n)) → (n : ℕ) → IfSome o (λ t. AvoidsFdfa s n)
-avoids_past s None complete each n = tt
-avoids_past s (Some t) complete each n = AvoidsFdfa-all s complete each n
-
--- a condition that holds overall and of all numbers up to the first past the code points holds
-pub IsMet-within : (d : Loaded) (c : Condition) → IsComplete d.characters.decompositions.table → IsMetOverall d c → ((n : ℕ) → n ≤ 0x110000 → IsMetAt d c n) → IsMet d c
-unfolding IsMetAt StepsHoldAt is_surrogate
-IsMet-within d c complete overall each = IsMet-everywhere d c overall (λ n. elim (cases_lt 0x110000 n) [
-  | inl past ↦ IsMetAt-elsewhere d c n (λ h. (let below = scalar_below n h in absurd (omega arith))) (λ _ q. absurd (grind (arith, nat_tests)))
-      (λ e. avoids_past d.characters d.supplement complete (λ m h. subst (λ k. IfSome d.supplement (λ t. StepsHoldAt d.characters t k m)) e (each m h).2) n)
-  | inr within ↦ each n within
-])

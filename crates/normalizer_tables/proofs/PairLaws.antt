@@ -21,13 +21,13 @@ use Rattle.normalizer_tables.specs.Hangul.{is_hangul_syllable, hangul_decomposit
 use Rattle.normalizer_tables.specs.Words.{is_plain, is_non_round_trip, is_class_form, is_ordinary_class_form}
 use Rattle.normalizer_tables.specs.Words.{is_special_class_form, has_high_zeros, has_low_zeros, read, read_low}
 use Rattle.normalizer_tables.specs.Characters.{Characters, word_of, reading_of_word, as_text, named_list, list_read, list_of, class_of, has_class_form}
-use Rattle.normalizer_tables.specs.Conditions.{Holds, HoldsAt, IsSoundHangul, IsPlainStarter, is_composing_jamo}
+use Rattle.normalizer_tables.specs.CharacterConditions.{is_composing_jamo, IsPlainStarter, IsSoundHangul}
+use Rattle.normalizer_tables.specs.Conditions.{IsMet}
+use Rattle.normalizer_tables.specs.Loaded.{characters_loaded, pairs_loaded}
+use Rattle.normalizer_tables.specs.PairConditions.{HasOrderedLists, HasSafeBeginning, is_passed, is_taken_to_begin_safely, is_taken_to_round_trip, IsComposablePair, KeepsBeginning, KeepsRoundTrip, RoundTrips}
 use Rattle.normalizer_tables.specs.SoundData.{Bounds}
 use Rattle.normalizer_tables.specs.Pairs.{Pair, pair_of, listed_result}
 use Rattle.normalizer_tables.specs.HangulComposition.{compose_hangul, lv_syllable, is_leading_consonant, is_vowel, is_trailing_consonant, is_lv_syllable}
-use Rattle.normalizer_tables.specs.PairConditions.{HoldsOfPairs, PairsHoldAt, PairsHoldOverall, IsComposable, RoundTrips, KeepsRoundTrip}
-use Rattle.normalizer_tables.specs.PairConditions.{KeepsBeginning, HasSafeBeginning, HasOrderedLists, is_passed, is_taken_to_round_trip}
-use Rattle.normalizer_tables.specs.PairConditions.{is_taken_to_begin_safely}
 use Rattle.normalizer_tables.specs.Readings.{reading_by, reading_of}
 use Rattle.normalizer_tables.specs.Ignored.{Dropped}
 use Rattle.normalizer_tables.proofs.CharacterLemmas.{list_read-scalar, list_of-reads}
@@ -134,17 +134,17 @@ module _ (s : Characters) (sound : (n : ℕ) → IsSoundHangul s n) where
       list_of-syllable ignored r h ∙ sym (order-starters (reading_of s ignored pairing) _ (λ k e within. jamo-starts _ (jamo_of r h k e within)))
       ∙ ap (order (reading_of s ignored pairing)) (parts ignored a c r joins)
 
-module _ (s : Characters) (b : Bounds) (hangul : Holds s b Hangul) where
+module _ (s : Characters) (b : Bounds) (hangul : IsMet (characters_loaded s b) Hangul) where
   pub sound_hangul : (n : ℕ) → IsSoundHangul s n
-  unfolding Holds HoldsAt
-  sound_hangul n = hangul.1 n
+  unfolding IsMet
+  sound_hangul n = hangul n
 
-  pub HasStarterResults-reading_of : (pairs : List Pair) → HoldsOfPairs s b pairs Pairs → (ignored : List ℕ) → HasStarterResults (reading_of s ignored (pair_of pairs))
-  unfolding HoldsOfPairs PairsHoldOverall
+  pub HasStarterResults-reading_of : (pairs : List Pair) → IsMet (pairs_loaded s b pairs) Pairs → (ignored : List ℕ) → HasStarterResults (reading_of s ignored (pair_of pairs))
+  unfolding IsMet IsComposablePair
   HasStarterResults-reading_of pairs holds ignored = record {
     starters = λ a c r joins. elim (pair_of-some pairs a c r joins) [
       | inl by_hangul ↦ class_of-syllable s sound_hangul r (composed-syllable a c r by_hangul)
-      | inr as_listed ↦ class_of-no_class_form s r (All-listed_result (λ p. IsComposable s p.1 × IsComposable s p.2) pairs a c r holds.0.1 as_listed).1.starter
+      | inr as_listed ↦ class_of-no_class_form s r (All-listed_result (IsComposablePair s) pairs a c r holds.1 as_listed).1.starter
     ];
   }
 
@@ -157,9 +157,9 @@ module _ (s : Characters) (b : Bounds) (hangul : Holds s b Hangul) where
     ];
   }
 
-  pub HasFaithfulResults-condition : (pairs : List Pair) → HoldsOfPairs s b pairs Results → HasFaithfulResults (reading_by s Dropped pairs)
-  unfolding HoldsOfPairs PairsHoldOverall
-  HasFaithfulResults-condition pairs holds = HasFaithfulResults-reading_of pairs [] holds.0
+  pub HasFaithfulResults-condition : (pairs : List Pair) → IsMet (pairs_loaded s b pairs) Results → HasFaithfulResults (reading_by s Dropped pairs)
+  unfolding IsMet
+  HasFaithfulResults-condition pairs holds = HasFaithfulResults-reading_of pairs [] holds
 
 module _ (s : Characters) (b : Bounds) (pairs : List Pair) where
   -- a list that isn't empty is the same however ignored characters are treated
@@ -171,33 +171,33 @@ module _ (s : Characters) (b : Bounds) (pairs : List Pair) where
     | same q e f ↦ f
   ]
 
-  round_trip : HoldsOfPairs s b pairs RoundTrip → (n : ℕ) → IsScalar n → is_passed s b n ≡ true → compose (reading_by s Dropped pairs) (list_of s [] n) ≡ n ∷ []
-  unfolding HoldsOfPairs PairsHoldAt KeepsRoundTrip RoundTrips is_passed is_taken_to_round_trip
-  round_trip holds n h passed = holds.1 n h (grind arith)
+  round_trip : IsMet (pairs_loaded s b pairs) RoundTrip → (n : ℕ) → IsScalar n → is_passed s b n ≡ true → compose (reading_by s Dropped pairs) (list_of s [] n) ≡ n ∷ []
+  unfolding IsMet KeepsRoundTrip RoundTrips is_passed is_taken_to_round_trip
+  round_trip holds n h passed = holds n h (grind arith)
 
-  beginning : HoldsOfPairs s b pairs SafeBeginning → (n : ℕ) → IsScalar n → is_passed s b n ≡ true → HasSafeBeginning s pairs n
-  unfolding HoldsOfPairs PairsHoldAt KeepsBeginning is_passed is_taken_to_begin_safely
-  beginning holds n h passed = holds.1 n h (grind arith)
+  beginning : IsMet (pairs_loaded s b pairs) SafeBeginning → (n : ℕ) → IsScalar n → is_passed s b n ≡ true → HasSafeBeginning s pairs n
+  unfolding IsMet KeepsBeginning is_passed is_taken_to_begin_safely
+  beginning holds n h passed = holds n h (grind arith)
 
-  pub IsNormalized-passed : Holds s b Order → HoldsOfPairs s b pairs RoundTrip → (ignored : List ℕ) (n : ℕ) → IsScalar n → is_passed s b n ≡ true →
+  pub IsNormalized-passed : IsMet (characters_loaded s b) Order → IsMet (pairs_loaded s b pairs) RoundTrip → (ignored : List ℕ) (n : ℕ) → IsScalar n → is_passed s b n ≡ true →
       IsNormalized (reading_of s ignored (pair_of pairs)) Composing (n ∷ [])
-  unfolding Holds HoldsAt normal_form nfc nfd expand order insert is_reorderable compose compose_from visit joined is_blocked
+  unfolding IsMet normal_form nfc nfd expand order insert is_reorderable compose compose_from visit joined is_blocked
   IsNormalized-passed in_order trips ignored n h passed =
       let d = reading_of s ignored (pair_of pairs) in
       let trip = round_trip trips n h passed in
       let some : list_of s [] n ≢ [] = λ e. compose-empty (reading_by s Dropped pairs) (list_of s [] n) n (ap (λ x. slice_get x 0) e) trip in
-      ap (λ x. compose d (order d x)) (append-nil (list_of s ignored n) ∙ same_list ignored n h some) ∙ ap (compose d) (in_order.1 n h).ordered ∙ trip
+      ap (λ x. compose d (order d x)) (append-nil (list_of s ignored n) ∙ same_list ignored n h some) ∙ ap (compose d) (in_order n h).ordered ∙ trip
 
   same_beginning : (ignored : List ℕ) (x : List ℕ) → BeginsSafely (reading_by s Dropped pairs) x → BeginsSafely (reading_of s ignored (pair_of pairs)) x
   same_beginning ignored [] h = tt
   same_beginning ignored (c ∷ x) h = h
 
-  pub BeginsSafely-passed : HoldsOfPairs s b pairs SafeBeginning → (ignored : List ℕ) (n : ℕ) → IsScalar n → is_passed s b n ≡ true →
+  pub BeginsSafely-passed : IsMet (pairs_loaded s b pairs) SafeBeginning → (ignored : List ℕ) (n : ℕ) → IsScalar n → is_passed s b n ≡ true →
       BeginsSafely (reading_of s ignored (pair_of pairs)) (list_of s ignored n)
   BeginsSafely-passed holds ignored n h passed =
       let begins = beginning holds n h passed in rw (same_list ignored n h begins.begins) (same_beginning ignored (list_of s [] n) begins.safely)
 
-  pub inhabited-passed : HoldsOfPairs s b pairs SafeBeginning → (ignored : List ℕ) (n : ℕ) → IsScalar n → is_passed s b n ≡ true → list_of s ignored n ≢ []
+  pub inhabited-passed : IsMet (pairs_loaded s b pairs) SafeBeginning → (ignored : List ℕ) (n : ℕ) → IsScalar n → is_passed s b n ≡ true → list_of s ignored n ≢ []
   inhabited-passed holds ignored n h passed e =
       let begins = beginning holds n h passed in begins.begins (sym (same_list ignored n h begins.begins) ∙ e)
 

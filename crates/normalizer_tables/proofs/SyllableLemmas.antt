@@ -1,6 +1,6 @@
 -- Hangul syllables by the condition on Hangul: each other condition that one meets is met by those after it with the
 -- same leading consonant.
-use Rattle.std.proofs.Common.{◌≡◌, ◌==◌, ℕ, ◌+◌, ◌-◌, ◌/◌, ◌%◌, true, List, [], ◌∷◌, All, slice_get, Some, refl, sym, ap, ◌∙◌, arith}
+use Rattle.std.proofs.Common.{◌≡◌, ◌==◌, ℕ, ◌+◌, ◌-◌, ◌/◌, ◌%◌, true, true≢false, List, [], ◌∷◌, All, slice_get, Some, refl, sym, ap, ◌∙◌, arith}
 use Rattle.std.proofs.lemmas.Bool.{eqb-false, eqb-true}
 use Rattle.std.proofs.lemmas.Option.{IfSome_then}
 use Rattle.normal_forms.specs.Composition.{compose, joined, is_blocked}
@@ -9,23 +9,21 @@ use Rattle.std.proofs.lemmas.Bool.Decides.{nat_tests}
 use Rattle.normal_forms.specs.Boundary.{BeginsWithStarter}
 use Rattle.normal_forms.specs.Composition.{compose_from, visit}
 use Rattle.normal_forms.specs.Reading.{Reading, IsStarter}
-use Rattle.normalizer_tables.specs.declared.condition.Bounds.{Bounds}
 use Rattle.normalizer_tables.specs.declared.condition.Condition.{Condition}
-use Rattle.normalizer_tables.specs.declared.condition.Condition.TheVariants.{Surrogates, Hangul, Words, Members, Order, Passthrough, RoundTrip, SafeBeginning, FdfaForms, Steps}
+use Rattle.normalizer_tables.specs.declared.condition.Condition.TheVariants.{Words, Members, Order, Passthrough, RoundTrip, SafeBeginning, FdfaForms, Steps, WordClasses}
 use Rattle.normalizer_tables.specs.Characters.{Characters, word_of, reading_of_word, list_of, class_of}
-use Rattle.normalizer_tables.specs.Conditions.{HoldsAt, IsPlainStarter, IsSoundHangul, KeepsPromise, ReadsToItself, is_composing_jamo}
-use Rattle.normalizer_tables.specs.Data.{Supplement}
+use Rattle.normalizer_tables.specs.CharacterConditions.{is_composing_jamo, IsPlainStarter, IsSoundHangul, KeepsPromise, ReadsToItself}
+use Rattle.normalizer_tables.specs.Loaded.{Loaded}
+use Rattle.normalizer_tables.specs.PairConditions.{is_taken_to_begin_safely, KeepsBeginning, KeepsRoundTrip, RoundTrips}
+use Rattle.normalizer_tables.specs.StepConditions.{AvoidsFdfa}
+use Rattle.normalizer_tables.specs.inner.Walk.{IsMetAt, IsSyllableBehind}
 use Rattle.normalizer_tables.specs.Hangul.{is_hangul_syllable, hangul_decomposition}
 use Rattle.normalizer_tables.specs.HangulComposition.{compose_hangul}
-use Rattle.normalizer_tables.specs.Loaded.{Loaded, IsMetAt}
-use Rattle.normalizer_tables.specs.PairConditions.{KeepsBeginning, KeepsRoundTrip, PairsHoldAt, RoundTrips, is_taken_to_begin_safely}
 use Rattle.normalizer_tables.specs.Pairs.{Pair, is_vowel_or_trailing_jamo, pair_of}
-use Rattle.normalizer_tables.specs.StepConditions.{AvoidsFdfa, StepsHoldAt}
-use Rattle.normalizer_tables.specs.inner.Walk.{IsSyllableBehind}
 use Rattle.normalizer_tables.specs.Words.{is_backward_combining}
 use Rattle.normalizer_tables.specs.Readings.{reading_by}
 use Rattle.normalizer_tables.specs.Ignored.{Dropped}
-use Rattle.normalizer_tables.proofs.ConditionLemmas.{HasSoundStep-hangul, IsSoundClassForm-none, no_surrogate, syllable-scalar}
+use Rattle.normalizer_tables.proofs.ConditionLemmas.{HasSoundStep-hangul, IsSoundClass-none, syllable-scalar}
 use Rattle.normalizer_tables.proofs.FdfaWords.{syllable_avoids}
 use Rattle.normalizer_tables.proofs.LoadedLemmas.{IfSome-all}
 use Rattle.normalizer_tables.proofs.PairLaws.{order-starters}
@@ -66,50 +64,31 @@ module _ (s : Characters) (sound : (n : ℕ) → IsSoundHangul s n) where
   all-members : (P : ℕ → Type 0) → ((j : ℕ) → is_composing_jamo j ≡ true → P j) → (n : ℕ) → is_hangul_syllable n ≡ true → All P (list_of s [] n)
   all-members P each n h = rw (list_of-syllable s sound [] n h) (λ k d within. each _ (jamo_of n h k d within))
 
-  -- ---- of two syllables with one leading consonant
-
-  module _ (m n : ℕ) (alike : IsSyllableBehind m n) where
-    HoldsAt-behind : (b : Bounds) (c : Condition) → HoldsAt s b c m → HoldsAt s b c n
-    unfolding HoldsAt IsPlainStarter KeepsPromise ReadsToItself
-    HoldsAt-behind b Surrogates holds = λ q. absurd (no_surrogate n (syllable-scalar n alike.second) q)
-    HoldsAt-behind b Hangul holds = sound n
-    HoldsAt-behind b Words holds = λ q. record {
-      reads = rw (list_read-syllable s sound [] n alike.second);
-      class_form = IsSoundClassForm-none n (word_of s n) (no_class_form-syllable s sound n alike.second);
-      marker = λ r e. (let one = (sound n).syllable alike.second in absurd (omega arith));
-    }
-    HoldsAt-behind b Members holds = λ q. all-members (ReadsToItself s) (λ j jamo. ((sound j).jamo jamo).0) n alike.second
-    HoldsAt-behind b Order holds = λ q.
-        (let starters = all-members (IsStarter (reading_by s Dropped [])) (jamo-starts s sound) n alike.second in record {
-          ordered = order-starters (reading_by s Dropped []) (list_of s [] n) starters;
-          first = λ r. begins (reading_by s Dropped []) (list_of s [] n) starters;
-          promise = rw (reading-syllable s sound n alike.second) tt;
-        })
-    HoldsAt-behind b Passthrough holds = λ q below.
-        (let alone = sym (list_read-syllable s sound [] m alike.first) ∙ (holds (syllable-scalar m alike.first) (omega (arith, alike.behind))).0 in
-        absurd (apart-syllable m m cc))
-    HoldsAt-behind b _ holds = tt
-
-    PairsHoldAt-behind : (b : Bounds) (pairs : List Pair) (c : Condition) → PairsHoldAt s b pairs c m → PairsHoldAt s b pairs c n
-    unfolding PairsHoldAt KeepsRoundTrip KeepsBeginning RoundTrips is_taken_to_begin_safely is_backward_combining
-    PairsHoldAt-behind b pairs RoundTrip holds = λ q taken. rw (list_of-syllable s sound [] n alike.second) (compose-syllable pairs n alike.second)
-    PairsHoldAt-behind b pairs SafeBeginning holds = λ q taken.
-        ((safe_beginning s pairs n _ (first-list n alike.second ∙ ap (λ k. Some (0x1100 + k)) (sym alike.leading))).1
-        ((safe_beginning s pairs m _ (first-list m alike.first)).0 (holds (syllable-scalar m alike.first) (rw ((sound m).syllable alike.first)))))
-    PairsHoldAt-behind b pairs _ holds = tt
-
-    StepsHoldAt-behind : (t : Supplement) (c : Condition) → StepsHoldAt s t c n
-    unfolding StepsHoldAt AvoidsFdfa reading_of_word
-    StepsHoldAt-behind t FdfaForms = syllable_avoids n (word_of s n) s.is_mapper alike.second
-    StepsHoldAt-behind t Steps = HasSoundStep-hangul s t n alike.second
-    StepsHoldAt-behind t _ = tt
-
 -- if Hangul is sound, what a syllable meets is met by those after it with the same leading consonant
-pub IsMetAt-syllable_behind : (d : Loaded) → ((n : ℕ) → IsSoundHangul d.characters n) →
-    (c : Condition) (m n : ℕ) → IsSyllableBehind m n → IsMetAt d c m → IsMetAt d c n
-unfolding IsMetAt
-IsMetAt-syllable_behind d sound c m n alike met = (
-  HoldsAt-behind d.characters sound m n alike d.bounds c met.0,
-  IfSome_then d.pairs met.1 (λ pairs holds. PairsHoldAt-behind d.characters sound m n alike d.bounds pairs c holds),
-  IfSome-all _ (λ t. StepsHoldAt-behind d.characters sound m n alike t c) d.supplement,
-)
+module _ (d : Loaded) (sound : (n : ℕ) → IsSoundHangul d.characters n) where
+  pub IsMetAt-syllable_behind : (c : Condition) (m n : ℕ) → IsSyllableBehind m n → IsMetAt d c m → IsMetAt d c n
+  unfolding IsMetAt IsPlainStarter KeepsPromise ReadsToItself AvoidsFdfa reading_of_word KeepsRoundTrip KeepsBeginning RoundTrips is_taken_to_begin_safely is_backward_combining
+  IsMetAt-syllable_behind Words m n alike met = record {
+    reads = rw (list_read-syllable d.characters sound [] n alike.second);
+    class = IsSoundClass-none n (word_of d.characters n) (no_class_form-syllable d.characters sound n alike.second);
+    flagged = λ form. absurd (true≢false (sym form ∙ no_class_form-syllable d.characters sound n alike.second));
+    marker = λ r e. (let one = (sound n).syllable alike.second in absurd (omega arith));
+  }
+  IsMetAt-syllable_behind Members m n alike met = all-members d.characters sound (ReadsToItself d.characters) (λ j jamo. ((sound j).jamo jamo).0) n alike.second
+  IsMetAt-syllable_behind Order m n alike met =
+      let starters = all-members d.characters sound (IsStarter (reading_by d.characters Dropped [])) (jamo-starts d.characters sound) n alike.second in record {
+        ordered = order-starters (reading_by d.characters Dropped []) (list_of d.characters [] n) starters;
+        first = λ r. begins (reading_by d.characters Dropped []) (list_of d.characters [] n) starters;
+        promise = rw (reading-syllable d.characters sound n alike.second) tt;
+      }
+  IsMetAt-syllable_behind Passthrough m n alike met = λ below.
+      (let alone = sym (list_read-syllable d.characters sound [] m alike.first) ∙ (met (omega (arith, alike.behind))).0 in absurd (apart-syllable m m cc))
+  IsMetAt-syllable_behind RoundTrip m n alike met =
+      IfSome-all _ (λ pairs q taken. rw (list_of-syllable d.characters sound [] n alike.second) (compose-syllable d.characters sound pairs n alike.second)) d.pairs
+  IsMetAt-syllable_behind SafeBeginning m n alike met = IfSome_then d.pairs met (λ pairs holds q taken.
+      (safe_beginning d.characters pairs n _ (first-list d.characters sound n alike.second ∙ ap (λ k. Some (0x1100 + k)) (sym alike.leading))).1
+      ((safe_beginning d.characters pairs m _ (first-list d.characters sound m alike.first)).0 (holds (syllable-scalar m alike.first) (rw ((sound m).syllable alike.first)))))
+  IsMetAt-syllable_behind FdfaForms m n alike met = syllable_avoids n (word_of d.characters n) d.characters.is_mapper alike.second
+  IsMetAt-syllable_behind Steps m n alike met = IfSome-all _ (λ t. HasSoundStep-hangul d.characters t n alike.second) d.supplement
+  IsMetAt-syllable_behind WordClasses m n alike met = IsSoundClass-none n (word_of d.characters n) (no_class_form-syllable d.characters sound n alike.second)
+  IsMetAt-syllable_behind _ m n alike met = tt

@@ -8,8 +8,8 @@ use Rattle.normalizer_tables.specs.declared.condition.Bounds.{Bounds}
 use Rattle.normalizer_tables.specs.declared.condition.Condition.{Condition}
 use Rattle.normalizer_tables.specs.declared.condition.Condition.TheVariants as condition
 use Rattle.normalizer_tables.specs.Characters.{Characters}
-use Rattle.normalizer_tables.specs.Conditions.{Holds}
-use Rattle.normalizer_tables.specs.PairConditions.{HoldsOfPairs}
+use Rattle.normalizer_tables.specs.Conditions.{IsMet}
+use Rattle.normalizer_tables.specs.Loaded.{characters_loaded, pairs_loaded}
 use Rattle.normalizer_tables.specs.Pairs.{Pair}
 
 -- the conditions on data for decomposing text: 1 to 10
@@ -35,13 +35,17 @@ step_conditions =
     condition.ItemLimit ∷ condition.PastTheEnd ∷ condition.Hangul ∷ condition.Words ∷ condition.Members
     ∷ condition.Order ∷ condition.FdfaForms ∷ condition.Steps ∷ []
 
+-- the conditions on data of which only classes are read: parts of 4, 5 and 7
+abbrev pub class_conditions : List Condition
+class_conditions = condition.SurrogateClasses ∷ condition.PastTheEnd ∷ condition.WordClasses ∷ []
+
 -- data that meet all conditions for decomposing text
 abbrev pub IsAccepted : Characters → Bounds → Type 0
-IsAccepted s b = All (Holds s b) decomposing_conditions
+IsAccepted s b = All (IsMet (characters_loaded s b)) decomposing_conditions
 
 -- pairs that meet, with the data, the conditions on both
 abbrev pub AreAcceptedPairs : Characters → Bounds → List Pair → Type 0
-AreAcceptedPairs s b pairs = All (HoldsOfPairs s b pairs) (pair_conditions s.is_mapper)
+AreAcceptedPairs s b pairs = All (IsMet (pairs_loaded s b pairs)) (pair_conditions s.is_mapper)
 
 -- what the calls on text take of a reading: the laws of the form hold, no list is empty, and characters decompose and
 -- compose to characters

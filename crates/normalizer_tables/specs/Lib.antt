@@ -1,6 +1,6 @@
 pub mod AcceptedData
+pub mod CharacterConditions
 pub mod Characters
-pub mod ClassConditions
 pub mod Conditions
 pub mod Data
 pub mod Hangul

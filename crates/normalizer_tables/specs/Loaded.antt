@@ -1,13 +1,9 @@
--- All that a constructor may load, and what the written conditions say of it.
-use Rattle.std.specs.Prelude.{ℕ, List, Option, Some, None, IfSome, min}
+-- All that a constructor may load.
+use Rattle.std.specs.Prelude.{ℕ, List, Option, Some, None, min}
 use Rattle.normalizer_tables.specs.declared.condition.Bounds.{Bounds}
-use Rattle.normalizer_tables.specs.declared.condition.Condition.{Condition}
-use Rattle.normalizer_tables.specs.Characters.{Characters}
-use Rattle.normalizer_tables.specs.Conditions.{Holds, HoldsAt, HoldsOverall}
-use Rattle.normalizer_tables.specs.Data.{Supplement}
-use Rattle.normalizer_tables.specs.PairConditions.{HoldsOfPairs, PairsHoldAt, PairsHoldOverall}
+use Rattle.normalizer_tables.specs.Characters.{Characters, characters_from}
+use Rattle.normalizer_tables.specs.Data.{Decompositions, Supplement, lists_or_none}
 use Rattle.normalizer_tables.specs.Pairs.{Pair}
-use Rattle.normalizer_tables.specs.StepConditions.{HoldsOfSteps, StepsHoldAt}
 
 -- the words with their tables, the pairs and the supplement as far as they were loaded, and below which numbers
 -- characters pass unseen
@@ -21,29 +17,24 @@ pub record Loaded : Type 0 where
 abbrev pub bounds_of_cap : ℕ → Bounds
 bounds_of_cap cap = record { decomposition = min cap 0xC0; composition = min cap 0x0300 }
 
--- words with their tables alone, or with these pairs too
+-- the greatest bounds, whatever the cap of the data is
+abbrev pub nfd_bounds : Bounds
+nfd_bounds = record { decomposition = 0xC0; composition = 0x0300 }
+
+-- words with their tables and bounds alone, or with pairs too
+abbrev pub characters_loaded : Characters → Bounds → Loaded
+characters_loaded s b = record { characters = s; bounds = b; pairs = None; supplement = None }
+
+abbrev pub pairs_loaded : Characters → Bounds → List Pair → Loaded
+pairs_loaded s b pairs = record { characters = s; bounds = b; pairs = Some pairs; supplement = None }
+
+-- the same with the bounds of the data's cap
 abbrev pub characters_alone : Characters → Loaded
-characters_alone s =
-    record { characters = s; bounds = bounds_of_cap s.decompositions.cap; pairs = None; supplement = None }
+characters_alone s = characters_loaded s (bounds_of_cap s.decompositions.cap)
 
 abbrev pub characters_and_pairs : Characters → List Pair → Loaded
-characters_and_pairs s pairs =
-    record { characters = s; bounds = bounds_of_cap s.decompositions.cap; pairs = Some pairs; supplement = None }
+characters_and_pairs s pairs = pairs_loaded s (bounds_of_cap s.decompositions.cap) pairs
 
--- What a condition says of all that was loaded: each says something of the characters by themselves, by the pairs, or
--- by the supplement. Of what wasn't loaded nothing is said.
-unfoldable pub IsMet : Loaded → Condition → Type 0
-IsMet d c =
-    Holds d.characters d.bounds c × IfSome d.pairs (λ pairs. HoldsOfPairs d.characters d.bounds pairs c)
-    × IfSome d.supplement (λ t. HoldsOfSteps d.characters t c)
-
--- the parts of this that are about the data as a whole, and about a number n
-unfoldable pub IsMetOverall : Loaded → Condition → Type 0
-IsMetOverall d c =
-    HoldsOverall d.characters c × IfSome d.pairs (λ pairs. PairsHoldOverall d.characters pairs c)
-
--- what a condition says of a number n
-unfoldable pub IsMetAt : Loaded → Condition → ℕ → Type 0
-IsMetAt d c n =
-    HoldsAt d.characters d.bounds c n × IfSome d.pairs (λ pairs. PairsHoldAt d.characters d.bounds pairs c n)
-    × IfSome d.supplement (λ t. StepsHoldAt d.characters t c n)
+-- words alone, of which only classes are read
+abbrev pub classes_loaded : Decompositions → Loaded
+classes_loaded d = characters_loaded (characters_from d (lists_or_none None) None) nfd_bounds

@@ -1,13 +1,10 @@
--- The written conditions on composing pairs, and on decomposition data by the pairs.
+-- What the written conditions say of composing pairs, and of decomposition data by the pairs.
 use Rattle.std.specs.Prelude.{◌≡◌, ◌≢◌, ℕ, ◌||◌, ◌&&◌, Bool, true, false, not, nat_lt, List, [], ◌∷◌, ◌++◌, All}
 use Rattle.std.specs.Char.{IsScalar}
 use Rattle.normal_forms.specs.Order.{order}
 use Rattle.normal_forms.specs.Composition.{compose}
 use Rattle.normal_forms.specs.Boundary.{BeginsSafely}
 use Rattle.normalizer_tables.specs.declared.condition.Bounds.{Bounds}
-use Rattle.normalizer_tables.specs.declared.condition.Condition.{Condition}
-use Rattle.normalizer_tables.specs.declared.condition.Condition.TheVariants.{Pairs, RoundTrip, SafeBeginning, Results}
-use Rattle.normalizer_tables.specs.declared.condition.Condition.TheVariants.{PairOrder}
 use Rattle.normalizer_tables.specs.Words.{ignored_marker, is_non_round_trip, is_backward_combining}
 use Rattle.normalizer_tables.specs.Characters.{Characters, word_of, list_of, has_class_form}
 use Rattle.normalizer_tables.specs.Pairs.{Pair, AreRising, is_vowel_or_trailing_jamo}
@@ -23,6 +20,10 @@ pub record AreSoundPairs (pairs : List Pair) : Type 0 where
 pub record IsComposable (s : Characters) (n : ℕ) : Type 0 where
   pub starter : has_class_form s n ≡ false
   pub kept : word_of s n ≢ ignored_marker
+
+-- the first of a pair and its result have no class form, and aren't ignored
+unfoldable pub IsComposablePair : Characters → Pair → Type 0
+IsComposablePair s p = IsComposable s p.1 × IsComposable s p.2
 
 -- a composing loop relies on it that n composes to itself: it has no NON_ROUND_TRIP, or lies below the bound
 unfoldable pub is_taken_to_round_trip : Characters → Bounds → ℕ → Bool
@@ -59,20 +60,3 @@ KeepsBeginning s b pairs n = IsScalar n → is_taken_to_begin_safely s b n ≡ t
 unfoldable pub HasOrderedLists : Characters → List ℕ → Pair → Type 0
 HasOrderedLists s ignored p =
     list_of s ignored p.2 ≡ order (reading_by s Dropped []) (list_of s ignored p.1 ++ list_of s ignored p.0)
-
--- what a condition says of the pairs as a whole
-unfoldable pub PairsHoldOverall : Characters → List Pair → Condition → Type 0
-PairsHoldOverall s pairs Pairs = AreSoundPairs pairs × All (λ p. IsComposable s p.1 × IsComposable s p.2) pairs
-PairsHoldOverall s pairs Results = All (HasOrderedLists s []) pairs
-PairsHoldOverall s pairs PairOrder = AreSoundPairs pairs
-PairsHoldOverall s pairs _ = Unit {0}
-
--- what it says of a number n by the pairs
-unfoldable pub PairsHoldAt : Characters → Bounds → List Pair → Condition → ℕ → Type 0
-PairsHoldAt s b pairs RoundTrip n = KeepsRoundTrip s b pairs n
-PairsHoldAt s b pairs SafeBeginning n = KeepsBeginning s b pairs n
-PairsHoldAt s b pairs _ n = Unit {0}
-
--- each of the two is one line a condition
-unfoldable pub HoldsOfPairs : Characters → Bounds → List Pair → Condition → Type 0
-HoldsOfPairs s b pairs c = PairsHoldOverall s pairs c × ((n : ℕ) → PairsHoldAt s b pairs c n)

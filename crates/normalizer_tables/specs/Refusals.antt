@@ -9,8 +9,8 @@ use Rattle.normalizer_tables.specs.declared.provider.DataMarkerInfo.{DataMarkerI
 use Rattle.normalizer_tables.specs.declared.provider.DataMarkerInfo.TheVariants.{NormalizerNfdDataV1}
 use Rattle.normalizer_tables.specs.declared.provider.DataMarkerInfo.TheVariants.{NormalizerNfdTablesV1, NormalizerNfcV1}
 use Rattle.normalizer_tables.specs.declared.provider.DataMarkerInfo.TheVariants.{NormalizerNfdSupplementV1}
-use Rattle.normalizer_tables.specs.Conditions.{IsFirstFailing, number_of}
-use Rattle.normalizer_tables.specs.Loaded.{IsMet, Loaded}
+use Rattle.normalizer_tables.specs.Conditions.{IsFirstFailing, IsMet, number_of}
+use Rattle.normalizer_tables.specs.Loaded.{Loaded}
 
 -- the marker that is reported if a condition fails; the decomposition data have the marker `data_marker`
 abbrev pub marker_of : DataMarkerInfo → Condition → DataMarkerInfo

@@ -1,9 +1,7 @@
--- The written conditions on canonical data and the supplement, by which characters are decomposed one step.
+-- What the written conditions say of canonical data and the supplement, by which characters are decomposed one step.
 use Rattle.std.specs.Prelude.{◌≡◌, ◌≢◌, ℕ, false, List, [], ◌∷◌, ◌++◌, IsSomeAnd}
 use Rattle.std.specs.Char.{IsScalar}
 use Rattle.normal_forms.specs.Order.{order}
-use Rattle.normalizer_tables.specs.declared.condition.Condition.{Condition}
-use Rattle.normalizer_tables.specs.declared.condition.Condition.TheVariants.{FdfaForms, Steps}
 use Rattle.normalizer_tables.specs.declared.step.Step.{Step}
 use Rattle.normalizer_tables.specs.declared.step.Step.TheVariants.{Default, Singleton, Expansion}
 use Rattle.normalizer_tables.specs.declared.word.WordReading.TheVariants.{Fdfa}
@@ -24,7 +22,7 @@ IsSoundStep s n Default = list_of s [] n ≡ n ∷ []
 IsSoundStep s n (Singleton a) = IsInOrder s n (list_of s [] a)
 IsSoundStep s n (Expansion a b) = IsInOrder s n (list_of s [] a ++ list_of s [] b)
 
--- what the conditions say of a number n. The word of a Hangul syllable never has the form of U+FDFA; surrogates and the
+-- the word of n has not the form of U+FDFA. That of a Hangul syllable never has the form of U+FDFA; surrogates and the
 -- numbers past the code points may not have it either.
 unfoldable pub AvoidsFdfa : Characters → ℕ → Type 0
 AvoidsFdfa s n = reading_of_word s n ≢ Fdfa
@@ -32,13 +30,3 @@ AvoidsFdfa s n = reading_of_word s n ≢ Fdfa
 -- a scalar value that is no Hangul syllable has a sound step
 unfoldable pub HasSoundStep : Characters → Supplement → ℕ → Type 0
 HasSoundStep s t n = IsScalar n → is_hangul_syllable n ≡ false → IsSomeAnd (step_of s t n) (IsSoundStep s n)
-
--- what a condition says of a number n by its step
-unfoldable pub StepsHoldAt : Characters → Supplement → Condition → ℕ → Type 0
-StepsHoldAt s t FdfaForms n = AvoidsFdfa s n
-StepsHoldAt s t Steps n = HasSoundStep s t n
-StepsHoldAt s t _ n = Unit {0}
-
--- one line a condition
-unfoldable pub HoldsOfSteps : Characters → Supplement → Condition → Type 0
-HoldsOfSteps s t c = (n : ℕ) → StepsHoldAt s t c n

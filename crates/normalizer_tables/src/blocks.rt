@@ -36,6 +36,11 @@ impl Model for Blocks {
 }
 
 impl Blocks {
+    /// The allocator of the words.
+    pub(crate) fn allocator(&self) -> Global {
+        *self.blocks.allocator()
+    }
+
     /// The words of ranges.
     pub(crate) fn from_ranges(alloc: Global, ranges: &[(u32, u32, u32)]) -> Result<Self, AllocError>
         requires { IsRangeList ranges.now }

@@ -28,7 +28,7 @@ use crate::members::Members;
 use crate::provider::{DecompositionData, DecompositionTables};
 use crate::scalars::Scalars16;
 use crate::special::fixed_list_of;
-use crate::word::{FLAGS, WordReading, class_of_word, is_class_form, read};
+use crate::word::{FLAGS, WordReading, class_of_word, is_class_form, is_plain, read};
 use std::alloc::Global;
 use std::marker::Model;
 
@@ -233,7 +233,7 @@ impl<'a> CharacterData<'a> {
         requires { word ≡ word_of self.now character }
         ensures { result ≡ list_of self.now (ignored_list ignored) character }
     {
-        self.members_read_by(character, word, ignored)
+        self.members_of(character, self.reading_by(character, word), ignored)
             .unwrap_or(Members::one(character))
     }
 
@@ -251,7 +251,7 @@ impl<'a> CharacterData<'a> {
     }
 
     /// Returns the class of a character, if its word says that it is its own list.
-    #[tactic(auto, using(crate::proofs::WordLemmas::readings), unfolding(crate::specs::Characters::class_of_itself, crate::specs::Characters::list_read, crate::specs::Characters::named_list))]
+    #[tactic(auto, using(crate::proofs::WordLemmas::readings), unfolding(crate::specs::Characters::class_of_itself, crate::specs::Characters::list_read, crate::specs::Characters::named_list, crate::specs::Characters::reading_of_word))]
     pub fn class_of_itself(&self, character: char, word: u32) -> Option<u8>
         requires { word ≡ word_of self.now character }
         ensures reading { result ≡ class_of_itself (reading_of_word self.now character) }
@@ -259,6 +259,9 @@ impl<'a> CharacterData<'a> {
             IfSome result (λ _. list_of self.now ignored character ≡ character ∷ []) }
         ensures class { IfSome result (λ class. class ≡ class_of self.now character) }
     {
+        if is_plain(word) {
+            return Some(0);
+        }
         match self.reading_by(character, word) {
             WordReading::Itself => Some(0),
             WordReading::ClassForm(class) => Some(class),
@@ -267,16 +270,16 @@ impl<'a> CharacterData<'a> {
     }
 
     #[tactic(auto, using(crate::proofs::WordLemmas::readings), unfolding(crate::specs::Characters::list_read, crate::specs::Characters::named_list))]
-    pub(crate) fn members_read_by(
+    pub(crate) fn members_of(
         &self,
         character: char,
-        word: u32,
+        reading: WordReading,
         ignored: IgnoredCharacters,
     ) -> Option<Members<'a>>
-        requires { word ≡ word_of self.now character }
+        requires { reading ≡ reading_of_word self.now character }
         ensures { result ≡ list_read self.now (ignored_list ignored) character }
     {
-        match self.reading_by(character, word) {
+        match reading {
             WordReading::Ignored => match ignored {
                 IgnoredCharacters::Dropped => Some(Members::empty()),
                 IgnoredCharacters::Replaced => Some(Members::one('\u{FFFD}')),

@@ -1,26 +1,45 @@
 //! The complete check of what was loaded: the first of the written conditions that it breaks.
-ghost use Rattle.std.specs.Prelude.{◌≡◌, ◌↔◌, ◌≤◌, IsTrue, slice_get};
+ghost use Rattle.std.specs.Prelude.{◌≡◌, ◌↔◌, ◌≤◌, IsTrue, IsOk, IfErr, All};
+ghost use Rattle.std.specs.Char.{IsScalar};
 ghost use Rattle.std.specs.List.{Contains, list_any};
-ghost use Rattle.normalizer_tables.specs.Conditions.{IsFirstFailing, IsPlaceOfFirstFailing};
-ghost use Rattle.normalizer_tables.specs.Loaded.{IsMet, IsMetAt};
-ghost use Rattle.normalizer_tables.specs.Ranges.{IsComplete};
-ghost use Rattle.normalizer_tables.specs.inner.Read.{IsRead};
+ghost use Rattle.normalizer_tables.specs.Conditions.{IsFirstFailing, IsMet, IsPlaceOfFirstFailing};
+ghost use Rattle.normalizer_tables.specs.Refusals.{RefusesFirstFailing};
 ghost use Rattle.normalizer_tables.specs.Table.{code_points};
 ghost use Rattle.normalizer_tables.specs.declared.condition.Condition.TheVariants as condition;
-ghost use Rattle.normalizer_tables.specs.inner.Walk.{IsEndOfAlike, IsMetApart, is_asked_of_words};
+ghost use Rattle.normalizer_tables.specs.inner.Walk.{IsEndOfAlike, IsMetApart, IsMetAt, is_asked_of_words};
 
 use crate::characters::CODE_POINTS;
-use crate::check::parts::{is_met_apart, is_met_at, is_met_elsewhere};
+use crate::check::met::{is_met_apart, is_met_at};
 use crate::condition::Condition;
 use crate::hangul::{N_COUNT, S_BASE};
 use crate::loaded::LoadedData;
-use crate::read::{ReadCharacter, read_by_word};
+use crate::provider::{DataError, DataMarkerInfo};
+use crate::read::read_character;
+use crate::refusal::refusal_of;
 use crate::word::is_hangul_syllable;
 
 mod lists;
-pub(crate) mod numbers;
+mod met;
+mod numbers;
 mod overall;
-mod parts;
+
+/// Checks that loaded data meet these conditions; the decomposition data have the marker. It takes no memory.
+///
+/// # Errors
+/// The error for the first condition that fails.
+pub fn check(
+    data: &LoadedData<'_>,
+    data_marker: DataMarkerInfo,
+    conditions: &[Condition],
+) -> Result<(), DataError>
+    ensures ok { IsOk result ↔ All (IsMet data.now) conditions.now }
+    ensures err { IfErr result (RefusesFirstFailing data_marker data.now conditions.now) }
+{
+    match first_failing(data, conditions) {
+        Some(condition) => Err(refusal_of(data_marker, condition)),
+        None => Ok(()),
+    }
+}
 
 /// Returns the first of these conditions that loaded data don't meet, if there is one. It takes no memory.
 #[tactic(auto, unfolding(crate::specs::Table::code_points))]
@@ -30,8 +49,7 @@ pub fn first_failing(data: &LoadedData<'_>, conditions: &[Condition]) -> Option<
     let mut failing = first_failing_apart(data, conditions);
     let hangul_is_sound = asks_hangul(&conditions[..failing]);
     let mut from = 0;
-    while from <= CODE_POINTS && are_asked_of_words(&conditions[..failing]) {
-        // The word of the first number past the code points is that of all.
+    while from < CODE_POINTS && are_asked_of_words(&conditions[..failing]) {
         let number = data.characters.next_with_word(from);
         failing = first_failing_at(data, &conditions[..failing], number);
         from = end_of_alike(number, hangul_is_sound);
@@ -48,7 +66,7 @@ fn asks_hangul(conditions: &[Condition]) -> bool
         .any(|&condition| condition == Condition::Hangul)
 }
 
-/// Whether one of these conditions depends on words that aren't 0, beyond what was checked apart.
+/// Whether one of these conditions says something of each character.
 #[tactic(auto, unfolding(crate::specs::inner::Walk::is_asked_of_words))]
 fn are_asked_of_words(conditions: &[Condition]) -> bool
     ensures { result ≡ list_any is_asked_of_words conditions.now }
@@ -64,6 +82,7 @@ fn are_asked_of_words(conditions: &[Condition]) -> bool
                 | Condition::SafeBeginning
                 | Condition::FdfaForms
                 | Condition::Steps
+                | Condition::WordClasses
         )
     })
 }
@@ -92,21 +111,17 @@ fn first_failing_apart(data: &LoadedData<'_>, conditions: &[Condition]) -> usize
         .unwrap_or(conditions.len())
 }
 
-/// The place of the first condition that fails of a number.
+/// The place of the first condition that fails of a number, if a character has it.
 fn first_failing_at(data: &LoadedData<'_>, conditions: &[Condition], number: u32) -> usize
-    ensures place { IsPlaceOfFirstFailing (λ c. IsMetAt data.now c number) conditions.now result }
-    ensures complete { IsComplete data.now.characters.decompositions.table }
+    ensures { IsPlaceOfFirstFailing (λ c. IsScalar number → IsMetAt data.now c number) conditions.now result }
 {
-    let characters = &data.characters;
-    let word = characters.word_of_number(number);
-    let mut asked = conditions.iter();
-    let place = match char::from_u32(number) {
-        // It is read here for all conditions.
-        Some(character) => {
-            let read = read_by_word(characters, character, word);
-            asked.position(|&condition| !is_met_at(data, condition, &read))
-        }
-        None => asked.position(|&condition| !is_met_elsewhere(data, condition, number, word)),
+    let Some(character) = char::from_u32(number) else {
+        return conditions.len();
     };
-    place.unwrap_or(conditions.len())
+    // It is read here for all conditions.
+    let read = read_character(&data.characters, character);
+    conditions
+        .iter()
+        .position(|&condition| !is_met_at(data, condition, &read))
+        .unwrap_or(conditions.len())
 }

@@ -149,6 +149,13 @@ pub const STEPPING: [Condition; 8] = [
     Condition::Steps,
 ];
 
+/// What is required of data of which only classes are read: parts of 4, 5 and 7.
+pub const CLASSES: [Condition; 3] = [
+    Condition::SurrogateClasses,
+    Condition::PastTheEnd,
+    Condition::WordClasses,
+];
+
 /// All that is required of canonical data, pairs and supplement.
 pub const EVERY: [Condition; 16] = [
     Condition::ItemLimit,

@@ -4,7 +4,6 @@
 mod blocks;
 pub mod characters;
 pub mod check;
-pub mod class_check;
 pub mod condition;
 mod hangul;
 pub mod laws;

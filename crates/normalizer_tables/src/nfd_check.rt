@@ -9,11 +9,10 @@ ghost use Rattle.normalizer_tables.specs.Refusals.{RefusesFirstFailing};
 ghost use Rattle.normalizer_tables.specs.declared.provider.DataMarkerInfo.TheVariants as marker;
 
 use crate::characters::CharacterData;
-use crate::check::first_failing;
+use crate::check::check;
 use crate::condition::{Condition, GREATEST_BOUNDS};
 use crate::loaded::LoadedData;
 use crate::provider::{DataError, DataMarkerInfo, DecompositionData, DecompositionTables};
-use crate::refusal::refusal_of;
 
 /// What is required of canonical data that a caller passes in: nothing of their cap.
 const NFD_DATA: [Condition; 9] = [
@@ -50,8 +49,5 @@ pub fn check_nfd_data<'a>(
 {
     let characters = CharacterData::new(decompositions, tables, None, false);
     let loaded = LoadedData::new(characters, GREATEST_BOUNDS, None, None);
-    match first_failing(&loaded, &NFD_DATA) {
-        Some(condition) => Err(refusal_of(DataMarkerInfo::NormalizerNfdDataV1, condition)),
-        None => Ok(()),
-    }
+    check(&loaded, DataMarkerInfo::NormalizerNfdDataV1, &NFD_DATA)
 }

@@ -1,12 +1,13 @@
 //! The data that normalisation works on, and the trait of their providers.
-ghost use Rattle.std.specs.Prelude.{◌≡◌, ◌↔◌, ◌⊎◌, Option, IfOk, IfErr, IsErrOf, IsNone};
-ghost use Rattle.normalizer_tables.specs.Data.{Decompositions, Lists, Supplement};
+ghost use Rattle.std.specs.Prelude.{◌≡◌, ◌↔◌, ◌⊎◌, Option, None, IfOk, IfErr, IsErrOf, IsNone};
+ghost use Rattle.normalizer_tables.specs.Data.{Decompositions, Lists, Supplement, lists_or_none};
 ghost use Rattle.normalizer_tables.specs.declared.provider.DataMarkerInfo.{DataMarkerInfo};
 ghost use Rattle.normalizer_tables.specs.declared.provider.DataMarkerInfo.TheVariants as marker;
 
 use crate::pairs::CanonicalCompositions;
 use crate::scalars::{Scalars16, Scalars24};
 use crate::table::CodePointTable;
+use std::alloc::Global;
 use std::marker::Model;
 use thiserror::Error;
 
@@ -109,6 +110,18 @@ impl Model for DecompositionTables {
     ghost view = { λ t. record { scalars16 = t.scalars16; scalars24 = t.scalars24 } };
 
     ghost inverse = { λ t. record { scalars16 = t.scalars16; scalars24 = t.scalars24 } };
+}
+
+impl DecompositionTables {
+    /// Returns tables without lists. It takes no memory.
+    pub fn empty(alloc: Global) -> Self
+        ensures { result ≡ lists_or_none None }
+    {
+        DecompositionTables {
+            scalars16: Scalars16::from(Vec::new(alloc)),
+            scalars24: Scalars24::from(Vec::new(alloc)),
+        }
+    }
 }
 
 /// What single decomposition steps need besides the words.

@@ -38,7 +38,7 @@ pub fn read_by_word<'a>(data: &CharacterData<'a>, character: char, word: u32) ->
     ensures same { result.character ≡ character }
 {
     let reading = data.reading_by(character, word);
-    let members = data.members_read_by(character, word, IgnoredCharacters::Dropped);
+    let members = data.members_of(character, reading, IgnoredCharacters::Dropped);
     ReadCharacter {
         character,
         word,

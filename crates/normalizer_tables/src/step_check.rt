@@ -1,12 +1,8 @@
-//! The complete check of canonical data and the supplement, by which characters are decomposed one step.
+//! The conditions on canonical data and the supplement, by which characters are decomposed one step.
 ghost use Rattle.std.specs.Prelude.{◌≡◌, ◌≢◌, ◌↔◌, [], Bool, IsTrue};
 ghost use Rattle.normal_forms.specs.Order.{order};
 ghost use Rattle.normalizer_tables.specs.Characters.{list_of};
-ghost use Rattle.normalizer_tables.specs.StepConditions.{
-  HasSoundStep,
-  IsSoundStep,
-  StepsHoldAt,
-};
+ghost use Rattle.normalizer_tables.specs.StepConditions.{HasSoundStep, IsSoundStep};
 ghost use Rattle.normalizer_tables.specs.Words.{read};
 ghost use Rattle.normalizer_tables.specs.inner.Read.{IsRead};
 ghost use Rattle.normalizer_tables.specs.Readings.{reading_by};
@@ -14,7 +10,6 @@ ghost use Rattle.normalizer_tables.specs.Ignored.{Dropped};
 ghost use Rattle.normalizer_tables.specs.declared.word.WordReading.TheVariants.{Fdfa};
 
 use crate::characters::{CharacterData, IgnoredCharacters};
-use crate::condition::Condition;
 use crate::members::Members;
 use crate::pair_check::results::{is_ordered_lists, is_spelled, put_in_order, write};
 use crate::provider::NonRecursiveDecompositionSupplement;
@@ -24,24 +19,6 @@ use crate::word::is_hangul_syllable;
 
 /// Room for a list, of at most 18 characters.
 const ROOM: usize = 18;
-
-/// Whether a condition holds of a character by its step.
-#[tactic(auto, unfolding(crate::specs::StepConditions::StepsHoldAt, crate::specs::StepConditions::AvoidsFdfa, crate::specs::Characters::reading_of_word))]
-pub(crate) fn steps_hold_at(
-    data: &CharacterData<'_>,
-    supplement: &NonRecursiveDecompositionSupplement,
-    condition: Condition,
-    read: &ReadCharacter<'_>,
-) -> bool
-    requires { IsRead data.now read.now }
-    ensures { IsTrue result ↔ StepsHoldAt data.now supplement.now condition read.now.character }
-{
-    match condition {
-        Condition::FdfaForms => avoids_fdfa(read.character as u32, read.word),
-        Condition::Steps => has_sound_step(data, supplement, read),
-        _ => true,
-    }
-}
 
 /// Whether the word of a number, flags aside, has not the form of U+FDFA: that of a Hangul syllable never has.
 #[tactic(auto, using(crate::proofs::FdfaWords::syllable_avoids, crate::proofs::FdfaWords::other_avoids))]
@@ -53,7 +30,7 @@ pub(crate) fn avoids_fdfa(number: u32, word: u32) -> bool
 
 /// Whether a character has a sound step unless it is a Hangul syllable.
 #[tactic(auto, unfolding(crate::specs::StepConditions::HasSoundStep))]
-fn has_sound_step(
+pub(crate) fn has_sound_step(
     data: &CharacterData<'_>,
     supplement: &NonRecursiveDecompositionSupplement,
     read: &ReadCharacter<'_>,

@@ -7,7 +7,7 @@ ghost use Rattle.std.specs.List.{list_all};
 ghost use Rattle.normalizer_tables.specs.Table.{word_at, code_points, IsNextWithWord};
 
 use crate::blocks::Blocks;
-use std::alloc::AllocError;
+use std::alloc::{AllocError, Global};
 use std::marker::Model;
 use thiserror::Error;
 
@@ -54,6 +54,11 @@ impl Model for CodePointTable {
 }
 
 impl CodePointTable {
+    /// Returns the allocator of the table.
+    pub fn allocator(&self) -> Global {
+        self.words.allocator()
+    }
+
     /// Makes a table from triples of first code point, last code point and word. A code point in no range has the word
     /// 0, and every number above 0x10FFFF has `past`.
     ///

@@ -1,16 +1,20 @@
 -- How the check goes over the numbers, from one word that isn't 0 to the next, and what it checks of all others before.
-use Rattle.std.specs.Prelude.{◌≡◌, ℕ, ◌+◌, ◌-◌, ◌/◌, ◌<◌, ◌≤◌, Bool, true, false, List, IfSome}
+use Rattle.std.specs.Prelude.{◌≡◌, ℕ, ◌+◌, ◌-◌, ◌/◌, ◌<◌, ◌≤◌, Bool, true, false, List, [], All, IfSome}
+use Rattle.std.specs.Char.{IsScalar}
 use Rattle.normalizer_tables.specs.declared.condition.Bounds.{Bounds}
 use Rattle.normalizer_tables.specs.declared.condition.Condition.{Condition}
-use Rattle.normalizer_tables.specs.declared.condition.Condition.TheVariants.{Surrogates, Hangul, Words, Members, Order}
-use Rattle.normalizer_tables.specs.declared.condition.Condition.TheVariants.{Passthrough, RoundTrip, SafeBeginning}
-use Rattle.normalizer_tables.specs.declared.condition.Condition.TheVariants.{FdfaForms, Steps}
-use Rattle.normalizer_tables.specs.Characters.{Characters, word_of}
-use Rattle.normalizer_tables.specs.Conditions.{IsSoundHangul, is_surrogate}
+use Rattle.normalizer_tables.specs.declared.condition.Condition.TheVariants.{Words, Members, Order, Passthrough}
+use Rattle.normalizer_tables.specs.declared.condition.Condition.TheVariants.{RoundTrip, SafeBeginning, FdfaForms}
+use Rattle.normalizer_tables.specs.declared.condition.Condition.TheVariants.{Steps, WordClasses}
+use Rattle.normalizer_tables.specs.Characters.{Characters, list_of, word_of}
+use Rattle.normalizer_tables.specs.CharacterConditions.{IsOrderedList, IsPlainStarter, IsSoundClass, IsSoundWord}
+use Rattle.normalizer_tables.specs.CharacterConditions.{ReadsToItself}
+use Rattle.normalizer_tables.specs.Conditions.{IsMet}
 use Rattle.normalizer_tables.specs.Hangul.{is_hangul_syllable, n_count, s_base}
-use Rattle.normalizer_tables.specs.Loaded.{Loaded, IsMetOverall}
-use Rattle.normalizer_tables.specs.PairConditions.{KeepsBeginning}
+use Rattle.normalizer_tables.specs.Loaded.{Loaded}
+use Rattle.normalizer_tables.specs.PairConditions.{KeepsBeginning, KeepsRoundTrip}
 use Rattle.normalizer_tables.specs.Pairs.{Pair}
+use Rattle.normalizer_tables.specs.StepConditions.{AvoidsFdfa, HasSoundStep}
 use Rattle.normalizer_tables.specs.Table.{code_points}
 use Rattle.normalizer_tables.specs.Words.{is_plain}
 
@@ -31,15 +35,34 @@ pub record IsEndOfAlike (hangul_is_sound : Bool) (n end : ℕ) : Type 0 where
 unfoldable pub KeepsPlainBeginning : Characters → Bounds → List Pair → ℕ → Type 0
 KeepsPlainBeginning s b pairs n = is_plain (word_of s n) ≡ true → KeepsBeginning s b pairs n
 
--- what a condition requires of numbers apart from that walk: of surrogates and of Hangul whatever their words, else if
--- the word is 0, flags aside, and there of beginnings alone
-unfoldable pub IsMetApartAt : Loaded → Condition → Type 0
-IsMetApartAt d Surrogates = (n : ℕ) → is_surrogate n ≡ true → word_of d.characters n ≡ 0xC000FFFD
-IsMetApartAt d Hangul = (n : ℕ) → IsSoundHangul d.characters n
-IsMetApartAt d SafeBeginning = IfSome d.pairs (λ pairs. (n : ℕ) → KeepsPlainBeginning d.characters d.bounds pairs n)
-IsMetApartAt d _ = Unit {0}
+-- what is checked of a condition apart from that walk: all of it if it says nothing of single words, of beginnings those
+-- of characters whose word is 0, flags aside, and of the form of U+FDFA that numbers without a character don't have it
+unfoldable pub IsMetApart : Loaded → Condition → Type 0
+IsMetApart d Words = Unit {0}
+IsMetApart d Members = Unit {0}
+IsMetApart d Order = Unit {0}
+IsMetApart d Passthrough = Unit {0}
+IsMetApart d RoundTrip = Unit {0}
+IsMetApart d SafeBeginning = IfSome d.pairs (λ pairs. (n : ℕ) → KeepsPlainBeginning d.characters d.bounds pairs n)
+IsMetApart d FdfaForms = (n : ℕ) → (IsScalar n → ⊥) → AvoidsFdfa d.characters n
+IsMetApart d Steps = Unit {0}
+IsMetApart d WordClasses = Unit {0}
+IsMetApart d c = IsMet d c
 
--- a condition depends on words that aren't 0, beyond what was checked apart
+-- what a condition says of a character, if it says something of each
+unfoldable pub IsMetAt : Loaded → Condition → ℕ → Type 0
+IsMetAt d Words n = IsSoundWord d.characters n
+IsMetAt d Members n = All (ReadsToItself d.characters) (list_of d.characters [] n)
+IsMetAt d Order n = IsOrderedList d.characters n
+IsMetAt d Passthrough n = n < d.bounds.decomposition → IsPlainStarter d.characters n
+IsMetAt d RoundTrip n = IfSome d.pairs (λ pairs. KeepsRoundTrip d.characters d.bounds pairs n)
+IsMetAt d SafeBeginning n = IfSome d.pairs (λ pairs. KeepsBeginning d.characters d.bounds pairs n)
+IsMetAt d FdfaForms n = AvoidsFdfa d.characters n
+IsMetAt d Steps n = IfSome d.supplement (λ t. HasSoundStep d.characters t n)
+IsMetAt d WordClasses n = IsSoundClass n (word_of d.characters n)
+IsMetAt d c n = Unit {0}
+
+-- a condition says something of each character
 unfoldable pub is_asked_of_words : Condition → Bool
 is_asked_of_words Words = true
 is_asked_of_words Members = true
@@ -49,8 +72,5 @@ is_asked_of_words RoundTrip = true
 is_asked_of_words SafeBeginning = true
 is_asked_of_words FdfaForms = true
 is_asked_of_words Steps = true
+is_asked_of_words WordClasses = true
 is_asked_of_words _ = false
-
--- what a condition says apart from the walk
-unfoldable pub IsMetApart : Loaded → Condition → Type 0
-IsMetApart d c = IsMetOverall d c × IsMetApartAt d c

@@ -5,7 +5,7 @@ ghost use Rattle.normal_forms.specs.Boundary.{BeginsWithStarter};
 ghost use Rattle.normal_forms.specs.Order.{order};
 ghost use Rattle.normal_forms.specs.Reading.{IsStarter};
 ghost use Rattle.normalizer_tables.specs.Characters.{class_of, reading_of_word};
-ghost use Rattle.normalizer_tables.specs.Conditions.{
+ghost use Rattle.normalizer_tables.specs.CharacterConditions.{
   HasMarksBehind,
   IsOrderedList,
   KeepsPromise,
@@ -63,7 +63,7 @@ fn begins_with_starter(data: &CharacterData<'_>, list: &Members<'_>) -> bool
 }
 
 /// Whether the members of the list of a character have the classes that its word promises.
-#[tactic(auto, unfolding(crate::specs::Conditions::KeepsPromise))]
+#[tactic(auto, unfolding(crate::specs::CharacterConditions::KeepsPromise))]
 fn keeps_promise(data: &CharacterData<'_>, read: &ReadCharacter<'_>) -> bool
     requires { IsRead data.now read.now }
     ensures { IsTrue result ↔

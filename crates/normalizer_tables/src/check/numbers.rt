@@ -1,61 +1,27 @@
-//! What the conditions say of each number.
-ghost use Rattle.std.specs.Prelude.{◌≡◌, ◌↔◌, ◌<◌, ◌≤◌, ℕ, [], Some, true, IsTrue, All};
+//! What the conditions say of single words and lists.
+ghost use Rattle.std.specs.Prelude.{◌≡◌, ◌↔◌, ◌<◌, ℕ, [], Some, true, false, IsTrue, All};
 ghost use Rattle.std.specs.Int.{is_in_range};
 ghost use Rattle.normalizer_tables.specs.Characters.{Characters, list_of, word_of};
-ghost use Rattle.normalizer_tables.specs.ClassConditions.{IsSoundClass};
-ghost use Rattle.normalizer_tables.specs.Conditions.{
-  HoldsAt,
+ghost use Rattle.normalizer_tables.specs.CharacterConditions.{
   IsPlainStarter,
+  IsSoundClass,
   IsSoundHangul,
   IsSoundWord,
   ReadsToItself,
   is_composing_jamo,
   is_surrogate,
 };
-ghost use Rattle.normalizer_tables.specs.Hangul.{is_hangul_syllable};
+ghost use Rattle.normalizer_tables.specs.Words.{is_class_form};
 ghost use Rattle.normalizer_tables.specs.inner.Read.{IsRead};
 
 use crate::characters::CharacterData;
-use crate::check::lists::is_ordered_list;
-use crate::condition::{Bounds, Condition};
 use crate::pair_check::results::is_spelled;
-use crate::read::{ReadCharacter, read_character};
+use crate::read::{ReadCharacter, read_by_word, read_character};
 use crate::special::fixed_list_of;
 use crate::word::{
     IGNORED_MARKER, SURROGATE_WORD, class_of_word, is_backward_combining, is_class_form,
-    is_hangul_syllable, is_ordinary_class_form, is_special_class_form, low_byte,
+    is_ordinary_class_form, is_plain, is_special_class_form, low_byte,
 };
-
-/// Whether a condition holds of a character.
-#[tactic(auto, using(crate::proofs::ConditionLemmas::no_surrogate), unfolding(crate::specs::Conditions::HoldsAt))]
-pub fn holds_at(
-    data: &CharacterData<'_>,
-    bounds: Bounds,
-    condition: Condition,
-    read: &ReadCharacter<'_>,
-) -> bool
-    requires { IsRead data.now read.now }
-    ensures { IsTrue result ↔ HoldsAt data.now bounds condition read.now.character }
-{
-    match condition {
-        Condition::Hangul => is_sound_hangul(read),
-        Condition::Words => is_sound_word(data, read),
-        Condition::Members => reads_in_full(data, read),
-        Condition::Order => is_ordered_list(data, read),
-        Condition::Passthrough => {
-            (read.character as u32) >= bounds.decomposition || is_plain_starter(read)
-        }
-        _ => true,
-    }
-}
-
-/// Whether a number is no surrogate, or has the word of one.
-#[tactic(auto, unfolding(crate::specs::Conditions::is_surrogate))]
-pub fn is_sound_surrogate(number: u32, word: u32) -> bool
-    ensures { IsTrue result ↔ (is_surrogate number ≡ true → word ≡ 0xC000FFFD) }
-{
-    !matches!(number, 0xD800..=0xDFFF) || word == SURROGATE_WORD
-}
 
 /// Whether all numbers from one to another have this word.
 fn have_word(data: &CharacterData<'_>, first: u32, last: u32, word: u32) -> bool
@@ -70,16 +36,29 @@ fn have_word(data: &CharacterData<'_>, first: u32, last: u32, word: u32) -> bool
 }
 
 /// Whether all surrogates have their word.
-#[tactic(auto, unfolding(crate::specs::Conditions::is_surrogate))]
+#[tactic(auto, unfolding(crate::specs::CharacterConditions::is_surrogate))]
 pub fn have_surrogate_words(data: &CharacterData<'_>) -> bool
     ensures { IsTrue result ↔ ((n : ℕ) → is_surrogate n ≡ true → word_of data.now n ≡ 0xC000FFFD) }
 {
     have_word(data, 0xD800, 0xDFFF, SURROGATE_WORD)
 }
 
+/// Whether no surrogate has a class form.
+#[tactic(auto, unfolding(crate::specs::CharacterConditions::is_surrogate))]
+pub fn have_no_surrogate_classes(data: &CharacterData<'_>) -> bool
+    ensures { IsTrue result ↔ ((n : ℕ) → is_surrogate n ≡ true → is_class_form (word_of data.now n) ≡ false) }
+{
+    for surrogate in 0xD800..0xE000 {
+        if is_class_form(data.word_of_number(surrogate)) {
+            return false;
+        }
+    }
+    true
+}
+
 /// Whether all Hangul syllables have the word 1, and all jamo of one read to themselves with class 0. The lists of
 /// syllables need no look.
-#[tactic(auto, unfolding(crate::specs::Conditions::is_composing_jamo))]
+#[tactic(auto, unfolding(crate::specs::CharacterConditions::is_composing_jamo))]
 pub fn have_sound_hangul(data: &CharacterData<'_>) -> bool
     ensures { IsTrue result ↔ ((n : ℕ) → IsSoundHangul data.now n) }
 {
@@ -92,7 +71,7 @@ pub fn have_sound_hangul(data: &CharacterData<'_>) -> bool
 }
 
 /// Whether a number is that of no jamo of a syllable, or of one that reads to itself with class 0.
-#[tactic(auto, unfolding(crate::specs::Conditions::is_composing_jamo))]
+#[tactic(auto, unfolding(crate::specs::CharacterConditions::is_composing_jamo))]
 fn is_sound_jamo(data: &CharacterData<'_>, number: u32) -> bool
     ensures { IsTrue result ↔ (is_composing_jamo number ≡ true → IsPlainStarter data.now number) }
 {
@@ -105,27 +84,15 @@ fn is_sound_jamo(data: &CharacterData<'_>, number: u32) -> bool
 }
 
 /// Whether a character takes part in Hangul syllables as one of their jamo.
-#[tactic(auto, unfolding(crate::specs::Conditions::is_composing_jamo))]
+#[tactic(auto, unfolding(crate::specs::CharacterConditions::is_composing_jamo))]
 fn is_composing_jamo(character: char) -> bool
     ensures { result ≡ is_composing_jamo character }
 {
     matches!(character, '\u{1100}'..='\u{1112}' | '\u{1161}'..='\u{1175}' | '\u{11A8}'..='\u{11C2}')
 }
 
-/// Whether a Hangul syllable has the word 1, or a jamo reads to itself with class 0.
-#[tactic(auto, unfolding(crate::specs::Hangul::is_hangul_syllable, crate::specs::Conditions::is_composing_jamo))]
-fn is_sound_hangul(read: &ReadCharacter<'_>) -> bool
-    ensures { (s : Characters) → IsRead s read.now → IsTrue result ↔ IsSoundHangul s read.now.character }
-{
-    if is_hangul_syllable(read.character as u32) {
-        read.word == 1
-    } else {
-        !is_composing_jamo(read.character) || is_plain_starter(read)
-    }
-}
-
 /// Whether a character reads to itself with class 0.
-#[tactic(auto, using(crate::proofs::ReadLemmas::readings), unfolding(crate::specs::Conditions::IsPlainStarter, crate::specs::Conditions::ReadsToItself))]
+#[tactic(auto, using(crate::proofs::ReadLemmas::readings), unfolding(crate::specs::CharacterConditions::IsPlainStarter, crate::specs::CharacterConditions::ReadsToItself))]
 pub fn is_plain_starter(read: &ReadCharacter<'_>) -> bool
     ensures { (s : Characters) → IsRead s read.now → IsTrue result ↔ IsPlainStarter s read.now.character }
 {
@@ -133,7 +100,7 @@ pub fn is_plain_starter(read: &ReadCharacter<'_>) -> bool
 }
 
 /// Whether the word of a character reads, and to the character alone.
-#[tactic(auto, using(crate::proofs::ReadLemmas::readings), unfolding(crate::specs::Conditions::ReadsToItself))]
+#[tactic(auto, using(crate::proofs::ReadLemmas::readings), unfolding(crate::specs::CharacterConditions::ReadsToItself))]
 fn reads_to_itself(read: &ReadCharacter<'_>) -> bool
     ensures { (s : Characters) → IsRead s read.now → IsTrue result ↔ ReadsToItself s read.now.character }
 {
@@ -141,7 +108,7 @@ fn reads_to_itself(read: &ReadCharacter<'_>) -> bool
 }
 
 /// Whether the word of a character reads, and keeps the rules of its form.
-fn is_sound_word(data: &CharacterData<'_>, read: &ReadCharacter<'_>) -> bool
+pub fn is_sound_word(data: &CharacterData<'_>, read: &ReadCharacter<'_>) -> bool
     requires { IsRead data.now read.now }
     ensures { IsTrue result ↔ IsSoundWord data.now read.now.character }
 {
@@ -153,7 +120,7 @@ fn is_sound_word(data: &CharacterData<'_>, read: &ReadCharacter<'_>) -> bool
 
 /// Whether a word is no class form, or has a class that its character may have.
 #[tactic(auto, using(crate::proofs::ConditionLemmas::one_class_form))]
-pub(crate) fn is_sound_class(character: char, word: u32) -> bool
+pub fn is_sound_class(character: char, word: u32) -> bool
     ensures { IsTrue result ↔ IsSoundClass character word }
 {
     if is_ordinary_class_form(word) {
@@ -167,7 +134,7 @@ pub(crate) fn is_sound_class(character: char, word: u32) -> bool
 
 /// Whether every member of the list of a character reads to itself.
 #[tactic(auto, using(crate::proofs::ConditionLemmas::itself_reads_in_full))]
-fn reads_in_full(data: &CharacterData<'_>, read: &ReadCharacter<'_>) -> bool
+pub fn reads_in_full(data: &CharacterData<'_>, read: &ReadCharacter<'_>) -> bool
     requires { IsRead data.now read.now }
     ensures { IsTrue result ↔ All (ReadsToItself data.now) (list_of data.now [] read.now.character) }
 {
@@ -176,9 +143,18 @@ fn reads_in_full(data: &CharacterData<'_>, read: &ReadCharacter<'_>) -> bool
         return true;
     }
     for place in 0..read.list.len() {
-        if !reads_to_itself(&read_character(data, read.list.at(place))) {
+        if !member_reads_to_itself(data, read.list.at(place)) {
             return false;
         }
     }
     true
+}
+
+/// Whether a member of a list reads to itself. Most have a word that is 0, flags aside.
+#[tactic(auto, using(crate::proofs::ConditionLemmas::plain_words), unfolding(crate::specs::CharacterConditions::ReadsToItself))]
+fn member_reads_to_itself(data: &CharacterData<'_>, member: char) -> bool
+    ensures { IsTrue result ↔ ReadsToItself data.now member }
+{
+    let word = data.word_of(member);
+    is_plain(word) || reads_to_itself(&read_by_word(data, member, word))
 }

@@ -1,36 +1,21 @@
-//! What the conditions say of the data as a whole.
-ghost use Rattle.std.specs.Prelude.{◌↔◌, ◌+◌, ◌-◌, ◌≤◌, IsTrue};
+//! The conditions that are checked of the data as a whole.
+ghost use Rattle.std.specs.Prelude.{◌↔◌, ◌+◌, ◌-◌, ◌≤◌, ℕ, IsTrue};
+ghost use Rattle.std.specs.Char.{IsScalar};
 ghost use Rattle.std.specs.Option.{SomeIff};
-ghost use Rattle.normalizer_tables.specs.Conditions.{
-  HoldsOverall,
-  IsFlaggedReplacement,
-  item_count,
-  item_limit,
-};
+ghost use Rattle.normalizer_tables.specs.CharacterConditions.{IsFlaggedReplacement, item_count};
+ghost use Rattle.normalizer_tables.specs.Conditions.{item_limit};
+ghost use Rattle.normalizer_tables.specs.StepConditions.{AvoidsFdfa};
 
-use crate::characters::CharacterData;
+use crate::characters::{CODE_POINTS, CharacterData};
 use crate::check::numbers::is_plain_starter;
-use crate::condition::{CAP_LIMIT, Condition, ITEM_LIMIT};
+use crate::condition::ITEM_LIMIT;
 use crate::provider::DecompositionTables;
 use crate::read::read_character;
-use crate::word::{is_backward_combining, is_class_form, is_non_round_trip};
-
-/// Returns whether data meet what a condition says of them as a whole.
-#[tactic(auto, unfolding(crate::specs::Conditions::HoldsOverall))]
-pub fn holds_overall(data: &CharacterData<'_>, condition: Condition) -> bool
-    ensures { IsTrue result ↔ HoldsOverall data.now condition }
-{
-    match condition {
-        Condition::ItemLimit => items_fit(data),
-        Condition::CapLimit => data.cap() <= CAP_LIMIT,
-        Condition::ReplacementCharacter => is_flagged_replacement(data),
-        Condition::PastTheEnd => !is_class_form(data.past()),
-        _ => true,
-    }
-}
+use crate::step_check::avoids_fdfa;
+use crate::word::{is_backward_combining, is_non_round_trip};
 
 /// Whether the tables together have at most as many items as they may.
-fn items_fit(data: &CharacterData<'_>) -> bool
+pub fn items_fit(data: &CharacterData<'_>) -> bool
     ensures { IsTrue result ↔ (item_count data.now.tables + item_count data.now.supplementary ≤ item_limit) }
 {
     let Some(room) = room_after(ITEM_LIMIT, data.tables()) else {
@@ -51,10 +36,23 @@ fn room_after(room: usize, tables: &DecompositionTables) -> Option<usize>
 }
 
 /// Whether U+FFFD reads to itself with class 0, and has NON_ROUND_TRIP alone.
-#[tactic(auto, unfolding(crate::specs::Conditions::IsFlaggedReplacement))]
-fn is_flagged_replacement(data: &CharacterData<'_>) -> bool
+#[tactic(auto, unfolding(crate::specs::CharacterConditions::IsFlaggedReplacement))]
+pub fn is_flagged_replacement(data: &CharacterData<'_>) -> bool
     ensures { IsTrue result ↔ IsFlaggedReplacement data.now }
 {
     let read = read_character(data, char::REPLACEMENT_CHARACTER);
     is_plain_starter(&read) && is_non_round_trip(read.word) && !is_backward_combining(read.word)
+}
+
+/// Whether no number that is no character has a word with the form of U+FDFA: no surrogate, and none past the code
+/// points.
+pub fn avoid_fdfa_elsewhere(data: &CharacterData<'_>) -> bool
+    ensures { IsTrue result ↔ ((n : ℕ) → (IsScalar n → ⊥) → AvoidsFdfa data.now n) }
+{
+    for surrogate in 0xD800..0xE000 {
+        if !avoids_fdfa(surrogate, data.word_of_number(surrogate)) {
+            return false;
+        }
+    }
+    avoids_fdfa(CODE_POINTS, data.word_of_number(CODE_POINTS))
 }

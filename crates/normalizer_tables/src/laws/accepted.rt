@@ -9,14 +9,15 @@ ghost use Rattle.normalizer_tables.specs.AcceptedData.{
   IsAccepted,
   SuitsMapper,
   SuitsTexts,
+  class_conditions,
 };
 ghost use Rattle.normalizer_tables.specs.Characters.{Characters, characters_from};
-ghost use Rattle.normalizer_tables.specs.ClassConditions.{HoldsOfClasses, class_conditions};
-ghost use Rattle.normalizer_tables.specs.Conditions.{Holds};
+ghost use Rattle.normalizer_tables.specs.Conditions.{IsMet};
 ghost use Rattle.normalizer_tables.specs.Data.{Decompositions, Lists};
 ghost use Rattle.normalizer_tables.specs.Ignored.{IgnoredCharacters, Dropped};
+ghost use Rattle.normalizer_tables.specs.Loaded.{characters_loaded, classes_loaded, pairs_loaded};
 ghost use Rattle.normalizer_tables.specs.NfdData.{IsSoundNfdData, nfd_bounds};
-ghost use Rattle.normalizer_tables.specs.PairConditions.{AreSoundPairs, HoldsOfPairs};
+ghost use Rattle.normalizer_tables.specs.PairConditions.{AreSoundPairs};
 ghost use Rattle.normalizer_tables.specs.Pairs.{Pair, pair_of};
 ghost use Rattle.normalizer_tables.specs.SoundData.{Bounds, IsSoundData};
 ghost use Rattle.normalizer_tables.specs.Readings.{reading_by, reading_of};
@@ -63,14 +64,14 @@ pub fn results_are_characters()
 
 /// What is required for classes alone is part of what is required of whole data: conditions 4, 5 and 7.
 pub fn accepted_data_have_sound_classes()
-    ensures { (s : Characters) (b : Bounds) →
-        Holds s b condition.Surrogates → Holds s b condition.PastTheEnd → Holds s b condition.Words →
-        All (HoldsOfClasses s.decompositions.table) class_conditions }
+    ensures { (s : Characters) (b : Bounds) → IsMet (characters_loaded s b) condition.Surrogates →
+        IsMet (characters_loaded s b) condition.PastTheEnd → IsMet (characters_loaded s b) condition.Words →
+        All (IsMet (classes_loaded s.decompositions)) class_conditions }
 {}
 
 /// What is required of pairs alone is part of what is required of data with pairs: condition 11.
-#[tactic(auto, unfolding(crate::specs::PairConditions::HoldsOfPairs, crate::specs::PairConditions::PairsHoldOverall))]
+#[tactic(auto, unfolding(crate::specs::Conditions::IsMet))]
 pub fn accepted_pairs_are_sound()
-    ensures { (s : Characters) (b : Bounds) (pairs : List Pair) → HoldsOfPairs s b pairs condition.Pairs →
+    ensures { (s : Characters) (b : Bounds) (pairs : List Pair) → IsMet (pairs_loaded s b pairs) condition.Pairs →
         AreSoundPairs pairs }
 {}

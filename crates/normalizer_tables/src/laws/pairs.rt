@@ -8,9 +8,10 @@ ghost use Rattle.normal_forms.specs.Forms.{IsNormalized, nfd};
 ghost use Rattle.normal_forms.specs.declared.Form.TheVariants as form;
 ghost use Rattle.normal_forms.specs.Hypotheses.{HasFaithfulResults, HasStarterResults};
 ghost use Rattle.normalizer_tables.specs.Characters.{Characters, list_of};
-ghost use Rattle.normalizer_tables.specs.Conditions.{Holds};
+ghost use Rattle.normalizer_tables.specs.Conditions.{IsMet};
+ghost use Rattle.normalizer_tables.specs.Loaded.{characters_loaded, pairs_loaded};
 ghost use Rattle.normalizer_tables.specs.Ignored.{IgnoredCharacters, ignored_list, Dropped};
-ghost use Rattle.normalizer_tables.specs.PairConditions.{HasOrderedLists, HoldsOfPairs, is_passed};
+ghost use Rattle.normalizer_tables.specs.PairConditions.{HasOrderedLists, is_passed};
 ghost use Rattle.normalizer_tables.specs.Pairs.{Pair};
 ghost use Rattle.normalizer_tables.specs.SoundData.{Bounds};
 ghost use Rattle.normalizer_tables.specs.Readings.{reading_by};
@@ -19,7 +20,7 @@ ghost use Rattle.normalizer_tables.specs.declared.condition.Condition.TheVariant
 /// What a pair composes to is a starter: conditions 6 and 11.
 pub fn results_are_starters()
     ensures { (s : Characters) (b : Bounds) (pairs : List Pair) →
-        Holds s b condition.Hangul → HoldsOfPairs s b pairs condition.Pairs →
+        IsMet (characters_loaded s b) condition.Hangul → IsMet (pairs_loaded s b pairs) condition.Pairs →
         (i : IgnoredCharacters) → HasStarterResults (reading_by s i pairs) }
 {}
 
@@ -27,10 +28,10 @@ pub fn results_are_starters()
 /// the composition reads.
 pub fn results_are_faithful()
     ensures of_lists { (s : Characters) (b : Bounds) (pairs : List Pair) (i : IgnoredCharacters) →
-        Holds s b condition.Hangul → All (HasOrderedLists s (ignored_list i)) pairs →
+        IsMet (characters_loaded s b) condition.Hangul → All (HasOrderedLists s (ignored_list i)) pairs →
         HasFaithfulResults (reading_by s i pairs) }
     ensures of_condition { (s : Characters) (b : Bounds) (pairs : List Pair) →
-        Holds s b condition.Hangul → HoldsOfPairs s b pairs condition.Results →
+        IsMet (characters_loaded s b) condition.Hangul → IsMet (pairs_loaded s b pairs) condition.Results →
         HasFaithfulResults (reading_by s Dropped pairs) }
 {}
 
@@ -38,15 +39,15 @@ pub fn results_are_faithful()
 /// conditions 9, 12 and 13.
 pub fn passed_characters_stand_apart()
     ensures form { (s : Characters) (b : Bounds) (pairs : List Pair) →
-        Holds s b condition.Order → HoldsOfPairs s b pairs condition.RoundTrip →
+        IsMet (characters_loaded s b) condition.Order → IsMet (pairs_loaded s b pairs) condition.RoundTrip →
         (i : IgnoredCharacters) (c : ℕ) → IsScalar c → is_passed s b c ≡ true →
         IsNormalized (reading_by s i pairs) form.Composing (c ∷ []) }
     ensures beginning { (s : Characters) (b : Bounds) (pairs : List Pair) →
-        HoldsOfPairs s b pairs condition.SafeBeginning →
+        IsMet (pairs_loaded s b pairs) condition.SafeBeginning →
         (i : IgnoredCharacters) (c : ℕ) → IsScalar c → is_passed s b c ≡ true →
         BeginsSafely (reading_by s i pairs) (list_of s (ignored_list i) c) }
     ensures inhabited { (s : Characters) (b : Bounds) (pairs : List Pair) →
-        HoldsOfPairs s b pairs condition.SafeBeginning →
+        IsMet (pairs_loaded s b pairs) condition.SafeBeginning →
         (i : IgnoredCharacters) (c : ℕ) → IsScalar c → is_passed s b c ≡ true →
         list_of s (ignored_list i) c ≢ [] }
 {}

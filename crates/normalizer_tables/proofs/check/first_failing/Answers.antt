@@ -1,10 +1,10 @@
 use Rattle.std.proofs.Common.{◌∙◌, sym, subst, arith}
 use Rattle.normalizer_tables.specs.Characters.{IsNextWord}
 use Rattle.normalizer_tables.specs.Table.{code_points}
-use Rattle.normalizer_tables.specs.inner.Walk.{IsMetApart}
 use Rattle.normalizer_tables.proofs.FirstFailing.{FailsFirst-all, copied_slice_get, FailsFirst-step, has_sound_hangul, unasked}
-use Rattle.normalizer_tables.proofs.LoadedLemmas.{IsMet-within}
-use Rattle.normalizer_tables.proofs.WalkLemmas.{IsMet-apart, IsMetAt-answered}
+use Rattle.normalizer_tables.proofs.LoadedLemmas.{IsMet-parts}
+use Rattle.normalizer_tables.proofs.PairConditionLemmas.{scalar_below}
+use Rattle.normalizer_tables.proofs.WalkLemmas.{IsMetAt-answered}
 use Rattle.normalizer_tables.proofs.check.first_failing.Goals as goal
 use Rattle.normalizer_tables.proofs.check.first_failing.Goals.{then-loop-from-test+else-are_asked_of_words, else-loop-from-test}
 
@@ -13,11 +13,10 @@ loop-from-init c =
     let apart = c.first_failing_apart-failing.ensures in
     record {
       within = omega arith;
-      complete = λ positive. absurd (omega arith);
       first = record {
         within = apart.within;
         before = λ k d low kh. (apart.before k d low kh, λ n none. absurd (omega arith));
-        fails = λ k e met. apart.fails k e (IsMet-apart c.args.data.now k met);
+        fails = λ k e met. apart.fails k e ((IsMet-parts c.args.data.now k).0 met).0;
       };
     }
 
@@ -28,23 +27,22 @@ loop-from-preserved c =
     let next = subst (λ d. IsNextWord d.characters c.loop-from.from c.next_with_word-number.result) c.data.view_is c.next_with_word-number.ensures in
     record {
       within = c.end_of_alike-from.ensures.within next.within;
-      complete = λ positive. c.first_failing_at-failing.ensures.complete;
       first =
           FailsFirst-step c.args.data.now c.args.conditions.now c.loop-from.from c.next_with_word-number.result c.end_of_alike-from.result c.loop-from.failing c.first_failing_at-failing.result
           c.loop-from.invariant.first
           (IsMetAt-answered c.args.data.now c.asks_hangul-hangul_is_sound.result
           (λ asked. has_sound_hangul c.args.data.now c.args.conditions.now c.first_failing_apart-failing.result apart (c.asks_hangul-hangul_is_sound.ensures.0 asked)) c.loop-from.from
           c.next_with_word-number.result c.end_of_alike-from.result next c.end_of_alike-from.ensures)
-          c.first_failing_at-failing.ensures.place;
+          c.first_failing_at-failing.ensures;
     }
 
 pub returns : goal.returns
-unfolding IsMetApart
+unfolding code_points
 returns c =
     FailsFirst-all c.args.data.now c.args.conditions.now c.loop-from.from c.loop-from.failing c.copied.result c.loop-from.invariant.first
     (elim c.loop-from-test.branch [
       | then-loop-from-test+else-are_asked_of_words w ↦
           unasked c.args.data.now c.args.conditions.now c.loop-from.from c.loop-from.failing c.loop-from.invariant.first.within (sym w.if-are_asked_of_words.ensures)
-      | else-loop-from-test w ↦ λ k d low kh met. IsMet-within c.args.data.now _ (c.loop-from.invariant.complete (omega arith)) met.0.0 (λ n nh. met.1 n (omega arith))
+      | else-loop-from-test w ↦ λ k d low kh met. (IsMet-parts c.args.data.now _).1 (met.0, λ n is. met.1 n (omega (arith, scalar_below n is)) is)
     ])
     (c.copied.ensures ∙ copied_slice_get c.args.conditions.now c.loop-from.failing c.get.result c.get.ensures.lookup.1 c.get.ensures.lookup.3)

@@ -1,12 +1,10 @@
-use Rattle.std.proofs.Common.{◌-◌, ◌<◌, ◌≤◌}
-use Rattle.normalizer_tables.specs.Ranges.{IsComplete}
+use Rattle.std.proofs.Common.{◌-◌, ◌≤◌}
 use Rattle.normalizer_tables.proofs.FirstFailing.{FailsFirst}
 use Rattle.normalizer_tables.proofs.check.first_failing.Given as goal
 
 abbrev pub invariant-loop-from : goal.invariant-loop-from
 invariant-loop-from l = record {
   within : l.from ≤ 0x110001;
-  complete : 0 < l.from → IsComplete l.data.characters.decompositions.table;
   first : FailsFirst l.data l.conditions l.from l.failing;
 }
 

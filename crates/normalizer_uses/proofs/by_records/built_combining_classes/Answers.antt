@@ -6,5 +6,5 @@ use Rattle.normalizer_uses.proofs.by_records.built_combining_classes.Goals as go
 pub returns-clause-refused : goal.returns-clause-refused
 returns-clause-refused c =
     let met = c.what_is_built_is_accepted.ensures.classes c.requires.0 c.requires.1 _ c.requires.2 in
-    let never = c.data_that_meet_conditions_are_accepted.ensures.classes in
-    IsOkUnless-memory (RefusesClasses NormalizerNfdDataV1 c.args.built.now.packed.canonical) (λ e refuses. never _ refuses.0 met refuses.1) _ c.try_new_unstable.ensures.1
+    let never = c.data_that_meet_conditions_are_accepted.ensures.refused in
+    IsOkUnless-memory (RefusesClasses NormalizerNfdDataV1 c.args.built.now.packed.canonical) (λ e refuses. never _ _ NormalizerNfdDataV1 e met refuses) _ c.try_new_unstable.ensures.1

@@ -1,20 +1,16 @@
 use Rattle.std.proofs.Common.{refl}
-use Rattle.normalizer_tables.specs.Conditions.{IsFirstFailing}
 use Rattle.normalizer_tables.specs.Characters.{characters_from}
 use Rattle.normalizer_calls.specs.Acceptance.{SuitsDecomposing}
 use Rattle.normalizer_calls.proofs.AcceptedData.{ServesDecomposing-met}
 use Rattle.normalizer_calls.proofs.normalizer.DecomposingNormalizer.over.Goals as goal
-use Rattle.normalizer_calls.proofs.normalizer.DecomposingNormalizer.over.Goals.{In-None}
+use Rattle.normalizer_calls.proofs.normalizer.DecomposingNormalizer.over.Goals.{In_ok-check}
 
 -- the data that were supplied meet the conditions
-met : (c : In-None) → SuitsDecomposing (characters_from c.args.decompositions c.args.tables c.args.supplementary)
-unfolding IsFirstFailing
-met c =
-    let h = c.in-None.ensures in
-    rw (c.new-loaded.ensures, c.of_cap-bounds.ensures, c.cap.ensures, c.new-characters.ensures, c.as_ref.ensures.value) at h
+met : (c : In_ok-check) → SuitsDecomposing (characters_from c.args.decompositions c.args.tables c.args.supplementary)
+met c = let h = c.in_ok-check.ensures.ok.0 refl in rw (c.new-loaded.ensures, c.of_cap-bounds.ensures, c.cap.ensures, c.new-characters.ensures, c.as_ref.ensures.value) at h
 
 pub invariant_of-result : goal.invariant_of-result
 invariant_of-result c = record { serves = ServesDecomposing-met _ refl (met c) }
 
-pub returns-in-None-clause-ok : goal.returns-in-None-clause-ok
-returns-in-None-clause-ok c = (refl, met (goal.at.returns-in-None-clause-ok c).In-None)
+pub returns-clause-ok : goal.returns-clause-ok
+returns-clause-ok c = (refl, met (goal.at.returns-clause-ok c).In_ok-check)

@@ -6,4 +6,4 @@ use Rattle.normalizer_properties.proofs.combining_class.CanonicalCombiningClassM
 pub returns : goal.returns
 returns c =
     let word = c.get32.ensures.word ∙ ap (λ d. word_at d.table c.args.number) c.decompositions.view_is in
-    c.class_of_word.ensures ∙ combining_class-word _ c.args.self.now.suits _ _ word (λ above. c.get32.ensures.past above ∙ ap (λ d. d.table.past) c.decompositions.view_is)
+    c.class_of_word.ensures ∙ combining_class-word _ c.args.self.now.classes _ _ word (λ above. c.get32.ensures.past above ∙ ap (λ d. d.table.past) c.decompositions.view_is)

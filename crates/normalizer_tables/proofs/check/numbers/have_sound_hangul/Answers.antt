@@ -1,6 +1,6 @@
 use Rattle.std.proofs.Common.{arith}
 use Rattle.std.proofs.lemmas.Bool.Decides.{nat_tests}
-use Rattle.normalizer_tables.specs.Conditions.{is_composing_jamo}
+use Rattle.normalizer_tables.specs.CharacterConditions.{is_composing_jamo}
 use Rattle.normalizer_tables.specs.Hangul.{is_hangul_syllable}
 use Rattle.normalizer_tables.proofs.check.numbers.have_sound_hangul.Goals as goal
 

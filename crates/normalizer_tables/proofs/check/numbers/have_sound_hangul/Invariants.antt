@@ -1,5 +1,5 @@
 use Rattle.std.proofs.Common.{◌≡◌, ℕ, ◌<◌, true}
-use Rattle.normalizer_tables.specs.Conditions.{IsPlainStarter, is_composing_jamo}
+use Rattle.normalizer_tables.specs.CharacterConditions.{is_composing_jamo, IsPlainStarter}
 use Rattle.normalizer_tables.proofs.check.numbers.have_sound_hangul.Given as goal
 
 -- all jamo so far are sound

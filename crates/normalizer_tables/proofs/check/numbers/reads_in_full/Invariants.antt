@@ -1,5 +1,5 @@
 use Rattle.std.specs.List.{AllWithin}
-use Rattle.normalizer_tables.specs.Conditions.{ReadsToItself}
+use Rattle.normalizer_tables.specs.CharacterConditions.{ReadsToItself}
 use Rattle.normalizer_tables.proofs.check.numbers.reads_in_full.Given as goal
 
 abbrev pub invariant-loop-place : goal.invariant-loop-place
