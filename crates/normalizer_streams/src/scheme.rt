@@ -164,7 +164,10 @@ impl EncodingScheme {
     {
         match self {
             EncodingScheme::Utf8 => characters(alloc, bytes),
-            EncodingScheme::Utf16(order) => characters(alloc, order.units(alloc, bytes)?.as_slice()),
+            EncodingScheme::Utf16(order) => characters(
+                alloc,
+                order.units(alloc, bytes)?.as_slice(),
+            ),
         }
     }
 

@@ -34,12 +34,7 @@ pub(crate) fn last_settled(
 }
 
 // Whether a whole character is at the place, with a boundary before it.
-fn is_settled(
-    scheme: EncodingScheme,
-    normalizer: &Normalizer,
-    bytes: &[u8],
-    place: usize,
-) -> bool
+fn is_settled(scheme: EncodingScheme, normalizer: &Normalizer, bytes: &[u8], place: usize) -> bool
     requires { place < length bytes.now }
     ensures settled { result ≡ true → IsSettled (form_by scheme normalizer.now) bytes.now place }
     ensures aligned { result ≡ true → is_aligned scheme place ≡ true }

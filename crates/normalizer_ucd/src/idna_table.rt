@@ -27,7 +27,9 @@ ghost use Rattle.normalizer_ucd.specs.IdnaTable.{
 ghost use Rattle.normalizer_ucd.specs.Reading.{Gives};
 
 use crate::error::{Place, Problem, UcdError, UcdFile};
-use crate::text::{after_first, before_first, characters, code_point, data_of, push_found, whole_lines};
+use crate::text::{
+    after_first, before_first, characters, code_point, data_of, push_found, whole_lines,
+};
 use crate::unicode_data::field_of;
 use normalizer_records::{Uts46Record, Uts46Status};
 use std::alloc::{AllocError, Global};

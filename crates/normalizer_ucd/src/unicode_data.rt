@@ -93,7 +93,11 @@ fn records_by(alloc: Global, exclusions: &[Exclusion], file: &[u8]) -> Result<Ve
 }
 
 #[tactic(auto, unfolding(crate::specs::UnicodeData::records_in))]
-fn records_in(alloc: Global, exclusions: &[Exclusion], lines: &[&[u8]]) -> Result<Vec<Record>, UcdError>
+fn records_in(
+    alloc: Global,
+    exclusions: &[Exclusion],
+    lines: &[&[u8]],
+) -> Result<Vec<Record>, UcdError>
     ensures { Gives (λ v. v.items) result (records_in exclusions.now (map (λ line. line.now) lines.now)) }
 {
     let mut records = Vec::new(alloc);
