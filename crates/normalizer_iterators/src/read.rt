@@ -20,7 +20,7 @@ const UNSEEN: u32 = 0xC000_0000;
 /// In place of any other word that wasn't looked up.
 const NOT_LOOKED_UP: u32 = 0xFFFF_FFFF;
 
-/// A character that was read, with its word. A word that is in place of another is looked up where it is needed.
+/// A character that was read, with its word. A word that is in place of another is looked up when it is needed.
 #[derive(Clone, Copy)]
 pub(crate) struct ReadCharacter {
     pub(crate) character: char,
