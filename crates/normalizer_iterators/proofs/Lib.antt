@@ -1,3 +1,4 @@
+pub mod BeforeStarterLemmas
 pub mod ComposingLemmas
 pub mod CompositionLemmas
 pub mod DecompositionLemmas

@@ -3,13 +3,20 @@ use Rattle.std.specs.Prelude.{◌≡◌, ℕ, ◌+◌, ◌≤◌, List, [], ◌�
 use Rattle.std.specs.Iterator.{Count}
 use Rattle.normal_forms.specs.Reading.{Reading, IsStarter, IsMark}
 use Rattle.normal_forms.specs.CompositionByStarters.{join, compose_after, compose_by_starters}
+use Rattle.normalizer_tables.specs.declared.characters.IgnoredCharacters.TheVariants.{Dropped}
+use Rattle.normalizer_tables.specs.Characters.{Characters, class_of}
+use Rattle.normalizer_tables.specs.Pairs.{Pair, pair_of}
+use Rattle.normalizer_tables.specs.Readings.{reading_by}
 use Rattle.normalizer_text.specs.Steps.{Spells}
 use Rattle.normalizer_iterators.specs.declared.composition.Ahead.{Ahead}
 use Rattle.normalizer_iterators.specs.declared.composition.Ahead.TheVariants.{NoStarter, Passed, Starter, Ended}
 use Rattle.normalizer_iterators.specs.declared.composition.Visited.{Visited}
 use Rattle.normalizer_iterators.specs.declared.composition.Visited.TheVariants.{Joined, StartsAnew, Stays}
 use Rattle.normalizer_iterators.specs.declared.decomposition.Decomposition.{Decomposition}
+use Rattle.normalizer_iterators.specs.declared.error.NormalizeError.{NormalizeError}
+use Rattle.normalizer_iterators.specs.declared.error.NormalizeError.TheVariants.{Memory}
 use Rattle.normalizer_iterators.specs.declared.marks.StayingMarks.{StayingMarks}
+use Rattle.normalizer_iterators.specs.declared.waiting.Classed.{Classed}
 use Rattle.normalizer_iterators.specs.Decomposition as decomposition
 use Rattle.normalizer_iterators.specs.Delegate.{Extent, MayGive}
 use Rattle.normalizer_iterators.specs.MarkRuns.{HasShortMarkRuns}
@@ -22,6 +29,17 @@ HasVisited d a c old StartsAnew new = (join d a (staying old) c ≡ None) × IsS
 HasVisited d a c old Stays new =
     (join d a (staying old) c ≡ None) × IsMark d c × (staying new ≡ staying old ++ c ∷ []) × (used new ≡ used old + 1)
     × BlocksBelow d new
+
+-- the same using data that have the class of the character
+abbrev pub HasVisitedBy : List Pair → ℕ → Classed → StayingMarks → Visited → StayingMarks → Type 0
+HasVisitedBy pairs a given old v new = (s : Characters) → given.class ≡ class_of s given.character
+    → BlocksBelow (reading_by s Dropped pairs) old
+    → HasVisited (reading_by s Dropped pairs) a given.character old v new
+
+-- by each reading that has the class and the pairs: this is what a starter and the character compose to, if they do
+abbrev pub IsJoinBy : List Pair → ℕ → StayingMarks → Classed → Option ℕ → Type 0
+IsJoinBy pairs a marks given r = (d : Reading) → BlocksBelow d marks → given.class ≡ d.class given.character
+    → pair_of pairs a given.character ≡ d.pair a given.character → r ≡ join d a (staying marks) given.character
 
 -- what the remaining characters compose to, after the marks that are yielded first
 abbrev pub composed_ahead : Reading → Ahead → List ℕ → List ℕ
@@ -74,3 +92,13 @@ module _ {I : Type 0} where
         × decomposition.WillGive (MayGive gives e) old y × (compose_after d starter [] y ≡ composite ∷ rest)
     pub short : GivesShort gives d old → UnlessEnded ahead (GivesShort gives d new)
     pub fewer : length marks + ahead_left ahead (decomposition.items_left left new) ≤ decomposition.items_left left old
+
+  -- the same using data and pairs
+  abbrev pub ComposesStarterBy : (I → Option ℕ → I → Type 0) → (I → Count) → List Pair → ℕ → Decomposition I → ℕ
+      → List ℕ → Ahead → Decomposition I → Type 0
+  ComposesStarterBy gives left pairs starter old =
+      ComposesStarter gives left (reading_by old.characters Dropped pairs) starter old
+
+  -- a fault came: the runs that were to come were not short
+  abbrev pub IsRefused : (I → Option ℕ → I → Type 0) → List Pair → Decomposition I → NormalizeError → Type 0
+  IsRefused gives pairs old e = (e ≡ Memory) × (GivesShort gives (reading_by old.characters Dropped pairs) old → ⊥)

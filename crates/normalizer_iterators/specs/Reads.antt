@@ -1,7 +1,9 @@
 -- Characters that were read, with their words if these were looked up.
-use Rattle.std.specs.Prelude.{◌≡◌, ℕ, Option, Some, None}
+use Rattle.std.specs.Prelude.{◌≡◌, ◌≢◌, ℕ, true, Option, Some, None}
 use Rattle.std.specs.Option.{ForSome}
 use Rattle.normalizer_tables.specs.Characters.{Characters, word_of}
+use Rattle.normalizer_tables.specs.Unseen.{PassesUnseen}
+use Rattle.normalizer_tables.specs.Words.{is_plain}
 use Rattle.normalizer_iterators.specs.declared.read.ReadCharacter.{ReadCharacter}
 
 -- the character that was read, if one was
@@ -9,9 +11,10 @@ abbrev pub character_of : Option ReadCharacter → Option ℕ
 character_of None = None
 character_of (Some read) = Some read.character
 
--- the word, if there is one, is that of the character
-abbrev pub HasOwnWord : Characters → ReadCharacter → Type 0
-HasOwnWord s r = ForSome r.word (λ w. w ≡ word_of s r.character)
+-- what is plain passes unseen, and the word is that of the character, unless it is one of the two in place of others
+pub record HasOwnWord (s : Characters) (r : ReadCharacter) : Type 0 where
+  pub plain : is_plain r.word ≡ true → PassesUnseen s r.character
+  pub looked_up : r.word ≢ 0xC0000000 → r.word ≢ 0xFFFFFFFF → r.word ≡ word_of s r.character
 
 -- a character that was read, if one was, has its word
 abbrev pub HasOwnWords : Characters → Option ReadCharacter → Type 0

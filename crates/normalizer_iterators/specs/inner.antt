@@ -1,4 +1,5 @@
 -- What the contracts of private functions alone cite.
+pub mod Chunk
 pub mod Passing
 pub mod ReadingOn
 pub mod ShortText

@@ -1,14 +1,13 @@
 //! Composing text character by character (The Unicode Standard, D117, D120 and D121).
-ghost use Rattle.std.specs.Prelude.{◌≡◌, ◌<◌, ◌≤◌, ◌++◌, ℕ, All, List, [], Option, IfSome, MatchResult, OnErr, IfOk};
+ghost use Rattle.std.specs.Prelude.{◌≡◌, ◌<◌, ◌≤◌, ◌++◌, ℕ, All, List, [], Option, IfSome, IfErr, OnErr, IfOk};
 ghost use Rattle.std.specs.Prelude.{IsOk, IsOkUnless};
 ghost use Rattle.std.specs.Iterator.{at_most, IsFinite, MakesProgress};
 ghost use Rattle.normal_forms.specs.Forms.{nfc};
 ghost use Rattle.normal_forms.specs.Order.{order};
 ghost use Rattle.normal_forms.specs.CompositionByStarters.{join};
-ghost use Rattle.normal_forms.specs.Reading.{Reading};
-ghost use Rattle.normal_forms.specs.ShortRuns.{places, HasShortRuns};
+ghost use Rattle.normal_forms.specs.ShortRuns.{places};
 ghost use Rattle.normalizer_tables.specs.declared.characters.IgnoredCharacters.{IgnoredCharacters};
-ghost use Rattle.normalizer_tables.specs.Characters.{Characters, class_of, has_class_form, list_of};
+ghost use Rattle.normalizer_tables.specs.Characters.{has_class_form, list_of};
 ghost use Rattle.normalizer_tables.specs.Ignored.{ignored_list};
 ghost use Rattle.normalizer_tables.specs.PairConditions.{HasOrderedLists};
 ghost use Rattle.normalizer_tables.specs.Pairs.{pair_of};
@@ -22,8 +21,10 @@ ghost use Rattle.normalizer_iterators.specs.LazyComposing.{SuitsLazyComposing};
 ghost use Rattle.normalizer_iterators.specs.inner.Passing.{IsAtPassed};
 ghost use Rattle.normalizer_iterators.specs.LazyReading.{SuitsLazyReading};
 ghost use Rattle.normalizer_iterators.specs.NextItem.{IsFormOfSource};
-ghost use Rattle.normalizer_iterators.specs.StayingMarks.{staying, used, BlocksBelow};
-ghost use Rattle.normalizer_iterators.specs.Composing.{ComposesStarter, GivesShort, HasVisited, IsBeforeStarter};
+ghost use Rattle.normalizer_iterators.specs.StayingMarks.{staying, used};
+ghost use Rattle.normalizer_iterators.specs.Composing.{ComposesStarterBy, HasVisitedBy, IsBeforeStarter, IsJoinBy};
+ghost use Rattle.normalizer_iterators.specs.Composing.{IsRefused};
+ghost use Rattle.normalizer_iterators.specs.inner.ReadingOn.{IfShortRuns};
 
 use crate::composition::passing::{Given, is_at_passed, pass_next};
 use crate::decomposition::Decomposition;
@@ -107,12 +108,9 @@ impl<'data, I: Iterator<Item = char> + Drop> Composition<'data, I> {
             WillGive (Spells I.next_gives) it (nfc (reading_by characters.entry ignored pairs.now) x)) }
         ensures came { IfOk result (IsFormOfSource I.next_gives (λ e. WillGive (MayGive I.next_gives e))
             (nfc (reading_by characters.entry ignored pairs.now)) delegate) }
-        ensures short { IfOk result (λ it. (x : List ℕ) → Spells I.next_gives delegate x →
-            HasShortRuns (has_class_form characters.entry) (reading_by characters.entry ignored []) x →
-            StaysShort I.next_gives it) }
-        ensures succeeds { (x : List ℕ) → Spells I.next_gives delegate x →
-            HasShortRuns (has_class_form characters.entry) (reading_by characters.entry ignored []) x →
-            IsOk result }
+        ensures short { IfOk result (λ it.
+            IfShortRuns I.next_gives characters.entry ignored delegate (StaysShort I.next_gives it)) }
+        ensures succeeds { IfShortRuns I.next_gives characters.entry ignored delegate (IsOk result) }
         ensures ready { IfOk result (CanCompose I.can_next I.remaining) }
         ensures kept { IfOk result (λ it.
             (data_of_composition it ≡ characters.entry) × (pairs_of_composition it ≡ pairs.now)) }
@@ -212,10 +210,9 @@ fn compose_starter<I: Iterator<Item = char> + Drop>(
     ensures ready { CanDecompose I.can_next I.remaining decomposed.new }
     ensures kept { decomposed.new.characters ≡ decomposed.old.characters }
     ensures passed { IfOk result (λ r. r.1 ≡ Ahead.Passed → IsAtPassed pairs.now decomposed.new) }
-    ensures steps { let d = reading_by decomposed.old.characters Dropped pairs.now in MatchResult result
-        (λ r. ComposesStarter I.next_gives I.remaining d starter decomposed.old r.0 (staying marks.new) r.1
-        decomposed.new)
-        (λ e. (e ≡ NormalizeError.Memory) × (¬ GivesShort I.next_gives d decomposed.old)) }
+    ensures ok { IfOk result (λ r. ComposesStarterBy I.next_gives I.remaining pairs.now starter decomposed.old r.0
+        (staying marks.new) r.1 decomposed.new) }
+    ensures err { IfErr result (IsRefused I.next_gives pairs.now decomposed.old) }
 {
     let mut composite = starter;
     marks.clear();
@@ -245,9 +242,7 @@ fn visit(
     starter: char,
     given: Classed,
 ) -> Result<Visited, AllocError>
-    ensures ok { IfOk result (λ v. (s : Characters) → given.class ≡ class_of s given.character →
-        BlocksBelow (reading_by s Dropped pairs.now) marks.old →
-        HasVisited (reading_by s Dropped pairs.now) starter given.character marks.old v marks.new) }
+    ensures ok { IfOk result (λ v. HasVisitedBy pairs.now starter given marks.old v marks.new) }
     ensures err { OnErr result ((places ≤ used marks.old) × (0 < given.class)) }
 {
     if let Some(joined) = join(pairs, marks, starter, given) {
@@ -268,9 +263,7 @@ fn join(
     starter: char,
     given: Classed,
 ) -> Option<char>
-    ensures { (d : Reading) → BlocksBelow d marks.now → given.class ≡ d.class given.character →
-        pair_of pairs.now starter given.character ≡ d.pair starter given.character →
-        result ≡ join d starter (staying marks.now) given.character }
+    ensures { IsJoinBy pairs.now starter marks.now given result }
 {
     if marks.lets_pass(given.class) {
         compose(pairs, starter, given.character)

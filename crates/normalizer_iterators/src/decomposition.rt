@@ -4,7 +4,7 @@ ghost use Rattle.std.specs.Prelude.{IsOkUnless, IsTrue};
 ghost use Rattle.std.specs.Option.{ForSome};
 ghost use Rattle.std.specs.Iterator.{at_most, IsFinite, MakesProgress};
 ghost use Rattle.normal_forms.specs.Forms.{nfd};
-ghost use Rattle.normal_forms.specs.ShortRuns.{continues, HasShortRuns};
+ghost use Rattle.normal_forms.specs.ShortRuns.{continues};
 ghost use Rattle.normalizer_tables.specs.Characters.{class_of, has_class_form, characters_from};
 ghost use Rattle.normalizer_tables.specs.NfdData.{IsSoundNfdData};
 ghost use Rattle.normalizer_tables.specs.Readings.{reading_by};
@@ -17,7 +17,8 @@ ghost use Rattle.normalizer_iterators.specs.NextItem.{IsFormOfSource};
 ghost use Rattle.normalizer_iterators.specs.WaitingList.{AgreesWith, ordered, unordered};
 ghost use Rattle.normalizer_iterators.specs.Waiting.{HasClassesOf};
 ghost use Rattle.normalizer_iterators.specs.Reads.{character_of, HasOwnWord, HasOwnWords};
-ghost use Rattle.normalizer_iterators.specs.inner.ReadingOn.{ReadsChunk, ChunkDidNotFit, StandsAlone};
+ghost use Rattle.normalizer_iterators.specs.inner.ReadingOn.{ReadsChunkBehind, ChunkDidNotFitBehind, StandsAlone};
+ghost use Rattle.normalizer_iterators.specs.inner.ReadingOn.{IfShortRuns};
 
 use crate::error::NormalizeError;
 use crate::read::{ReadCharacter, read_from};
@@ -48,10 +49,10 @@ pub struct Decomposition<'data, I> {
 }
 
 impl<'data, I: Iterator<Item = char> + Drop> Decomposition<'data, I> {
+    ghost use Rattle.normalizer_iterators.specs.inner.Chunk.{ChunkComes, ChunkIsRefused};
     ghost use Rattle.normalizer_iterators.specs.Decomposition.{
       CanDecompose,
       DecompositionSteps,
-      IsEnded,
       StaysShort,
       WillGive,
       item_of,
@@ -97,12 +98,9 @@ impl<'data, I: Iterator<Item = char> + Drop> Decomposition<'data, I> {
             WillGive (Spells I.next_gives) it (nfd (reading_by characters.entry ignored []) x)) }
         ensures came { IfOk result (IsFormOfSource I.next_gives (λ e. WillGive (MayGive I.next_gives e))
             (nfd (reading_by characters.entry ignored [])) delegate) }
-        ensures short { IfOk result (λ it. (x : List ℕ) → Spells I.next_gives delegate x →
-            HasShortRuns (has_class_form characters.entry) (reading_by characters.entry ignored []) x →
-            StaysShort I.next_gives it) }
-        ensures succeeds { (x : List ℕ) → Spells I.next_gives delegate x →
-            HasShortRuns (has_class_form characters.entry) (reading_by characters.entry ignored []) x →
-            IsOk result }
+        ensures short { IfOk result (λ it.
+            IfShortRuns I.next_gives characters.entry ignored delegate (StaysShort I.next_gives it)) }
+        ensures succeeds { IfShortRuns I.next_gives characters.entry ignored delegate (IsOk result) }
         ensures ready { IfOk result (CanDecompose I.can_next I.remaining) }
         ensures kept { IfOk result (λ it. (it.characters ≡ characters.entry) × (it.ignored ≡ ignored)) }
         ensures refused { IsOkUnless result NormalizeError.Memory }
@@ -137,15 +135,10 @@ impl<'data, I: Iterator<Item = char> + Drop> Decomposition<'data, I> {
         requires ready { IsReadyBehind I.can_next I.remaining (character_of following) self.old.delegate }
         requires read { (before : I) ×
             HasRead I.next_gives I.remaining before (character_of following) self.old.delegate }
-        ensures ok { IfOk result (λ first. (before : I) →
-            HasRead I.next_gives I.remaining before (character_of following) self.old.delegate →
-            ReadsChunk I.can_next I.next_gives I.remaining (has_class_form self.old.characters)
-            (reading_by self.old.characters self.old.ignored []) read.character before
-            first (character_of self.new.pending) self.new.delegate self.new.waiting) }
-        ensures err { IfErr result (λ e. (e ≡ NormalizeError.Memory) × IsEnded self.new ×
-            ((before : I) → HasRead I.next_gives I.remaining before (character_of following) self.old.delegate →
-            ChunkDidNotFit I.next_gives (has_class_form self.old.characters)
-            (reading_by self.old.characters self.old.ignored []) read.character before)) }
+        ensures ok { IfOk result (λ first. ChunkComes I.can_next I.next_gives I.remaining self.old read.character
+            (character_of following) first self.new) }
+        ensures err { IfErr result (λ e. ChunkIsRefused I.next_gives I.remaining self.old read.character
+            (character_of following) e self.new) }
         ensures kept { (self.new.characters ≡ self.old.characters) × (self.new.ignored ≡ self.old.ignored) }
     {
         if stands_alone(&self.characters, self.ignored, read, following) {
@@ -209,8 +202,7 @@ pub fn decomposed<'data, I: Iterator<Item = char> + Drop>(
     requires ends { IsFinite (I.remaining delegate) }
     requires suits { SuitsLazyReading (has_class_form characters) (reading_by characters ignored []) }
     ensures form { YieldsForm I.next_gives ⟦<Decomposition<'data, I> as Iterator>⟧.next_gives
-        (has_class_form characters.entry)
-        (reading_by characters.entry ignored []) nfd delegate result }
+        (has_class_form characters.entry) (reading_by characters.entry ignored []) nfd delegate result }
     ensures ready { IfOk result ⟦<Decomposition<'data, I> as Iterator>⟧.can_next }
 {
     Decomposition::over(characters, ignored, delegate)
@@ -253,17 +245,12 @@ fn read_chunk<I: Iterator<Item = char> + Drop>(
     requires words { HasOwnWords characters.now following }
     requires anew { continues (has_class_form characters.now)
         (reading_by characters.now ignored []) read.character ≡ false }
-    ensures ok { IfOk result (λ r. (before : I) →
-        HasRead I.next_gives I.remaining before (character_of following) delegate.old →
-        ReadsChunk I.can_next I.next_gives I.remaining (has_class_form characters.now)
-        (reading_by characters.now ignored []) read.character before r.0 (character_of r.1) delegate.new
-        waiting.new) }
+    ensures ok { IfOk result (λ r. ReadsChunkBehind I.can_next I.next_gives I.remaining characters.now ignored
+        read.character (character_of following) delegate.old r.0 (character_of r.1) delegate.new waiting.new) }
     ensures words { IfOk result (λ r. HasOwnWords characters.now r.1) }
     ensures classes { OnOk result (AgreesWith (reading_by characters.now ignored []) waiting.new) }
-    ensures err { OnErr result ((before : I) →
-        HasRead I.next_gives I.remaining before (character_of following) delegate.old →
-        ChunkDidNotFit I.next_gives (has_class_form characters.now) (reading_by characters.now ignored [])
-        read.character before) }
+    ensures err { OnErr result (ChunkDidNotFitBehind I.next_gives I.remaining characters.now ignored read.character
+        (character_of following) delegate.old) }
 {
     let members = read.members(characters, ignored);
     let Some(first) = members.get(0) else {

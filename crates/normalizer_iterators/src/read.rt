@@ -1,7 +1,7 @@
 //! Characters that were read from a delegate, with their words.
 ghost use Rattle.std.specs.Prelude.{◌≡◌, ◌↔◌, ◌∷◌, [], ℕ, List, false, IfSome, IsTrue};
 ghost use Rattle.normal_forms.specs.ShortRuns.{continues};
-ghost use Rattle.normalizer_tables.specs.Characters.{class_of, has_class_form, list_of, word_of};
+ghost use Rattle.normalizer_tables.specs.Characters.{Characters, class_of, has_class_form, list_of, word_of};
 ghost use Rattle.normalizer_tables.specs.Ignored.{ignored_list};
 ghost use Rattle.normalizer_tables.specs.Readings.{reading_by};
 ghost use Rattle.normalizer_tables.specs.Unseen.{PassesUnseen};
@@ -14,11 +14,17 @@ use normalizer_tables::word::is_class_form;
 /// The bits of a word that are all 0 if the character is its own list, a starter.
 const PLAIN: u32 = 0x3FFF_FFFF;
 
-/// A character that was read, with its word if that was looked up.
+/// In place of the word of a character that passes unseen: it is plain, as that of such a character.
+const UNSEEN: u32 = 0xC000_0000;
+
+/// In place of any other word that wasn't looked up.
+const NOT_LOOKED_UP: u32 = 0xFFFF_FFFF;
+
+/// A character that was read, with its word. A word that is in place of another is looked up when it is needed.
 #[derive(Clone, Copy)]
 pub(crate) struct ReadCharacter {
     pub(crate) character: char,
-    pub(crate) word: Option<u32>,
+    word: u32,
 }
 
 impl ReadCharacter {
@@ -28,10 +34,12 @@ impl ReadCharacter {
         ensures character { result.character ≡ character }
         ensures word { HasOwnWord characters.now result }
     {
-        let word = if (character as u32) < bound || characters.passes_unseen(character) {
-            None
+        let word = if characters.passes_unseen(character) {
+            UNSEEN
+        } else if (character as u32) < bound {
+            NOT_LOOKED_UP
         } else {
-            Some(characters.word_of(character))
+            characters.word_of(character)
         };
         ReadCharacter { character, word }
     }
@@ -42,22 +50,19 @@ impl ReadCharacter {
         requires { HasOwnWord characters.now self }
         ensures { result ≡ word_of characters.now self.character }
     {
-        match self.word {
-            Some(word) => word,
-            None => characters.word_of(self.character),
+        if self.word == UNSEEN || self.word == NOT_LOOKED_UP {
+            characters.word_of(self.character)
+        } else {
+            self.word
         }
     }
 
     /// Whether its word says, or it is known unseen, that the character is its own list, a starter without class form.
     #[inline(always)]
-    pub(crate) fn is_plain(self, characters: &CharacterData<'_>) -> bool
-        requires { HasOwnWord characters.now self }
-        ensures { IsTrue result → PassesUnseen characters.now self.character }
+    pub(crate) fn is_plain(self) -> bool
+        ensures { (s : Characters) → HasOwnWord s self → IsTrue result → PassesUnseen s self.character }
     {
-        match self.word {
-            Some(word) => word & PLAIN == 0,
-            None => characters.passes_unseen(self.character),
-        }
+        self.word & PLAIN == 0
     }
 
     /// Whether a boundary precedes the character: it has no class form, and its list has members.
@@ -72,7 +77,7 @@ impl ReadCharacter {
         ensures { IsTrue result ↔ (continues (has_class_form characters.now)
             (reading_by characters.now ignored []) self.character ≡ false) }
     {
-        if self.is_plain(characters) {
+        if self.is_plain() {
             return true;
         }
         let word = self.word_by(characters);
@@ -87,7 +92,7 @@ impl ReadCharacter {
             IfSome result (λ _. list_of characters.now ignored self.character ≡ self.character ∷ []) }
         ensures class { IfSome result (λ class. class ≡ class_of characters.now self.character) }
     {
-        if self.is_plain(characters) {
+        if self.is_plain() {
             return Some(0);
         }
         characters.class_of_itself(self.character, self.word_by(characters))
@@ -103,7 +108,7 @@ impl ReadCharacter {
         requires { HasOwnWord characters.now self }
         ensures { result ≡ list_of characters.now (ignored_list ignored) self.character }
     {
-        if self.is_plain(characters) {
+        if self.is_plain() {
             return Members::one(self.character);
         }
         characters.members_by(self.character, self.word_by(characters), ignored)

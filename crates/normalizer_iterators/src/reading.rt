@@ -1,14 +1,12 @@
 //! Reading further characters, up to a boundary.
-ghost use Rattle.std.specs.Prelude.{◌≡◌, ◌+◌, ◌≤◌, ℕ, List, ◌++◌, length, drop, IsOk, IfOk, OnOk, OnErr, []};
-ghost use Rattle.normal_forms.specs.Reading.{Reading};
+ghost use Rattle.std.specs.Prelude.{◌≡◌, ◌+◌, ◌≤◌, length, drop, IsOk, IfOk, OnOk, OnErr, []};
 ghost use Rattle.normal_forms.specs.ShortRuns.{places};
-ghost use Rattle.normalizer_tables.specs.Characters.{has_class_form, list_of};
+ghost use Rattle.normalizer_tables.specs.Characters.{list_of};
 ghost use Rattle.normalizer_tables.specs.Ignored.{ignored_list};
 ghost use Rattle.normalizer_tables.specs.Readings.{reading_by};
-ghost use Rattle.normalizer_iterators.specs.Delegate.{HasRead, IsReadyBehind};
-ghost use Rattle.normalizer_iterators.specs.WaitingList.{held, reordered, AgreesWith};
-ghost use Rattle.normalizer_iterators.specs.LazyReading.{HasClassesFrom};
-ghost use Rattle.normalizer_iterators.specs.inner.ReadingOn.{ReadsOn, DidNotFit};
+ghost use Rattle.normalizer_iterators.specs.Delegate.{IsReadyBehind};
+ghost use Rattle.normalizer_iterators.specs.WaitingList.{held, AgreesWith};
+ghost use Rattle.normalizer_iterators.specs.inner.ReadingOn.{Adds, KeepsClasses, ReadsOnBehind, DidNotFitBehind};
 ghost use Rattle.normalizer_iterators.specs.Reads.{character_of, HasOwnWord, HasOwnWords};
 
 use crate::read::{ReadCharacter, read_from};
@@ -30,17 +28,12 @@ pub(crate) fn read_on<I: Iterator<Item = char> + Drop>(
     requires ready { IsReadyBehind I.can_next I.remaining (character_of first) delegate.old }
     requires words { HasOwnWords characters.now first }
     requires classes { AgreesWith (reading_by characters.now ignored []) waiting.old }
-    ensures ok { IfOk result (λ pending. (before : I) →
-        HasRead I.next_gives I.remaining before (character_of first) delegate.old →
-        ReadsOn I.can_next I.next_gives I.remaining (has_class_form characters.now)
-        (reading_by characters.now ignored []) before waiting.old (character_of pending) delegate.new
-        waiting.new) }
+    ensures ok { IfOk result (λ pending. ReadsOnBehind I.can_next I.next_gives I.remaining characters.now ignored
+        (character_of first) delegate.old waiting.old (character_of pending) delegate.new waiting.new) }
     ensures words { IfOk result (HasOwnWords characters.now) }
     ensures classes { OnOk result (AgreesWith (reading_by characters.now ignored []) waiting.new) }
-    ensures err { OnErr result ((before : I) →
-        HasRead I.next_gives I.remaining before (character_of first) delegate.old →
-        DidNotFit I.next_gives (has_class_form characters.now) (reading_by characters.now ignored [])
-        before waiting.old) }
+    ensures err { OnErr result (DidNotFitBehind I.next_gives I.remaining characters.now ignored (character_of first)
+        delegate.old waiting.old) }
 {
     let mut next = first;
     while let Some(read) = next {
@@ -64,11 +57,9 @@ fn push_list(
     waiting: &mut WaitingList,
 ) -> Result<(), AllocError>
     requires { HasOwnWord characters.now read }
-    ensures text { OnOk result ((d : Reading) → HasClassesFrom characters.now d → AgreesWith d waiting.old →
-        (rest : List ℕ) → reordered d waiting.old (list_of characters.now (ignored_list ignored) read.character ++ rest)
-        ≡ reordered d waiting.new rest) }
-    ensures classes { OnOk result ((d : Reading) → HasClassesFrom characters.now d → AgreesWith d waiting.old →
-        AgreesWith d waiting.new) }
+    ensures text { OnOk result (Adds characters.now (list_of characters.now (ignored_list ignored) read.character)
+        waiting.old waiting.new) }
+    ensures classes { OnOk result (KeepsClasses characters.now waiting.old waiting.new) }
     ensures held { OnOk result (held waiting.new ≡
         held waiting.old + length (list_of characters.now (ignored_list ignored) read.character)) }
     ensures succeeds { held waiting.old + length (list_of characters.now (ignored_list ignored) read.character) ≤ places
@@ -92,10 +83,8 @@ pub(crate) fn push_from(
     waiting: &mut WaitingList,
 ) -> Result<(), AllocError>
     requires { first ≤ length members.now }
-    ensures text { OnOk result ((d : Reading) → HasClassesFrom characters.now d → AgreesWith d waiting.old →
-        (rest : List ℕ) → reordered d waiting.old (drop first members.now ++ rest) ≡ reordered d waiting.new rest) }
-    ensures classes { OnOk result ((d : Reading) → HasClassesFrom characters.now d → AgreesWith d waiting.old →
-        AgreesWith d waiting.new) }
+    ensures text { OnOk result (Adds characters.now (drop first members.now) waiting.old waiting.new) }
+    ensures classes { OnOk result (KeepsClasses characters.now waiting.old waiting.new) }
     ensures held { OnOk result (held waiting.new + first ≡ held waiting.old + length members.now) }
     ensures succeeds { held waiting.old + length members.now ≤ places + first → IsOk result }
 {

@@ -18,7 +18,7 @@ use Rattle.normalizer_iterators.specs.declared.error.NormalizeError.{NormalizeEr
 use Rattle.normalizer_iterators.specs.Decomposition.{CanDecompose, DecompositionSteps, StaysShort, WillGive}
 use Rattle.normalizer_iterators.specs.Decomposition.{items_left, pending_of}
 use Rattle.normalizer_iterators.specs.Delegate.{Extent, MayGive}
-use Rattle.normalizer_iterators.specs.LazyComposing.{IsPassed, StandsApartIn}
+use Rattle.normalizer_iterators.specs.LazyComposing.{IsPassed, StandsApartIn, SuitsLazyComposing}
 use Rattle.normalizer_iterators.specs.WaitingList.{ordered}
 
 -- a composing loop passes the character, if there is one
@@ -64,3 +64,9 @@ module _ {I : Type 0} where
       DecompositionSteps can gives left s (Some (Err e)) t × (items_left left t < items_left left s)
   Passes can gives left pairs s (Some (Ok (Itself c))) t = PassesOn can gives left pairs s c t
   Passes can gives left pairs s (Some (Ok (FirstMember c))) t = YieldsStarter can gives left s c t
+
+  -- the same by all pairs that may be composed lazily
+  abbrev pub PassesBy : (I → Type 0) → (I → Option ℕ → I → Type 0) → (I → Count) → Bounds → Decomposition I
+      → Option (Result Given NormalizeError) → Decomposition I → Type 0
+  PassesBy can gives left b s r t = (pairs : List Pair) → SuitsLazyComposing s.characters b pairs
+      → IsAtPassed pairs s → Passes can gives left pairs s r t

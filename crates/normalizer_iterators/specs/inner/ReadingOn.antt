@@ -6,10 +6,29 @@ use Rattle.std.specs.List.{AllPass}
 use Rattle.normal_forms.specs.Reading.{Reading}
 use Rattle.normal_forms.specs.Decomposition.{expand}
 use Rattle.normal_forms.specs.Order.{order}
-use Rattle.normal_forms.specs.ShortRuns.{places, continues}
+use Rattle.normal_forms.specs.ShortRuns.{places, continues, HasShortRuns}
+use Rattle.normalizer_tables.specs.declared.characters.IgnoredCharacters.{IgnoredCharacters}
+use Rattle.normalizer_tables.specs.Characters.{Characters, has_class_form}
+use Rattle.normalizer_tables.specs.Readings.{reading_by}
+use Rattle.normalizer_text.specs.Steps.{Spells}
 use Rattle.normalizer_iterators.specs.declared.waiting.WaitingList.{WaitingList}
-use Rattle.normalizer_iterators.specs.WaitingList.{ordered, unordered, held, reordered}
-use Rattle.normalizer_iterators.specs.Delegate.{IsReadyBehind}
+use Rattle.normalizer_iterators.specs.WaitingList.{ordered, unordered, held, reordered, AgreesWith}
+use Rattle.normalizer_iterators.specs.Delegate.{HasRead, IsReadyBehind}
+use Rattle.normalizer_iterators.specs.LazyReading.{HasClassesFrom}
+
+-- by each reading that has the classes of the data: these characters were added, and classes are still right
+abbrev pub Adds : Characters → List ℕ → WaitingList → WaitingList → Type 0
+Adds s x old new = (d : Reading) → HasClassesFrom s d → AgreesWith d old → (rest : List ℕ)
+    → reordered d old (x ++ rest) ≡ reordered d new rest
+
+abbrev pub KeepsClasses : Characters → WaitingList → WaitingList → Type 0
+KeepsClasses s old new = (d : Reading) → HasClassesFrom s d → AgreesWith d old → AgreesWith d new
+
+-- if an iterator spells a text whose runs are short, this holds
+abbrev pub IfShortRuns : {I : Type 0} → (I → Option ℕ → I → Type 0) → Characters → IgnoredCharacters → I → Type 0
+    → Type 0
+IfShortRuns gives s ignored it P =
+    (x : List ℕ) → Spells gives it x → HasShortRuns (has_class_form s) (reading_by s ignored []) x → P
 
 -- characters that continue were read from a delegate, and are buffered in order; then one after a boundary, or None
 pub record ReadsOn {I : Type 0} (can : I → Type 0) (gives : I → Option ℕ → I → Type 0) (left : I → Count)
@@ -64,3 +83,28 @@ pub record ChunkDidNotFit {I : Type 0} (gives : I → Option ℕ → I → Type 
   pub run : Yields gives delegate read delegate_after
   pub continuing : AllPass (continues has_class_form d) read
   pub too_long : places < length (d.list character) - 1 + length (expand d read)
+
+-- the same using data, from the delegate as it was before `last` was read from it
+abbrev pub ReadsOnBehind : {I : Type 0} → (I → Type 0) → (I → Option ℕ → I → Type 0) → (I → Count) → Characters
+    → IgnoredCharacters → Option ℕ → I → WaitingList → Option ℕ → I → WaitingList → Type 0
+ReadsOnBehind {I = I} can gives left s ignored last delegate waiting pending delegate_after waiting_after =
+    (before : I) → HasRead gives left before last delegate → ReadsOn can gives left (has_class_form s)
+    (reading_by s ignored []) before waiting pending delegate_after waiting_after
+
+abbrev pub DidNotFitBehind : {I : Type 0} → (I → Option ℕ → I → Type 0) → (I → Count) → Characters
+    → IgnoredCharacters → Option ℕ → I → WaitingList → Type 0
+DidNotFitBehind {I = I} gives left s ignored last delegate waiting =
+    (before : I) → HasRead gives left before last delegate → DidNotFit gives (has_class_form s)
+    (reading_by s ignored []) before waiting
+
+abbrev pub ReadsChunkBehind : {I : Type 0} → (I → Type 0) → (I → Option ℕ → I → Type 0) → (I → Count) → Characters
+    → IgnoredCharacters → ℕ → Option ℕ → I → ℕ → Option ℕ → I → WaitingList → Type 0
+ReadsChunkBehind {I = I} can gives left s ignored c last delegate first pending delegate_after waiting_after =
+    (before : I) → HasRead gives left before last delegate → ReadsChunk can gives left (has_class_form s)
+    (reading_by s ignored []) c before first pending delegate_after waiting_after
+
+abbrev pub ChunkDidNotFitBehind : {I : Type 0} → (I → Option ℕ → I → Type 0) → (I → Count) → Characters
+    → IgnoredCharacters → ℕ → Option ℕ → I → Type 0
+ChunkDidNotFitBehind {I = I} gives left s ignored c last delegate =
+    (before : I) → HasRead gives left before last delegate → ChunkDidNotFit gives (has_class_form s)
+    (reading_by s ignored []) c before

@@ -32,8 +32,7 @@ pub fn composed<'data, I: Iterator<Item = char> + Drop>(
     requires reading { SuitsLazyReading (has_class_form characters) (reading_by characters ignored []) }
     requires composing { SuitsLazyComposing characters bounds pairs.now }
     ensures form { YieldsForm I.next_gives ⟦<Composition<'data, I> as Iterator>⟧.next_gives
-        (has_class_form characters.entry)
-        (reading_by characters.entry ignored pairs.now) nfc delegate result }
+        (has_class_form characters.entry) (reading_by characters.entry ignored pairs.now) nfc delegate result }
     ensures ready { IfOk result ⟦<Composition<'data, I> as Iterator>⟧.can_next }
     ensures kept { IfOk result (λ it.
         (data_of_composition it ≡ characters.entry) × (pairs_of_composition it ≡ pairs.now)) }

@@ -1,8 +1,7 @@
 //! Yielding characters as they are, if a composing loop passes them.
-ghost use Rattle.std.specs.Prelude.{◌≡◌, ◌↔◌, [], List, IsTrue};
-ghost use Rattle.normalizer_tables.specs.Pairs.{Pair};
-ghost use Rattle.normalizer_iterators.specs.LazyComposing.{IsPassed, PassedBeginAnew, SuitsLazyComposing};
-ghost use Rattle.normalizer_iterators.specs.inner.Passing.{Passes, IsAtPassed, StandsAtPassed, AllPassed};
+ghost use Rattle.std.specs.Prelude.{◌≡◌, ◌↔◌, [], IsTrue};
+ghost use Rattle.normalizer_iterators.specs.LazyComposing.{IsPassed, PassedBeginAnew};
+ghost use Rattle.normalizer_iterators.specs.inner.Passing.{PassesBy, StandsAtPassed, AllPassed};
 ghost use Rattle.normalizer_iterators.specs.Decomposition.{CanDecompose};
 ghost use Rattle.normalizer_iterators.specs.Reads.{character_of, HasOwnWord, HasOwnWords};
 ghost use Rattle.normalizer_iterators.specs.WaitingList.{ordered};
@@ -48,9 +47,7 @@ pub(crate) fn pass_next<I: Iterator<Item = char> + Drop>(
     requires can { CanDecompose I.can_next I.remaining decomposed.old }
     requires anew { PassedBeginAnew decomposed.old.characters bounds decomposed.old.ignored }
     requires empty { ordered decomposed.old.waiting ≡ [] }
-    ensures { (pairs : List Pair) → SuitsLazyComposing decomposed.old.characters bounds pairs →
-        IsAtPassed pairs decomposed.old →
-        Passes I.can_next I.next_gives I.remaining pairs decomposed.old result decomposed.new }
+    ensures { PassesBy I.can_next I.next_gives I.remaining bounds decomposed.old result decomposed.new }
 {
     let read = decomposed.pending.take()?;
     let following = read_from(

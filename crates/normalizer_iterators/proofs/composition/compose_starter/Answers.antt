@@ -18,8 +18,8 @@ pub loop-bounds-init : goal.loop-bounds-init
 loop-bounds-init g c =
     ComposedSoFar-none g.I.Iterator.can_next g.I.Iterator.next_gives g.I.Iterator.remaining _ _ _ _ c.clear.ensures.staying c.clear.ensures.used (c.clear.ensures.blocking _) c.requires.can
 
-pub returns-in-Err-clause-steps : goal.returns-in-Err-clause-steps
-returns-in-Err-clause-steps g c =
+pub returns-in-Err-clause-err : goal.returns-in-Err-clause-err
+returns-in-Err-clause-err g c =
     let step = rw c.in-Err.is at c.in-Some.ensures.steps in
     (step.item.fault, λ h. GivesShort-no_fault g.I.Iterator.can_next g.I.Iterator.next_gives g.I.Iterator.remaining _ _ _ _ step (c.loop-bounds.invariant.short h).0)
 
@@ -33,8 +33,8 @@ loop-bounds-preserved-in-Ok-Joined g c =
     ComposedSoFar-joined g.I.Iterator.can_next g.I.Iterator.next_gives g.I.Iterator.remaining _ _ _ _ _ _ c.in-Ok.given.character _ _ _ c.loop-bounds.invariant step (goes.on tt).2 visited.0
     visited.1
 
-pub returns-in-Ok-StartsAnew-clause-steps : goal.returns-in-Ok-StartsAnew-clause-steps
-returns-in-Ok-StartsAnew-clause-steps g c =
+pub returns-in-Ok-StartsAnew-clause-ok : goal.returns-in-Ok-StartsAnew-clause-ok
+returns-in-Ok-StartsAnew-clause-ok g c =
     let step = rw c.in-Ok.is at c.in-Some.ensures.steps in
     let goes = rw c.in-Ok.is at c.in-Some.ensures.goes in
     let class = known_class c.args.decomposed.now.characters _ c.loop-bounds.invariant.kept c.in-Ok.given (rw c.in-Ok.is at c.in-Some.ensures.class) in
@@ -53,20 +53,20 @@ loop-bounds-preserved g c =
     ComposedSoFar-stays g.I.Iterator.can_next g.I.Iterator.next_gives g.I.Iterator.remaining _ _ _ _ _ _ c.in-Ok.given.character _ _ c.loop-bounds.invariant step (goes.on tt).2 visited.0
     visited.1 visited.2 visited.3 visited.4
 
-pub returns-in-Err-visit-clause-steps : goal.returns-in-Err-visit-clause-steps
-returns-in-Err-visit-clause-steps g c =
+pub returns-in-Err-visit-clause-err : goal.returns-in-Err-visit-clause-err
+returns-in-Err-visit-clause-err g c =
     let step = rw c.in-Ok.is at c.in-Some.ensures.steps in
     let class = known_class c.args.decomposed.now.characters _ c.loop-bounds.invariant.kept c.in-Ok.given (rw c.in-Ok.is at c.in-Some.ensures.class) in
     let full = c.in-Err-visit.ensures.err in
     let mark : IsMark (reading_by c.args.decomposed.now.characters Dropped c.args.pairs.now) c.in-Ok.given.character = omega (arith, class, full.1) in
     (refl, ComposedSoFar-no_room g.I.Iterator.can_next g.I.Iterator.next_gives g.I.Iterator.remaining _ _ _ _ _ _ c.in-Ok.given.character _ c.loop-bounds.invariant step mark full.0)
 
-pub returns-in_default-clause-steps : goal.returns-in_default-clause-steps
-returns-in_default-clause-steps g c =
+pub returns-in_default-clause-ok : goal.returns-in_default-clause-ok
+returns-in_default-clause-ok g c =
     ComposesStarter-ends g.I.Iterator.can_next g.I.Iterator.next_gives g.I.Iterator.remaining _ _ _ _ _ _ _ c.loop-bounds.invariant c.in_default.ensures.steps
 
-pub returns-clause-steps : goal.returns-clause-steps
-returns-clause-steps g c =
+pub returns-clause-ok : goal.returns-clause-ok
+returns-clause-ok g c =
     let before = c.loop-bounds.invariant in
     let same = before.kept in
     let suits = subst (λ k. SuitsLazyComposing k c.args.bounds c.args.pairs.now) (sym same) c.requires.suits in

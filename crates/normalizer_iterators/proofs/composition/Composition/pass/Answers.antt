@@ -1,5 +1,5 @@
 use Rattle.std.proofs.Common.{refl}
-use Rattle.normalizer_iterators.proofs.CompositionLemmas.{Steps-fault, Steps-end, Steps-first_starter, Steps-passed, Goes-passed, Goes-first_starter, Goes-fault}
+use Rattle.normalizer_iterators.proofs.BeforeStarterLemmas.{Steps-fault, Steps-end, Steps-first_starter, Steps-passed, Goes-passed, Goes-first_starter, Goes-fault}
 use Rattle.normalizer_iterators.proofs.PassingLemmas.{begins_anew}
 use Rattle.normalizer_iterators.proofs.composition.Composition.pass.Goals as goal
 

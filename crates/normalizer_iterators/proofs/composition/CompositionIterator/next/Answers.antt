@@ -1,6 +1,6 @@
 use Rattle.std.proofs.Common.{length, refl, sym, ap, ◌∙◌, arith, Ok}
-use Rattle.normalizer_iterators.proofs.CompositionLemmas.{Steps-first_starter, Steps-leading_mark, Steps-end, Steps-fault, Steps-mark, Steps-ended, Steps-starter, Steps-marks}
-use Rattle.normalizer_iterators.proofs.CompositionLemmas.{Goes-item, Goes-marks, Goes-leading_mark, Goes-fault}
+use Rattle.normalizer_iterators.proofs.BeforeStarterLemmas.{Steps-first_starter, Steps-leading_mark, Steps-end, Steps-fault, Goes-leading_mark, Goes-fault}
+use Rattle.normalizer_iterators.proofs.CompositionLemmas.{Steps-mark, Steps-ended, Steps-starter, Steps-marks, Goes-item, Goes-marks}
 use Rattle.normalizer_iterators.proofs.PassingLemmas.{IsAtPassed-stands}
 use Rattle.normalizer_iterators.proofs.LazyLemmas.{class-reading_by}
 use Rattle.normalizer_tables.specs.declared.characters.IgnoredCharacters.TheVariants.{Dropped}

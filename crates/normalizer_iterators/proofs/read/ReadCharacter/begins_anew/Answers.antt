@@ -10,7 +10,7 @@ pub returns-then-is_plain : goal.returns-then-is_plain
 returns-then-is_plain c =
     let f = has_class_form c.args.characters.now in
     let d = reading_by c.args.characters.now c.args.ignored [] in
-    let unseen = c.is_plain.ensures c.if-is_plain.true in (
+    let unseen = c.is_plain.ensures c.args.characters.now c.requires c.if-is_plain.true in (
       λ _. continues-anew f d c.args.self.character unseen.no_class_form
           (λ none. let clash : [] ≡ c.args.self.character ∷ [] = sym none ∙ unseen.itself (ignored_list c.args.ignored) in cc),
       λ _. refl,
