@@ -248,6 +248,13 @@ static void files(icu_normalizer *normalizer) {
     EXPECT(unless_refused(icu_normalizer_open_files(
         normalizer, NULL, 0, NULL, 0, bytes_of(lines), strlen(lines), 0, &defect)) == ICU_NORMALIZER_WRONG_LINE);
     EXPECT(defect.place == 1 && defect.source == ICU_NORMALIZER_IDNA_MAPPING_TABLE && defect.reason == 5);
+    /* A file that is cut off, and files of different versions. */
+    EXPECT(unless_refused(icu_normalizer_open_files(normalizer, NULL, 0, bytes_of("0958"), 4, NULL, 0, 0, &defect))
+        == ICU_NORMALIZER_WRONG_LINE);
+    EXPECT(defect.place == 1 && defect.source == ICU_NORMALIZER_COMPOSITION_EXCLUSIONS && defect.reason == 19);
+    EXPECT(unless_refused(icu_normalizer_open_files(normalizer, NULL, 0, bytes_of("0958\n"), 5, NULL, 0, 0, &defect))
+        == ICU_NORMALIZER_WRONG_LINE);
+    EXPECT(defect.place == 1 && defect.source == ICU_NORMALIZER_COMPOSITION_EXCLUSIONS && defect.reason == 20);
 }
 
 int main(int count, char **words) {

@@ -151,7 +151,7 @@ static void open_files(icu_normalizer *normalizer, const char *directory) {
     uint8_t *data = file(directory, "UnicodeData.txt", &data_length);
     uint8_t *exclusions = file(directory, "CompositionExclusions.txt", &exclusions_length);
     uint8_t *first = fenced(), *second = fenced(), *third = fenced();
-    const uint8_t table[] = "00AD ; ignored\n0378..0379 ; disallowed\n24B6 ; mapped ; 0061";
+    const uint8_t table[] = "00AD ; ignored\n0378..0379 ; disallowed\n24B6 ; mapped ; 0061\n";
     icu_normalizer_defect defect = {7, 7, 7};
     for (enum side side = LAST; side <= FIRST; side++) {
         EXPECT(icu_normalizer_open_files(normalizer, placed(side, first, data, data_length), data_length,
