@@ -190,10 +190,11 @@ static uint64_t passed(const struct cell *cell) {
     return cell->all > cell->none ? cell->all - cell->none : 1;
 }
 
+/* A virtual machine's clock may jump: a sample of less than a quarter of the least so far is none. */
 static void sample(struct cell *cell) {
     uint64_t none = spent(cell, 0), all = spent(cell, cell->times);
     if (none < cell->none) cell->none = none;
-    if (all < cell->all) cell->all = all;
+    if (all < cell->all && (cell->all == UINT64_MAX || all > cell->all / 4)) cell->all = all;
 }
 
 /* Finds how many calls make a sample. */
