@@ -2,12 +2,10 @@
 ghost use Rattle.std.specs.Prelude.{◌≡◌, All, IfOk};
 ghost use Rattle.std.specs.Iterator.{IsFinite};
 ghost use Rattle.normal_forms.specs.Forms.{nfc};
-ghost use Rattle.normalizer_tables.specs.Characters.{has_class_form};
 ghost use Rattle.normalizer_tables.specs.Ignored.{ignored_list};
 ghost use Rattle.normalizer_tables.specs.PairConditions.{HasOrderedLists};
-ghost use Rattle.normalizer_tables.specs.Readings.{reading_by};
 ghost use Rattle.normalizer_tables.specs.declared.characters.IgnoredCharacters.TheVariants.{Dropped};
-ghost use Rattle.normalizer_iterators.specs.Items.{YieldsForm};
+ghost use Rattle.normalizer_calls.specs.Iterating.{YieldsFormBy};
 ghost use Rattle.normalizer_calls.specs.Serving.{ServesComposing};
 
 use crate::borrowed::NormalizerBorrowed;
@@ -36,8 +34,8 @@ impl<'a> ComposingForm<'a> {
     ) -> Result<Composition<'a, I>, NormalizeError>
         requires can { I.can_next iter }
         requires ends { IsFinite (I.remaining iter) }
-        ensures form { let f = self.now in YieldsForm I.next_gives ⟦<Composition<'a, I> as Iterator>⟧.next_gives
-            (has_class_form f.characters) (reading_by f.characters Dropped f.pairs.now) nfc iter result }
+        ensures form { YieldsFormBy I.next_gives ⟦<Composition<'a, I> as Iterator>⟧.next_gives
+            self.now.characters Dropped self.now.pairs.now nfc iter result }
         ensures ready { IfOk result ⟦<Composition<'a, I> as Iterator>⟧.can_next }
         ensures kept { IfOk result (λ it. (data_of_composition it ≡ self.now.characters) ×
             (pairs_of_composition it ≡ self.now.pairs.now)) }
@@ -70,9 +68,8 @@ impl<'a> NormalizerBorrowed<ComposingForm<'a>> {
     ) -> Result<Composition<'a, I>, NormalizeError>
         requires can { I.can_next iter }
         requires ends { IsFinite (I.remaining iter) }
-        ensures form { YieldsForm I.next_gives ⟦<Composition<'a, I> as Iterator>⟧.next_gives
-            (has_class_form (composing_data_of_borrowed self.now))
-            (reading_by (composing_data_of_borrowed self.now) Dropped (pairs_of_borrowed self.now)) nfc iter result }
+        ensures form { YieldsFormBy I.next_gives ⟦<Composition<'a, I> as Iterator>⟧.next_gives
+            (composing_data_of_borrowed self.now) Dropped (pairs_of_borrowed self.now) nfc iter result }
         ensures ready { IfOk result ⟦<Composition<'a, I> as Iterator>⟧.can_next }
         ensures held { IfOk result (λ it. (data_of_composition it ≡ composing_data_of_borrowed self.now) ×
             (pairs_of_composition it ≡ pairs_of_borrowed self.now)) }

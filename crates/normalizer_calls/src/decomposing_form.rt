@@ -2,10 +2,8 @@
 ghost use Rattle.std.specs.Prelude.{IfOk, []};
 ghost use Rattle.std.specs.Iterator.{IsFinite};
 ghost use Rattle.normal_forms.specs.Forms.{nfd};
-ghost use Rattle.normalizer_tables.specs.Characters.{has_class_form};
-ghost use Rattle.normalizer_tables.specs.Readings.{reading_by};
 ghost use Rattle.normalizer_tables.specs.declared.characters.IgnoredCharacters.TheVariants.{Dropped};
-ghost use Rattle.normalizer_iterators.specs.Items.{YieldsForm};
+ghost use Rattle.normalizer_calls.specs.Iterating.{YieldsFormBy};
 ghost use Rattle.normalizer_calls.specs.Serving.{ServesDecomposing};
 
 use crate::borrowed::NormalizerBorrowed;
@@ -30,8 +28,8 @@ impl<'a> DecomposingForm<'a> {
     ) -> Result<Decomposition<'a, I>, NormalizeError>
         requires can { I.can_next iter }
         requires ends { IsFinite (I.remaining iter) }
-        ensures form { YieldsForm I.next_gives ⟦<Decomposition<'a, I> as Iterator>⟧.next_gives
-            (has_class_form self.now.characters) (reading_by self.now.characters Dropped []) nfd iter result }
+        ensures form { YieldsFormBy I.next_gives ⟦<Decomposition<'a, I> as Iterator>⟧.next_gives
+            self.now.characters Dropped [] nfd iter result }
         ensures ready { IfOk result ⟦<Decomposition<'a, I> as Iterator>⟧.can_next }
     {
         decomposed(self.characters.copied(), IgnoredCharacters::Dropped, iter)
@@ -59,9 +57,8 @@ impl<'a> NormalizerBorrowed<DecomposingForm<'a>> {
     ) -> Result<Decomposition<'a, I>, NormalizeError>
         requires can { I.can_next iter }
         requires ends { IsFinite (I.remaining iter) }
-        ensures form { YieldsForm I.next_gives ⟦<Decomposition<'a, I> as Iterator>⟧.next_gives
-            (has_class_form (data_of_borrowed self.now))
-            (reading_by (data_of_borrowed self.now) Dropped []) nfd iter result }
+        ensures form { YieldsFormBy I.next_gives ⟦<Decomposition<'a, I> as Iterator>⟧.next_gives
+            (data_of_borrowed self.now) Dropped [] nfd iter result }
         ensures ready { IfOk result ⟦<Decomposition<'a, I> as Iterator>⟧.can_next }
     {
         self.form.items(iter)

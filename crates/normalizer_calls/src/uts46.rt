@@ -2,12 +2,11 @@
 ghost use Rattle.std.specs.Prelude.{◌≡◌, ◌↔◌, IfErr, IfOk, IsTrue};
 ghost use Rattle.std.specs.Iterator.{IsFinite};
 ghost use Rattle.normal_forms.specs.Forms.{nfc};
-ghost use Rattle.normalizer_tables.specs.Characters.{class_of, has_class_form};
+ghost use Rattle.normalizer_tables.specs.Characters.{class_of};
 ghost use Rattle.normalizer_tables.specs.Held.{AnswersHeld};
-ghost use Rattle.normalizer_tables.specs.Readings.{reading_by};
-ghost use Rattle.normalizer_iterators.specs.Items.{YieldsForm};
 ghost use Rattle.normalizer_calls.specs.Acceptance.{bounds_of};
 ghost use Rattle.normalizer_calls.specs.ComposingAcceptance.{RefusesToCompose, SuitsComposing};
+ghost use Rattle.normalizer_calls.specs.Iterating.{YieldsFormBy};
 ghost use Rattle.normalizer_calls.specs.Uts46.{mapper_data, uts46_data, ServesMapper};
 
 use normalizer_iterators::composition::composed;
@@ -161,9 +160,8 @@ impl<'a> Uts46MapperBorrowed<'a> {
     ) -> Result<Composition<'a, I>, NormalizeError>
         requires can { I.can_next iter }
         requires ends { IsFinite (I.remaining iter) }
-        ensures form { let h = mapper_data_of_borrowed self.now in YieldsForm I.next_gives
-            ⟦<Composition<'a, I> as Iterator>⟧.next_gives (has_class_form h.0) (reading_by h.0 Dropped h.1)
-            nfc iter result }
+        ensures form { let h = mapper_data_of_borrowed self.now in YieldsFormBy I.next_gives
+            ⟦<Composition<'a, I> as Iterator>⟧.next_gives h.0 Dropped h.1 nfc iter result }
         ensures ready { IfOk result ⟦<Composition<'a, I> as Iterator>⟧.can_next }
         ensures held { IfOk result (λ it. (data_of_composition it ≡ (mapper_data_of_borrowed self.now).0) ×
             (pairs_of_composition it ≡ (mapper_data_of_borrowed self.now).1)) }
@@ -186,9 +184,8 @@ impl<'a> Uts46MapperBorrowed<'a> {
     ) -> Result<Composition<'a, I>, NormalizeError>
         requires can { I.can_next iter }
         requires ends { IsFinite (I.remaining iter) }
-        ensures form { let h = mapper_data_of_borrowed self.now in YieldsForm I.next_gives
-            ⟦<Composition<'a, I> as Iterator>⟧.next_gives (has_class_form h.0) (reading_by h.0 Replaced h.1)
-            nfc iter result }
+        ensures form { let h = mapper_data_of_borrowed self.now in YieldsFormBy I.next_gives
+            ⟦<Composition<'a, I> as Iterator>⟧.next_gives h.0 Replaced h.1 nfc iter result }
         ensures ready { IfOk result ⟦<Composition<'a, I> as Iterator>⟧.can_next }
         ensures held { IfOk result (λ it. (data_of_composition it ≡ (mapper_data_of_borrowed self.now).0) ×
             (pairs_of_composition it ≡ (mapper_data_of_borrowed self.now).1)) }
