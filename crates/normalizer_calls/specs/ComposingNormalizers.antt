@@ -1,6 +1,7 @@
 -- The data and the pairs of composing normalizers.
-use Rattle.std.specs.Prelude.{List}
-use Rattle.normalizer_tables.specs.Characters.{Characters, characters_from}
+use Rattle.std.specs.Prelude.{List, false}
+use Rattle.normalizer_tables.specs.Characters.{Characters}
+use Rattle.normalizer_tables.specs.Owned.{characters_owned}
 use Rattle.normalizer_tables.specs.Pairs.{Pair}
 use Rattle.normalizer_calls.specs.declared.borrowed.NormalizerBorrowed.{NormalizerBorrowed}
 use Rattle.normalizer_calls.specs.declared.composing_form.ComposingForm.{ComposingForm}
@@ -8,7 +9,7 @@ use Rattle.normalizer_calls.specs.declared.composing_normalizer.ComposingNormali
 
 -- the data that it owns
 abbrev pub composing_data_of : ComposingNormalizer → Characters
-composing_data_of n = characters_from n.decompositions n.tables n.supplementary
+composing_data_of n = characters_owned n.characters false
 
 -- the pairs that it owns
 abbrev pub pairs_of : ComposingNormalizer → List Pair

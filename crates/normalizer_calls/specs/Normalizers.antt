@@ -1,12 +1,14 @@
 -- The data of decomposing normalizers.
-use Rattle.normalizer_tables.specs.Characters.{Characters, characters_from}
+use Rattle.std.specs.Prelude.{false}
+use Rattle.normalizer_tables.specs.Characters.{Characters}
+use Rattle.normalizer_tables.specs.Owned.{characters_owned}
 use Rattle.normalizer_calls.specs.declared.borrowed.NormalizerBorrowed.{NormalizerBorrowed}
 use Rattle.normalizer_calls.specs.declared.decomposing_form.DecomposingForm.{DecomposingForm}
 use Rattle.normalizer_calls.specs.declared.normalizer.DecomposingNormalizer.{DecomposingNormalizer}
 
 -- the data that it owns
 abbrev pub data_of : DecomposingNormalizer → Characters
-data_of n = characters_from n.decompositions n.tables n.supplementary
+data_of n = characters_owned n.characters false
 
 -- the data that it borrows
 abbrev pub data_of_borrowed : NormalizerBorrowed DecomposingForm → Characters

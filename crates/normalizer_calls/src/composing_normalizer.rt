@@ -1,6 +1,6 @@
 //! Composing normalizers over the data of a provider.
-ghost use Rattle.std.specs.Prelude.{◌≡◌, IfOk, IfErr};
-ghost use Rattle.normalizer_tables.specs.Characters.{characters_from};
+ghost use Rattle.std.specs.Prelude.{◌≡◌, false, IfOk, IfErr};
+ghost use Rattle.normalizer_tables.specs.Owned.{characters_owned};
 ghost use Rattle.normalizer_calls.specs.Acceptance.{bounds_of, nfd_data, nfkd_data, AnswersHeld};
 ghost use Rattle.normalizer_calls.specs.ComposingAcceptance.{
   with_pairs,
@@ -11,38 +11,23 @@ ghost use Rattle.normalizer_calls.specs.Serving.{ServesComposing};
 
 use crate::borrowed::{ComposingNormalizerBorrowed, NormalizerBorrowed};
 use crate::composing_form::ComposingForm;
-use normalizer_tables::characters::CharacterData;
 use normalizer_tables::check::check;
 use normalizer_tables::condition::{Bounds, COMPOSING};
 use normalizer_tables::loaded::LoadedData;
+use normalizer_tables::owned::OwnedCharacterData;
 use normalizer_tables::{
-    CanonicalCompositions, DataError, DataMarkerInfo, DataProvider, DecompositionData,
-    DecompositionTables, NormalizerNfcV1, NormalizerNfdDataV1, NormalizerNfdTablesV1,
-    NormalizerNfkdDataV1, NormalizerNfkdTablesV1,
+    CanonicalCompositions, DataError, DataMarkerInfo, DataProvider, NormalizerNfcV1,
+    NormalizerNfdDataV1, NormalizerNfdTablesV1, NormalizerNfkdDataV1, NormalizerNfkdTablesV1,
 };
 
 /// A normalizer to NFC, or to NFKC over compatibility data. Its data were checked when it was made.
 ///
 /// [`as_borrowed`](ComposingNormalizer::as_borrowed) returns the normalizer that has the calls on text.
+#[derive(Drop)]
 pub struct ComposingNormalizer {
-    decompositions: DecompositionData,
-    tables: DecompositionTables,
-    supplementary: Option<DecompositionTables>,
+    characters: OwnedCharacterData,
     pairs: CanonicalCompositions,
-    ghost serves: { ServesComposing (characters_from decompositions tables supplementary)
-        (bounds_of decompositions) pairs },
-}
-
-// Written out, so that each place that drops one makes one call.
-impl Drop for ComposingNormalizer {
-    fn drop(self) {
-        let ComposingNormalizer {
-            decompositions: _decompositions,
-            tables: _tables,
-            supplementary: _supplementary,
-            pairs: _pairs,
-        } = self;
-    }
+    ghost serves: { ServesComposing (characters_owned characters false) (bounds_of characters.decompositions) pairs },
 }
 
 impl ComposingNormalizer {
@@ -75,8 +60,12 @@ impl ComposingNormalizer {
         let decompositions = <P as DataProvider<NormalizerNfdDataV1>>::load(provider)?;
         let tables = <P as DataProvider<NormalizerNfdTablesV1>>::load(provider)?;
         let pairs = <P as DataProvider<NormalizerNfcV1>>::load(provider)?;
-        let marker = DataMarkerInfo::NormalizerNfdDataV1;
-        Self::over(marker, decompositions, tables, None, pairs)
+        let characters = OwnedCharacterData {
+            decompositions,
+            tables,
+            supplementary: None,
+        };
+        Self::over(DataMarkerInfo::NormalizerNfdDataV1, characters, pairs)
     }
 
     /// Makes a normalizer to NFKC over compatibility data and pairs, which it loads from the provider and checks.
@@ -108,38 +97,29 @@ impl ComposingNormalizer {
         let tables = <P as DataProvider<NormalizerNfdTablesV1>>::load(provider)?;
         let supplementary = <P as DataProvider<NormalizerNfkdTablesV1>>::load(provider)?;
         let pairs = <P as DataProvider<NormalizerNfcV1>>::load(provider)?;
-        let marker = DataMarkerInfo::NormalizerNfkdDataV1;
-        Self::over(marker, decompositions, tables, Some(supplementary), pairs)
+        let characters = OwnedCharacterData {
+            decompositions,
+            tables,
+            supplementary: Some(supplementary),
+        };
+        Self::over(DataMarkerInfo::NormalizerNfkdDataV1, characters, pairs)
     }
 
     /// A normalizer over data and pairs that were loaded, if they meet the written conditions.
     fn over(
         marker: DataMarkerInfo,
-        decompositions: DecompositionData,
-        tables: DecompositionTables,
-        supplementary: Option<DecompositionTables>,
+        characters: OwnedCharacterData,
         pairs: CanonicalCompositions,
     ) -> Result<Self, DataError>
-        ensures ok { IfOk result (λ n. (composing_data_of n ≡ characters_from decompositions tables supplementary) ×
-            (pairs_of n ≡ pairs) × SuitsComposing (characters_from decompositions tables supplementary, pairs)) }
-        ensures err { IfErr result (RefusesToCompose marker
-            (characters_from decompositions tables supplementary, pairs)) }
+        ensures ok { IfOk result (λ n. (data_and_pairs_of n ≡ (characters_owned characters false, pairs)) ×
+            SuitsComposing (characters_owned characters false, pairs)) }
+        ensures err { IfErr result (RefusesToCompose marker (characters_owned characters false, pairs)) }
     {
-        let characters = CharacterData::new(
-            &decompositions,
-            &tables,
-            supplementary.as_ref(),
-            false,
-        );
-        let bounds = Bounds::of_cap(characters.cap());
-        let loaded = LoadedData::new(characters, bounds, Some(&pairs), None);
+        let borrowed = characters.as_borrowed(false);
+        let bounds = Bounds::of_cap(borrowed.cap());
+        let loaded = LoadedData::new(borrowed, bounds, Some(&pairs), None);
         check(&loaded, marker, &COMPOSING)?;
-        Ok(ComposingNormalizer {
-            decompositions,
-            tables,
-            supplementary,
-            pairs,
-        })
+        Ok(ComposingNormalizer { characters, pairs })
     }
 
     /// Returns the normalizer that borrows this one's data.
@@ -147,12 +127,7 @@ impl ComposingNormalizer {
         ensures held { composing_data_of_borrowed result ≡ composing_data_of self.now }
         ensures pairs { pairs_of_borrowed result ≡ pairs_of self.now }
     {
-        let characters = CharacterData::new(
-            &self.decompositions,
-            &self.tables,
-            self.supplementary.as_ref(),
-            false,
-        );
+        let characters = self.characters.as_borrowed(false);
         let bounds = Bounds::of_cap(characters.cap());
         NormalizerBorrowed {
             form: ComposingForm {

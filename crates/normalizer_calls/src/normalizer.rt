@@ -1,6 +1,6 @@
 //! Decomposing normalizers over the data of a provider.
-ghost use Rattle.std.specs.Prelude.{◌≡◌, IfOk, IfErr};
-ghost use Rattle.normalizer_tables.specs.Characters.{characters_from};
+ghost use Rattle.std.specs.Prelude.{◌≡◌, false, IfOk, IfErr};
+ghost use Rattle.normalizer_tables.specs.Owned.{characters_owned};
 ghost use Rattle.normalizer_calls.specs.Acceptance.{
   bounds_of,
   nfd_data,
@@ -13,35 +13,22 @@ ghost use Rattle.normalizer_calls.specs.Serving.{ServesDecomposing};
 
 use crate::borrowed::{DecomposingNormalizerBorrowed, NormalizerBorrowed};
 use crate::decomposing_form::DecomposingForm;
-use normalizer_tables::characters::CharacterData;
 use normalizer_tables::check::check;
 use normalizer_tables::condition::{Bounds, DECOMPOSING};
 use normalizer_tables::loaded::LoadedData;
+use normalizer_tables::owned::OwnedCharacterData;
 use normalizer_tables::{
-    DataError, DataMarkerInfo, DataProvider, DecompositionData, DecompositionTables,
-    NormalizerNfdDataV1, NormalizerNfdTablesV1, NormalizerNfkdDataV1, NormalizerNfkdTablesV1,
+    DataError, DataMarkerInfo, DataProvider, NormalizerNfdDataV1, NormalizerNfdTablesV1,
+    NormalizerNfkdDataV1, NormalizerNfkdTablesV1,
 };
 
 /// A normalizer to NFD, or to NFKD over compatibility data. Its data were checked when it was made.
 ///
 /// [`as_borrowed`](DecomposingNormalizer::as_borrowed) returns the normalizer that has the calls on text.
+#[derive(Drop)]
 pub struct DecomposingNormalizer {
-    decompositions: DecompositionData,
-    tables: DecompositionTables,
-    supplementary: Option<DecompositionTables>,
-    ghost serves: { ServesDecomposing (characters_from decompositions tables supplementary)
-        (bounds_of decompositions) },
-}
-
-// Written out, so that each place that drops one makes one call.
-impl Drop for DecomposingNormalizer {
-    fn drop(self) {
-        let DecomposingNormalizer {
-            decompositions: _decompositions,
-            tables: _tables,
-            supplementary: _supplementary,
-        } = self;
-    }
+    characters: OwnedCharacterData,
+    ghost serves: { ServesDecomposing (characters_owned characters false) (bounds_of characters.decompositions) },
 }
 
 impl DecomposingNormalizer {
@@ -64,8 +51,12 @@ impl DecomposingNormalizer {
     {
         let decompositions = <P as DataProvider<NormalizerNfdDataV1>>::load(provider)?;
         let tables = <P as DataProvider<NormalizerNfdTablesV1>>::load(provider)?;
-        let marker = DataMarkerInfo::NormalizerNfdDataV1;
-        Self::over(marker, decompositions, tables, None)
+        let characters = OwnedCharacterData {
+            decompositions,
+            tables,
+            supplementary: None,
+        };
+        Self::over(DataMarkerInfo::NormalizerNfdDataV1, characters)
     }
 
     /// Makes a normalizer to NFKD over compatibility data, which it loads from the provider and checks.
@@ -89,47 +80,32 @@ impl DecomposingNormalizer {
         let decompositions = <P as DataProvider<NormalizerNfkdDataV1>>::load(provider)?;
         let tables = <P as DataProvider<NormalizerNfdTablesV1>>::load(provider)?;
         let supplementary = <P as DataProvider<NormalizerNfkdTablesV1>>::load(provider)?;
-        let marker = DataMarkerInfo::NormalizerNfkdDataV1;
-        Self::over(marker, decompositions, tables, Some(supplementary))
+        let characters = OwnedCharacterData {
+            decompositions,
+            tables,
+            supplementary: Some(supplementary),
+        };
+        Self::over(DataMarkerInfo::NormalizerNfkdDataV1, characters)
     }
 
     /// A normalizer over data that were loaded, if they meet the written conditions.
-    fn over(
-        marker: DataMarkerInfo,
-        decompositions: DecompositionData,
-        tables: DecompositionTables,
-        supplementary: Option<DecompositionTables>,
-    ) -> Result<Self, DataError>
-        ensures ok { IfOk result (λ n. (data_of n ≡ characters_from decompositions tables supplementary) ×
-            SuitsDecomposing (characters_from decompositions tables supplementary)) }
-        ensures err { IfErr result (RefusesToDecompose marker (characters_from decompositions tables supplementary)) }
+    fn over(marker: DataMarkerInfo, characters: OwnedCharacterData) -> Result<Self, DataError>
+        ensures ok { IfOk result (λ n.
+            (data_of n ≡ characters_owned characters false) × SuitsDecomposing (characters_owned characters false)) }
+        ensures err { IfErr result (RefusesToDecompose marker (characters_owned characters false)) }
     {
-        let characters = CharacterData::new(
-            &decompositions,
-            &tables,
-            supplementary.as_ref(),
-            false,
-        );
-        let bounds = Bounds::of_cap(characters.cap());
-        let loaded = LoadedData::new(characters, bounds, None, None);
+        let borrowed = characters.as_borrowed(false);
+        let bounds = Bounds::of_cap(borrowed.cap());
+        let loaded = LoadedData::new(borrowed, bounds, None, None);
         check(&loaded, marker, &DECOMPOSING)?;
-        Ok(DecomposingNormalizer {
-            decompositions,
-            tables,
-            supplementary,
-        })
+        Ok(DecomposingNormalizer { characters })
     }
 
     /// Returns the normalizer that borrows this one's data.
     pub fn as_borrowed(&self) -> DecomposingNormalizerBorrowed<'_>
         ensures { data_of_borrowed result ≡ data_of self.now }
     {
-        let characters = CharacterData::new(
-            &self.decompositions,
-            &self.tables,
-            self.supplementary.as_ref(),
-            false,
-        );
+        let characters = self.characters.as_borrowed(false);
         let bounds = Bounds::of_cap(characters.cap());
         NormalizerBorrowed {
             form: DecomposingForm {

@@ -1,13 +1,14 @@
 //! The mapper (UTS #46, section 4): characters mapped, decomposed, put in order and composed.
-ghost use Rattle.std.specs.Prelude.{◌≡◌, ◌↔◌, IfErr, IfOk, IsTrue};
+ghost use Rattle.std.specs.Prelude.{◌≡◌, ◌↔◌, true, IfErr, IfOk, IsTrue};
 ghost use Rattle.std.specs.Iterator.{IsFinite};
 ghost use Rattle.normal_forms.specs.Forms.{nfc};
 ghost use Rattle.normalizer_tables.specs.Characters.{class_of};
 ghost use Rattle.normalizer_tables.specs.Held.{AnswersHeld};
+ghost use Rattle.normalizer_tables.specs.Owned.{characters_owned};
 ghost use Rattle.normalizer_calls.specs.Acceptance.{bounds_of};
 ghost use Rattle.normalizer_calls.specs.ComposingAcceptance.{RefusesToCompose, SuitsComposing};
 ghost use Rattle.normalizer_calls.specs.Iterating.{YieldsFormBy};
-ghost use Rattle.normalizer_calls.specs.Uts46.{mapper_data, uts46_data, ServesMapper};
+ghost use Rattle.normalizer_calls.specs.Uts46.{uts46_data, ServesMapper};
 
 use normalizer_iterators::composition::composed;
 use normalizer_iterators::{Composition, NormalizeError};
@@ -15,10 +16,10 @@ use normalizer_tables::characters::{CharacterData, IgnoredCharacters};
 use normalizer_tables::check::check;
 use normalizer_tables::condition::{Bounds, MAPPING};
 use normalizer_tables::loaded::LoadedData;
+use normalizer_tables::owned::OwnedCharacterData;
 use normalizer_tables::{
-    CanonicalCompositions, DataError, DataMarkerInfo, DataProvider, DecompositionData,
-    DecompositionTables, NormalizerNfcV1, NormalizerNfdTablesV1, NormalizerNfkdTablesV1,
-    NormalizerUts46DataV1,
+    CanonicalCompositions, DataError, DataMarkerInfo, DataProvider, NormalizerNfcV1,
+    NormalizerNfdTablesV1, NormalizerNfkdTablesV1, NormalizerUts46DataV1,
 };
 
 /// The class of viramas.
@@ -28,24 +29,11 @@ const VIRAMA: u8 = 9;
 ///
 /// It maps and normalizes; STD3 rules, transitional processing, Punycode and the other steps of UTS #46 are left to
 /// the caller.
+#[derive(Drop)]
 pub struct Uts46Mapper {
-    decompositions: DecompositionData,
-    tables: DecompositionTables,
-    supplementary: DecompositionTables,
+    characters: OwnedCharacterData,
     pairs: CanonicalCompositions,
-    ghost serves: { ServesMapper (mapper_data decompositions tables supplementary pairs) (bounds_of decompositions) },
-}
-
-// Written out, so that each place that drops one makes one call.
-impl Drop for Uts46Mapper {
-    fn drop(self) {
-        let Uts46Mapper {
-            decompositions: _decompositions,
-            tables: _tables,
-            supplementary: _supplementary,
-            pairs: _pairs,
-        } = self;
-    }
+    ghost serves: { ServesMapper (characters_owned characters true, pairs) (bounds_of characters.decompositions) },
 }
 
 impl Uts46Mapper {
@@ -75,43 +63,33 @@ impl Uts46Mapper {
         let tables = <P as DataProvider<NormalizerNfdTablesV1>>::load(provider)?;
         let supplementary = <P as DataProvider<NormalizerNfkdTablesV1>>::load(provider)?;
         let pairs = <P as DataProvider<NormalizerNfcV1>>::load(provider)?;
-        Self::over(decompositions, tables, supplementary, pairs)
+        let characters = OwnedCharacterData {
+            decompositions,
+            tables,
+            supplementary: Some(supplementary),
+        };
+        Self::over(characters, pairs)
     }
 
     /// A mapper over data that were loaded, if they meet the written conditions.
-    fn over(
-        decompositions: DecompositionData,
-        tables: DecompositionTables,
-        supplementary: DecompositionTables,
-        pairs: CanonicalCompositions,
-    ) -> Result<Self, DataError>
-        ensures ok { IfOk result (λ m. (mapper_data_of m ≡ mapper_data decompositions tables supplementary pairs) ×
-            SuitsComposing (mapper_data decompositions tables supplementary pairs)) }
+    fn over(characters: OwnedCharacterData, pairs: CanonicalCompositions) -> Result<Self, DataError>
+        ensures ok { IfOk result (λ m. (mapper_data_of m ≡ (characters_owned characters true, pairs)) ×
+            SuitsComposing (characters_owned characters true, pairs)) }
         ensures err { IfErr result (RefusesToCompose DataMarkerInfo.NormalizerUts46DataV1
-            (mapper_data decompositions tables supplementary pairs)) }
+            (characters_owned characters true, pairs)) }
     {
-        let characters = CharacterData::new(&decompositions, &tables, Some(&supplementary), true);
-        let bounds = Bounds::of_cap(characters.cap());
-        let loaded = LoadedData::new(characters, bounds, Some(&pairs), None);
+        let borrowed = characters.as_borrowed(true);
+        let bounds = Bounds::of_cap(borrowed.cap());
+        let loaded = LoadedData::new(borrowed, bounds, Some(&pairs), None);
         check(&loaded, DataMarkerInfo::NormalizerUts46DataV1, &MAPPING)?;
-        Ok(Uts46Mapper {
-            decompositions,
-            tables,
-            supplementary,
-            pairs,
-        })
+        Ok(Uts46Mapper { characters, pairs })
     }
 
     /// Returns the mapper that borrows this one's data.
     pub fn as_borrowed(&self) -> Uts46MapperBorrowed<'_>
         ensures { mapper_data_of_borrowed result ≡ mapper_data_of self.now }
     {
-        let characters = CharacterData::new(
-            &self.decompositions,
-            &self.tables,
-            Some(&self.supplementary),
-            true,
-        );
+        let characters = self.characters.as_borrowed(true);
         let bounds = Bounds::of_cap(characters.cap());
         Uts46MapperBorrowed {
             characters: characters.passing_unseen_below(bounds.decomposition),

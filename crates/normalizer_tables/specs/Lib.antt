@@ -9,6 +9,7 @@ pub mod Held
 pub mod Ignored
 pub mod Loaded
 pub mod NfdData
+pub mod Owned
 pub mod PairConditions
 pub mod Pairs
 pub mod Places

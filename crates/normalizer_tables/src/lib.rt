@@ -10,6 +10,7 @@ pub mod laws;
 pub mod loaded;
 pub mod members;
 pub mod nfd_check;
+pub mod owned;
 pub mod pair_check;
 mod pairs;
 pub mod places;

@@ -1,13 +1,14 @@
 use Rattle.std.proofs.Common.{refl}
+use Rattle.std.specs.Prelude.{true}
+use Rattle.normalizer_tables.specs.Owned.{characters_owned}
 use Rattle.normalizer_calls.specs.ComposingAcceptance.{SuitsComposing}
-use Rattle.normalizer_calls.specs.Uts46.{mapper_data}
 use Rattle.normalizer_calls.proofs.MapperLemmas.{ServesMapper-met}
 use Rattle.normalizer_calls.proofs.uts46.Uts46Mapper.over.Goals as goal
 use Rattle.normalizer_calls.proofs.uts46.Uts46Mapper.over.Goals.{In_ok-check}
 
 -- the data that were supplied meet the conditions
-met : (c : In_ok-check) → SuitsComposing (mapper_data c.args.decompositions c.args.tables c.args.supplementary c.args.pairs)
-met c = let h = c.in_ok-check.ensures.ok.0 refl in rw (c.new-loaded.ensures, c.of_cap-bounds.ensures, c.cap.ensures, c.new-characters.ensures) at h
+met : (c : In_ok-check) → SuitsComposing (characters_owned c.args.characters true, c.args.pairs)
+met c = let h = c.in_ok-check.ensures.ok.0 refl in rw (c.new-loaded.ensures, c.of_cap-bounds.ensures, c.cap.ensures, c.as_borrowed-borrowed.ensures) at h
 
 pub invariant_of-result : goal.invariant_of-result
 invariant_of-result c = record { serves = ServesMapper-met _ _ (met c) }
