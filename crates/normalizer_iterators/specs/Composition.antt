@@ -1,11 +1,16 @@
 -- What is still to come of a composition.
-use Rattle.std.specs.Prelude.{◌≡◌, ℕ, ◌+◌, ◌≤◌, List, [], ◌∷◌, length, Option, Result, MatchResult, IfErr, IfOk, IsOk, OnErr}
+use Rattle.std.specs.Prelude.{◌≡◌, ℕ, ◌+◌, ◌≤◌, List, [], ◌∷◌, ◌++◌, length, All, Option, Result, MatchResult, IfErr, IfOk}
+use Rattle.std.specs.Prelude.{IfSome, IsOk, OnErr}
 use Rattle.std.specs.Iterator.{Count}
 use Rattle.normal_forms.specs.Reading.{Reading}
 use Rattle.normal_forms.specs.CompositionByStarters.{compose_after}
-use Rattle.normalizer_tables.specs.Characters.{Characters}
+use Rattle.normal_forms.specs.Order.{order}
+use Rattle.normalizer_tables.specs.Characters.{Characters, list_of}
+use Rattle.normalizer_tables.specs.Ignored.{ignored_list}
+use Rattle.normalizer_tables.specs.PairConditions.{HasOrderedLists}
 use Rattle.normalizer_tables.specs.Pairs.{Pair}
 use Rattle.normalizer_tables.specs.Readings.{reading_by}
+use Rattle.normalizer_tables.specs.declared.characters.IgnoredCharacters.{IgnoredCharacters}
 use Rattle.normalizer_tables.specs.declared.characters.IgnoredCharacters.TheVariants.{Dropped}
 use Rattle.normalizer_text.specs.Steps.{Spells}
 use Rattle.normalizer_iterators.specs.declared.composition.Ahead.TheVariants.{Ended}
@@ -18,6 +23,13 @@ use Rattle.normalizer_iterators.specs.Decomposition as decomposition
 use Rattle.normalizer_iterators.specs.Delegate.{Extent, MayGive}
 use Rattle.normalizer_iterators.specs.NextItem.{CameFirst, GaveFirst, YieldsNext}
 use Rattle.normalizer_iterators.specs.StayingMarks.{staying}
+
+-- if the data meet condition 14, the list of what a and c compose to is the lists of both, in canonical order
+abbrev pub HasListsOfBoth : Characters → List Pair → ℕ → ℕ → Option ℕ → Type 0
+HasListsOfBoth s pairs a c result =
+    (ignored : IgnoredCharacters) → All (HasOrderedLists s (ignored_list ignored)) pairs
+    → IfSome result (λ r. list_of s (ignored_list ignored) r
+    ≡ order (reading_by s Dropped []) (list_of s (ignored_list ignored) a ++ list_of s (ignored_list ignored) c))
 
 module _ {I : Type 0} where
   -- the data and the pairs by which it composes

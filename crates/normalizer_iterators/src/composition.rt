@@ -1,18 +1,13 @@
 //! Composing text character by character (The Unicode Standard, D117, D120 and D121).
-ghost use Rattle.std.specs.Prelude.{◌≡◌, ◌<◌, ◌≤◌, ◌++◌, ℕ, All, List, [], Option, IfSome, IfErr, OnErr, IfOk};
+ghost use Rattle.std.specs.Prelude.{◌≡◌, ◌<◌, ◌≤◌, ℕ, List, [], Option, IfErr, OnErr, IfOk};
 ghost use Rattle.std.specs.Prelude.{IsOk, IsOkUnless};
 ghost use Rattle.std.specs.Iterator.{at_most, IsFinite, MakesProgress};
 ghost use Rattle.normal_forms.specs.Forms.{nfc};
-ghost use Rattle.normal_forms.specs.Order.{order};
 ghost use Rattle.normal_forms.specs.CompositionByStarters.{join};
 ghost use Rattle.normal_forms.specs.ShortRuns.{places};
-ghost use Rattle.normalizer_tables.specs.declared.characters.IgnoredCharacters.{IgnoredCharacters};
-ghost use Rattle.normalizer_tables.specs.Characters.{has_class_form, list_of};
-ghost use Rattle.normalizer_tables.specs.Ignored.{ignored_list};
-ghost use Rattle.normalizer_tables.specs.PairConditions.{HasOrderedLists};
+ghost use Rattle.normalizer_tables.specs.Characters.{has_class_form};
 ghost use Rattle.normalizer_tables.specs.Pairs.{pair_of};
 ghost use Rattle.normalizer_tables.specs.Readings.{reading_by};
-ghost use Rattle.normalizer_tables.specs.declared.characters.IgnoredCharacters.TheVariants.{Dropped};
 ghost use Rattle.normalizer_text.specs.Steps.{Spells};
 ghost use Rattle.normalizer_iterators.specs.declared.composition.Ahead.TheVariants.{Passed};
 ghost use Rattle.normalizer_iterators.specs.Decomposition.{CanDecompose};
@@ -85,6 +80,7 @@ impl<'data, I: Iterator<Item = char> + Drop> Composition<'data, I> {
       CanCompose,
       ComposesOn,
       CompositionSteps,
+      HasListsOfBoth,
       StaysShort,
       WillGive,
       data_of_composition,
@@ -130,11 +126,8 @@ impl<'data, I: Iterator<Item = char> + Drop> Composition<'data, I> {
     /// the result is the lists of the two, in canonical order. It takes no memory.
     pub fn compose(&self, starter: char, second: char) -> Option<char>
         ensures pair { result ≡ pair_of (pairs_of_composition self.now) starter second }
-        ensures lists { let s = data_of_composition self.now in (ignored : IgnoredCharacters) →
-            All (HasOrderedLists s (ignored_list ignored)) (pairs_of_composition self.now) →
-            IfSome result (λ c. list_of s (ignored_list ignored) c ≡
-            order (reading_by s Dropped [])
-            (list_of s (ignored_list ignored) starter ++ list_of s (ignored_list ignored) second)) }
+        ensures lists { HasListsOfBoth (data_of_composition self.now) (pairs_of_composition self.now) starter second
+            result }
     {
         compose(self.pairs, starter, second)
     }

@@ -55,6 +55,7 @@ impl<'data, I: Iterator<Item = char> + Drop> Decomposition<'data, I> {
       DecompositionSteps,
       StaysShort,
       WillGive,
+      YieldsNfd,
       item_of,
       items_left,
     };
@@ -75,9 +76,8 @@ impl<'data, I: Iterator<Item = char> + Drop> Decomposition<'data, I> {
         requires can { I.can_next delegate }
         requires ends { IsFinite (I.remaining delegate) }
         requires sound { IsSoundNfdData decompositions.now tables.now }
-        ensures form { YieldsForm I.next_gives ⟦<Decomposition<'data, I> as Iterator>⟧.next_gives
-            (has_class_form (characters_from decompositions.now tables.now None))
-            (reading_by (characters_from decompositions.now tables.now None) Dropped []) nfd delegate result }
+        ensures form { YieldsNfd I.next_gives ⟦<Decomposition<'data, I> as Iterator>⟧.next_gives
+            (characters_from decompositions.now tables.now None) Dropped delegate result }
         ensures ready { IfOk result ⟦<Decomposition<'data, I> as Iterator>⟧.can_next }
     {
         let characters = CharacterData::new(decompositions, tables, None, false);
