@@ -1,6 +1,6 @@
 -- What is still to come of a composition before a starter, from one item to the next.
-use Rattle.std.proofs.Common.{◌≡◌, ℕ, ◌<◌, List, [], ◌++◌, length, Option, Some, None, Result, Ok, Err, MatchResult, refl, sym, ap, ◌∙◌, ◌∷◌, subst, arith}
-use Rattle.std.specs.Iterator.{Count, at_most, MakesProgress}
+use Rattle.std.proofs.Common.{◌≡◌, ℕ, List, [], ◌++◌, length, Option, Some, None, Result, Ok, Err, MatchResult, refl, sym, ap, ◌∙◌, ◌∷◌, subst, arith}
+use Rattle.std.specs.Iterator.{Count}
 use Rattle.normal_forms.specs.Reading.{Reading, IsStarter, IsMark}
 use Rattle.normal_forms.specs.CompositionByStarters.{compose_after, compose_by_starters}
 use Rattle.normal_forms.proofs.ComposeLemmas.{compose_by_starters-nil, compose_by_starters-starter, compose_by_starters-mark}
@@ -15,14 +15,14 @@ use Rattle.normalizer_iterators.specs.Delegate.{MayGive}
 use Rattle.normalizer_iterators.specs.NextItem.{GaveFirst}
 use Rattle.normalizer_iterators.specs.StayingMarks.{staying}
 use Rattle.normalizer_iterators.specs.MarkRuns.{HasShortMarkRuns}
-use Rattle.normalizer_iterators.specs.inner.Passing.{PassesOn, YieldsStarter}
+use Rattle.normalizer_iterators.specs.inner.Passing.{PassesOn}
 use Rattle.normalizer_iterators.specs.Composing.{composed_ahead, ahead_left, UnlessEnded, IsBeforeStarter, GivesShort}
-use Rattle.normalizer_iterators.specs.Composition.{CanCompose, ComposesOn, CompositionSteps, StaysShort, WillGive, items_left, pairing_by}
+use Rattle.normalizer_iterators.specs.Composition.{ComposesOn, CompositionSteps, StaysShort, WillGive, items_left, pairing_by}
 use Rattle.normalizer_iterators.proofs.MarkRunLemmas.{HasShortMarkRuns-rest}
 use Rattle.normalizer_iterators.proofs.StarterLemmas.{GivesShort-next, GivesShort-no_fault}
 use Rattle.normalizer_tables.specs.Readings.{reading_by}
 use Rattle.normalizer_tables.specs.declared.characters.IgnoredCharacters.TheVariants.{Dropped}
-use Rattle.normalizer_iterators.proofs.CompositionLemmas.{Becomes, WillGive-by, WillGive-parts, WillGive-end, StaysShort-by, items_left-by, CameFirst-composed, Goes-item}
+use Rattle.normalizer_iterators.proofs.CompositionLemmas.{Becomes, WillGive-by, WillGive-parts, WillGive-end, StaysShort-by, items_left-by, CameFirst-composed}
 
 module _ {I : Type 0} (can : I → Type 0) (gives : I → Option ℕ → I → Type 0) (left : I → Count) where
   composed_before : (d : Reading) (ahead : Ahead) → IsBeforeStarter ahead → (y : List ℕ) → composed_ahead d ahead y ≡ compose_by_starters d y
@@ -99,11 +99,8 @@ module _ {I : Type 0} (can : I → Type 0) (gives : I → Option ℕ → I → T
               (λ y out h composed. may_come (MayGive gives e) (c ∷ y) out (step.came e y h) (compose_by_starters-starter d c y starter ∙ same_after y ∙ composed));
           ready = λ _. on.ready;
           kept = (on.kept.0 ∙ step.kept.0, on.kept.1);
+          fewer = omega (arith, on.fewer, step.fewer, left_in_source);
         }
-
-    pub Goes-first_starter : (c : ℕ) (n : Decomposition I) (r : Result ℕ NormalizeError) (t : Composition I) → YieldsStarter can gives left s.decomposed c n
-        → ComposesOn can gives left c n s.pairs.now r t → MakesProgress {A = Result ℕ NormalizeError} (CanCompose can left) (λ v. at_most (items_left left v)) s (Some r) t
-    Goes-first_starter c n r t given on = Goes-item can gives left s r t on.ready (omega (arith, on.fewer, given.fewer, left_in_source))
 
     module _ (t : Composition I) where
       pub Steps-fault : (e : NormalizeError) → Becomes s [] Ended t → decomposition.DecompositionSteps can gives left s.decomposed (Some (Err e)) t.decomposed
@@ -119,11 +116,8 @@ module _ {I : Type 0} (can : I → Type 0) (gives : I → Option ℕ → I → T
         came = λ k. tt;
         ready = step.ready;
         kept = parts.kept;
+        fewer = omega (arith, step.fewer, left_in_source, items_left-by can gives left s t [] Ended parts);
       }
-
-      pub Goes-fault : (e : NormalizeError) → Becomes s [] Ended t → CanCompose can left t → decomposition.items_left left t.decomposed < decomposition.items_left left s.decomposed
-          → MakesProgress {A = Result ℕ NormalizeError} (CanCompose can left) (λ v. at_most (items_left left v)) s (Some (Err e)) t
-      Goes-fault e parts ready fewer = Goes-item can gives left s (Err e) t ready (omega (arith, left_in_source, items_left-by can gives left s t [] Ended parts))
 
       pub Steps-end : Becomes s [] Ended t → decomposition.DecompositionSteps can gives left s.decomposed None t.decomposed → CompositionSteps can gives left s None t
       Steps-end parts step =
@@ -141,6 +135,7 @@ module _ {I : Type 0} (can : I → Type 0) (gives : I → Option ℕ → I → T
             came = λ e. may_come (MayGive gives e) [] [] (step.came e) (compose_by_starters-nil d);
             ready = step.ready;
             kept = parts.kept;
+            fewer = tt;
           }
 
       -- a character is given as it is
@@ -176,11 +171,8 @@ module _ {I : Type 0} (can : I → Type 0) (gives : I → Option ℕ → I → T
                 may_come (MayGive gives e) y.0 (c ∷ out) y.1 (y.2 ∙ ap (λ l. c ∷ l) (sym b.text));
             ready = λ _. on.ready;
             kept = parts.kept;
+            fewer = omega (arith, on.fewer, left_in_source, items_left-by can gives left s t [] Passed parts);
           }
-
-      pub Goes-passed : (c : ℕ) → Becomes s [] Passed t → PassesOn can gives left s.pairs.now s.decomposed c t.decomposed
-          → MakesProgress {A = Result ℕ NormalizeError} (CanCompose can left) (λ v. at_most (items_left left v)) s (Some (Ok c)) t
-      Goes-passed c parts on = Goes-item can gives left s (Ok c) t on.ready (omega (arith, on.fewer, left_in_source, items_left-by can gives left s t [] Passed parts))
 
       -- a mark is given before any starter
       pub Steps-leading_mark : (c : ℕ) → Becomes s [] NoStarter t → decomposition.DecompositionSteps can gives left s.decomposed (Some (Ok c)) t.decomposed → IsMark (pairing_by s) c
@@ -206,8 +198,5 @@ module _ {I : Type 0} (can : I → Type 0) (gives : I → Option ℕ → I → T
                 (compose_by_starters-mark d c b.unread mark ∙ ap (λ l. c ∷ l) (sym b.text));
             ready = step.ready;
             kept = parts.kept;
+            fewer = omega (arith, step.fewer, left_in_source, items_left-by can gives left s t [] NoStarter parts);
           }
-
-      pub Goes-leading_mark : (c : ℕ) → Becomes s [] NoStarter t → CanCompose can left t → decomposition.items_left left t.decomposed < decomposition.items_left left s.decomposed
-          → MakesProgress {A = Result ℕ NormalizeError} (CanCompose can left) (λ v. at_most (items_left left v)) s (Some (Ok c)) t
-      Goes-leading_mark c parts ready fewer = Goes-item can gives left s (Ok c) t ready (omega (arith, left_in_source, items_left-by can gives left s t [] NoStarter parts))

@@ -1,6 +1,6 @@
 -- What is still to come of a composition, from one item to the next.
 use Rattle.std.proofs.Common.{◌≡◌, ℕ, ◌+◌, ◌<◌, List, [], ◌++◌, length, Option, Some, None, Result, Ok, Err, OnSome, MatchResult, IfOk, refl, sym, ap, ◌∙◌, ◌∷◌, subst, arith}
-use Rattle.std.specs.Iterator.{Count, IsFinite, at_most, MakesProgress}
+use Rattle.std.specs.Iterator.{Count, at_most, MakesProgress}
 use Rattle.normal_forms.specs.Reading.{Reading}
 use Rattle.normal_forms.specs.CompositionByStarters.{compose_after}
 use Rattle.normalizer_text.specs.Steps.{Spells}
@@ -16,6 +16,7 @@ use Rattle.normalizer_iterators.specs.NextItem.{CameFirst, GaveFirst}
 use Rattle.normalizer_iterators.specs.StayingMarks.{staying}
 use Rattle.normalizer_iterators.specs.Composing.{composed_ahead, ahead_left, UnlessEnded, WillGiveBehind, GivesShort, ComposesStarter}
 use Rattle.normalizer_iterators.specs.Composition.{CanCompose, ComposesOn, CompositionSteps, StaysShort, WillGive, items_left, pairing_by}
+use Rattle.normalizer_iterators.proofs.ProgressLemmas.{MakesProgress-fewer}
 use Rattle.normalizer_tables.specs.Readings.{reading_by}
 use Rattle.normalizer_tables.specs.declared.characters.IgnoredCharacters.TheVariants.{Dropped}
 
@@ -144,6 +145,7 @@ module _ {I : Type 0} (can : I → Type 0) (gives : I → Option ℕ → I → T
             record { unread = b.unread; source = b.source; text = ap (λ l. c ∷ l) b.text ∙ ap (λ l. l ++ composed_ahead d s.ahead b.unread) (sym front) };
         ready = λ h. rw same.decomposed h;
         kept = parts.kept;
+        fewer = omega (arith, ap length front, items_left-by s t (staying t.marks) s.ahead parts, ap (λ n. ahead_left s.ahead (decomposition.items_left left n)) same.decomposed);
       }
 
   -- ---- the end is reached
@@ -167,6 +169,7 @@ module _ {I : Type 0} (can : I → Type 0) (gives : I → Option ℕ → I → T
         };
         ready = λ h. rw same.decomposed h;
         kept = parts.kept;
+        fewer = tt;
       }
 
   -- ---- there is a starter
@@ -193,13 +196,14 @@ module _ {I : Type 0} (can : I → Type 0) (gives : I → Option ℕ → I → T
         });
         ready = λ _. on.ready;
         kept = on.kept;
+        fewer = omega (arith, on.fewer, ap length none, ap (λ b. ahead_left b (decomposition.items_left left s.decomposed)) is);
       }
 
   -- ---- fewer are left
 
-  pub Goes-item : (s : Composition I) (r : Result ℕ NormalizeError) (t : Composition I) → CanCompose can left t → items_left left t < items_left left s
-      → MakesProgress {A = Result ℕ NormalizeError} (CanCompose can left) (λ v. at_most (items_left left v)) s (Some r) t
-  Goes-item s r t ready fewer = record { on = λ finite. (ready, tt, fewer); keeps = ready; rests = λ finite. tt }
+  pub Goes : (s : Composition I) (r : Option (Result ℕ NormalizeError)) (t : Composition I) → CanCompose can left s → CompositionSteps can gives left s r t
+      → MakesProgress {A = Result ℕ NormalizeError} (CanCompose can left) (λ v. at_most (items_left left v)) s r t
+  Goes s r t ready step = MakesProgress-fewer (CanCompose can left) (items_left left) s r t (step.ready ready) step.fewer
 
   -- ---- if no mark is yielded first, it doesn't matter how many were
 
@@ -214,6 +218,9 @@ module _ {I : Type 0} (can : I → Type 0) (gives : I → Option ℕ → I → T
         subst (λ n. WillGiveBehind Comes d [] s.ahead n out) same.decomposed (WillGive-parts Comes s u [] s.ahead without_marks out h) in
         record { unread = b.unread; source = b.source; text = b.text ∙ ap (λ l. l ++ composed_ahead d s.ahead b.unread) (sym none) }
 
+    as_many : items_left left u ≡ items_left left s
+    as_many = omega (arith, ap length none, items_left-by s u [] s.ahead without_marks, ap (λ n. ahead_left s.ahead (decomposition.items_left left n)) same.decomposed)
+
     pub Steps-marks : (r : Option (Result ℕ NormalizeError)) (t : Composition I) → CompositionSteps can gives left u r t → CompositionSteps can gives left s r t
     Steps-marks r t step = record {
       item = record {
@@ -227,16 +234,5 @@ module _ {I : Type 0} (can : I → Type 0) (gives : I → Option ℕ → I → T
       came = λ e. CameFirst-by (WillGive (MayGive gives e)) s u r t (without_marks_back (MayGive gives e)) (step.came e);
       ready = λ h. step.ready (rw same.decomposed h);
       kept = (step.kept.0 ∙ without_marks.kept.0, step.kept.1 ∙ same.pairs);
+      fewer = subst (λ n. OnSome r (items_left left t < n)) as_many step.fewer;
     }
-
-    pub Goes-marks : (r : Option (Result ℕ NormalizeError)) (t : Composition I)
-        → MakesProgress {A = Result ℕ NormalizeError} (CanCompose can left) (λ v. at_most (items_left left v)) u r t
-        → MakesProgress {A = Result ℕ NormalizeError} (CanCompose can left) (λ v. at_most (items_left left v)) s r t
-    Goes-marks r t goes =
-        let as_many : items_left left u ≡ items_left left s =
-        omega (arith, ap length none, items_left-by s u [] s.ahead without_marks, ap (λ n. ahead_left s.ahead (decomposition.items_left left n)) same.decomposed) in
-        record {
-          on = λ finite. subst (λ n. OnSome r (CanCompose can left t × IsFinite (at_most (items_left left t)) × (items_left left t < n))) as_many (goes.on tt);
-          keeps = goes.keeps;
-          rests = goes.rests;
-        }

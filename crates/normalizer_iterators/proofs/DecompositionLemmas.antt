@@ -1,6 +1,6 @@
 -- The steps of a decomposition.
 use Rattle.std.proofs.Common.{◌≡◌, ℕ, ◌+◌, ◌*◌, List, [], ◌∷◌, length, refl, ap, ◌∙◌, subst, arith, sym, Option, Some, None, IfSome, IfOk, IfErr, Ok, Err, Result}
-use Rattle.std.specs.Iterator.{Count, size, at_most, IsFinite, MakesProgress}
+use Rattle.std.specs.Iterator.{Count, size, IsFinite}
 use Rattle.normal_forms.specs.Forms.{nfd}
 use Rattle.normalizer_text.specs.Steps.{Spells}
 use Rattle.normalizer_tables.specs.Characters.{class_of, has_class_form}
@@ -62,6 +62,7 @@ module _ {I : Type 0} (can : I → Type 0) (gives : I → Option ℕ → I → T
         IsToCome-back (MayGive gives e) (nfd (reading_of s)) (pending_of s) s.delegate (ordered s.waiting) (ordered t.waiting) out c front (rw (characters, ignored, pending, delegate) at h);
     ready = λ h. rw (pending, delegate) h;
     kept = (characters, ignored);
+    fewer = rw (pending, delegate) (omega (arith, ap length front));
   }
 
   pub Steps-ended : (s t : Decomposition I) → t.characters ≡ s.characters → t.ignored ≡ s.ignored → pending_of s ≡ None → pending_of t ≡ None → ordered s.waiting ≡ [] → ordered t.waiting ≡ []
@@ -80,6 +81,7 @@ module _ {I : Type 0} (can : I → Type 0) (gives : I → Option ℕ → I → T
     came = λ e. ended (MayGive gives e) s before empty;
     ready = λ h. rw after tt;
     kept = (characters, ignored);
+    fewer = tt;
   }
     where
       short : StaysShort gives s → StaysShort gives t
@@ -93,6 +95,14 @@ module _ {I : Type 0} (can : I → Type 0) (gives : I → Option ℕ → I → T
 
     short_to_come : StaysShort gives s → AreShortToCome gives (has_class_form s.characters) (reading_of s) (Some c) s.delegate
     short_to_come h = subst (λ p. AreShortToCome gives (has_class_form s.characters) (reading_of s) p s.delegate) pending h
+
+    items_left-pending : items_left left s ≡ longest_list * (size (left s.delegate) + 1)
+    items_left-pending =
+        ap (λ l. length l + longest_list * reads_left (pending_of s) (size (left s.delegate))) empty ∙ ap (λ p. 0 + longest_list * reads_left p (size (left s.delegate))) pending ∙ omega arith
+
+    items_left-ended : (t : Decomposition I) → IsEnded t → items_left left t ≡ 0
+    items_left-ended t end =
+        ap (λ l. length l + longest_list * reads_left (pending_of t) (size (left t.delegate))) end.1 ∙ ap (λ p. 0 + longest_list * reads_left p (size (left t.delegate))) end.0 ∙ omega arith
 
     pub Steps-chunk : (t : Decomposition I) (first : ℕ) → t.characters ≡ s.characters → t.ignored ≡ s.ignored
         → ReadsChunk can gives left (has_class_form s.characters) (reading_of s) c s.delegate first (pending_of t) t.delegate t.waiting → DecompositionSteps can gives left s (Some (Ok first)) t
@@ -118,6 +128,7 @@ module _ {I : Type 0} (can : I → Type 0) (gives : I → Option ℕ → I → T
           (s.anew c pending) r (rw (characters, ignored) at h));
       ready = λ h. r.ready;
       kept = (characters, ignored);
+      fewer = omega (arith, items_left-pending, chunk_size gives can left (has_class_form s.characters) (reading_of s) s.suits c s.delegate t.delegate first (pending_of t) t.waiting r);
     }
 
     pub Steps-refused : (t : Decomposition I) → t.characters ≡ s.characters → t.ignored ≡ s.ignored → pending_of t ≡ None → ordered t.waiting ≡ []
@@ -133,11 +144,8 @@ module _ {I : Type 0} (can : I → Type 0) (gives : I → Option ℕ → I → T
       came = λ e. tt;
       ready = λ h. rw after tt;
       kept = (characters, ignored);
+      fewer = omega (arith, items_left-pending, items_left-ended t (after, empty_after));
     }
-
-    items_left-pending : items_left left s ≡ longest_list * (size (left s.delegate) + 1)
-    items_left-pending =
-        ap (λ l. length l + longest_list * reads_left (pending_of s) (size (left s.delegate))) empty ∙ ap (λ p. 0 + longest_list * reads_left p (size (left s.delegate))) pending ∙ omega arith
 
     -- the chunk was read, after a character that had been read, or didn't fit
     module _ (following : Option ℕ) (u : I) (read : HasRead gives left s.delegate following u) (t : Decomposition I) (characters : t.characters ≡ s.characters) (ignored : t.ignored ≡ s.ignored) where
@@ -148,24 +156,3 @@ module _ {I : Type 0} (can : I → Type 0) (gives : I → Option ℕ → I → T
       Steps-read (Ok first) ok err = Steps-chunk t first characters ignored (ok s.delegate read)
       Steps-read (Err e) ok err =
           subst (λ k. DecompositionSteps can gives left s (Some (Err k)) t) (sym err.0) (Steps-refused t characters ignored err.1.0 err.1.1 (err.2 s.delegate read))
-
-    items_left-ended : (t : Decomposition I) → IsEnded t → items_left left t ≡ 0
-    items_left-ended t end =
-        ap (λ l. length l + longest_list * reads_left (pending_of t) (size (left t.delegate))) end.1 ∙ ap (λ p. 0 + longest_list * reads_left p (size (left t.delegate))) end.0 ∙ omega arith
-
-    pub Goes-chunk : (t : Decomposition I) (first : ℕ) → ReadsChunk can gives left (has_class_form s.characters) (reading_of s) c s.delegate first (pending_of t) t.delegate t.waiting
-        → MakesProgress {A = Result ℕ NormalizeError} (CanDecompose can left) (λ u. at_most (items_left left u)) s (Some (Ok first)) t
-    Goes-chunk t first r =
-        let smaller = chunk_size gives can left (has_class_form s.characters) (reading_of s) s.suits c s.delegate t.delegate first (pending_of t) t.waiting r in
-        record { on = λ finite. (r.ready, tt, omega (arith, smaller, items_left-pending)); keeps = r.ready; rests = λ finite. tt }
-
-    -- what was read is nearer to the end
-    pub Goes-read : (following : Option ℕ) (u : I) → HasRead gives left s.delegate following u → (t : Decomposition I) (r : Result ℕ NormalizeError)
-        → IfOk r (λ first. (before : I) → HasRead gives left before following u
-        → ReadsChunk can gives left (has_class_form s.characters) (reading_of s) c before first (pending_of t) t.delegate t.waiting)
-        → IfErr r (λ e. (e ≡ Memory) × IsEnded t × ((before : I) → HasRead gives left before following u → ChunkDidNotFit gives (has_class_form s.characters) (reading_of s) c before))
-        → MakesProgress {A = Result ℕ NormalizeError} (CanDecompose can left) (λ v. at_most (items_left left v)) s (Some r) t
-    Goes-read following u read t (Ok first) ok err = Goes-chunk t first (ok s.delegate read)
-    Goes-read following u read t (Err e) ok err =
-        let ready : CanDecompose can left t = rw err.1.0 tt in
-        record { on = λ finite. (ready, tt, omega (arith, items_left-ended t err.1, items_left-pending)); keeps = ready; rests = λ finite. tt }

@@ -31,7 +31,7 @@ use Rattle.normalizer_iterators.specs.inner.ReadingOn.{ReadsChunk}
 use Rattle.normalizer_iterators.specs.ToCome.{IsToCome, reads_left}
 use Rattle.normalizer_iterators.specs.WaitingList.{ordered}
 use Rattle.normalizer_iterators.proofs.ComposingLemmas.{nfd-reading_by, nfc-reading_by}
-use Rattle.normalizer_iterators.proofs.DecompositionLemmas.{at_some, Steps-chunk, Goes-chunk}
+use Rattle.normalizer_iterators.proofs.DecompositionLemmas.{at_some, Steps-chunk}
 use Rattle.normalizer_iterators.proofs.LazyLemmas.{continues-anew, spelled_next, MayGive-next}
 
 -- ---- characters that are normalized apart
@@ -218,5 +218,4 @@ module _ {I : Type 0} (can : I → Type 0) (gives : I → Option ℕ → I → T
         record {
           steps = Steps-chunk can gives left s c pending here.waiting t first characters ignored r;
           starter = λ others. (first_apart.safely first r.others r.members).0;
-          fewer = ((Goes-chunk can gives left s c pending here.waiting t first r).on tt).2;
         }

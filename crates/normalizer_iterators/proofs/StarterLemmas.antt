@@ -1,5 +1,5 @@
 -- A starter and what follows it: the composition so far.
-use Rattle.std.proofs.Common.{◌≡◌, ℕ, ◌+◌, ◌<◌, ◌≤◌, List, [], ◌∷◌, ◌++◌, length, Option, Some, None, Ok, Err, refl, sym, ap, ◌∙◌, subst, arith, inl, inr, append-nil, length-append}
+use Rattle.std.proofs.Common.{◌≡◌, ℕ, ◌+◌, ◌≤◌, List, [], ◌∷◌, ◌++◌, length, Option, Some, None, Ok, Err, refl, sym, ap, ◌∙◌, subst, arith, inl, inr, append-nil, length-append}
 use Rattle.std.specs.Iterator.{Count}
 use Rattle.normal_forms.specs.Reading.{Reading, IsStarter, IsMark}
 use Rattle.normal_forms.specs.CompositionByStarters.{join, compose_after, compose_by_starters}
@@ -76,8 +76,8 @@ module _ {I : Type 0} (can : I → Type 0) (gives : I → Option ℕ → I → T
 
   pub ComposedSoFar-joined : (starter : ℕ) (old : Decomposition I) (composite : ℕ) (now : Decomposition I) (marks : StayingMarks) (c r : ℕ) (next : Decomposition I) (after : StayingMarks)
       → ComposedSoFar can gives left d starter old composite now marks → decomposition.DecompositionSteps can gives left now (Some (Ok c)) next
-      → decomposition.items_left left next < decomposition.items_left left now → join d composite (staying marks) c ≡ Some r → after ≡ marks → ComposedSoFar can gives left d starter old r next after
-  ComposedSoFar-joined starter old composite now marks c r next after before step nearer joins kept =
+      → join d composite (staying marks) c ≡ Some r → after ≡ marks → ComposedSoFar can gives left d starter old r next after
+  ComposedSoFar-joined starter old composite now marks c r next after before step joins kept =
       subst (ComposedSoFar can gives left d starter old r next) (sym kept) (record {
         text = λ all h.
             let b = before.text all h in
@@ -94,14 +94,14 @@ module _ {I : Type 0} (can : I → Type 0) (gives : I → Option ℕ → I → T
         in_use = before.in_use;
         ready = step.ready before.ready;
         kept = step.kept.0 ∙ before.kept;
-        fewer = omega (arith, before.fewer);
+        fewer = omega (arith, before.fewer, step.fewer);
       })
 
   pub ComposedSoFar-stays : (starter : ℕ) (old : Decomposition I) (composite : ℕ) (now : Decomposition I) (marks : StayingMarks) (c : ℕ) (next : Decomposition I) (after : StayingMarks)
       → ComposedSoFar can gives left d starter old composite now marks → decomposition.DecompositionSteps can gives left now (Some (Ok c)) next
-      → decomposition.items_left left next < decomposition.items_left left now → join d composite (staying marks) c ≡ None → IsMark d c → staying after ≡ staying marks ++ c ∷ []
+      → join d composite (staying marks) c ≡ None → IsMark d c → staying after ≡ staying marks ++ c ∷ []
       → used after ≡ used marks + 1 → BlocksBelow d after → ComposedSoFar can gives left d starter old composite next after
-  ComposedSoFar-stays starter old composite now marks c next after before step nearer apart mark longer in_use blocking =
+  ComposedSoFar-stays starter old composite now marks c next after before step apart mark longer in_use blocking =
       let one_more : length (staying after) ≡ length (staying marks) + 1 = ap length longer ∙ length-append (staying marks) (c ∷ []) in
       record {
         text = λ all h.
@@ -123,7 +123,7 @@ module _ {I : Type 0} (can : I → Type 0) (gives : I → Option ℕ → I → T
         in_use = omega (arith, before.in_use);
         ready = step.ready before.ready;
         kept = step.kept.0 ∙ before.kept;
-        fewer = omega (arith, before.fewer);
+        fewer = omega (arith, before.fewer, step.fewer);
       }
 
   -- a mark for which there is no room comes after too many
@@ -137,9 +137,9 @@ module _ {I : Type 0} (can : I → Type 0) (gives : I → Option ℕ → I → T
 
   pub ComposesStarter-starts : (starter : ℕ) (old : Decomposition I) (composite : ℕ) (now : Decomposition I) (marks : StayingMarks) (c : ℕ) (next : Decomposition I) (after : StayingMarks)
       → ComposedSoFar can gives left d starter old composite now marks → decomposition.DecompositionSteps can gives left now (Some (Ok c)) next
-      → decomposition.items_left left next < decomposition.items_left left now → join d composite (staying marks) c ≡ None → IsStarter d c → after ≡ marks
+      → join d composite (staying marks) c ≡ None → IsStarter d c → after ≡ marks
       → ComposesStarter gives left d starter old composite (staying after) (Starter c) next
-  ComposesStarter-starts starter old composite now marks c next after before step nearer apart starts kept =
+  ComposesStarter-starts starter old composite now marks c next after before step apart starts kept =
       subst (λ m. ComposesStarter gives left d starter old composite (staying m) (Starter c) next) (sym kept) (record {
         text = λ all h.
             let b = before.text all h in
@@ -155,7 +155,7 @@ module _ {I : Type 0} (can : I → Type 0) (gives : I → Option ℕ → I → T
               b.2 ∙ compose_after-starter d composite (staying marks) c h.unread apart starts ∙ ap (λ l. composite ∷ l) (sym h.text),
             );
         short = λ h. (GivesShort-next now c next step (before.short h).0).0;
-        fewer = omega (arith, before.fewer);
+        fewer = omega (arith, before.fewer, step.fewer);
       })
 
   pub ComposesStarter-ends : (starter : ℕ) (old : Decomposition I) (composite : ℕ) (now : Decomposition I) (marks : StayingMarks) (next : Decomposition I)

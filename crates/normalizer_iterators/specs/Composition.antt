@@ -1,6 +1,6 @@
 -- What is still to come of a composition.
 use Rattle.std.specs.Prelude.{◌≡◌, ℕ, ◌+◌, ◌≤◌, List, [], ◌∷◌, ◌++◌, length, All, Option, Result, MatchResult, IfErr, IfOk}
-use Rattle.std.specs.Prelude.{IfSome, IsOk, OnErr}
+use Rattle.std.specs.Prelude.{◌<◌, IfSome, IsOk, OnErr, OnSome}
 use Rattle.std.specs.Iterator.{Count}
 use Rattle.normal_forms.specs.Reading.{Reading}
 use Rattle.normal_forms.specs.CompositionByStarters.{compose_after}
@@ -87,3 +87,4 @@ module _ {I : Type 0} where
     pub came : (e : Extent) → CameFirst (WillGive (MayGive gives e)) s r t
     pub ready : CanCompose can left s → CanCompose can left t
     pub kept : (t.decomposed.characters ≡ s.decomposed.characters) × (t.pairs.now ≡ s.pairs.now)
+    pub fewer : OnSome r (items_left left t < items_left left s)

@@ -1,5 +1,5 @@
 -- What is still to come of a decomposition.
-use Rattle.std.specs.Prelude.{◌≡◌, ℕ, ◌+◌, ◌*◌, List, [], length, Option, Some, None, Result, Ok, Err}
+use Rattle.std.specs.Prelude.{◌≡◌, ℕ, ◌+◌, ◌*◌, ◌<◌, List, [], length, Option, Some, None, OnSome, Result, Ok, Err}
 use Rattle.std.specs.Iterator.{Count, size}
 use Rattle.normal_forms.specs.Reading.{Reading}
 use Rattle.normal_forms.specs.Forms.{nfd}
@@ -60,6 +60,7 @@ module _ {I : Type 0} where
     pub came : (e : Extent) → CameFirst (WillGive (MayGive gives e)) s r t
     pub ready : CanDecompose can left s → CanDecompose can left t
     pub kept : (t.characters ≡ s.characters) × (t.ignored ≡ s.ignored)
+    pub fewer : OnSome r (items_left left t < items_left left s)
 
   -- an iterator that was made over a source yields the NFD by these data of what the source yields
   abbrev pub YieldsNfd : {S : Type 0} → (I → Option ℕ → I → Type 0)

@@ -164,9 +164,7 @@ impl<'data, I: Iterator<Item = char> + Drop> Composition<'data, I> {
         requires marks { staying self.old.marks ≡ [] }
         requires ahead { IsBeforeStarter self.old.ahead }
         requires at_passed { IsAtPassed self.old.pairs.now self.old.decomposed }
-        ensures steps { CompositionSteps I.can_next I.next_gives I.remaining self.old result self.new }
-        ensures goes { MakesProgress (CanCompose I.can_next I.remaining) (λ s. at_most (items_left I.remaining s))
-            self.old result self.new }
+        ensures { CompositionSteps I.can_next I.next_gives I.remaining self.old result self.new }
     {
         match pass_next(&mut self.decomposed, self.bounds) {
             Some(Ok(Given::Itself(character))) => {
@@ -184,6 +182,44 @@ impl<'data, I: Iterator<Item = char> + Drop> Composition<'data, I> {
             None => {
                 self.ahead = Ahead::Ended;
                 None
+            }
+        }
+    }
+
+    /// Yields the next character: a mark that stays, or what a starter and what follows it compose to.
+    #[inline(always)]
+    fn next_item(&mut self) -> Option<Result<char, NormalizeError>>
+        requires { CanCompose I.can_next I.remaining self.old }
+        ensures { CompositionSteps I.can_next I.next_gives I.remaining self.old result self.new }
+    {
+        if let Some(mark) = self.marks.pop_front() {
+            return Some(Ok(mark));
+        }
+        match self.ahead {
+            Ahead::Ended => None,
+            Ahead::Starter(starter) => Some(self.compose_on(starter)),
+            Ahead::Passed => self.pass(),
+            Ahead::NoStarter => {
+                if is_at_passed(&self.decomposed, self.bounds) {
+                    return self.pass();
+                }
+                match self.decomposed.next_with_class() {
+                    Some(Ok(given)) => {
+                        if given.class == 0 {
+                            Some(self.compose_on(given.character))
+                        } else {
+                            Some(Ok(given.character))
+                        }
+                    }
+                    Some(Err(error)) => {
+                        self.ahead = Ahead::Ended;
+                        Some(Err(error))
+                    }
+                    None => {
+                        self.ahead = Ahead::Ended;
+                        None
+                    }
+                }
             }
         }
     }
@@ -278,35 +314,6 @@ impl<'data, I: Iterator<Item = char> + Drop> Iterator for Composition<'data, I> 
 
     #[inline(always)]
     fn next(&mut self) -> Option<Result<char, NormalizeError>> {
-        if let Some(mark) = self.marks.pop_front() {
-            return Some(Ok(mark));
-        }
-        match self.ahead {
-            Ahead::Ended => None,
-            Ahead::Starter(starter) => Some(self.compose_on(starter)),
-            Ahead::Passed => self.pass(),
-            Ahead::NoStarter => {
-                if is_at_passed(&self.decomposed, self.bounds) {
-                    return self.pass();
-                }
-                match self.decomposed.next_with_class() {
-                    Some(Ok(given)) => {
-                        if given.class == 0 {
-                            Some(self.compose_on(given.character))
-                        } else {
-                            Some(Ok(given.character))
-                        }
-                    }
-                    Some(Err(error)) => {
-                        self.ahead = Ahead::Ended;
-                        Some(Err(error))
-                    }
-                    None => {
-                        self.ahead = Ahead::Ended;
-                        None
-                    }
-                }
-            }
-        }
+        self.next_item()
     }
 }

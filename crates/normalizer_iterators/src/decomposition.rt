@@ -171,8 +171,6 @@ impl<'data, I: Iterator<Item = char> + Drop> Decomposition<'data, I> {
         ensures class { IfSome result (λ item. IfOk item (λ given.
             given.class ≡ class_of self.old.characters given.character)) }
         ensures steps { DecompositionSteps I.can_next I.next_gives I.remaining self.old (item_of result) self.new }
-        ensures goes { MakesProgress (CanDecompose I.can_next I.remaining)
-            (λ s. at_most (items_left I.remaining s)) self.old (item_of result) self.new }
     {
         if let Some(given) = self.waiting.pop_front() {
             return Some(Ok(given));

@@ -55,13 +55,11 @@ module _ {I : Type 0} where
       (s : Decomposition I) (c : ℕ) (t : Decomposition I) : Type 0 where
     pub steps : DecompositionSteps can gives left s (Some (Ok c)) t
     pub starter : (pairs : List Pair) → IsStarter (reading_by s.characters Dropped pairs) c
-    pub fewer : items_left left t < items_left left s
 
   abbrev pub Passes : (I → Type 0) → (I → Option ℕ → I → Type 0) → (I → Count) → List Pair → Decomposition I
       → Option (Result Given NormalizeError) → Decomposition I → Type 0
   Passes can gives left pairs s None t = DecompositionSteps can gives left s None t
-  Passes can gives left pairs s (Some (Err e)) t =
-      DecompositionSteps can gives left s (Some (Err e)) t × (items_left left t < items_left left s)
+  Passes can gives left pairs s (Some (Err e)) t = DecompositionSteps can gives left s (Some (Err e)) t
   Passes can gives left pairs s (Some (Ok (Itself c))) t = PassesOn can gives left pairs s c t
   Passes can gives left pairs s (Some (Ok (FirstMember c))) t = YieldsStarter can gives left s c t
 

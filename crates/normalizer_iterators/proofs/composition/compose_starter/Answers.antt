@@ -26,31 +26,28 @@ returns-in-Err-clause-err g c =
 pub loop-bounds-preserved-in-Ok-Joined : goal.loop-bounds-preserved-in-Ok-Joined
 loop-bounds-preserved-in-Ok-Joined g c =
     let step = rw c.in-Ok.is at c.in-Some.ensures.steps in
-    let goes = rw c.in-Ok.is at c.in-Some.ensures.goes in
     let class = known_class c.args.decomposed.now.characters _ c.loop-bounds.invariant.kept c.in-Ok.given (rw c.in-Ok.is at c.in-Some.ensures.class) in
     let visiting = rw c.in-Ok-Joined.field-0-is at c.in-Ok-Joined.ensures.ok in
     let visited = visiting c.args.decomposed.now.characters class c.loop-bounds.invariant.blocking in
-    ComposedSoFar-joined g.I.Iterator.can_next g.I.Iterator.next_gives g.I.Iterator.remaining _ _ _ _ _ _ c.in-Ok.given.character _ _ _ c.loop-bounds.invariant step (goes.on tt).2 visited.0
+    ComposedSoFar-joined g.I.Iterator.can_next g.I.Iterator.next_gives g.I.Iterator.remaining _ _ _ _ _ _ c.in-Ok.given.character _ _ _ c.loop-bounds.invariant step visited.0
     visited.1
 
 pub returns-in-Ok-StartsAnew-clause-ok : goal.returns-in-Ok-StartsAnew-clause-ok
 returns-in-Ok-StartsAnew-clause-ok g c =
     let step = rw c.in-Ok.is at c.in-Some.ensures.steps in
-    let goes = rw c.in-Ok.is at c.in-Some.ensures.goes in
     let class = known_class c.args.decomposed.now.characters _ c.loop-bounds.invariant.kept c.in-Ok.given (rw c.in-Ok.is at c.in-Some.ensures.class) in
     let visiting = rw c.in-Ok-StartsAnew.field-0-is at c.in-Ok-StartsAnew.ensures.ok in
     let visited = visiting c.args.decomposed.now.characters class c.loop-bounds.invariant.blocking in
-    ComposesStarter-starts g.I.Iterator.can_next g.I.Iterator.next_gives g.I.Iterator.remaining _ _ _ _ _ _ c.in-Ok.given.character _ _ c.loop-bounds.invariant step (goes.on tt).2 visited.0
+    ComposesStarter-starts g.I.Iterator.can_next g.I.Iterator.next_gives g.I.Iterator.remaining _ _ _ _ _ _ c.in-Ok.given.character _ _ c.loop-bounds.invariant step visited.0
     visited.1 visited.2
 
 pub loop-bounds-preserved : goal.loop-bounds-preserved
 loop-bounds-preserved g c =
     let step = rw c.in-Ok.is at c.in-Some.ensures.steps in
-    let goes = rw c.in-Ok.is at c.in-Some.ensures.goes in
     let class = known_class c.args.decomposed.now.characters _ c.loop-bounds.invariant.kept c.in-Ok.given (rw c.in-Ok.is at c.in-Some.ensures.class) in
     let visiting = rw c.in-Ok-Stays.field-0-is at c.in-Ok-Stays.ensures.ok in
     let visited = visiting c.args.decomposed.now.characters class c.loop-bounds.invariant.blocking in
-    ComposedSoFar-stays g.I.Iterator.can_next g.I.Iterator.next_gives g.I.Iterator.remaining _ _ _ _ _ _ c.in-Ok.given.character _ _ c.loop-bounds.invariant step (goes.on tt).2 visited.0
+    ComposedSoFar-stays g.I.Iterator.can_next g.I.Iterator.next_gives g.I.Iterator.remaining _ _ _ _ _ _ c.in-Ok.given.character _ _ c.loop-bounds.invariant step visited.0
     visited.1 visited.2 visited.3 visited.4
 
 pub returns-in-Err-visit-clause-err : goal.returns-in-Err-visit-clause-err

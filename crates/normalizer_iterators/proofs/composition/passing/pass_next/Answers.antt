@@ -2,7 +2,7 @@ use Rattle.std.proofs.Common.{refl, sym, ap, subst, Err}
 use Rattle.std.specs.Option.{ForSome}
 use Rattle.normalizer_iterators.specs.LazyComposing.{StandsApartIn}
 use Rattle.normalizer_iterators.specs.Reads.{character_of}
-use Rattle.normalizer_iterators.proofs.DecompositionLemmas.{Steps-ended, Steps-read, Goes-read, ready_behind}
+use Rattle.normalizer_iterators.proofs.DecompositionLemmas.{Steps-ended, Steps-read, ready_behind}
 use Rattle.normalizer_iterators.proofs.ReadingLemmas.{HasRead-as, IsReadyBehind-next}
 use Rattle.normalizer_iterators.proofs.PassingLemmas.{all_anew, all_apart, PassesOn-next, YieldsStarter-next}
 use Rattle.normalizer_iterators.proofs.composition.passing.pass_next.Goals as goal
@@ -73,9 +73,6 @@ returns-in-Err g c = λ pairs suits here.
     let ready = ready_behind g.I.Iterator.can_next g.I.Iterator.remaining s c.in_ok-read.read.character pending c.requires.can in
     let near = c.next.ensures.goes.on ready.1 in
     let read = HasRead-as g.I.Iterator.can_next g.I.Iterator.next_gives g.I.Iterator.remaining _ _ _ _ c.read_from-following.ensures.character c.next.ensures.steps near in
-    let kept = c.in-Err.ensures.kept in (
-      Steps-read g.I.Iterator.can_next g.I.Iterator.next_gives g.I.Iterator.remaining s c.in_ok-read.read.character pending here.waiting _ _ read _ kept.0 kept.1
-          (Err c.in-Err.error) tt c.in-Err.ensures.err,
-      ((Goes-read g.I.Iterator.can_next g.I.Iterator.next_gives g.I.Iterator.remaining s c.in_ok-read.read.character pending here.waiting _ _ read c.next_chunk.new.self
-          (Err c.in-Err.error) tt c.in-Err.ensures.err).on tt).2,
-    )
+    let kept = c.in-Err.ensures.kept in
+    Steps-read g.I.Iterator.can_next g.I.Iterator.next_gives g.I.Iterator.remaining s c.in_ok-read.read.character pending here.waiting _ _ read _ kept.0 kept.1
+    (Err c.in-Err.error) tt c.in-Err.ensures.err

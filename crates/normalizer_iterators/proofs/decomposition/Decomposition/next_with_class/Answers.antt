@@ -1,7 +1,7 @@
 use Rattle.std.proofs.Common.{refl, sym, ap, ◌∙◌, Ok, Err, []}
 use Rattle.normalizer_iterators.specs.Reads.{character_of}
 use Rattle.normalizer_iterators.specs.WaitingList.{AgreesWith}
-use Rattle.normalizer_iterators.proofs.DecompositionLemmas.{Steps-ended, Steps-front, Steps-read, Goes-read, class-first, nothing_read, ready_behind}
+use Rattle.normalizer_iterators.proofs.DecompositionLemmas.{Steps-ended, Steps-front, Steps-read, class-first, nothing_read, ready_behind}
 use Rattle.normalizer_iterators.proofs.ReadingLemmas.{HasRead-as}
 use Rattle.normalizer_tables.specs.Readings.{reading_by}
 use Rattle.normalizer_iterators.proofs.decomposition.Decomposition.next_with_class.Goals as goal
@@ -76,16 +76,6 @@ returns-in-Ok-clause-steps g c =
     let read = HasRead-as g.I.Iterator.can_next g.I.Iterator.next_gives g.I.Iterator.remaining _ _ _ _ c.read_from-following.ensures.character c.next.ensures.steps near in
     Steps-read g.I.Iterator.can_next g.I.Iterator.next_gives g.I.Iterator.remaining s c.in_ok-read.read.character pending c.in_default.ensures.none.0 _ _ read _ c.in-Ok.ensures.kept.0
     c.in-Ok.ensures.kept.1 (Ok c.in-Ok.character) c.in-Ok.ensures.ok tt
-
-pub returns-in-Ok-clause-goes : goal.returns-in-Ok-clause-goes
-returns-in-Ok-clause-goes g c =
-    let s = c.args.self.now in
-    let pending = ap character_of (sym c.in_ok-read.ensures.value) in
-    let ready = ready_behind g.I.Iterator.can_next g.I.Iterator.remaining s c.in_ok-read.read.character pending c.requires in
-    let near = c.next.ensures.goes.on ready.1 in
-    let read = HasRead-as g.I.Iterator.can_next g.I.Iterator.next_gives g.I.Iterator.remaining _ _ _ _ c.read_from-following.ensures.character c.next.ensures.steps near in
-    Goes-read g.I.Iterator.can_next g.I.Iterator.next_gives g.I.Iterator.remaining s c.in_ok-read.read.character pending c.in_default.ensures.none.0 _ _ read _ (Ok c.in-Ok.character)
-    c.in-Ok.ensures.ok tt
 
 pub returns-in-Err-clause-steps : goal.returns-in-Err-clause-steps
 returns-in-Err-clause-steps g c =
