@@ -135,8 +135,7 @@ impl<'data, I: Iterator<Item = char> + Drop> Composition<'data, I> {
     /// Composes a starter with what follows it.
     fn compose_on(&mut self, starter: char) -> Result<char, NormalizeError>
         requires { CanCompose I.can_next I.remaining self.old }
-        ensures { ComposesOn I.can_next I.next_gives I.remaining starter self.old.decomposed self.old.pairs.now
-            result self.new }
+        ensures { ComposesOn I.Iterator starter self.old.decomposed self.old.pairs.now result self.new }
     {
         match compose_starter(
             &mut self.decomposed,
@@ -164,7 +163,7 @@ impl<'data, I: Iterator<Item = char> + Drop> Composition<'data, I> {
         requires marks { staying self.old.marks ≡ [] }
         requires ahead { IsBeforeStarter self.old.ahead }
         requires at_passed { IsAtPassed self.old.pairs.now self.old.decomposed }
-        ensures { CompositionSteps I.can_next I.next_gives I.remaining self.old result self.new }
+        ensures { CompositionSteps I.Iterator self.old result self.new }
     {
         match pass_next(&mut self.decomposed, self.bounds) {
             Some(Ok(Given::Itself(character))) => {
@@ -190,7 +189,7 @@ impl<'data, I: Iterator<Item = char> + Drop> Composition<'data, I> {
     #[inline(always)]
     fn next_item(&mut self) -> Option<Result<char, NormalizeError>>
         requires { CanCompose I.can_next I.remaining self.old }
-        ensures { CompositionSteps I.can_next I.next_gives I.remaining self.old result self.new }
+        ensures { CompositionSteps I.Iterator self.old result self.new }
     {
         if let Some(mark) = self.marks.pop_front() {
             return Some(Ok(mark));
@@ -308,7 +307,7 @@ impl<'data, I: Iterator<Item = char> + Drop> Iterator for Composition<'data, I> 
 
     ghost can_next = { CanCompose I.can_next I.remaining };
 
-    ghost next_gives = { CompositionSteps I.can_next I.next_gives I.remaining };
+    ghost next_gives = { CompositionSteps I.Iterator };
 
     ghost remaining = { λ s. at_most (items_left I.remaining s) };
 

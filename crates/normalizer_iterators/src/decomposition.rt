@@ -135,7 +135,7 @@ impl<'data, I: Iterator<Item = char> + Drop> Decomposition<'data, I> {
         requires ready { IsReadyBehind I.can_next I.remaining (character_of following) self.old.delegate }
         requires read { (before : I) ×
             HasRead I.next_gives I.remaining before (character_of following) self.old.delegate }
-        ensures ok { IfOk result (λ first. ChunkComes I.can_next I.next_gives I.remaining self.old read.character
+        ensures ok { IfOk result (λ first. ChunkComes I.Iterator self.old read.character
             (character_of following) first self.new) }
         ensures err { IfErr result (λ e. ChunkIsRefused I.next_gives I.remaining self.old read.character
             (character_of following) e self.new) }
@@ -170,7 +170,7 @@ impl<'data, I: Iterator<Item = char> + Drop> Decomposition<'data, I> {
         requires { CanDecompose I.can_next I.remaining self.old }
         ensures class { IfSome result (λ item. IfOk item (λ given.
             given.class ≡ class_of self.old.characters given.character)) }
-        ensures steps { DecompositionSteps I.can_next I.next_gives I.remaining self.old (item_of result) self.new }
+        ensures steps { DecompositionSteps I.Iterator self.old (item_of result) self.new }
     {
         if let Some(given) = self.waiting.pop_front() {
             return Some(Ok(given));
@@ -243,7 +243,7 @@ fn read_chunk<I: Iterator<Item = char> + Drop>(
     requires words { HasOwnWords characters.now following }
     requires anew { continues (has_class_form characters.now)
         (reading_by characters.now ignored []) read.character ≡ false }
-    ensures ok { IfOk result (λ r. ReadsChunkBehind I.can_next I.next_gives I.remaining characters.now ignored
+    ensures ok { IfOk result (λ r. ReadsChunkBehind I.Iterator characters.now ignored
         read.character (character_of following) delegate.old r.0 (character_of r.1) delegate.new waiting.new) }
     ensures words { IfOk result (λ r. HasOwnWords characters.now r.1) }
     ensures classes { OnOk result (AgreesWith (reading_by characters.now ignored []) waiting.new) }
@@ -267,7 +267,7 @@ impl<'data, I: Iterator<Item = char> + Drop> Iterator for Decomposition<'data, I
 
     ghost can_next = { CanDecompose I.can_next I.remaining };
 
-    ghost next_gives = { DecompositionSteps I.can_next I.next_gives I.remaining };
+    ghost next_gives = { DecompositionSteps I.Iterator };
 
     ghost remaining = { λ s. at_most (items_left I.remaining s) };
 

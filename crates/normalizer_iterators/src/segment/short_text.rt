@@ -82,8 +82,8 @@ impl ShortText {
     /// adds the character, if there is room.
     #[inline(always)]
     pub(crate) fn compose(&mut self, pairs: &CanonicalCompositions, given: Classed) -> bool
-        ensures text { IsTrue result → (d : Reading) → given.class ≡ d.class given.character →
-            HasPairsWith pairs.now given.character d → BlocksBelow d self.old → Adds d given.character self.old self.new }
+        ensures text { IsTrue result → (d : Reading) → given.class ≡ d.class given.character → HasPairsWith pairs.now
+            given.character d → BlocksBelow d self.old → Adds d given.character self.old self.new }
         ensures blocking { IsTrue result → (d : Reading) → given.class ≡ d.class given.character →
             BlocksBelow d self.old → BlocksBelow d self.new }
         ensures room { self.old.len < places → IsTrue result }

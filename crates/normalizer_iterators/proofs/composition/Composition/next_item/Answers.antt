@@ -10,21 +10,21 @@ use Rattle.normalizer_iterators.proofs.composition.Composition.next_item.Goals a
 
 pub returns-in-Some : goal.returns-in-Some
 returns-in-Some g c =
-    Steps-mark g.I.Iterator.can_next g.I.Iterator.next_gives g.I.Iterator.remaining c.args.self.now _ c.in-Some.mark
+    Steps-mark g.I.Iterator c.args.self.now _ c.in-Some.mark
     (record { decomposed = refl; pairs = refl; ahead = refl }) c.in-Some.ensures.some
 
 -- ---- the end was reached
 
 pub returns-in-Ended : goal.returns-in-Ended
 returns-in-Ended g c =
-    Steps-ended g.I.Iterator.can_next g.I.Iterator.next_gives g.I.Iterator.remaining c.args.self.now _
+    Steps-ended g.I.Iterator c.args.self.now _
     (record { decomposed = refl; pairs = refl; ahead = refl }) c.in-Ended.is c.in_default.ensures.none.0 c.in_default.ensures.none.1
 
 -- ---- there is a starter
 
 pub returns-in-Starter : goal.returns-in-Starter
 returns-in-Starter g c =
-    Steps-starter g.I.Iterator.can_next g.I.Iterator.next_gives g.I.Iterator.remaining c.args.self.now c.compose_on.new.self _ c.compose_on.result
+    Steps-starter g.I.Iterator c.args.self.now c.compose_on.new.self _ c.compose_on.result
     c.in_default.ensures.none.0 c.compose_on.ensures (cc)
 
 -- ---- there is a character that passes
@@ -39,7 +39,7 @@ pass-requires g c = record {
 
 pub returns-in-Passed : goal.returns-in-Passed
 returns-in-Passed g c =
-    Steps-marks g.I.Iterator.can_next g.I.Iterator.next_gives g.I.Iterator.remaining c.args.self.now _
+    Steps-marks g.I.Iterator c.args.self.now _
     (record { decomposed = refl; pairs = refl; ahead = refl }) c.in_default.ensures.none.0 c.in_default.ensures.none.1 _ _ c.pass.ensures
 
 pub pass-requires-then-is_at_passed : goal.pass-requires-then-is_at_passed
@@ -54,7 +54,7 @@ pass-requires-then-is_at_passed g c =
 
 pub returns-then-is_at_passed : goal.returns-then-is_at_passed
 returns-then-is_at_passed g c =
-    Steps-marks g.I.Iterator.can_next g.I.Iterator.next_gives g.I.Iterator.remaining c.args.self.now _
+    Steps-marks g.I.Iterator c.args.self.now _
     (record { decomposed = refl; pairs = refl; ahead = refl }) c.in_default.ensures.none.0 c.in_default.ensures.none.1 _ _
     c.pass-then-is_at_passed.ensures
 
@@ -69,7 +69,7 @@ returns-then-given-eq0 g c =
     let known = rw c.in-Some-Ok.field-0-is at c.in-Some-Ok.ensures.class in
     let class = known ∙ sym (class-reading_by s.decomposed.characters Dropped s.pairs.now c.in-Some-Ok.given.character) in
     let step = rw c.in-Some-Ok.field-0-is at c.in-Some-Ok.ensures.steps in
-    Steps-first_starter g.I.Iterator.can_next g.I.Iterator.next_gives g.I.Iterator.remaining s (rw c.in-NoStarter.is tt) c.in_default.ensures.none.0 c.in-Some-Ok.given.character _ _ _ step
+    Steps-first_starter g.I.Iterator s (rw c.in-NoStarter.is tt) c.in_default.ensures.none.0 c.in-Some-Ok.given.character _ _ _ step
     (sym class ∙ c.if-given-eq0.true) c.compose_on-then-given-eq0.ensures
 
 -- ---- a mark comes before any starter
@@ -80,7 +80,7 @@ returns-else-given-eq0 g c =
     let known = rw c.in-Some-Ok.field-0-is at c.in-Some-Ok.ensures.class in
     let class = known ∙ sym (class-reading_by s.decomposed.characters Dropped s.pairs.now c.in-Some-Ok.given.character) in
     let step = rw c.in-Some-Ok.field-0-is at c.in-Some-Ok.ensures.steps in
-    Steps-leading_mark g.I.Iterator.can_next g.I.Iterator.next_gives g.I.Iterator.remaining s (rw c.in-NoStarter.is tt) c.in_default.ensures.none.0 _ c.in-Some-Ok.given.character
+    Steps-leading_mark g.I.Iterator s (rw c.in-NoStarter.is tt) c.in_default.ensures.none.0 _ c.in-Some-Ok.given.character
     (record { kept = (step.kept.0, refl); marks = c.in_default.ensures.none.1; ahead = c.in-NoStarter.is }) step
     (omega (arith, class, c.if-given-eq0.false))
 
@@ -89,10 +89,10 @@ returns-else-given-eq0 g c =
 pub returns-in-Some-Err : goal.returns-in-Some-Err
 returns-in-Some-Err g c =
     let step = rw c.in-Some-Err.field-0-is at c.in-Some-Err.ensures.steps in
-    Steps-fault g.I.Iterator.can_next g.I.Iterator.next_gives g.I.Iterator.remaining c.args.self.now (rw c.in-NoStarter.is tt) c.in_default.ensures.none.0 _ c.in-Some-Err.error
+    Steps-fault g.I.Iterator c.args.self.now (rw c.in-NoStarter.is tt) c.in_default.ensures.none.0 _ c.in-Some-Err.error
     (record { kept = (step.kept.0, refl); marks = c.in_default.ensures.none.1; ahead = refl }) step
 
 pub returns-in-None : goal.returns-in-None
 returns-in-None g c =
-    Steps-end g.I.Iterator.can_next g.I.Iterator.next_gives g.I.Iterator.remaining c.args.self.now (rw c.in-NoStarter.is tt) c.in_default.ensures.none.0 _
+    Steps-end g.I.Iterator c.args.self.now (rw c.in-NoStarter.is tt) c.in_default.ensures.none.0 _
     (record { kept = (c.in-None.ensures.steps.kept.0, refl); marks = c.in_default.ensures.none.1; ahead = refl }) c.in-None.ensures.steps

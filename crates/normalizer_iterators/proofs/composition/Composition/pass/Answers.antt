@@ -19,7 +19,7 @@ returns-in-Some-Ok-Itself g c =
     let s = c.args.self.now in
     let reached = rw c.in-Some-Ok-Itself.field-0-is at c.in-Some-Ok-Itself.ensures s.pairs.now s.suits c.requires.at_passed in
     let given = rw c.in-Some-Ok-Itself.field-0-0-is at reached in
-    Steps-passed g.I.Iterator.can_next g.I.Iterator.next_gives g.I.Iterator.remaining s c.requires.ahead c.requires.marks _ c.in-Some-Ok-Itself.character
+    Steps-passed g.I.Iterator s c.requires.ahead c.requires.marks _ c.in-Some-Ok-Itself.character
     (record { kept = (given.kept, refl); marks = c.requires.marks; ahead = refl }) given
 
 pub invariant_of-self : goal.invariant_of-self
@@ -50,7 +50,7 @@ returns-in-Some-Ok-FirstMember g c =
     let s = c.args.self.now in
     let reached = rw c.in-Some-Ok-FirstMember.field-0-is at c.in-Some-Ok-FirstMember.ensures s.pairs.now s.suits c.requires.at_passed in
     let given = rw c.in-Some-Ok-FirstMember.field-0-0-is at reached in
-    Steps-first_starter g.I.Iterator.can_next g.I.Iterator.next_gives g.I.Iterator.remaining s c.requires.ahead c.requires.marks c.in-Some-Ok-FirstMember.starter c.pass_next.new.decomposed _ _
+    Steps-first_starter g.I.Iterator s c.requires.ahead c.requires.marks c.in-Some-Ok-FirstMember.starter c.pass_next.new.decomposed _ _
     given.steps (given.starter s.pairs.now) c.compose_on.ensures
 
 -- ---- a fault, or the end
@@ -59,7 +59,7 @@ pub returns-in-Some-Err : goal.returns-in-Some-Err
 returns-in-Some-Err g c =
     let s = c.args.self.now in
     let reached = rw c.in-Some-Err.field-0-is at c.in-Some-Err.ensures s.pairs.now s.suits c.requires.at_passed in
-    Steps-fault g.I.Iterator.can_next g.I.Iterator.next_gives g.I.Iterator.remaining s c.requires.ahead c.requires.marks _ c.in-Some-Err.error
+    Steps-fault g.I.Iterator s c.requires.ahead c.requires.marks _ c.in-Some-Err.error
     (record { kept = (reached.kept.0, refl); marks = c.requires.marks; ahead = refl }) reached
 
 pub invariant_of-self-in-Some-Err : goal.invariant_of-self-in-Some-Err
@@ -72,7 +72,7 @@ pub returns-in-None : goal.returns-in-None
 returns-in-None g c =
     let s = c.args.self.now in
     let end = c.in-None.ensures s.pairs.now s.suits c.requires.at_passed in
-    Steps-end g.I.Iterator.can_next g.I.Iterator.next_gives g.I.Iterator.remaining s c.requires.ahead c.requires.marks _
+    Steps-end g.I.Iterator s c.requires.ahead c.requires.marks _
     (record { kept = (end.kept.0, refl); marks = c.requires.marks; ahead = refl }) end
 
 pub invariant_of-self-in-None : goal.invariant_of-self-in-None
