@@ -5,7 +5,7 @@ use Rattle.normal_forms.specs.CompositionByStarters.{compose_after, compose_by_s
 use Rattle.normal_forms.proofs.ComposeLemmas.{compose_by_starters-nil, compose_by_starters-starter, compose_by_starters-mark}
 use Rattle.normalizer_text.specs.Steps.{Spells}
 use Rattle.normalizer_iterators.specs.declared.composition.Ahead.{Ahead}
-use Rattle.normalizer_iterators.specs.declared.composition.Ahead.TheVariants.{NoStarter, Passed, Starter, Ended}
+use Rattle.normalizer_iterators.specs.declared.composition.Ahead.TheVariants.{NoStarter, Passed, Starter}
 use Rattle.normalizer_iterators.specs.declared.composition.Composition.{Composition}
 use Rattle.normalizer_iterators.specs.declared.decomposition.Decomposition.{Decomposition}
 use Rattle.normalizer_iterators.specs.declared.error.NormalizeError.{NormalizeError}
@@ -15,49 +15,27 @@ use Rattle.normalizer_iterators.specs.NextItem.{GaveFirst}
 use Rattle.normalizer_iterators.specs.StayingMarks.{staying}
 use Rattle.normalizer_iterators.specs.MarkRuns.{HasShortMarkRuns}
 use Rattle.normalizer_iterators.specs.inner.Passing.{PassesOn}
-use Rattle.normalizer_iterators.specs.Composing.{composed_ahead, ahead_left, UnlessEnded, IsBeforeStarter, GivesShort}
-use Rattle.normalizer_iterators.specs.Composition.{ComposesOn, CompositionSteps, StaysShort, WillGive, items_left, pairing_by}
+use Rattle.normalizer_iterators.specs.Composing.{composed_ahead, ahead_left, IsBeforeStarter, GivesShort}
+use Rattle.normalizer_iterators.specs.Composition.{ComposesOn, CompositionSteps, WillGive, items_left, pairing_by}
 use Rattle.normalizer_iterators.proofs.MarkRunLemmas.{HasShortMarkRuns-rest}
-use Rattle.normalizer_iterators.proofs.StarterLemmas.{GivesShort-next, GivesShort-no_fault}
+use Rattle.normalizer_iterators.proofs.DecompositionLemmas.{items_left-ended}
+use Rattle.normalizer_iterators.proofs.StarterLemmas.{GivesShort-end, GivesShort-next, GivesShort-no_fault}
 use Rattle.normalizer_tables.specs.Readings.{reading_by}
 use Rattle.normalizer_tables.specs.declared.characters.IgnoredCharacters.TheVariants.{Dropped}
-use Rattle.normalizer_iterators.proofs.CompositionLemmas.{Becomes, WillGive-by, WillGive-parts, WillGive-end, StaysShort-by, items_left-by, CameFirst-composed}
+use Rattle.normalizer_iterators.proofs.CompositionLemmas.{Becomes, WillGive-by, WillGive-parts, WillGive-end, StaysShort-by, items_left-by, CameFirst-composed, IsEnded-parts}
 
 module _ {I : Type 0} (from : Source I) where
   composed_before : (d : Reading) (ahead : Ahead) → IsBeforeStarter ahead → (y : List ℕ) → composed_ahead d ahead y ≡ compose_by_starters d y
   composed_before d NoStarter before y = refl
   composed_before d Passed before y = refl
   composed_before d (Starter a) before y = absurd before
-  composed_before d Ended before y = absurd before
-
-  asked_before : (ahead : Ahead) → IsBeforeStarter ahead → (P : Type 0) → UnlessEnded ahead P → P
-  asked_before NoStarter before P h = h
-  asked_before Passed before P h = h
-  asked_before (Starter a) before P h = h
-  asked_before Ended before P h = absurd before
-
-  given_before : (ahead : Ahead) → IsBeforeStarter ahead → (P : Type 0) → P → UnlessEnded ahead P
-  given_before NoStarter before P h = h
-  given_before Passed before P h = h
-  given_before (Starter a) before P h = h
-  given_before Ended before P h = absurd before
 
   left_before : (ahead : Ahead) → IsBeforeStarter ahead → (n : ℕ) → ahead_left ahead n ≡ n
   left_before NoStarter before n = refl
   left_before Passed before n = refl
   left_before (Starter a) before n = absurd before
-  left_before Ended before n = absurd before
 
   module _ (s : Composition I) (before : IsBeforeStarter s.ahead) (none : staying s.marks ≡ []) where
-    not_ended : s.ahead ≡ Ended → ⊥
-    not_ended is = subst IsBeforeStarter is before
-
-    source_before : {out : List ℕ} → (h : WillGive (Spells from.next_gives) s out) → decomposition.WillGive (Spells from.next_gives) s.decomposed h.unread
-    source_before h = asked_before s.ahead before (decomposition.WillGive (Spells from.next_gives) s.decomposed h.unread) h.source
-
-    short_before : StaysShort from.next_gives s → GivesShort from.next_gives (pairing_by s) s.decomposed
-    short_before h = asked_before s.ahead before (GivesShort from.next_gives (pairing_by s) s.decomposed) h
-
     text_before : (out : List ℕ) (h : WillGive (Spells from.next_gives) s out) → out ≡ compose_by_starters (pairing_by s) h.unread
     text_before out h =
         let d = pairing_by s in
@@ -69,7 +47,7 @@ module _ {I : Type 0} (from : Source I) where
         let d = pairing_by s in
         record {
           unread = y;
-          source = given_before s.ahead before (decomposition.WillGive Comes s.decomposed y) h;
+          source = h;
           text = sym (ap (λ l. staying s.marks ++ l) (composed_before d s.ahead before y) ∙ ap (λ l. l ++ compose_by_starters d y) none ∙ composed);
         }
 
@@ -86,13 +64,13 @@ module _ {I : Type 0} (from : Source I) where
         record {
           item = record {
             first = λ out h.
-                let next = step.item.first h.unread (source_before h) in
+                let next = step.item.first h.unread h.source in
                 let text : out ≡ compose_after d c [] next.0 = text_before out h ∙ ap (compose_by_starters d) next.1 ∙ compose_by_starters-starter d c next.0 starter in
                 subst (λ o. MatchResult r (GaveFirst (WillGive (Spells from.next_gives)) o t) (λ _. WillGive (Spells from.next_gives) t [])) (sym (text ∙ same_after next.0)) (on.first next.0 next.2);
             fault = on.fault;
-            room = λ h. on.room (subst (λ k. GivesShort from.next_gives (reading_by k Dropped s.pairs.now) n) (sym step.kept.0) (GivesShort-next from d s.decomposed c n step (short_before h)).0);
+            room = λ h. on.room (subst (λ k. GivesShort from.next_gives (reading_by k Dropped s.pairs.now) n) (sym step.kept.0) (GivesShort-next from d s.decomposed c n step h).0);
             ends = on.ends;
-            stays = λ h. absurd (not_ended h.0);
+            stays = λ h. cc (step.item.stays h.2);
           };
           came = λ e. CameFirst-composed from s t e n (reading_by n.characters Dropped s.pairs.now) c r (on.came e)
               (λ y out h composed. may_come (MayGive from.next_gives e) (c ∷ y) out (step.came e y h) (compose_by_starters-starter d c y starter ∙ same_after y ∙ composed));
@@ -102,33 +80,33 @@ module _ {I : Type 0} (from : Source I) where
         }
 
     module _ (t : Composition I) where
-      pub Steps-fault : (e : NormalizeError) → Becomes s [] Ended t → decomposition.DecompositionSteps from s.decomposed (Some (Err e)) t.decomposed
+      pub Steps-fault : (e : NormalizeError) → Becomes s [] NoStarter t → decomposition.DecompositionSteps from s.decomposed (Some (Err e)) t.decomposed
           → CompositionSteps from s (Some (Err e)) t
       Steps-fault e parts step = record {
         item = record {
-          first = λ out h. WillGive-end from s t parts;
+          first = λ out h. WillGive-end from s t parts step.item.ends;
           fault = step.item.fault;
-          room = λ h. absurd (GivesShort-no_fault from (pairing_by s) s.decomposed e t.decomposed step (short_before h));
-          ends = (parts.ahead, parts.marks);
-          stays = λ h. absurd (not_ended h.0);
+          room = λ h. absurd (GivesShort-no_fault from (pairing_by s) s.decomposed e t.decomposed step h);
+          ends = IsEnded-parts from s t parts step.item.ends;
+          stays = λ h. cc (step.item.stays h.2);
         };
         came = λ k. tt;
         ready = step.ready;
         kept = parts.kept;
-        fewer = omega (arith, step.fewer, left_in_source, items_left-by from s t [] Ended parts);
+        fewer = omega (arith, step.fewer, left_in_source, items_left-by from s t [] NoStarter parts);
       }
 
-      pub Steps-end : Becomes s [] Ended t → decomposition.DecompositionSteps from s.decomposed None t.decomposed → CompositionSteps from s None t
+      pub Steps-end : Becomes s [] NoStarter t → decomposition.DecompositionSteps from s.decomposed None t.decomposed → CompositionSteps from s None t
       Steps-end parts step =
           let d = pairing_by s in
           record {
             item = record {
               first = λ out h.
-                  let end = step.item.first h.unread (source_before h) in
-                  (text_before out h ∙ ap (compose_by_starters d) end.0 ∙ compose_by_starters-nil d, WillGive-end from s t parts);
+                  let end = step.item.first h.unread h.source in
+                  (text_before out h ∙ ap (compose_by_starters d) end.0 ∙ compose_by_starters-nil d, WillGive-end from s t parts step.item.ends);
               fault = tt;
-              room = λ h. (tt, StaysShort-by from s t [] Ended parts tt);
-              ends = (parts.ahead, parts.marks);
+              room = λ h. (tt, StaysShort-by from s t [] NoStarter parts (GivesShort-end from d s.decomposed t.decomposed step h));
+              ends = IsEnded-parts from s t parts step.item.ends;
               stays = λ h. refl;
             };
             came = λ e. may_come (MayGive from.next_gives e) [] [] (step.came e) (compose_by_starters-nil d);
@@ -144,25 +122,24 @@ module _ {I : Type 0} (from : Source I) where
           record {
             item = record {
               first = λ out h.
-                  let next = on.text h.unread (source_before h) in (
+                  let next = on.text h.unread h.source in (
                     compose_by_starters d next.1,
                     text_before out h ∙ next.3,
                     WillGive-by from s t [] Passed parts _ (record { unread = next.1; source = next.4; text = refl }),
                   );
               fault = tt;
               room = λ h.
-                  let short = short_before h in
-                  let next = on.text short.unread short.source in (
+                  let next = on.text h.unread h.source in (
                     refl,
                     StaysShort-by from s t [] Passed parts (record {
                       unread = next.1;
                       source = next.4;
-                      short = on.short short.short;
-                      runs = HasShortMarkRuns-rest d next.0 next.1 (subst (HasShortMarkRuns d) next.2 short.runs);
+                      short = on.short h.short;
+                      runs = HasShortMarkRuns-rest d next.0 next.1 (subst (HasShortMarkRuns d) next.2 h.runs);
                     }),
                   );
               ends = tt;
-              stays = λ h. absurd (not_ended h.0);
+              stays = λ h. absurd (omega (arith, on.fewer, items_left-ended from s.decomposed h.2));
             };
             came = λ e out h.
                 let b = WillGive-parts from (MayGive from.next_gives e) s t [] Passed parts out h in
@@ -181,15 +158,15 @@ module _ {I : Type 0} (from : Source I) where
           record {
             item = record {
               first = λ out h.
-                  let next = step.item.first h.unread (source_before h) in (
+                  let next = step.item.first h.unread h.source in (
                     compose_by_starters d next.0,
                     text_before out h ∙ ap (compose_by_starters d) next.1 ∙ compose_by_starters-mark d c next.0 mark,
                     WillGive-by from s t [] NoStarter parts _ (record { unread = next.0; source = next.2; text = refl }),
                   );
               fault = tt;
-              room = λ h. (refl, StaysShort-by from s t [] NoStarter parts (GivesShort-next from d s.decomposed c t.decomposed step (short_before h)).0);
+              room = λ h. (refl, StaysShort-by from s t [] NoStarter parts (GivesShort-next from d s.decomposed c t.decomposed step h).0);
               ends = tt;
-              stays = λ h. absurd (not_ended h.0);
+              stays = λ h. cc (step.item.stays h.2);
             };
             came = λ e out h.
                 let b = WillGive-parts from (MayGive from.next_gives e) s t [] NoStarter parts out h in

@@ -5,7 +5,7 @@ use Rattle.normal_forms.specs.Reading.{Reading}
 use Rattle.normal_forms.specs.CompositionByStarters.{compose_after}
 use Rattle.normalizer_text.specs.Steps.{Spells}
 use Rattle.normalizer_iterators.specs.declared.composition.Ahead.{Ahead}
-use Rattle.normalizer_iterators.specs.declared.composition.Ahead.TheVariants.{Starter, Ended}
+use Rattle.normalizer_iterators.specs.declared.composition.Ahead.TheVariants.{NoStarter, Starter}
 use Rattle.normalizer_iterators.specs.declared.composition.Composition.{Composition}
 use Rattle.normalizer_iterators.specs.declared.decomposition.Decomposition.{Decomposition}
 use Rattle.normalizer_iterators.specs.declared.error.NormalizeError.{NormalizeError}
@@ -14,8 +14,10 @@ use Rattle.normalizer_iterators.specs.Decomposition as decomposition
 use Rattle.normalizer_iterators.specs.Delegate.{Extent, MayGive, Source}
 use Rattle.normalizer_iterators.specs.NextItem.{CameFirst, GaveFirst}
 use Rattle.normalizer_iterators.specs.StayingMarks.{staying}
-use Rattle.normalizer_iterators.specs.Composing.{composed_ahead, ahead_left, UnlessEnded, WillGiveBehind, GivesShort, ComposesStarter}
-use Rattle.normalizer_iterators.specs.Composition.{CanCompose, ComposesOn, CompositionSteps, StaysShort, WillGive, items_left, pairing_by}
+use Rattle.normalizer_iterators.specs.Composing.{composed_ahead, ahead_left, IsBeforeStarter, WillGiveBehind, GivesShort, ComposesStarter}
+use Rattle.normalizer_iterators.specs.Composition.{CanCompose, ComposesOn, CompositionSteps, IsEnded, StaysShort, WillGive, items_left, pairing_by}
+use Rattle.normal_forms.proofs.ComposeLemmas.{compose_by_starters-nil}
+use Rattle.normalizer_iterators.proofs.DecompositionLemmas.{ended, items_left-ended}
 use Rattle.normalizer_iterators.proofs.ProgressLemmas.{MakesProgress-fewer}
 use Rattle.normalizer_tables.specs.Readings.{reading_by}
 use Rattle.normalizer_tables.specs.declared.characters.IgnoredCharacters.TheVariants.{Dropped}
@@ -43,8 +45,8 @@ module _ {I : Type 0} (from : Source I) where
       → WillGiveBehind (Spells from.next_gives) d marks ahead n out
   behind_by d e marks ahead n out same h = subst (λ k. WillGiveBehind (Spells from.next_gives) k marks ahead n out) (sym same) h
 
-  pub short_by : (d e : Reading) (ahead : Ahead) (n : Decomposition I) → d ≡ e → UnlessEnded ahead (GivesShort from.next_gives e n) → UnlessEnded ahead (GivesShort from.next_gives d n)
-  short_by d e ahead n same h = subst (λ k. UnlessEnded ahead (GivesShort from.next_gives k n)) (sym same) h
+  pub short_by : (d e : Reading) (n : Decomposition I) → d ≡ e → GivesShort from.next_gives e n → GivesShort from.next_gives d n
+  short_by d e n same h = subst (λ k. GivesShort from.next_gives k n) (sym same) h
 
   -- ---- what is to come, by the parts
 
@@ -79,17 +81,19 @@ module _ {I : Type 0} (from : Source I) where
   CameFirst-composed s t e n d a (Ok c) on back = λ out h. let y = on out h in back y.0 (c ∷ out) y.1 y.2
   CameFirst-composed s t e n d a (Err k) on back = tt
 
-  pub StaysShort-by : (s t : Composition I) (front : List ℕ) (behind : Ahead) → Becomes s front behind t → UnlessEnded behind (GivesShort from.next_gives (pairing_by s) t.decomposed) → StaysShort from.next_gives t
-  StaysShort-by s t front behind parts h =
-      short_by (pairing_by t) (pairing_by s) t.ahead t.decomposed (pairing_by-kept s t parts.kept)
-      (subst (λ a. UnlessEnded a (GivesShort from.next_gives (pairing_by s) t.decomposed)) (sym parts.ahead) h)
+  pub StaysShort-by : (s t : Composition I) (front : List ℕ) (behind : Ahead) → Becomes s front behind t → GivesShort from.next_gives (pairing_by s) t.decomposed → StaysShort from.next_gives t
+  StaysShort-by s t front behind parts h = short_by (pairing_by t) (pairing_by s) t.decomposed (pairing_by-kept s t parts.kept) h
 
   pub items_left-by : (s t : Composition I) (front : List ℕ) (behind : Ahead) → Becomes s front behind t → items_left from.remaining t ≡ length front + ahead_left behind (decomposition.items_left from.remaining t.decomposed)
   items_left-by s t front behind parts = rw (parts.marks, parts.ahead) refl
 
   -- nothing is to come
-  pub WillGive-end : (s t : Composition I) → Becomes s [] Ended t → WillGive (Spells from.next_gives) t []
-  WillGive-end s t parts = WillGive-by s t [] Ended parts [] (record { unread = []; source = tt; text = refl })
+  pub WillGive-end : (s t : Composition I) → Becomes s [] NoStarter t → decomposition.IsEnded t.decomposed → WillGive (Spells from.next_gives) t []
+  WillGive-end s t parts end = WillGive-by s t [] NoStarter parts []
+      (record { unread = []; source = ended from (Spells from.next_gives) t.decomposed end.0 end.1; text = sym (compose_by_starters-nil (pairing_by s)) })
+
+  pub IsEnded-parts : (s t : Composition I) → Becomes s [] NoStarter t → decomposition.IsEnded t.decomposed → IsEnded t
+  IsEnded-parts s t parts end = (subst IsBeforeStarter (sym parts.ahead) tt, parts.marks, end)
 
   -- ---- a starter is composed, or a fault comes
 
@@ -107,16 +111,16 @@ module _ {I : Type 0} (from : Source I) where
     kept = parts.kept;
   }
 
-  pub ComposesOn-fault : (starter : ℕ) (s t : Composition I) (e : NormalizeError) → Becomes s [] Ended t → e ≡ Memory → (GivesShort from.next_gives (pairing_by s) s.decomposed → ⊥) → CanCompose from.can_next from.remaining t
-      → ComposesOn from starter s.decomposed s.pairs.now (Err e) t
-  ComposesOn-fault starter s t e parts memory long ready = record {
-    first = λ y h. WillGive-end s t parts;
+  pub ComposesOn-fault : (starter : ℕ) (s t : Composition I) (e : NormalizeError) → Becomes s [] NoStarter t → decomposition.IsEnded t.decomposed → e ≡ Memory
+      → (GivesShort from.next_gives (pairing_by s) s.decomposed → ⊥) → ComposesOn from starter s.decomposed s.pairs.now (Err e) t
+  ComposesOn-fault starter s t e parts end memory long = record {
+    first = λ y h. WillGive-end s t parts end;
     came = λ e. tt;
     fault = memory;
     room = λ h. absurd (long h);
-    ends = (parts.ahead, parts.marks);
-    ready = ready;
-    fewer = omega (arith, items_left-by s t [] Ended parts);
+    ends = IsEnded-parts s t parts end;
+    ready = rw end.0 tt;
+    fewer = omega (arith, items_left-by s t [] NoStarter parts, items_left-ended from t.decomposed end);
     kept = parts.kept;
   }
 
@@ -148,30 +152,6 @@ module _ {I : Type 0} (from : Source I) where
         fewer = omega (arith, ap length front, items_left-by s t (staying t.marks) s.ahead parts, ap (λ n. ahead_left s.ahead (decomposition.items_left from.remaining n)) same.decomposed);
       }
 
-  -- ---- the end is reached
-
-  pub Steps-ended : (s t : Composition I) → KeepsButMarks s t → s.ahead ≡ Ended → staying s.marks ≡ [] → staying t.marks ≡ [] → CompositionSteps from s None t
-  Steps-ended s t same is none none_left =
-      let parts = Becomes-marks s t same in
-      let after : Becomes s [] Ended t = record { kept = parts.kept; marks = none_left; ahead = same.ahead ∙ is } in
-      record {
-        item = record {
-          first = λ out h. (h.text ∙ ap (λ a. staying s.marks ++ composed_ahead (pairing_by s) a h.unread) is ∙ ap (λ l. l ++ []) none, WillGive-end s t after);
-          fault = tt;
-          room = λ h. (tt, StaysShort-by s t [] Ended after tt);
-          ends = (after.ahead, none_left);
-          stays = λ h. refl;
-        };
-        came = λ e. record {
-          unread = [];
-          source = subst (λ a. UnlessEnded a (decomposition.WillGive (MayGive from.next_gives e) s.decomposed [])) (sym is) tt;
-          text = sym (ap (λ a. staying s.marks ++ composed_ahead (pairing_by s) a []) is ∙ ap (λ l. l ++ []) none);
-        };
-        ready = λ h. rw same.decomposed h;
-        kept = parts.kept;
-        fewer = tt;
-      }
-
   -- ---- there is a starter
 
   pub Steps-starter : (s t : Composition I) (a : ℕ) (r : Result ℕ NormalizeError) → staying s.marks ≡ [] → ComposesOn from a s.decomposed s.pairs.now r t → s.ahead ≡ Starter a
@@ -181,17 +161,16 @@ module _ {I : Type 0} (from : Source I) where
       record {
         item = record {
           first = λ out h.
-              let source = subst (λ b. UnlessEnded b (decomposition.WillGive (Spells from.next_gives) s.decomposed h.unread)) is h.source in
               let text : out ≡ compose_after d a [] h.unread = h.text ∙ ap (λ b. staying s.marks ++ composed_ahead d b h.unread) is ∙ ap (λ l. l ++ compose_after d a [] h.unread) none in
-              subst (λ o. MatchResult r (GaveFirst (WillGive (Spells from.next_gives)) o t) (λ _. WillGive (Spells from.next_gives) t [])) (sym text) (on.first h.unread source);
+              subst (λ o. MatchResult r (GaveFirst (WillGive (Spells from.next_gives)) o t) (λ _. WillGive (Spells from.next_gives) t [])) (sym text) (on.first h.unread h.source);
           fault = on.fault;
-          room = λ h. on.room (subst (λ b. UnlessEnded b (GivesShort from.next_gives d s.decomposed)) is h);
+          room = on.room;
           ends = on.ends;
-          stays = λ h. cc (h.0, is);
+          stays = λ h. absurd (subst IsBeforeStarter is h.0);
         };
         came = λ e. CameFirst-composed s t e s.decomposed d a r (on.came e) (λ y out h composed. record {
           unread = y;
-          source = subst (λ b. UnlessEnded b (decomposition.WillGive (MayGive from.next_gives e) s.decomposed y)) (sym is) h;
+          source = h;
           text = sym (ap (λ b. staying s.marks ++ composed_ahead d b y) is ∙ ap (λ l. l ++ compose_after d a [] y) none ∙ composed);
         });
         ready = λ _. on.ready;
@@ -229,7 +208,7 @@ module _ {I : Type 0} (from : Source I) where
         fault = step.item.fault;
         room = λ h. step.item.room (StaysShort-by s u [] s.ahead without_marks (rw same.decomposed h));
         ends = step.item.ends;
-        stays = λ h. step.item.stays (same.ahead ∙ h.0, none_left);
+        stays = λ h. step.item.stays (subst IsBeforeStarter (sym same.ahead) h.0, none_left, subst decomposition.IsEnded (sym same.decomposed) h.2);
       };
       came = λ e. CameFirst-by (WillGive (MayGive from.next_gives e)) s u r t (without_marks_back (MayGive from.next_gives e)) (step.came e);
       ready = λ h. step.ready (rw same.decomposed h);

@@ -42,8 +42,15 @@ module _ {I : Type 0} (from : Source I) where
       let parts = anew-parts (has_class_form s.characters) (reading_of s) c (s.anew c here) in
       sym (s.suits.starters c first r.others parts.0 r.members)
 
-  ended : (Comes : I → List ℕ → Type 0) (s : Decomposition I) → pending_of s ≡ None → ordered s.waiting ≡ [] → WillGive Comes s []
+  pub ended : (Comes : I → List ℕ → Type 0) (s : Decomposition I) → pending_of s ≡ None → ordered s.waiting ≡ [] → WillGive Comes s []
   ended Comes s none empty = IsToCome-ended Comes (nfd (reading_of s)) (pending_of s) s.delegate (ordered s.waiting) (nfd-nil (reading_of s)) none empty
+
+  pub items_left-ended : (t : Decomposition I) → IsEnded t → items_left from.remaining t ≡ 0
+  items_left-ended t end =
+      ap (λ l. length l + longest_list * reads_left (pending_of t) (size (from.remaining t.delegate))) end.1 ∙ ap (λ p. 0 + longest_list * reads_left p (size (from.remaining t.delegate))) end.0 ∙ omega arith
+
+  pub nothing_comes : (Comes : I → List ℕ → Type 0) (s : Decomposition I) (out : List ℕ) → IsEnded s → WillGive Comes s out → out ≡ []
+  nothing_comes Comes s out end h = IsToCome-none Comes (nfd (reading_of s)) (pending_of s) s.delegate (ordered s.waiting) out (nfd-nil (reading_of s)) end.0 end.1 h
 
   -- a buffered character is yielded
   pub Steps-front : (s t : Decomposition I) (c : ℕ) → t.characters ≡ s.characters → t.ignored ≡ s.ignored → t.pending ≡ s.pending → t.delegate ≡ s.delegate
@@ -99,10 +106,6 @@ module _ {I : Type 0} (from : Source I) where
     items_left-pending : items_left from.remaining s ≡ longest_list * (size (from.remaining s.delegate) + 1)
     items_left-pending =
         ap (λ l. length l + longest_list * reads_left (pending_of s) (size (from.remaining s.delegate))) empty ∙ ap (λ p. 0 + longest_list * reads_left p (size (from.remaining s.delegate))) pending ∙ omega arith
-
-    items_left-ended : (t : Decomposition I) → IsEnded t → items_left from.remaining t ≡ 0
-    items_left-ended t end =
-        ap (λ l. length l + longest_list * reads_left (pending_of t) (size (from.remaining t.delegate))) end.1 ∙ ap (λ p. 0 + longest_list * reads_left p (size (from.remaining t.delegate))) end.0 ∙ omega arith
 
     pub Steps-chunk : (t : Decomposition I) (first : ℕ) → t.characters ≡ s.characters → t.ignored ≡ s.ignored
         → ReadsChunk from (has_class_form s.characters) (reading_of s) c s.delegate first (pending_of t) t.delegate t.waiting → DecompositionSteps from s (Some (Ok first)) t

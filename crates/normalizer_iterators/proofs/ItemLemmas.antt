@@ -12,13 +12,11 @@ use Rattle.normalizer_iterators.specs.Composition as composition
 use Rattle.normalizer_iterators.specs.Composition.{CompositionSteps, pairing_by}
 use Rattle.normalizer_iterators.specs.StayingMarks.{staying}
 use Rattle.normalizer_iterators.specs.WaitingList.{ordered}
-use Rattle.normalizer_iterators.specs.declared.composition.Ahead.{Ahead}
-use Rattle.normalizer_iterators.specs.declared.composition.Ahead.TheVariants.{NoStarter, Passed, Starter, Ended}
 use Rattle.normalizer_iterators.specs.declared.composition.Composition.{Composition}
 use Rattle.normalizer_iterators.specs.declared.decomposition.Decomposition.{Decomposition}
 use Rattle.normalizer_iterators.specs.declared.error.NormalizeError.{NormalizeError}
 use Rattle.normalizer_iterators.specs.declared.error.NormalizeError.TheVariants.{Memory}
-use Rattle.normalizer_iterators.specs.Composing.{composed_ahead, UnlessEnded}
+use Rattle.normalizer_iterators.specs.Composing.{composed_ahead}
 use Rattle.normalizer_iterators.specs.Delegate.{ComesBehind, Extent, MayGive, Source}
 use Rattle.normalizer_iterators.specs.Delegate.Extent.{to_end, so_far}
 use Rattle.normalizer_iterators.specs.NextItem.{CameFirst, YieldsNext, IsFormOfSource}
@@ -190,17 +188,11 @@ module _ {I : Type 0} (from : Source I) where
     record { unread = []; source = behind_may_come (pending_of s) s.delegate; text = refl },
   )
 
-  unless_ended : (ahead : Ahead) (P : Type 0) → P → UnlessEnded ahead P
-  unless_ended NoStarter P h = h
-  unless_ended Passed P h = h
-  unless_ended (Starter a) P h = h
-  unless_ended Ended P h = tt
-
   some_composed : (s : Composition I) → (out : List ℕ) × composition.WillGive (MayGive from.next_gives so_far) s out
   some_composed s =
       let y = some_decomposed s.decomposed in (
         staying s.marks ++ composed_ahead (pairing_by s) s.ahead y.0,
-        record { unread = y.0; source = unless_ended s.ahead (WillGive (MayGive from.next_gives so_far) s.decomposed y.0) y.1; text = refl },
+        record { unread = y.0; source = y.1; text = refl },
       )
 
   pub YieldsFormOfRun-decomposition : (form : List ℕ → List ℕ) (source : I) (it : Decomposition I) → IsFormOfSource from.next_gives (λ e. WillGive (MayGive from.next_gives e)) form source it

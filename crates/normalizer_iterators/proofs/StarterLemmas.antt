@@ -4,9 +4,9 @@ use Rattle.normal_forms.specs.Reading.{Reading, IsStarter, IsMark}
 use Rattle.normal_forms.specs.CompositionByStarters.{join, compose_after, compose_by_starters}
 use Rattle.normal_forms.specs.Boundary.{BeginsSafely}
 use Rattle.normal_forms.specs.ShortRuns.{places}
-use Rattle.normal_forms.proofs.ComposeLemmas.{starter_or_mark, compose_after-nil, compose_after-join, compose_after-starter, compose_after-mark}
+use Rattle.normal_forms.proofs.ComposeLemmas.{starter_or_mark, compose_after-nil, compose_after-join, compose_after-starter, compose_after-mark, compose_by_starters-nil}
 use Rattle.normalizer_text.specs.Steps.{Spells}
-use Rattle.normalizer_iterators.specs.declared.composition.Ahead.TheVariants.{Starter, Passed, Ended}
+use Rattle.normalizer_iterators.specs.declared.composition.Ahead.TheVariants.{NoStarter, Starter, Passed}
 use Rattle.normalizer_iterators.specs.declared.decomposition.Decomposition.{Decomposition}
 use Rattle.normalizer_iterators.specs.declared.error.NormalizeError.{NormalizeError}
 use Rattle.normalizer_iterators.specs.declared.marks.StayingMarks.{StayingMarks}
@@ -15,6 +15,7 @@ use Rattle.normalizer_iterators.specs.Delegate.{Extent, MayGive, Source}
 use Rattle.normalizer_iterators.specs.MarkRuns.{leading_marks, HasShortMarkRuns}
 use Rattle.normalizer_iterators.specs.StayingMarks.{staying, used, BlocksBelow}
 use Rattle.normalizer_iterators.specs.Composing.{GivesShort, ComposesStarter}
+use Rattle.normalizer_iterators.proofs.DecompositionLemmas.{items_left-ended, nothing_comes}
 use Rattle.normalizer_iterators.proofs.MarkLemmas.{join-starter}
 use Rattle.normalizer_iterators.proofs.PassingLemmas.{compose_after-boundary}
 use Rattle.normalizer_iterators.proofs.MarkRunLemmas.{leading_marks-mark, HasShortMarkRuns-leading, HasShortMarkRuns-tail}
@@ -157,22 +158,33 @@ module _ {I : Type 0} (from : Source I) (d : Reading) where
         fewer = omega (arith, before.fewer, step.fewer);
       })
 
+  -- nothing is to come
+  pub GivesShort-end : (now next : Decomposition I) → decomposition.DecompositionSteps from now None next → GivesShort from.next_gives d now → GivesShort from.next_gives d next
+  GivesShort-end now next step h =
+      let end = step.item.first h.unread h.source in
+      record { unread = []; source = end.1; short = (step.item.room h.short).1; runs = subst (HasShortMarkRuns d) end.0 h.runs }
+
   pub ComposesStarter-ends : (starter : ℕ) (old : Decomposition I) (composite : ℕ) (now : Decomposition I) (marks : StayingMarks) (next : Decomposition I)
       → ComposedSoFar from d starter old composite now marks → decomposition.DecompositionSteps from now None next
-      → ComposesStarter from.next_gives from.remaining d starter old composite (staying marks) Ended next
+      → ComposesStarter from.next_gives from.remaining d starter old composite (staying marks) NoStarter next
   ComposesStarter-ends starter old composite now marks next before step = record {
     text = λ all h.
         let b = before.text all h in
         let end = step.item.first b.0 b.2 in (
           staying marks,
           b.1 ∙ ap (compose_after d composite (staying marks)) end.0 ∙ compose_after-nil d composite (staying marks),
-          record { unread = []; source = tt; text = sym (append-nil (staying marks)) },
+          record { unread = []; source = end.1; text = sym (ap (λ l. staying marks ++ l) (compose_by_starters-nil d) ∙ append-nil (staying marks)) },
         );
     came = λ e rest h.
         let b = before.came e [] (step.came e) in
-        (b.0, b.1, b.2 ∙ compose_after-nil d composite (staying marks) ∙ ap (λ l. composite ∷ l) (sym (h.text ∙ append-nil (staying marks))));
-    short = λ h. tt;
-    fewer = omega (arith, before.fewer);
+        let none : h.unread ≡ [] = nothing_comes from (MayGive from.next_gives e) next h.unread step.item.ends h.source in (
+          b.0,
+          b.1,
+          b.2 ∙ compose_after-nil d composite (staying marks) ∙ ap (λ l. composite ∷ l)
+              (sym (h.text ∙ ap (λ y. staying marks ++ compose_by_starters d y) none ∙ ap (λ l. staying marks ++ l) (compose_by_starters-nil d) ∙ append-nil (staying marks))),
+        );
+    short = λ h. GivesShort-end now next step (before.short h).0;
+    fewer = omega (arith, before.fewer, items_left-ended from next step.item.ends);
   }
 
   -- what begins safely is not composed with what comes before it

@@ -13,12 +13,11 @@ use Rattle.normalizer_tables.specs.Readings.{reading_by}
 use Rattle.normalizer_tables.specs.declared.characters.IgnoredCharacters.{IgnoredCharacters}
 use Rattle.normalizer_tables.specs.declared.characters.IgnoredCharacters.TheVariants.{Dropped}
 use Rattle.normalizer_text.specs.Steps.{Spells}
-use Rattle.normalizer_iterators.specs.declared.composition.Ahead.TheVariants.{Ended}
 use Rattle.normalizer_iterators.specs.declared.composition.Composition.{Composition}
 use Rattle.normalizer_iterators.specs.declared.decomposition.Decomposition.{Decomposition}
 use Rattle.normalizer_iterators.specs.declared.error.NormalizeError.{NormalizeError}
 use Rattle.normalizer_iterators.specs.declared.error.NormalizeError.TheVariants.{Memory}
-use Rattle.normalizer_iterators.specs.Composing.{UnlessEnded, WillGiveBehind, GivesShort, ahead_left}
+use Rattle.normalizer_iterators.specs.Composing.{IsBeforeStarter, WillGiveBehind, GivesShort, ahead_left}
 use Rattle.normalizer_iterators.specs.Decomposition as decomposition
 use Rattle.normalizer_iterators.specs.Delegate.{Extent, MayGive, Source}
 use Rattle.normalizer_iterators.specs.NextItem.{CameFirst, GaveFirst, YieldsNext}
@@ -50,11 +49,11 @@ module _ {I : Type 0} where
 
   -- the runs that are still to come are short
   abbrev pub StaysShort : (I → Option ℕ → I → Type 0) → Composition I → Type 0
-  StaysShort gives s = UnlessEnded s.ahead (GivesShort gives (pairing_by s) s.decomposed)
+  StaysShort gives s = GivesShort gives (pairing_by s) s.decomposed
 
   -- nothing is to come
   abbrev pub IsEnded : Composition I → Type 0
-  IsEnded s = (s.ahead ≡ Ended) × (staying s.marks ≡ [])
+  IsEnded s = IsBeforeStarter s.ahead × (staying s.marks ≡ []) × decomposition.IsEnded s.decomposed
 
   -- the delegate may be called, and ends
   abbrev pub CanCompose : (I → Type 0) → (I → Count) → Composition I → Type 0

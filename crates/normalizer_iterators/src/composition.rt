@@ -54,14 +54,12 @@ pub struct Composition<'data, I> {
 /// What comes after the marks that stay.
 #[derive(Clone, Copy)]
 enum Ahead {
-    /// What is decomposed, if no starter has come yet.
+    /// What is decomposed, if any is left: no starter has come yet, or the end is reached.
     NoStarter,
     /// A character that is passed, not yet decomposed, if any is left.
     Passed,
     /// A starter, and what is decomposed after it.
     Starter(char),
-    /// Nothing.
-    Ended,
 }
 
 /// What happened to a character after a starter and the marks that stay.
@@ -150,7 +148,8 @@ impl<'data, I: Iterator<Item = char> + Drop> Composition<'data, I> {
             }
             Err(error) => {
                 self.marks.clear();
-                self.ahead = Ahead::Ended;
+                self.decomposed.stop();
+                self.ahead = Ahead::NoStarter;
                 Err(error)
             }
         }
@@ -175,11 +174,11 @@ impl<'data, I: Iterator<Item = char> + Drop> Composition<'data, I> {
                 Some(self.compose_on(starter))
             }
             Some(Err(error)) => {
-                self.ahead = Ahead::Ended;
+                self.ahead = Ahead::NoStarter;
                 Some(Err(error))
             }
             None => {
-                self.ahead = Ahead::Ended;
+                self.ahead = Ahead::NoStarter;
                 None
             }
         }
@@ -195,7 +194,6 @@ impl<'data, I: Iterator<Item = char> + Drop> Composition<'data, I> {
             return Some(Ok(mark));
         }
         match self.ahead {
-            Ahead::Ended => None,
             Ahead::Starter(starter) => Some(self.compose_on(starter)),
             Ahead::Passed => self.pass(),
             Ahead::NoStarter => {
@@ -210,14 +208,8 @@ impl<'data, I: Iterator<Item = char> + Drop> Composition<'data, I> {
                             Some(Ok(given.character))
                         }
                     }
-                    Some(Err(error)) => {
-                        self.ahead = Ahead::Ended;
-                        Some(Err(error))
-                    }
-                    None => {
-                        self.ahead = Ahead::Ended;
-                        None
-                    }
+                    Some(Err(error)) => Some(Err(error)),
+                    None => None,
                 }
             }
         }
@@ -246,7 +238,7 @@ fn compose_starter<I: Iterator<Item = char> + Drop>(
     marks.clear();
     while !is_at_passed(decomposed, bounds) {
         let Some(item) = decomposed.next_with_class() else {
-            return Ok((composite, Ahead::Ended));
+            return Ok((composite, Ahead::NoStarter));
         };
         let given = match item {
             Ok(given) => given,

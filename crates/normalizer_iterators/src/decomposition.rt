@@ -53,6 +53,7 @@ impl<'data, I: Iterator<Item = char> + Drop> Decomposition<'data, I> {
     ghost use Rattle.normalizer_iterators.specs.Decomposition.{
       CanDecompose,
       DecompositionSteps,
+      IsEnded,
       StaysShort,
       WillGive,
       YieldsNfd,
@@ -162,6 +163,15 @@ impl<'data, I: Iterator<Item = char> + Drop> Decomposition<'data, I> {
                 Err(NormalizeError::Memory)
             }
         }
+    }
+
+    /// Drops what is buffered and the character that was read last: nothing is to come.
+    pub(crate) fn stop(&mut self)
+        ensures ended { IsEnded self.new }
+        ensures kept { (self.new.characters ≡ self.old.characters) × (self.new.ignored ≡ self.old.ignored) }
+    {
+        self.pending = None;
+        self.waiting.clear();
     }
 
     /// The next character with its canonical combining class.

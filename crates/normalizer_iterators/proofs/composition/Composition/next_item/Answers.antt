@@ -1,6 +1,6 @@
 use Rattle.std.proofs.Common.{refl, sym, ◌∙◌, arith}
 use Rattle.normalizer_iterators.proofs.BeforeStarterLemmas.{Steps-first_starter, Steps-leading_mark, Steps-end, Steps-fault}
-use Rattle.normalizer_iterators.proofs.CompositionLemmas.{Steps-mark, Steps-ended, Steps-starter, Steps-marks}
+use Rattle.normalizer_iterators.proofs.CompositionLemmas.{Steps-mark, Steps-starter, Steps-marks}
 use Rattle.normalizer_iterators.proofs.PassingLemmas.{IsAtPassed-stands}
 use Rattle.normalizer_iterators.proofs.LazyLemmas.{class-reading_by}
 use Rattle.normalizer_tables.specs.declared.characters.IgnoredCharacters.TheVariants.{Dropped}
@@ -12,13 +12,6 @@ pub returns-in-Some : goal.returns-in-Some
 returns-in-Some g c =
     Steps-mark g.I.Iterator c.args.self.now _ c.in-Some.mark
     (record { decomposed = refl; pairs = refl; ahead = refl }) c.in-Some.ensures.some
-
--- ---- the end was reached
-
-pub returns-in-Ended : goal.returns-in-Ended
-returns-in-Ended g c =
-    Steps-ended g.I.Iterator c.args.self.now _
-    (record { decomposed = refl; pairs = refl; ahead = refl }) c.in-Ended.is c.in_default.ensures.none.0 c.in_default.ensures.none.1
 
 -- ---- there is a starter
 
@@ -90,9 +83,9 @@ pub returns-in-Some-Err : goal.returns-in-Some-Err
 returns-in-Some-Err g c =
     let step = rw c.in-Some-Err.field-0-is at c.in-Some-Err.ensures.steps in
     Steps-fault g.I.Iterator c.args.self.now (rw c.in-NoStarter.is tt) c.in_default.ensures.none.0 _ c.in-Some-Err.error
-    (record { kept = (step.kept.0, refl); marks = c.in_default.ensures.none.1; ahead = refl }) step
+    (record { kept = (step.kept.0, refl); marks = c.in_default.ensures.none.1; ahead = c.in-NoStarter.is }) step
 
 pub returns-in-None : goal.returns-in-None
 returns-in-None g c =
     Steps-end g.I.Iterator c.args.self.now (rw c.in-NoStarter.is tt) c.in_default.ensures.none.0 _
-    (record { kept = (c.in-None.ensures.steps.kept.0, refl); marks = c.in_default.ensures.none.1; ahead = refl }) c.in-None.ensures.steps
+    (record { kept = (c.in-None.ensures.steps.kept.0, refl); marks = c.in_default.ensures.none.1; ahead = c.in-NoStarter.is }) c.in-None.ensures.steps

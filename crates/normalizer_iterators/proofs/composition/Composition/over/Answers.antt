@@ -43,7 +43,7 @@ pub returns-clause-short : goal.returns-clause-short
 returns-clause-short g c = λ x spelled runs.
     let s = c.args.characters in
     let ignored = c.args.ignored in
-    short_by g.I.Iterator _ (reading_by s Dropped c.args.pairs.now) NoStarter _
+    short_by g.I.Iterator _ (reading_by s Dropped c.args.pairs.now) _
     (ap (λ k. reading_by k Dropped c.args.pairs.now) c.in_ok-over.ensures.kept.0) (record {
       unread = nfd (reading_by s ignored []) x;
       source = c.in_ok-over.ensures.text x spelled;
