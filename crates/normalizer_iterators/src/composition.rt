@@ -9,7 +9,7 @@ ghost use Rattle.normalizer_tables.specs.Characters.{has_class_form};
 ghost use Rattle.normalizer_tables.specs.Pairs.{pair_of};
 ghost use Rattle.normalizer_tables.specs.Readings.{reading_by};
 ghost use Rattle.normalizer_text.specs.Steps.{Spells};
-ghost use Rattle.normalizer_iterators.specs.declared.composition.Ahead.TheVariants.{Passed};
+ghost use Rattle.normalizer_iterators.specs.declared.composition.Ahead.TheVariants.{NoStarter, Passed};
 ghost use Rattle.normalizer_iterators.specs.Decomposition.{CanDecompose};
 ghost use Rattle.normalizer_iterators.specs.Delegate.{MayGive};
 ghost use Rattle.normalizer_iterators.specs.LazyComposing.{SuitsLazyComposing};
@@ -184,6 +184,27 @@ impl<'data, I: Iterator<Item = char> + Drop> Composition<'data, I> {
         }
     }
 
+    /// Yields what is decomposed next; a starter is composed with what follows it.
+    #[inline(always)]
+    fn next_decomposed(&mut self) -> Option<Result<char, NormalizeError>>
+        requires can { CanCompose I.can_next I.remaining self.old }
+        requires marks { staying self.old.marks ≡ [] }
+        requires ahead { self.old.ahead ≡ NoStarter }
+        ensures { CompositionSteps I.Iterator self.old result self.new }
+    {
+        match self.decomposed.next_with_class() {
+            Some(Ok(given)) => {
+                if given.class == 0 {
+                    Some(self.compose_on(given.character))
+                } else {
+                    Some(Ok(given.character))
+                }
+            }
+            Some(Err(error)) => Some(Err(error)),
+            None => None,
+        }
+    }
+
     /// Yields the next character: a mark that stays, or what a starter and what follows it compose to.
     #[inline(always)]
     fn next_item(&mut self) -> Option<Result<char, NormalizeError>>
@@ -200,17 +221,7 @@ impl<'data, I: Iterator<Item = char> + Drop> Composition<'data, I> {
                 if is_at_passed(&self.decomposed, self.bounds) {
                     return self.pass();
                 }
-                match self.decomposed.next_with_class() {
-                    Some(Ok(given)) => {
-                        if given.class == 0 {
-                            Some(self.compose_on(given.character))
-                        } else {
-                            Some(Ok(given.character))
-                        }
-                    }
-                    Some(Err(error)) => Some(Err(error)),
-                    None => None,
-                }
+                self.next_decomposed()
             }
         }
     }
