@@ -1,65 +1,42 @@
 -- What is still to come of a composition before a starter, from one item to the next.
-use Rattle.std.proofs.Common.{◌≡◌, ℕ, ◌+◌, ◌<◌, List, [], ◌++◌, length, Option, Some, None, Result, Ok, Err, MatchResult, refl, sym, ap, ◌∙◌, ◌∷◌, subst, arith}
-use Rattle.std.specs.Iterator.{Count, at_most, MakesProgress}
+use Rattle.std.proofs.Common.{◌≡◌, ℕ, List, [], ◌++◌, length, Some, None, Result, Ok, Err, MatchResult, refl, sym, ap, ◌∙◌, ◌∷◌, subst, arith}
 use Rattle.normal_forms.specs.Reading.{Reading, IsStarter, IsMark}
 use Rattle.normal_forms.specs.CompositionByStarters.{compose_after, compose_by_starters}
 use Rattle.normal_forms.proofs.ComposeLemmas.{compose_by_starters-nil, compose_by_starters-starter, compose_by_starters-mark}
 use Rattle.normalizer_text.specs.Steps.{Spells}
 use Rattle.normalizer_iterators.specs.declared.composition.Ahead.{Ahead}
-use Rattle.normalizer_iterators.specs.declared.composition.Ahead.TheVariants.{NoStarter, Passed, Starter, Ended}
+use Rattle.normalizer_iterators.specs.declared.composition.Ahead.TheVariants.{NoStarter, Passed, Starter}
 use Rattle.normalizer_iterators.specs.declared.composition.Composition.{Composition}
 use Rattle.normalizer_iterators.specs.declared.decomposition.Decomposition.{Decomposition}
 use Rattle.normalizer_iterators.specs.declared.error.NormalizeError.{NormalizeError}
 use Rattle.normalizer_iterators.specs.Decomposition as decomposition
-use Rattle.normalizer_iterators.specs.Delegate.{MayGive}
+use Rattle.normalizer_iterators.specs.Delegate.{MayGive, Source}
 use Rattle.normalizer_iterators.specs.NextItem.{GaveFirst}
 use Rattle.normalizer_iterators.specs.StayingMarks.{staying}
 use Rattle.normalizer_iterators.specs.MarkRuns.{HasShortMarkRuns}
-use Rattle.normalizer_iterators.specs.inner.Passing.{PassesOn, YieldsStarter}
-use Rattle.normalizer_iterators.specs.Composing.{composed_ahead, ahead_left, UnlessEnded, IsBeforeStarter, GivesShort}
-use Rattle.normalizer_iterators.specs.Composition.{CanCompose, ComposesOn, CompositionSteps, StaysShort, WillGive, items_left, pairing_by}
+use Rattle.normalizer_iterators.specs.inner.Passing.{PassesOn}
+use Rattle.normalizer_iterators.specs.Composing.{composed_ahead, ahead_left, IsBeforeStarter, GivesShort}
+use Rattle.normalizer_iterators.specs.Composition.{ComposesOn, CompositionSteps, WillGive, items_left, pairing_by}
 use Rattle.normalizer_iterators.proofs.MarkRunLemmas.{HasShortMarkRuns-rest}
-use Rattle.normalizer_iterators.proofs.StarterLemmas.{GivesShort-next, GivesShort-no_fault}
+use Rattle.normalizer_iterators.proofs.DecompositionLemmas.{items_left-ended}
+use Rattle.normalizer_iterators.proofs.StarterLemmas.{GivesShort-end, GivesShort-next, GivesShort-no_fault}
 use Rattle.normalizer_tables.specs.Readings.{reading_by}
 use Rattle.normalizer_tables.specs.declared.characters.IgnoredCharacters.TheVariants.{Dropped}
-use Rattle.normalizer_iterators.proofs.CompositionLemmas.{Becomes, WillGive-by, WillGive-parts, WillGive-end, StaysShort-by, items_left-by, CameFirst-composed, Goes-item}
+use Rattle.normalizer_iterators.proofs.CompositionLemmas.{Becomes, WillGive-by, WillGive-parts, WillGive-end, StaysShort-by, items_left-by, CameFirst-composed, IsEnded-parts}
 
-module _ {I : Type 0} (can : I → Type 0) (gives : I → Option ℕ → I → Type 0) (left : I → Count) where
+module _ {I : Type 0} (from : Source I) where
   composed_before : (d : Reading) (ahead : Ahead) → IsBeforeStarter ahead → (y : List ℕ) → composed_ahead d ahead y ≡ compose_by_starters d y
   composed_before d NoStarter before y = refl
   composed_before d Passed before y = refl
   composed_before d (Starter a) before y = absurd before
-  composed_before d Ended before y = absurd before
-
-  asked_before : (ahead : Ahead) → IsBeforeStarter ahead → (P : Type 0) → UnlessEnded ahead P → P
-  asked_before NoStarter before P h = h
-  asked_before Passed before P h = h
-  asked_before (Starter a) before P h = h
-  asked_before Ended before P h = absurd before
-
-  given_before : (ahead : Ahead) → IsBeforeStarter ahead → (P : Type 0) → P → UnlessEnded ahead P
-  given_before NoStarter before P h = h
-  given_before Passed before P h = h
-  given_before (Starter a) before P h = h
-  given_before Ended before P h = absurd before
 
   left_before : (ahead : Ahead) → IsBeforeStarter ahead → (n : ℕ) → ahead_left ahead n ≡ n
   left_before NoStarter before n = refl
   left_before Passed before n = refl
   left_before (Starter a) before n = absurd before
-  left_before Ended before n = absurd before
 
   module _ (s : Composition I) (before : IsBeforeStarter s.ahead) (none : staying s.marks ≡ []) where
-    not_ended : s.ahead ≡ Ended → ⊥
-    not_ended is = subst IsBeforeStarter is before
-
-    source_before : {out : List ℕ} → (h : WillGive (Spells gives) s out) → decomposition.WillGive (Spells gives) s.decomposed h.unread
-    source_before h = asked_before s.ahead before (decomposition.WillGive (Spells gives) s.decomposed h.unread) h.source
-
-    short_before : StaysShort gives s → GivesShort gives (pairing_by s) s.decomposed
-    short_before h = asked_before s.ahead before (GivesShort gives (pairing_by s) s.decomposed) h
-
-    text_before : (out : List ℕ) (h : WillGive (Spells gives) s out) → out ≡ compose_by_starters (pairing_by s) h.unread
+    text_before : (out : List ℕ) (h : WillGive (Spells from.next_gives) s out) → out ≡ compose_by_starters (pairing_by s) h.unread
     text_before out h =
         let d = pairing_by s in
         h.text ∙ ap (λ l. staying s.marks ++ l) (composed_before d s.ahead before h.unread) ∙ ap (λ l. l ++ compose_by_starters d h.unread) none
@@ -70,16 +47,16 @@ module _ {I : Type 0} (can : I → Type 0) (gives : I → Option ℕ → I → T
         let d = pairing_by s in
         record {
           unread = y;
-          source = given_before s.ahead before (decomposition.WillGive Comes s.decomposed y) h;
+          source = h;
           text = sym (ap (λ l. staying s.marks ++ l) (composed_before d s.ahead before y) ∙ ap (λ l. l ++ compose_by_starters d y) none ∙ composed);
         }
 
-    left_in_source : items_left left s ≡ decomposition.items_left left s.decomposed
-    left_in_source = omega (arith, ap length none, left_before s.ahead before (decomposition.items_left left s.decomposed))
+    left_in_source : items_left from.remaining s ≡ decomposition.items_left from.remaining s.decomposed
+    left_in_source = omega (arith, ap length none, left_before s.ahead before (decomposition.items_left from.remaining s.decomposed))
 
     -- a starter is next
-    pub Steps-first_starter : (c : ℕ) (n : Decomposition I) (r : Result ℕ NormalizeError) (t : Composition I) → decomposition.DecompositionSteps can gives left s.decomposed (Some (Ok c)) n
-        → IsStarter (pairing_by s) c → ComposesOn can gives left c n s.pairs.now r t → CompositionSteps can gives left s (Some r) t
+    pub Steps-first_starter : (c : ℕ) (n : Decomposition I) (r : Result ℕ NormalizeError) (t : Composition I) → decomposition.DecompositionSteps from s.decomposed (Some (Ok c)) n
+        → IsStarter (pairing_by s) c → ComposesOn from c n s.pairs.now r t → CompositionSteps from s (Some r) t
     Steps-first_starter c n r t step starter on =
         let d = pairing_by s in
         let same_after : (y : List ℕ) → compose_after d c [] y ≡ compose_after (reading_by n.characters Dropped s.pairs.now) c [] y
@@ -87,127 +64,115 @@ module _ {I : Type 0} (can : I → Type 0) (gives : I → Option ℕ → I → T
         record {
           item = record {
             first = λ out h.
-                let next = step.item.first h.unread (source_before h) in
+                let next = step.item.first h.unread h.source in
                 let text : out ≡ compose_after d c [] next.0 = text_before out h ∙ ap (compose_by_starters d) next.1 ∙ compose_by_starters-starter d c next.0 starter in
-                subst (λ o. MatchResult r (GaveFirst (WillGive (Spells gives)) o t) (λ _. WillGive (Spells gives) t [])) (sym (text ∙ same_after next.0)) (on.first next.0 next.2);
+                subst (λ o. MatchResult r (GaveFirst (WillGive (Spells from.next_gives)) o t) (λ _. WillGive (Spells from.next_gives) t [])) (sym (text ∙ same_after next.0)) (on.first next.0 next.2);
             fault = on.fault;
-            room = λ h. on.room (subst (λ k. GivesShort gives (reading_by k Dropped s.pairs.now) n) (sym step.kept.0) (GivesShort-next can gives left d s.decomposed c n step (short_before h)).0);
+            room = λ h. on.room (subst (λ k. GivesShort from.next_gives (reading_by k Dropped s.pairs.now) n) (sym step.kept.0) (GivesShort-next from d s.decomposed c n step h).0);
             ends = on.ends;
-            stays = λ h. absurd (not_ended h.0);
+            stays = λ h. cc (step.item.stays h.2);
           };
-          came = λ e. CameFirst-composed can gives left s t e n (reading_by n.characters Dropped s.pairs.now) c r (on.came e)
-              (λ y out h composed. may_come (MayGive gives e) (c ∷ y) out (step.came e y h) (compose_by_starters-starter d c y starter ∙ same_after y ∙ composed));
+          came = λ e. CameFirst-composed from s t e n (reading_by n.characters Dropped s.pairs.now) c r (on.came e)
+              (λ y out h composed. may_come (MayGive from.next_gives e) (c ∷ y) out (step.came e y h) (compose_by_starters-starter d c y starter ∙ same_after y ∙ composed));
           ready = λ _. on.ready;
           kept = (on.kept.0 ∙ step.kept.0, on.kept.1);
+          fewer = omega (arith, on.fewer, step.fewer, left_in_source);
         }
 
-    pub Goes-first_starter : (c : ℕ) (n : Decomposition I) (r : Result ℕ NormalizeError) (t : Composition I) → YieldsStarter can gives left s.decomposed c n
-        → ComposesOn can gives left c n s.pairs.now r t → MakesProgress {A = Result ℕ NormalizeError} (CanCompose can left) (λ v. at_most (items_left left v)) s (Some r) t
-    Goes-first_starter c n r t given on = Goes-item can gives left s r t on.ready (omega (arith, on.fewer, given.fewer, left_in_source))
-
     module _ (t : Composition I) where
-      pub Steps-fault : (e : NormalizeError) → Becomes s [] Ended t → decomposition.DecompositionSteps can gives left s.decomposed (Some (Err e)) t.decomposed
-          → CompositionSteps can gives left s (Some (Err e)) t
+      pub Steps-fault : (e : NormalizeError) → Becomes s [] NoStarter t → decomposition.DecompositionSteps from s.decomposed (Some (Err e)) t.decomposed
+          → CompositionSteps from s (Some (Err e)) t
       Steps-fault e parts step = record {
         item = record {
-          first = λ out h. WillGive-end can gives left s t parts;
+          first = λ out h. WillGive-end from s t parts step.item.ends;
           fault = step.item.fault;
-          room = λ h. absurd (GivesShort-no_fault can gives left (pairing_by s) s.decomposed e t.decomposed step (short_before h));
-          ends = (parts.ahead, parts.marks);
-          stays = λ h. absurd (not_ended h.0);
+          room = λ h. absurd (GivesShort-no_fault from (pairing_by s) s.decomposed e t.decomposed step h);
+          ends = IsEnded-parts from s t parts step.item.ends;
+          stays = λ h. cc (step.item.stays h.2);
         };
         came = λ k. tt;
         ready = step.ready;
         kept = parts.kept;
+        fewer = omega (arith, step.fewer, left_in_source, items_left-by from s t [] NoStarter parts);
       }
 
-      pub Goes-fault : (e : NormalizeError) → Becomes s [] Ended t → CanCompose can left t → decomposition.items_left left t.decomposed < decomposition.items_left left s.decomposed
-          → MakesProgress {A = Result ℕ NormalizeError} (CanCompose can left) (λ v. at_most (items_left left v)) s (Some (Err e)) t
-      Goes-fault e parts ready fewer = Goes-item can gives left s (Err e) t ready (omega (arith, left_in_source, items_left-by can gives left s t [] Ended parts))
-
-      pub Steps-end : Becomes s [] Ended t → decomposition.DecompositionSteps can gives left s.decomposed None t.decomposed → CompositionSteps can gives left s None t
+      pub Steps-end : Becomes s [] NoStarter t → decomposition.DecompositionSteps from s.decomposed None t.decomposed → CompositionSteps from s None t
       Steps-end parts step =
           let d = pairing_by s in
           record {
             item = record {
               first = λ out h.
-                  let end = step.item.first h.unread (source_before h) in
-                  (text_before out h ∙ ap (compose_by_starters d) end.0 ∙ compose_by_starters-nil d, WillGive-end can gives left s t parts);
+                  let end = step.item.first h.unread h.source in
+                  (text_before out h ∙ ap (compose_by_starters d) end.0 ∙ compose_by_starters-nil d, WillGive-end from s t parts step.item.ends);
               fault = tt;
-              room = λ h. (tt, StaysShort-by can gives left s t [] Ended parts tt);
-              ends = (parts.ahead, parts.marks);
+              room = λ h. (tt, StaysShort-by from s t [] NoStarter parts (GivesShort-end from d s.decomposed t.decomposed step h));
+              ends = IsEnded-parts from s t parts step.item.ends;
               stays = λ h. refl;
             };
-            came = λ e. may_come (MayGive gives e) [] [] (step.came e) (compose_by_starters-nil d);
+            came = λ e. may_come (MayGive from.next_gives e) [] [] (step.came e) (compose_by_starters-nil d);
             ready = step.ready;
             kept = parts.kept;
+            fewer = tt;
           }
 
       -- a character is given as it is
-      pub Steps-passed : (c : ℕ) → Becomes s [] Passed t → PassesOn can gives left s.pairs.now s.decomposed c t.decomposed → CompositionSteps can gives left s (Some (Ok c)) t
+      pub Steps-passed : (c : ℕ) → Becomes s [] Passed t → PassesOn from s.pairs.now s.decomposed c t.decomposed → CompositionSteps from s (Some (Ok c)) t
       Steps-passed c parts on =
           let d = pairing_by s in
           record {
             item = record {
               first = λ out h.
-                  let next = on.text h.unread (source_before h) in (
+                  let next = on.text h.unread h.source in (
                     compose_by_starters d next.1,
                     text_before out h ∙ next.3,
-                    WillGive-by can gives left s t [] Passed parts _ (record { unread = next.1; source = next.4; text = refl }),
+                    WillGive-by from s t [] Passed parts _ (record { unread = next.1; source = next.4; text = refl }),
                   );
               fault = tt;
               room = λ h.
-                  let short = short_before h in
-                  let next = on.text short.unread short.source in (
+                  let next = on.text h.unread h.source in (
                     refl,
-                    StaysShort-by can gives left s t [] Passed parts (record {
+                    StaysShort-by from s t [] Passed parts (record {
                       unread = next.1;
                       source = next.4;
-                      short = on.short short.short;
-                      runs = HasShortMarkRuns-rest d next.0 next.1 (subst (HasShortMarkRuns d) next.2 short.runs);
+                      short = on.short h.short;
+                      runs = HasShortMarkRuns-rest d next.0 next.1 (subst (HasShortMarkRuns d) next.2 h.runs);
                     }),
                   );
               ends = tt;
-              stays = λ h. absurd (not_ended h.0);
+              stays = λ h. absurd (omega (arith, on.fewer, items_left-ended from s.decomposed h.2));
             };
             came = λ e out h.
-                let b = WillGive-parts can gives left (MayGive gives e) s t [] Passed parts out h in
+                let b = WillGive-parts from (MayGive from.next_gives e) s t [] Passed parts out h in
                 let y = on.came e b.unread b.source in
-                may_come (MayGive gives e) y.0 (c ∷ out) y.1 (y.2 ∙ ap (λ l. c ∷ l) (sym b.text));
+                may_come (MayGive from.next_gives e) y.0 (c ∷ out) y.1 (y.2 ∙ ap (λ l. c ∷ l) (sym b.text));
             ready = λ _. on.ready;
             kept = parts.kept;
+            fewer = omega (arith, on.fewer, left_in_source, items_left-by from s t [] Passed parts);
           }
 
-      pub Goes-passed : (c : ℕ) → Becomes s [] Passed t → PassesOn can gives left s.pairs.now s.decomposed c t.decomposed
-          → MakesProgress {A = Result ℕ NormalizeError} (CanCompose can left) (λ v. at_most (items_left left v)) s (Some (Ok c)) t
-      Goes-passed c parts on = Goes-item can gives left s (Ok c) t on.ready (omega (arith, on.fewer, left_in_source, items_left-by can gives left s t [] Passed parts))
-
       -- a mark is given before any starter
-      pub Steps-leading_mark : (c : ℕ) → Becomes s [] NoStarter t → decomposition.DecompositionSteps can gives left s.decomposed (Some (Ok c)) t.decomposed → IsMark (pairing_by s) c
-          → CompositionSteps can gives left s (Some (Ok c)) t
+      pub Steps-leading_mark : (c : ℕ) → Becomes s [] NoStarter t → decomposition.DecompositionSteps from s.decomposed (Some (Ok c)) t.decomposed → IsMark (pairing_by s) c
+          → CompositionSteps from s (Some (Ok c)) t
       Steps-leading_mark c parts step mark =
           let d = pairing_by s in
           record {
             item = record {
               first = λ out h.
-                  let next = step.item.first h.unread (source_before h) in (
+                  let next = step.item.first h.unread h.source in (
                     compose_by_starters d next.0,
                     text_before out h ∙ ap (compose_by_starters d) next.1 ∙ compose_by_starters-mark d c next.0 mark,
-                    WillGive-by can gives left s t [] NoStarter parts _ (record { unread = next.0; source = next.2; text = refl }),
+                    WillGive-by from s t [] NoStarter parts _ (record { unread = next.0; source = next.2; text = refl }),
                   );
               fault = tt;
-              room = λ h. (refl, StaysShort-by can gives left s t [] NoStarter parts (GivesShort-next can gives left d s.decomposed c t.decomposed step (short_before h)).0);
+              room = λ h. (refl, StaysShort-by from s t [] NoStarter parts (GivesShort-next from d s.decomposed c t.decomposed step h).0);
               ends = tt;
-              stays = λ h. absurd (not_ended h.0);
+              stays = λ h. cc (step.item.stays h.2);
             };
             came = λ e out h.
-                let b = WillGive-parts can gives left (MayGive gives e) s t [] NoStarter parts out h in
-                may_come (MayGive gives e) (c ∷ b.unread) (c ∷ out) (step.came e b.unread b.source)
+                let b = WillGive-parts from (MayGive from.next_gives e) s t [] NoStarter parts out h in
+                may_come (MayGive from.next_gives e) (c ∷ b.unread) (c ∷ out) (step.came e b.unread b.source)
                 (compose_by_starters-mark d c b.unread mark ∙ ap (λ l. c ∷ l) (sym b.text));
             ready = step.ready;
             kept = parts.kept;
+            fewer = omega (arith, step.fewer, left_in_source, items_left-by from s t [] NoStarter parts);
           }
-
-      pub Goes-leading_mark : (c : ℕ) → Becomes s [] NoStarter t → CanCompose can left t → decomposition.items_left left t.decomposed < decomposition.items_left left s.decomposed
-          → MakesProgress {A = Result ℕ NormalizeError} (CanCompose can left) (λ v. at_most (items_left left v)) s (Some (Ok c)) t
-      Goes-leading_mark c parts ready fewer = Goes-item can gives left s (Ok c) t ready (omega (arith, left_in_source, items_left-by can gives left s t [] NoStarter parts))

@@ -1,21 +1,24 @@
 -- What is still to come of a composition, from one item to the next.
 use Rattle.std.proofs.Common.{◌≡◌, ℕ, ◌+◌, ◌<◌, List, [], ◌++◌, length, Option, Some, None, Result, Ok, Err, OnSome, MatchResult, IfOk, refl, sym, ap, ◌∙◌, ◌∷◌, subst, arith}
-use Rattle.std.specs.Iterator.{Count, IsFinite, at_most, MakesProgress}
+use Rattle.std.specs.Iterator.{at_most, MakesProgress}
 use Rattle.normal_forms.specs.Reading.{Reading}
 use Rattle.normal_forms.specs.CompositionByStarters.{compose_after}
 use Rattle.normalizer_text.specs.Steps.{Spells}
 use Rattle.normalizer_iterators.specs.declared.composition.Ahead.{Ahead}
-use Rattle.normalizer_iterators.specs.declared.composition.Ahead.TheVariants.{Starter, Ended}
+use Rattle.normalizer_iterators.specs.declared.composition.Ahead.TheVariants.{NoStarter, Starter}
 use Rattle.normalizer_iterators.specs.declared.composition.Composition.{Composition}
 use Rattle.normalizer_iterators.specs.declared.decomposition.Decomposition.{Decomposition}
 use Rattle.normalizer_iterators.specs.declared.error.NormalizeError.{NormalizeError}
 use Rattle.normalizer_iterators.specs.declared.error.NormalizeError.TheVariants.{Memory}
 use Rattle.normalizer_iterators.specs.Decomposition as decomposition
-use Rattle.normalizer_iterators.specs.Delegate.{Extent, MayGive}
+use Rattle.normalizer_iterators.specs.Delegate.{Extent, MayGive, Source}
 use Rattle.normalizer_iterators.specs.NextItem.{CameFirst, GaveFirst}
 use Rattle.normalizer_iterators.specs.StayingMarks.{staying}
-use Rattle.normalizer_iterators.specs.Composing.{composed_ahead, ahead_left, UnlessEnded, WillGiveBehind, GivesShort, ComposesStarter}
-use Rattle.normalizer_iterators.specs.Composition.{CanCompose, ComposesOn, CompositionSteps, StaysShort, WillGive, items_left, pairing_by}
+use Rattle.normalizer_iterators.specs.Composing.{composed_ahead, ahead_left, IsBeforeStarter, WillGiveBehind, GivesShort, ComposesStarter}
+use Rattle.normalizer_iterators.specs.Composition.{CanCompose, ComposesOn, CompositionSteps, IsEnded, StaysShort, WillGive, items_left, pairing_by}
+use Rattle.normal_forms.proofs.ComposeLemmas.{compose_by_starters-nil}
+use Rattle.normalizer_iterators.proofs.DecompositionLemmas.{ended, items_left-ended}
+use Rattle.normalizer_iterators.proofs.ProgressLemmas.{MakesProgress-fewer}
 use Rattle.normalizer_tables.specs.Readings.{reading_by}
 use Rattle.normalizer_tables.specs.declared.characters.IgnoredCharacters.TheVariants.{Dropped}
 
@@ -35,15 +38,15 @@ module _ {I : Type 0} where
   Becomes-marks : (s t : Composition I) → KeepsButMarks s t → Becomes s (staying t.marks) s.ahead t
   Becomes-marks s t same = record { kept = (ap (λ n. n.characters) same.decomposed, same.pairs); marks = refl; ahead = same.ahead }
 
-module _ {I : Type 0} (can : I → Type 0) (gives : I → Option ℕ → I → Type 0) (left : I → Count) where
+module _ {I : Type 0} (from : Source I) where
   -- ---- the same reading under another name
 
-  pub behind_by : (d e : Reading) (marks : List ℕ) (ahead : Ahead) (n : Decomposition I) (out : List ℕ) → d ≡ e → WillGiveBehind (Spells gives) e marks ahead n out
-      → WillGiveBehind (Spells gives) d marks ahead n out
-  behind_by d e marks ahead n out same h = subst (λ k. WillGiveBehind (Spells gives) k marks ahead n out) (sym same) h
+  pub behind_by : (d e : Reading) (marks : List ℕ) (ahead : Ahead) (n : Decomposition I) (out : List ℕ) → d ≡ e → WillGiveBehind (Spells from.next_gives) e marks ahead n out
+      → WillGiveBehind (Spells from.next_gives) d marks ahead n out
+  behind_by d e marks ahead n out same h = subst (λ k. WillGiveBehind (Spells from.next_gives) k marks ahead n out) (sym same) h
 
-  pub short_by : (d e : Reading) (ahead : Ahead) (n : Decomposition I) → d ≡ e → UnlessEnded ahead (GivesShort gives e n) → UnlessEnded ahead (GivesShort gives d n)
-  short_by d e ahead n same h = subst (λ k. UnlessEnded ahead (GivesShort gives k n)) (sym same) h
+  pub short_by : (d e : Reading) (n : Decomposition I) → d ≡ e → GivesShort from.next_gives e n → GivesShort from.next_gives d n
+  short_by d e n same h = subst (λ k. GivesShort from.next_gives k n) (sym same) h
 
   -- ---- what is to come, by the parts
 
@@ -51,11 +54,11 @@ module _ {I : Type 0} (can : I → Type 0) (gives : I → Option ℕ → I → T
   pairing_by-kept s t kept = ap (λ k. reading_by k Dropped t.pairs.now) kept.0 ∙ ap (reading_by s.decomposed.characters Dropped) kept.1
 
   pub WillGive-by : (s t : Composition I) (front : List ℕ) (behind : Ahead) → Becomes s front behind t → (out : List ℕ)
-      → WillGiveBehind (Spells gives) (pairing_by s) front behind t.decomposed out → WillGive (Spells gives) t out
+      → WillGiveBehind (Spells from.next_gives) (pairing_by s) front behind t.decomposed out → WillGive (Spells from.next_gives) t out
   WillGive-by s t front behind parts out h =
       behind_by (pairing_by t) (pairing_by s) (staying t.marks) t.ahead t.decomposed out (pairing_by-kept s t parts.kept)
-      (subst (λ l. WillGiveBehind (Spells gives) (pairing_by s) l t.ahead t.decomposed out) (sym parts.marks)
-      (subst (λ a. WillGiveBehind (Spells gives) (pairing_by s) front a t.decomposed out) (sym parts.ahead) h))
+      (subst (λ l. WillGiveBehind (Spells from.next_gives) (pairing_by s) l t.ahead t.decomposed out) (sym parts.marks)
+      (subst (λ a. WillGiveBehind (Spells from.next_gives) (pairing_by s) front a t.decomposed out) (sym parts.ahead) h))
 
   pub WillGive-parts : (Comes : I → List ℕ → Type 0) (s t : Composition I) (front : List ℕ) (behind : Ahead) → Becomes s front behind t → (out : List ℕ)
       → WillGive Comes t out → WillGiveBehind Comes (pairing_by s) front behind t.decomposed out
@@ -73,31 +76,33 @@ module _ {I : Type 0} (can : I → Type 0) (gives : I → Option ℕ → I → T
 
   -- a starter was composed
   pub CameFirst-composed : (s t : Composition I) (e : Extent) (n : Decomposition I) (d : Reading) (a : ℕ) (r : Result ℕ NormalizeError)
-      → IfOk r (λ c. (rest : List ℕ) → WillGive (MayGive gives e) t rest → (y : List ℕ) × decomposition.WillGive (MayGive gives e) n y × (compose_after d a [] y ≡ c ∷ rest))
-      → ((y out : List ℕ) → decomposition.WillGive (MayGive gives e) n y → compose_after d a [] y ≡ out → WillGive (MayGive gives e) s out) → CameFirst (WillGive (MayGive gives e)) s (Some r) t
+      → IfOk r (λ c. (rest : List ℕ) → WillGive (MayGive from.next_gives e) t rest → (y : List ℕ) × decomposition.WillGive (MayGive from.next_gives e) n y × (compose_after d a [] y ≡ c ∷ rest))
+      → ((y out : List ℕ) → decomposition.WillGive (MayGive from.next_gives e) n y → compose_after d a [] y ≡ out → WillGive (MayGive from.next_gives e) s out) → CameFirst (WillGive (MayGive from.next_gives e)) s (Some r) t
   CameFirst-composed s t e n d a (Ok c) on back = λ out h. let y = on out h in back y.0 (c ∷ out) y.1 y.2
   CameFirst-composed s t e n d a (Err k) on back = tt
 
-  pub StaysShort-by : (s t : Composition I) (front : List ℕ) (behind : Ahead) → Becomes s front behind t → UnlessEnded behind (GivesShort gives (pairing_by s) t.decomposed) → StaysShort gives t
-  StaysShort-by s t front behind parts h =
-      short_by (pairing_by t) (pairing_by s) t.ahead t.decomposed (pairing_by-kept s t parts.kept)
-      (subst (λ a. UnlessEnded a (GivesShort gives (pairing_by s) t.decomposed)) (sym parts.ahead) h)
+  pub StaysShort-by : (s t : Composition I) (front : List ℕ) (behind : Ahead) → Becomes s front behind t → GivesShort from.next_gives (pairing_by s) t.decomposed → StaysShort from.next_gives t
+  StaysShort-by s t front behind parts h = short_by (pairing_by t) (pairing_by s) t.decomposed (pairing_by-kept s t parts.kept) h
 
-  pub items_left-by : (s t : Composition I) (front : List ℕ) (behind : Ahead) → Becomes s front behind t → items_left left t ≡ length front + ahead_left behind (decomposition.items_left left t.decomposed)
+  pub items_left-by : (s t : Composition I) (front : List ℕ) (behind : Ahead) → Becomes s front behind t → items_left from.remaining t ≡ length front + ahead_left behind (decomposition.items_left from.remaining t.decomposed)
   items_left-by s t front behind parts = rw (parts.marks, parts.ahead) refl
 
   -- nothing is to come
-  pub WillGive-end : (s t : Composition I) → Becomes s [] Ended t → WillGive (Spells gives) t []
-  WillGive-end s t parts = WillGive-by s t [] Ended parts [] (record { unread = []; source = tt; text = refl })
+  pub WillGive-end : (s t : Composition I) → Becomes s [] NoStarter t → decomposition.IsEnded t.decomposed → WillGive (Spells from.next_gives) t []
+  WillGive-end s t parts end = WillGive-by s t [] NoStarter parts []
+      (record { unread = []; source = ended from (Spells from.next_gives) t.decomposed end.0 end.1; text = sym (compose_by_starters-nil (pairing_by s)) })
+
+  pub IsEnded-parts : (s t : Composition I) → Becomes s [] NoStarter t → decomposition.IsEnded t.decomposed → IsEnded t
+  IsEnded-parts s t parts end = (subst IsBeforeStarter (sym parts.ahead) tt, parts.marks, end)
 
   -- ---- a starter is composed, or a fault comes
 
   pub ComposesOn-given : (starter : ℕ) (s t : Composition I) (composite : ℕ) (marks : List ℕ) (ahead : Ahead) → Becomes s marks ahead t
-      → ComposesStarter gives left (pairing_by s) starter s.decomposed composite marks ahead t.decomposed → CanCompose can left t
-      → ComposesOn can gives left starter s.decomposed s.pairs.now (Ok composite) t
+      → ComposesStarter from.next_gives from.remaining (pairing_by s) starter s.decomposed composite marks ahead t.decomposed → CanCompose from.can_next from.remaining t
+      → ComposesOn from starter s.decomposed s.pairs.now (Ok composite) t
   ComposesOn-given starter s t composite marks ahead parts composes ready = record {
     first = λ y h. let text = composes.text y h in (text.0, text.1, WillGive-by s t marks ahead parts text.0 text.2);
-    came = λ e rest h. composes.came e rest (WillGive-parts (MayGive gives e) s t marks ahead parts rest h);
+    came = λ e rest h. composes.came e rest (WillGive-parts (MayGive from.next_gives e) s t marks ahead parts rest h);
     fault = tt;
     room = λ h. (refl, StaysShort-by s t marks ahead parts (composes.short h));
     ends = tt;
@@ -106,22 +111,22 @@ module _ {I : Type 0} (can : I → Type 0) (gives : I → Option ℕ → I → T
     kept = parts.kept;
   }
 
-  pub ComposesOn-fault : (starter : ℕ) (s t : Composition I) (e : NormalizeError) → Becomes s [] Ended t → e ≡ Memory → (GivesShort gives (pairing_by s) s.decomposed → ⊥) → CanCompose can left t
-      → ComposesOn can gives left starter s.decomposed s.pairs.now (Err e) t
-  ComposesOn-fault starter s t e parts memory long ready = record {
-    first = λ y h. WillGive-end s t parts;
+  pub ComposesOn-fault : (starter : ℕ) (s t : Composition I) (e : NormalizeError) → Becomes s [] NoStarter t → decomposition.IsEnded t.decomposed → e ≡ Memory
+      → (GivesShort from.next_gives (pairing_by s) s.decomposed → ⊥) → ComposesOn from starter s.decomposed s.pairs.now (Err e) t
+  ComposesOn-fault starter s t e parts end memory long = record {
+    first = λ y h. WillGive-end s t parts end;
     came = λ e. tt;
     fault = memory;
     room = λ h. absurd (long h);
-    ends = (parts.ahead, parts.marks);
-    ready = ready;
-    fewer = omega (arith, items_left-by s t [] Ended parts);
+    ends = IsEnded-parts s t parts end;
+    ready = rw end.0 tt;
+    fewer = omega (arith, items_left-by s t [] NoStarter parts, items_left-ended from t.decomposed end);
     kept = parts.kept;
   }
 
   -- ---- a mark is given
 
-  pub Steps-mark : (s t : Composition I) (c : ℕ) → KeepsButMarks s t → staying s.marks ≡ c ∷ staying t.marks → CompositionSteps can gives left s (Some (Ok c)) t
+  pub Steps-mark : (s t : Composition I) (c : ℕ) → KeepsButMarks s t → staying s.marks ≡ c ∷ staying t.marks → CompositionSteps from s (Some (Ok c)) t
   Steps-mark s t c same front =
       let parts = Becomes-marks s t same in
       record {
@@ -138,68 +143,46 @@ module _ {I : Type 0} (can : I → Type 0) (gives : I → Option ℕ → I → T
         };
         came = λ e out h.
             let d = pairing_by s in
-            let b : WillGiveBehind (MayGive gives e) d (staying t.marks) s.ahead s.decomposed out =
-            subst (λ n. WillGiveBehind (MayGive gives e) d (staying t.marks) s.ahead n out) same.decomposed
-            (WillGive-parts (MayGive gives e) s t (staying t.marks) s.ahead parts out h) in
+            let b : WillGiveBehind (MayGive from.next_gives e) d (staying t.marks) s.ahead s.decomposed out =
+            subst (λ n. WillGiveBehind (MayGive from.next_gives e) d (staying t.marks) s.ahead n out) same.decomposed
+            (WillGive-parts (MayGive from.next_gives e) s t (staying t.marks) s.ahead parts out h) in
             record { unread = b.unread; source = b.source; text = ap (λ l. c ∷ l) b.text ∙ ap (λ l. l ++ composed_ahead d s.ahead b.unread) (sym front) };
         ready = λ h. rw same.decomposed h;
         kept = parts.kept;
-      }
-
-  -- ---- the end is reached
-
-  pub Steps-ended : (s t : Composition I) → KeepsButMarks s t → s.ahead ≡ Ended → staying s.marks ≡ [] → staying t.marks ≡ [] → CompositionSteps can gives left s None t
-  Steps-ended s t same is none none_left =
-      let parts = Becomes-marks s t same in
-      let after : Becomes s [] Ended t = record { kept = parts.kept; marks = none_left; ahead = same.ahead ∙ is } in
-      record {
-        item = record {
-          first = λ out h. (h.text ∙ ap (λ a. staying s.marks ++ composed_ahead (pairing_by s) a h.unread) is ∙ ap (λ l. l ++ []) none, WillGive-end s t after);
-          fault = tt;
-          room = λ h. (tt, StaysShort-by s t [] Ended after tt);
-          ends = (after.ahead, none_left);
-          stays = λ h. refl;
-        };
-        came = λ e. record {
-          unread = [];
-          source = subst (λ a. UnlessEnded a (decomposition.WillGive (MayGive gives e) s.decomposed [])) (sym is) tt;
-          text = sym (ap (λ a. staying s.marks ++ composed_ahead (pairing_by s) a []) is ∙ ap (λ l. l ++ []) none);
-        };
-        ready = λ h. rw same.decomposed h;
-        kept = parts.kept;
+        fewer = omega (arith, ap length front, items_left-by s t (staying t.marks) s.ahead parts, ap (λ n. ahead_left s.ahead (decomposition.items_left from.remaining n)) same.decomposed);
       }
 
   -- ---- there is a starter
 
-  pub Steps-starter : (s t : Composition I) (a : ℕ) (r : Result ℕ NormalizeError) → staying s.marks ≡ [] → ComposesOn can gives left a s.decomposed s.pairs.now r t → s.ahead ≡ Starter a
-      → CompositionSteps can gives left s (Some r) t
+  pub Steps-starter : (s t : Composition I) (a : ℕ) (r : Result ℕ NormalizeError) → staying s.marks ≡ [] → ComposesOn from a s.decomposed s.pairs.now r t → s.ahead ≡ Starter a
+      → CompositionSteps from s (Some r) t
   Steps-starter s t a r none on is =
       let d = pairing_by s in
       record {
         item = record {
           first = λ out h.
-              let source = subst (λ b. UnlessEnded b (decomposition.WillGive (Spells gives) s.decomposed h.unread)) is h.source in
               let text : out ≡ compose_after d a [] h.unread = h.text ∙ ap (λ b. staying s.marks ++ composed_ahead d b h.unread) is ∙ ap (λ l. l ++ compose_after d a [] h.unread) none in
-              subst (λ o. MatchResult r (GaveFirst (WillGive (Spells gives)) o t) (λ _. WillGive (Spells gives) t [])) (sym text) (on.first h.unread source);
+              subst (λ o. MatchResult r (GaveFirst (WillGive (Spells from.next_gives)) o t) (λ _. WillGive (Spells from.next_gives) t [])) (sym text) (on.first h.unread h.source);
           fault = on.fault;
-          room = λ h. on.room (subst (λ b. UnlessEnded b (GivesShort gives d s.decomposed)) is h);
+          room = on.room;
           ends = on.ends;
-          stays = λ h. cc (h.0, is);
+          stays = λ h. absurd (subst IsBeforeStarter is h.0);
         };
         came = λ e. CameFirst-composed s t e s.decomposed d a r (on.came e) (λ y out h composed. record {
           unread = y;
-          source = subst (λ b. UnlessEnded b (decomposition.WillGive (MayGive gives e) s.decomposed y)) (sym is) h;
+          source = h;
           text = sym (ap (λ b. staying s.marks ++ composed_ahead d b y) is ∙ ap (λ l. l ++ compose_after d a [] y) none ∙ composed);
         });
         ready = λ _. on.ready;
         kept = on.kept;
+        fewer = omega (arith, on.fewer, ap length none, ap (λ b. ahead_left b (decomposition.items_left from.remaining s.decomposed)) is);
       }
 
   -- ---- fewer are left
 
-  pub Goes-item : (s : Composition I) (r : Result ℕ NormalizeError) (t : Composition I) → CanCompose can left t → items_left left t < items_left left s
-      → MakesProgress {A = Result ℕ NormalizeError} (CanCompose can left) (λ v. at_most (items_left left v)) s (Some r) t
-  Goes-item s r t ready fewer = record { on = λ finite. (ready, tt, fewer); keeps = ready; rests = λ finite. tt }
+  pub Goes : (s : Composition I) (r : Option (Result ℕ NormalizeError)) (t : Composition I) → CanCompose from.can_next from.remaining s → CompositionSteps from s r t
+      → MakesProgress {A = Result ℕ NormalizeError} (CanCompose from.can_next from.remaining) (λ v. at_most (items_left from.remaining v)) s r t
+  Goes s r t ready step = MakesProgress-fewer (CanCompose from.can_next from.remaining) (items_left from.remaining) s r t (step.ready ready) step.fewer
 
   -- ---- if no mark is yielded first, it doesn't matter how many were
 
@@ -214,7 +197,10 @@ module _ {I : Type 0} (can : I → Type 0) (gives : I → Option ℕ → I → T
         subst (λ n. WillGiveBehind Comes d [] s.ahead n out) same.decomposed (WillGive-parts Comes s u [] s.ahead without_marks out h) in
         record { unread = b.unread; source = b.source; text = b.text ∙ ap (λ l. l ++ composed_ahead d s.ahead b.unread) (sym none) }
 
-    pub Steps-marks : (r : Option (Result ℕ NormalizeError)) (t : Composition I) → CompositionSteps can gives left u r t → CompositionSteps can gives left s r t
+    as_many : items_left from.remaining u ≡ items_left from.remaining s
+    as_many = omega (arith, ap length none, items_left-by s u [] s.ahead without_marks, ap (λ n. ahead_left s.ahead (decomposition.items_left from.remaining n)) same.decomposed)
+
+    pub Steps-marks : (r : Option (Result ℕ NormalizeError)) (t : Composition I) → CompositionSteps from u r t → CompositionSteps from s r t
     Steps-marks r t step = record {
       item = record {
         first = λ out h. step.item.first out (WillGive-by s u [] s.ahead without_marks out (rw same.decomposed
@@ -222,21 +208,10 @@ module _ {I : Type 0} (can : I → Type 0) (gives : I → Option ℕ → I → T
         fault = step.item.fault;
         room = λ h. step.item.room (StaysShort-by s u [] s.ahead without_marks (rw same.decomposed h));
         ends = step.item.ends;
-        stays = λ h. step.item.stays (same.ahead ∙ h.0, none_left);
+        stays = λ h. step.item.stays (subst IsBeforeStarter (sym same.ahead) h.0, none_left, subst decomposition.IsEnded (sym same.decomposed) h.2);
       };
-      came = λ e. CameFirst-by (WillGive (MayGive gives e)) s u r t (without_marks_back (MayGive gives e)) (step.came e);
+      came = λ e. CameFirst-by (WillGive (MayGive from.next_gives e)) s u r t (without_marks_back (MayGive from.next_gives e)) (step.came e);
       ready = λ h. step.ready (rw same.decomposed h);
       kept = (step.kept.0 ∙ without_marks.kept.0, step.kept.1 ∙ same.pairs);
+      fewer = subst (λ n. OnSome r (items_left from.remaining t < n)) as_many step.fewer;
     }
-
-    pub Goes-marks : (r : Option (Result ℕ NormalizeError)) (t : Composition I)
-        → MakesProgress {A = Result ℕ NormalizeError} (CanCompose can left) (λ v. at_most (items_left left v)) u r t
-        → MakesProgress {A = Result ℕ NormalizeError} (CanCompose can left) (λ v. at_most (items_left left v)) s r t
-    Goes-marks r t goes =
-        let as_many : items_left left u ≡ items_left left s =
-        omega (arith, ap length none, items_left-by s u [] s.ahead without_marks, ap (λ n. ahead_left s.ahead (decomposition.items_left left n)) same.decomposed) in
-        record {
-          on = λ finite. subst (λ n. OnSome r (CanCompose can left t × IsFinite (at_most (items_left left t)) × (items_left left t < n))) as_many (goes.on tt);
-          keeps = goes.keeps;
-          rests = goes.rests;
-        }

@@ -2,7 +2,7 @@
 use Rattle.std.proofs.Common.{◌≡◌, ℕ, Bool, IfOk, IsOk, IsOkUnless, List, [], ◌∷◌, ◌++◌, map, Option, Some}
 use Rattle.std.proofs.Common.{None, Result, Ok, Err, All, MatchOption, MatchResult, option_to_list, refl, sym, ap, subst, append-nil, ◌∙◌}
 use Rattle.std.proofs.lemmas.List.Elements.{All-nil, All-cons, All-head, All-tail}
-use Rattle.std.specs.Iterator.{Count, Yields}
+use Rattle.std.specs.Iterator.{Yields}
 use Rattle.normal_forms.specs.Forms.{nfd}
 use Rattle.normal_forms.specs.Reading.{Reading}
 use Rattle.normal_forms.specs.ShortRuns.{HasShortRuns}
@@ -12,14 +12,12 @@ use Rattle.normalizer_iterators.specs.Composition as composition
 use Rattle.normalizer_iterators.specs.Composition.{CompositionSteps, pairing_by}
 use Rattle.normalizer_iterators.specs.StayingMarks.{staying}
 use Rattle.normalizer_iterators.specs.WaitingList.{ordered}
-use Rattle.normalizer_iterators.specs.declared.composition.Ahead.{Ahead}
-use Rattle.normalizer_iterators.specs.declared.composition.Ahead.TheVariants.{NoStarter, Passed, Starter, Ended}
 use Rattle.normalizer_iterators.specs.declared.composition.Composition.{Composition}
 use Rattle.normalizer_iterators.specs.declared.decomposition.Decomposition.{Decomposition}
 use Rattle.normalizer_iterators.specs.declared.error.NormalizeError.{NormalizeError}
 use Rattle.normalizer_iterators.specs.declared.error.NormalizeError.TheVariants.{Memory}
-use Rattle.normalizer_iterators.specs.Composing.{composed_ahead, UnlessEnded}
-use Rattle.normalizer_iterators.specs.Delegate.{ComesBehind, Extent, MayGive}
+use Rattle.normalizer_iterators.specs.Composing.{composed_ahead}
+use Rattle.normalizer_iterators.specs.Delegate.{ComesBehind, Extent, MayGive, Source}
 use Rattle.normalizer_iterators.specs.Delegate.Extent.{to_end, so_far}
 use Rattle.normalizer_iterators.specs.NextItem.{CameFirst, YieldsNext, IsFormOfSource}
 use Rattle.normalizer_iterators.specs.Items.{Answers, YieldsForm, YieldsFormOfRun, HasEnded, SpellsOk, SpellsUnless}
@@ -134,20 +132,20 @@ module _ {S : Type 0} (WillGive : S → List ℕ → Type 0) (StaysShort IsEnded
           let rest : first.0 ≡ x = cc in (cc, on t (subst (WillGive t) rest first.2) (gave.room short).1)
       at_item on (Some (Err e)) t gave = absurd (cc ((gave.room short).0))
 
-module _ {I : Type 0} (can : I → Type 0) (gives : I → Option ℕ → I → Type 0) (left : I → Count) where
+module _ {I : Type 0} (from : Source I) where
   -- a decomposition spells what is to come of it
-  pub SpellsUnless-decomposition : (s : Decomposition I) (x : List ℕ) → WillGive (Spells gives) s x → SpellsUnless (DecompositionSteps can gives left) Memory s x
-  SpellsUnless-decomposition = SpellsUnless-to_come (WillGive (Spells gives)) (StaysShort gives) IsEnded (DecompositionSteps can gives left) (λ s r t steps. steps.item)
+  pub SpellsUnless-decomposition : (s : Decomposition I) (x : List ℕ) → WillGive (Spells from.next_gives) s x → SpellsUnless (DecompositionSteps from) Memory s x
+  SpellsUnless-decomposition = SpellsUnless-to_come (WillGive (Spells from.next_gives)) (StaysShort from.next_gives) IsEnded (DecompositionSteps from) (λ s r t steps. steps.item)
 
-  pub SpellsOk-decomposition : (s : Decomposition I) (x : List ℕ) → WillGive (Spells gives) s x → StaysShort gives s → SpellsOk (DecompositionSteps can gives left) s x
-  SpellsOk-decomposition = SpellsOk-to_come (WillGive (Spells gives)) (StaysShort gives) IsEnded (DecompositionSteps can gives left) (λ s r t steps. steps.item)
+  pub SpellsOk-decomposition : (s : Decomposition I) (x : List ℕ) → WillGive (Spells from.next_gives) s x → StaysShort from.next_gives s → SpellsOk (DecompositionSteps from) s x
+  SpellsOk-decomposition = SpellsOk-to_come (WillGive (Spells from.next_gives)) (StaysShort from.next_gives) IsEnded (DecompositionSteps from) (λ s r t steps. steps.item)
 
   -- a composition spells what is to come of it
-  pub SpellsUnless-composition : (s : Composition I) (x : List ℕ) → composition.WillGive (Spells gives) s x → SpellsUnless (CompositionSteps can gives left) Memory s x
-  SpellsUnless-composition = SpellsUnless-to_come (composition.WillGive (Spells gives)) (composition.StaysShort gives) composition.IsEnded (CompositionSteps can gives left) (λ s r t steps. steps.item)
+  pub SpellsUnless-composition : (s : Composition I) (x : List ℕ) → composition.WillGive (Spells from.next_gives) s x → SpellsUnless (CompositionSteps from) Memory s x
+  SpellsUnless-composition = SpellsUnless-to_come (composition.WillGive (Spells from.next_gives)) (composition.StaysShort from.next_gives) composition.IsEnded (CompositionSteps from) (λ s r t steps. steps.item)
 
-  pub SpellsOk-composition : (s : Composition I) (x : List ℕ) → composition.WillGive (Spells gives) s x → composition.StaysShort gives s → SpellsOk (CompositionSteps can gives left) s x
-  SpellsOk-composition = SpellsOk-to_come (composition.WillGive (Spells gives)) (composition.StaysShort gives) composition.IsEnded (CompositionSteps can gives left) (λ s r t steps. steps.item)
+  pub SpellsOk-composition : (s : Composition I) (x : List ℕ) → composition.WillGive (Spells from.next_gives) s x → composition.StaysShort from.next_gives s → SpellsOk (CompositionSteps from) s x
+  SpellsOk-composition = SpellsOk-to_come (composition.WillGive (Spells from.next_gives)) (composition.StaysShort from.next_gives) composition.IsEnded (CompositionSteps from) (λ s r t steps. steps.item)
 
 -- ---- what a run yielded
 
@@ -179,41 +177,35 @@ module _ {I S : Type 0} (source_gives : I → Option ℕ → I → Type 0) (MayC
         (gave.fault, HasEnded-ended WillGive StaysShort IsEnded steps item now gave.ends);
   }
 
-module _ {I : Type 0} (can : I → Type 0) (gives : I → Option ℕ → I → Type 0) (left : I → Count) where
-  behind_may_come : (pending : Option ℕ) (u : I) → ComesBehind (MayGive gives so_far) pending u []
+module _ {I : Type 0} (from : Source I) where
+  behind_may_come : (pending : Option ℕ) (u : I) → ComesBehind (MayGive from.next_gives so_far) pending u []
   behind_may_come None u = refl
   behind_may_come (Some c) u = (u, refl)
 
-  some_decomposed : (s : Decomposition I) → (out : List ℕ) × WillGive (MayGive gives so_far) s out
+  some_decomposed : (s : Decomposition I) → (out : List ℕ) × WillGive (MayGive from.next_gives so_far) s out
   some_decomposed s = (
     ordered s.waiting ++ nfd (reading_of s) (option_to_list (pending_of s) ++ []),
     record { unread = []; source = behind_may_come (pending_of s) s.delegate; text = refl },
   )
 
-  unless_ended : (ahead : Ahead) (P : Type 0) → P → UnlessEnded ahead P
-  unless_ended NoStarter P h = h
-  unless_ended Passed P h = h
-  unless_ended (Starter a) P h = h
-  unless_ended Ended P h = tt
-
-  some_composed : (s : Composition I) → (out : List ℕ) × composition.WillGive (MayGive gives so_far) s out
+  some_composed : (s : Composition I) → (out : List ℕ) × composition.WillGive (MayGive from.next_gives so_far) s out
   some_composed s =
       let y = some_decomposed s.decomposed in (
         staying s.marks ++ composed_ahead (pairing_by s) s.ahead y.0,
-        record { unread = y.0; source = unless_ended s.ahead (WillGive (MayGive gives so_far) s.decomposed y.0) y.1; text = refl },
+        record { unread = y.0; source = y.1; text = refl },
       )
 
-  pub YieldsFormOfRun-decomposition : (form : List ℕ → List ℕ) (source : I) (it : Decomposition I) → IsFormOfSource gives (λ e. WillGive (MayGive gives e)) form source it
-      → YieldsFormOfRun gives (DecompositionSteps can gives left) form source it
+  pub YieldsFormOfRun-decomposition : (form : List ℕ → List ℕ) (source : I) (it : Decomposition I) → IsFormOfSource from.next_gives (λ e. WillGive (MayGive from.next_gives e)) form source it
+      → YieldsFormOfRun from.next_gives (DecompositionSteps from) form source it
   YieldsFormOfRun-decomposition =
-      YieldsFormOfRun-made gives (λ e. WillGive (MayGive gives e)) (WillGive (Spells gives)) (StaysShort gives) IsEnded (DecompositionSteps can gives left)
+      YieldsFormOfRun-made from.next_gives (λ e. WillGive (MayGive from.next_gives e)) (WillGive (Spells from.next_gives)) (StaysShort from.next_gives) IsEnded (DecompositionSteps from)
       (λ s r t step. step.item) (λ s r t step. step.came) some_decomposed
 
-  pub YieldsFormOfRun-composition : (form : List ℕ → List ℕ) (source : I) (it : Composition I) → IsFormOfSource gives (λ e. composition.WillGive (MayGive gives e)) form source it
-      → YieldsFormOfRun gives (CompositionSteps can gives left) form source it
+  pub YieldsFormOfRun-composition : (form : List ℕ → List ℕ) (source : I) (it : Composition I) → IsFormOfSource from.next_gives (λ e. composition.WillGive (MayGive from.next_gives e)) form source it
+      → YieldsFormOfRun from.next_gives (CompositionSteps from) form source it
   YieldsFormOfRun-composition =
-      YieldsFormOfRun-made gives (λ e. composition.WillGive (MayGive gives e)) (composition.WillGive (Spells gives)) (composition.StaysShort gives) composition.IsEnded
-      (CompositionSteps can gives left) (λ s r t step. step.item) (λ s r t step. step.came) some_composed
+      YieldsFormOfRun-made from.next_gives (λ e. composition.WillGive (MayGive from.next_gives e)) (composition.WillGive (Spells from.next_gives)) (composition.StaysShort from.next_gives) composition.IsEnded
+      (CompositionSteps from) (λ s r t step. step.item) (λ s r t step. step.came) some_composed
 
 -- ---- the result of a constructor
 

@@ -10,6 +10,7 @@ pub mod MarkRunLemmas
 pub mod PassedClasses
 pub mod PassingLemmas
 pub mod PlainLemmas
+pub mod ProgressLemmas
 pub mod ReadingLemmas
 pub mod SegmentLemmas
 pub mod ShortChunkLemmas

@@ -2,7 +2,7 @@
 use Rattle.std.proofs.Common.{◌≡◌, ℕ, ◌+◌, ◌*◌, ◌<◌, Bool, false, List, [], ◌∷◌, ◌++◌, length, refl, sym, ap, ◌∙◌, subst, arith, Option, Some, None, OnSome, MatchOption, option_to_list}
 use Rattle.std.proofs.Common.{append-nil}
 use Rattle.std.specs.Option.{ForSome}
-use Rattle.std.specs.Iterator.{Count, size, IsFinite}
+use Rattle.std.specs.Iterator.{size, IsFinite}
 use Rattle.normal_forms.specs.Reading.{Reading}
 use Rattle.normal_forms.specs.Decomposition.{expand}
 use Rattle.normal_forms.specs.Order.{order, insert, is_reorderable}
@@ -22,7 +22,7 @@ use Rattle.normalizer_tables.specs.Pairs.{Pair}
 use Rattle.normalizer_tables.specs.Readings.{reading_by}
 use Rattle.normalizer_tables.specs.declared.characters.IgnoredCharacters.TheVariants.{Dropped}
 use Rattle.normalizer_iterators.specs.declared.decomposition.Decomposition.{Decomposition}
-use Rattle.normalizer_iterators.specs.Delegate.{ComesBehind, Extent, IsReadyBehind, MayGive, SpellsBehind}
+use Rattle.normalizer_iterators.specs.Delegate.{ComesBehind, Extent, IsReadyBehind, MayGive, SpellsBehind, Source}
 use Rattle.normalizer_iterators.specs.Decomposition.{StaysShort, WillGive, pending_of, reading_of}
 use Rattle.normalizer_iterators.specs.LazyComposing.{IsPassed, StandsApart, StandsApartIn, PassedBeginAnew, SuitsLazyComposing}
 use Rattle.normalizer_iterators.specs.LazyReading.{longest_list}
@@ -31,7 +31,7 @@ use Rattle.normalizer_iterators.specs.inner.ReadingOn.{ReadsChunk}
 use Rattle.normalizer_iterators.specs.ToCome.{IsToCome, reads_left}
 use Rattle.normalizer_iterators.specs.WaitingList.{ordered}
 use Rattle.normalizer_iterators.proofs.ComposingLemmas.{nfd-reading_by, nfc-reading_by}
-use Rattle.normalizer_iterators.proofs.DecompositionLemmas.{at_some, Steps-chunk, Goes-chunk}
+use Rattle.normalizer_iterators.proofs.DecompositionLemmas.{at_some, Steps-chunk}
 use Rattle.normalizer_iterators.proofs.LazyLemmas.{continues-anew, spelled_next, MayGive-next}
 
 -- ---- characters that are normalized apart
@@ -112,7 +112,7 @@ compose_after-boundary d a p [] begins = compose_after-nil d a p ∙ sym (append
 compose_after-boundary d a p (c ∷ y) begins =
     compose_after-starter d a p c y (join-none d a p c (begins.1 a)) begins.0 ∙ ap (λ l. (a ∷ p) ++ l) (sym (compose_by_starters-starter d c y begins.0))
 
-module _ {I : Type 0} (can : I → Type 0) (gives : I → Option ℕ → I → Type 0) (left : I → Count) (pairs : List Pair) (s : Decomposition I) (here : IsAtPassed pairs s) where
+module _ {I : Type 0} (from : Source I) (pairs : List Pair) (s : Decomposition I) (here : IsAtPassed pairs s) where
   -- what is to come begins safely
   pub BeginsSafely-to_come : (Comes : I → List ℕ → Type 0) (y : List ℕ) → WillGive Comes s y → BeginsSafely (reading_by s.characters Dropped pairs) y
   BeginsSafely-to_come Comes y h =
@@ -124,19 +124,19 @@ module _ {I : Type 0} (can : I → Type 0) (gives : I → Option ℕ → I → T
     first_apart : StandsApartIn s.characters pairs s.ignored c
     first_apart = here.apart c pending
 
-    module _ (following : Option ℕ) (t : Decomposition I) (step : gives s.delegate following t.delegate)
-        (near : OnSome following (can t.delegate × IsFinite (left t.delegate) × (size (left t.delegate) < size (left s.delegate))))
+    module _ (following : Option ℕ) (t : Decomposition I) (step : from.next_gives s.delegate following t.delegate)
+        (near : OnSome following (from.can_next t.delegate × IsFinite (from.remaining t.delegate) × (size (from.remaining t.delegate) < size (from.remaining s.delegate))))
         (apart : ForSome following (StandsApartIn s.characters pairs s.ignored)) (reads : pending_of t ≡ following) (empty : ordered t.waiting ≡ []) (characters : t.characters ≡ s.characters)
         (ignored : t.ignored ≡ s.ignored) where
-      to_come : (y : List ℕ) → WillGive (Spells gives) s y → (own : List ℕ) × (rest : List ℕ) × (y ≡ own ++ rest)
-          × (compose_by_starters (reading_by s.characters Dropped pairs) y ≡ c ∷ compose_by_starters (reading_by s.characters Dropped pairs) rest) × WillGive (Spells gives) t rest
+      to_come : (y : List ℕ) → WillGive (Spells from.next_gives) s y → (own : List ℕ) × (rest : List ℕ) × (y ≡ own ++ rest)
+          × (compose_by_starters (reading_by s.characters Dropped pairs) y ≡ c ∷ compose_by_starters (reading_by s.characters Dropped pairs) rest) × WillGive (Spells from.next_gives) t rest
       to_come y h =
           let d = reading_of s in
           let D = reading_by s.characters s.ignored pairs in
-          let source : Spells gives s.delegate h.unread = subst (λ o. SpellsBehind gives o s.delegate h.unread) pending h.source in
-          let next = spelled_next gives s.delegate following t.delegate h.unread step source in
+          let source : Spells from.next_gives s.delegate h.unread = subst (λ o. SpellsBehind from.next_gives o s.delegate h.unread) pending h.source in
+          let next = spelled_next from.next_gives s.delegate following t.delegate h.unread step source in
           let rest = option_to_list following ++ next.0 in
-          let begins = begins_apart (Spells gives) s.characters pairs s.ignored following t.delegate next.0 apart next.2 in
+          let begins = begins_apart (Spells from.next_gives) s.characters pairs s.ignored following t.delegate next.0 apart next.2 in
           let all : y ≡ nfd d (c ∷ rest) =
           h.text ∙ ap (λ l. l ++ nfd d (option_to_list (pending_of s) ++ h.unread)) here.waiting ∙ ap (λ o. nfd d (option_to_list o ++ h.unread)) pending
           ∙ ap (λ l. nfd d (c ∷ l)) next.1 in
@@ -151,20 +151,20 @@ module _ {I : Type 0} (can : I → Type 0) (gives : I → Option ℕ → I → T
             rw (characters, ignored, reads, empty) (record { unread = next.0; source = next.2; text = refl }),
           )
 
-      came_to_come : (e : Extent) (out : List ℕ) → WillGive (MayGive gives e) t out → (y : List ℕ) × WillGive (MayGive gives e) s y
+      came_to_come : (e : Extent) (out : List ℕ) → WillGive (MayGive from.next_gives e) t out → (y : List ℕ) × WillGive (MayGive from.next_gives e) s y
           × (compose_by_starters (reading_by s.characters Dropped pairs) y ≡ c ∷ compose_by_starters (reading_by s.characters Dropped pairs) out)
       came_to_come e out later =
           let d = reading_of s in
           let D = reading_by s.characters s.ignored pairs in
           let R = reading_by s.characters Dropped pairs in
-          let h : IsToCome (MayGive gives e) (nfd d) following t.delegate [] out = rw (characters, ignored, reads, empty) at later in
+          let h : IsToCome (MayGive from.next_gives e) (nfd d) following t.delegate [] out = rw (characters, ignored, reads, empty) at later in
           let rest = option_to_list following ++ h.unread in
-          let begins = begins_apart (MayGive gives e) s.characters pairs s.ignored following t.delegate h.unread apart h.source in
+          let begins = begins_apart (MayGive from.next_gives e) s.characters pairs s.ignored following t.delegate h.unread apart h.source in
           let composed = λ (x : List ℕ). composed_form-is s.characters s.ignored pairs x in (
             nfd d (c ∷ rest),
-            subst (λ o. IsToCome (MayGive gives e) (nfd d) o s.delegate (ordered s.waiting) (nfd d (c ∷ rest))) (sym pending) (record {
+            subst (λ o. IsToCome (MayGive from.next_gives e) (nfd d) o s.delegate (ordered s.waiting) (nfd d (c ∷ rest))) (sym pending) (record {
               unread = rest;
-              source = MayGive-next gives e s.delegate following t.delegate h.unread step h.source;
+              source = MayGive-next from.next_gives e s.delegate following t.delegate h.unread step h.source;
               text = sym (ap (λ l. l ++ nfd d (c ∷ rest)) here.waiting);
             }),
             sym (composed (c ∷ rest)) ∙ composed_form-boundary D (c ∷ []) rest begins
@@ -172,12 +172,12 @@ module _ {I : Type 0} (can : I → Type 0) (gives : I → Option ℕ → I → T
                 ∙ ap (λ l. c ∷ compose_by_starters R l) (sym h.text),
           )
 
-      short_to_come : StaysShort gives s → StaysShort gives t
+      short_to_come : StaysShort from.next_gives s → StaysShort from.next_gives t
       short_to_come h =
           let f = has_class_form s.characters in
           let d = reading_of s in
-          let source : Spells gives s.delegate h.unread = subst (λ o. SpellsBehind gives o s.delegate h.unread) pending h.source in
-          let next = spelled_next gives s.delegate following t.delegate h.unread step source in
+          let source : Spells from.next_gives s.delegate h.unread = subst (λ o. SpellsBehind from.next_gives o s.delegate h.unread) pending h.source in
+          let next = spelled_next from.next_gives s.delegate following t.delegate h.unread step source in
           let short : HasShortRuns f d (c ∷ h.unread) = subst (λ o. HasShortRuns f d (option_to_list o ++ h.unread)) pending h.short in
           rw (characters, ignored, reads)
           (record {
@@ -190,12 +190,12 @@ module _ {I : Type 0} (can : I → Type 0) (gives : I → Option ℕ → I → T
       fewer_by None after before h = omega arith
       fewer_by (Some e) after before h = omega arith
 
-      ready_by : (o : Option ℕ) → OnSome o (can t.delegate × IsFinite (left t.delegate) × (size (left t.delegate) < size (left s.delegate))) → IsReadyBehind can left o t.delegate
-          × OnSome o (size (left t.delegate) < size (left s.delegate))
+      ready_by : (o : Option ℕ) → OnSome o (from.can_next t.delegate × IsFinite (from.remaining t.delegate) × (size (from.remaining t.delegate) < size (from.remaining s.delegate))) → IsReadyBehind from.can_next from.remaining o t.delegate
+          × OnSome o (size (from.remaining t.delegate) < size (from.remaining s.delegate))
       ready_by None h = (tt, tt)
       ready_by (Some e) h = ((h.0, h.1), h.2)
 
-      pub PassesOn-next : PassesOn can gives left pairs s c t
+      pub PassesOn-next : PassesOn from pairs s c t
       PassesOn-next =
           let both = ready_by following near in
           record {
@@ -207,16 +207,15 @@ module _ {I : Type 0} (can : I → Type 0) (gives : I → Option ℕ → I → T
             kept = characters;
             fewer =
                 let before =
-                ap (λ l. length l + longest_list * reads_left (pending_of s) (size (left s.delegate))) here.waiting ∙ ap (λ p. 0 + longest_list * reads_left p (size (left s.delegate))) pending in
-                let after = ap (λ l. length l + longest_list * reads_left (pending_of t) (size (left t.delegate))) empty ∙ ap (λ p. 0 + longest_list * reads_left p (size (left t.delegate))) reads in
-                omega (arith, before, after, fewer_by following (size (left t.delegate)) (size (left s.delegate)) both.1);
+                ap (λ l. length l + longest_list * reads_left (pending_of s) (size (from.remaining s.delegate))) here.waiting ∙ ap (λ p. 0 + longest_list * reads_left p (size (from.remaining s.delegate))) pending in
+                let after = ap (λ l. length l + longest_list * reads_left (pending_of t) (size (from.remaining t.delegate))) empty ∙ ap (λ p. 0 + longest_list * reads_left p (size (from.remaining t.delegate))) reads in
+                omega (arith, before, after, fewer_by following (size (from.remaining t.delegate)) (size (from.remaining s.delegate)) both.1);
           }
 
     pub YieldsStarter-next : (t : Decomposition I) (first : ℕ) → t.characters ≡ s.characters → t.ignored ≡ s.ignored
-        → ReadsChunk can gives left (has_class_form s.characters) (reading_of s) c s.delegate first (pending_of t) t.delegate t.waiting → YieldsStarter can gives left s first t
+        → ReadsChunk from (has_class_form s.characters) (reading_of s) c s.delegate first (pending_of t) t.delegate t.waiting → YieldsStarter from s first t
     YieldsStarter-next t first characters ignored r =
         record {
-          steps = Steps-chunk can gives left s c pending here.waiting t first characters ignored r;
+          steps = Steps-chunk from s c pending here.waiting t first characters ignored r;
           starter = λ others. (first_apart.safely first r.others r.members).0;
-          fewer = ((Goes-chunk can gives left s c pending here.waiting t first r).on tt).2;
         }

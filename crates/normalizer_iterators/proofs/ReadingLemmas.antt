@@ -10,7 +10,7 @@ use Rattle.normal_forms.specs.Order.{order}
 use Rattle.normal_forms.specs.ShortRuns.{places, continues}
 use Rattle.normal_forms.proofs.ExpandLemmas.{expand-append}
 use Rattle.normal_forms.proofs.OrderLemmas.{order-nil}
-use Rattle.normalizer_iterators.specs.Delegate.{HasRead, IsReadyBehind}
+use Rattle.normalizer_iterators.specs.Delegate.{HasRead, IsReadyBehind, Source}
 use Rattle.normalizer_iterators.specs.inner.ReadingOn.{ReadsOn, DidNotFit, ReadsChunk, StandsAlone, ChunkDidNotFit}
 use Rattle.normalizer_iterators.proofs.LazyLemmas.{Yields-one_more}
 use Rattle.std.proofs.lemmas.Option.{slice_get_cases}
@@ -84,8 +84,8 @@ nearer_end : (pending : Option ℕ) (next n all now : ℕ) → now + n ≤ all �
 nearer_end None next n all now fewer h = omega arith
 nearer_end (Some c) next n all now fewer h = omega arith
 
-module _ {I : Type 0} (can : I → Type 0) (gives : I → Option ℕ → I → Type 0) (left : I → Count) (f : ℕ → Bool) (d : Reading) where
-  pub ReadSoFar-none : (delegate : I) (waiting : WaitingList) → AgreesWith d waiting → ReadSoFar gives left f d delegate waiting delegate waiting
+module _ {I : Type 0} (from : Source I) (f : ℕ → Bool) (d : Reading) where
+  pub ReadSoFar-none : (delegate : I) (waiting : WaitingList) → AgreesWith d waiting → ReadSoFar from.next_gives from.remaining f d delegate waiting delegate waiting
   unfolding expand
   ReadSoFar-none delegate waiting agrees = record {
     read = [];
@@ -101,14 +101,14 @@ module _ {I : Type 0} (can : I → Type 0) (gives : I → Option ℕ → I → T
   unfolding expand
   expand-one_more xs c = expand-append d xs (c ∷ []) ∙ ap (λ l. expand d xs ++ l) (append-nil (d.list c))
 
-  pub ReadSoFar-more : (delegate now next : I) (waiting w new : WaitingList) (c : ℕ) → ReadSoFar gives left f d delegate waiting now w → gives now (Some c) next → continues f d c ≡ true
-      → ((rest : List ℕ) → reordered d w (d.list c ++ rest) ≡ reordered d new rest) → AgreesWith d new → held new ≡ held w + length (d.list c) → size (left next) < size (left now)
-      → ReadSoFar gives left f d delegate waiting next new
+  pub ReadSoFar-more : (delegate now next : I) (waiting w new : WaitingList) (c : ℕ) → ReadSoFar from.next_gives from.remaining f d delegate waiting now w → from.next_gives now (Some c) next → continues f d c ≡ true
+      → ((rest : List ℕ) → reordered d w (d.list c ++ rest) ≡ reordered d new rest) → AgreesWith d new → held new ≡ held w + length (d.list c) → size (from.remaining next) < size (from.remaining now)
+      → ReadSoFar from.next_gives from.remaining f d delegate waiting next new
   ReadSoFar-more delegate now next waiting w new c before step continuing text agrees more nearer =
       let longer = expand-one_more before.read c in
       record {
         read = before.read ++ c ∷ [];
-        run = Yields-one_more gives delegate before.read now c next before.run step;
+        run = Yields-one_more from.next_gives delegate before.read now c next before.run step;
         continuing = All-push (λ b. continues f d b ≡ true) before.read c before.continuing continuing;
         text = λ rest.
             ap (λ l. reordered d waiting (l ++ rest)) longer ∙ ap (reordered d waiting) (append_assoc (expand d before.read) (d.list c) rest)
@@ -118,9 +118,9 @@ module _ {I : Type 0} (can : I → Type 0) (gives : I → Option ℕ → I → T
         fewer = omega (arith, before.fewer, length-append before.read (c ∷ []));
       }
 
-  pub ReadSoFar-done : (delegate now next : I) (waiting w new : WaitingList) (pending : Option ℕ) → ReadSoFar gives left f d delegate waiting now w → gives now pending next
-      → IfSome pending (λ c. continues f d c ≡ false) → ordered new ≡ reordered d w [] → unordered new ≡ [] → IsReadyBehind can left pending next
-      → OnSome pending (size (left next) < size (left now)) → ReadsOn can gives left f d delegate waiting pending next new
+  pub ReadSoFar-done : (delegate now next : I) (waiting w new : WaitingList) (pending : Option ℕ) → ReadSoFar from.next_gives from.remaining f d delegate waiting now w → from.next_gives now pending next
+      → IfSome pending (λ c. continues f d c ≡ false) → ordered new ≡ reordered d w [] → unordered new ≡ [] → IsReadyBehind from.can_next from.remaining pending next
+      → OnSome pending (size (from.remaining next) < size (from.remaining now)) → ReadsOn from f d delegate waiting pending next new
   ReadSoFar-done delegate now next waiting w new pending before step anew text settled ready nearer = record {
     read = before.read;
     run = (now, before.run, step);
@@ -129,17 +129,17 @@ module _ {I : Type 0} (can : I → Type 0) (gives : I → Option ℕ → I → T
     text = text ∙ sym (before.text []) ∙ ap (reordered d waiting) (append-nil (expand d before.read));
     settled = settled;
     ready = ready;
-    fewer = nearer_end pending (size (left next)) (length before.read) (size (left delegate)) (size (left now)) before.fewer nearer;
+    fewer = nearer_end pending (size (from.remaining next)) (length before.read) (size (from.remaining delegate)) (size (from.remaining now)) before.fewer nearer;
   }
 
-  pub ReadSoFar-refused : (delegate now next : I) (waiting w : WaitingList) (c : ℕ) → ReadSoFar gives left f d delegate waiting now w → gives now (Some c) next → continues f d c ≡ true
-      → places < held w + length (d.list c) → DidNotFit gives f d delegate waiting
+  pub ReadSoFar-refused : (delegate now next : I) (waiting w : WaitingList) (c : ℕ) → ReadSoFar from.next_gives from.remaining f d delegate waiting now w → from.next_gives now (Some c) next → continues f d c ≡ true
+      → places < held w + length (d.list c) → DidNotFit from.next_gives f d delegate waiting
   ReadSoFar-refused delegate now next waiting w c before step continuing long =
       let longer = expand-one_more before.read c in
       record {
         read = before.read ++ c ∷ [];
         delegate_after = next;
-        run = Yields-one_more gives delegate before.read now c next before.run step;
+        run = Yields-one_more from.next_gives delegate before.read now c next before.run step;
         continuing = All-push (λ b. continues f d b ≡ true) before.read c before.continuing continuing;
         too_long = omega (arith, before.held, ap length longer, length-append (expand d before.read) (d.list c));
       }
@@ -151,64 +151,64 @@ reads_left-nearer None after before h = omega arith
 reads_left-nearer (Some c) after before h = omega arith
 
 -- `next` was read from the delegate, after those that are buffered
-pub record ReadsAhead {I : Type 0} (can : I → Type 0) (gives : I → Option ℕ → I → Type 0) (left : I → Count) (has_class_form : ℕ → Bool) (d : Reading) (first : Option ℕ) (delegate : I)
+pub record ReadsAhead {I : Type 0} (from : Source I) (has_class_form : ℕ → Bool) (d : Reading) (first : Option ℕ) (delegate : I)
     (waiting : WaitingList) (next : Option ℕ) (delegate_now : I) (waiting_now : WaitingList) : Type 0 where
-  pub ready : IsReadyBehind can left next delegate_now
+  pub ready : IsReadyBehind from.can_next from.remaining next delegate_now
   pub agrees : AgreesWith d waiting_now
-  pub behind : (before : I) → HasRead gives left before first delegate → (now : I) × ReadSoFar gives left has_class_form d before waiting now waiting_now × HasRead gives left now next delegate_now
+  pub behind : (before : I) → HasRead from.next_gives from.remaining before first delegate → (now : I) × ReadSoFar from.next_gives from.remaining has_class_form d before waiting now waiting_now × HasRead from.next_gives from.remaining now next delegate_now
 
-module _ {I : Type 0} (can : I → Type 0) (gives : I → Option ℕ → I → Type 0) (left : I → Count) where
-  pub IsReadyBehind-next : (before after : I) (given : Option ℕ) → OnSome given (can after × IsFinite (left after) × (size (left after) < size (left before))) → IsReadyBehind can left given after
+module _ {I : Type 0} (from : Source I) where
+  pub IsReadyBehind-next : (before after : I) (given : Option ℕ) → OnSome given (from.can_next after × IsFinite (from.remaining after) × (size (from.remaining after) < size (from.remaining before))) → IsReadyBehind from.can_next from.remaining given after
   IsReadyBehind-next before after None h = tt
   IsReadyBehind-next before after (Some c) h = (h.0, h.1)
 
-  pub HasRead-next : (before after : I) (given : Option ℕ) → gives before given after → OnSome given (can after × IsFinite (left after) × (size (left after) < size (left before)))
-      → HasRead gives left before given after
+  pub HasRead-next : (before after : I) (given : Option ℕ) → from.next_gives before given after → OnSome given (from.can_next after × IsFinite (from.remaining after) × (size (from.remaining after) < size (from.remaining before)))
+      → HasRead from.next_gives from.remaining before given after
   HasRead-next before after None step h = record { step = step; nearer = tt }
   HasRead-next before after (Some c) step h = record { step = step; nearer = h.2 }
 
   -- what was given may be held otherwise
-  pub HasRead-as : (before after : I) (given read : Option ℕ) → read ≡ given → gives before given after
-      → OnSome given (can after × IsFinite (left after) × (size (left after) < size (left before))) → HasRead gives left before read after
+  pub HasRead-as : (before after : I) (given read : Option ℕ) → read ≡ given → from.next_gives before given after
+      → OnSome given (from.can_next after × IsFinite (from.remaining after) × (size (from.remaining after) < size (from.remaining before))) → HasRead from.next_gives from.remaining before read after
   HasRead-as before after given read same step h = rw same (HasRead-next before after given step h)
 
   module _ (f : ℕ → Bool) (d : Reading) (first : Option ℕ) (delegate : I) (waiting : WaitingList) where
-    pub ReadsAhead-none : IsReadyBehind can left first delegate → AgreesWith d waiting → ReadsAhead can gives left f d first delegate waiting first delegate waiting
-    ReadsAhead-none ready agrees = record { ready = ready; agrees = agrees; behind = λ before read. (before, ReadSoFar-none can gives left f d before waiting agrees, read) }
+    pub ReadsAhead-none : IsReadyBehind from.can_next from.remaining first delegate → AgreesWith d waiting → ReadsAhead from f d first delegate waiting first delegate waiting
+    ReadsAhead-none ready agrees = record { ready = ready; agrees = agrees; behind = λ before read. (before, ReadSoFar-none from f d before waiting agrees, read) }
 
-    pub ReadsAhead-more : (c : ℕ) (now after : I) (w new : WaitingList) (next : Option ℕ) → ReadsAhead can gives left f d first delegate waiting (Some c) now w → continues f d c ≡ true
-        → ((rest : List ℕ) → reordered d w (d.list c ++ rest) ≡ reordered d new rest) → AgreesWith d new → held new ≡ held w + length (d.list c) → gives now next after
-        → OnSome next (can after × IsFinite (left after) × (size (left after) < size (left now))) → ReadsAhead can gives left f d first delegate waiting next after new
+    pub ReadsAhead-more : (c : ℕ) (now after : I) (w new : WaitingList) (next : Option ℕ) → ReadsAhead from f d first delegate waiting (Some c) now w → continues f d c ≡ true
+        → ((rest : List ℕ) → reordered d w (d.list c ++ rest) ≡ reordered d new rest) → AgreesWith d new → held new ≡ held w + length (d.list c) → from.next_gives now next after
+        → OnSome next (from.can_next after × IsFinite (from.remaining after) × (size (from.remaining after) < size (from.remaining now))) → ReadsAhead from f d first delegate waiting next after new
     ReadsAhead-more c now after w new next before continuing text agrees more step near = record {
       ready = IsReadyBehind-next now after next near;
       agrees = agrees;
       behind = λ start read.
           let last = before.behind start read in (
             now,
-            ReadSoFar-more can gives left f d start last.0 now waiting w new c last.1 last.2.step continuing text agrees more last.2.nearer,
+            ReadSoFar-more from f d start last.0 now waiting w new c last.1 last.2.step continuing text agrees more last.2.nearer,
             HasRead-next now after next step near,
           );
     }
 
-    pub ReadsAhead-done : (pending : Option ℕ) (now : I) (w new : WaitingList) → ReadsAhead can gives left f d first delegate waiting pending now w → IfSome pending (λ c. continues f d c ≡ false)
-        → ordered new ≡ reordered d w [] → unordered new ≡ [] → (before : I) → HasRead gives left before first delegate → ReadsOn can gives left f d before waiting pending now new
+    pub ReadsAhead-done : (pending : Option ℕ) (now : I) (w new : WaitingList) → ReadsAhead from f d first delegate waiting pending now w → IfSome pending (λ c. continues f d c ≡ false)
+        → ordered new ≡ reordered d w [] → unordered new ≡ [] → (before : I) → HasRead from.next_gives from.remaining before first delegate → ReadsOn from f d before waiting pending now new
     ReadsAhead-done pending now w new ahead anew text settled before read =
         let last = ahead.behind before read in
-        ReadSoFar-done can gives left f d before last.0 now waiting w new pending last.1 last.2.step anew text settled ahead.ready last.2.nearer
+        ReadSoFar-done from f d before last.0 now waiting w new pending last.1 last.2.step anew text settled ahead.ready last.2.nearer
 
-    pub ReadsAhead-refused : (c : ℕ) (now : I) (w : WaitingList) → ReadsAhead can gives left f d first delegate waiting (Some c) now w → continues f d c ≡ true → places < held w + length (d.list c)
-        → (before : I) → HasRead gives left before first delegate → DidNotFit gives f d before waiting
+    pub ReadsAhead-refused : (c : ℕ) (now : I) (w : WaitingList) → ReadsAhead from f d first delegate waiting (Some c) now w → continues f d c ≡ true → places < held w + length (d.list c)
+        → (before : I) → HasRead from.next_gives from.remaining before first delegate → DidNotFit from.next_gives f d before waiting
     ReadsAhead-refused c now w ahead continuing long before read =
         let last = ahead.behind before read in
-        ReadSoFar-refused can gives left f d before last.0 now waiting w c last.1 last.2.step continuing long
+        ReadSoFar-refused from f d before last.0 now waiting w c last.1 last.2.step continuing long
 
 -- ---- a chunk, if nothing was buffered before
 
-pub ReadsChunk-from : {I : Type 0} (can : I → Type 0) (gives : I → Option ℕ → I → Type 0) (left : I → Count) (f : ℕ → Bool) (d : Reading) (c first : ℕ) (members : List ℕ) (delegate next : I)
+pub ReadsChunk-from : {I : Type 0} (from : Source I) (f : ℕ → Bool) (d : Reading) (c first : ℕ) (members : List ℕ) (delegate next : I)
     (w b new : WaitingList) (pending : Option ℕ) → members ≡ d.list c → Some first ≡ slice_get members 0 → ordered w ≡ [] → unordered w ≡ []
-    → ((rest : List ℕ) → reordered d w (drop 1 members ++ rest) ≡ reordered d b rest) → ReadsOn can gives left f d delegate b pending next new
-    → ReadsChunk can gives left f d c delegate first pending next new
-ReadsChunk-from can gives left f d c first members delegate next w b new pending is there front open_marks pushed r = record {
+    → ((rest : List ℕ) → reordered d w (drop 1 members ++ rest) ≡ reordered d b rest) → ReadsOn from f d delegate b pending next new
+    → ReadsChunk from f d c delegate first pending next new
+ReadsChunk-from from f d c first members delegate next w b new pending is there front open_marks pushed r = record {
   others = drop 1 members;
   members = sym is ∙ drop_member members 0 first there;
   read = r.read;
@@ -222,11 +222,11 @@ ReadsChunk-from can gives left f d c first members delegate next w b new pending
 }
 
 -- a character that is its own list is a chunk if a boundary follows it
-pub ReadsChunk-alone : {I : Type 0} (can : I → Type 0) (gives : I → Option ℕ → I → Type 0) (left : I → Count) (f : ℕ → Bool) (d : Reading) (c : ℕ) (delegate next : I) (following : Option ℕ)
-    (w : WaitingList) → StandsAlone f d c following → HasRead gives left delegate following next → IsReadyBehind can left following next → ordered w ≡ [] → unordered w ≡ []
-    → ReadsChunk can gives left f d c delegate c following next w
+pub ReadsChunk-alone : {I : Type 0} (from : Source I) (f : ℕ → Bool) (d : Reading) (c : ℕ) (delegate next : I) (following : Option ℕ)
+    (w : WaitingList) → StandsAlone f d c following → HasRead from.next_gives from.remaining delegate following next → IsReadyBehind from.can_next from.remaining following next → ordered w ≡ [] → unordered w ≡ []
+    → ReadsChunk from f d c delegate c following next w
 unfolding expand
-ReadsChunk-alone can gives left f d c delegate next following w alone read ready front open_marks = record {
+ReadsChunk-alone from f d c delegate next following w alone read ready front open_marks = record {
   others = [];
   members = alone.own;
   read = [];
@@ -236,7 +236,7 @@ ReadsChunk-alone can gives left f d c delegate next following w alone read ready
   text = front ∙ sym (order-nil d);
   settled = open_marks;
   ready = ready;
-  fewer = nearer_end following (size (left next)) 0 (size (left delegate)) (size (left delegate)) (omega arith) read.nearer;
+  fewer = nearer_end following (size (from.remaining next)) 0 (size (from.remaining delegate)) (size (from.remaining delegate)) (omega arith) read.nearer;
 }
 
 pub ChunkDidNotFit-members : {I : Type 0} (gives : I → Option ℕ → I → Type 0) (f : ℕ → Bool) (d : Reading) (c : ℕ) (members : List ℕ) (delegate : I) → members ≡ d.list c

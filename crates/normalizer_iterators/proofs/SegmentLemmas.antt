@@ -10,7 +10,7 @@ use Rattle.normal_forms.specs.Order.{order}
 use Rattle.normal_forms.specs.ShortRuns.{places}
 use Rattle.normal_forms.proofs.OrderLemmas.{length-order}
 use Rattle.normalizer_tables.specs.Characters.{Characters}
-use Rattle.normalizer_tables.specs.Pairs.{Pair, pair_of}
+use Rattle.normalizer_tables.specs.Pairs.{Pair}
 use Rattle.normalizer_tables.specs.Readings.{reading_by}
 use Rattle.normalizer_tables.specs.declared.characters.IgnoredCharacters.{IgnoredCharacters}
 use Rattle.normalizer_tables.specs.declared.characters.IgnoredCharacters.TheVariants.{Dropped}
@@ -20,6 +20,7 @@ use Rattle.normalizer_text.proofs.EncodingRules.{IsDecoding-first}
 use Rattle.normalizer_text.proofs.StepLemmas.{decoded-nil, decoded-some}
 use Rattle.normalizer_iterators.specs.declared.segment.short_text.ShortText.{ShortText}
 use Rattle.normalizer_iterators.specs.declared.waiting.WaitingList.{WaitingList}
+use Rattle.normalizer_iterators.specs.inner.Segments.{HasPairsOf}
 use Rattle.normalizer_iterators.specs.inner.ShortText.{composing, BlocksBelow}
 use Rattle.normalizer_iterators.specs.WaitingList.{ordered, held, reordered, unordered, AgreesWith}
 use Rattle.normalizer_iterators.proofs.ReadingLemmas.{reordered-nothing}
@@ -114,15 +115,11 @@ on_ok (Err e) b P h is true_ = cc
 
 -- ---- what is in order is composed
 
--- the reading composes by these pairs
-abbrev pub PairsBy : List Pair → Reading → Type 0
-PairsBy pairs d = (a c : ℕ) → pair_of pairs a c ≡ d.pair a c
-
 -- what is in order is composed, but for those that are left
 pub record ComposedTo (pairs : List Pair) (first left : WaitingList) (text : ShortText) : Type 0 where
   pub agrees : (d : Reading) → AgreesWith d first → AgreesWith d left
   pub blocking : (d : Reading) → AgreesWith d first → BlocksBelow d text
-  pub composed : (d : Reading) → AgreesWith d first → PairsBy pairs d → composing d text (ordered left) ≡ compose_by_starters d (ordered first)
+  pub composed : (d : Reading) → AgreesWith d first → HasPairsOf pairs d → composing d text (ordered left) ≡ compose_by_starters d (ordered first)
   pub room : text.len + length (ordered left) ≤ length (ordered first)
 
 pub ComposedTo-none : (pairs : List Pair) (first : WaitingList) (text : ShortText) → ((d : Reading) (rest : List ℕ) → composing d text rest ≡ compose_by_starters d rest)
@@ -133,7 +130,7 @@ ComposedTo-none pairs first text composed blocking none =
 pub ComposedTo-more : (pairs : List Pair) (first old new : WaitingList) (text next : ShortText) (c : ℕ) → ComposedTo pairs first old text → ordered old ≡ c ∷ ordered new
     → ((d : Reading) → AgreesWith d old → AgreesWith d new)
     → ((d : Reading) → AgreesWith d old → BlocksBelow d text → BlocksBelow d next)
-    → ((d : Reading) → AgreesWith d old → PairsBy pairs d → BlocksBelow d text → (rest : List ℕ) → composing d text (c ∷ rest) ≡ composing d next rest)
+    → ((d : Reading) → AgreesWith d old → HasPairsOf pairs d → BlocksBelow d text → (rest : List ℕ) → composing d text (c ∷ rest) ≡ composing d next rest)
     → next.len ≤ text.len + 1 → ComposedTo pairs first new next
 ComposedTo-more pairs first old new text next c before is agrees blocking composed room = record {
   agrees = λ d known. agrees d (before.agrees d known);

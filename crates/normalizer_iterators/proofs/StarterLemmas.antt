@@ -1,38 +1,38 @@
 -- A starter and what follows it: the composition so far.
-use Rattle.std.proofs.Common.{◌≡◌, ℕ, ◌+◌, ◌<◌, ◌≤◌, List, [], ◌∷◌, ◌++◌, length, Option, Some, None, Ok, Err, refl, sym, ap, ◌∙◌, subst, arith, inl, inr, append-nil, length-append}
-use Rattle.std.specs.Iterator.{Count}
+use Rattle.std.proofs.Common.{◌≡◌, ℕ, ◌+◌, ◌≤◌, List, [], ◌∷◌, ◌++◌, length, Some, None, Ok, Err, refl, sym, ap, ◌∙◌, subst, arith, inl, inr, append-nil, length-append}
 use Rattle.normal_forms.specs.Reading.{Reading, IsStarter, IsMark}
 use Rattle.normal_forms.specs.CompositionByStarters.{join, compose_after, compose_by_starters}
 use Rattle.normal_forms.specs.Boundary.{BeginsSafely}
 use Rattle.normal_forms.specs.ShortRuns.{places}
-use Rattle.normal_forms.proofs.ComposeLemmas.{starter_or_mark, compose_after-nil, compose_after-join, compose_after-starter, compose_after-mark}
+use Rattle.normal_forms.proofs.ComposeLemmas.{starter_or_mark, compose_after-nil, compose_after-join, compose_after-starter, compose_after-mark, compose_by_starters-nil}
 use Rattle.normalizer_text.specs.Steps.{Spells}
-use Rattle.normalizer_iterators.specs.declared.composition.Ahead.TheVariants.{Starter, Passed, Ended}
+use Rattle.normalizer_iterators.specs.declared.composition.Ahead.TheVariants.{NoStarter, Starter, Passed}
 use Rattle.normalizer_iterators.specs.declared.decomposition.Decomposition.{Decomposition}
 use Rattle.normalizer_iterators.specs.declared.error.NormalizeError.{NormalizeError}
 use Rattle.normalizer_iterators.specs.declared.marks.StayingMarks.{StayingMarks}
 use Rattle.normalizer_iterators.specs.Decomposition as decomposition
-use Rattle.normalizer_iterators.specs.Delegate.{Extent, MayGive}
+use Rattle.normalizer_iterators.specs.Delegate.{Extent, MayGive, Source}
 use Rattle.normalizer_iterators.specs.MarkRuns.{leading_marks, HasShortMarkRuns}
 use Rattle.normalizer_iterators.specs.StayingMarks.{staying, used, BlocksBelow}
 use Rattle.normalizer_iterators.specs.Composing.{GivesShort, ComposesStarter}
+use Rattle.normalizer_iterators.proofs.DecompositionLemmas.{items_left-ended, nothing_comes}
 use Rattle.normalizer_iterators.proofs.MarkLemmas.{join-starter}
 use Rattle.normalizer_iterators.proofs.PassingLemmas.{compose_after-boundary}
 use Rattle.normalizer_iterators.proofs.MarkRunLemmas.{leading_marks-mark, HasShortMarkRuns-leading, HasShortMarkRuns-tail}
 
 -- the starter has become `composite`, and these marks stay after it
-pub record ComposedSoFar {I : Type 0} (can : I → Type 0) (gives : I → Option ℕ → I → Type 0) (left : I → Count) (d : Reading) (starter : ℕ) (old : Decomposition I) (composite : ℕ)
+pub record ComposedSoFar {I : Type 0} (from : Source I) (d : Reading) (starter : ℕ) (old : Decomposition I) (composite : ℕ)
     (now : Decomposition I) (marks : StayingMarks) : Type 0 where
-  pub text : (all : List ℕ) → decomposition.WillGive (Spells gives) old all → (y : List ℕ)
-      × (compose_after d starter [] all ≡ compose_after d composite (staying marks) y) × decomposition.WillGive (Spells gives) now y
-  pub came : (e : Extent) (y : List ℕ) → decomposition.WillGive (MayGive gives e) now y → (all : List ℕ) × decomposition.WillGive (MayGive gives e) old all
+  pub text : (all : List ℕ) → decomposition.WillGive (Spells from.next_gives) old all → (y : List ℕ)
+      × (compose_after d starter [] all ≡ compose_after d composite (staying marks) y) × decomposition.WillGive (Spells from.next_gives) now y
+  pub came : (e : Extent) (y : List ℕ) → decomposition.WillGive (MayGive from.next_gives e) now y → (all : List ℕ) × decomposition.WillGive (MayGive from.next_gives e) old all
       × (compose_after d starter [] all ≡ compose_after d composite (staying marks) y)
-  pub short : GivesShort gives d old → (h : GivesShort gives d now) × (length (staying marks) + leading_marks d h.unread ≤ places)
+  pub short : GivesShort from.next_gives d old → (h : GivesShort from.next_gives d now) × (length (staying marks) + leading_marks d h.unread ≤ places)
   pub blocking : BlocksBelow d marks
   pub in_use : used marks ≡ length (staying marks)
-  pub ready : decomposition.CanDecompose can left now
+  pub ready : decomposition.CanDecompose from.can_next from.remaining now
   pub kept : now.characters ≡ old.characters
-  pub fewer : length (staying marks) + decomposition.items_left left now ≤ decomposition.items_left left old
+  pub fewer : length (staying marks) + decomposition.items_left from.remaining now ≤ decomposition.items_left from.remaining old
 
 room_after_join : (d : Reading) (a : ℕ) (p : List ℕ) (c r : ℕ) (y : List ℕ) → join d a p c ≡ Some r → HasShortMarkRuns d y → length p + leading_marks d (c ∷ y) ≤ places
     → length p + leading_marks d y ≤ places
@@ -42,10 +42,10 @@ room_after_join d a p c r y joins short room =
       | inr mark ↦ omega (arith, leading_marks-mark d c y mark)
     ]
 
-module _ {I : Type 0} (can : I → Type 0) (gives : I → Option ℕ → I → Type 0) (left : I → Count) (d : Reading) where
+module _ {I : Type 0} (from : Source I) (d : Reading) where
   -- the next character of a text with short runs
-  pub GivesShort-next : (now : Decomposition I) (c : ℕ) (next : Decomposition I) → decomposition.DecompositionSteps can gives left now (Some (Ok c)) next → (h : GivesShort gives d now)
-      → (after : GivesShort gives d next) × (h.unread ≡ c ∷ after.unread)
+  pub GivesShort-next : (now : Decomposition I) (c : ℕ) (next : Decomposition I) → decomposition.DecompositionSteps from now (Some (Ok c)) next → (h : GivesShort from.next_gives d now)
+      → (after : GivesShort from.next_gives d next) × (h.unread ≡ c ∷ after.unread)
   GivesShort-next now c next step h =
       let first = step.item.first h.unread h.source in (
         record {
@@ -58,11 +58,11 @@ module _ {I : Type 0} (can : I → Type 0) (gives : I → Option ℕ → I → T
       )
 
   -- text with short runs brings no fault
-  pub GivesShort-no_fault : (now : Decomposition I) (e : NormalizeError) (next : Decomposition I) → decomposition.DecompositionSteps can gives left now (Some (Err e)) next → GivesShort gives d now → ⊥
+  pub GivesShort-no_fault : (now : Decomposition I) (e : NormalizeError) (next : Decomposition I) → decomposition.DecompositionSteps from now (Some (Err e)) next → GivesShort from.next_gives d now → ⊥
   GivesShort-no_fault now e next step h = cc (step.item.room h.short).0
 
-  pub ComposedSoFar-none : (starter : ℕ) (old : Decomposition I) (marks : StayingMarks) → staying marks ≡ [] → used marks ≡ 0 → BlocksBelow d marks → decomposition.CanDecompose can left old
-      → ComposedSoFar can gives left d starter old starter old marks
+  pub ComposedSoFar-none : (starter : ℕ) (old : Decomposition I) (marks : StayingMarks) → staying marks ≡ [] → used marks ≡ 0 → BlocksBelow d marks → decomposition.CanDecompose from.can_next from.remaining old
+      → ComposedSoFar from d starter old starter old marks
   ComposedSoFar-none starter old marks none unused blocking ready = record {
     text = λ all h. (all, ap (λ p. compose_after d starter p all) (sym none), h);
     came = λ e y h. (y, h, ap (λ p. compose_after d starter p y) (sym none));
@@ -75,10 +75,10 @@ module _ {I : Type 0} (can : I → Type 0) (gives : I → Option ℕ → I → T
   }
 
   pub ComposedSoFar-joined : (starter : ℕ) (old : Decomposition I) (composite : ℕ) (now : Decomposition I) (marks : StayingMarks) (c r : ℕ) (next : Decomposition I) (after : StayingMarks)
-      → ComposedSoFar can gives left d starter old composite now marks → decomposition.DecompositionSteps can gives left now (Some (Ok c)) next
-      → decomposition.items_left left next < decomposition.items_left left now → join d composite (staying marks) c ≡ Some r → after ≡ marks → ComposedSoFar can gives left d starter old r next after
-  ComposedSoFar-joined starter old composite now marks c r next after before step nearer joins kept =
-      subst (ComposedSoFar can gives left d starter old r next) (sym kept) (record {
+      → ComposedSoFar from d starter old composite now marks → decomposition.DecompositionSteps from now (Some (Ok c)) next
+      → join d composite (staying marks) c ≡ Some r → after ≡ marks → ComposedSoFar from d starter old r next after
+  ComposedSoFar-joined starter old composite now marks c r next after before step joins kept =
+      subst (ComposedSoFar from d starter old r next) (sym kept) (record {
         text = λ all h.
             let b = before.text all h in
             let first = step.item.first b.0 b.2 in
@@ -94,14 +94,14 @@ module _ {I : Type 0} (can : I → Type 0) (gives : I → Option ℕ → I → T
         in_use = before.in_use;
         ready = step.ready before.ready;
         kept = step.kept.0 ∙ before.kept;
-        fewer = omega (arith, before.fewer);
+        fewer = omega (arith, before.fewer, step.fewer);
       })
 
   pub ComposedSoFar-stays : (starter : ℕ) (old : Decomposition I) (composite : ℕ) (now : Decomposition I) (marks : StayingMarks) (c : ℕ) (next : Decomposition I) (after : StayingMarks)
-      → ComposedSoFar can gives left d starter old composite now marks → decomposition.DecompositionSteps can gives left now (Some (Ok c)) next
-      → decomposition.items_left left next < decomposition.items_left left now → join d composite (staying marks) c ≡ None → IsMark d c → staying after ≡ staying marks ++ c ∷ []
-      → used after ≡ used marks + 1 → BlocksBelow d after → ComposedSoFar can gives left d starter old composite next after
-  ComposedSoFar-stays starter old composite now marks c next after before step nearer apart mark longer in_use blocking =
+      → ComposedSoFar from d starter old composite now marks → decomposition.DecompositionSteps from now (Some (Ok c)) next
+      → join d composite (staying marks) c ≡ None → IsMark d c → staying after ≡ staying marks ++ c ∷ []
+      → used after ≡ used marks + 1 → BlocksBelow d after → ComposedSoFar from d starter old composite next after
+  ComposedSoFar-stays starter old composite now marks c next after before step apart mark longer in_use blocking =
       let one_more : length (staying after) ≡ length (staying marks) + 1 = ap length longer ∙ length-append (staying marks) (c ∷ []) in
       record {
         text = λ all h.
@@ -123,24 +123,24 @@ module _ {I : Type 0} (can : I → Type 0) (gives : I → Option ℕ → I → T
         in_use = omega (arith, before.in_use);
         ready = step.ready before.ready;
         kept = step.kept.0 ∙ before.kept;
-        fewer = omega (arith, before.fewer);
+        fewer = omega (arith, before.fewer, step.fewer);
       }
 
   -- a mark for which there is no room comes after too many
   pub ComposedSoFar-no_room : (starter : ℕ) (old : Decomposition I) (composite : ℕ) (now : Decomposition I) (marks : StayingMarks) (c : ℕ) (next : Decomposition I)
-      → ComposedSoFar can gives left d starter old composite now marks → decomposition.DecompositionSteps can gives left now (Some (Ok c)) next → IsMark d c → places ≤ used marks
-      → GivesShort gives d old → ⊥
+      → ComposedSoFar from d starter old composite now marks → decomposition.DecompositionSteps from now (Some (Ok c)) next → IsMark d c → places ≤ used marks
+      → GivesShort from.next_gives d old → ⊥
   ComposedSoFar-no_room starter old composite now marks c next before step mark full h =
       let b = before.short h in
       let n = GivesShort-next now c next step b.0 in
       omega (arith, before.in_use, b.1, ap (leading_marks d) n.1, leading_marks-mark d c n.0.unread mark)
 
   pub ComposesStarter-starts : (starter : ℕ) (old : Decomposition I) (composite : ℕ) (now : Decomposition I) (marks : StayingMarks) (c : ℕ) (next : Decomposition I) (after : StayingMarks)
-      → ComposedSoFar can gives left d starter old composite now marks → decomposition.DecompositionSteps can gives left now (Some (Ok c)) next
-      → decomposition.items_left left next < decomposition.items_left left now → join d composite (staying marks) c ≡ None → IsStarter d c → after ≡ marks
-      → ComposesStarter gives left d starter old composite (staying after) (Starter c) next
-  ComposesStarter-starts starter old composite now marks c next after before step nearer apart starts kept =
-      subst (λ m. ComposesStarter gives left d starter old composite (staying m) (Starter c) next) (sym kept) (record {
+      → ComposedSoFar from d starter old composite now marks → decomposition.DecompositionSteps from now (Some (Ok c)) next
+      → join d composite (staying marks) c ≡ None → IsStarter d c → after ≡ marks
+      → ComposesStarter from.next_gives from.remaining d starter old composite (staying after) (Starter c) next
+  ComposesStarter-starts starter old composite now marks c next after before step apart starts kept =
+      subst (λ m. ComposesStarter from.next_gives from.remaining d starter old composite (staying m) (Starter c) next) (sym kept) (record {
         text = λ all h.
             let b = before.text all h in
             let first = step.item.first b.0 b.2 in (
@@ -155,42 +155,53 @@ module _ {I : Type 0} (can : I → Type 0) (gives : I → Option ℕ → I → T
               b.2 ∙ compose_after-starter d composite (staying marks) c h.unread apart starts ∙ ap (λ l. composite ∷ l) (sym h.text),
             );
         short = λ h. (GivesShort-next now c next step (before.short h).0).0;
-        fewer = omega (arith, before.fewer);
+        fewer = omega (arith, before.fewer, step.fewer);
       })
 
+  -- nothing is to come
+  pub GivesShort-end : (now next : Decomposition I) → decomposition.DecompositionSteps from now None next → GivesShort from.next_gives d now → GivesShort from.next_gives d next
+  GivesShort-end now next step h =
+      let end = step.item.first h.unread h.source in
+      record { unread = []; source = end.1; short = (step.item.room h.short).1; runs = subst (HasShortMarkRuns d) end.0 h.runs }
+
   pub ComposesStarter-ends : (starter : ℕ) (old : Decomposition I) (composite : ℕ) (now : Decomposition I) (marks : StayingMarks) (next : Decomposition I)
-      → ComposedSoFar can gives left d starter old composite now marks → decomposition.DecompositionSteps can gives left now None next
-      → ComposesStarter gives left d starter old composite (staying marks) Ended next
+      → ComposedSoFar from d starter old composite now marks → decomposition.DecompositionSteps from now None next
+      → ComposesStarter from.next_gives from.remaining d starter old composite (staying marks) NoStarter next
   ComposesStarter-ends starter old composite now marks next before step = record {
     text = λ all h.
         let b = before.text all h in
         let end = step.item.first b.0 b.2 in (
           staying marks,
           b.1 ∙ ap (compose_after d composite (staying marks)) end.0 ∙ compose_after-nil d composite (staying marks),
-          record { unread = []; source = tt; text = sym (append-nil (staying marks)) },
+          record { unread = []; source = end.1; text = sym (ap (λ l. staying marks ++ l) (compose_by_starters-nil d) ∙ append-nil (staying marks)) },
         );
     came = λ e rest h.
         let b = before.came e [] (step.came e) in
-        (b.0, b.1, b.2 ∙ compose_after-nil d composite (staying marks) ∙ ap (λ l. composite ∷ l) (sym (h.text ∙ append-nil (staying marks))));
-    short = λ h. tt;
-    fewer = omega (arith, before.fewer);
+        let none : h.unread ≡ [] = nothing_comes from (MayGive from.next_gives e) next h.unread step.item.ends h.source in (
+          b.0,
+          b.1,
+          b.2 ∙ compose_after-nil d composite (staying marks) ∙ ap (λ l. composite ∷ l)
+              (sym (h.text ∙ ap (λ y. staying marks ++ compose_by_starters d y) none ∙ ap (λ l. staying marks ++ l) (compose_by_starters-nil d) ∙ append-nil (staying marks))),
+        );
+    short = λ h. GivesShort-end now next step (before.short h).0;
+    fewer = omega (arith, before.fewer, items_left-ended from next step.item.ends);
   }
 
   -- what begins safely is not composed with what comes before it
-  pub ComposesStarter-passes : (starter : ℕ) (old : Decomposition I) (composite : ℕ) (now : Decomposition I) (marks : StayingMarks) → ComposedSoFar can gives left d starter old composite now marks
-      → ((Comes : I → List ℕ → Type 0) (y : List ℕ) → decomposition.WillGive Comes now y → BeginsSafely d y) → ComposesStarter gives left d starter old composite (staying marks) Passed now
+  pub ComposesStarter-passes : (starter : ℕ) (old : Decomposition I) (composite : ℕ) (now : Decomposition I) (marks : StayingMarks) → ComposedSoFar from d starter old composite now marks
+      → ((Comes : I → List ℕ → Type 0) (y : List ℕ) → decomposition.WillGive Comes now y → BeginsSafely d y) → ComposesStarter from.next_gives from.remaining d starter old composite (staying marks) Passed now
   ComposesStarter-passes starter old composite now marks before begins = record {
     text = λ all h.
         let b = before.text all h in (
           staying marks ++ compose_by_starters d b.0,
-          b.1 ∙ compose_after-boundary d composite (staying marks) b.0 (begins (Spells gives) b.0 b.2),
+          b.1 ∙ compose_after-boundary d composite (staying marks) b.0 (begins (Spells from.next_gives) b.0 b.2),
           record { unread = b.0; source = b.2; text = refl },
         );
     came = λ e rest h.
         let b = before.came e h.unread h.source in (
           b.0,
           b.1,
-          b.2 ∙ compose_after-boundary d composite (staying marks) h.unread (begins (MayGive gives e) h.unread h.source) ∙ ap (λ l. composite ∷ l) (sym h.text),
+          b.2 ∙ compose_after-boundary d composite (staying marks) h.unread (begins (MayGive from.next_gives e) h.unread h.source) ∙ ap (λ l. composite ∷ l) (sym h.text),
         );
     short = λ h. (before.short h).0;
     fewer = before.fewer;

@@ -9,7 +9,7 @@ use Rattle.normalizer_tables.specs.Pairs.{Pair, pair_of}
 use Rattle.normalizer_tables.specs.Readings.{reading_by}
 use Rattle.normalizer_text.specs.Steps.{Spells}
 use Rattle.normalizer_iterators.specs.declared.composition.Ahead.{Ahead}
-use Rattle.normalizer_iterators.specs.declared.composition.Ahead.TheVariants.{NoStarter, Passed, Starter, Ended}
+use Rattle.normalizer_iterators.specs.declared.composition.Ahead.TheVariants.{NoStarter, Passed, Starter}
 use Rattle.normalizer_iterators.specs.declared.composition.Visited.{Visited}
 use Rattle.normalizer_iterators.specs.declared.composition.Visited.TheVariants.{Joined, StartsAnew, Stays}
 use Rattle.normalizer_iterators.specs.declared.decomposition.Decomposition.{Decomposition}
@@ -46,34 +46,25 @@ abbrev pub composed_ahead : Reading → Ahead → List ℕ → List ℕ
 composed_ahead d NoStarter y = compose_by_starters d y
 composed_ahead d Passed y = compose_by_starters d y
 composed_ahead d (Starter a) y = compose_after d a [] y
-composed_ahead d Ended y = []
-
--- nothing is required of what is read once the end is reached
-abbrev pub UnlessEnded : Ahead → Type 0 → Type 0
-UnlessEnded NoStarter P = P
-UnlessEnded Passed P = P
-UnlessEnded (Starter a) P = P
-UnlessEnded Ended P = Unit {0}
 
 -- how many characters may come, if at most n are read
 abbrev pub ahead_left : Ahead → ℕ → ℕ
 ahead_left NoStarter n = n
 ahead_left Passed n = n
 ahead_left (Starter a) n = n + 1
-ahead_left Ended n = 0
 
--- there is no starter, and the end isn't reached
+-- there is no starter
 abbrev pub IsBeforeStarter : Ahead → Type 0
 IsBeforeStarter NoStarter = Unit {0}
 IsBeforeStarter Passed = Unit {0}
-IsBeforeStarter _ = ⊥
+IsBeforeStarter (Starter a) = ⊥
 
 module _ {I : Type 0} where
   -- these characters, if memory suffices: some marks, and then what is ahead
   pub record WillGiveBehind (Comes : I → List ℕ → Type 0) (d : Reading) (marks : List ℕ) (ahead : Ahead)
       (s : Decomposition I) (out : List ℕ) : Type 0 where
     pub unread : List ℕ
-    pub source : UnlessEnded ahead (decomposition.WillGive Comes s unread)
+    pub source : decomposition.WillGive Comes s unread
     pub text : out ≡ marks ++ composed_ahead d ahead unread
 
   -- a decomposition yields these characters, and the runs that are still to come are short
@@ -90,7 +81,7 @@ module _ {I : Type 0} where
         × (compose_after d starter [] y ≡ composite ∷ rest) × WillGiveBehind (Spells gives) d marks ahead new rest
     pub came : (e : Extent) (rest : List ℕ) → WillGiveBehind (MayGive gives e) d marks ahead new rest → (y : List ℕ)
         × decomposition.WillGive (MayGive gives e) old y × (compose_after d starter [] y ≡ composite ∷ rest)
-    pub short : GivesShort gives d old → UnlessEnded ahead (GivesShort gives d new)
+    pub short : GivesShort gives d old → GivesShort gives d new
     pub fewer : length marks + ahead_left ahead (decomposition.items_left left new) ≤ decomposition.items_left left old
 
   -- the same using data and pairs

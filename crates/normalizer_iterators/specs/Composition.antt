@@ -1,23 +1,34 @@
 -- What is still to come of a composition.
-use Rattle.std.specs.Prelude.{◌≡◌, ℕ, ◌+◌, ◌≤◌, List, [], ◌∷◌, length, Option, Result, MatchResult, IfErr, IfOk, IsOk, OnErr}
+use Rattle.std.specs.Prelude.{◌≡◌, ℕ, ◌+◌, ◌≤◌, List, [], ◌∷◌, ◌++◌, length, All, Option, Result, MatchResult}
+use Rattle.std.specs.Prelude.{◌<◌, IfErr, IfOk, IfSome, IsOk, OnErr, OnSome}
 use Rattle.std.specs.Iterator.{Count}
 use Rattle.normal_forms.specs.Reading.{Reading}
 use Rattle.normal_forms.specs.CompositionByStarters.{compose_after}
-use Rattle.normalizer_tables.specs.Characters.{Characters}
+use Rattle.normal_forms.specs.Order.{order}
+use Rattle.normalizer_tables.specs.Characters.{Characters, list_of}
+use Rattle.normalizer_tables.specs.Ignored.{ignored_list}
+use Rattle.normalizer_tables.specs.PairConditions.{HasOrderedLists}
 use Rattle.normalizer_tables.specs.Pairs.{Pair}
 use Rattle.normalizer_tables.specs.Readings.{reading_by}
+use Rattle.normalizer_tables.specs.declared.characters.IgnoredCharacters.{IgnoredCharacters}
 use Rattle.normalizer_tables.specs.declared.characters.IgnoredCharacters.TheVariants.{Dropped}
 use Rattle.normalizer_text.specs.Steps.{Spells}
-use Rattle.normalizer_iterators.specs.declared.composition.Ahead.TheVariants.{Ended}
 use Rattle.normalizer_iterators.specs.declared.composition.Composition.{Composition}
 use Rattle.normalizer_iterators.specs.declared.decomposition.Decomposition.{Decomposition}
 use Rattle.normalizer_iterators.specs.declared.error.NormalizeError.{NormalizeError}
 use Rattle.normalizer_iterators.specs.declared.error.NormalizeError.TheVariants.{Memory}
-use Rattle.normalizer_iterators.specs.Composing.{UnlessEnded, WillGiveBehind, GivesShort, ahead_left}
+use Rattle.normalizer_iterators.specs.Composing.{IsBeforeStarter, WillGiveBehind, GivesShort, ahead_left}
 use Rattle.normalizer_iterators.specs.Decomposition as decomposition
-use Rattle.normalizer_iterators.specs.Delegate.{Extent, MayGive}
+use Rattle.normalizer_iterators.specs.Delegate.{Extent, MayGive, Source}
 use Rattle.normalizer_iterators.specs.NextItem.{CameFirst, GaveFirst, YieldsNext}
 use Rattle.normalizer_iterators.specs.StayingMarks.{staying}
+
+-- if the data meet condition 14, the list of what a and c compose to is the lists of both, in canonical order
+abbrev pub HasListsOfBoth : Characters → List Pair → ℕ → ℕ → Option ℕ → Type 0
+HasListsOfBoth s pairs a c result =
+    (ignored : IgnoredCharacters) → All (HasOrderedLists s (ignored_list ignored)) pairs
+    → IfSome result (λ r. list_of s (ignored_list ignored) r
+    ≡ order (reading_by s Dropped []) (list_of s (ignored_list ignored) a ++ list_of s (ignored_list ignored) c))
 
 module _ {I : Type 0} where
   -- the data and the pairs by which it composes
@@ -38,11 +49,11 @@ module _ {I : Type 0} where
 
   -- the runs that are still to come are short
   abbrev pub StaysShort : (I → Option ℕ → I → Type 0) → Composition I → Type 0
-  StaysShort gives s = UnlessEnded s.ahead (GivesShort gives (pairing_by s) s.decomposed)
+  StaysShort gives s = GivesShort gives (pairing_by s) s.decomposed
 
   -- nothing is to come
   abbrev pub IsEnded : Composition I → Type 0
-  IsEnded s = (s.ahead ≡ Ended) × (staying s.marks ≡ [])
+  IsEnded s = IsBeforeStarter s.ahead × (staying s.marks ≡ []) × decomposition.IsEnded s.decomposed
 
   -- the delegate may be called, and ends
   abbrev pub CanCompose : (I → Type 0) → (I → Count) → Composition I → Type 0
@@ -53,25 +64,28 @@ module _ {I : Type 0} where
   items_left left s = length (staying s.marks) + ahead_left s.ahead (decomposition.items_left left s.decomposed)
 
   -- a starter was composed with what was decomposed after it, and yielded, or a fault came
-  pub record ComposesOn (can : I → Type 0) (gives : I → Option ℕ → I → Type 0) (left : I → Count) (starter : ℕ)
-      (old : Decomposition I) (pairs : List Pair) (r : Result ℕ NormalizeError) (t : Composition I) : Type 0 where
-    pub first : (y : List ℕ) → decomposition.WillGive (Spells gives) old y → MatchResult r
-        (GaveFirst (WillGive (Spells gives)) (compose_after (reading_by old.characters Dropped pairs) starter [] y) t)
-        (λ _. WillGive (Spells gives) t [])
-    pub came : (e : Extent) → IfOk r (λ c. (rest : List ℕ) → WillGive (MayGive gives e) t rest → (y : List ℕ)
-        × decomposition.WillGive (MayGive gives e) old y
+  pub record ComposesOn (from : Source I) (starter : ℕ) (old : Decomposition I) (pairs : List Pair)
+      (r : Result ℕ NormalizeError) (t : Composition I) : Type 0 where
+    pub first : (y : List ℕ) → decomposition.WillGive (Spells from.next_gives) old y → MatchResult r
+        (GaveFirst (WillGive (Spells from.next_gives))
+        (compose_after (reading_by old.characters Dropped pairs) starter [] y) t)
+        (λ _. WillGive (Spells from.next_gives) t [])
+    pub came : (e : Extent) → IfOk r (λ c. (rest : List ℕ) → WillGive (MayGive from.next_gives e) t rest → (y : List ℕ)
+        × decomposition.WillGive (MayGive from.next_gives e) old y
         × (compose_after (reading_by old.characters Dropped pairs) starter [] y ≡ c ∷ rest))
     pub fault : IfErr r (λ e. e ≡ Memory)
-    pub room : GivesShort gives (reading_by old.characters Dropped pairs) old → IsOk r × StaysShort gives t
+    pub room : GivesShort from.next_gives (reading_by old.characters Dropped pairs) old
+        → IsOk r × StaysShort from.next_gives t
     pub ends : OnErr r (IsEnded t)
-    pub ready : CanCompose can left t
-    pub fewer : items_left left t ≤ decomposition.items_left left old
+    pub ready : CanCompose from.can_next from.remaining t
+    pub fewer : items_left from.remaining t ≤ decomposition.items_left from.remaining old
     pub kept : (t.decomposed.characters ≡ old.characters) × (t.pairs.now ≡ pairs)
 
   -- what a call of `next` returned and left
-  pub record CompositionSteps (can : I → Type 0) (gives : I → Option ℕ → I → Type 0) (left : I → Count)
-      (s : Composition I) (r : Option (Result ℕ NormalizeError)) (t : Composition I) : Type 0 where
-    pub item : YieldsNext (WillGive (Spells gives)) (StaysShort gives) IsEnded s r t
-    pub came : (e : Extent) → CameFirst (WillGive (MayGive gives e)) s r t
-    pub ready : CanCompose can left s → CanCompose can left t
+  pub record CompositionSteps (from : Source I) (s : Composition I) (r : Option (Result ℕ NormalizeError))
+      (t : Composition I) : Type 0 where
+    pub item : YieldsNext (WillGive (Spells from.next_gives)) (StaysShort from.next_gives) IsEnded s r t
+    pub came : (e : Extent) → CameFirst (WillGive (MayGive from.next_gives e)) s r t
+    pub ready : CanCompose from.can_next from.remaining s → CanCompose from.can_next from.remaining t
     pub kept : (t.decomposed.characters ≡ s.decomposed.characters) × (t.pairs.now ≡ s.pairs.now)
+    pub fewer : OnSome r (items_left from.remaining t < items_left from.remaining s)

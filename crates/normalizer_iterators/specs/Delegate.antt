@@ -1,7 +1,12 @@
 -- Iterators of characters that others read from.
 use Rattle.std.specs.Prelude.{◌≡◌, ℕ, ◌<◌, List, [], Option, MatchOption, OnSome, ⊤}
 use Rattle.std.specs.Iterator.{Count, Drains, IsFinite, Yields, size}
+use Rattle.std.specs.declared.iter.Iterator.{Ghosts}
 use Rattle.normalizer_text.specs.Steps.{Spells}
+
+-- what is said of an iterator of characters: when it may be called, what its calls yield, and how much is left
+abbrev pub Source : Type 0 → Type 1
+Source I = Ghosts I ℕ
 
 -- how far the calls of an iterator are followed: up to its first `None`, or so far
 pub data Extent : Type 0 where

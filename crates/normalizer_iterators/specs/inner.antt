@@ -2,4 +2,5 @@
 pub mod Chunk
 pub mod Passing
 pub mod ReadingOn
+pub mod Segments
 pub mod ShortText

@@ -1,20 +1,15 @@
 //! Composing text character by character (The Unicode Standard, D117, D120 and D121).
-ghost use Rattle.std.specs.Prelude.{◌≡◌, ◌<◌, ◌≤◌, ◌++◌, ℕ, All, List, [], Option, IfSome, IfErr, OnErr, IfOk};
+ghost use Rattle.std.specs.Prelude.{◌≡◌, ◌<◌, ◌≤◌, ℕ, List, [], Option, IfErr, OnErr, IfOk};
 ghost use Rattle.std.specs.Prelude.{IsOk, IsOkUnless};
 ghost use Rattle.std.specs.Iterator.{at_most, IsFinite, MakesProgress};
 ghost use Rattle.normal_forms.specs.Forms.{nfc};
-ghost use Rattle.normal_forms.specs.Order.{order};
 ghost use Rattle.normal_forms.specs.CompositionByStarters.{join};
 ghost use Rattle.normal_forms.specs.ShortRuns.{places};
-ghost use Rattle.normalizer_tables.specs.declared.characters.IgnoredCharacters.{IgnoredCharacters};
-ghost use Rattle.normalizer_tables.specs.Characters.{has_class_form, list_of};
-ghost use Rattle.normalizer_tables.specs.Ignored.{ignored_list};
-ghost use Rattle.normalizer_tables.specs.PairConditions.{HasOrderedLists};
+ghost use Rattle.normalizer_tables.specs.Characters.{has_class_form};
 ghost use Rattle.normalizer_tables.specs.Pairs.{pair_of};
 ghost use Rattle.normalizer_tables.specs.Readings.{reading_by};
-ghost use Rattle.normalizer_tables.specs.declared.characters.IgnoredCharacters.TheVariants.{Dropped};
 ghost use Rattle.normalizer_text.specs.Steps.{Spells};
-ghost use Rattle.normalizer_iterators.specs.declared.composition.Ahead.TheVariants.{Passed};
+ghost use Rattle.normalizer_iterators.specs.declared.composition.Ahead.TheVariants.{NoStarter, Passed};
 ghost use Rattle.normalizer_iterators.specs.Decomposition.{CanDecompose};
 ghost use Rattle.normalizer_iterators.specs.Delegate.{MayGive};
 ghost use Rattle.normalizer_iterators.specs.LazyComposing.{SuitsLazyComposing};
@@ -59,14 +54,12 @@ pub struct Composition<'data, I> {
 /// What comes after the marks that stay.
 #[derive(Clone, Copy)]
 enum Ahead {
-    /// What is decomposed, if no starter has come yet.
+    /// What is decomposed, if any is left: no starter has come yet, or the end is reached.
     NoStarter,
     /// A character that is passed, not yet decomposed, if any is left.
     Passed,
     /// A starter, and what is decomposed after it.
     Starter(char),
-    /// Nothing.
-    Ended,
 }
 
 /// What happened to a character after a starter and the marks that stay.
@@ -85,6 +78,7 @@ impl<'data, I: Iterator<Item = char> + Drop> Composition<'data, I> {
       CanCompose,
       ComposesOn,
       CompositionSteps,
+      HasListsOfBoth,
       StaysShort,
       WillGive,
       data_of_composition,
@@ -130,11 +124,8 @@ impl<'data, I: Iterator<Item = char> + Drop> Composition<'data, I> {
     /// the result is the lists of the two, in canonical order. It takes no memory.
     pub fn compose(&self, starter: char, second: char) -> Option<char>
         ensures pair { result ≡ pair_of (pairs_of_composition self.now) starter second }
-        ensures lists { let s = data_of_composition self.now in (ignored : IgnoredCharacters) →
-            All (HasOrderedLists s (ignored_list ignored)) (pairs_of_composition self.now) →
-            IfSome result (λ c. list_of s (ignored_list ignored) c ≡
-            order (reading_by s Dropped [])
-            (list_of s (ignored_list ignored) starter ++ list_of s (ignored_list ignored) second)) }
+        ensures lists { HasListsOfBoth (data_of_composition self.now) (pairs_of_composition self.now) starter second
+            result }
     {
         compose(self.pairs, starter, second)
     }
@@ -142,8 +133,7 @@ impl<'data, I: Iterator<Item = char> + Drop> Composition<'data, I> {
     /// Composes a starter with what follows it.
     fn compose_on(&mut self, starter: char) -> Result<char, NormalizeError>
         requires { CanCompose I.can_next I.remaining self.old }
-        ensures { ComposesOn I.can_next I.next_gives I.remaining starter self.old.decomposed self.old.pairs.now
-            result self.new }
+        ensures { ComposesOn I.Iterator starter self.old.decomposed self.old.pairs.now result self.new }
     {
         match compose_starter(
             &mut self.decomposed,
@@ -158,7 +148,8 @@ impl<'data, I: Iterator<Item = char> + Drop> Composition<'data, I> {
             }
             Err(error) => {
                 self.marks.clear();
-                self.ahead = Ahead::Ended;
+                self.decomposed.stop();
+                self.ahead = Ahead::NoStarter;
                 Err(error)
             }
         }
@@ -171,9 +162,7 @@ impl<'data, I: Iterator<Item = char> + Drop> Composition<'data, I> {
         requires marks { staying self.old.marks ≡ [] }
         requires ahead { IsBeforeStarter self.old.ahead }
         requires at_passed { IsAtPassed self.old.pairs.now self.old.decomposed }
-        ensures steps { CompositionSteps I.can_next I.next_gives I.remaining self.old result self.new }
-        ensures goes { MakesProgress (CanCompose I.can_next I.remaining) (λ s. at_most (items_left I.remaining s))
-            self.old result self.new }
+        ensures { CompositionSteps I.Iterator self.old result self.new }
     {
         match pass_next(&mut self.decomposed, self.bounds) {
             Some(Ok(Given::Itself(character))) => {
@@ -185,12 +174,54 @@ impl<'data, I: Iterator<Item = char> + Drop> Composition<'data, I> {
                 Some(self.compose_on(starter))
             }
             Some(Err(error)) => {
-                self.ahead = Ahead::Ended;
+                self.ahead = Ahead::NoStarter;
                 Some(Err(error))
             }
             None => {
-                self.ahead = Ahead::Ended;
+                self.ahead = Ahead::NoStarter;
                 None
+            }
+        }
+    }
+
+    /// Yields what is decomposed next; a starter is composed with what follows it.
+    #[inline(always)]
+    fn next_decomposed(&mut self) -> Option<Result<char, NormalizeError>>
+        requires can { CanCompose I.can_next I.remaining self.old }
+        requires marks { staying self.old.marks ≡ [] }
+        requires ahead { self.old.ahead ≡ NoStarter }
+        ensures { CompositionSteps I.Iterator self.old result self.new }
+    {
+        match self.decomposed.next_with_class() {
+            Some(Ok(given)) => {
+                if given.class == 0 {
+                    Some(self.compose_on(given.character))
+                } else {
+                    Some(Ok(given.character))
+                }
+            }
+            Some(Err(error)) => Some(Err(error)),
+            None => None,
+        }
+    }
+
+    /// Yields the next character: a mark that stays, or what a starter and what follows it compose to.
+    #[inline(always)]
+    fn next_item(&mut self) -> Option<Result<char, NormalizeError>>
+        requires { CanCompose I.can_next I.remaining self.old }
+        ensures { CompositionSteps I.Iterator self.old result self.new }
+    {
+        if let Some(mark) = self.marks.pop_front() {
+            return Some(Ok(mark));
+        }
+        match self.ahead {
+            Ahead::Starter(starter) => Some(self.compose_on(starter)),
+            Ahead::Passed => self.pass(),
+            Ahead::NoStarter => {
+                if is_at_passed(&self.decomposed, self.bounds) {
+                    return self.pass();
+                }
+                self.next_decomposed()
             }
         }
     }
@@ -218,7 +249,7 @@ fn compose_starter<I: Iterator<Item = char> + Drop>(
     marks.clear();
     while !is_at_passed(decomposed, bounds) {
         let Some(item) = decomposed.next_with_class() else {
-            return Ok((composite, Ahead::Ended));
+            return Ok((composite, Ahead::NoStarter));
         };
         let given = match item {
             Ok(given) => given,
@@ -279,41 +310,12 @@ impl<'data, I: Iterator<Item = char> + Drop> Iterator for Composition<'data, I> 
 
     ghost can_next = { CanCompose I.can_next I.remaining };
 
-    ghost next_gives = { CompositionSteps I.can_next I.next_gives I.remaining };
+    ghost next_gives = { CompositionSteps I.Iterator };
 
     ghost remaining = { λ s. at_most (items_left I.remaining s) };
 
     #[inline(always)]
     fn next(&mut self) -> Option<Result<char, NormalizeError>> {
-        if let Some(mark) = self.marks.pop_front() {
-            return Some(Ok(mark));
-        }
-        match self.ahead {
-            Ahead::Ended => None,
-            Ahead::Starter(starter) => Some(self.compose_on(starter)),
-            Ahead::Passed => self.pass(),
-            Ahead::NoStarter => {
-                if is_at_passed(&self.decomposed, self.bounds) {
-                    return self.pass();
-                }
-                match self.decomposed.next_with_class() {
-                    Some(Ok(given)) => {
-                        if given.class == 0 {
-                            Some(self.compose_on(given.character))
-                        } else {
-                            Some(Ok(given.character))
-                        }
-                    }
-                    Some(Err(error)) => {
-                        self.ahead = Ahead::Ended;
-                        Some(Err(error))
-                    }
-                    None => {
-                        self.ahead = Ahead::Ended;
-                        None
-                    }
-                }
-            }
-        }
+        self.next_item()
     }
 }

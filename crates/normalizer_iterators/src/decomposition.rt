@@ -53,8 +53,10 @@ impl<'data, I: Iterator<Item = char> + Drop> Decomposition<'data, I> {
     ghost use Rattle.normalizer_iterators.specs.Decomposition.{
       CanDecompose,
       DecompositionSteps,
+      IsEnded,
       StaysShort,
       WillGive,
+      YieldsNfd,
       item_of,
       items_left,
     };
@@ -75,9 +77,8 @@ impl<'data, I: Iterator<Item = char> + Drop> Decomposition<'data, I> {
         requires can { I.can_next delegate }
         requires ends { IsFinite (I.remaining delegate) }
         requires sound { IsSoundNfdData decompositions.now tables.now }
-        ensures form { YieldsForm I.next_gives ⟦<Decomposition<'data, I> as Iterator>⟧.next_gives
-            (has_class_form (characters_from decompositions.now tables.now None))
-            (reading_by (characters_from decompositions.now tables.now None) Dropped []) nfd delegate result }
+        ensures form { YieldsNfd I.next_gives ⟦<Decomposition<'data, I> as Iterator>⟧.next_gives
+            (characters_from decompositions.now tables.now None) Dropped delegate result }
         ensures ready { IfOk result ⟦<Decomposition<'data, I> as Iterator>⟧.can_next }
     {
         let characters = CharacterData::new(decompositions, tables, None, false);
@@ -135,7 +136,7 @@ impl<'data, I: Iterator<Item = char> + Drop> Decomposition<'data, I> {
         requires ready { IsReadyBehind I.can_next I.remaining (character_of following) self.old.delegate }
         requires read { (before : I) ×
             HasRead I.next_gives I.remaining before (character_of following) self.old.delegate }
-        ensures ok { IfOk result (λ first. ChunkComes I.can_next I.next_gives I.remaining self.old read.character
+        ensures ok { IfOk result (λ first. ChunkComes I.Iterator self.old read.character
             (character_of following) first self.new) }
         ensures err { IfErr result (λ e. ChunkIsRefused I.next_gives I.remaining self.old read.character
             (character_of following) e self.new) }
@@ -164,15 +165,22 @@ impl<'data, I: Iterator<Item = char> + Drop> Decomposition<'data, I> {
         }
     }
 
+    /// Drops what is buffered and the character that was read last: nothing is to come.
+    pub(crate) fn stop(&mut self)
+        ensures ended { IsEnded self.new }
+        ensures kept { (self.new.characters ≡ self.old.characters) × (self.new.ignored ≡ self.old.ignored) }
+    {
+        self.pending = None;
+        self.waiting.clear();
+    }
+
     /// The next character with its canonical combining class.
     #[inline(always)]
     pub(crate) fn next_with_class(&mut self) -> Option<Result<Classed, NormalizeError>>
         requires { CanDecompose I.can_next I.remaining self.old }
         ensures class { IfSome result (λ item. IfOk item (λ given.
             given.class ≡ class_of self.old.characters given.character)) }
-        ensures steps { DecompositionSteps I.can_next I.next_gives I.remaining self.old (item_of result) self.new }
-        ensures goes { MakesProgress (CanDecompose I.can_next I.remaining)
-            (λ s. at_most (items_left I.remaining s)) self.old (item_of result) self.new }
+        ensures steps { DecompositionSteps I.Iterator self.old (item_of result) self.new }
     {
         if let Some(given) = self.waiting.pop_front() {
             return Some(Ok(given));
@@ -245,7 +253,7 @@ fn read_chunk<I: Iterator<Item = char> + Drop>(
     requires words { HasOwnWords characters.now following }
     requires anew { continues (has_class_form characters.now)
         (reading_by characters.now ignored []) read.character ≡ false }
-    ensures ok { IfOk result (λ r. ReadsChunkBehind I.can_next I.next_gives I.remaining characters.now ignored
+    ensures ok { IfOk result (λ r. ReadsChunkBehind I.Iterator characters.now ignored
         read.character (character_of following) delegate.old r.0 (character_of r.1) delegate.new waiting.new) }
     ensures words { IfOk result (λ r. HasOwnWords characters.now r.1) }
     ensures classes { OnOk result (AgreesWith (reading_by characters.now ignored []) waiting.new) }
@@ -269,7 +277,7 @@ impl<'data, I: Iterator<Item = char> + Drop> Iterator for Decomposition<'data, I
 
     ghost can_next = { CanDecompose I.can_next I.remaining };
 
-    ghost next_gives = { DecompositionSteps I.can_next I.next_gives I.remaining };
+    ghost next_gives = { DecompositionSteps I.Iterator };
 
     ghost remaining = { λ s. at_most (items_left I.remaining s) };
 

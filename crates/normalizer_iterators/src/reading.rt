@@ -28,7 +28,7 @@ pub(crate) fn read_on<I: Iterator<Item = char> + Drop>(
     requires ready { IsReadyBehind I.can_next I.remaining (character_of first) delegate.old }
     requires words { HasOwnWords characters.now first }
     requires classes { AgreesWith (reading_by characters.now ignored []) waiting.old }
-    ensures ok { IfOk result (λ pending. ReadsOnBehind I.can_next I.next_gives I.remaining characters.now ignored
+    ensures ok { IfOk result (λ pending. ReadsOnBehind I.Iterator characters.now ignored
         (character_of first) delegate.old waiting.old (character_of pending) delegate.new waiting.new) }
     ensures words { IfOk result (HasOwnWords characters.now) }
     ensures classes { OnOk result (AgreesWith (reading_by characters.now ignored []) waiting.new) }

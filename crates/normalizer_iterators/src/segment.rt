@@ -1,5 +1,5 @@
 //! The normal forms of short texts, in buffers that are used again.
-ghost use Rattle.std.specs.Prelude.{◌≡◌, ◌+◌, ◌≤◌, ◌++◌, [], ℕ, List, length, IsTrue};
+ghost use Rattle.std.specs.Prelude.{◌≡◌, ◌+◌, ◌≤◌, [], length, IsTrue};
 ghost use Rattle.normal_forms.specs.CompositionByStarters.{compose_by_starters};
 ghost use Rattle.normal_forms.specs.Decomposition.{expand};
 ghost use Rattle.normal_forms.specs.Forms.{nfd, nfc};
@@ -8,14 +8,14 @@ ghost use Rattle.normal_forms.specs.ShortRuns.{places};
 ghost use Rattle.normal_forms.specs.Reading.{Reading};
 ghost use Rattle.normalizer_tables.specs.Characters.{list_of};
 ghost use Rattle.normalizer_tables.specs.Ignored.{ignored_list};
-ghost use Rattle.normalizer_tables.specs.Pairs.{pair_of};
 ghost use Rattle.normalizer_tables.specs.Readings.{reading_by};
 ghost use Rattle.normalizer_tables.specs.declared.characters.IgnoredCharacters.TheVariants.{Dropped};
 ghost use Rattle.normalizer_text.specs.Encodings.{decoded_in};
-ghost use Rattle.normalizer_iterators.specs.LazyReading.{HasClassesFrom};
 ghost use Rattle.normalizer_iterators.specs.Reads.{HasOwnWord};
 ghost use Rattle.normalizer_iterators.specs.ShortText.{so_far};
-ghost use Rattle.normalizer_iterators.specs.WaitingList.{held, ordered, reordered, AgreesWith};
+ghost use Rattle.normalizer_iterators.specs.WaitingList.{held, ordered, AgreesWith};
+ghost use Rattle.normalizer_iterators.specs.inner.ReadingOn.{Adds, KeepsClasses};
+ghost use Rattle.normalizer_iterators.specs.inner.Segments.{composed_nfd, HasPairsOf};
 
 use crate::read::ReadCharacter;
 use crate::reading::push_from;
@@ -107,8 +107,7 @@ fn compose_in_order<U: Units>(
     text: &mut ShortText,
 ) -> bool
     ensures { IsTrue result → (ignored : IgnoredCharacters) → so_far text.new ≡
-        compose_by_starters (reading_by characters.now Dropped pairs.now)
-        (nfd (reading_by characters.now ignored []) (decoded_in U.encoding (U.units units))) }
+        composed_nfd characters.now ignored pairs.now (decoded_in U.encoding (U.units units)) }
 {
     text.clear();
     let mut position = 0;
@@ -171,14 +170,12 @@ fn push_list(
     waiting: &mut WaitingList,
 ) -> bool
     requires { HasOwnWord characters.now read }
-    ensures text { IsTrue result → (d : Reading) → HasClassesFrom characters.now d → AgreesWith d waiting.old →
-        (rest : List ℕ) → reordered d waiting.old (list_of characters.now (ignored_list ignored) read.character ++ rest)
-        ≡ reordered d waiting.new rest }
-    ensures classes { IsTrue result → (d : Reading) → HasClassesFrom characters.now d → AgreesWith d waiting.old →
-        AgreesWith d waiting.new }
-    ensures held { IsTrue result → (held waiting.new ≡
-        held waiting.old + length (list_of characters.now (ignored_list ignored) read.character)) ×
-        (held waiting.new ≤ places) }
+    ensures text { IsTrue result →
+        Adds characters.now (list_of characters.now (ignored_list ignored) read.character) waiting.old waiting.new }
+    ensures classes { IsTrue result → KeepsClasses characters.now waiting.old waiting.new }
+    ensures held { IsTrue result → held waiting.new ≡
+        held waiting.old + length (list_of characters.now (ignored_list ignored) read.character) }
+    ensures short { IsTrue result → held waiting.new ≤ places }
     ensures fits { held waiting.old + length (list_of characters.now (ignored_list ignored) read.character) ≤ places
         → IsTrue result }
 {
@@ -213,8 +210,7 @@ fn compose_all(
     waiting: &mut WaitingList,
     text: &mut ShortText,
 ) -> bool
-    ensures text { IsTrue result → (d : Reading) → AgreesWith d waiting.old →
-        ((a c : ℕ) → pair_of pairs.now a c ≡ d.pair a c) →
+    ensures text { IsTrue result → (d : Reading) → AgreesWith d waiting.old → HasPairsOf pairs.now d →
         so_far text.new ≡ compose_by_starters d (ordered waiting.old) }
     ensures fits { length (ordered waiting.old) ≤ places → IsTrue result }
 {

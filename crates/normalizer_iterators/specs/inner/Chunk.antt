@@ -5,13 +5,13 @@ use Rattle.normalizer_iterators.specs.declared.decomposition.Decomposition.{Deco
 use Rattle.normalizer_iterators.specs.declared.error.NormalizeError.{NormalizeError}
 use Rattle.normalizer_iterators.specs.declared.error.NormalizeError.TheVariants.{Memory}
 use Rattle.normalizer_iterators.specs.Decomposition.{IsEnded, pending_of}
+use Rattle.normalizer_iterators.specs.Delegate.{Source}
 use Rattle.normalizer_iterators.specs.inner.ReadingOn.{ReadsChunkBehind, ChunkDidNotFitBehind}
 
 module _ {I : Type 0} where
   -- the chunk of c was read, after which `last` was read before, and its first character came
-  abbrev pub ChunkComes : (I → Type 0) → (I → Option ℕ → I → Type 0) → (I → Count) → Decomposition I → ℕ → Option ℕ
-      → ℕ → Decomposition I → Type 0
-  ChunkComes can gives left old c last first new = ReadsChunkBehind can gives left old.characters old.ignored c last
+  abbrev pub ChunkComes : Source I → Decomposition I → ℕ → Option ℕ → ℕ → Decomposition I → Type 0
+  ChunkComes from old c last first new = ReadsChunkBehind from old.characters old.ignored c last
       old.delegate first (pending_of new) new.delegate new.waiting
 
   -- its chunk did not fit, and nothing is to come

@@ -1,7 +1,6 @@
 -- Passing characters of a text that is decomposed.
 use Rattle.std.specs.Prelude.{◌≡◌, ℕ, ◌<◌, List, [], ◌∷◌, ◌++◌, Option, Some, None, Result, Ok, Err, IfSome}
 use Rattle.std.specs.Prelude.{MatchOption}
-use Rattle.std.specs.Iterator.{Count}
 use Rattle.std.specs.Option.{ForSome}
 use Rattle.normal_forms.specs.Reading.{IsStarter}
 use Rattle.normal_forms.specs.CompositionByStarters.{compose_by_starters}
@@ -17,7 +16,7 @@ use Rattle.normalizer_iterators.specs.declared.composition.passing.Given.TheVari
 use Rattle.normalizer_iterators.specs.declared.error.NormalizeError.{NormalizeError}
 use Rattle.normalizer_iterators.specs.Decomposition.{CanDecompose, DecompositionSteps, StaysShort, WillGive}
 use Rattle.normalizer_iterators.specs.Decomposition.{items_left, pending_of}
-use Rattle.normalizer_iterators.specs.Delegate.{Extent, MayGive}
+use Rattle.normalizer_iterators.specs.Delegate.{Extent, MayGive, Source}
 use Rattle.normalizer_iterators.specs.LazyComposing.{IsPassed, StandsApartIn, SuitsLazyComposing}
 use Rattle.normalizer_iterators.specs.WaitingList.{ordered}
 
@@ -36,37 +35,35 @@ module _ {I : Type 0} where
     pub apart : ForSome (pending_of s) (StandsApartIn s.characters pairs s.ignored)
 
   -- c was yielded as it is: what was to come for it composes to c alone, apart from the rest
-  pub record PassesOn (can : I → Type 0) (gives : I → Option ℕ → I → Type 0) (left : I → Count) (pairs : List Pair)
-      (s : Decomposition I) (c : ℕ) (t : Decomposition I) : Type 0 where
-    pub text : (y : List ℕ) → WillGive (Spells gives) s y → (own : List ℕ) × (rest : List ℕ) × (y ≡ own ++ rest)
-        × (compose_by_starters (reading_by s.characters Dropped pairs) y
-        ≡ c ∷ compose_by_starters (reading_by s.characters Dropped pairs) rest) × WillGive (Spells gives) t rest
-    pub came : (e : Extent) (rest : List ℕ) → WillGive (MayGive gives e) t rest → (y : List ℕ)
-        × WillGive (MayGive gives e) s y × (compose_by_starters (reading_by s.characters Dropped pairs) y
+  pub record PassesOn (from : Source I) (pairs : List Pair) (s : Decomposition I) (c : ℕ) (t : Decomposition I)
+      : Type 0 where
+    pub text : (y : List ℕ) → WillGive (Spells from.next_gives) s y → (own : List ℕ) × (rest : List ℕ)
+        × (y ≡ own ++ rest) × (compose_by_starters (reading_by s.characters Dropped pairs) y
         ≡ c ∷ compose_by_starters (reading_by s.characters Dropped pairs) rest)
-    pub short : StaysShort gives s → StaysShort gives t
-    pub ready : CanDecompose can left t
+        × WillGive (Spells from.next_gives) t rest
+    pub came : (e : Extent) (rest : List ℕ) → WillGive (MayGive from.next_gives e) t rest → (y : List ℕ)
+        × WillGive (MayGive from.next_gives e) s y × (compose_by_starters (reading_by s.characters Dropped pairs) y
+        ≡ c ∷ compose_by_starters (reading_by s.characters Dropped pairs) rest)
+    pub short : StaysShort from.next_gives s → StaysShort from.next_gives t
+    pub ready : CanDecompose from.can_next from.remaining t
     pub at_passed : IsAtPassed pairs t
     pub kept : t.characters ≡ s.characters
-    pub fewer : items_left left t < items_left left s
+    pub fewer : items_left from.remaining t < items_left from.remaining s
 
   -- the first member of a list was yielded, a starter
-  pub record YieldsStarter (can : I → Type 0) (gives : I → Option ℕ → I → Type 0) (left : I → Count)
-      (s : Decomposition I) (c : ℕ) (t : Decomposition I) : Type 0 where
-    pub steps : DecompositionSteps can gives left s (Some (Ok c)) t
+  pub record YieldsStarter (from : Source I) (s : Decomposition I) (c : ℕ) (t : Decomposition I) : Type 0 where
+    pub steps : DecompositionSteps from s (Some (Ok c)) t
     pub starter : (pairs : List Pair) → IsStarter (reading_by s.characters Dropped pairs) c
-    pub fewer : items_left left t < items_left left s
 
-  abbrev pub Passes : (I → Type 0) → (I → Option ℕ → I → Type 0) → (I → Count) → List Pair → Decomposition I
-      → Option (Result Given NormalizeError) → Decomposition I → Type 0
-  Passes can gives left pairs s None t = DecompositionSteps can gives left s None t
-  Passes can gives left pairs s (Some (Err e)) t =
-      DecompositionSteps can gives left s (Some (Err e)) t × (items_left left t < items_left left s)
-  Passes can gives left pairs s (Some (Ok (Itself c))) t = PassesOn can gives left pairs s c t
-  Passes can gives left pairs s (Some (Ok (FirstMember c))) t = YieldsStarter can gives left s c t
+  abbrev pub Passes : Source I → List Pair → Decomposition I → Option (Result Given NormalizeError) → Decomposition I
+      → Type 0
+  Passes from pairs s None t = DecompositionSteps from s None t
+  Passes from pairs s (Some (Err e)) t = DecompositionSteps from s (Some (Err e)) t
+  Passes from pairs s (Some (Ok (Itself c))) t = PassesOn from pairs s c t
+  Passes from pairs s (Some (Ok (FirstMember c))) t = YieldsStarter from s c t
 
   -- the same by all pairs that may be composed lazily
-  abbrev pub PassesBy : (I → Type 0) → (I → Option ℕ → I → Type 0) → (I → Count) → Bounds → Decomposition I
-      → Option (Result Given NormalizeError) → Decomposition I → Type 0
-  PassesBy can gives left b s r t = (pairs : List Pair) → SuitsLazyComposing s.characters b pairs
-      → IsAtPassed pairs s → Passes can gives left pairs s r t
+  abbrev pub PassesBy : Source I → Bounds → Decomposition I → Option (Result Given NormalizeError) → Decomposition I
+      → Type 0
+  PassesBy from b s r t = (pairs : List Pair) → SuitsLazyComposing s.characters b pairs
+      → IsAtPassed pairs s → Passes from pairs s r t

@@ -13,7 +13,7 @@ use Rattle.normalizer_tables.specs.Readings.{reading_by}
 use Rattle.normalizer_text.specs.Steps.{Spells}
 use Rattle.normalizer_iterators.specs.declared.waiting.WaitingList.{WaitingList}
 use Rattle.normalizer_iterators.specs.WaitingList.{ordered, unordered, held, reordered, AgreesWith}
-use Rattle.normalizer_iterators.specs.Delegate.{HasRead, IsReadyBehind}
+use Rattle.normalizer_iterators.specs.Delegate.{HasRead, IsReadyBehind, Source}
 use Rattle.normalizer_iterators.specs.LazyReading.{HasClassesFrom}
 
 -- by each reading that has the classes of the data: these characters were added, and classes are still right
@@ -31,18 +31,18 @@ IfShortRuns gives s ignored it P =
     (x : List ℕ) → Spells gives it x → HasShortRuns (has_class_form s) (reading_by s ignored []) x → P
 
 -- characters that continue were read from a delegate, and are buffered in order; then one after a boundary, or None
-pub record ReadsOn {I : Type 0} (can : I → Type 0) (gives : I → Option ℕ → I → Type 0) (left : I → Count)
+pub record ReadsOn {I : Type 0} (from : Source I)
     (has_class_form : ℕ → Bool) (d : Reading) (delegate : I) (waiting : WaitingList) (pending : Option ℕ)
     (delegate_after : I) (waiting_after : WaitingList) : Type 0 where
   pub read : List ℕ
-  pub run : YieldsThen gives delegate read pending delegate_after
+  pub run : YieldsThen from.next_gives delegate read pending delegate_after
   pub continuing : AllPass (continues has_class_form d) read
   pub anew : IfSome pending (λ c. continues has_class_form d c ≡ false)
   pub text : ordered waiting_after ≡ reordered d waiting (expand d read)
   pub settled : unordered waiting_after ≡ []
-  pub ready : IsReadyBehind can left pending delegate_after
-  pub fewer : MatchOption pending (length read ≤ size (left delegate))
-      (λ _. size (left delegate_after) + length read < size (left delegate))
+  pub ready : IsReadyBehind from.can_next from.remaining pending delegate_after
+  pub fewer : MatchOption pending (length read ≤ size (from.remaining delegate))
+      (λ _. size (from.remaining delegate_after) + length read < size (from.remaining delegate))
 
 -- the lists of characters that continue did not fit after what was buffered
 pub record DidNotFit {I : Type 0} (gives : I → Option ℕ → I → Type 0) (has_class_form : ℕ → Bool) (d : Reading)
@@ -55,20 +55,20 @@ pub record DidNotFit {I : Type 0} (gives : I → Option ℕ → I → Type 0) (h
 
 -- the first member of the list of a character came; the others and the lists of the characters that continue it are
 -- buffered in order; then one after a boundary was read, or None
-pub record ReadsChunk {I : Type 0} (can : I → Type 0) (gives : I → Option ℕ → I → Type 0) (left : I → Count)
+pub record ReadsChunk {I : Type 0} (from : Source I)
     (has_class_form : ℕ → Bool) (d : Reading) (character : ℕ) (delegate : I) (first : ℕ) (pending : Option ℕ)
     (delegate_after : I) (waiting_after : WaitingList) : Type 0 where
   pub others : List ℕ
   pub members : d.list character ≡ first ∷ others
   pub read : List ℕ
-  pub run : YieldsThen gives delegate read pending delegate_after
+  pub run : YieldsThen from.next_gives delegate read pending delegate_after
   pub continuing : AllPass (continues has_class_form d) read
   pub anew : IfSome pending (λ c. continues has_class_form d c ≡ false)
   pub text : ordered waiting_after ≡ order d (others ++ expand d read)
   pub settled : unordered waiting_after ≡ []
-  pub ready : IsReadyBehind can left pending delegate_after
-  pub fewer : MatchOption pending (length read ≤ size (left delegate))
-      (λ _. size (left delegate_after) + length read < size (left delegate))
+  pub ready : IsReadyBehind from.can_next from.remaining pending delegate_after
+  pub fewer : MatchOption pending (length read ≤ size (from.remaining delegate))
+      (λ _. size (from.remaining delegate_after) + length read < size (from.remaining delegate))
 
 -- a character is its own list, and what was read after it does not continue it
 pub record StandsAlone (has_class_form : ℕ → Bool) (d : Reading) (character : ℕ) (following : Option ℕ) : Type 0 where
@@ -85,10 +85,10 @@ pub record ChunkDidNotFit {I : Type 0} (gives : I → Option ℕ → I → Type 
   pub too_long : places < length (d.list character) - 1 + length (expand d read)
 
 -- the same using data, from the delegate as it was before `last` was read from it
-abbrev pub ReadsOnBehind : {I : Type 0} → (I → Type 0) → (I → Option ℕ → I → Type 0) → (I → Count) → Characters
+abbrev pub ReadsOnBehind : {I : Type 0} → Source I → Characters
     → IgnoredCharacters → Option ℕ → I → WaitingList → Option ℕ → I → WaitingList → Type 0
-ReadsOnBehind {I = I} can gives left s ignored last delegate waiting pending delegate_after waiting_after =
-    (before : I) → HasRead gives left before last delegate → ReadsOn can gives left (has_class_form s)
+ReadsOnBehind {I = I} from s ignored last delegate waiting pending delegate_after waiting_after =
+    (before : I) → HasRead from.next_gives from.remaining before last delegate → ReadsOn from (has_class_form s)
     (reading_by s ignored []) before waiting pending delegate_after waiting_after
 
 abbrev pub DidNotFitBehind : {I : Type 0} → (I → Option ℕ → I → Type 0) → (I → Count) → Characters
@@ -97,10 +97,10 @@ DidNotFitBehind {I = I} gives left s ignored last delegate waiting =
     (before : I) → HasRead gives left before last delegate → DidNotFit gives (has_class_form s)
     (reading_by s ignored []) before waiting
 
-abbrev pub ReadsChunkBehind : {I : Type 0} → (I → Type 0) → (I → Option ℕ → I → Type 0) → (I → Count) → Characters
+abbrev pub ReadsChunkBehind : {I : Type 0} → Source I → Characters
     → IgnoredCharacters → ℕ → Option ℕ → I → ℕ → Option ℕ → I → WaitingList → Type 0
-ReadsChunkBehind {I = I} can gives left s ignored c last delegate first pending delegate_after waiting_after =
-    (before : I) → HasRead gives left before last delegate → ReadsChunk can gives left (has_class_form s)
+ReadsChunkBehind {I = I} from s ignored c last delegate first pending delegate_after waiting_after =
+    (before : I) → HasRead from.next_gives from.remaining before last delegate → ReadsChunk from (has_class_form s)
     (reading_by s ignored []) c before first pending delegate_after waiting_after
 
 abbrev pub ChunkDidNotFitBehind : {I : Type 0} → (I → Option ℕ → I → Type 0) → (I → Count) → Characters

@@ -1,7 +1,9 @@
 -- A short text to which characters in canonical order are added, each composed as D117 says.
-use Rattle.std.specs.Prelude.{◌≡◌, ℕ, ◌+◌, nat_le, List, ◌++◌, take, drop, get_or, Option, Some, None}
+use Rattle.std.specs.Prelude.{◌≡◌, ℕ, ◌+◌, nat_le, List, ◌∷◌, ◌++◌, take, drop, get_or, Option, Some, None}
+use Rattle.std.specs.Prelude.{MatchOption}
 use Rattle.normal_forms.specs.Reading.{Reading}
 use Rattle.normal_forms.specs.CompositionByStarters.{is_above, join, compose_after, compose_by_starters}
+use Rattle.normalizer_tables.specs.Pairs.{Pair, pair_of}
 use Rattle.normalizer_iterators.specs.declared.segment.short_text.ShortText.{ShortText}
 use Rattle.normalizer_iterators.specs.ShortText.{so_far}
 
@@ -33,3 +35,15 @@ join_at d x (Some place) c = join d (get_or x place 0) (drop (place + 1) x) c
 -- the same of the characters so far
 unfoldable pub join_last : Reading → ShortText → ℕ → Option ℕ
 join_last d b c = join_at d (so_far b) b.starter c
+
+-- c was added: the old text and c, and whatever is still to come, compose to the same as the new one
+abbrev pub Adds : Reading → ℕ → ShortText → ShortText → Type 0
+Adds d c old new = (rest : List ℕ) → composing d old (c ∷ rest) ≡ composing d new rest
+
+-- the reading composes each character with c as the pairs say
+abbrev pub HasPairsWith : List Pair → ℕ → Reading → Type 0
+HasPairsWith pairs c d = (a : ℕ) → pair_of pairs a c ≡ d.pair a c
+
+-- a place and this composite, or None if there is none
+abbrev pub IsJoined : Option ℕ → Option (ℕ × ℕ) → Type 0
+IsJoined composite result = MatchOption result (composite ≡ None) (λ r. composite ≡ Some r.1)

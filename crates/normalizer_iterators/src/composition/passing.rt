@@ -47,7 +47,7 @@ pub(crate) fn pass_next<I: Iterator<Item = char> + Drop>(
     requires can { CanDecompose I.can_next I.remaining decomposed.old }
     requires anew { PassedBeginAnew decomposed.old.characters bounds decomposed.old.ignored }
     requires empty { ordered decomposed.old.waiting ≡ [] }
-    ensures { PassesBy I.can_next I.next_gives I.remaining bounds decomposed.old result decomposed.new }
+    ensures { PassesBy I.Iterator bounds decomposed.old result decomposed.new }
 {
     let read = decomposed.pending.take()?;
     let following = read_from(

@@ -1,12 +1,11 @@
 //! A short text to which characters in canonical order are added, each composed with the last starter (The Unicode
 //! Standard, D117).
 ghost use Rattle.std.specs.Prelude.{◌≡◌, ◌+◌, ◌<◌, ◌≤◌, ◌∷◌, ◌++◌, [], ℕ, List, length};
-ghost use Rattle.std.specs.Prelude.{IfSome, IsTrue, MatchOption, None, Some};
+ghost use Rattle.std.specs.Prelude.{IfSome, IsTrue, None, Some};
 ghost use Rattle.std.specs.Option.{ForSome};
 ghost use Rattle.normal_forms.specs.Reading.{Reading};
 ghost use Rattle.normal_forms.specs.CompositionByStarters.{compose_by_starters};
 ghost use Rattle.normal_forms.specs.ShortRuns.{places};
-ghost use Rattle.normalizer_tables.specs.Pairs.{pair_of};
 
 use crate::waiting::{Classed, PLACES};
 use normalizer_tables::{CanonicalCompositions, compose};
@@ -27,7 +26,8 @@ pub(crate) struct ShortText {
 
 impl ShortText {
     ghost use Rattle.normalizer_iterators.specs.ShortText.{so_far};
-    ghost use Rattle.normalizer_iterators.specs.inner.ShortText.{composing, join_last, BlocksBelow};
+    ghost use Rattle.normalizer_iterators.specs.inner.ShortText.{composing, join_last, Adds, BlocksBelow};
+    ghost use Rattle.normalizer_iterators.specs.inner.ShortText.{HasPairsWith, IsJoined};
 
     pub(crate) fn new() -> Self
         ensures { so_far result ≡ [] }
@@ -82,9 +82,8 @@ impl ShortText {
     /// adds the character, if there is room.
     #[inline(always)]
     pub(crate) fn compose(&mut self, pairs: &CanonicalCompositions, given: Classed) -> bool
-        ensures text { IsTrue result → (d : Reading) → given.class ≡ d.class given.character →
-            ((a : ℕ) → pair_of pairs.now a given.character ≡ d.pair a given.character) → BlocksBelow d self.old →
-            (rest : List ℕ) → composing d self.old (given.character ∷ rest) ≡ composing d self.new rest }
+        ensures text { IsTrue result → (d : Reading) → given.class ≡ d.class given.character → HasPairsWith pairs.now
+            given.character d → BlocksBelow d self.old → Adds d given.character self.old self.new }
         ensures blocking { IsTrue result → (d : Reading) → given.class ≡ d.class given.character →
             BlocksBelow d self.old → BlocksBelow d self.new }
         ensures room { self.old.len < places → IsTrue result }
@@ -103,10 +102,8 @@ impl ShortText {
     #[inline(always)]
     fn joined(&self, pairs: &CanonicalCompositions, given: Classed) -> Option<(usize, char)>
         ensures place { IfSome result (λ r. self.now.starter ≡ Some r.0) }
-        ensures joins { (d : Reading) → given.class ≡ d.class given.character →
-            ((a : ℕ) → pair_of pairs.now a given.character ≡ d.pair a given.character) → BlocksBelow d self.now →
-            MatchOption result (join_last d self.now given.character ≡ None)
-            (λ r. join_last d self.now given.character ≡ Some r.1) }
+        ensures joins { (d : Reading) → given.class ≡ d.class given.character → HasPairsWith pairs.now given.character d
+            → BlocksBelow d self.now → IsJoined (join_last d self.now given.character) result }
     {
         let place = self.starter?;
         if self.unblocked > given.class as u16 {
@@ -120,8 +117,7 @@ impl ShortText {
     #[inline(always)]
     fn add(&mut self, given: Classed) -> bool
         ensures text { IsTrue result → (d : Reading) → given.class ≡ d.class given.character →
-            join_last d self.old given.character ≡ None →
-            (rest : List ℕ) → composing d self.old (given.character ∷ rest) ≡ composing d self.new rest }
+            join_last d self.old given.character ≡ None → Adds d given.character self.old self.new }
         ensures blocking { IsTrue result → (d : Reading) → given.class ≡ d.class given.character →
             BlocksBelow d self.old → BlocksBelow d self.new }
         ensures room { self.old.len < places → IsTrue result }

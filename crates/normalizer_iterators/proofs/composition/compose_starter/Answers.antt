@@ -16,41 +16,38 @@ known_class s old same given is = is ∙ ap (λ k. class_of k given.character) s
 
 pub loop-bounds-init : goal.loop-bounds-init
 loop-bounds-init g c =
-    ComposedSoFar-none g.I.Iterator.can_next g.I.Iterator.next_gives g.I.Iterator.remaining _ _ _ _ c.clear.ensures.staying c.clear.ensures.used (c.clear.ensures.blocking _) c.requires.can
+    ComposedSoFar-none g.I.Iterator _ _ _ _ c.clear.ensures.staying c.clear.ensures.used (c.clear.ensures.blocking _) c.requires.can
 
 pub returns-in-Err-clause-err : goal.returns-in-Err-clause-err
 returns-in-Err-clause-err g c =
     let step = rw c.in-Err.is at c.in-Some.ensures.steps in
-    (step.item.fault, λ h. GivesShort-no_fault g.I.Iterator.can_next g.I.Iterator.next_gives g.I.Iterator.remaining _ _ _ _ step (c.loop-bounds.invariant.short h).0)
+    (step.item.fault, λ h. GivesShort-no_fault g.I.Iterator _ _ _ _ step (c.loop-bounds.invariant.short h).0)
 
 pub loop-bounds-preserved-in-Ok-Joined : goal.loop-bounds-preserved-in-Ok-Joined
 loop-bounds-preserved-in-Ok-Joined g c =
     let step = rw c.in-Ok.is at c.in-Some.ensures.steps in
-    let goes = rw c.in-Ok.is at c.in-Some.ensures.goes in
     let class = known_class c.args.decomposed.now.characters _ c.loop-bounds.invariant.kept c.in-Ok.given (rw c.in-Ok.is at c.in-Some.ensures.class) in
     let visiting = rw c.in-Ok-Joined.field-0-is at c.in-Ok-Joined.ensures.ok in
     let visited = visiting c.args.decomposed.now.characters class c.loop-bounds.invariant.blocking in
-    ComposedSoFar-joined g.I.Iterator.can_next g.I.Iterator.next_gives g.I.Iterator.remaining _ _ _ _ _ _ c.in-Ok.given.character _ _ _ c.loop-bounds.invariant step (goes.on tt).2 visited.0
+    ComposedSoFar-joined g.I.Iterator _ _ _ _ _ _ c.in-Ok.given.character _ _ _ c.loop-bounds.invariant step visited.0
     visited.1
 
 pub returns-in-Ok-StartsAnew-clause-ok : goal.returns-in-Ok-StartsAnew-clause-ok
 returns-in-Ok-StartsAnew-clause-ok g c =
     let step = rw c.in-Ok.is at c.in-Some.ensures.steps in
-    let goes = rw c.in-Ok.is at c.in-Some.ensures.goes in
     let class = known_class c.args.decomposed.now.characters _ c.loop-bounds.invariant.kept c.in-Ok.given (rw c.in-Ok.is at c.in-Some.ensures.class) in
     let visiting = rw c.in-Ok-StartsAnew.field-0-is at c.in-Ok-StartsAnew.ensures.ok in
     let visited = visiting c.args.decomposed.now.characters class c.loop-bounds.invariant.blocking in
-    ComposesStarter-starts g.I.Iterator.can_next g.I.Iterator.next_gives g.I.Iterator.remaining _ _ _ _ _ _ c.in-Ok.given.character _ _ c.loop-bounds.invariant step (goes.on tt).2 visited.0
+    ComposesStarter-starts g.I.Iterator _ _ _ _ _ _ c.in-Ok.given.character _ _ c.loop-bounds.invariant step visited.0
     visited.1 visited.2
 
 pub loop-bounds-preserved : goal.loop-bounds-preserved
 loop-bounds-preserved g c =
     let step = rw c.in-Ok.is at c.in-Some.ensures.steps in
-    let goes = rw c.in-Ok.is at c.in-Some.ensures.goes in
     let class = known_class c.args.decomposed.now.characters _ c.loop-bounds.invariant.kept c.in-Ok.given (rw c.in-Ok.is at c.in-Some.ensures.class) in
     let visiting = rw c.in-Ok-Stays.field-0-is at c.in-Ok-Stays.ensures.ok in
     let visited = visiting c.args.decomposed.now.characters class c.loop-bounds.invariant.blocking in
-    ComposedSoFar-stays g.I.Iterator.can_next g.I.Iterator.next_gives g.I.Iterator.remaining _ _ _ _ _ _ c.in-Ok.given.character _ _ c.loop-bounds.invariant step (goes.on tt).2 visited.0
+    ComposedSoFar-stays g.I.Iterator _ _ _ _ _ _ c.in-Ok.given.character _ _ c.loop-bounds.invariant step visited.0
     visited.1 visited.2 visited.3 visited.4
 
 pub returns-in-Err-visit-clause-err : goal.returns-in-Err-visit-clause-err
@@ -59,11 +56,11 @@ returns-in-Err-visit-clause-err g c =
     let class = known_class c.args.decomposed.now.characters _ c.loop-bounds.invariant.kept c.in-Ok.given (rw c.in-Ok.is at c.in-Some.ensures.class) in
     let full = c.in-Err-visit.ensures.err in
     let mark : IsMark (reading_by c.args.decomposed.now.characters Dropped c.args.pairs.now) c.in-Ok.given.character = omega (arith, class, full.1) in
-    (refl, ComposedSoFar-no_room g.I.Iterator.can_next g.I.Iterator.next_gives g.I.Iterator.remaining _ _ _ _ _ _ c.in-Ok.given.character _ c.loop-bounds.invariant step mark full.0)
+    (refl, ComposedSoFar-no_room g.I.Iterator _ _ _ _ _ _ c.in-Ok.given.character _ c.loop-bounds.invariant step mark full.0)
 
 pub returns-in_default-clause-ok : goal.returns-in_default-clause-ok
 returns-in_default-clause-ok g c =
-    ComposesStarter-ends g.I.Iterator.can_next g.I.Iterator.next_gives g.I.Iterator.remaining _ _ _ _ _ _ _ c.loop-bounds.invariant c.in_default.ensures.steps
+    ComposesStarter-ends g.I.Iterator _ _ _ _ _ _ _ c.loop-bounds.invariant c.in_default.ensures.steps
 
 pub returns-clause-ok : goal.returns-clause-ok
 returns-clause-ok g c =
@@ -71,9 +68,9 @@ returns-clause-ok g c =
     let same = before.kept in
     let suits = subst (λ k. SuitsLazyComposing k c.args.bounds c.args.pairs.now) (sym same) c.requires.suits in
     let here = IsAtPassed-stands c.args.bounds c.args.pairs.now c.loop-bounds.decomposed suits (c.is_at_passed.ensures.0 c.loop-bounds-test.false) in
-    ComposesStarter-passes g.I.Iterator.can_next g.I.Iterator.next_gives g.I.Iterator.remaining _ _ _ _ c.loop-bounds.decomposed _ before
+    ComposesStarter-passes g.I.Iterator _ _ _ _ c.loop-bounds.decomposed _ before
     (λ Comes y h. subst (λ k. BeginsSafely (reading_by k Dropped c.args.pairs.now) y) same
-    (BeginsSafely-to_come g.I.Iterator.can_next g.I.Iterator.next_gives g.I.Iterator.remaining c.args.pairs.now c.loop-bounds.decomposed here Comes y h))
+    (BeginsSafely-to_come g.I.Iterator c.args.pairs.now c.loop-bounds.decomposed here Comes y h))
 
 pub returns-clause-passed : goal.returns-clause-passed
 returns-clause-passed g c = λ _.

@@ -6,7 +6,7 @@ use Rattle.normalizer_iterators.proofs.composition.compose_starter.Given as goal
 
 abbrev pub invariant-loop-bounds : goal.invariant-loop-bounds
 invariant-loop-bounds g l =
-    ComposedSoFar g.I.Iterator.can_next g.I.Iterator.next_gives g.I.Iterator.remaining (reading_by l.initial.decomposed.characters Dropped l.pairs)
+    ComposedSoFar g.I.Iterator (reading_by l.initial.decomposed.characters Dropped l.pairs)
     l.fn.starter l.initial.decomposed l.composite l.decomposed l.marks
 
 abbrev pub decreases-loop-bounds : goal.decreases-loop-bounds

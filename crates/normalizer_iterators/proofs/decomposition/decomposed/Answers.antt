@@ -12,13 +12,11 @@ use Rattle.normalizer_iterators.proofs.decomposition.decomposed.Goals as goal
 
 pub returns-clause-form : goal.returns-clause-form
 returns-clause-form g c =
-    let can = g.I.Iterator.can_next in
     let gives = g.I.Iterator.next_gives in
-    let left = g.I.Iterator.remaining in
     let made = c.over.ensures in
-    YieldsForm-made gives (WillGive (Spells gives)) (StaysShort gives) (DecompositionSteps can gives left) (SpellsUnless-decomposition can gives left) (SpellsOk-decomposition can gives left)
+    YieldsForm-made gives (WillGive (Spells gives)) (StaysShort gives) (DecompositionSteps g.I.Iterator) (SpellsUnless-decomposition g.I.Iterator) (SpellsOk-decomposition g.I.Iterator)
     (has_class_form c.args.characters) (reading_by c.args.characters c.args.ignored []) nfd c.args.delegate
     (IsFormOfSource gives (λ e. WillGive (MayGive gives e)) (nfd (reading_by c.args.characters c.args.ignored [])) c.args.delegate)
-    (YieldsFormOfRun-decomposition can gives left (nfd (reading_by c.args.characters c.args.ignored [])) c.args.delegate)
+    (YieldsFormOfRun-decomposition g.I.Iterator (nfd (reading_by c.args.characters c.args.ignored [])) c.args.delegate)
     (HasShortRuns (has_class_form c.args.characters) (reading_by c.args.characters c.args.ignored [])) (λ x runs. runs)
     c.over.result made.text made.short made.succeeds made.came made.refused

@@ -56,7 +56,7 @@ returns-clause-ok g c =
     let same = class-reading_by c.args.characters.now c.args.ignored [] in
     let is = c.members-members.ensures ∙ sym (list-reading_by c.args.characters.now c.args.ignored [] c.args.read.character) in
     λ before read.
-    ReadsChunk-from g.I.Iterator.can_next g.I.Iterator.next_gives g.I.Iterator.remaining f d c.args.read.character c.in-Some.first _ before _ _ _ _ _ is c.in-Some.ensures
+    ReadsChunk-from g.I.Iterator f d c.args.read.character c.in-Some.first _ before _ _ _ _ _ is c.in-Some.ensures
     c.clear.ensures.ordered c.clear.ensures.unordered
     (c.in_ok-push_from.ensures.text d same (c.clear.ensures.classes d))
     (c.in_ok-pending.ensures.ok before read)

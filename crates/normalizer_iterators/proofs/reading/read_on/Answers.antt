@@ -9,7 +9,7 @@ use Rattle.normalizer_iterators.proofs.reading.read_on.Goals as goal
 
 pub loop-next-init : goal.loop-next-init
 loop-next-init g c = record {
-  ahead = ReadsAhead-none g.I.Iterator.can_next g.I.Iterator.next_gives g.I.Iterator.remaining _ _ _ _ _ c.requires.ready c.requires.classes;
+  ahead = ReadsAhead-none g.I.Iterator _ _ _ _ _ c.requires.ready c.requires.classes;
   words = c.requires.words;
 }
 
@@ -25,7 +25,7 @@ loop-next-preserved g c =
     let pushed = c.in_ok-push_list.ensures in
     record {
       ahead = rw c.read_from-next.ensures.character
-          (ReadsAhead-more g.I.Iterator.can_next g.I.Iterator.next_gives g.I.Iterator.remaining f d _ _ _ c.in-Some.read.character _ _ _ _ _ ahead continuing
+          (ReadsAhead-more g.I.Iterator f d _ _ _ c.in-Some.read.character _ _ _ _ _ ahead continuing
           (pushed.text d same ahead.agrees)
           (pushed.classes d same ahead.agrees)
           (omega (arith, pushed.held, ap length members))
@@ -45,5 +45,5 @@ returns-in_err-push_list-clause-err g c =
     let long = too_many _ places c.in_err-push_list.ensures.succeeds in
     let exit = err_from_is_err_and c.from_residual-in_err-push_list.result c.from_residual-in_err-push_list.ensures.1 in
     rw exit.1
-    (ReadsAhead-refused g.I.Iterator.can_next g.I.Iterator.next_gives g.I.Iterator.remaining f d _ _ _ c.in-Some.read.character _ _ ahead continuing
+    (ReadsAhead-refused g.I.Iterator f d _ _ _ c.in-Some.read.character _ _ ahead continuing
     (omega (arith, long, ap length members)))

@@ -10,7 +10,7 @@ use Rattle.normalizer_iterators.proofs.reading.read_on.Given as goal
 abbrev pub invariant-loop-next : goal.invariant-loop-next
 invariant-loop-next g l = record {
   ahead :
-      ReadsAhead g.I.Iterator.can_next g.I.Iterator.next_gives g.I.Iterator.remaining (has_class_form l.characters)
+      ReadsAhead g.I.Iterator (has_class_form l.characters)
       (reading_by l.characters l.ignored []) (character_of l.fn.first) l.initial.delegate l.initial.waiting (character_of l.next) l.delegate l.waiting;
   words : HasOwnWords l.characters l.next;
 }

@@ -34,10 +34,9 @@ loop-position-preserved g c =
     let pushed = c.if-not-push_list.ensures in
     let agrees = c.loop-position.invariant.agrees in
     let read : c.new-read.result.character ≡ c.step_at-step.result.character = c.new-read.ensures.character in
-    let held = c.push_list.ensures.held c.if-not-push_list.false in
     BufferedTo-more d g.U.Units.encoding (g.U.Units.units c.args.units) c.loop-position.position c.step_at-step.result _ _ c.loop-position.invariant (omega (arith, c.len.ensures))
     c.step_at-step.ensures (rw (← read) (c.push_list.ensures.text c.if-not-push_list.false d same agrees))
-    (c.push_list.ensures.classes c.if-not-push_list.false d same agrees) (rw (← read) held.0) held.1
+    (c.push_list.ensures.classes c.if-not-push_list.false d same agrees) (rw (← read) (c.push_list.ensures.held c.if-not-push_list.false)) (c.push_list.ensures.short c.if-not-push_list.false)
 
 pub returns-clause-text : goal.returns-clause-text
 returns-clause-text g c = λ ok.

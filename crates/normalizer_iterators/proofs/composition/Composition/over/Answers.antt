@@ -16,7 +16,7 @@ returns-clause-text g c = λ x spelled.
     let ignored = c.args.ignored in
     let pairs = c.args.pairs.now in
     let y = nfd (reading_by s ignored []) x in
-    behind_by g.I.Iterator.can_next g.I.Iterator.next_gives g.I.Iterator.remaining _ (reading_by s Dropped pairs) _ NoStarter _ _
+    behind_by g.I.Iterator _ (reading_by s Dropped pairs) _ NoStarter _ _
     (ap (λ k. reading_by k Dropped pairs) c.in_ok-over.ensures.kept.0) (record {
       unread = y;
       source = c.in_ok-over.ensures.text x spelled;
@@ -43,7 +43,7 @@ pub returns-clause-short : goal.returns-clause-short
 returns-clause-short g c = λ x spelled runs.
     let s = c.args.characters in
     let ignored = c.args.ignored in
-    short_by g.I.Iterator.can_next g.I.Iterator.next_gives g.I.Iterator.remaining _ (reading_by s Dropped c.args.pairs.now) NoStarter _
+    short_by g.I.Iterator _ (reading_by s Dropped c.args.pairs.now) _
     (ap (λ k. reading_by k Dropped c.args.pairs.now) c.in_ok-over.ensures.kept.0) (record {
       unread = nfd (reading_by s ignored []) x;
       source = c.in_ok-over.ensures.text x spelled;

@@ -1,5 +1,5 @@
 use Rattle.std.proofs.Common.{refl}
-use Rattle.normalizer_iterators.proofs.BeforeStarterLemmas.{Steps-fault, Steps-end, Steps-first_starter, Steps-passed, Goes-passed, Goes-first_starter, Goes-fault}
+use Rattle.normalizer_iterators.proofs.BeforeStarterLemmas.{Steps-fault, Steps-end, Steps-first_starter, Steps-passed}
 use Rattle.normalizer_iterators.proofs.PassingLemmas.{begins_anew}
 use Rattle.normalizer_iterators.proofs.composition.Composition.pass.Goals as goal
 
@@ -14,20 +14,12 @@ pass_next-requires g c =
 
 -- ---- a character is given as it is
 
-pub returns-in-Some-Ok-Itself-clause-steps : goal.returns-in-Some-Ok-Itself-clause-steps
-returns-in-Some-Ok-Itself-clause-steps g c =
+pub returns-in-Some-Ok-Itself : goal.returns-in-Some-Ok-Itself
+returns-in-Some-Ok-Itself g c =
     let s = c.args.self.now in
     let reached = rw c.in-Some-Ok-Itself.field-0-is at c.in-Some-Ok-Itself.ensures s.pairs.now s.suits c.requires.at_passed in
     let given = rw c.in-Some-Ok-Itself.field-0-0-is at reached in
-    Steps-passed g.I.Iterator.can_next g.I.Iterator.next_gives g.I.Iterator.remaining s c.requires.ahead c.requires.marks _ c.in-Some-Ok-Itself.character
-    (record { kept = (given.kept, refl); marks = c.requires.marks; ahead = refl }) given
-
-pub returns-in-Some-Ok-Itself-clause-goes : goal.returns-in-Some-Ok-Itself-clause-goes
-returns-in-Some-Ok-Itself-clause-goes g c =
-    let s = c.args.self.now in
-    let reached = rw c.in-Some-Ok-Itself.field-0-is at c.in-Some-Ok-Itself.ensures s.pairs.now s.suits c.requires.at_passed in
-    let given = rw c.in-Some-Ok-Itself.field-0-0-is at reached in
-    Goes-passed g.I.Iterator.can_next g.I.Iterator.next_gives g.I.Iterator.remaining s c.requires.ahead c.requires.marks _ c.in-Some-Ok-Itself.character
+    Steps-passed g.I.Iterator s c.requires.ahead c.requires.marks _ c.in-Some-Ok-Itself.character
     (record { kept = (given.kept, refl); marks = c.requires.marks; ahead = refl }) given
 
 pub invariant_of-self : goal.invariant_of-self
@@ -53,49 +45,34 @@ invariant_of-self-in-Some-Ok-FirstMember g c =
     let given = rw c.in-Some-Ok-FirstMember.field-0-0-is at reached in
     record { suits = rw given.steps.kept.0 s.suits; passed = λ is. cc is }
 
-pub returns-in-Some-Ok-FirstMember-clause-steps : goal.returns-in-Some-Ok-FirstMember-clause-steps
-returns-in-Some-Ok-FirstMember-clause-steps g c =
+pub returns-in-Some-Ok-FirstMember : goal.returns-in-Some-Ok-FirstMember
+returns-in-Some-Ok-FirstMember g c =
     let s = c.args.self.now in
     let reached = rw c.in-Some-Ok-FirstMember.field-0-is at c.in-Some-Ok-FirstMember.ensures s.pairs.now s.suits c.requires.at_passed in
     let given = rw c.in-Some-Ok-FirstMember.field-0-0-is at reached in
-    Steps-first_starter g.I.Iterator.can_next g.I.Iterator.next_gives g.I.Iterator.remaining s c.requires.ahead c.requires.marks c.in-Some-Ok-FirstMember.starter c.pass_next.new.decomposed _ _
+    Steps-first_starter g.I.Iterator s c.requires.ahead c.requires.marks c.in-Some-Ok-FirstMember.starter c.pass_next.new.decomposed _ _
     given.steps (given.starter s.pairs.now) c.compose_on.ensures
-
-pub returns-in-Some-Ok-FirstMember-clause-goes : goal.returns-in-Some-Ok-FirstMember-clause-goes
-returns-in-Some-Ok-FirstMember-clause-goes g c =
-    let s = c.args.self.now in
-    let reached = rw c.in-Some-Ok-FirstMember.field-0-is at c.in-Some-Ok-FirstMember.ensures s.pairs.now s.suits c.requires.at_passed in
-    let given = rw c.in-Some-Ok-FirstMember.field-0-0-is at reached in
-    Goes-first_starter g.I.Iterator.can_next g.I.Iterator.next_gives g.I.Iterator.remaining s c.requires.ahead c.requires.marks c.in-Some-Ok-FirstMember.starter c.pass_next.new.decomposed _ _
-    given c.compose_on.ensures
 
 -- ---- a fault, or the end
 
-pub returns-in-Some-Err-clause-steps : goal.returns-in-Some-Err-clause-steps
-returns-in-Some-Err-clause-steps g c =
+pub returns-in-Some-Err : goal.returns-in-Some-Err
+returns-in-Some-Err g c =
     let s = c.args.self.now in
     let reached = rw c.in-Some-Err.field-0-is at c.in-Some-Err.ensures s.pairs.now s.suits c.requires.at_passed in
-    Steps-fault g.I.Iterator.can_next g.I.Iterator.next_gives g.I.Iterator.remaining s c.requires.ahead c.requires.marks _ c.in-Some-Err.error
-    (record { kept = (reached.0.kept.0, refl); marks = c.requires.marks; ahead = refl }) reached.0
-
-pub returns-in-Some-Err-clause-goes : goal.returns-in-Some-Err-clause-goes
-returns-in-Some-Err-clause-goes g c =
-    let s = c.args.self.now in
-    let reached = rw c.in-Some-Err.field-0-is at c.in-Some-Err.ensures s.pairs.now s.suits c.requires.at_passed in
-    Goes-fault g.I.Iterator.can_next g.I.Iterator.next_gives g.I.Iterator.remaining s c.requires.ahead c.requires.marks _ c.in-Some-Err.error
-    (record { kept = (reached.0.kept.0, refl); marks = c.requires.marks; ahead = refl }) (reached.0.ready c.requires.can) reached.1
+    Steps-fault g.I.Iterator s c.requires.ahead c.requires.marks _ c.in-Some-Err.error
+    (record { kept = (reached.kept.0, refl); marks = c.requires.marks; ahead = refl }) reached
 
 pub invariant_of-self-in-Some-Err : goal.invariant_of-self-in-Some-Err
 invariant_of-self-in-Some-Err g c =
     let s = c.args.self.now in
     let reached = rw c.in-Some-Err.field-0-is at c.in-Some-Err.ensures s.pairs.now s.suits c.requires.at_passed in
-    record { suits = rw reached.0.kept.0 s.suits; passed = λ is. cc is }
+    record { suits = rw reached.kept.0 s.suits; passed = λ is. cc is }
 
-pub returns-in-None-clause-steps : goal.returns-in-None-clause-steps
-returns-in-None-clause-steps g c =
+pub returns-in-None : goal.returns-in-None
+returns-in-None g c =
     let s = c.args.self.now in
     let end = c.in-None.ensures s.pairs.now s.suits c.requires.at_passed in
-    Steps-end g.I.Iterator.can_next g.I.Iterator.next_gives g.I.Iterator.remaining s c.requires.ahead c.requires.marks _
+    Steps-end g.I.Iterator s c.requires.ahead c.requires.marks _
     (record { kept = (end.kept.0, refl); marks = c.requires.marks; ahead = refl }) end
 
 pub invariant_of-self-in-None : goal.invariant_of-self-in-None

@@ -13,13 +13,11 @@ use Rattle.normalizer_iterators.proofs.composition.making.composed.Goals as goal
 
 pub returns-clause-form : goal.returns-clause-form
 returns-clause-form g c =
-    let can = g.I.Iterator.can_next in
     let gives = g.I.Iterator.next_gives in
-    let left = g.I.Iterator.remaining in
     let s = c.args.characters in
     let made = c.over.ensures in
-    YieldsForm-made gives (WillGive (Spells gives)) (StaysShort gives) (CompositionSteps can gives left) (SpellsUnless-composition can gives left) (SpellsOk-composition can gives left)
+    YieldsForm-made gives (WillGive (Spells gives)) (StaysShort gives) (CompositionSteps g.I.Iterator) (SpellsUnless-composition g.I.Iterator) (SpellsOk-composition g.I.Iterator)
     (has_class_form s) (reading_by s c.args.ignored c.args.pairs.now) nfc c.args.delegate
     (IsFormOfSource gives (λ e. WillGive (MayGive gives e)) (nfc (reading_by s c.args.ignored c.args.pairs.now)) c.args.delegate)
-    (YieldsFormOfRun-composition can gives left (nfc (reading_by s c.args.ignored c.args.pairs.now)) c.args.delegate) (HasShortRuns (has_class_form s) (reading_by s c.args.ignored []))
+    (YieldsFormOfRun-composition g.I.Iterator (nfc (reading_by s c.args.ignored c.args.pairs.now)) c.args.delegate) (HasShortRuns (has_class_form s) (reading_by s c.args.ignored []))
     (HasShortRuns-reading_by (has_class_form s) s c.args.ignored c.args.pairs.now) c.over.result made.text made.short made.succeeds made.came made.refused

@@ -2,7 +2,7 @@ use Rattle.std.proofs.Common.{refl, sym, ap, subst, Err}
 use Rattle.std.specs.Option.{ForSome}
 use Rattle.normalizer_iterators.specs.LazyComposing.{StandsApartIn}
 use Rattle.normalizer_iterators.specs.Reads.{character_of}
-use Rattle.normalizer_iterators.proofs.DecompositionLemmas.{Steps-ended, Steps-read, Goes-read, ready_behind}
+use Rattle.normalizer_iterators.proofs.DecompositionLemmas.{Steps-ended, Steps-read, ready_behind}
 use Rattle.normalizer_iterators.proofs.ReadingLemmas.{HasRead-as, IsReadyBehind-next}
 use Rattle.normalizer_iterators.proofs.PassingLemmas.{all_anew, all_apart, PassesOn-next, YieldsStarter-next}
 use Rattle.normalizer_iterators.proofs.composition.passing.pass_next.Goals as goal
@@ -24,14 +24,14 @@ next_chunk-requires g c =
       anew = s.anew c.in_ok-read.read.character pending;
       word = s.word c.in_ok-read.read (sym c.in_ok-read.ensures.value);
       words = c.read_from-following.ensures.word;
-      ready = rw c.read_from-following.ensures.character (IsReadyBehind-next g.I.Iterator.can_next g.I.Iterator.next_gives g.I.Iterator.remaining _ _ _ near);
-      read = (s.delegate, HasRead-as g.I.Iterator.can_next g.I.Iterator.next_gives g.I.Iterator.remaining _ _ _ _ c.read_from-following.ensures.character c.next.ensures.steps near);
+      ready = rw c.read_from-following.ensures.character (IsReadyBehind-next g.I.Iterator _ _ _ near);
+      read = (s.delegate, HasRead-as g.I.Iterator _ _ _ _ c.read_from-following.ensures.character c.next.ensures.steps near);
     }
 
 pub returns-in_err-read : goal.returns-in_err-read
 returns-in_err-read g c = λ pairs suits here.
     rw c.from_residual.ensures
-    (Steps-ended g.I.Iterator.can_next g.I.Iterator.next_gives g.I.Iterator.remaining c.args.decomposed.now _ refl refl (ap character_of (sym c.in_err-read.ensures.value))
+    (Steps-ended g.I.Iterator c.args.decomposed.now _ refl refl (ap character_of (sym c.in_err-read.ensures.value))
     (ap character_of c.take.ensures.after) here.waiting here.waiting)
 
 pub returns-then-are_passed : goal.returns-then-are_passed
@@ -40,7 +40,7 @@ returns-then-are_passed g c = λ pairs suits here.
     let pending = ap character_of (sym c.in_ok-read.ensures.value) in
     let ready = ready_behind g.I.Iterator.can_next g.I.Iterator.remaining s c.in_ok-read.read.character pending c.requires.can in
     let near = c.next.ensures.goes.on ready.1 in
-    PassesOn-next g.I.Iterator.can_next g.I.Iterator.next_gives g.I.Iterator.remaining pairs s here c.args.bounds suits c.in_ok-read.read.character pending _ _ c.next.ensures.steps near
+    PassesOn-next g.I.Iterator pairs s here c.args.bounds suits c.in_ok-read.read.character pending _ _ c.next.ensures.steps near
     (subst (λ o. ForSome o (StandsApartIn s.characters pairs s.ignored)) c.read_from-following.ensures.character
     (all_apart s.characters c.args.bounds pairs suits s.ignored _ (c.are_passed.ensures.0 c.if-are_passed.true)))
     c.read_from-following.ensures.character here.waiting refl refl
@@ -62,8 +62,8 @@ returns-in-Ok g c = λ pairs suits here.
     let pending = ap character_of (sym c.in_ok-read.ensures.value) in
     let ready = ready_behind g.I.Iterator.can_next g.I.Iterator.remaining s c.in_ok-read.read.character pending c.requires.can in
     let near = c.next.ensures.goes.on ready.1 in
-    let read = HasRead-as g.I.Iterator.can_next g.I.Iterator.next_gives g.I.Iterator.remaining _ _ _ _ c.read_from-following.ensures.character c.next.ensures.steps near in
-    YieldsStarter-next g.I.Iterator.can_next g.I.Iterator.next_gives g.I.Iterator.remaining pairs s here c.args.bounds suits c.in_ok-read.read.character pending _ c.in-Ok.first c.in-Ok.ensures.kept.0
+    let read = HasRead-as g.I.Iterator _ _ _ _ c.read_from-following.ensures.character c.next.ensures.steps near in
+    YieldsStarter-next g.I.Iterator pairs s here c.args.bounds suits c.in_ok-read.read.character pending _ c.in-Ok.first c.in-Ok.ensures.kept.0
     c.in-Ok.ensures.kept.1 (c.in-Ok.ensures.ok s.delegate read)
 
 pub returns-in-Err : goal.returns-in-Err
@@ -72,10 +72,7 @@ returns-in-Err g c = λ pairs suits here.
     let pending = ap character_of (sym c.in_ok-read.ensures.value) in
     let ready = ready_behind g.I.Iterator.can_next g.I.Iterator.remaining s c.in_ok-read.read.character pending c.requires.can in
     let near = c.next.ensures.goes.on ready.1 in
-    let read = HasRead-as g.I.Iterator.can_next g.I.Iterator.next_gives g.I.Iterator.remaining _ _ _ _ c.read_from-following.ensures.character c.next.ensures.steps near in
-    let kept = c.in-Err.ensures.kept in (
-      Steps-read g.I.Iterator.can_next g.I.Iterator.next_gives g.I.Iterator.remaining s c.in_ok-read.read.character pending here.waiting _ _ read _ kept.0 kept.1
-          (Err c.in-Err.error) tt c.in-Err.ensures.err,
-      ((Goes-read g.I.Iterator.can_next g.I.Iterator.next_gives g.I.Iterator.remaining s c.in_ok-read.read.character pending here.waiting _ _ read c.next_chunk.new.self
-          (Err c.in-Err.error) tt c.in-Err.ensures.err).on tt).2,
-    )
+    let read = HasRead-as g.I.Iterator _ _ _ _ c.read_from-following.ensures.character c.next.ensures.steps near in
+    let kept = c.in-Err.ensures.kept in
+    Steps-read g.I.Iterator s c.in_ok-read.read.character pending here.waiting _ _ read _ kept.0 kept.1
+    (Err c.in-Err.error) tt c.in-Err.ensures.err

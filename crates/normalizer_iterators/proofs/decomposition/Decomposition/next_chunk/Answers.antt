@@ -11,7 +11,7 @@ use Rattle.normalizer_iterators.proofs.decomposition.Decomposition.next_chunk.Go
 pub returns-then-stands_alone-clause-ok : goal.returns-then-stands_alone-clause-ok
 returns-then-stands_alone-clause-ok g c = λ before read.
     let s = c.args.self.now in
-    ReadsChunk-alone g.I.Iterator.can_next g.I.Iterator.next_gives g.I.Iterator.remaining (has_class_form s.characters) (reading_by s.characters s.ignored []) c.args.read.character before
+    ReadsChunk-alone g.I.Iterator (has_class_form s.characters) (reading_by s.characters s.ignored []) c.args.read.character before
     s.delegate (character_of c.args.following) s.waiting (c.stands_alone.ensures c.if-stands_alone.true) read c.requires.ready c.requires.empty s.settled
 
 pub invariant_of-self : goal.invariant_of-self

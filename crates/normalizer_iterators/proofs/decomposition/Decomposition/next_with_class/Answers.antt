@@ -1,7 +1,7 @@
 use Rattle.std.proofs.Common.{refl, sym, ap, ◌∙◌, Ok, Err, []}
 use Rattle.normalizer_iterators.specs.Reads.{character_of}
 use Rattle.normalizer_iterators.specs.WaitingList.{AgreesWith}
-use Rattle.normalizer_iterators.proofs.DecompositionLemmas.{Steps-ended, Steps-front, Steps-read, Goes-read, class-first, nothing_read, ready_behind}
+use Rattle.normalizer_iterators.proofs.DecompositionLemmas.{Steps-ended, Steps-front, Steps-read, class-first, nothing_read, ready_behind}
 use Rattle.normalizer_iterators.proofs.ReadingLemmas.{HasRead-as}
 use Rattle.normalizer_tables.specs.Readings.{reading_by}
 use Rattle.normalizer_iterators.proofs.decomposition.Decomposition.next_with_class.Goals as goal
@@ -24,7 +24,7 @@ returns-in-Some-clause-class g c = let s = c.args.self.now in c.in-Some.ensures.
 
 pub returns-in-Some-clause-steps : goal.returns-in-Some-clause-steps
 returns-in-Some-clause-steps g c =
-    Steps-front g.I.Iterator.can_next g.I.Iterator.next_gives g.I.Iterator.remaining c.args.self.now _ _ refl refl refl refl c.in-Some.ensures.some
+    Steps-front g.I.Iterator c.args.self.now _ _ refl refl refl refl c.in-Some.ensures.some
 
 pub invariant_of-self-in-Break-1 : goal.invariant_of-self-in-Break-1
 unfolding AgreesWith
@@ -54,7 +54,7 @@ pub returns-in_err-read-clause-steps : goal.returns-in_err-read-clause-steps
 returns-in_err-read-clause-steps g c =
     let nothing = c.in_default.ensures.none in
     rw c.from_residual.ensures
-    (Steps-ended g.I.Iterator.can_next g.I.Iterator.next_gives g.I.Iterator.remaining c.args.self.now _ refl refl
+    (Steps-ended g.I.Iterator c.args.self.now _ refl refl
     (ap character_of (sym c.in_err-read.ensures.value)) (ap character_of c.take.ensures.after)
     nothing.0 nothing.1)
 
@@ -64,8 +64,8 @@ returns-in-Ok-clause-class g c =
     let pending = ap character_of (sym c.in_ok-read.ensures.value) in
     let ready = ready_behind g.I.Iterator.can_next g.I.Iterator.remaining s c.in_ok-read.read.character pending c.requires in
     let near = c.next.ensures.goes.on ready.1 in
-    let read = HasRead-as g.I.Iterator.can_next g.I.Iterator.next_gives g.I.Iterator.remaining _ _ _ _ c.read_from-following.ensures.character c.next.ensures.steps near in
-    class-first g.I.Iterator.can_next g.I.Iterator.next_gives g.I.Iterator.remaining s c.in_ok-read.read.character c.in-Ok.character _ _ _ _ pending (c.in-Ok.ensures.ok s.delegate read)
+    let read = HasRead-as g.I.Iterator _ _ _ _ c.read_from-following.ensures.character c.next.ensures.steps near in
+    class-first g.I.Iterator s c.in_ok-read.read.character c.in-Ok.character _ _ _ _ pending (c.in-Ok.ensures.ok s.delegate read)
 
 pub returns-in-Ok-clause-steps : goal.returns-in-Ok-clause-steps
 returns-in-Ok-clause-steps g c =
@@ -73,19 +73,9 @@ returns-in-Ok-clause-steps g c =
     let pending = ap character_of (sym c.in_ok-read.ensures.value) in
     let ready = ready_behind g.I.Iterator.can_next g.I.Iterator.remaining s c.in_ok-read.read.character pending c.requires in
     let near = c.next.ensures.goes.on ready.1 in
-    let read = HasRead-as g.I.Iterator.can_next g.I.Iterator.next_gives g.I.Iterator.remaining _ _ _ _ c.read_from-following.ensures.character c.next.ensures.steps near in
-    Steps-read g.I.Iterator.can_next g.I.Iterator.next_gives g.I.Iterator.remaining s c.in_ok-read.read.character pending c.in_default.ensures.none.0 _ _ read _ c.in-Ok.ensures.kept.0
+    let read = HasRead-as g.I.Iterator _ _ _ _ c.read_from-following.ensures.character c.next.ensures.steps near in
+    Steps-read g.I.Iterator s c.in_ok-read.read.character pending c.in_default.ensures.none.0 _ _ read _ c.in-Ok.ensures.kept.0
     c.in-Ok.ensures.kept.1 (Ok c.in-Ok.character) c.in-Ok.ensures.ok tt
-
-pub returns-in-Ok-clause-goes : goal.returns-in-Ok-clause-goes
-returns-in-Ok-clause-goes g c =
-    let s = c.args.self.now in
-    let pending = ap character_of (sym c.in_ok-read.ensures.value) in
-    let ready = ready_behind g.I.Iterator.can_next g.I.Iterator.remaining s c.in_ok-read.read.character pending c.requires in
-    let near = c.next.ensures.goes.on ready.1 in
-    let read = HasRead-as g.I.Iterator.can_next g.I.Iterator.next_gives g.I.Iterator.remaining _ _ _ _ c.read_from-following.ensures.character c.next.ensures.steps near in
-    Goes-read g.I.Iterator.can_next g.I.Iterator.next_gives g.I.Iterator.remaining s c.in_ok-read.read.character pending c.in_default.ensures.none.0 _ _ read _ (Ok c.in-Ok.character)
-    c.in-Ok.ensures.ok tt
 
 pub returns-in-Err-clause-steps : goal.returns-in-Err-clause-steps
 returns-in-Err-clause-steps g c =
@@ -93,6 +83,6 @@ returns-in-Err-clause-steps g c =
     let pending = ap character_of (sym c.in_ok-read.ensures.value) in
     let ready = ready_behind g.I.Iterator.can_next g.I.Iterator.remaining s c.in_ok-read.read.character pending c.requires in
     let near = c.next.ensures.goes.on ready.1 in
-    let read = HasRead-as g.I.Iterator.can_next g.I.Iterator.next_gives g.I.Iterator.remaining _ _ _ _ c.read_from-following.ensures.character c.next.ensures.steps near in
-    Steps-read g.I.Iterator.can_next g.I.Iterator.next_gives g.I.Iterator.remaining s c.in_ok-read.read.character pending c.in_default.ensures.none.0 _ _ read _ c.in-Err.ensures.kept.0
+    let read = HasRead-as g.I.Iterator _ _ _ _ c.read_from-following.ensures.character c.next.ensures.steps near in
+    Steps-read g.I.Iterator s c.in_ok-read.read.character pending c.in_default.ensures.none.0 _ _ read _ c.in-Err.ensures.kept.0
     c.in-Err.ensures.kept.1 (Err c.in-Err.error) tt c.in-Err.ensures.err

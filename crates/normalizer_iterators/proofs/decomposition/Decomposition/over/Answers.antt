@@ -11,44 +11,44 @@ use Rattle.normalizer_iterators.proofs.decomposition.Decomposition.over.Goals as
 
 pub read_on-requires-clause-ready : goal.read_on-requires-clause-ready
 read_on-requires-clause-ready g c =
-    rw c.read_from-first.ensures.character (IsReadyBehind-next g.I.Iterator.can_next g.I.Iterator.next_gives g.I.Iterator.remaining _ _ _ (c.next.ensures.goes.on c.requires.ends))
+    rw c.read_from-first.ensures.character (IsReadyBehind-next g.I.Iterator _ _ _ (c.next.ensures.goes.on c.requires.ends))
 
 pub returns-in-Ok-clause-text : goal.returns-in-Ok-clause-text
 returns-in-Ok-clause-text g c = λ x spells.
     let read =
-    HasRead-as g.I.Iterator.can_next g.I.Iterator.next_gives g.I.Iterator.remaining _ _ _ _ c.read_from-first.ensures.character c.next.ensures.steps
+    HasRead-as g.I.Iterator _ _ _ _ c.read_from-first.ensures.character c.next.ensures.steps
     (c.next.ensures.goes.on c.requires.ends) in
-    IsToCome-start g.I.Iterator.next_gives g.I.Iterator.can_next g.I.Iterator.remaining (has_class_form c.args.characters) _ c.requires.suits c.args.delegate _ _ _ _ x
+    IsToCome-start g.I.Iterator (has_class_form c.args.characters) _ c.requires.suits c.args.delegate _ _ _ _ x
     c.new-waiting.ensures.ordered c.new-waiting.ensures.unordered (c.in-Ok.ensures.ok _ read) spells
 
 pub returns-in-Ok-clause-came : goal.returns-in-Ok-clause-came
 returns-in-Ok-clause-came g c = λ e out h.
     let read =
-    HasRead-as g.I.Iterator.can_next g.I.Iterator.next_gives g.I.Iterator.remaining _ _ _ _ c.read_from-first.ensures.character c.next.ensures.steps
+    HasRead-as g.I.Iterator _ _ _ _ c.read_from-first.ensures.character c.next.ensures.steps
     (c.next.ensures.goes.on c.requires.ends) in
-    came_start g.I.Iterator.next_gives g.I.Iterator.can_next g.I.Iterator.remaining (has_class_form c.args.characters) _ c.requires.suits e c.args.delegate _ _ _ _ out
+    came_start g.I.Iterator (has_class_form c.args.characters) _ c.requires.suits e c.args.delegate _ _ _ _ out
     c.new-waiting.ensures.ordered c.new-waiting.ensures.unordered (c.in-Ok.ensures.ok _ read) h
 
 pub returns-in-Ok-clause-short : goal.returns-in-Ok-clause-short
 returns-in-Ok-clause-short g c = λ x spells short.
     let read =
-    HasRead-as g.I.Iterator.can_next g.I.Iterator.next_gives g.I.Iterator.remaining _ _ _ _ c.read_from-first.ensures.character c.next.ensures.steps
+    HasRead-as g.I.Iterator _ _ _ _ c.read_from-first.ensures.character c.next.ensures.steps
     (c.next.ensures.goes.on c.requires.ends) in
-    AreShortToCome-start g.I.Iterator.next_gives g.I.Iterator.can_next g.I.Iterator.remaining (has_class_form c.args.characters) _ c.args.delegate _ _ _ _ x (c.in-Ok.ensures.ok _ read) spells short
+    AreShortToCome-start g.I.Iterator (has_class_form c.args.characters) _ c.args.delegate _ _ _ _ x (c.in-Ok.ensures.ok _ read) spells short
 
 pub returns-clause-succeeds : goal.returns-clause-succeeds
 returns-clause-succeeds g c = λ x spells short.
     let read =
-    HasRead-as g.I.Iterator.can_next g.I.Iterator.next_gives g.I.Iterator.remaining _ _ _ _ c.read_from-first.ensures.character c.next.ensures.steps
+    HasRead-as g.I.Iterator _ _ _ _ c.read_from-first.ensures.character c.next.ensures.steps
     (c.next.ensures.goes.on c.requires.ends) in
     absurd
-    (short_start_fits g.I.Iterator.next_gives g.I.Iterator.can_next g.I.Iterator.remaining (has_class_form c.args.characters) _ c.args.delegate _ x c.new-waiting.ensures.held
+    (short_start_fits g.I.Iterator (has_class_form c.args.characters) _ c.args.delegate _ x c.new-waiting.ensures.held
     (c.in-Err.ensures.err _ read) spells short)
 
 pub returns-in-Ok-clause-ready : goal.returns-in-Ok-clause-ready
 returns-in-Ok-clause-ready g c =
     let read =
-    HasRead-as g.I.Iterator.can_next g.I.Iterator.next_gives g.I.Iterator.remaining _ _ _ _ c.read_from-first.ensures.character c.next.ensures.steps
+    HasRead-as g.I.Iterator _ _ _ _ c.read_from-first.ensures.character c.next.ensures.steps
     (c.next.ensures.goes.on c.requires.ends) in
     let on = c.in-Ok.ensures.ok _ read in
     on.ready
@@ -57,7 +57,7 @@ pub invariant_of-result : goal.invariant_of-result
 unfolding AgreesWith
 invariant_of-result g c =
     let read =
-    HasRead-as g.I.Iterator.can_next g.I.Iterator.next_gives g.I.Iterator.remaining _ _ _ _ c.read_from-first.ensures.character c.next.ensures.steps
+    HasRead-as g.I.Iterator _ _ _ _ c.read_from-first.ensures.character c.next.ensures.steps
     (c.next.ensures.goes.on c.requires.ends) in
     let on = c.in-Ok.ensures.ok _ read in
     record {
