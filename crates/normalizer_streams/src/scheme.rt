@@ -1,5 +1,19 @@
 //! Bytes in an encoding scheme (The Unicode Standard, section 3.10).
-ghost use Rattle.std.specs.Prelude.{◌≡◌, ◌+◌, ◌∷◌, ◌<◌, drop, encode_utf8_all, length, min, string_bytes, take, IfOk};
+ghost use Rattle.std.specs.Prelude.{
+  ◌≡◌,
+  ◌+◌,
+  ◌++◌,
+  ◌∷◌,
+  ◌<◌,
+  drop,
+  encode_utf8_all,
+  length,
+  min,
+  string_bytes,
+  take,
+  IfOk,
+  OnOk,
+};
 ghost use Rattle.std.specs.List.{flat_map};
 ghost use Rattle.normalizer_text.specs.Encodings.{decoded_in};
 ghost use Rattle.normalizer_text.specs.Utf16.{encode_utf16_all, first_of_utf16};
@@ -89,24 +103,44 @@ impl ByteOrder {
     pub(crate) fn units(self, alloc: Global, bytes: &[u8]) -> Result<Vec<u16>, AllocError>
         ensures { IfOk result (λ units. units.items ≡ units_of_pairs self bytes.now) }
     {
-        let mut units = Vec::with_capacity(alloc, bytes.len() / 2)?;
+        let mut units = Vec::new(alloc);
+        self.append_units(bytes, &mut units)?;
+        Ok(units)
+    }
+
+    // The bytes of units.
+    fn spelled(self, alloc: Global, units: &[u16]) -> Result<Vec<u8>, AllocError>
+        ensures { IfOk result (λ bytes. bytes.items ≡ flat_map (bytes_of_unit self) units.now) }
+    {
+        let mut bytes = Vec::new(alloc);
+        self.append_bytes(units, &mut bytes)?;
+        Ok(bytes)
+    }
+
+    // Appends the units that bytes spell.
+    pub(crate) fn append_units(self, bytes: &[u8], units: &mut Vec<u16>) -> Result<(), AllocError>
+        ensures { OnOk result (units.new.items ≡ units.old.items ++ units_of_pairs self bytes.now) }
+    {
+        units.reserve(bytes.len() / 2)?;
         let mut place = 0;
         while place < bytes.len() {
             units.push(self.unit_at(bytes, place))?;
             place += 2;
         }
-        Ok(units)
+        Ok(())
     }
 
-    // The bytes of units.
-    pub(crate) fn spelled(self, alloc: Global, units: &[u16]) -> Result<Vec<u8>, AllocError>
-        ensures { IfOk result (λ bytes. bytes.items ≡ flat_map (bytes_of_unit self) units.now) }
+    // Appends the bytes of units.
+    pub(crate) fn append_bytes(self, units: &[u16], bytes: &mut Vec<u8>) -> Result<(), AllocError>
+        ensures { OnOk result (bytes.new.items ≡ bytes.old.items ++ flat_map (bytes_of_unit self) units.now) }
     {
-        let mut bytes = Vec::with_capacity(alloc, units.len())?;
+        bytes.reserve(units.len())?;
         for unit in units {
-            bytes.extend_from_slice(&self.bytes(*unit))?;
+            let [first, second] = self.bytes(*unit);
+            bytes.push(first)?;
+            bytes.push(second)?;
         }
-        Ok(bytes)
+        Ok(())
     }
 }
 
