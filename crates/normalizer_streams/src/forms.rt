@@ -17,8 +17,8 @@ use std::alloc::Global;
 /// Buffers for the forms of bytes, used again for each.
 #[derive(Drop)]
 pub(crate) struct FormBuffers {
+    alloc: Global,
     text: String,
-    units: Vec<u16>,
     form: Vec<u16>,
     bytes: Vec<u8>,
 }
@@ -26,8 +26,8 @@ pub(crate) struct FormBuffers {
 impl FormBuffers {
     pub(crate) fn new(alloc: Global) -> FormBuffers {
         FormBuffers {
+            alloc,
             text: String::new(alloc),
-            units: Vec::new(alloc),
             form: Vec::new(alloc),
             bytes: Vec::new(alloc),
         }
@@ -70,12 +70,10 @@ impl FormBuffers {
         ensures form { IfOk result (λ form. form.now ≡ form_by (EncodingScheme.Utf16 order) normalizer.now bytes.now) }
         ensures refused { IsOkUnless result NormalizeError.Memory }
     {
-        self.units.clear();
-        order.append_units(bytes, &mut self.units)?;
+        let units = order.units(self.alloc, bytes)?;
         self.form.clear();
-        append_form_of_units(normalizer, &self.units, &mut self.form)?;
-        self.bytes.clear();
-        order.append_bytes(&self.form, &mut self.bytes)?;
+        append_form_of_units(normalizer, &units, &mut self.form)?;
+        self.bytes = order.spelled(self.alloc, &self.form)?;
         Ok(self.bytes.as_slice())
     }
 }

@@ -1,19 +1,5 @@
 //! Bytes in an encoding scheme (The Unicode Standard, section 3.10).
-ghost use Rattle.std.specs.Prelude.{
-  ◌≡◌,
-  ◌+◌,
-  ◌++◌,
-  ◌∷◌,
-  ◌<◌,
-  drop,
-  encode_utf8_all,
-  length,
-  min,
-  string_bytes,
-  take,
-  IfOk,
-  OnOk,
-};
+ghost use Rattle.std.specs.Prelude.{◌≡◌, ◌+◌, ◌∷◌, ◌<◌, drop, encode_utf8_all, length, min, string_bytes, take, IfOk};
 ghost use Rattle.std.specs.List.{flat_map};
 ghost use Rattle.normalizer_text.specs.Encodings.{decoded_in};
 ghost use Rattle.normalizer_text.specs.Utf16.{encode_utf16_all, first_of_utf16};
@@ -103,44 +89,26 @@ impl ByteOrder {
     pub(crate) fn units(self, alloc: Global, bytes: &[u8]) -> Result<Vec<u16>, AllocError>
         ensures { IfOk result (λ units. units.items ≡ units_of_pairs self bytes.now) }
     {
-        let mut units = Vec::new(alloc);
-        self.append_units(bytes, &mut units)?;
-        Ok(units)
-    }
-
-    // The bytes of units.
-    fn spelled(self, alloc: Global, units: &[u16]) -> Result<Vec<u8>, AllocError>
-        ensures { IfOk result (λ bytes. bytes.items ≡ flat_map (bytes_of_unit self) units.now) }
-    {
-        let mut bytes = Vec::new(alloc);
-        self.append_bytes(units, &mut bytes)?;
-        Ok(bytes)
-    }
-
-    // Appends the units that bytes spell.
-    pub(crate) fn append_units(self, bytes: &[u8], units: &mut Vec<u16>) -> Result<(), AllocError>
-        ensures { OnOk result (units.new.items ≡ units.old.items ++ units_of_pairs self bytes.now) }
-    {
-        units.reserve(bytes.len() / 2)?;
+        let mut units = Vec::with_capacity(alloc, bytes.len() / 2)?;
         let mut place = 0;
         while place < bytes.len() {
             units.push(self.unit_at(bytes, place))?;
             place += 2;
         }
-        Ok(())
+        Ok(units)
     }
 
-    // Appends the bytes of units.
-    pub(crate) fn append_bytes(self, units: &[u16], bytes: &mut Vec<u8>) -> Result<(), AllocError>
-        ensures { OnOk result (bytes.new.items ≡ bytes.old.items ++ flat_map (bytes_of_unit self) units.now) }
+    // The bytes of units.
+    pub(crate) fn spelled(self, alloc: Global, units: &[u16]) -> Result<Vec<u8>, AllocError>
+        ensures { IfOk result (λ bytes. bytes.items ≡ flat_map (bytes_of_unit self) units.now) }
     {
-        bytes.reserve(units.len())?;
+        let mut bytes = Vec::with_capacity(alloc, units.len().saturating_mul(2))?;
         for unit in units {
             let [first, second] = self.bytes(*unit);
             bytes.push(first)?;
             bytes.push(second)?;
         }
-        Ok(())
+        Ok(bytes)
     }
 }
 
