@@ -1,5 +1,5 @@
 //! Normalizers to any form.
-ghost use Rattle.std.specs.Prelude.{◌≡◌, ◌↔◌, IfOk, IfErr, IsTrue, string_bytes};
+ghost use Rattle.std.specs.Prelude.{◌≡◌, ◌++◌, ◌↔◌, IfOk, IfErr, IsOkUnless, IsTrue, OnOk, string_bytes};
 ghost use Rattle.normalizer_text.specs.Encodings.{Encoding};
 ghost use Rattle.normalizer_input.specs.EncodedForm.{encoded_form};
 ghost use Rattle.normalizer_input.specs.InputCut.{IsInputNormalized};
@@ -30,13 +30,26 @@ impl Normalizer {
         ensures errors { IfErr result (λ error. error ≡ NormalizeError.Memory) }
     {
         let mut text = String::new(alloc);
+        self.append_form(bytes, &mut text)?;
+        Ok(text)
+    }
+
+    /// Appends the form of the text that bytes decode to.
+    ///
+    /// # Errors
+    /// `Memory` if an allocation was refused. A beginning of the form may be appended then.
+    pub fn append_form(&self, bytes: &[u8], text: &mut String) -> Result<(), NormalizeError>
+        ensures form { OnOk result (string_bytes text.new ≡ string_bytes text.old
+            ++ encoded_form Encoding.Utf8 (reading_of self.now) (kind_by self.now) bytes.now) }
+        ensures refused { IsOkUnless result NormalizeError.Memory }
+    {
         let written = match self {
-            Normalizer::Decomposing(n) => n.as_borrowed().normalize_utf8_to(bytes, &mut text),
-            Normalizer::Composing(n) => n.as_borrowed().normalize_utf8_to(bytes, &mut text),
+            Normalizer::Decomposing(n) => n.as_borrowed().normalize_utf8_to(bytes, text),
+            Normalizer::Composing(n) => n.as_borrowed().normalize_utf8_to(bytes, text),
         };
         // (A text in memory refuses a write only if an allocation is refused.)
         match written {
-            Ok(()) => Ok(text),
+            Ok(()) => Ok(()),
             Err(_) => Err(NormalizeError::Memory),
         }
     }

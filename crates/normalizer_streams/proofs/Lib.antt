@@ -1,3 +1,4 @@
+pub mod CarriedLemmas
 pub mod MoveLemmas
 pub mod RunLemmas
 pub mod SchemeLemmas

@@ -1,5 +1,5 @@
 //! Normalizers over bytes in an encoding scheme.
-ghost use Rattle.std.specs.Prelude.{◌≡◌, ◌↔◌, IfOk, IsOkUnless, IsTrue};
+ghost use Rattle.std.specs.Prelude.{◌≡◌, ◌++◌, ◌↔◌, IfOk, IsOkUnless, IsTrue, OnOk};
 ghost use Rattle.normalizer_text.specs.Encodings.{Encoding};
 ghost use Rattle.normalizer_input.specs.EncodedForm.{encoded_form};
 ghost use Rattle.normalizer_input.specs.InputCut.{IsInputNormalized};
@@ -8,52 +8,93 @@ ghost use Rattle.normalizer_built.specs.Normalizers.{kind_by, reading_of};
 ghost use Rattle.normalizer_streams.specs.Schemes.{encoding_of, units_of};
 ghost use Rattle.normalizer_streams.specs.Streams.{form_by};
 
-use crate::scheme::EncodingScheme;
+use crate::scheme::{ByteOrder, EncodingScheme};
 use normalizer_built::Normalizer;
 use normalizer_calls::Offence;
 use normalizer_iterators::NormalizeError;
 use std::alloc::Global;
 
-/// Returns the form of the text that bytes decode to, in the same scheme.
-///
-/// # Errors
-/// `Memory` if an allocation was refused.
-pub(crate) fn form_of(
+/// Buffers for the forms of bytes, used again for each.
+#[derive(Drop)]
+pub(crate) struct FormBuffers {
     alloc: Global,
-    scheme: EncodingScheme,
-    normalizer: &Normalizer,
-    bytes: &[u8],
-) -> Result<Vec<u8>, NormalizeError>
-    ensures form { IfOk result (λ form. form.items ≡ form_by scheme normalizer.now bytes.now) }
-    ensures refused { IsOkUnless result NormalizeError.Memory }
-{
-    match scheme {
-        EncodingScheme::Utf8 => Ok(normalizer.form_of(alloc, bytes)?.into_bytes()),
-        EncodingScheme::Utf16(order) => {
-            let form = form_of_units(alloc, normalizer, &order.units(alloc, bytes)?)?;
-            Ok(order.spelled(alloc, &form)?)
+    text: String,
+    form: Vec<u16>,
+    bytes: Vec<u8>,
+}
+
+impl FormBuffers {
+    pub(crate) fn new(alloc: Global) -> FormBuffers {
+        FormBuffers {
+            alloc,
+            text: String::new(alloc),
+            form: Vec::new(alloc),
+            bytes: Vec::new(alloc),
         }
+    }
+
+    /// Returns the form of the text that bytes decode to, in the same scheme.
+    ///
+    /// # Errors
+    /// `Memory` if an allocation was refused.
+    pub(crate) fn form_of(
+        &mut self,
+        scheme: EncodingScheme,
+        normalizer: &Normalizer,
+        bytes: &[u8],
+    ) -> Result<&[u8], NormalizeError>
+        ensures form { IfOk result (λ form. form.now ≡ form_by scheme normalizer.now bytes.now) }
+        ensures refused { IsOkUnless result NormalizeError.Memory }
+    {
+        match scheme {
+            EncodingScheme::Utf8 => self.utf8_form(normalizer, bytes),
+            EncodingScheme::Utf16(order) => self.utf16_form(order, normalizer, bytes),
+        }
+    }
+
+    fn utf8_form(&mut self, normalizer: &Normalizer, bytes: &[u8]) -> Result<&[u8], NormalizeError>
+        ensures form { IfOk result (λ form. form.now ≡ form_by EncodingScheme.Utf8 normalizer.now bytes.now) }
+        ensures refused { IsOkUnless result NormalizeError.Memory }
+    {
+        self.text.clear();
+        normalizer.append_form(bytes, &mut self.text)?;
+        Ok(self.text.as_bytes())
+    }
+
+    fn utf16_form(
+        &mut self,
+        order: ByteOrder,
+        normalizer: &Normalizer,
+        bytes: &[u8],
+    ) -> Result<&[u8], NormalizeError>
+        ensures form { IfOk result (λ form. form.now ≡ form_by (EncodingScheme.Utf16 order) normalizer.now bytes.now) }
+        ensures refused { IsOkUnless result NormalizeError.Memory }
+    {
+        let units = order.units(self.alloc, bytes)?;
+        self.form.clear();
+        append_form_of_units(normalizer, &units, &mut self.form)?;
+        self.bytes = order.spelled(self.alloc, &self.form)?;
+        Ok(self.bytes.as_slice())
     }
 }
 
-// The form of 16-bit units.
-fn form_of_units(
-    alloc: Global,
+// Appends the form of 16-bit units.
+fn append_form_of_units(
     normalizer: &Normalizer,
     units: &[u16],
-) -> Result<Vec<u16>, NormalizeError>
-    ensures form { IfOk result (λ form. form.items
-        ≡ encoded_form Encoding.Utf16 (reading_of normalizer.now) (kind_by normalizer.now) units.now) }
+    form: &mut Vec<u16>,
+) -> Result<(), NormalizeError>
+    ensures form { OnOk result (form.new.items ≡ form.old.items
+        ++ encoded_form Encoding.Utf16 (reading_of normalizer.now) (kind_by normalizer.now) units.now) }
     ensures refused { IsOkUnless result NormalizeError.Memory }
 {
-    let mut form = Vec::new(alloc);
     let written = match normalizer {
-        Normalizer::Decomposing(n) => n.as_borrowed().normalize_utf16_to(units, &mut form),
-        Normalizer::Composing(n) => n.as_borrowed().normalize_utf16_to(units, &mut form),
+        Normalizer::Decomposing(n) => n.as_borrowed().normalize_utf16_to(units, form),
+        Normalizer::Composing(n) => n.as_borrowed().normalize_utf16_to(units, form),
     };
     // (Units in memory refuse a write only if an allocation is refused.)
     match written {
-        Ok(()) => Ok(form),
+        Ok(()) => Ok(()),
         Err(_) => Err(NormalizeError::Memory),
     }
 }

@@ -2,6 +2,7 @@
 //! change is written, and only the rest is kept.
 #![tactic(auto)]
 
+mod carried;
 mod forms;
 mod scheme;
 mod settled;

@@ -102,9 +102,11 @@ impl ByteOrder {
     pub(crate) fn spelled(self, alloc: Global, units: &[u16]) -> Result<Vec<u8>, AllocError>
         ensures { IfOk result (λ bytes. bytes.items ≡ flat_map (bytes_of_unit self) units.now) }
     {
-        let mut bytes = Vec::with_capacity(alloc, units.len())?;
+        let mut bytes = Vec::with_capacity(alloc, units.len().saturating_mul(2))?;
         for unit in units {
-            bytes.extend_from_slice(&self.bytes(*unit))?;
+            let [first, second] = self.bytes(*unit);
+            bytes.push(first)?;
+            bytes.push(second)?;
         }
         Ok(bytes)
     }

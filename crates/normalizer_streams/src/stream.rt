@@ -34,15 +34,13 @@ ghost use Rattle.normalizer_streams.specs.Streams.{
 };
 ghost use Rattle.normalizer_streams.specs.inner.Moves.{Carries, IsCutAnyway, Moves};
 
-use crate::forms::form_of;
+use crate::carried::Carried;
+use crate::forms::FormBuffers;
 use crate::scheme::EncodingScheme;
 use crate::settled::last_settled;
 use normalizer_built::Normalizer;
 use normalizer_io::{Source, Target, TransferError, write_all};
 use std::alloc::Global;
-
-// The most bytes that one read returns.
-const BLOCK: usize = 65536;
 
 // What is cut short of a character has fewer bytes.
 const LONGEST_SEQUENCE: usize = 4;
@@ -76,100 +74,62 @@ pub fn write_form<R: Source, W: Target>(
         (R.left reader.old) (R.left reader.new) (W.taken writer.old) (W.taken writer.new) }
     ensures write { IsErrOf result TransferError.Write → W.refused writer.old writer.new }
 {
-    let mut block = vec![in alloc; 0u8; BLOCK]?;
-    write_blocks(alloc, scheme, normalizer, reader, writer, &mut block)
-}
-
-// Reads to the end, as much at a time as a block holds.
-fn write_blocks<R: Source, W: Target>(
-    alloc: Global,
-    scheme: EncodingScheme,
-    normalizer: &Normalizer,
-    reader: &mut R,
-    writer: &mut W,
-    block: &mut [u8],
-) -> Result<(), TransferError>
-    requires { 0 < length block.old }
-    ensures form { OnOk result (IsFormWritten (form_by scheme normalizer.now)
-        (R.left reader.old) (W.taken writer.old) (W.taken writer.new)) }
-    ensures end { OnOk result (IsAtEnd (R.left reader.new)) }
-    ensures front { OnErr result (IsFormCutOff (form_by scheme normalizer.now)
-        (R.left reader.old) (W.taken writer.old) (W.taken writer.new)) }
-    ensures read { IsErrOf result TransferError.Read → R.refused reader.old reader.new ⊎ IsEndless (R.left reader.old) }
-    ensures so_far { IsErrOf result TransferError.Read →
-        IsWrittenToRun scheme (form_by scheme normalizer.now) (may_continue normalizer.now)
-        (R.left reader.old) (R.left reader.new) (W.taken writer.old) (W.taken writer.new) }
-    ensures write { IsErrOf result TransferError.Write → W.refused writer.old writer.new }
-{
-    let mut carried = Vec::new(alloc);
+    let mut carried = Carried::new(alloc);
+    let mut buffers = FormBuffers::new(alloc);
     // A loop is proved to end, so this one counts its blocks.
     for _ in 0..u64::MAX {
-        let searched = carried.len();
-        if !carry_block(reader, block, &mut carried)? {
-            return write_form_of(alloc, scheme, normalizer, &carried, writer);
+        let searched = carried.bytes().len();
+        if !carried.read_block(reader)? {
+            return write_form_of(scheme, normalizer, carried.bytes(), &mut buffers, writer);
         }
-        write_settled(alloc, scheme, normalizer, &mut carried, searched, writer)?;
+        write_settled(
+            scheme,
+            normalizer,
+            &mut carried,
+            searched,
+            &mut buffers,
+            writer,
+        )?;
     }
     Err(TransferError::Read)
-}
-
-// Reads a block, and carries its bytes after the others. Returns false, and carries none, at the end.
-fn carry_block<R: Source>(
-    reader: &mut R,
-    block: &mut [u8],
-    carried: &mut Vec<u8>,
-) -> Result<bool, TransferError>
-    requires { 0 < length block.old }
-    ensures carries { IfOk result
-        (Carries (R.left reader.old) (R.left reader.new) carried.old.items carried.new.items) }
-    ensures errors { IfErr result (λ error. (error ≡ TransferError.Read) ⊎ (error ≡ TransferError.Memory)) }
-    ensures read { IsErrOf result TransferError.Read → R.refused reader.old reader.new }
-    ensures unread { IsErrOf result TransferError.Read → Keeps (R.left reader.old) (R.left reader.new) }
-    ensures ahead { OnOk result ((later : R) → R.refused reader.new later → R.refused reader.old later) }
-    ensures block { length block.new ≡ length block.old }
-{
-    let Ok(count) = reader.read(block) else {
-        return Err(TransferError::Read);
-    };
-    carried.extend_from_slice(&block[..count])?;
-    Ok(count > 0)
 }
 
 // Writes the form of what is settled of the bytes that are carried, and keeps the rest. All places up to `searched` but
 // for the last few have been searched.
 fn write_settled<W: Target>(
-    alloc: Global,
     scheme: EncodingScheme,
     normalizer: &Normalizer,
-    carried: &mut Vec<u8>,
+    carried: &mut Carried,
     searched: usize,
+    buffers: &mut FormBuffers,
     writer: &mut W,
 ) -> Result<(), TransferError>
     ensures moved { (left : Option (List ℕ)) → OnOk result (Moves (form_by scheme normalizer.now)
-        left left (W.taken writer.old) (W.taken writer.new) carried.old.items carried.new.items) }
-    ensures run { IsRun scheme (may_continue normalizer.now) (take searched carried.old.items) →
-        OnOk result (IsRun scheme (may_continue normalizer.now) carried.new.items) }
+        left left (W.taken writer.old) (W.taken writer.new) carried.old carried.new) }
+    ensures run { IsRun scheme (may_continue normalizer.now) (take searched carried.old) →
+        OnOk result (IsRun scheme (may_continue normalizer.now) carried.new) }
     ensures front { OnErr result
-        (IsCutAnyway (form_by scheme normalizer.now) (W.taken writer.old) (W.taken writer.new) carried.old.items) }
+        (IsCutAnyway (form_by scheme normalizer.now) (W.taken writer.old) (W.taken writer.new) carried.old) }
     ensures errors { IfErr result (λ error. (error ≡ TransferError.Write) ⊎ (error ≡ TransferError.Memory)) }
     ensures write { IsErrOf result TransferError.Write → W.refused writer.old writer.new }
     ensures ahead { OnOk result ((later : W) → W.refused writer.new later → W.refused writer.old later) }
 {
     let from = searched.saturating_sub(LONGEST_SEQUENCE);
-    let Some(place) = last_settled(scheme, normalizer, carried, from) else {
+    let bytes = carried.bytes();
+    let Some(place) = last_settled(scheme, normalizer, bytes, from) else {
         return Ok(());
     };
-    write_form_of(alloc, scheme, normalizer, &carried[..place], writer)?;
-    remove_front(carried, place);
+    write_form_of(scheme, normalizer, &bytes[..place], buffers, writer)?;
+    carried.remove_front(place);
     Ok(())
 }
 
 // Writes the form of some bytes.
 fn write_form_of<W: Target>(
-    alloc: Global,
     scheme: EncodingScheme,
     normalizer: &Normalizer,
     bytes: &[u8],
+    buffers: &mut FormBuffers,
     writer: &mut W,
 ) -> Result<(), TransferError>
     ensures form { OnOk result (Appends (W.taken writer.old) (W.taken writer.new) (form_by scheme normalizer.now bytes.now)) }
@@ -179,18 +139,8 @@ fn write_form_of<W: Target>(
     ensures write { IsErrOf result TransferError.Write → W.refused writer.old writer.new }
     ensures ahead { OnOk result ((later : W) → W.refused writer.new later → W.refused writer.old later) }
 {
-    match form_of(alloc, scheme, normalizer, bytes) {
-        Ok(form) => write_all(writer, &form),
+    match buffers.form_of(scheme, normalizer, bytes) {
+        Ok(form) => write_all(writer, form),
         Err(_) => Err(TransferError::Memory),
     }
-}
-
-// Removes the first bytes.
-fn remove_front(bytes: &mut Vec<u8>, count: usize)
-    requires { count ≤ vec_len bytes.old }
-    ensures { bytes.new.items ≡ drop count bytes.old.items }
-{
-    let len = bytes.len();
-    bytes.copy_within(count..len, 0);
-    bytes.truncate(len - count);
 }

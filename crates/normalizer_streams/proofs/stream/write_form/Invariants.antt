@@ -1,16 +1,15 @@
-use Rattle.std.proofs.Common.{◌<◌, ◌≤◌, length, []}
+use Rattle.std.proofs.Common.{◌≤◌, length, []}
 use Rattle.normalizer_streams.specs.Streams.{form_by, may_continue, IsRun}
 use Rattle.normalizer_streams.specs.inner.Moves.{Moves}
-use Rattle.normalizer_streams.proofs.stream.write_blocks.Given as goal
+use Rattle.normalizer_streams.proofs.stream.write_form.Given as goal
 
 -- what was written and what is carried make up what was read: a byte a block, at least
 abbrev pub invariant-loop : goal.invariant-loop
 invariant-loop g l = record {
   moves : Moves (form_by l.scheme l.normalizer) (g.R.Source.left l.fn.reader) (g.R.Source.left l.reader)
-      (g.W.Target.taken l.fn.writer) (g.W.Target.taken l.writer) [] l.carried.items;
+      (g.W.Target.taken l.fn.writer) (g.W.Target.taken l.writer) [] l.carried;
   counted : l.counter ≤ length moves.read;
-  run : IsRun l.scheme (may_continue l.normalizer) l.carried.items;
-  room : 0 < length l.block;
+  run : IsRun l.scheme (may_continue l.normalizer) l.carried;
   read : (later : _) → g.R.Source.refused l.reader later → g.R.Source.refused l.fn.reader later;
   write : (later : _) → g.W.Target.refused l.writer later → g.W.Target.refused l.fn.writer later;
 }
