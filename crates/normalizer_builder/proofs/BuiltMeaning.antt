@@ -11,13 +11,12 @@ use Rattle.normalizer_packing.specs.declared.entry.Kind.{Kind}
 use Rattle.normalizer_packing.specs.declared.entry.Kind.TheVariants as kind
 use Rattle.normalizer_packing.specs.ReadBack.{ReadsBack, characters_of, class_by, list_by}
 use Rattle.normalizer_packing.proofs.ReadBack.{packs_reads_back}
-use Rattle.normalizer_records.specs.declared.records.Mappings.TheVariants.{Canonical}
 use Rattle.normalizer_records.specs.Entry.{Entry, MapperEntry}
 use Rattle.normalizer_records.specs.Faults.{IsFirstRefusal}
 use Rattle.normalizer_builder.specs.Building.{Builds, IsFirstUnfitOfRecords, IsMadeOfRecords, MeetsRecords, OfMappings, PacksRecords}
 use Rattle.normalizer_builder.specs.inner.Parts.{IsOfCharacters}
 use Rattle.normalizer_builder.specs.Ranks.{IsFirstUnmet}
-use Rattle.normalizer_builder.specs.Recorded.{entry_for}
+use Rattle.normalizer_records.specs.Recorded.{entry_for}
 use Rattle.normalizer_builder.proofs.EntriesOfRecords.{IsAlone, same_list, told}
 use Rattle.normalizer_builder.proofs.NoRefusal.{recorded_list}
 use Rattle.normalizer_builder.proofs.PackableEntries.{ArePackable-made}

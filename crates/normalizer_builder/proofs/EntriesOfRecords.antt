@@ -16,7 +16,7 @@ use Rattle.normalizer_records.specs.Entry.{Entry, MapperEntry}
 use Rattle.normalizer_records.specs.Faults.{IsFirstRefusal}
 use Rattle.normalizer_records.specs.Meaning.{class_of, entry_of, status_of}
 use Rattle.normalizer_builder.specs.inner.Parts.{IsOfCharacters}
-use Rattle.normalizer_builder.specs.Recorded.{AreMadeOf, entry_for, recorded_characters}
+use Rattle.normalizer_records.specs.Recorded.{AreMadeOf, entry_for, recorded_characters}
 use Rattle.normalizer_builder.proofs.NoRefusal.{class_of-unrecorded, no_syllables, recorded_list, recorded_list-unrecorded}
 
 pub own_recorded : (records : List Entry) (uts46 : List MapperEntry) (k : Kind) (n : ℕ) → own_list k (entry_for records uts46 n) ≡ recorded_list records uts46 k n

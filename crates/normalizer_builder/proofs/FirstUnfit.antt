@@ -20,7 +20,7 @@ use Rattle.normalizer_builder.specs.Building.{KeepsMapping, answer_to_mappings}
 use Rattle.normalizer_builder.specs.Demands.{Demand, Asks, IsMade, Meets, answer_of, answer_to, conditions_of, loaded_of}
 use Rattle.normalizer_builder.specs.Fitness.{IsFirstUnfit, IsFirstUnfitOfKind, IsMadeOfKind}
 use Rattle.normalizer_builder.specs.Ranks.{IsBefore, IsLeast, IsLeastUnmet, IsFirstUnmet}
-use Rattle.normalizer_builder.specs.Recorded.{recorded_step}
+use Rattle.normalizer_records.specs.Recorded.{recorded_step}
 
 IsBefore-itself : (u : Unfit) → ¬ IsBefore u u
 unfolding IsBefore

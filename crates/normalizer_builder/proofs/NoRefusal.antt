@@ -1,20 +1,19 @@
 -- What records are and mean of which none of their own refusals holds.
-use Rattle.std.proofs.Common.{◌≡◌, ◌∙◌, ◌⊎◌, inl, inr, Bool, ℕ, zero, suc, ◌<◌, ◌≤◌, true, false, ◌==◌, List, [], ◌∷◌, ◌++◌, length, map, flat_map, find, get_or, All, Option, Some, None, IfSome}
+use Rattle.std.proofs.Common.{◌≡◌, ◌∙◌, ◌⊎◌, inl, inr, Bool, ℕ, zero, suc, ◌<◌, ◌≤◌, true, false, ◌==◌, List, [], ◌∷◌, length, map, flat_map, find, get_or, All, Option, Some, None, IfSome}
 use Rattle.std.proofs.Common.{◌||◌, not, IsSomeAnd, refl, ap, sym, arith, length-append, eqb-true, if◌then◌else◌}
 use Rattle.std.specs.Int.{is_in_range}
 use Rattle.std.specs.List.{list_any, AllByRecursion}
 use Rattle.std.specs.Option.{option_map}
-use Rattle.std.proofs.lemmas.Bool.{cases_lt, cond_both, false_from_ne_true, or_parts, true≢false}
+use Rattle.std.proofs.lemmas.Bool.{cond_both, false_from_ne_true, or_parts, true≢false}
 use Rattle.std.proofs.lemmas.Bool.Decides.{nat_tests}
 use Rattle.std.proofs.lemmas.List.Elements.{All-append, All-contains, All-map}
 use Rattle.std.proofs.lemmas.List.Folds.{list_any_at}
-use Rattle.std.proofs.lemmas.Option.{IfSome_then, same_Some}
+use Rattle.std.proofs.lemmas.Option.{same_Some}
 use Rattle.normal_forms.specs.Order.{is_reorderable, insert, order}
 use Rattle.normal_forms.specs.Reading.{Reading}
 use Rattle.normal_forms.proofs.ListLemmas.{AllByRecursion-append}
 use Rattle.normal_forms.proofs.OrderLemmas.{AllByRecursion-order, length-order}
 use Rattle.normalizer_tables.specs.Hangul.{is_hangul_syllable, hangul_decomposition}
-use Rattle.normalizer_tables.specs.SpecialLists.{fdfa_list}
 use Rattle.normalizer_packing.specs.declared.entry.Kind.{Kind}
 use Rattle.normalizer_packing.specs.declared.entry.Kind.TheVariants as kind
 use Rattle.normalizer_packing.proofs.EntryLemmas.{find-tells}
@@ -22,16 +21,16 @@ use Rattle.normalizer_records.specs.declared.records.Mappings.{Mappings}
 use Rattle.normalizer_records.specs.declared.records.Mappings.TheVariants.{Canonical, All as AllMappings}
 use Rattle.normalizer_records.specs.declared.refusal.Refusal.TheVariants as refusal
 use Rattle.normalizer_records.specs.Entry.{Entry, MapperEntry, Status, MapsTo, IsIgnored, IsDisallowed}
-use Rattle.normalizer_records.specs.Faults.{AreRising, AreMapperRising, HasFault, HasOrderFault, HasClassFault, HasWrongClass, HasChainFault, has_fixed_fault, HasLengthFault, HasLongList}
-use Rattle.normalizer_records.specs.Faults.{HasPairFault, IsAsked, IsFirstRefusal, IsOnLongChain, IsTooLong, IsWrong, has_mapping_fault, has_zero, is_bad_mapping, is_bad_status, is_disallowed, is_fixed}
-use Rattle.normalizer_records.specs.Faults.{is_fixed_for_mapper, is_mark, mapped_to}
+use Rattle.normalizer_records.specs.Faults.{AreRising, HasFault, HasOrderFault, HasClassFault, HasWrongClass, has_fixed_fault, HasLengthFault, HasLongList}
+use Rattle.normalizer_records.specs.Faults.{IsFirstRefusal, IsTooLong, IsWrong, has_mapping_fault, has_zero, is_bad_mapping, is_bad_status, is_disallowed, is_fixed}
+use Rattle.normalizer_records.specs.Faults.{is_fixed_for_mapper, is_mark}
 use Rattle.normalizer_records.specs.Meaning.{canonical_list, class_of, compatibility_list, entry_of, expand_all, expansion, full_list, levels, list_of_status, mapped_list, mapper_list}
 use Rattle.normalizer_records.specs.Meaning.{mapping_among, recorded_classes, replace_by, replacement, status_of}
 use Rattle.normalizer_records.proofs.ExpansionLemmas.{expansion-alone, expansion-replaced}
+use Rattle.normalizer_records.proofs.RoomLemmas.{asked}
 use Rattle.normalizer_records.proofs.SyllableLemmas.{by_jamo, jamo_some, replacement-syllable}
 use Rattle.normalizer_records.proofs.UnrecordedLemmas.{jamo_alone, jamo_fixed}
-use Rattle.normalizer_builder.specs.inner.Parts.{HasRoom}
-use Rattle.normalizer_builder.specs.Recorded.{recorded_characters}
+use Rattle.normalizer_records.specs.Recorded.{recorded_characters}
 
 -- the list of n in one kind of data, if records don't ignore n
 abbrev pub recorded_list : List Entry → List MapperEntry → Kind → ℕ → Option (List ℕ)
@@ -41,13 +40,6 @@ recorded_list records uts46 kind.Mapper n = mapper_list records uts46 n
 
 stable : (a b : ℕ) → (¬ (a < b) → ⊥) → a < b
 stable a b h = grind arith
-
-short : (list : List ℕ) → ¬ IsTooLong list → length list ≤ 18
-unfolding fdfa_list
-short list h = elim (cases_lt 18 (length list)) [
-  | inl over ↦ absurd (h (grind (arith, nat_tests), λ e. omega (arith, ap length e)))
-  | inr within ↦ within
-]
 
 -- none passes a test that not any passes
 none_passes : {X : Type 0} (p : X → Bool) (xs : List X) → list_any p xs ≡ false → All (λ x. p x ≡ false) xs
@@ -141,14 +133,6 @@ module _ (records : List Entry) (uts46 : List MapperEntry) (none : IsFirstRefusa
   unfolding IsFirstRefusal HasFault HasOrderFault
   rising i j d below within = stable _ _ (λ falls. none refusal.Order (λ both. falls (both.0 i j d below within)))
 
-  pub mapper_rising : AreMapperRising uts46
-  unfolding IsFirstRefusal HasFault HasOrderFault
-  mapper_rising i j d below within = stable _ _ (λ falls. none refusal.Order (λ both. falls (both.1 i j d below within)))
-
-  pub no_pair_fault : ¬ HasPairFault records
-  unfolding IsFirstRefusal HasFault
-  no_pair_fault = none refusal.Pair
-
   no_fixed_fault : has_fixed_fault records uts46 ≡ false
   unfolding IsFirstRefusal HasFault
   no_fixed_fault = false_from_ne_true _ (none refusal.Fixed)
@@ -156,13 +140,6 @@ module _ (records : List Entry) (uts46 : List MapperEntry) (none : IsFirstRefusa
   no_mapping_fault : has_mapping_fault records uts46 ≡ false
   unfolding IsFirstRefusal HasFault
   no_mapping_fault = false_from_ne_true _ (none refusal.Mapping)
-
-  off_chain : (c : ℕ) → ¬ IsOnLongChain records c
-  unfolding IsFirstRefusal HasFault HasChainFault IsOnLongChain
-  off_chain c h = none refusal.Chain (h.0 ++ c ∷ h.1, h.2, h.3)
-
-  asked : (c : ℕ) → IsAsked records uts46 c
-  asked c = record { off_chain = off_chain c; mapped_off_chain = λ k d within. off_chain (get_or (mapped_to (status_of uts46 c)) k d) }
 
   unfixed_records : All (λ r. is_fixed r.c ≡ false) records
   unfolding has_fixed_fault
@@ -278,24 +255,17 @@ module _ (records : List Entry) (uts46 : List MapperEntry) (none : IsFirstRefusa
   unfolding IsFirstRefusal HasFault HasLengthFault HasLongList HasClassFault HasWrongClass mapper_list
   IsGiven-recorded kind.Canonical n = record {
     sound = IsSound-full_list _ (λ m h _. h) Canonical n (λ h. h);
-    short = λ h. none refusal.Length (n, asked n, inl h);
-    right = λ h. none refusal.Class (n, asked n, inr (inl h));
+    short = λ h. none refusal.Length (n, asked records uts46 none n, inl h);
+    right = λ h. none refusal.Class (n, asked records uts46 none n, inr (inl h));
   }
   IsGiven-recorded kind.Compatibility n = record {
     sound = IsSound-full_list _ (λ m h _. h) AllMappings n (λ h. h);
-    short = λ h. none refusal.Length (n, asked n, inr (inl h));
-    right = λ h. none refusal.Class (n, asked n, inr (inr (inl h)));
+    short = λ h. none refusal.Length (n, asked records uts46 none n, inr (inl h));
+    right = λ h. none refusal.Class (n, asked records uts46 none n, inr (inr (inl h)));
   }
   IsGiven-recorded kind.Mapper n = by (mapper_list records uts46 n) (IsSound-mapped _ (λ m h _. h) n (status_of uts46 n) refl (λ h. h))
-      (λ h. none refusal.Length (n, asked n, inr (inr h))) (λ h. none refusal.Class (n, asked n, inr (inr (inr h))))
+      (λ h. none refusal.Length (n, asked records uts46 none n, inr (inr h))) (λ h. none refusal.Class (n, asked records uts46 none n, inr (inr (inr h))))
     where
       by : (o : Option (List ℕ)) → IfSome o (IsSound (λ m. 0 < n → 0 < m)) → ¬ IsSomeAnd o IsTooLong → ¬ IsSomeAnd o (IsWrong records n false) → IfSome o (IsGiven records kind.Mapper n)
       by None sound short right = tt
       by (Some x) sound short right = record { sound = sound; short = short; right = right }
-
-  pub room : (c : ℕ) → HasRoom records uts46 c
-  room c = record {
-    canonical = short _ (IsGiven-recorded kind.Canonical c).short;
-    compatibility = short _ (IsGiven-recorded kind.Compatibility c).short;
-    mapper = IfSome_then _ (IsGiven-recorded kind.Mapper c) (λ x h. short x h.short);
-  }

@@ -18,7 +18,8 @@ use Rattle.normalizer_records.specs.Entry.{Entry, MapperEntry}
 use Rattle.normalizer_records.specs.Faults.{IsFirstRefusal, IsFixedForm, IsFreeForm, begins_with_mark}
 use Rattle.normalizer_records.specs.Meaning.{class_of}
 use Rattle.normalizer_builder.specs.inner.Parts.{IsOfCharacters}
-use Rattle.normalizer_builder.specs.Recorded.{AreMadeOf, entry_for, mapper_class_of}
+use Rattle.normalizer_records.specs.Recorded.{AreMadeOf, entry_for}
+use Rattle.normalizer_builder.specs.Recorded.{mapper_class_of}
 use Rattle.normalizer_builder.proofs.EntriesOfRecords.{IsAlone, IsTold, own_recorded, same_class, told}
 use Rattle.normalizer_builder.proofs.NoRefusal.{IsGiven, IsGiven-recorded, asked_mark, class_of-unrecorded, recorded_list, recorded_list-replacement, unrecorded_replacement}
 

@@ -18,7 +18,7 @@ use Rattle.normalizer_packing.proofs.EntryLemmas.{find-none, find-tells}
 use Rattle.normalizer_packing.proofs.PackingLemmas.{one_packing}
 use Rattle.normalizer_records.specs.Entry.{Entry, MapperEntry}
 use Rattle.normalizer_builder.specs.Building.{PacksRecords}
-use Rattle.normalizer_builder.specs.Recorded.{AreMadeOf, ListsCharacters, entry_for, recorded_characters}
+use Rattle.normalizer_records.specs.Recorded.{AreMadeOf, ListsCharacters, entry_for, recorded_characters}
 
 -- lists in one strict order with the same members are the same
 module _ {X : Type 0} (R : X → X → Type 0) (one_way : (x y : X) → R x y → ¬ R y x) where

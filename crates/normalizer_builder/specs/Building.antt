@@ -26,7 +26,8 @@ use Rattle.normalizer_records.specs.Meaning.{mapper_list, pairs_of}
 use Rattle.normalizer_builder.specs.declared.rank.Unfit.{Unfit}
 use Rattle.normalizer_builder.specs.Demands.{Demand, IsMade, Meets, answer_to, characters_of}
 use Rattle.normalizer_builder.specs.Ranks.{IsFirstUnmet}
-use Rattle.normalizer_builder.specs.Recorded.{AreMadeOf, mapper_class_of, recorded_step}
+use Rattle.normalizer_records.specs.Recorded.{AreMadeOf, recorded_step}
+use Rattle.normalizer_builder.specs.Recorded.{mapper_class_of}
 
 -- data that pack records: an entry for each recorded character, and the pairs in order
 pub record PacksRecords (records : List Entry) (uts46 : List MapperEntry) (p : Packed) : Type 0 where

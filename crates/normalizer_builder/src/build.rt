@@ -1,18 +1,17 @@
 //! Builds data from records.
-ghost use Rattle.std.specs.Prelude.{◌≡◌, None, IfOk, MatchResult};
-ghost use Rattle.normalizer_records.specs.Faults.{IsFirstRefusal};
+ghost use Rattle.std.specs.Prelude.{◌≡◌, MatchResult};
+ghost use Rattle.normalizer_records.specs.Recorded.{AreExpanded};
 ghost use Rattle.normalizer_builder.specs.Building.{Builds, IsSmallest, error_of};
 ghost use Rattle.normalizer_builder.specs.Built.{data_in};
-ghost use Rattle.normalizer_builder.specs.inner.Parts.{AreParts, PacksCharacters};
+ghost use Rattle.normalizer_builder.specs.inner.Parts.{PacksCharacters};
 
 use crate::built::Built;
-use crate::entries::entries;
 use crate::mappings::first_unfit_of_records;
 use crate::scalars::are_of_characters;
 use normalizer_packing::entry::Entry;
 use normalizer_packing::{PackError, Packed, pack};
-use normalizer_records::{BuildError, Record, Refusal, Uts46Record, first_refusal, pairs};
-use std::alloc::{AllocError, Global};
+use normalizer_records::{BuildError, Record, Refusal, Uts46Record, expanded};
+use std::alloc::Global;
 
 /// Builds data from plain records of characters.
 pub struct Records;
@@ -40,9 +39,9 @@ impl Records {
         ensures { MatchResult result (λ b. Builds records.now uts46.now (data_in b))
             (IsSmallest records.now uts46.now) }
     {
-        match first_refusal(alloc, records, uts46) {
-            Ok(None) => build_unrefused(alloc, records, uts46),
-            Ok(Some(refusal)) => Err(error_of(refusal)),
+        match expanded(alloc, records, uts46) {
+            Ok(Ok((entries, pairs))) => build_expanded(alloc, records, uts46, entries, pairs),
+            Ok(Err(refusal)) => Err(error_of(refusal)),
             Err(_) => Err(BuildError::Memory),
         }
     }
@@ -63,17 +62,19 @@ fn error_of(refusal: Refusal) -> BuildError
     }
 }
 
-/// The data of records that aren't refused themselves.
+/// The data of records that aren't refused themselves, of what is packed of them.
 #[tactic(auto, unfolding(crate::specs::Building::IsSmallest))]
-fn build_unrefused(
+fn build_expanded(
     alloc: Global,
     records: &[Record],
     uts46: &[Uts46Record],
+    entries: Vec<Entry>,
+    pairs: Vec<(char, char, char)>,
 ) -> Result<Built, BuildError>
-    requires { IsFirstRefusal records.now uts46.now None }
+    requires { AreExpanded records.now uts46.now entries.items pairs.items }
     ensures { MatchResult result (λ b. Builds records.now uts46.now (data_in b)) (IsSmallest records.now uts46.now) }
 {
-    let packed = packed_of(alloc, records, uts46)?;
+    let packed = packed_of(alloc, records, uts46, entries, pairs)?;
     match first_unfit_of_records(records, &packed) {
         None => Ok(Built { packed }),
         Some(unfit) => Err(BuildError::Unfit {
@@ -85,32 +86,20 @@ fn build_unrefused(
 
 /// Data that pack such records.
 #[tactic(auto, unfolding(crate::specs::Building::IsSmallest))]
-fn packed_of(alloc: Global, records: &[Record], uts46: &[Uts46Record]) -> Result<Packed, BuildError>
-    requires { IsFirstRefusal records.now uts46.now None }
-    ensures { MatchResult result (PacksCharacters records.now uts46.now) (IsSmallest records.now uts46.now) }
-{
-    match parts_of(alloc, records, uts46) {
-        Ok((entries, pairs)) => match pack(alloc, entries.as_slice(), pairs) {
-            Ok(packed) => Ok(packed),
-            Err(PackError::TableFull) => Err(BuildError::TableFull),
-            Err(PackError::Memory) => Err(BuildError::Memory),
-        },
-        Err(_) => Err(BuildError::Memory),
-    }
-}
-
-/// What is packed of such records: the entries and the pairs.
-#[tactic(auto, using(crate::proofs::NoRefusal::no_pair_fault))]
-fn parts_of(
+fn packed_of(
     alloc: Global,
     records: &[Record],
     uts46: &[Uts46Record],
-) -> Result<(Vec<Entry>, Vec<(char, char, char)>), AllocError>
-    requires { IsFirstRefusal records.now uts46.now None }
-    ensures { IfOk result (λ parts. AreParts records.now uts46.now parts.0.items parts.1.items) }
+    entries: Vec<Entry>,
+    pairs: Vec<(char, char, char)>,
+) -> Result<Packed, BuildError>
+    requires { AreExpanded records.now uts46.now entries.items pairs.items }
+    ensures { MatchResult result (PacksCharacters records.now uts46.now) (IsSmallest records.now uts46.now) }
 {
-    let entries = entries(alloc, records, uts46)?;
     are_of_characters(entries.as_slice());
-    let pairs = pairs(alloc, records)?;
-    Ok((entries, pairs))
+    match pack(alloc, entries.as_slice(), pairs) {
+        Ok(packed) => Ok(packed),
+        Err(PackError::TableFull) => Err(BuildError::TableFull),
+        Err(PackError::Memory) => Err(BuildError::Memory),
+    }
 }

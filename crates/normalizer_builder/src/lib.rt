@@ -3,8 +3,6 @@
 
 mod build;
 mod built;
-mod characters;
-mod entries;
 pub mod laws;
 mod mappings;
 mod rank;

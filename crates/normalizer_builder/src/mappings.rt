@@ -7,12 +7,11 @@ ghost use Rattle.normalizer_builder.specs.Building.{IsFirstUnfitOfMappings, IsFi
 ghost use Rattle.normalizer_builder.specs.Building.{step_of_mapping};
 ghost use Rattle.normalizer_builder.specs.Demands.{characters_of};
 
-use crate::entries::step_to;
 use crate::rank::{Unfit, least};
 use crate::unfit::{characters_of, first_unfit};
 use normalizer_packing::Packed;
 use normalizer_packing::entry::{Kind, Mapping};
-use normalizer_records::{Record, canonical_mapping_of};
+use normalizer_records::{Record, canonical_mapping_of, step_to};
 use normalizer_tables::DataMarkerInfo;
 use normalizer_tables::step::{Step, step_of};
 
@@ -53,7 +52,7 @@ fn keeps_mappings(records: &[Record], packed: &Packed) -> bool
 }
 
 /// Whether one step of a character is the mapping that is recorded of it.
-#[tactic(auto, unfolding(crate::specs::Building::KeepsMapping, crate::specs::Recorded::recorded_step))]
+#[tactic(auto, unfolding(crate::specs::Building::KeepsMapping, normalizer_records::specs::Recorded::recorded_step))]
 fn keeps_mapping(records: &[Record], packed: &Packed, character: char) -> bool
     requires { AreRising records.now }
     ensures { IsTrue result ↔ KeepsMapping records.now packed.now character }

@@ -17,7 +17,7 @@ use Rattle.std.proofs.lemmas.Map.Views.{btree_set_contains_from_list, btree_set_
 use Rattle.normalizer_records.specs.Entry.{Entry}
 use Rattle.normalizer_records.specs.Meaning.{entry_of, mapping_of}
 use Rattle.normalizer_records.specs.Faults.{AreRising, IsRecorded, IsChain, IsOnLongChain, HasChainFault}
-use Rattle.normalizer_records.specs.inner.Chains.{beginning, ends, IsBetween, IsLedTo, IsSetOf, LeadsOn}
+use Rattle.normalizer_records.specs.inner.Chains.{beginning, IsBetween, IsLedTo, IsSetOf, LeadsOn}
 use Rattle.normalizer_records.specs.inner.Lookup.{no_entry}
 use Rattle.normalizer_records.proofs.LookupLemmas.{find-found, stands_or_none}
 
@@ -215,19 +215,11 @@ module _ (records : List Entry) where
               let yes = list_any-from_Any (contains nat_cmp set) r.mapping (k, d, in_mapping, at, (on d).1 further) in
               Contains-flat_map (beginning set) records c r inside (rw yes (0, omega arith, same))
 
-      pub IsLedTo-more : IsSetOf (IsLedTo records n) set → IsFromIterResult nat_cmp (flat_map (ends set) records) s → IsSetOf (IsLedTo records (suc n)) s
-      unfolding IsLedTo
-      IsLedTo-more led is c = let have = btree_set_contains_from_list nat_cmp_total exact_unsigned (flat_map (ends set) records) s is c in (λ h. there (have.0 h), λ h. have.1 (back h))
-        where
-          in_record : (r : Entry) → Contains records r → (b : Bool) → contains nat_cmp set r.c ≡ b → Contains (if b then r.mapping else []) c → IsLedTo records (suc n) c
-          in_record r inside false off at = let within = at.1 in absurd (omega arith)
-          in_record r inside true has at = (r.c, subst (λ (y : List ℕ). Contains y c) (sym (mapping-of_record r inside)) at, (led r.c).0 has)
-
-          there : Contains (flat_map (ends set) records) c → IsLedTo records (suc n) c
-          there h = let (r, inside, here) = Contains-from_flat_map (ends set) records c h in in_record r inside _ refl here
-
-          back : IsLedTo records (suc n) c → Contains (flat_map (ends set) records) c
-          back (b, h, further) =
-              let (r, inside, same, member) = record_with b c h in
-              let yes = ap (contains nat_cmp set) same ∙ (led b).1 further in
-              Contains-flat_map (ends set) records c r inside (rw yes member)
+  pub IsLedTo-more : (n : ℕ) (set s : BTreeSet ℕ) → IsSetOf (IsLedTo records n) set → IsFromIterResult nat_cmp (flat_map (mapping_of records) set.keys) s → IsSetOf (IsLedTo records (suc n)) s
+  unfolding IsLedTo
+  IsLedTo-more n set s led is c =
+      let have = btree_set_contains_from_list nat_cmp_total exact_unsigned (flat_map (mapping_of records) set.keys) s is c in
+      let listed = btree_set_contains_iff nat_cmp_total exact_unsigned set in (
+        λ h. let (b, inside, member) = Contains-from_flat_map (mapping_of records) set.keys c (have.0 h) in (b, member, (led b).0 ((listed b).1 inside)),
+        λ (b, member, further). have.1 (Contains-flat_map (mapping_of records) set.keys c b ((listed b).0 ((led b).1 further)) member),
+      )

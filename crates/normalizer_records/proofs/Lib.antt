@@ -7,5 +7,6 @@ pub mod OrLemmas
 pub mod PairFaultLemmas
 pub mod RefusalLemmas
 pub mod ReplacedLemmas
+pub mod RoomLemmas
 pub mod SyllableLemmas
 pub mod UnrecordedLemmas

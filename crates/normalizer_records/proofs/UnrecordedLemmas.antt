@@ -1,11 +1,11 @@
 -- The lists of characters of which nothing is recorded show no fault.
 use Rattle.std.proofs.Common.{◌≡◌, ℕ, ◌<◌, ◌≤◌, ◌⊎◌, ◌↔◌, ◌==◌, true, false, List, [], ◌∷◌, ◌++◌, length, get_or, map, refl, None}
-use Rattle.std.proofs.Common.{inl, inr, sym, ap, subst, ◌∙◌, arith, Contains, find, nat_lt, flat_map}
+use Rattle.std.proofs.Common.{inl, inr, sym, ap, subst, ◌∙◌, arith, All, Contains, find, nat_lt, flat_map}
 use Rattle.std.specs.Option.{option_map, option_map_or}
 use Rattle.std.proofs.lemmas.Bool.{or_parts, true≢false}
 use Rattle.std.proofs.lemmas.Bool.Decides.{nat_tests}
 use Rattle.std.proofs.lemmas.List.{get_or-map, get_or_default, length-map}
-use Rattle.std.proofs.lemmas.List.Elements.{Contains-append_left, Contains-append_right}
+use Rattle.std.proofs.lemmas.List.Elements.{All-contains, Contains-append_left, Contains-append_right}
 use Rattle.std.proofs.lemmas.List.Folds.{list_any_at}
 use Rattle.normal_forms.proofs.OrderLemmas.{length-order}
 use Rattle.normalizer_tables.specs.Hangul.{is_hangul_syllable, hangul_decomposition}
@@ -118,20 +118,24 @@ module _ (records : List Entry) (uts46 : List MapperEntry) (fixed : has_fixed_fa
   ]
 
   -- what no other character shows is shown by a recorded one, or by none
-  recorded_alone : (P : ℕ → Type 0) → ((c : ℕ) → entry_of records c ≡ None → status_of uts46 c ≡ None → P c → ⊥) →
-      IsOfSome (λ c. IsAsked records uts46 c × P c) (length characters) characters ↔ ((c : ℕ) × IsAsked records uts46 c × P c)
-  recorded_alone P never = (
-    λ h. (get_or characters h.0 0, h.2.0, h.2.1),
-    λ h. elim (recorded_or_not h.0) [
-      | inl there ↦ let e = get_or_default characters there.0 0 h.0 there.1 ∙ there.2 in (there.0, there.1, subst (λ c. IsAsked records uts46 c × P c) (sym e) (h.1, h.2))
-      | inr nowhere ↦ absurd (never h.0 nowhere.0 nowhere.1 h.2)
-    ],
-  )
+  module _ (xs : List ℕ) (all : All (Contains xs) characters) where
+    recorded_alone : (P : ℕ → Type 0) → ((c : ℕ) → entry_of records c ≡ None → status_of uts46 c ≡ None → P c → ⊥) →
+        IsOfSome (λ c. IsAsked records uts46 c × P c) (length xs) xs ↔ ((c : ℕ) × IsAsked records uts46 c × P c)
+    recorded_alone P never = (
+      λ h. (get_or xs h.0 0, h.2.0, h.2.1),
+      λ h. elim (recorded_or_not h.0) [
+        | inl recorded ↦
+            let there = All-contains (Contains xs) characters h.0 all recorded in
+            let e = get_or_default xs there.0 0 h.0 there.1 ∙ there.2 in
+            (there.0, there.1, subst (λ c. IsAsked records uts46 c × P c) (sym e) (h.1, h.2))
+        | inr nowhere ↦ absurd (never h.0 nowhere.0 nowhere.1 h.2)
+      ],
+    )
 
-  pub HasClassFault-recorded : IsOfSome (λ c. IsAsked records uts46 c × HasWrongClass records uts46 c) (length characters) characters ↔ HasClassFault records uts46
-  unfolding HasClassFault
-  HasClassFault-recorded = recorded_alone (HasWrongClass records uts46) HasWrongClass-unrecorded
+    pub HasClassFault-recorded : IsOfSome (λ c. IsAsked records uts46 c × HasWrongClass records uts46 c) (length xs) xs ↔ HasClassFault records uts46
+    unfolding HasClassFault
+    HasClassFault-recorded = recorded_alone (HasWrongClass records uts46) HasWrongClass-unrecorded
 
-  pub HasLengthFault-recorded : IsOfSome (λ c. IsAsked records uts46 c × HasLongList records uts46 c) (length characters) characters ↔ HasLengthFault records uts46
-  unfolding HasLengthFault
-  HasLengthFault-recorded = recorded_alone (HasLongList records uts46) HasLongList-unrecorded
+    pub HasLengthFault-recorded : IsOfSome (λ c. IsAsked records uts46 c × HasLongList records uts46 c) (length xs) xs ↔ HasLengthFault records uts46
+    unfolding HasLengthFault
+    HasLengthFault-recorded = recorded_alone (HasLongList records uts46) HasLongList-unrecorded

@@ -3,9 +3,11 @@ ghost use Rattle.std.specs.Prelude.{◌≡◌, ◌↔◌, ◌||◌, ◌&&◌, �
 ghost use Rattle.std.specs.BTreeSet.{contains, IsFromIterResult};
 ghost use Rattle.std.specs.List.{list_any};
 ghost use Rattle.std.specs.Ordering.{nat_cmp};
-ghost use Rattle.normalizer_records.specs.inner.Chains.{beginning, ends, IsBetween, IsLedTo, IsSetOf, LeadsOn};
+ghost use Rattle.normalizer_records.specs.inner.Chains.{beginning, IsBetween, IsLedTo, IsSetOf, LeadsOn};
 ghost use Rattle.normalizer_records.specs.Faults.{AreRising, IsOnLongChain};
+ghost use Rattle.normalizer_records.specs.Meaning.{mapping_of};
 
+use crate::lookup::mapping_of;
 use crate::records::Record;
 use std::alloc::{AllocError, Global};
 use std::collections::BTreeSet;
@@ -52,28 +54,17 @@ fn beginnings(
         .collect(alloc)
 }
 
-/// What a record leads to, if its character is one of these.
-fn ends<'a>(set: &BTreeSet<char>, record: &'a Record) -> &'a [char]
-    ensures { result.now ≡ ends set.now «record».now }
-{
-    if set.contains(&record.c) {
-        &record.mapping
-    } else {
-        &[]
-    }
-}
-
-/// What the records of these lead to.
+/// What the records of these characters lead to.
 fn all_ends(
     alloc: Global,
     records: &[Record],
     set: &BTreeSet<char>,
 ) -> Result<BTreeSet<char>, AllocError>
-    ensures { IfOk result (IsFromIterResult nat_cmp (flat_map (ends set.now) records.now)) }
+    requires { AreRising records.now }
+    ensures { IfOk result (IsFromIterResult nat_cmp (flat_map (mapping_of records.now) set.now.keys)) }
 {
-    records
-        .iter()
-        .flat_map(|record| ends(set, record).iter().copied())
+    set.iter()
+        .flat_map(|c| mapping_of(records, *c).iter().copied())
         .collect(alloc)
 }
 

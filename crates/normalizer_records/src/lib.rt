@@ -2,6 +2,7 @@
 #![tactic(auto)]
 
 mod chains;
+mod characters;
 mod expansion;
 mod faults;
 pub mod laws;
@@ -13,10 +14,11 @@ mod pair_list;
 mod records;
 pub mod refusal;
 mod refusals;
+mod step;
 
-pub use lists::{canonical_list, compatibility_list, mapper_list};
 pub use lookup::{canonical_mapping_of, class_of};
 pub use pair_list::pairs;
 pub use records::{BuildError, Mappings, Record, Uts46Record, Uts46Status};
 pub use refusal::Refusal;
-pub use refusals::{first_refusal, recorded_characters};
+pub use refusals::expanded;
+pub use step::step_to;

@@ -4,7 +4,7 @@ ghost use Rattle.std.specs.Prelude.{IfOk, IsSomeAnd, IsTrue};
 ghost use Rattle.std.specs.List.{list_any};
 ghost use Rattle.std.specs.Option.{option_map};
 ghost use Rattle.normalizer_tables.specs.SpecialLists.{fixed_list_of};
-ghost use Rattle.normalizer_records.specs.inner.Cut.{MayStandFor, StandsFor};
+ghost use Rattle.normalizer_records.specs.inner.Cut.{HasRoom};
 ghost use Rattle.normalizer_records.specs.Faults.{
   AreMapperRising,
   AreRising,
@@ -17,12 +17,14 @@ ghost use Rattle.normalizer_records.specs.Faults.{
   IsWrong,
   is_long,
 };
-ghost use Rattle.normalizer_records.specs.Meaning.{class_of, full_list, list_of_status, mapper_list};
-ghost use Rattle.normalizer_records.specs.Statuses.{status_of as status_value};
+ghost use Rattle.normalizer_records.specs.Meaning.{class_of};
+ghost use Rattle.normalizer_records.specs.Recorded.{entry_for};
 
-use crate::expansion::cut_text;
-use crate::lookup::{class_of, uts46_record_of};
-use crate::records::{Mappings, Record, Uts46Record, Uts46Status};
+use crate::lists::{cut_list, cut_mapper_list};
+use crate::lookup::{canonical_mapping_of, class_of};
+use crate::records::{Mappings, Record, Uts46Record};
+use crate::step::step_to;
+use normalizer_packing::entry::Entry;
 use normalizer_tables::members::Members;
 use normalizer_tables::special::fixed_list_of;
 use std::alloc::{AllocError, Global};
@@ -32,57 +34,6 @@ use std::alloc::{AllocError, Global};
 pub(crate) struct ListFaults {
     pub(crate) class: bool,
     pub(crate) length: bool,
-}
-
-/// The full decomposition of a character, or a cut of it if it is too long.
-pub(crate) fn cut_list(
-    alloc: Global,
-    records: &[Record],
-    mappings: Mappings,
-    c: char,
-) -> Result<Vec<char>, AllocError>
-    requires { AreRising records.now }
-    ensures { IfOk result (λ v. StandsFor records.now (full_list records.now mappings c) v.items) }
-{
-    let list = cut_text(alloc, records, mappings, &[c])?;
-    Ok(list)
-}
-
-/// The same of the list of the mapper, if it doesn't ignore the character.
-pub(crate) fn cut_mapper_list(
-    alloc: Global,
-    records: &[Record],
-    uts46: &[Uts46Record],
-    c: char,
-) -> Result<Option<Vec<char>>, AllocError>
-    requires records { AreRising records.now }
-    requires mapper { AreMapperRising uts46.now }
-    ensures { IfOk result (λ o.
-        MayStandFor records.now (mapper_list records.now uts46.now c) (option_map (λ v. v.items) o)) }
-{
-    match uts46_record_of(uts46, c) {
-        None => Ok(Some(cut_list(alloc, records, Mappings::Canonical, c)?)),
-        Some(record) => cut_mapped_list(alloc, records, &record.status),
-    }
-}
-
-fn cut_mapped_list(
-    alloc: Global,
-    records: &[Record],
-    status: &Uts46Status,
-) -> Result<Option<Vec<char>>, AllocError>
-    requires { AreRising records.now }
-    ensures { IfOk result (λ o.
-        MayStandFor records.now (list_of_status records.now (status_value status.now)) (option_map (λ v. v.items) o)) }
-{
-    match status {
-        Uts46Status::Ignored => Ok(None),
-        Uts46Status::Disallowed => Ok(Some(vec![in alloc; '\u{FFFD}']?)),
-        Uts46Status::Mapped(mapping) => {
-            let list = cut_text(alloc, records, Mappings::Canonical, mapping)?;
-            Ok(Some(list))
-        }
-    }
 }
 
 /// Whether a list begins with a mark.
@@ -209,31 +160,43 @@ fn is_too_long_mapping(mapped: &Option<Vec<char>>) -> bool
     }
 }
 
-/// The faults that the lists of a character show.
-pub(crate) fn faults_of(
+/// What records say of a character, and the faults that its lists show. A list that is too long is cut.
+#[tactic(auto, unfolding(crate::specs::Recorded::recorded_step))]
+pub(crate) fn checked_entry(
     alloc: Global,
     records: &[Record],
     uts46: &[Uts46Record],
     c: char,
-) -> Result<ListFaults, AllocError>
+) -> Result<(Entry, ListFaults), AllocError>
     requires records { AreRising records.now }
     requires mapper { AreMapperRising uts46.now }
-    ensures class { IfOk result (λ f. IsTrue f.class ↔ HasWrongClass records.now uts46.now c) }
-    ensures length { IfOk result (λ f. IsTrue f.length ↔ HasLongList records.now uts46.now c) }
+    ensures class { IfOk result (λ both. IsTrue both.1.class ↔ HasWrongClass records.now uts46.now c) }
+    ensures length { IfOk result (λ both. IsTrue both.1.length ↔ HasLongList records.now uts46.now c) }
+    ensures entry { IfOk result (λ both. HasRoom records.now uts46.now c → both.0 ≡ entry_for records.now uts46.now c) }
 {
     let canonical = cut_list(alloc, records, Mappings::Canonical, c)?;
     let compatibility = cut_list(alloc, records, Mappings::All, c)?;
-    let mapped = cut_mapper_list(alloc, records, uts46, c)?;
+    let mapper = cut_mapper_list(alloc, records, uts46, c, &canonical)?;
     let class = class_of(records, c);
     let is_mark = 0 < class;
     let wrong_canonical = is_wrong(records, c, is_mark, &canonical);
     let wrong_compatibility = is_wrong(records, c, is_mark, &compatibility);
-    let wrong_mapping = is_wrong_mapping(records, c, &mapped);
+    let wrong_mapping = is_wrong_mapping(records, c, &mapper);
     let long_canonical = is_too_long(&canonical);
     let long_compatibility = is_too_long(&compatibility);
-    let long_mapping = is_too_long_mapping(&mapped);
-    Ok(ListFaults {
+    let long_mapping = is_too_long_mapping(&mapper);
+    let faults = ListFaults {
         class: (class == 255) | (wrong_canonical | (wrong_compatibility | wrong_mapping)),
         length: long_canonical | (long_compatibility | long_mapping),
-    })
+    };
+    let mapping = step_to(canonical_mapping_of(records, c));
+    let entry = Entry {
+        character: c,
+        class,
+        canonical,
+        compatibility,
+        mapper,
+        mapping,
+    };
+    Ok((entry, faults))
 }

@@ -1,76 +1,68 @@
 //! The lists of characters, as records mean them.
-ghost use Rattle.std.specs.Prelude.{◌≡◌, ◌≤◌, length, IfOk, IfSome};
+ghost use Rattle.std.specs.Prelude.{IfOk};
 ghost use Rattle.std.specs.Option.{option_map};
+ghost use Rattle.normalizer_records.specs.inner.Cut.{MayStandFor, StandsFor};
 ghost use Rattle.normalizer_records.specs.Faults.{AreMapperRising, AreRising};
-ghost use Rattle.normalizer_records.specs.Meaning.{
-  canonical_list,
-  compatibility_list,
-  full_list,
-  mapper_list,
-};
+ghost use Rattle.normalizer_records.specs.Meaning.{canonical_list, full_list, list_of_status, mapper_list};
+ghost use Rattle.normalizer_records.specs.Statuses.{status_of as status_value};
 
-use crate::list_faults::{cut_list, cut_mapper_list};
-use crate::records::{Mappings, Record, Uts46Record};
+use crate::expansion::cut_text;
+use crate::lookup::uts46_record_of;
+use crate::records::{Mappings, Record, Uts46Record, Uts46Status};
 use std::alloc::{AllocError, Global};
 
-fn full_list(
+/// The full decomposition of a character, or a cut of it if it is too long.
+pub(crate) fn cut_list(
     alloc: Global,
     records: &[Record],
     mappings: Mappings,
     c: char,
 ) -> Result<Vec<char>, AllocError>
-    requires rising { AreRising records.now }
-    requires fits { length (full_list records.now mappings c) ≤ 18 }
-    ensures { IfOk result (λ v. v.items ≡ full_list records.now mappings c) }
+    requires { AreRising records.now }
+    ensures { IfOk result (λ v. StandsFor records.now (full_list records.now mappings c) v.items) }
 {
-    let list = cut_list(alloc, records, mappings, c)?;
+    let list = cut_text(alloc, records, mappings, &[c])?;
     Ok(list)
 }
 
-/// Returns the canonical list of a character: its canonical mapping, replaced until nothing changes, then put in
-/// order.
-///
-/// # Errors
-/// [`AllocError`] if an allocation was refused.
-pub fn canonical_list(alloc: Global, records: &[Record], c: char) -> Result<Vec<char>, AllocError>
-    requires rising { AreRising records.now }
-    requires fits { length (canonical_list records.now c) ≤ 18 }
-    ensures { IfOk result (λ v. v.items ≡ canonical_list records.now c) }
-{
-    full_list(alloc, records, Mappings::Canonical, c)
-}
-
-/// Returns the compatibility list of a character: the same, by all mappings.
-///
-/// # Errors
-/// [`AllocError`] if an allocation was refused.
-pub fn compatibility_list(
-    alloc: Global,
-    records: &[Record],
-    c: char,
-) -> Result<Vec<char>, AllocError>
-    requires rising { AreRising records.now }
-    requires fits { length (compatibility_list records.now c) ≤ 18 }
-    ensures { IfOk result (λ v. v.items ≡ compatibility_list records.now c) }
-{
-    full_list(alloc, records, Mappings::All, c)
-}
-
-/// Returns the mapper's list of a character, `None` if it ignores the character.
-///
-/// # Errors
-/// [`AllocError`] if an allocation was refused.
-pub fn mapper_list(
+/// The same of the list of the mapper, if it doesn't ignore the character: the canonical one if nothing is recorded.
+pub(crate) fn cut_mapper_list(
     alloc: Global,
     records: &[Record],
     uts46: &[Uts46Record],
     c: char,
+    canonical: &[char],
 ) -> Result<Option<Vec<char>>, AllocError>
-    requires rising { AreRising records.now }
+    requires records { AreRising records.now }
     requires mapper { AreMapperRising uts46.now }
-    requires fits { IfSome (mapper_list records.now uts46.now c) (λ list. length list ≤ 18) }
-    ensures { IfOk result (λ o. option_map (λ v. v.items) o ≡ mapper_list records.now uts46.now c) }
+    requires canonical { StandsFor records.now (canonical_list records.now c) canonical.now }
+    ensures { IfOk result (λ o.
+        MayStandFor records.now (mapper_list records.now uts46.now c) (option_map (λ v. v.items) o)) }
 {
-    let list = cut_mapper_list(alloc, records, uts46, c)?;
-    Ok(list)
+    match uts46_record_of(uts46, c) {
+        None => {
+            let list = Vec::from_slice(alloc, canonical)?;
+            Ok(Some(list))
+        }
+        Some(record) => cut_mapped_list(alloc, records, &record.status),
+    }
+}
+
+fn cut_mapped_list(
+    alloc: Global,
+    records: &[Record],
+    status: &Uts46Status,
+) -> Result<Option<Vec<char>>, AllocError>
+    requires { AreRising records.now }
+    ensures { IfOk result (λ o.
+        MayStandFor records.now (list_of_status records.now (status_value status.now)) (option_map (λ v. v.items) o)) }
+{
+    match status {
+        Uts46Status::Ignored => Ok(None),
+        Uts46Status::Disallowed => Ok(Some(vec![in alloc; '\u{FFFD}']?)),
+        Uts46Status::Mapped(mapping) => {
+            let list = cut_text(alloc, records, Mappings::Canonical, mapping)?;
+            Ok(Some(list))
+        }
+    }
 }

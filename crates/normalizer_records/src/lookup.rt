@@ -3,7 +3,7 @@ ghost use Rattle.std.specs.Prelude.{◌≡◌};
 ghost use Rattle.std.specs.Option.{option_map};
 ghost use Rattle.normalizer_records.specs.declared.records.Mappings.TheVariants.{Canonical};
 ghost use Rattle.normalizer_records.specs.Faults.{AreRising, AreMapperRising};
-ghost use Rattle.normalizer_records.specs.Meaning.{canonical_mapping_of, class_of, entry_of, mapping_among, status_of};
+ghost use Rattle.normalizer_records.specs.Meaning.{canonical_mapping_of, class_of, entry_of, mapping_among, mapping_of, status_of};
 
 use crate::records::{Record, Uts46Record};
 
@@ -27,6 +27,18 @@ pub fn class_of(records: &[Record], c: char) -> u8
     match record_of(records, c) {
         Some(record) => record.class,
         None => 0,
+    }
+}
+
+/// The recorded mapping of a character, empty without one.
+#[tactic(auto, unfolding(crate::specs::Meaning::mapping_of))]
+pub(crate) fn mapping_of(records: &[Record], c: char) -> &[char]
+    requires { AreRising records.now }
+    ensures { result.now ≡ mapping_of records.now c }
+{
+    match record_of(records, c) {
+        Some(record) => record.mapping.as_slice(),
+        None => &[],
     }
 }
 

@@ -1,5 +1,5 @@
 //! The pairs of records.
-ghost use Rattle.std.specs.Prelude.{◌≡◌, ◌↔◌, IfOk, IsTrue};
+ghost use Rattle.std.specs.Prelude.{◌≡◌, IfOk};
 ghost use Rattle.std.specs.List.{IsAllAdjacentAnswer};
 ghost use Rattle.std.specs.List.Sorted.{IsPermutation, IsSorted};
 ghost use Rattle.normalizer_tables.specs.Pairs.{is_before, AreRising as ArePairsRising};
@@ -67,16 +67,9 @@ fn is_before(pair: &(char, char, char), next: &(char, char, char)) -> bool
     pair.0 < next.0 || (pair.0 == next.0 && pair.1 < next.1)
 }
 
-fn are_rising(pairs: &[(char, char, char)]) -> bool
+/// Whether pairs strictly rise by second, then by first.
+pub(crate) fn are_rising(pairs: &[(char, char, char)]) -> bool
     ensures { IsAllAdjacentAnswer (λ p q b. b ≡ is_before p q.0 q.1) pairs.now result }
 {
     pairs.is_sorted_by(|pair, next| is_before(pair, next))
-}
-
-/// Whether two records have the same pair.
-pub(crate) fn has_pair_fault(alloc: Global, records: &[Record]) -> Result<bool, AllocError>
-    ensures { IfOk result (λ b. IsTrue b ↔ HasPairFault records.now) }
-{
-    let pairs = pairs(alloc, records)?;
-    Ok(!are_rising(&pairs))
 }

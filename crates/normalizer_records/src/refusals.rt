@@ -1,10 +1,10 @@
-//! The first thing that is wrong with records.
-ghost use Rattle.std.specs.Prelude.{◌≡◌, ◌↔◌, ◌++◌, ◌∷◌, false, length, map, IfOk, IsTrue};
+//! What is packed of records, or the first thing that is wrong with them.
+ghost use Rattle.std.specs.Prelude.{◌≡◌, ◌↔◌, ◌∷◌, ℕ, false, length, map, IfOk, IsTrue, MatchResult, Some};
 ghost use Rattle.std.specs.BTreeSet.{contains};
 ghost use Rattle.std.specs.List.{list_any};
 ghost use Rattle.std.specs.Ordering.{nat_cmp};
 ghost use Rattle.normalizer_records.specs.inner.Chains.{IsSetOf};
-ghost use Rattle.normalizer_records.specs.inner.Cut.{IsOfSome};
+ghost use Rattle.normalizer_records.specs.inner.Cut.{HasRoom, IsOfSome};
 ghost use Rattle.normalizer_records.specs.Faults.{
   AreMapperRising,
   AreRising,
@@ -18,14 +18,17 @@ ghost use Rattle.normalizer_records.specs.Faults.{
   mapped_to,
 };
 ghost use Rattle.normalizer_records.specs.Meaning.{status_of};
+ghost use Rattle.normalizer_records.specs.Recorded.{AreExpanded, entry_for};
 
 use crate::chains::{has_any, on_long_chains};
+use crate::characters::sorted_characters;
 use crate::faults::{are_mapper_rising, are_rising, has_fixed_fault, has_mapping_fault};
-use crate::list_faults::{ListFaults, faults_of};
+use crate::list_faults::{ListFaults, checked_entry};
 use crate::lookup::uts46_record_of;
-use crate::pair_list::has_pair_fault;
+use crate::pair_list::{are_rising as are_rising_pairs, pairs};
 use crate::records::{Record, Uts46Record, Uts46Status};
 use crate::refusal::Refusal;
+use normalizer_packing::entry::Entry;
 use std::alloc::{AllocError, Global};
 use std::collections::BTreeSet;
 
@@ -51,77 +54,65 @@ fn is_among(long: &BTreeSet<char>, uts46: &[Uts46Record], c: char) -> bool
     long.contains(&c) || has_any(long, mapped_to(uts46, c))
 }
 
-/// The faults of these characters, as far as they are checked.
-fn list_faults(
+/// The entries of these characters, and the faults of those that are checked.
+fn checked_entries(
     alloc: Global,
     records: &[Record],
     uts46: &[Uts46Record],
     long: &BTreeSet<char>,
     characters: &[char],
-) -> Result<ListFaults, AllocError>
+) -> Result<(Vec<Entry>, ListFaults), AllocError>
     requires chains { IsSetOf (IsOnLongChain records.now) long.now }
     requires rising { AreRising records.now }
     requires mapper { AreMapperRising uts46.now }
-    ensures class { IfOk result (λ f. IsTrue f.class ↔
+    ensures class { IfOk result (λ both. IsTrue both.1.class ↔
         IsOfSome (λ c. IsAsked records.now uts46.now c × HasWrongClass records.now uts46.now c)
         (length characters.now) characters.now) }
-    ensures length { IfOk result (λ f. IsTrue f.length ↔
+    ensures length { IfOk result (λ both. IsTrue both.1.length ↔
         IsOfSome (λ c. IsAsked records.now uts46.now c × HasLongList records.now uts46.now c)
         (length characters.now) characters.now) }
+    ensures entries { IfOk result (λ both. ((c : ℕ) → HasRoom records.now uts46.now c) →
+        both.0.items ≡ map (entry_for records.now uts46.now) characters.now) }
 {
+    let mut entries = Vec::with_capacity(alloc, characters.len())?;
     let mut class = false;
     let mut length = false;
     for place in 0..characters.len() {
         let c = characters[place];
+        let (entry, faults) = checked_entry(alloc, records, uts46, c)?;
         if !is_among(long, uts46, c) {
-            let faults = faults_of(alloc, records, uts46, c)?;
             class = faults.class | class;
             length = faults.length | length;
         }
+        entries.push(entry)?;
     }
-    Ok(ListFaults { class, length })
+    Ok((entries, ListFaults { class, length }))
 }
 
-/// Returns the characters of the records, and of those of the mapper.
-///
-/// # Errors
-/// [`AllocError`] if an allocation was refused.
-pub fn recorded_characters(
+/// What is packed of records that rise and have no fixed character, or their first refusal.
+fn expanded_of_rising(
     alloc: Global,
     records: &[Record],
     uts46: &[Uts46Record],
-) -> Result<Vec<char>, AllocError>
-    ensures { IfOk result (λ v. v.items ≡ map (λ r. r.c) records.now ++ map (λ r. r.c) uts46.now) }
-{
-    // (`collect` would try again after a refused growth)
-    let mut characters = Vec::new(alloc);
-    for entry in records {
-        characters.push(entry.c)?;
-    }
-    for mapped in uts46 {
-        characters.push(mapped.c)?;
-    }
-    Ok(characters)
-}
-
-/// The first refusal of records that rise and have no fixed character.
-fn first_of_rising(
-    alloc: Global,
-    records: &[Record],
-    uts46: &[Uts46Record],
-) -> Result<Option<Refusal>, AllocError>
+) -> Result<Result<(Vec<Entry>, Vec<(char, char, char)>), Refusal>, AllocError>
     requires rising { AreRising records.now }
     requires mapper { AreMapperRising uts46.now }
     requires fixed { has_fixed_fault records.now uts46.now ≡ false }
-    ensures { IfOk result (IsFirstRefusal records.now uts46.now) }
+    ensures { IfOk result (λ r.
+        MatchResult r (λ parts. AreExpanded records.now uts46.now parts.0.items parts.1.items)
+        (λ refusal. IsFirstRefusal records.now uts46.now (Some refusal))) }
 {
     let long = on_long_chains(alloc, records)?;
-    let characters = recorded_characters(alloc, records, uts46)?;
-    let faults = list_faults(alloc, records, uts46, &long, &characters)?;
+    let characters = sorted_characters(alloc, records, uts46)?;
+    let (entries, faults) = checked_entries(alloc, records, uts46, &long, &characters)?;
     let mapping = has_mapping_fault(records, uts46);
     let chain = !long.is_empty();
-    let pair = has_pair_fault(alloc, records)?;
-    Ok(first_among(faults.class, mapping, chain, faults.length, pair))
+    let pairs = pairs(alloc, records)?;
+    let pair = !are_rising_pairs(&pairs);
+    match first_among(faults.class, mapping, chain, faults.length, pair) {
+        None => Ok(Ok((entries, pairs))),
+        Some(refusal) => Ok(Err(refusal)),
+    }
 }
 
 /// The smallest of the refusals that are so.
@@ -143,22 +134,25 @@ fn first_among(class: bool, mapping: bool, chain: bool, length: bool, pair: bool
     }
 }
 
-/// Returns the first thing that is wrong with the records, if anything is.
+/// Returns what is packed of records, or the first thing that is wrong with them. An entry says what records mean of a
+/// character; the pairs rise.
 ///
 /// # Errors
 /// [`AllocError`] if an allocation was refused.
-pub fn first_refusal(
+pub fn expanded(
     alloc: Global,
     records: &[Record],
     uts46: &[Uts46Record],
-) -> Result<Option<Refusal>, AllocError>
-    ensures { IfOk result (IsFirstRefusal records.now uts46.now) }
+) -> Result<Result<(Vec<Entry>, Vec<(char, char, char)>), Refusal>, AllocError>
+    ensures { IfOk result (λ r.
+        MatchResult r (λ parts. AreExpanded records.now uts46.now parts.0.items parts.1.items)
+        (λ refusal. IsFirstRefusal records.now uts46.now (Some refusal))) }
 {
     if !are_rising(records) || !are_mapper_rising(uts46) {
-        return Ok(Some(Refusal::Order));
+        return Ok(Err(Refusal::Order));
     }
     if has_fixed_fault(records, uts46) {
-        return Ok(Some(Refusal::Fixed));
+        return Ok(Err(Refusal::Fixed));
     }
-    first_of_rising(alloc, records, uts46)
+    expanded_of_rising(alloc, records, uts46)
 }

@@ -29,7 +29,3 @@ IsBetween records P (suc n) k c = IsBetween records P n (suc k) c ⊎ (LeadsOn r
 -- the character of a record that leads to one of the set
 abbrev pub beginning : BTreeSet ℕ → Entry → List ℕ
 beginning set r = if list_any (contains nat_cmp set) r.mapping then r.c ∷ [] else []
-
--- what a record of the set leads to
-abbrev pub ends : BTreeSet ℕ → Entry → List ℕ
-ends set r = if contains nat_cmp set r.c then r.mapping else []

@@ -1,7 +1,8 @@
 -- Lists that are cut because they are too long anyway.
-use Rattle.std.specs.Prelude.{◌≡◌, ◌↔◌, ℕ, ◌≤◌, Bool, List, length, slice_index, ◌<◌, Option, Some, None}
-use Rattle.normalizer_records.specs.Entry.{Entry}
+use Rattle.std.specs.Prelude.{◌≡◌, ◌↔◌, ℕ, ◌≤◌, Bool, List, length, slice_index, ◌<◌, IfSome, Option, Some, None}
+use Rattle.normalizer_records.specs.Entry.{Entry, MapperEntry}
 use Rattle.normalizer_records.specs.Faults.{IsTooLong, IsWrong}
+use Rattle.normalizer_records.specs.Meaning.{canonical_list, compatibility_list, mapper_list}
 
 -- a list of at most 18, or one of which the same is true as of the list
 pub record StandsFor (records : List Entry) (list cut : List ℕ) : Type 0 where
@@ -14,6 +15,12 @@ abbrev pub MayStandFor : List Entry → Option (List ℕ) → Option (List ℕ) 
 MayStandFor records None None = Unit {0}
 MayStandFor records (Some list) (Some cut) = StandsFor records list cut
 MayStandFor records _ _ = ⊥
+
+-- no list of a character is longer than the longest that can be packed
+pub record HasRoom (records : List Entry) (uts46 : List MapperEntry) (c : ℕ) : Type 0 where
+  pub canonical : length (canonical_list records c) ≤ 18
+  pub compatibility : length (compatibility_list records c) ≤ 18
+  pub mapper : IfSome (mapper_list records uts46 c) (λ x. length x ≤ 18)
 
 -- one of the first n characters is of P
 abbrev pub IsOfSome : (ℕ → Type 0) → ℕ → List ℕ → Type 0

@@ -2,10 +2,12 @@ use Rattle.normalizer_builder.proofs.PackableEntries.{ArePackable-made}
 use Rattle.normalizer_builder.proofs.build.packed_of.Goals as goal
 
 pub pack-requires : goal.pack-requires
-pack-requires c = let parts = c.in-Ok.ensures in rw c.as_slice.ensures.value (ArePackable-made c.args.records.now c.args.uts46.now c.requires c.in-Ok.entries.items parts.made parts.characters)
+pack-requires c =
+    rw c.as_slice-2.ensures.value
+    (ArePackable-made c.args.records.now c.args.uts46.now c.requires.unrefused c.args.entries.items c.requires.made (rw c.as_slice.ensures.value at c.are_of_characters.ensures))
 
-pub returns-in-Ok-pack : goal.returns-in-Ok-pack
-returns-in-Ok-pack c = let parts = c.in-Ok.ensures in record {
-  packs = record { entries = _; pairs = _; made = parts.made; same_pairs = parts.same_pairs; rising_pairs = parts.rising_pairs; packs = rw c.as_slice.ensures.value at c.in-Ok-pack.ensures.packed };
-  characters = parts.characters;
+pub returns-in-Ok : goal.returns-in-Ok
+returns-in-Ok c = record {
+  packs = record { entries = _; pairs = _; made = c.requires.made; same_pairs = c.requires.same_pairs; rising_pairs = c.requires.rising_pairs; packs = rw c.as_slice-2.ensures.value at c.in-Ok.ensures.packed };
+  characters = rw c.as_slice.ensures.value at c.are_of_characters.ensures;
 }

@@ -27,4 +27,4 @@ returns-clause-between t c = λ k led x.
     subst (λ (n : ℕ). IsTrue (contains nat_cmp c.add_common-2.new.found x) ↔ IsBetween records (IsTrue (contains nat_cmp c.args.found.now x)) n k x) more
     (IsBetween-more records _ k _ _ led x _ _ (c.in_ok-add_common-2.ensures x) (c.args.count - 1)
     (LeadsOn-more records c.requires (c.args.count - 1) _ _ c.in_ok-shorter.ensures.leading c.in_ok-leading-2.ensures)
-    (c.in_ok-shorter.ensures.between (suc k) (IsLedTo-more records c.requires k _ _ led c.in_ok-next.ensures) x))
+    (c.in_ok-shorter.ensures.between (suc k) (IsLedTo-more records k _ _ led c.in_ok-next.ensures) x))

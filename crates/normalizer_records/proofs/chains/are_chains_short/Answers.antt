@@ -11,7 +11,7 @@ pub loop-count-preserved : goal.loop-count-preserved
 loop-count-preserved c = record {
   within = omega arith;
   led = subst (λ n. IsSetOf (IsLedTo c.args.records.now n) c.in_ok-led-2.led) (sym (add-one c.loop-count.count))
-      (IsLedTo-more c.args.records.now c.requires c.loop-count.count _ _ c.loop-count.invariant.led c.in_ok-led-2.ensures);
+      (IsLedTo-more c.args.records.now c.loop-count.count _ _ c.loop-count.invariant.led c.in_ok-led-2.ensures);
 }
 
 pub returns : goal.returns

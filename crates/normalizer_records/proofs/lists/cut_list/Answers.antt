@@ -1,6 +1,6 @@
 use Rattle.std.proofs.Common.{append-nil}
 use Rattle.normalizer_records.specs.Meaning.{full_list, expand_all, expansion, levels}
-use Rattle.normalizer_records.proofs.list_faults.cut_list.Goals as goal
+use Rattle.normalizer_records.proofs.lists.cut_list.Goals as goal
 
 pub returns : goal.returns
 unfolding full_list expand_all

@@ -5,8 +5,8 @@ use Rattle.std.proofs.lemmas.List.Filters.{dedup_is, All-dedup}
 use Rattle.std.proofs.lemmas.List.Kept.{Contains-dedup_nat}
 use Rattle.std.proofs.lemmas.List.Sorted.{All-permutation, Contains-permutation}
 use Rattle.std.proofs.lemmas.Map.Keys.{IsStrictlyIncreasing-dedup}
-use Rattle.normalizer_builder.specs.Recorded.{recorded_characters}
-use Rattle.normalizer_builder.proofs.characters.sorted_characters.Goals as goal
+use Rattle.normalizer_records.specs.Recorded.{recorded_characters}
+use Rattle.normalizer_records.proofs.characters.sorted_characters.Goals as goal
 
 -- the sort only moves the characters, and one of each is kept
 pub returns : goal.returns

@@ -2,13 +2,13 @@ use Rattle.std.proofs.Common.{◌≡◌, None, Some, sym, ap, ◌∙◌}
 use Rattle.normalizer_records.specs.Entry.{MapperEntry}
 use Rattle.normalizer_records.specs.Statuses.{status_of as status_value}
 use Rattle.normalizer_records.specs.Meaning.{mapper_list, mapped_list, status_of}
-use Rattle.normalizer_records.proofs.list_faults.cut_mapper_list.Goals as goal
+use Rattle.normalizer_records.proofs.lists.cut_mapper_list.Goals as goal
 
-pub returns-in_ok-cut_list-in-None : goal.returns-in_ok-cut_list-in-None
+pub returns-in_ok-list-in-None : goal.returns-in_ok-list-in-None
 unfolding mapper_list mapped_list
-returns-in_ok-cut_list-in-None c =
+returns-in_ok-list-in-None c =
     let none : status_of c.args.uts46.now c.args.c ≡ None = sym c.in-None.ensures in
-    rw none c.in_ok-cut_list-in-None.ensures
+    rw (none, c.in_ok-list-in-None.ensures.items) c.requires.canonical
 
 pub returns-in-Some : goal.returns-in-Some
 unfolding mapper_list mapped_list

@@ -2,8 +2,8 @@ use Rattle.std.proofs.Common.{sym, ◌∙◌}
 use Rattle.std.proofs.lemmas.Bool.{true≢false}
 use Rattle.normalizer_records.specs.Faults.{HasOrderFault}
 use Rattle.normalizer_records.proofs.RefusalLemmas.{order_first, fixed_first}
-use Rattle.normalizer_records.proofs.refusals.first_refusal.Goals as goal
-use Rattle.normalizer_records.proofs.refusals.first_refusal.Goals.{then-not-are_rising-via-then-not-are_rising, then-not-are_rising-via-else-not-are_rising+then-not-are_mapper_rising}
+use Rattle.normalizer_records.proofs.refusals.expanded.Goals as goal
+use Rattle.normalizer_records.proofs.refusals.expanded.Goals.{then-not-are_rising-via-then-not-are_rising, then-not-are_rising-via-else-not-are_rising+then-not-are_mapper_rising}
 
 pub returns-then-not-are_rising : goal.returns-then-not-are_rising
 unfolding HasOrderFault

@@ -1,6 +1,6 @@
 use Rattle.normalizer_records.specs.Meaning.{list_of_status}
 use Rattle.normalizer_records.proofs.CutLemmas.{StandsFor-itself}
-use Rattle.normalizer_records.proofs.list_faults.cut_mapped_list.Goals as goal
+use Rattle.normalizer_records.proofs.lists.cut_mapped_list.Goals as goal
 
 pub returns-in-Ignored : goal.returns-in-Ignored
 unfolding list_of_status

@@ -1,0 +1,38 @@
+use Rattle.std.proofs.Common.{◌≡◌, ◌↔◌, ◌==◌, ℕ, false, IsTrue, subst}
+use Rattle.std.proofs.lemmas.Bool.Decides.{Decides-eqb, Decides-or}
+use Rattle.normalizer_records.specs.Faults.{HasWrongClass, HasLongList, IsTooLong, IsWrong}
+use Rattle.normalizer_records.specs.Recorded.{entry_for, recorded_step}
+use Rattle.normalizer_records.proofs.CutLemmas.{MayStandFor-short, MayStandFor-some}
+use Rattle.normalizer_records.proofs.OrLemmas.{any_decides}
+use Rattle.normalizer_records.proofs.list_faults.checked_entry.Goals as goal
+
+pub returns-clause-class : goal.returns-clause-class
+unfolding HasWrongClass
+returns-clause-class c =
+    let class = c.class_of-class.ensures in
+    let char = c.args.c in
+    Decides-or _ _ (subst (λ (n : ℕ). IsTrue (c.class_of-class.result == 255) ↔ (n ≡ 255)) class (Decides-eqb c.class_of-class.result 255))
+    (any_decides _ _ _ (rw (class, c.deref-2.ensures.value) at c.is_wrong-wrong_canonical.ensures) (c.in_ok-canonical.ensures.wrong char _)
+    (rw (class, c.deref-3.ensures.value) at c.is_wrong-wrong_compatibility.ensures) (c.in_ok-compatibility.ensures.wrong char _)
+    c.is_wrong_mapping-wrong_mapping.ensures (MayStandFor-some c.args.records.now (IsWrong c.args.records.now char false) (λ list cut stands. stands.wrong char false) _ _ c.in_ok-mapper.ensures))
+
+pub returns-clause-length : goal.returns-clause-length
+unfolding HasLongList
+returns-clause-length c =
+    any_decides _ _ _ (rw c.deref-4.ensures.value at c.is_too_long-long_canonical.ensures) c.in_ok-canonical.ensures.long
+    (rw c.deref-5.ensures.value at c.is_too_long-long_compatibility.ensures) c.in_ok-compatibility.ensures.long
+    c.is_too_long_mapping-long_mapping.ensures (MayStandFor-some c.args.records.now IsTooLong (λ list cut stands. stands.long) _ _ c.in_ok-mapper.ensures)
+
+pub cut_mapper_list-requires-clause-canonical : goal.cut_mapper_list-requires-clause-canonical
+cut_mapper_list-requires-clause-canonical c = rw c.deref.ensures.value c.in_ok-canonical.ensures
+
+pub returns-clause-entry : goal.returns-clause-entry
+unfolding entry_for recorded_step
+returns-clause-entry c room =
+    let canonical = c.in_ok-canonical.ensures.short room.canonical in
+    let compatibility = c.in_ok-compatibility.ensures.short room.compatibility in
+    let mapper = MayStandFor-short c.args.records.now _ _ room.mapper c.in_ok-mapper.ensures in
+    let class = c.class_of-class.ensures in
+    let mapping = c.step_to-mapping.ensures in
+    let from = c.canonical_mapping_of.ensures in
+    cc

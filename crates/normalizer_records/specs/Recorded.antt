@@ -1,0 +1,56 @@
+-- What is packed of recorded characters.
+use Rattle.std.specs.Prelude.{◌≡◌, ℕ, List, [], ◌∷◌, ◌++◌, map, All, Contains, Option, Some, None}
+use Rattle.std.specs.List.Sorted.{IsPermutation, IsStrictlyIncreasing}
+use Rattle.normalizer_tables.specs.Pairs.{Pair, AreRising as ArePairsRising}
+use Rattle.normalizer_packing.specs.declared.entry.Mapping.{Mapping}
+use Rattle.normalizer_packing.specs.declared.entry.Mapping.TheVariants.{One, Two}
+use Rattle.normalizer_packing.specs.Entries.{CharacterEntry}
+use Rattle.normalizer_records.specs.Entry.{Entry, MapperEntry}
+use Rattle.normalizer_records.specs.Faults.{IsFirstRefusal}
+use Rattle.normalizer_records.specs.Meaning.{class_of, canonical_list, canonical_mapping_of, compatibility_list}
+use Rattle.normalizer_records.specs.Meaning.{mapper_list, pairs_of}
+
+-- the characters of all records of either kind
+abbrev pub recorded_characters : List Entry → List MapperEntry → List ℕ
+recorded_characters records uts46 = map (λ r. r.c) records ++ map (λ r. r.c) uts46
+
+-- each character that has a record of either kind once, in order
+pub record ListsCharacters (records : List Entry) (uts46 : List MapperEntry) (characters : List ℕ) : Type 0 where
+  pub all : All (Contains characters) (recorded_characters records uts46)
+  pub recorded : All (Contains (recorded_characters records uts46)) characters
+  pub rising : IsStrictlyIncreasing characters
+
+-- one step of a mapping to one or two characters
+abbrev pub step_to : List ℕ → Option Mapping
+step_to (a ∷ []) = Some (One a)
+step_to (a ∷ b ∷ []) = Some (Two a b)
+step_to x = None
+
+-- the recorded canonical mapping
+unfoldable pub recorded_step : List Entry → ℕ → Option Mapping
+recorded_step records c = step_to (canonical_mapping_of records c)
+
+-- what records say of a character, as it is packed
+unfoldable pub entry_for : List Entry → List MapperEntry → ℕ → CharacterEntry
+entry_for records uts46 c = record {
+  character = c;
+  class = class_of records c;
+  canonical = canonical_list records c;
+  compatibility = compatibility_list records c;
+  mapper = mapper_list records uts46 c;
+  mapping = recorded_step records c;
+}
+
+-- an entry for each character that has a record of either kind, in their order
+pub record AreMadeOf (records : List Entry) (uts46 : List MapperEntry) (entries : List CharacterEntry) : Type 0 where
+  pub characters : List ℕ
+  pub listed : ListsCharacters records uts46 characters
+  pub made : entries ≡ map (entry_for records uts46) characters
+
+-- what is packed of records of which no refusal holds: their entries, and their pairs in order
+pub record AreExpanded (records : List Entry) (uts46 : List MapperEntry) (entries : List CharacterEntry)
+    (pairs : List Pair) : Type 0 where
+  pub unrefused : IsFirstRefusal records uts46 None
+  pub made : AreMadeOf records uts46 entries
+  pub same_pairs : IsPermutation (pairs_of records) pairs
+  pub rising_pairs : ArePairsRising pairs
