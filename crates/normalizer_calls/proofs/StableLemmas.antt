@@ -4,13 +4,14 @@ use Rattle.std.proofs.Common.{◌≡◌, ℕ, ◌+◌, ◌<◌, ◌⊎◌, List,
 use Rattle.std.proofs.Math.Seq.{drop-length}
 use Rattle.std.proofs.lemmas.Bool.{cond_both}
 use Rattle.std.proofs.lemmas.List.{length-append, take-append-drop}
-use Rattle.std.specs.Prelude.{None}
+use Rattle.std.specs.Prelude.{IfSome, None, Option}
 use Rattle.normal_forms.specs.Reading.{Reading, IsStarter, ReadsAsItself}
 use Rattle.normal_forms.specs.Boundary.{BeginsWithStarter}
 use Rattle.normal_forms.specs.Composition.{compose}
 use Rattle.normal_forms.specs.CompositionByStarters.{compose_after, compose_by_starters, is_above, join}
 use Rattle.normal_forms.specs.Decomposition.{expand}
 use Rattle.normal_forms.specs.Forms.{normal_form, nfd, nfc}
+use Rattle.normal_forms.specs.declared.Form.TheVariants.{Composing}
 use Rattle.normal_forms.specs.Hypotheses.{HasFaithfulResults, HasStarterResults}
 use Rattle.normal_forms.specs.Order.{insert, order}
 use Rattle.normal_forms.proofs.ComposeLemmas.{compose_after-cases, compose_after-join, compose_after-mark, compose_after-nil, compose_by_starters-starter}
@@ -18,7 +19,7 @@ use Rattle.normal_forms.proofs.OrderLemmas.{IsOrdered, IsOrdered-head, IsOrdered
 use Rattle.normal_forms.proofs.VisitLemmas.{compose_is_by_starters}
 use Rattle.normalizer_iterators.proofs.InOrderLemmas.{NeighboursFit}
 use Rattle.normalizer_iterators.proofs.ReadingLemmas.{drop_member}
-use Rattle.normalizer_calls.specs.inner.Passing.{IsStableStarter}
+use Rattle.normalizer_calls.specs.inner.Passing.{ComposesTo, IsStableStarter}
 
 -- ---- order
 
@@ -49,18 +50,18 @@ some_after d a p (c ∷ y) = compose_after-cases d a p c y (λ l. 0 < length l)
     (λ none mark. some_after d a (p ++ c ∷ []) y)
 
 -- it is a starter that nothing follows, or what a pair composes to; what follows composes as after it
-record ComposesTo (d : Reading) (a : ℕ) (p y : List ℕ) (c : ℕ) : Type 0 where
+record ComposesToOne (d : Reading) (a : ℕ) (p y : List ℕ) (c : ℕ) : Type 0 where
   after : (rest : List ℕ) → compose_after d a p (y ++ rest) ≡ compose_after d c [] rest
   kind : ((a ≡ c) × (p ≡ []) × (y ≡ [])) ⊎ ((b e : ℕ) × (d.pair b e ≡ Some c))
 
-composes_to : (d : Reading) (a : ℕ) (p y : List ℕ) (c : ℕ) → compose_after d a p y ≡ c ∷ [] → ComposesTo d a p y c
+composes_to : (d : Reading) (a : ℕ) (p y : List ℕ) (c : ℕ) → compose_after d a p y ≡ c ∷ [] → ComposesToOne d a p y c
 composes_to d a p [] c is =
     let whole : a ∷ p ≡ c ∷ [] = sym (compose_after-nil d a p) ∙ is in
     let same : a ≡ c = cc in
     let none : p ≡ [] = cc in
     record { after = λ rest. ap (λ l. compose_after d a l rest) none ∙ ap (λ k. compose_after d k [] rest) same; kind = inl (same, none, refl) }
 composes_to d a p (x ∷ y) c is =
-    compose_after-cases d a p x y (λ l. l ≡ c ∷ [] → ComposesTo d a p (x ∷ y) c)
+    compose_after-cases d a p x y (λ l. l ≡ c ∷ [] → ComposesToOne d a p (x ∷ y) c)
     (λ r joins to.
     let later = composes_to d r p y c to in
     record {
@@ -134,3 +135,21 @@ pub last_member : (x : List ℕ) (place c : ℕ) → place + 1 ≡ length x → 
 last_member x place c all is =
     sym (take-append-drop place x)
     ∙ ap (λ l. take place x ++ l) (drop_member x place c is ∙ ap (λ n. c ∷ drop n x) all ∙ ap (λ l. c ∷ l) (drop-length x))
+
+-- ---- two characters
+
+-- two characters that are their own lists, the first one a starter, become what their pair composes to
+pub pair_form : (d : Reading) → HasStarterResults d → (a b r : ℕ) → ReadsAsItself d a → IsStarter d a → ReadsAsItself d b → d.pair a b ≡ Some r → normal_form d Composing (a ∷ b ∷ []) ≡ r ∷ []
+unfolding normal_form nfc nfd expand join is_above
+pair_form d results a b r a_itself starter b_itself pair =
+    ap (λ l. compose d (order d (l ++ (d.list b ++ [])))) a_itself
+    ∙ ap (λ l. compose d (order d (a ∷ (l ++ [])))) b_itself
+    ∙ ap (compose d) (order-cons d a (b ∷ []) ∙ insert-starter d a (order d (b ∷ [])) starter ∙ ap (λ l. a ∷ l) (order-cons d b [] ∙ ap (insert d b) (order-nil d) ∙ insert-nil d b))
+    ∙ compose_is_by_starters d results (a ∷ b ∷ [])
+    ∙ compose_by_starters-starter d a (b ∷ []) starter
+    ∙ compose_after-join d a [] b r [] pair
+    ∙ compose_after-nil d r []
+
+pub if_pair : (d : Reading) → HasStarterResults d → (a b : ℕ) → ReadsAsItself d a → IsStarter d a → ReadsAsItself d b → (o : Option ℕ) → d.pair a b ≡ o → IfSome o (ComposesTo d a b)
+if_pair d results a b a_itself starter b_itself None is = tt
+if_pair d results a b a_itself starter b_itself (Some r) is = pair_form d results a b r a_itself starter b_itself is

@@ -4,7 +4,7 @@ ghost use Rattle.normal_forms.specs.declared.Form.TheVariants.{Composing};
 ghost use Rattle.normalizer_tables.specs.PairConditions.{is_passed};
 ghost use Rattle.normalizer_tables.specs.Readings.{reading_by};
 ghost use Rattle.normalizer_tables.specs.declared.characters.IgnoredCharacters.TheVariants.{Dropped};
-ghost use Rattle.normalizer_calls.specs.inner.Passing.{IsKeptSegment, IsKeptStarter, IsStableStarter, StaysMark};
+ghost use Rattle.normalizer_calls.specs.inner.Passing.{ComposesTo, IsKeptSegment, IsKeptStarter, IsStableStarter, StaysMark};
 
 use crate::composing_form::ComposingForm;
 use crate::forming::Forming;
@@ -31,6 +31,21 @@ pub(crate) fn kept_segment<U: Units>(form: &ComposingForm<'_>, units: U) -> Opti
         end += step.width;
     }
     Some(end)
+}
+
+/// Returns what a starter and a character compose to, if each is its own list and they do.
+#[inline(always)]
+pub(crate) fn composite_of(form: &ComposingForm<'_>, first: char, second: char) -> Option<char>
+    ensures { IfSome result
+        (ComposesTo (reading_by form.now.characters Dropped form.now.pairs.now) first second) }
+{
+    let word = form.characters.word_of(first);
+    if form.characters.class_of_itself(first, word)? != 0 {
+        return None;
+    }
+    let word = form.characters.word_of(second);
+    form.characters.class_of_itself(second, word)?;
+    compose(form.pairs, first, second)
 }
 
 /// Returns the class of the last member of a starter's list, if the starter is no error and composes to itself.

@@ -141,6 +141,10 @@ pub record StaysMark (d : Reading) (starter last : ℕ) (s : Step) (k : ℕ) : T
   pub ordered : last ≤ k
   pub alone : d.pair starter s.character ≡ None
 
+-- the composed form of a and c is the one character r
+abbrev pub ComposesTo : Reading → ℕ → ℕ → ℕ → Type 0
+ComposesTo d a c r = normal_form d Composing (a ∷ c ∷ []) ≡ r ∷ []
+
 -- a piece of the units, after units whose form is the front
 pub record StandsInInput (e : Encoding) (d : Reading) (form : Form) (units front piece : List ℕ) : Type 0 where
   pub place : ℕ
