@@ -6,16 +6,16 @@ use Rattle.std.proofs.Math.Nat.{eq-zero-or-pos}
 use Rattle.std.proofs.Math.Seq.{take-add}
 use Rattle.std.proofs.lemmas.List.{drop-drop, map-append}
 use Rattle.std.proofs.lemmas.List.Elements.{All-nil, All-cons, All-append, All-same}
-use Rattle.normal_forms.specs.Reading.{Reading, IsStarter}
+use Rattle.normal_forms.specs.Reading.{Reading}
 use Rattle.normal_forms.specs.Composition.{compose}
 use Rattle.normal_forms.specs.CompositionByStarters.{compose_after}
 use Rattle.normal_forms.specs.Decomposition.{expand}
 use Rattle.normal_forms.specs.declared.Form.{Form}
 use Rattle.normal_forms.specs.declared.Form.TheVariants.{Composing}
 use Rattle.normal_forms.specs.Forms.{normal_form, nfd, nfc}
-use Rattle.normal_forms.specs.Hypotheses.{HasStarterResults}
+use Rattle.normal_forms.specs.Hypotheses.{HasFaithfulResults, HasStarterResults}
 use Rattle.normal_forms.specs.Order.{order}
-use Rattle.normal_forms.proofs.ComposeLemmas.{compose_after-mark, compose_after-nil, compose_by_starters-starter, join-none}
+use Rattle.normal_forms.proofs.ComposeLemmas.{compose_after-mark, compose_after-nil, join-none}
 use Rattle.normal_forms.proofs.ExpandLemmas.{expand-append}
 use Rattle.normal_forms.proofs.VisitLemmas.{compose_is_by_starters}
 use Rattle.normalizer_text.specs.declared.step.Step.{Step}
@@ -27,7 +27,8 @@ use Rattle.normalizer_text.proofs.StepLemmas.{decoded-append, steps-some}
 use Rattle.normalizer_input.specs.InputCut.{IsInputNormalized}
 use Rattle.normalizer_input.proofs.InputBoundaryLemmas.{IsWellFormed-append}
 use Rattle.normalizer_iterators.proofs.InOrderLemmas.{EndsWith, NeighboursFit, fit-more, order-fit}
-use Rattle.normalizer_calls.specs.inner.Passing.{Divides, IsKeptTo, IsOwnStarter, IsPart, StaysMark}
+use Rattle.normalizer_calls.specs.inner.Passing.{Divides, IsKeptStarter, IsKeptTo, IsPart, IsStableStarter, StaysMark}
+use Rattle.normalizer_calls.proofs.StableLemmas.{NeighboursFit-ordered, stable-composed, stable-ordered}
 
 -- ---- one kept part after another
 
@@ -95,29 +96,32 @@ pub record KeptMarks (d : Reading) (e : Encoding) (units : List ℕ) (first end 
   pub right : All (λ s. s.is_error ≡ false) boundary.before
   pub marks : List ℕ
   pub text : map (λ s. s.character) boundary.before ≡ first ∷ marks
-  pub own : expand d (first ∷ marks) ≡ first ∷ marks
-  pub fit : NeighboursFit d (first ∷ marks)
-  pub ends : EndsWith d (first ∷ marks) last
+  pub own : expand d marks ≡ marks
+  pub fit : NeighboursFit d (d.list first ++ marks)
+  pub ends : EndsWith d (d.list first ++ marks) last
   pub composed : (rest : List ℕ) → compose_after d first [] (marks ++ rest) ≡ compose_after d first marks rest
 
 module _ (d : Reading) (e : Encoding) (units : List ℕ) where
-  pub KeptMarks-first : (s : Step) → s ≡ first_in e (drop 0 units) → 0 < length units → IsOwnStarter d s → KeptMarks d e units s.character s.width 0
+  pub KeptMarks-first : HasStarterResults d → HasFaithfulResults d → (s : Step) → s ≡ first_in e (drop 0 units) → 0 < length units → (last : ℕ) → IsKeptStarter d s last
+      → KeptMarks d e units s.character s.width last
   unfolding expand
-  KeptMarks-first s is some first = record {
-    boundary = record {
-      before = s ∷ [];
-      after = steps (first_in e) (drop s.width units);
-      apart = steps-some (first_in e) (IsDecoding-first e) units some ∙ ap (λ t. t ∷ steps (first_in e) (drop t.width units)) (sym is);
-      taken = omega arith;
-    };
-    right = All-cons (λ t. t.is_error ≡ false) s [] first.right (All-nil (λ t. t.is_error ≡ false));
-    marks = [];
-    text = refl;
-    own = ap (λ l. l ++ []) first.itself;
-    fit = tt;
-    ends = inr ([], s.character, refl, first.starter);
-    composed = λ rest. refl;
-  }
+  KeptMarks-first results faithful s is some last first =
+      let list = d.list s.character in
+      record {
+        boundary = record {
+          before = s ∷ [];
+          after = steps (first_in e) (drop s.width units);
+          apart = steps-some (first_in e) (IsDecoding-first e) units some ∙ ap (λ t. t ∷ steps (first_in e) (drop t.width units)) (sym is);
+          taken = omega arith;
+        };
+        right = All-cons (λ t. t.is_error ≡ false) s [] first.right (All-nil (λ t. t.is_error ≡ false));
+        marks = [];
+        text = refl;
+        own = refl;
+        fit = subst (NeighboursFit d) (sym (append-nil list)) (NeighboursFit-ordered d list (stable-ordered d results faithful s.character last first.stable));
+        ends = inr (first.stable.front, first.stable.end, append-nil list ∙ first.stable.list, first.stable.class);
+        composed = λ rest. refl;
+      }
 
   pub KeptMarks-more : (first end last k : ℕ) (s : Step) → s ≡ first_in e (drop end units) → end < length units → KeptMarks d e units first end last → StaysMark d first last s k
       → KeptMarks d e units first (end + s.width) k
@@ -127,7 +131,8 @@ module _ (d : Reading) (e : Encoding) (units : List ℕ) where
       let rest = drop end units in
       let some : 0 < length rest = omega (arith, length-drop end units) in
       let c = s.character in
-      let x = first ∷ so_far.marks in
+      let list = d.list first in
+      let x = list ++ so_far.marks in
       let class = stays.class in
       let ordered = stays.ordered in
       record {
@@ -143,9 +148,9 @@ module _ (d : Reading) (e : Encoding) (units : List ℕ) where
         right = All-append (λ t. t.is_error ≡ false) b.before (s ∷ []) so_far.right (All-cons (λ t. t.is_error ≡ false) s [] stays.right (All-nil (λ t. t.is_error ≡ false)));
         marks = so_far.marks ++ c ∷ [];
         text = map-append (λ t. t.character) b.before (s ∷ []) ∙ ap (λ l. l ++ c ∷ []) so_far.text;
-        own = expand-append d x (c ∷ []) ∙ ap (λ l. l ++ expand d (c ∷ [])) so_far.own ∙ ap (λ l. x ++ (l ++ [])) stays.itself;
-        fit = fit-more d x last c so_far.fit so_far.ends (λ mark falls. omega (arith, class));
-        ends = inr (x, c, refl, stays.class);
+        own = expand-append d so_far.marks (c ∷ []) ∙ ap (λ l. l ++ expand d (c ∷ [])) so_far.own ∙ ap (λ l. so_far.marks ++ (l ++ [])) stays.itself;
+        fit = subst (NeighboursFit d) (append_assoc list so_far.marks (c ∷ [])) (fit-more d x last c so_far.fit so_far.ends (λ mark falls. omega (arith, class)));
+        ends = inr (x, c, sym (append_assoc list so_far.marks (c ∷ [])), stays.class);
         composed = λ after.
             ap (compose_after d first []) (append_assoc so_far.marks (c ∷ []) after)
             ∙ so_far.composed (c ∷ after)
@@ -153,19 +158,19 @@ module _ (d : Reading) (e : Encoding) (units : List ℕ) where
       }
 
   -- they are normalized
-  pub KeptMarks-own : (first end last : ℕ) → HasStarterResults d → IsStarter d first → KeptMarks d e units first end last → IsInputNormalized e d Composing (take end units)
-  unfolding normal_form nfc nfd
-  KeptMarks-own first end last results starter k =
+  pub KeptMarks-own : (first end last k : ℕ) → HasStarterResults d → HasFaithfulResults d → IsStableStarter d first k → KeptMarks d e units first end last → IsInputNormalized e d Composing (take end units)
+  unfolding normal_form nfc nfd expand
+  KeptMarks-own first end last l results faithful stable k =
       let same : steps (first_in e) (take end units) ≡ k.boundary.before = (steps-parts (first_in e) (IsDecoding-first e) units end k.boundary).0 in
-      let x = first ∷ k.marks in
-      let text : decoded_in e (take end units) ≡ x = ap (map (λ s. s.character)) same ∙ k.text in
+      let x = d.list first ++ k.marks in
+      let text : decoded_in e (take end units) ≡ first ∷ k.marks = ap (map (λ s. s.character)) same ∙ k.text in
       record {
         well_formed = All-same (λ s. s.is_error ≡ false) _ _ same k.right;
         own = subst (λ l. compose d (order d (expand d l)) ≡ l) (sym text)
-            (ap (λ l. compose d (order d l)) k.own
+            (ap (λ l. compose d (order d (d.list first ++ l))) k.own
             ∙ ap (compose d) (order-fit d x k.fit)
             ∙ compose_is_by_starters d results x
-            ∙ compose_by_starters-starter d first k.marks starter
+            ∙ stable-composed d results faithful first l stable k.marks
             ∙ ap (compose_after d first []) (sym (append-nil k.marks))
             ∙ k.composed []
             ∙ compose_after-nil d first k.marks);

@@ -9,5 +9,6 @@ pub mod PassingLemmas
 pub mod RunLemmas
 pub mod RunParts
 pub mod SoundPairs
+pub mod StableLemmas
 pub mod TextAnswers
 pub mod WritingLemmas

@@ -104,7 +104,7 @@ or-true : (b : Bool) → (b || true) ≡ true
 or-true true = refl
 or-true false = refl
 
-first_begins : (d : Reading) (list : List ℕ) → ((first : ℕ) (others : List ℕ) → list ≡ first ∷ others → IsStarter d first) → BeginsWithStarter d list
+pub first_begins : (d : Reading) (list : List ℕ) → ((first : ℕ) (others : List ℕ) → list ≡ first ∷ others → IsStarter d first) → BeginsWithStarter d list
 first_begins d [] starters = tt
 first_begins d (first ∷ others) starters = starters first others refl
 

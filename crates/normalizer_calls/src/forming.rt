@@ -18,7 +18,7 @@ ghost use Rattle.normalizer_calls.specs.inner.Writing.{NothingOffered, WritesTex
 
 use crate::composing_form::ComposingForm;
 use crate::decomposing_form::DecomposingForm;
-use crate::kept::kept_segment;
+use crate::kept::{composite_of, kept_segment};
 use crate::writing::{first_item, write_items};
 use normalizer_iterators::{NormalizeError, SegmentBuffers};
 use normalizer_tables::characters::IgnoredCharacters;
@@ -72,6 +72,10 @@ pub trait Forming {
     /// The form of a character alone, if its list is that.
     fn form_of_one(&self, character: char) -> Option<Members<'_>>
         ensures { IfSome result (λ members. members ≡ form_of (made self.now) (character ∷ [])) };
+
+    /// Returns the form of two characters, if that is seen to be one character.
+    fn form_of_two(&self, first: char, second: char) -> Option<char>
+        ensures { IfSome result (λ c. form_of (made self.now) (first ∷ second ∷ []) ≡ c ∷ []) };
 
     /// Makes empty buffers for the forms of short texts.
     fn segment_buffers(&self) -> SegmentBuffers
@@ -164,6 +168,10 @@ impl<'a> Forming for DecomposingForm<'a> {
         )
     }
 
+    fn form_of_two(&self, _first: char, _second: char) -> Option<char> {
+        None
+    }
+
     fn segment_buffers(&self) -> SegmentBuffers {
         SegmentBuffers::new(&self.characters)
     }
@@ -235,6 +243,10 @@ impl<'a> Forming for ComposingForm<'a> {
 
     fn form_of_one(&self, _character: char) -> Option<Members<'_>> {
         None
+    }
+
+    fn form_of_two(&self, first: char, second: char) -> Option<char> {
+        composite_of(self, first, second)
     }
 
     fn segment_buffers(&self) -> SegmentBuffers {

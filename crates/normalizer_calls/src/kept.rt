@@ -4,26 +4,24 @@ ghost use Rattle.normal_forms.specs.declared.Form.TheVariants.{Composing};
 ghost use Rattle.normalizer_tables.specs.PairConditions.{is_passed};
 ghost use Rattle.normalizer_tables.specs.Readings.{reading_by};
 ghost use Rattle.normalizer_tables.specs.declared.characters.IgnoredCharacters.TheVariants.{Dropped};
-ghost use Rattle.normalizer_calls.specs.inner.Passing.{IsKeptSegment, IsOwnStarter, StaysMark};
+ghost use Rattle.normalizer_calls.specs.inner.Passing.{ComposesTo, IsKeptSegment, IsKeptStarter, IsStableStarter, StaysMark};
 
 use crate::composing_form::ComposingForm;
 use crate::forming::Forming;
+use normalizer_tables::characters::IgnoredCharacters;
 use normalizer_tables::compose;
 use normalizer_text::{Step, Units};
 
-/// Returns the end of the segment in front, if it is a starter and marks after it, each its own list, in canonical
-/// order, of which none composes with the starter.
+/// Returns the end of the segment in front, if it is a starter that composes to itself, and marks after it, each its
+/// own list, in canonical order, of which none composes with the starter.
 pub(crate) fn kept_segment<U: Units>(form: &ComposingForm<'_>, units: U) -> Option<usize>
     requires { 0 < length (U.units units) }
     ensures { let f = form.now in IfSome result (IsKeptSegment (is_passed f.characters f.bounds) U.encoding
         (reading_by f.characters Dropped f.pairs.now) Composing (U.units units)) }
 {
     let first = units.step_at(0);
-    if !is_own_starter(form, first) {
-        return None;
-    }
+    let mut last = class_of_starter(form, first)?;
     let mut end = first.width;
-    let mut last = 0;
     while end < units.len() {
         let step = units.step_at(end);
         if form.begins(step.character) {
@@ -35,19 +33,54 @@ pub(crate) fn kept_segment<U: Units>(form: &ComposingForm<'_>, units: U) -> Opti
     Some(end)
 }
 
-/// Whether a step is no error, and its character is a starter and its own list.
+/// Returns what a starter and a character compose to, if each is its own list and they do.
 #[inline(always)]
-fn is_own_starter(form: &ComposingForm<'_>, step: Step) -> bool
-    ensures { IsTrue result → IsOwnStarter (reading_by form.now.characters Dropped form.now.pairs.now) step }
+pub(crate) fn composite_of(form: &ComposingForm<'_>, first: char, second: char) -> Option<char>
+    ensures { IfSome result
+        (ComposesTo (reading_by form.now.characters Dropped form.now.pairs.now) first second) }
+{
+    let word = form.characters.word_of(first);
+    if form.characters.class_of_itself(first, word)? != 0 {
+        return None;
+    }
+    let word = form.characters.word_of(second);
+    form.characters.class_of_itself(second, word)?;
+    compose(form.pairs, first, second)
+}
+
+/// Returns the class of the last member of a starter's list, if the starter is no error and composes to itself.
+#[inline(always)]
+fn class_of_starter(form: &ComposingForm<'_>, step: Step) -> Option<u8>
+    ensures { IfSome result
+        (IsKeptStarter (reading_by form.now.characters Dropped form.now.pairs.now) step) }
 {
     if step.is_error {
-        return false;
+        return None;
     }
     let word = form.characters.word_of(step.character);
     match form.characters.class_of_itself(step.character, word) {
-        Some(class) => class == 0,
-        None => false,
+        Some(0) => Some(0),
+        Some(_) => None,
+        None => class_of_last_member(form, step.character),
     }
+}
+
+/// Returns the class of the last member of a character's list, if the character passes.
+fn class_of_last_member(form: &ComposingForm<'_>, character: char) -> Option<u8>
+    ensures { IfSome result
+        (IsStableStarter (reading_by form.now.characters Dropped form.now.pairs.now) character) }
+{
+    if !form.begins(character) {
+        return None;
+    }
+    let members = form
+        .characters
+        .members(character, IgnoredCharacters::Dropped);
+    let count = members.len();
+    if count == 0 {
+        return None;
+    }
+    Some(form.characters.class_of(members.at(count - 1)))
 }
 
 /// Returns the class of a mark, if it stays after a starter and marks of classes up to `last`.

@@ -11,13 +11,12 @@ ghost use Rattle.normalizer_calls.specs.inner.Owned.{WroteUnlessOwn};
 use crate::borrowed::NormalizerBorrowed;
 use crate::forming::Forming;
 use crate::offence::cut_of;
-use crate::splits::text_of;
 use crate::writing::form_to;
 use normalizer_iterators::NormalizeError;
-use normalizer_text::Units;
 use normalizer_text::check_sink::Expected;
 use normalizer_text::output::Output;
 use normalizer_text::sink::SinkError;
+use normalizer_text::{Units, text_of};
 use std::alloc::Global;
 use std::borrow::{CowSlice, CowStr};
 
@@ -166,10 +165,7 @@ impl<F: Forming> NormalizerBorrowed<F> {
     pub fn normalize_utf8<'t>(&self, bytes: &'t [u8]) -> Result<CowStr<'t, Global>, NormalizeError>
         ensures { ReturnsForm cow_str_bytes IsBorrowedStr (F.made self.now.form) Encoding.Utf8 bytes.now result }
     {
-        match str::from_utf8(bytes) {
-            Ok(text) => form_of_utf8(&self.form, text),
-            Err(_) => form_of_bytes(&self.form, bytes),
-        }
+        form_of_bytes(&self.form, bytes)
     }
 
     /// Returns the normal form of what 16-bit units decode to, in UTF-16. It borrows from `units` exactly if they

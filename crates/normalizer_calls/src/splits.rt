@@ -1,9 +1,8 @@
 //! Text, bytes and 16-bit units in two parts: the longest front that the form leaves as it is, and the
 //! rest.
-ghost use Rattle.std.specs.Prelude.{◌≡◌, chars};
+ghost use Rattle.std.specs.Prelude.{chars};
 ghost use Rattle.normalizer_text.specs.Encodings.{Encoding, decoded_in};
-ghost use Rattle.normalizer_text.specs.Steps.{IsWellFormed};
-ghost use Rattle.normalizer_text.specs.Utf8.{decoded_utf8, first_of_utf8};
+ghost use Rattle.normalizer_text.specs.Utf8.{decoded_utf8};
 ghost use Rattle.normalizer_text.specs.Utf16.{decoded_utf16};
 ghost use Rattle.normalizer_input.specs.InputCut.{IsInputCut};
 ghost use Rattle.normalizer_calls.specs.Checks.{AnswersOf, IsSplitAtCut, IsTextSplitAtCut};
@@ -13,6 +12,7 @@ use crate::forming::Forming;
 use crate::offence::cut_of;
 use normalizer_iterators::NormalizeError;
 use normalizer_text::check_sink::Expected;
+use normalizer_text::text_of;
 
 /// Returns the cut of the units: their end if they are well-formed and normalized.
 pub(crate) fn place_of_cut<U: Expected, N: Forming>(
@@ -89,16 +89,5 @@ impl<F: Forming> NormalizerBorrowed<F> {
             (λ parts. IsSplitAtCut (F.made self.now.form) Encoding.Utf16 units.now parts.0.now parts.1.now) result }
     {
         split_at_cut(&self.form, units)
-    }
-}
-
-/// Well-formed bytes as a text.
-pub(crate) fn text_of<'t>(bytes: &'t [u8]) -> &'t str
-    requires { IsWellFormed first_of_utf8 bytes.now }
-    ensures { result.now ≡ bytes.now }
-{
-    match str::from_utf8(bytes) {
-        Ok(text) => text,
-        Err(_) => unreachable!(),
     }
 }

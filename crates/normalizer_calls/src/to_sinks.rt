@@ -56,10 +56,7 @@ impl<F: Forming> NormalizerBorrowed<F> {
         ensures { WritesForm Encoding.Utf8 W.taken W.refused W.left (F.made self.now.form) (decoded_utf8 bytes.now)
             sink.old result sink.new }
     {
-        match str::from_utf8(bytes) {
-            Ok(text) => form_to(&self.form, text, sink),
-            Err(_) => form_to(&self.form, bytes, sink),
-        }
+        form_to(&self.form, bytes, sink)
     }
 
     /// Writes the normal form of the text that 16-bit units decode to, in UTF-16. Each unpaired surrogate reads as

@@ -1,5 +1,5 @@
 //! Writing the characters of an iterator to an output.
-ghost use Rattle.std.specs.Prelude.{ℕ, ◌≡◌, ◌<◌, List, length, Err, IfErr, IfOk, IsErrOf, IsOk, IsOkUnless};
+ghost use Rattle.std.specs.Prelude.{ℕ, ◌≡◌, ◌<◌, List, [], ◌∷◌, length, Err, IfErr, IfOk, IfSome, IsErrOf, IsOk, IsOkUnless};
 ghost use Rattle.std.specs.Iterator.{IsFinite};
 ghost use Rattle.normalizer_iterators.specs.Items.{SpellsOk, SpellsUnless};
 ghost use Rattle.normalizer_calls.specs.Forms.{form_in, HasShortUnits};
@@ -81,8 +81,25 @@ fn write_text<U: Units, O: Output<U>>(text: &[char], output: &mut O) -> Result<(
     Ok(())
 }
 
-/// Writes the form of what the units decode to, character by character: from the list of a single character, from the
-/// buffers if it fits, or from an iterator.
+/// Returns the form of what the units decode to, if these are two characters and it is seen to be one.
+#[inline(always)]
+fn form_of_pair<U: Units, N: Forming>(normalizer: &N, units: U) -> Option<char>
+    requires { 0 < length (U.units units) }
+    ensures { IfSome result (λ c. form_in (N.made normalizer.now) U.encoding (U.units units) ≡ c ∷ []) }
+{
+    let first = units.step_at(0);
+    if first.width >= units.len() {
+        return None;
+    }
+    let second = units.step_at(first.width);
+    if second.width != units.len() - first.width {
+        return None;
+    }
+    normalizer.form_of_two(first.character, second.character)
+}
+
+/// Writes the form of what the units decode to, character by character: from the list of a single character, from what
+/// two compose to, from the buffers if it fits, or from an iterator.
 fn write_segment<U: Units, N: Forming, O: Output<U>>(
     normalizer: &N,
     units: U,
@@ -100,6 +117,9 @@ fn write_segment<U: Units, N: Forming, O: Output<U>>(
         if let Some(members) = normalizer.form_of_one(first.character) {
             return write_members::<U, O>(&members, output);
         }
+    }
+    if let Some(composite) = form_of_pair(normalizer, units) {
+        return write_text::<U, O>(&[composite], output);
     }
     if normalizer.short_form(units, buffers) {
         return write_text::<U, O>(buffers.text(), output);

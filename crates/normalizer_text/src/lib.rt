@@ -16,3 +16,4 @@ mod utf8;
 pub use chars::{Chars, Utf8Chars, Utf16Chars};
 pub use step::Step;
 pub use units::Units;
+pub use utf8::text_of;

@@ -7,6 +7,7 @@ ghost use Rattle.normalizer_text.specs.Utf16.{encode_utf16_all};
 
 use crate::sink::{SinkError, Write, Write16};
 use crate::units::Units;
+use crate::utf8::text_of;
 
 /// An output of pieces of an input, and of characters in the encoding of that input.
 pub trait Output<U: Units> {
@@ -99,10 +100,7 @@ impl<'a, W: Write> Output<&'a [u8]> for W {
     }
 
     fn write_piece(&mut self, piece: &'a [u8]) -> Result<(), SinkError> {
-        match str::from_utf8(piece) {
-            Ok(text) => self.write_str(text),
-            Err(_) => unreachable!(),
-        }
+        self.write_str(text_of(piece))
     }
 
     fn write_char(&mut self, c: char) -> Result<(), SinkError>

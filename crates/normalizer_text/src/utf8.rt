@@ -93,7 +93,8 @@ fn character_of(sequence: &[u8]) -> char
         }
         _ => unreachable!(),
     };
-    char::from_u32(code).unwrap()
+    // The value of a sequence of table 3-7 is that of a character.
+    unsafe { char::from_u32_unchecked(code) }
 }
 
 // How many bytes a well-formed sequence has that begins with this one.
@@ -191,10 +192,34 @@ pub(crate) fn first_step(bytes: &[u8]) -> Step
     let lead = bytes[0];
     if lead < 0x80 {
         Step::read(char::from(lead), 1)
-    } else if begins_with_three(bytes) {
-        Step::read(character_of(&bytes[..3]), 3)
-    } else if begins_with_two(bytes) {
+    } else if lead < 0xE0 {
+        first_step_of_two(bytes)
+    } else {
+        first_step_of_three(bytes)
+    }
+}
+
+// Returns the first step, at once if it is a sequence of two.
+#[inline(always)]
+fn first_step_of_two(bytes: &[u8]) -> Step
+    requires { 0 < length bytes.now }
+    ensures { result ≡ first_of_utf8 bytes.now }
+{
+    if begins_with_two(bytes) {
         Step::read(character_of(&bytes[..2]), 2)
+    } else {
+        first_step_of_more(bytes)
+    }
+}
+
+// Returns the first step, at once if it is a sequence of three.
+#[inline(always)]
+fn first_step_of_three(bytes: &[u8]) -> Step
+    requires { 0 < length bytes.now }
+    ensures { result ≡ first_of_utf8 bytes.now }
+{
+    if begins_with_three(bytes) {
+        Step::read(character_of(&bytes[..3]), 3)
     } else {
         first_step_of_more(bytes)
     }
@@ -213,4 +238,14 @@ fn first_step_of_more(bytes: &[u8]) -> Step
         return Step::replaced(width);
     }
     Step::read(character_of(&bytes[..width]), width)
+}
+
+/// Returns well-formed bytes as a text.
+#[inline(always)]
+pub fn text_of(bytes: &[u8]) -> &str
+    requires { IsWellFormed first_of_utf8 bytes.now }
+    ensures { result.now ≡ bytes.now }
+{
+    // What is well-formed here is what std takes for UTF-8 (`laws::utf8_is_well_formed_as_in_std`).
+    unsafe { str::from_utf8_unchecked(bytes) }
 }

@@ -1,10 +1,11 @@
 -- Text whose form is made in parts: runs of characters that are passed on as they are, and what is between them.
 use Rattle.std.specs.Prelude.{◌≡◌, ◌≢◌, ℕ, ◌+◌, ◌<◌, ◌≤◌, ◌⊎◌, Bool, true, false, ◌||◌, ◌==◌, nat_le, if◌then◌else◌}
 use Rattle.std.specs.Prelude.{List, [], ◌∷◌, ◌++◌, length, take, drop, All, Option, Some, None, option_and_then}
-use Rattle.normal_forms.specs.Reading.{Reading, IsStarter, ReadsAsItself}
+use Rattle.normal_forms.specs.Reading.{Reading, ReadsAsItself}
 use Rattle.normal_forms.specs.declared.Form.{Form}
-use Rattle.normal_forms.specs.declared.Form.TheVariants.{Decomposing}
+use Rattle.normal_forms.specs.declared.Form.TheVariants.{Composing, Decomposing}
 use Rattle.normal_forms.specs.Forms.{normal_form, IsNormalized}
+use Rattle.normal_forms.specs.Boundary.{BeginsWithStarter}
 use Rattle.normal_forms.specs.Cut.{IsFront}
 use Rattle.normalizer_text.specs.declared.step.Step.{Step}
 use Rattle.normalizer_text.specs.Encodings.{Encoding, first_in, encoded_in, decoded_in}
@@ -116,11 +117,19 @@ pub record IsKeptSegment (beginning : ℕ → Bool) (e : Encoding) (d : Reading)
   pub segment : IsSegmentEnd beginning e units end
   pub own : IsInputNormalized e d form (take end units)
 
--- the step is no error, and its character is a starter and its own list
-pub record IsOwnStarter (d : Reading) (s : Step) : Type 0 where
+-- c composes to itself, and its list begins with a starter and ends with a character of class `last`
+pub record IsStableStarter (d : Reading) (c last : ℕ) : Type 0 where
+  pub own : IsNormalized d Composing (c ∷ [])
+  pub begins : BeginsWithStarter d (d.list c)
+  pub front : List ℕ
+  pub end : ℕ
+  pub list : d.list c ≡ front ++ end ∷ []
+  pub class : d.class end ≡ last
+
+-- the step is no error, and its character is such a starter
+pub record IsKeptStarter (d : Reading) (s : Step) (last : ℕ) : Type 0 where
   pub right : s.is_error ≡ false
-  pub itself : ReadsAsItself d s.character
-  pub starter : IsStarter d s.character
+  pub stable : IsStableStarter d s.character last
 
 -- the step is no error, and its character is a mark of class k that stays after a starter and marks of classes up to
 -- `last`: it is its own list, in canonical order, and doesn't compose with the starter
@@ -131,6 +140,10 @@ pub record StaysMark (d : Reading) (starter last : ℕ) (s : Step) (k : ℕ) : T
   pub mark : 0 < k
   pub ordered : last ≤ k
   pub alone : d.pair starter s.character ≡ None
+
+-- the composed form of a and c is the one character r
+abbrev pub ComposesTo : Reading → ℕ → ℕ → ℕ → Type 0
+ComposesTo d a c r = normal_form d Composing (a ∷ c ∷ []) ≡ r ∷ []
 
 -- a piece of the units, after units whose form is the front
 pub record StandsInInput (e : Encoding) (d : Reading) (form : Form) (units front piece : List ℕ) : Type 0 where
