@@ -1,7 +1,7 @@
-//! What parts of data hold before any check. `joined 0061 0308 = 00E4`, `never-second 0301 = yes`: what pairs compose to,
-//! whether a character is second in none. `blocks nfd = 3`: how many blocks of words. `lists nfd = 0065 | 1D157`: the
-//! lists. `same nfd nfkd = yes`: whether words are equal. `copies = yes`: whether each part equals its copy. `ranges 0..5
-//! 1 6 2 = accepted`: whether words of ranges are made.
+//! What parts of data hold before any check. `joined 0061 0308 = 00E4`, `never-second 0301 = yes`: what pairs compose
+//! to, whether a character is second in none. `blocks nfd = 3`: how many blocks of words. `lists nfd = 0065 | 1D157`:
+//! the lists. `same nfd nfkd = yes`: whether words are equal. `copies = yes`: whether each part equals its copy.
+//! `ranges 0..5 1 6 2 = accepted`: whether words of ranges are made.
 use crate::data::{data_named, table_named};
 use icu_normalizer::{CanonicalCompositions, CodePointTable, DecompositionTables, TableError};
 use normalizer_row_data::by_hand::numbers;
