@@ -1,8 +1,8 @@
 //! Whether the result of a row is the expected one.
-use crate::fault::Fault;
 use crate::questions::answer;
-use crate::setting::Setting;
-use crate::words::{joined, words};
+use normalizer_row_data::setting::Setting;
+use normalizer_row_words::fault::Fault;
+use normalizer_row_words::words::{joined, words};
 use std::alloc::AllocError;
 
 /// How many rows a text has.

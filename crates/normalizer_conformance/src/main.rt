@@ -1,30 +1,20 @@
 //! Compares results of the library with rows of data. The arguments name files; each row has a question, its input and
 //! the expected result, as `nfc 0061 0308 = 00E4`. Written are the rows with another result, and the number of rows of
-//! each file. A row without `=` sets the data of later questions (`setting`); `questions` has the words of the others.
+//! each file. A row without `=` sets the data of later questions (`normalizer_row_data`); `questions` has the words of
+//! the others.
 //!
 //! `before ROW..` compares the rows once each, and `again ROW..` the last of them three times, so that a script can
-//! refuse each growth of memory of the second time. `before-short FORM` and `again-short FORM` do so for the items of a
-//! text that need none. `refused` has what the status then says.
+//! refuse each growth of memory of the second time. `before-marks 17 FORM` and `again-marks 17 FORM` do so for the
+//! items of a letter with this many marks. `refused` has what the status then says.
 #![tactic(auto)]
 
-mod by_hand;
 mod comparison;
-mod encoded;
-mod fault;
-mod held;
-mod input;
-mod normalizer;
 mod questions;
-mod ranges;
-mod record_rows;
 mod refused;
-mod setting;
-mod spelling;
-mod words;
 
 use comparison::{row_count, what_differs, without_comment};
+use normalizer_row_data::setting::Setting;
 use refused::Stage;
-use setting::Setting;
 use std::process::ExitCode;
 use std::{env, fs, io};
 
@@ -45,8 +35,12 @@ fn status(rt: &HostRuntime) -> io::Result<u8> {
     match names.as_slice() {
         ["before", rows @ ..] => Ok(refused::status(rt.alloc(), Stage::Before, rows)),
         ["again", rows @ ..] => Ok(refused::status(rt.alloc(), Stage::Again, rows)),
-        ["before-short", form] => Ok(refused::short_status(rt.alloc(), Stage::Before, form)),
-        ["again-short", form] => Ok(refused::short_status(rt.alloc(), Stage::Again, form)),
+        ["before-marks", count, form] => {
+            Ok(refused::marks_status(rt.alloc(), Stage::Before, count, form))
+        }
+        ["again-marks", count, form] => {
+            Ok(refused::marks_status(rt.alloc(), Stage::Again, count, form))
+        }
         files => compared(rt, files),
     }
 }

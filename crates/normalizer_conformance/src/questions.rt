@@ -1,20 +1,12 @@
 //! The questions of rows, a line each.
-use crate::fault::Fault;
-use crate::held::Held;
-use crate::setting::Setting;
+use normalizer_row_calls::calls;
+use normalizer_row_data::held::Held;
+use normalizer_row_data::setting::Setting;
+use normalizer_row_questions::{
+    by_data, data, decoding, mapping, parts, plain, properties, recorded,
+};
+use normalizer_row_words::fault::{Answer, Fault};
 use std::alloc::Global;
-
-mod calls;
-mod data;
-mod decoding;
-mod mapping;
-mod parts;
-mod plain;
-mod properties;
-mod recorded;
-
-/// The result of a question.
-pub type Answer = Result<String, Fault>;
 
 /// The result of a question.
 pub fn answer(setting: &mut Setting<'_>, question: &[&str]) -> Answer {
@@ -50,7 +42,7 @@ fn of_form(setting: &mut Setting<'_>, name: &str, question: &[&str]) -> Answer {
 /// The result of a question about records.
 fn of_records(alloc: Global, setting: &Setting<'_>, name: &str, rest: &[&str]) -> Answer {
     match name {
-        "by-records" => calls::by_records(alloc, setting, rest),
+        "by-records" => by_data::by_records(alloc, setting, rest),
         "build" => recorded::build(setting, rest),
         "record" => recorded::record(alloc, setting.records(), rest),
         "mapper" => recorded::mapper_record(alloc, setting.mapper(), rest),
@@ -61,7 +53,7 @@ fn of_records(alloc: Global, setting: &Setting<'_>, name: &str, rest: &[&str]) -
 /// The result of a question about data.
 fn of_data(alloc: Global, held: &Held, name: &str, rest: &[&str]) -> Answer {
     match name {
-        "unchecked" => calls::unchecked(alloc, held, rest),
+        "unchecked" => by_data::unchecked(alloc, held, rest),
         "map" | "validate" | "virama" => mapping::asked(alloc, held, name, rest),
         "class" => properties::class(alloc, held, rest),
         "decompose" | "shaped" => properties::step(alloc, held, name, rest),

@@ -1,9 +1,10 @@
 //! A row or an iterator under refused growths of memory.
 use crate::comparison::difference;
-use crate::encoded::Encoded;
-use crate::fault::Fault;
-use crate::normalizer::Normalizer;
-use crate::setting::Setting;
+use normalizer_row_calls::encoded::Encoded;
+use normalizer_row_data::normalizer::Normalizer;
+use normalizer_row_data::setting::Setting;
+use normalizer_row_words::fault::Fault;
+use normalizer_row_words::words::decimal;
 use std::alloc::Global;
 
 /// How far to go.
@@ -57,28 +58,36 @@ fn is_right<'a>(setting: &mut Setting<'a>, row: &'a str) -> Result<bool, Fault> 
     Ok(difference(setting, row)?.is_none())
 }
 
-/// A letter and as many marks as an iterator holds without memory.
-const SHORT: &str =
-    "a\u{308}\u{308}\u{308}\u{308}\u{308}\u{308}\u{308}\u{308}\u{308}\u{308}\u{308}\u{308}\u{308}\u{308}\u{308}\u{308}\u{308}";
-
-/// The status for the items of a form of the letter and the marks.
-pub fn short_status(alloc: Global, stage: Stage, form: &str) -> u8 {
+/// The status for the items of a form of a letter and a number of marks.
+pub fn marks_status(alloc: Global, stage: Stage, count: &str, form: &str) -> u8 {
     let mut setting = Setting::new(alloc);
-    match setting.give("records rows") {
-        Ok(()) => match setting.normalizer(form) {
-            Ok(normalizer) => short_status_by(alloc, stage, normalizer),
-            Err(_) => NOT_MADE,
-        },
-        Err(_) => NOT_MADE,
+    match (marks(alloc, count), normalizer_to(&mut setting, form)) {
+        (Ok(text), Ok(normalizer)) => items_status(alloc, stage, normalizer, &text),
+        _ => NOT_MADE,
     }
 }
 
-fn short_status_by(alloc: Global, stage: Stage, normalizer: &Normalizer) -> u8 {
-    match (stage, SHORT.form(alloc, normalizer)) {
+/// A letter and a number of marks.
+fn marks(alloc: Global, count: &str) -> Result<String, Fault> {
+    let mut text = String::new(alloc);
+    text.push('a')?;
+    for _ in 0..decimal(count)? {
+        text.push('\u{308}')?;
+    }
+    Ok(text)
+}
+
+fn normalizer_to<'s>(setting: &'s mut Setting<'_>, form: &str) -> Result<&'s Normalizer, Fault> {
+    setting.give("records rows")?;
+    setting.normalizer(form)
+}
+
+fn items_status(alloc: Global, stage: Stage, normalizer: &Normalizer, text: &str) -> u8 {
+    match (stage, text.form(alloc, normalizer)) {
         (Stage::Before, Ok(_)) => RIGHT,
         (Stage::Again, Ok((form, _))) => status_of(
-            &SHORT.is_yielded(normalizer, &form),
-            &SHORT.is_yielded(normalizer, &form),
+            &text.is_yielded(normalizer, &form),
+            &text.is_yielded(normalizer, &form),
         ),
         (_, Err(_)) => NOT_MADE,
     }

@@ -13,6 +13,9 @@ pub enum Fault {
     Memory,
 }
 
+/// The result of a question.
+pub type Answer = Result<String, Fault>;
+
 impl Fault {
     /// What is written in place of a result.
     pub fn name(self) -> &'static str {

@@ -1,13 +1,12 @@
 //! `map 0041 0308 = 00E4`: a text as the mapper maps and normalizes it. `validate 180B = FFFD`: the same with U+FFFD
 //! for each ignored character. `virama 094D = yes`: whether a character is a virama for the mapper.
-use super::Answer;
-use crate::fault::Fault;
-use crate::held::Held;
-use crate::input::text;
-use crate::spelling::{spelled_all, spelled_bool};
-use crate::words::character;
 use icu_normalizer::uts46::Uts46Mapper;
-use normalizer_uses::collected;
+use normalizer_row_data::held::Held;
+use normalizer_row_words::fault::{Answer, Fault};
+use normalizer_row_words::input::text;
+use normalizer_row_words::items::collected;
+use normalizer_row_words::spelling::{spelled_all, spelled_bool};
+use normalizer_row_words::words::character;
 use std::alloc::Global;
 
 /// What the mapper says: `map` and `validate` of a text, `virama` of a character.

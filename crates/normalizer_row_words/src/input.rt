@@ -1,7 +1,5 @@
 //! Inputs as rows write them: characters `0061 0308`, or `bytes 61 CC 88`, or `units 0061 0308`.
-use crate::encoded::{Results, results_of, results_of_text};
 use crate::fault::Fault;
-use crate::normalizer::Normalizer;
 use crate::spelling::{spelled_all, spelled_text};
 use crate::words::{all, character};
 use std::alloc::Global;
@@ -21,15 +19,6 @@ impl Input {
             ["bytes", input @ ..] => Ok(Input::Bytes(all(alloc, input)?)),
             ["units", input @ ..] => Ok(Input::Units(all(alloc, input)?)),
             characters => Ok(Input::Text(text(alloc, characters)?)),
-        }
-    }
-
-    /// What the calls of a normalizer return for it.
-    pub fn results(&self, alloc: Global, normalizer: &Normalizer) -> Result<Results, Fault> {
-        match self {
-            Input::Text(text) => results_of_text(alloc, normalizer, text),
-            Input::Bytes(bytes) => results_of(alloc, normalizer, bytes.as_slice()),
-            Input::Units(units) => results_of(alloc, normalizer, units.as_slice()),
         }
     }
 

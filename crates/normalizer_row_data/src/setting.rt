@@ -1,13 +1,13 @@
 //! The data for questions: records, and data that they build or that rows make by hand.
 use crate::by_hand::{gives_data, numbers};
-use crate::fault::Fault;
 use crate::held::Held;
 use crate::normalizer::{Normalizer, form_named};
-use crate::record_rows::{mapper_record_of, push_records, record_of};
-use crate::words::{character, words};
 use icu_normalizer::{BuildError, Record, Records, Uts46Record};
+use normalizer_built::NormalForm;
+use normalizer_row_words::fault::Fault;
+use normalizer_row_words::record_rows::{mapper_record_of, push_records, record_of};
+use normalizer_row_words::words::{character, words};
 use normalizer_rows::{mapper_records, records};
-use normalizer_uses::NormalForm;
 use std::alloc::Global;
 
 /// What questions are about.

@@ -1,15 +1,14 @@
 //! `plain nfd 1EC7`: the form by the plain program of `normal_forms`, over what the data say of the characters of the
 //! records and over the pairs of those. `plain-cut nfd 0065 0302`: how many characters may be cut off.
-use super::Answer;
-use crate::fault::Fault;
-use crate::held::Held;
-use crate::setting::Setting;
-use crate::spelling::spelled_all;
-use crate::words::all;
 use icu_normalizer::Record;
 use normal_forms::Form;
 use normal_forms::plain::{CharacterRow, PairRow, Rows, cut, normal_form};
 use normalizer_records::pairs;
+use normalizer_row_data::held::Held;
+use normalizer_row_data::setting::Setting;
+use normalizer_row_words::fault::{Answer, Fault};
+use normalizer_row_words::spelling::spelled_all;
+use normalizer_row_words::words::all;
 use normalizer_tables::characters::{CharacterData, IgnoredCharacters};
 use std::alloc::Global;
 

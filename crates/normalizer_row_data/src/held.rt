@@ -3,13 +3,13 @@ ghost use Rattle.std.specs.Prelude.{◌≡◌, ◌↔◌, ◌⊎◌, IfOk, IfErr
 ghost use Rattle.normalizer_tables.specs.declared.provider.DataError.TheVariants.{Memory, Provider};
 
 use crate::by_hand::{Part, compositions};
-use crate::fault::Fault;
 use icu_normalizer::{
     Built, CanonicalCompositions, DataError, DataMarkerInfo, DataProvider, DecompositionData,
     DecompositionTables, NonRecursiveDecompositionSupplement, NormalizerNfcV1, NormalizerNfdDataV1,
     NormalizerNfdSupplementV1, NormalizerNfdTablesV1, NormalizerNfkdDataV1, NormalizerNfkdTablesV1,
     NormalizerUts46DataV1,
 };
+use normalizer_row_words::fault::Fault;
 use std::alloc::Global;
 
 /// What a provider holds, each part of which may be lacking.

@@ -1,10 +1,9 @@
 //! What the calls of a normalizer return for an input, in each of the three encodings.
-ghost use Rattle.std.specs.Prelude.{IfOk};
-ghost use Rattle.std.specs.Iterator.{IsFinite};
-
-use crate::fault::Fault;
-use crate::normalizer::Normalizer;
 use icu_normalizer::{NormalizeError, Offence, Utf8Chars, Utf16Chars};
+use normalizer_row_data::normalizer::Normalizer;
+use normalizer_row_words::fault::Fault;
+use normalizer_row_words::input::Input;
+use normalizer_row_words::items::are;
 use std::alloc::Global;
 use std::borrow::{CowSlice, CowStr};
 
@@ -51,7 +50,7 @@ pub trait Encoded: Copy {
 }
 
 /// What the calls return, if they agree.
-pub fn results_of<E: Encoded>(
+fn results_of<E: Encoded>(
     alloc: Global,
     normalizer: &Normalizer,
     input: E,
@@ -88,12 +87,21 @@ fn places<E: Encoded>(
     }
 }
 
-/// What the calls return for a text, if they agree in the three encodings.
-pub fn results_of_text(
+/// What the calls return for an input in its encoding, or for a text in all three.
+pub fn results_of_input(
     alloc: Global,
     normalizer: &Normalizer,
-    text: &str,
+    input: &Input,
 ) -> Result<Results, Fault> {
+    match input {
+        Input::Text(text) => results_of_text(alloc, normalizer, text),
+        Input::Bytes(bytes) => results_of(alloc, normalizer, bytes.as_slice()),
+        Input::Units(units) => results_of(alloc, normalizer, units.as_slice()),
+    }
+}
+
+/// What the calls return for a text, if they agree in the three encodings.
+fn results_of_text(alloc: Global, normalizer: &Normalizer, text: &str) -> Result<Results, Fault> {
     let of_text = results_of(alloc, normalizer, text)?;
     if are_results_of_bytes(alloc, normalizer, text.as_bytes(), &of_text)?
         && are_results_of_units(alloc, normalizer, text, &of_text)?
@@ -141,29 +149,6 @@ fn offence_in_units(text: &str, offence: Option<Offence>) -> Option<Offence> {
         found: offence.found,
         wanted: offence.wanted,
     })
-}
-
-/// Whether the items are these characters. After a fault there must be none.
-pub fn are<I>(mut items: I, characters: &[char]) -> Result<bool, Fault>
-where
-    I: Iterator<Item = Result<char, NormalizeError>> + Drop,
-    requires can { I.can_next items }
-    requires ends { IsFinite (I.remaining items) }
-{
-    for character in characters {
-        match items.next() {
-            Some(Ok(found)) if found == *character => {}
-            Some(Err(_)) => {
-                return if items.next().is_none() {
-                    Err(Fault::Memory)
-                } else {
-                    Err(Fault::Divided)
-                };
-            }
-            _ => return Ok(false),
-        }
-    }
-    Ok(items.next().is_none())
 }
 
 /// The result of a call of the normalizer, of whichever kind it is.

@@ -1,8 +1,8 @@
 //! A normalizer to any form over data that are held.
-use crate::fault::Fault;
 use crate::held::Held;
 use icu_normalizer::{ComposingNormalizer, DataError, DecomposingNormalizer};
-use normalizer_uses::NormalForm;
+use normalizer_built::NormalForm;
+use normalizer_row_words::fault::Fault;
 
 /// A normalizer of one of the two kinds.
 pub enum Normalizer {

@@ -2,13 +2,13 @@
 //! nfd 0` the two other numbers of words, `scalars16 nfd 0065 0323` and `scalars24 nfd 1D157` the lists, `pairs 0308
 //! 0041 00C4` all pairs, `pair 0308 0061 00E4` one more. Kinds are `nfd`, `nfkd`, `uts46` and `supplement`. A part that
 //! no row sets is not held, and neither is one after `no nfd words`, `no nfd lists` or `no pairs`.
-use crate::fault::Fault;
-use crate::ranges::{Range, with_range};
-use crate::words::{Read, all, character, hexadecimal, words};
 use icu_normalizer::{
     CanonicalCompositions, CodePointTable, DecompositionData, DecompositionTables,
     NonRecursiveDecompositionSupplement, Scalars16, Scalars24,
 };
+use normalizer_row_words::fault::Fault;
+use normalizer_row_words::ranges::{Range, with_range};
+use normalizer_row_words::words::{Read, all, character, hexadecimal, words};
 use std::alloc::Global;
 
 /// What rows set of one kind of data.
@@ -91,27 +91,39 @@ impl Part {
 
     fn take(&mut self, alloc: Global, name: &str, rest: &[&str]) -> Result<(), Fault> {
         match name {
-            "range" => self.take_range(alloc, rest)?,
-            "cap" => self.cap = u16::read(only(rest)?)?,
-            "past" => self.past = hexadecimal(only(rest)?)?,
-            "scalars16" => self.scalars16 = all(alloc, rest)?,
-            "scalars24" => self.scalars24 = all(alloc, rest)?,
-            _ => return self.take_none(only(rest)?),
+            "range" => self.take_range(alloc, rest),
+            "cap" | "past" => self.take_number(name, only(rest)?),
+            "scalars16" => self.take_scalars16(all(alloc, rest)?),
+            "scalars24" => self.take_scalars24(all(alloc, rest)?),
+            _ => self.take_none(only(rest)?),
         }
-        if name.starts_with("scalars") {
-            self.has_lists = true;
-        } else {
-            self.has_words = true;
-        }
-        Ok(())
     }
 
     fn take_range(&mut self, alloc: Global, rest: &[&str]) -> Result<(), Fault> {
-        let [range, word] = rest else {
-            return Err(Fault::Unreadable);
-        };
-        let (first, last) = numbers(range)?;
-        self.ranges = with_range(alloc, &self.ranges, (first, last, hexadecimal(word)?))?;
+        let range = range_of(rest)?;
+        self.ranges = with_range(alloc, &self.ranges, range)?;
+        self.has_words = true;
+        Ok(())
+    }
+
+    fn take_number(&mut self, name: &str, digits: &str) -> Result<(), Fault> {
+        match name {
+            "cap" => self.cap = u16::read(digits)?,
+            _ => self.past = hexadecimal(digits)?,
+        }
+        self.has_words = true;
+        Ok(())
+    }
+
+    fn take_scalars16(&mut self, scalars16: Vec<u16>) -> Result<(), Fault> {
+        self.scalars16 = scalars16;
+        self.has_lists = true;
+        Ok(())
+    }
+
+    fn take_scalars24(&mut self, scalars24: Vec<char>) -> Result<(), Fault> {
+        self.scalars24 = scalars24;
+        self.has_lists = true;
         Ok(())
     }
 
@@ -155,14 +167,25 @@ impl Part {
         &self,
         alloc: Global,
     ) -> Result<Option<NonRecursiveDecompositionSupplement>, Fault> {
-        match self.data(alloc)? {
-            None => Ok(None),
-            Some(data) => Ok(Some(NonRecursiveDecompositionSupplement {
-                table: data.table,
-                scalars24: Scalars24::from(self.scalars24.to_vec(alloc)?),
-            })),
+        if !self.has_words {
+            return Ok(None);
         }
+        let scalars24 = self.scalars24.to_vec(alloc)?;
+        let table = CodePointTable::from_ranges(self.ranges.to_vec(alloc)?, self.past)?;
+        Ok(Some(NonRecursiveDecompositionSupplement {
+            table,
+            scalars24: Scalars24::from(scalars24),
+        }))
     }
+}
+
+/// The range and the word that two words say.
+fn range_of(words: &[&str]) -> Result<Range, Fault> {
+    let [range, word] = words else {
+        return Err(Fault::Unreadable);
+    };
+    let (first, last) = numbers(range)?;
+    Ok((first, last, hexadecimal(word)?))
 }
 
 /// The one word.

@@ -1,12 +1,11 @@
 //! `build`: whether the records build data; `said build` has the text of the error. `record 0344`, `mapper 0041`: what
 //! is recorded. `count records`: how many.
-use super::Answer;
-use crate::fault::Fault;
-use crate::record_rows::{spelled_mapper_record, spelled_record};
-use crate::setting::Setting;
-use crate::spelling::building;
-use crate::words::character;
 use icu_normalizer::{BuildError, Record, Uts46Record};
+use normalizer_row_data::setting::Setting;
+use normalizer_row_words::fault::{Answer, Fault};
+use normalizer_row_words::record_rows::{spelled_mapper_record, spelled_record};
+use normalizer_row_words::spelling::building;
+use normalizer_row_words::words::character;
 use std::alloc::Global;
 
 /// Why the records build no data, or `ok`.

@@ -1,11 +1,10 @@
 //! `decode bytes E2 98 E2 98 83`, `decode units D800 DC00`, `decode 0061 0308`: the characters, from the front, from
 //! the back and in turn. `head E0 80 80`: the same of bytes, also put before 62, after 61 and between the two. `every 2
 //! 61 80`: how many strings of this many of the bytes are decoded as by std: all.
-use super::Answer;
-use crate::fault::Fault;
-use crate::input::Input;
-use crate::spelling::spelled_all;
-use crate::words::{all, decimal};
+use normalizer_row_words::fault::{Answer, Fault};
+use normalizer_row_words::input::Input;
+use normalizer_row_words::spelling::spelled_all;
+use normalizer_row_words::words::{all, decimal};
 use normalizer_text::{Chars, Units};
 use std::alloc::Global;
 

@@ -1,15 +1,14 @@
-//! What parts of data hold before any check. `joined 0061 0308 = 00E4`, `never-second 0301 = yes`: what pairs compose to,
-//! whether a character is second in none. `blocks nfd = 3`: how many blocks of words. `lists nfd = 0065 | 1D157`: the
-//! lists. `same nfd nfkd = yes`: whether words are equal. `copies = yes`: whether each part equals its copy. `ranges 0..5
-//! 1 6 2 = accepted`: whether words of ranges are made.
-use super::Answer;
-use crate::by_hand::numbers;
-use crate::fault::Fault;
-use crate::held::Held;
-use crate::questions::data::{data_named, table_named};
-use crate::spelling::{Spelled, spelled_all, spelled_bool};
-use crate::words::{character, hexadecimal};
+//! What parts of data hold before any check. `joined 0061 0308 = 00E4`, `never-second 0301 = yes`: what pairs compose
+//! to, whether a character is second in none. `blocks nfd = 3`: how many blocks of words. `lists nfd = 0065 | 1D157`:
+//! the lists. `same nfd nfkd = yes`: whether words are equal. `copies = yes`: whether each part equals its copy.
+//! `ranges 0..5 1 6 2 = accepted`: whether words of ranges are made.
+use crate::data::{data_named, table_named};
 use icu_normalizer::{CanonicalCompositions, CodePointTable, DecompositionTables, TableError};
+use normalizer_row_data::by_hand::numbers;
+use normalizer_row_data::held::Held;
+use normalizer_row_words::fault::{Answer, Fault};
+use normalizer_row_words::spelling::{Spelled, spelled_all, spelled_bool};
+use normalizer_row_words::words::{character, hexadecimal};
 use normalizer_tables::{block_count, compose, is_never_second};
 use std::alloc::Global;
 

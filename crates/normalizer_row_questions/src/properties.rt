@@ -1,17 +1,16 @@
 //! `class 0340 = 230`: the canonical combining class of a number. `decompose AC01 = expansion AC00 11A8`: one step of
 //! decomposition; `shaped 2126 = 03A9 0000`: what a shaper gets for it. `compose 0061 0308 = 00E4`: what two characters
 //! compose to. Each is checked by every call, of owned and of borrowed properties, and by the shaper traits.
-use super::Answer;
-use crate::fault::Fault;
-use crate::held::Held;
-use crate::setting::Setting;
-use crate::spelling::{Spelled, spelled_all};
-use crate::words::{character, hexadecimal};
 use icu_normalizer::harfbuzz::{CombiningClassFunc, ComposeFunc, DecomposeFunc};
 use icu_normalizer::properties::{
     CanonicalCombiningClass, CanonicalCombiningClassMap, CanonicalComposition,
     CanonicalDecomposition, Decomposed,
 };
+use normalizer_row_data::held::Held;
+use normalizer_row_data::setting::Setting;
+use normalizer_row_words::fault::{Answer, Fault};
+use normalizer_row_words::spelling::{Spelled, spelled_all};
+use normalizer_row_words::words::{character, hexadecimal};
 use std::alloc::Global;
 
 /// The class of a number.

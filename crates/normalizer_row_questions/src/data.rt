@@ -1,16 +1,15 @@
 //! `word nfd 00E4`, `cap nfd`: what data say. `try nfc`, `try mapper`, `check nfd`: the result of a constructor or of a
 //! check of data; `said nfc` has the text of the error.
-use super::Answer;
-use crate::fault::Fault;
-use crate::held::Held;
-use crate::normalizer::{Normalizer, form_named};
-use crate::spelling::acceptance;
-use crate::words::hexadecimal;
 use icu_normalizer::properties::{
     CanonicalCombiningClassMap, CanonicalComposition, CanonicalDecomposition,
 };
 use icu_normalizer::uts46::Uts46Mapper;
 use icu_normalizer::{CodePointTable, DataError, DecompositionData, check_nfd_data};
+use normalizer_row_data::held::Held;
+use normalizer_row_data::normalizer::{Normalizer, form_named};
+use normalizer_row_words::fault::{Answer, Fault};
+use normalizer_row_words::spelling::acceptance;
+use normalizer_row_words::words::hexadecimal;
 use std::alloc::Global;
 
 pub fn data_named<'a>(held: &'a Held, kind: &str) -> Result<&'a DecompositionData, Fault> {
