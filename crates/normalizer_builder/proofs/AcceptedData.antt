@@ -16,7 +16,7 @@ use Rattle.normalizer_tables.specs.Refusals.{RefusesFirstFailing}
 use Rattle.normalizer_tables.proofs.FailingLemmas.{IsFirstFailing-not_all}
 use Rattle.normalizer_tables.proofs.LoadedLemmas.{All-front, IsMet-unsupplemented, parts_met}
 use Rattle.normalizer_packing.specs.declared.Packed.{Packed}
-use Rattle.normalizer_packing.specs.declared.entry.Kind.TheVariants.{Canonical, Compatibility, Mapper}
+use Rattle.normalizer_tables.specs.declared.entry.Kind.TheVariants.{Canonical, Compatibility, Mapper}
 use Rattle.normalizer_packing.specs.ReadBack.{characters_of}
 use Rattle.normalizer_builder.specs.Accepted.{steps_loaded}
 use Rattle.normalizer_builder.specs.Demands.{loaded_of}

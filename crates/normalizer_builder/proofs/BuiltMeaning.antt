@@ -7,8 +7,8 @@ use Rattle.normalizer_tables.specs.Characters.{class_of, list_of, list_read}
 use Rattle.normalizer_tables.specs.Hangul.{is_hangul_syllable}
 use Rattle.normalizer_tables.specs.Pairs.{pair_of}
 use Rattle.normalizer_packing.specs.declared.Packed.{Packed}
-use Rattle.normalizer_packing.specs.declared.entry.Kind.{Kind}
-use Rattle.normalizer_packing.specs.declared.entry.Kind.TheVariants as kind
+use Rattle.normalizer_tables.specs.declared.entry.Kind.{Kind}
+use Rattle.normalizer_tables.specs.declared.entry.Kind.TheVariants as kind
 use Rattle.normalizer_packing.specs.ReadBack.{ReadsBack, characters_of, class_by, list_by}
 use Rattle.normalizer_packing.proofs.ReadBack.{packs_reads_back}
 use Rattle.normalizer_records.specs.Entry.{Entry, MapperEntry}

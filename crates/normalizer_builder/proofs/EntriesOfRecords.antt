@@ -7,9 +7,9 @@ use Rattle.std.proofs.lemmas.List.{get_or-map, length-map}
 use Rattle.std.proofs.lemmas.List.Elements.{All-contains, Contains-append_left, Contains-append_right}
 use Rattle.std.proofs.lemmas.List.Kept.{AllPairs-from_increasing}
 use Rattle.normalizer_tables.specs.Hangul.{is_hangul_syllable}
-use Rattle.normalizer_packing.specs.declared.entry.Kind.{Kind}
-use Rattle.normalizer_packing.specs.declared.entry.Kind.TheVariants as kind
-use Rattle.normalizer_packing.specs.Entries.{CharacterEntry, AreRising, own_list, class_in, list_in, entry_of as packed_entry_of}
+use Rattle.normalizer_tables.specs.declared.entry.Kind.{Kind}
+use Rattle.normalizer_tables.specs.declared.entry.Kind.TheVariants as kind
+use Rattle.normalizer_tables.specs.Entries.{CharacterEntry, AreRising, own_list, class_in, list_in, entry_of as packed_entry_of}
 use Rattle.normalizer_packing.specs.ReadBack.{list_by}
 use Rattle.normalizer_packing.proofs.EntryLemmas.{Contains-map, find-missing, find-tells}
 use Rattle.normalizer_records.specs.Entry.{Entry, MapperEntry}

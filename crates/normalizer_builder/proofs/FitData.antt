@@ -3,7 +3,7 @@ use Rattle.std.proofs.Common.{List, All, None, get_or}
 use Rattle.std.proofs.lemmas.List.Elements.{All-contains_itself}
 use Rattle.normalizer_tables.specs.Conditions.{IsMet}
 use Rattle.normalizer_packing.specs.declared.Packed.{Packed}
-use Rattle.normalizer_packing.specs.declared.entry.Kind.{Kind}
+use Rattle.normalizer_tables.specs.declared.entry.Kind.{Kind}
 use Rattle.normalizer_records.specs.Entry.{Entry}
 use Rattle.normalizer_builder.specs.Building.{IsFirstUnfitOfRecords, IsMadeOfRecords, MeetsRecords, OfConstructors}
 use Rattle.normalizer_builder.specs.Demands.{Asks, IsMade, Meets, conditions_of, loaded_of}

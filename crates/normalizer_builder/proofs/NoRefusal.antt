@@ -14,8 +14,8 @@ use Rattle.normal_forms.specs.Reading.{Reading}
 use Rattle.normal_forms.proofs.ListLemmas.{AllByRecursion-append}
 use Rattle.normal_forms.proofs.OrderLemmas.{AllByRecursion-order, length-order}
 use Rattle.normalizer_tables.specs.Hangul.{is_hangul_syllable, hangul_decomposition}
-use Rattle.normalizer_packing.specs.declared.entry.Kind.{Kind}
-use Rattle.normalizer_packing.specs.declared.entry.Kind.TheVariants as kind
+use Rattle.normalizer_tables.specs.declared.entry.Kind.{Kind}
+use Rattle.normalizer_tables.specs.declared.entry.Kind.TheVariants as kind
 use Rattle.normalizer_packing.proofs.EntryLemmas.{find-tells}
 use Rattle.normalizer_records.specs.declared.records.Mappings.{Mappings}
 use Rattle.normalizer_records.specs.declared.records.Mappings.TheVariants.{Canonical, All as AllMappings}

@@ -6,10 +6,10 @@ use Rattle.std.proofs.lemmas.Bool.{cases_Bool, false_from_ne_true, or_parts, tru
 use Rattle.std.proofs.lemmas.Bool.Decides.{nat_tests}
 use Rattle.std.proofs.lemmas.List.Elements.{All-cons}
 use Rattle.normalizer_tables.specs.SpecialLists.{fdfa_list}
-use Rattle.normalizer_packing.specs.declared.entry.Kind.{Kind}
+use Rattle.normalizer_tables.specs.declared.entry.Kind.{Kind}
 use Rattle.normalizer_packing.specs.declared.spelling.Spelling.{Spelling}
 use Rattle.normalizer_packing.specs.declared.spelling.Spelling.TheVariants.{Final, Short, Listed}
-use Rattle.normalizer_packing.specs.Entries.{CharacterEntry, class_in, own_list}
+use Rattle.normalizer_tables.specs.Entries.{CharacterEntry, class_in, own_list}
 use Rattle.normalizer_packing.specs.Packing.{ArePackable}
 use Rattle.normalizer_packing.specs.Spelling.{spelling, spelling_or_ignored, spelling_by_list, spelling_of_list}
 use Rattle.normalizer_packing.specs.Stored.{HasLengthOfWord, is_narrow, listed_of, listed_in}

@@ -4,7 +4,7 @@ use Rattle.normal_forms.specs.Alike.{AreAlike}
 use Rattle.normalizer_tables.specs.Readings.{reading_by}
 use Rattle.normalizer_tables.specs.declared.characters.IgnoredCharacters.TheVariants.{Dropped}
 use Rattle.normalizer_packing.specs.declared.Packed.{Packed}
-use Rattle.normalizer_packing.specs.declared.entry.Kind.TheVariants as kind
+use Rattle.normalizer_tables.specs.declared.entry.Kind.TheVariants as kind
 use Rattle.normalizer_packing.specs.ReadBack.{characters_of}
 use Rattle.normalizer_records.specs.declared.records.Mappings.TheVariants as mappings
 use Rattle.normalizer_records.specs.Entry.{Entry, MapperEntry}

@@ -12,7 +12,7 @@ use Rattle.std.proofs.lemmas.List.Sorted.{All-permutation, Contains-permutation,
 use Rattle.normalizer_tables.specs.HangulComposition.{compose_hangul}
 use Rattle.normalizer_tables.specs.Pairs.{Pair, AreRising as ArePairsRising, is_before, is_of, is_vowel_or_trailing_jamo, listed_result, pair_of}
 use Rattle.normalizer_packing.specs.declared.Packed.{Packed}
-use Rattle.normalizer_packing.specs.Entries.{CharacterEntry}
+use Rattle.normalizer_tables.specs.Entries.{CharacterEntry}
 use Rattle.normalizer_packing.specs.Packing.{Packs}
 use Rattle.normalizer_packing.proofs.EntryLemmas.{find-none, find-tells}
 use Rattle.normalizer_packing.proofs.PackingLemmas.{one_packing}

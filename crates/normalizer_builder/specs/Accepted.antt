@@ -3,7 +3,7 @@ use Rattle.std.specs.Prelude.{None, Some}
 use Rattle.normalizer_tables.specs.Loaded.{Loaded}
 use Rattle.normalizer_tables.specs.NfdData.{nfd_bounds}
 use Rattle.normalizer_packing.specs.declared.Packed.{Packed}
-use Rattle.normalizer_packing.specs.declared.entry.Kind.TheVariants.{Canonical}
+use Rattle.normalizer_tables.specs.declared.entry.Kind.TheVariants.{Canonical}
 use Rattle.normalizer_packing.specs.ReadBack.{characters_of}
 
 -- canonical data and the supplement, by which characters are decomposed one step

@@ -9,10 +9,10 @@ use Rattle.normalizer_tables.specs.Conditions.{item_limit}
 use Rattle.normalizer_tables.specs.Pairs.{Pair, pair_of, AreRising as ArePairsRising}
 use Rattle.normalizer_tables.specs.Steps.{step_of}
 use Rattle.normalizer_packing.specs.declared.Packed.{Packed}
-use Rattle.normalizer_packing.specs.declared.entry.Kind.TheVariants.{Canonical, Compatibility, Mapper}
-use Rattle.normalizer_packing.specs.declared.entry.Mapping.{Mapping}
-use Rattle.normalizer_packing.specs.declared.entry.Mapping.TheVariants.{One, Two}
-use Rattle.normalizer_packing.specs.Entries.{CharacterEntry}
+use Rattle.normalizer_tables.specs.declared.entry.Kind.TheVariants.{Canonical, Compatibility, Mapper}
+use Rattle.normalizer_tables.specs.declared.entry.Mapping.{Mapping}
+use Rattle.normalizer_tables.specs.declared.entry.Mapping.TheVariants.{One, Two}
+use Rattle.normalizer_tables.specs.Entries.{CharacterEntry}
 use Rattle.normalizer_packing.specs.Packing.{Packs}
 use Rattle.normalizer_packing.specs.Stored.{needed_items}
 use Rattle.normalizer_records.specs.declared.records.BuildError.{BuildError}

@@ -11,8 +11,8 @@ use Rattle.normalizer_tables.specs.Loaded.{bounds_of_cap, Loaded}
 use Rattle.normalizer_tables.specs.Data.{Supplement}
 use Rattle.normalizer_tables.specs.Refusals.{marker_of}
 use Rattle.normalizer_packing.specs.declared.Packed.{Packed}
-use Rattle.normalizer_packing.specs.declared.entry.Kind.{Kind}
-use Rattle.normalizer_packing.specs.declared.entry.Kind.TheVariants.{Canonical, Compatibility, Mapper}
+use Rattle.normalizer_tables.specs.declared.entry.Kind.{Kind}
+use Rattle.normalizer_tables.specs.declared.entry.Kind.TheVariants.{Canonical, Compatibility, Mapper}
 pub use Rattle.normalizer_packing.specs.ReadBack.{characters_of, decompositions_of}
 use Rattle.normalizer_builder.specs.declared.rank.Unfit.{Unfit}
 

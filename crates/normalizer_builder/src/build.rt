@@ -8,9 +8,9 @@ ghost use Rattle.normalizer_builder.specs.inner.Parts.{PacksCharacters};
 use crate::built::Built;
 use crate::mappings::first_unfit_of_records;
 use crate::scalars::are_of_characters;
-use normalizer_packing::entry::Entry;
 use normalizer_packing::{PackError, Packed, pack};
 use normalizer_records::{BuildError, Record, Refusal, Uts46Record, expanded};
+use normalizer_tables::entry::Entry;
 use std::alloc::Global;
 
 /// Builds data from plain records of characters.

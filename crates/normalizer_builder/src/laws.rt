@@ -27,7 +27,7 @@ ghost use Rattle.normalizer_tables.specs.PairConditions.{AreSoundPairs};
 ghost use Rattle.normalizer_tables.specs.Pairs.{Pair};
 ghost use Rattle.normalizer_tables.specs.Refusals.{RefusesFirstFailing};
 ghost use Rattle.normalizer_packing.specs.declared.Packed.{Packed};
-ghost use Rattle.normalizer_packing.specs.declared.entry.Kind.TheVariants.{Canonical, Compatibility, Mapper};
+ghost use Rattle.normalizer_tables.specs.declared.entry.Kind.TheVariants.{Canonical, Compatibility, Mapper};
 ghost use Rattle.normalizer_packing.specs.ReadBack.{characters_of};
 ghost use Rattle.normalizer_records.specs.declared.records.BuildError.{BuildError};
 ghost use Rattle.normalizer_records.specs.declared.records.BuildError.TheVariants.{Memory};

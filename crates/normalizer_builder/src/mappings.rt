@@ -1,6 +1,6 @@
 //! Whether one step of decomposition over packed data is what is recorded.
 ghost use Rattle.std.specs.Prelude.{◌≡◌, ◌↔◌, All, Some, IsTrue};
-ghost use Rattle.normalizer_packing.specs.declared.entry.Kind.TheVariants.{Canonical};
+ghost use Rattle.normalizer_tables.specs.declared.entry.Kind.TheVariants.{Canonical};
 ghost use Rattle.normalizer_records.specs.Faults.{AreRising};
 ghost use Rattle.normalizer_tables.specs.Steps.{step_of};
 ghost use Rattle.normalizer_builder.specs.Building.{IsFirstUnfitOfMappings, IsFirstUnfitOfRecords, KeepsMapping};
@@ -10,9 +10,9 @@ ghost use Rattle.normalizer_builder.specs.Demands.{characters_of};
 use crate::rank::{Unfit, least};
 use crate::unfit::{characters_of, first_unfit};
 use normalizer_packing::Packed;
-use normalizer_packing::entry::{Kind, Mapping};
 use normalizer_records::{Record, canonical_mapping_of, step_to};
 use normalizer_tables::DataMarkerInfo;
+use normalizer_tables::entry::{Kind, Mapping};
 use normalizer_tables::step::{Step, step_of};
 
 /// The first requirement that data that pack records don't meet: those of constructors, and that one step keeps the

@@ -5,7 +5,7 @@ ghost use Rattle.std.specs.Char.{IsScalar};
 ghost use Rattle.normal_forms.specs.Reading.{IsText};
 ghost use Rattle.normalizer_builder.specs.inner.Parts.{IsOfCharacters};
 
-use normalizer_packing::entry::Entry;
+use normalizer_tables::entry::Entry;
 
 fn is_scalar(character: char)
     ensures { IsScalar character }

@@ -12,11 +12,11 @@ ghost use Rattle.normalizer_builder.specs.Fitness.{IsFirstUnfit, IsFirstUnfitOfK
 
 use crate::rank::{Unfit, least};
 use normalizer_packing::Packed;
-use normalizer_packing::entry::Kind;
 use normalizer_tables::DataMarkerInfo;
 use normalizer_tables::characters::CharacterData;
 use normalizer_tables::check::first_failing;
 use normalizer_tables::condition::{Bounds, COMPOSING, Condition, EVERY, MAPPING};
+use normalizer_tables::entry::Kind;
 use normalizer_tables::loaded::LoadedData;
 use normalizer_tables::refusal::marker_of;
 

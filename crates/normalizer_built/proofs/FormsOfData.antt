@@ -3,7 +3,7 @@ use Rattle.std.proofs.Common.{◌≡◌, ℕ, List, []}
 use Rattle.normal_forms.specs.Forms.{normal_form}
 use Rattle.normal_forms.proofs.AlikeReadings.{nfc-alike, nfd-alike}
 use Rattle.normalizer_packing.specs.declared.Packed.{Packed}
-use Rattle.normalizer_packing.specs.declared.entry.Kind.TheVariants as kind
+use Rattle.normalizer_tables.specs.declared.entry.Kind.TheVariants as kind
 use Rattle.normalizer_packing.specs.ReadBack.{characters_of}
 use Rattle.normalizer_records.specs.declared.records.Mappings.TheVariants.{Canonical, All}
 use Rattle.normalizer_records.specs.Entry.{Entry, MapperEntry}

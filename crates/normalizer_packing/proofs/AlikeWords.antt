@@ -11,10 +11,10 @@ use Rattle.normalizer_tables.specs.CharacterConditions.{is_surrogate}
 use Rattle.normalizer_tables.specs.Hangul.{is_hangul_syllable}
 use Rattle.normalizer_tables.specs.HangulComposition.{compose_hangul, is_trailing_consonant, is_vowel}
 use Rattle.normalizer_tables.specs.Pairs.{Pair, IsNeverSecond, is_of, is_vowel_or_trailing_jamo, listed_result, pair_of}
-use Rattle.normalizer_packing.specs.declared.entry.Kind.{Kind}
+use Rattle.normalizer_tables.specs.declared.entry.Kind.{Kind}
 use Rattle.normalizer_packing.specs.declared.spelling.Spelling.{Spelling}
 use Rattle.normalizer_packing.specs.declared.spelling.Spelling.TheVariants.{Final, Short}
-use Rattle.normalizer_packing.specs.Entries.{CharacterEntry, class_in, reading_of_entries, entry_of, kept_list, list_in}
+use Rattle.normalizer_tables.specs.Entries.{CharacterEntry, class_in, reading_of_entries, entry_of, kept_list, list_in}
 use Rattle.normalizer_packing.specs.Flags.{IsFlagged}
 use Rattle.normalizer_packing.specs.Packing.{HasFlags, IsPackedWord, IsSpelled}
 use Rattle.normalizer_packing.specs.Spelling.{final_word, spelling, spelling_by_list, spelling_or_ignored}

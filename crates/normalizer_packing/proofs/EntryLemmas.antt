@@ -10,7 +10,7 @@ use Rattle.std.proofs.lemmas.List.Sums.{position_or_len_is}
 use Rattle.std.proofs.lemmas.Option.{slice_get_read}
 use Rattle.std.specs.List.{slice_get}
 use Rattle.std.specs.List.Sorted.{IsPartitionedBy, IsPartitionPoint, IsStrictlyIncreasing}
-use Rattle.normalizer_packing.specs.Entries.{CharacterEntry, AreRising, entry_of}
+use Rattle.normalizer_tables.specs.Entries.{CharacterEntry, AreRising, entry_of}
 
 -- none passes
 pub find-none : {A : Type 0} (p : A → Bool) (xs : List A) → All (λ x. p x ≡ false) xs → find p xs ≡ None

@@ -4,8 +4,8 @@ use Rattle.std.proofs.Common.{if◌then◌else◌}
 use Rattle.std.specs.List.{cons_option, filter_map, list_all}
 use Rattle.std.proofs.lemmas.Bool.{le-leb, leb-true, lt-ltb, ltb-true, and_from, and_parts}
 use Rattle.std.proofs.lemmas.List.Elements.{All-cons, All-head, All-nil, All-tail}
-use Rattle.normalizer_packing.specs.declared.entry.Kind.{Kind}
-use Rattle.normalizer_packing.specs.Entries.{CharacterEntry, class_in}
+use Rattle.normalizer_tables.specs.declared.entry.Kind.{Kind}
+use Rattle.normalizer_tables.specs.Entries.{CharacterEntry, class_in}
 use Rattle.normalizer_packing.specs.inner.Packable.{has_length_if_any, has_length_of_word}
 use Rattle.normalizer_packing.specs.Stored.{HasLengthOfWord, is_narrow, listed_in, listed_of}
 

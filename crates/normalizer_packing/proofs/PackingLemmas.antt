@@ -9,12 +9,12 @@ use Rattle.normalizer_tables.specs.Table.{Table, code_points, word_at}
 use Rattle.normalizer_tables.specs.Words.{is_backward_combining, is_class_form, is_non_round_trip}
 use Rattle.normalizer_tables.proofs.Tables.{same_from_word_at, word_at-past}
 use Rattle.normalizer_packing.specs.declared.Packed.{Packed}
-use Rattle.normalizer_packing.specs.declared.entry.Kind.{Kind}
-use Rattle.normalizer_packing.specs.declared.entry.Kind.TheVariants.{Canonical, Compatibility, Mapper}
+use Rattle.normalizer_tables.specs.declared.entry.Kind.{Kind}
+use Rattle.normalizer_tables.specs.declared.entry.Kind.TheVariants.{Canonical, Compatibility, Mapper}
 use Rattle.normalizer_packing.specs.declared.spelling.Spelling.{Spelling}
 use Rattle.normalizer_packing.specs.declared.spelling.Spelling.TheVariants.{Final, Short, Listed}
 use Rattle.normalizer_packing.specs.Caps.{IsCap}
-use Rattle.normalizer_packing.specs.Entries.{CharacterEntry, class_in, reading_of_entries, kept_list, list_in}
+use Rattle.normalizer_tables.specs.Entries.{CharacterEntry, class_in, reading_of_entries, kept_list, list_in}
 use Rattle.normalizer_packing.specs.Flags.{BeginsUnpaired, IsFlagged, without_flags}
 use Rattle.normalizer_packing.specs.Packing.{HasFlags, IsPackedWord, IsSpelled, Packs, PacksKind}
 use Rattle.normalizer_packing.specs.Spelling.{spelling}

@@ -7,10 +7,10 @@ use Rattle.std.specs.Option.{is_some}
 use Rattle.normalizer_tables.specs.Characters.{Characters, as_text, items_at, listed_at, listed_in as listed_from, narrow_at, placed_in, wide_at}
 use Rattle.normalizer_tables.specs.Conditions.{item_count, item_limit}
 use Rattle.normalizer_tables.specs.Data.{Lists}
-use Rattle.normalizer_packing.specs.declared.entry.Kind.{Kind}
-use Rattle.normalizer_packing.specs.declared.entry.Kind.TheVariants.{Canonical, Compatibility, Mapper}
+use Rattle.normalizer_tables.specs.declared.entry.Kind.{Kind}
+use Rattle.normalizer_tables.specs.declared.entry.Kind.TheVariants.{Canonical, Compatibility, Mapper}
 use Rattle.normalizer_packing.specs.declared.stores.Stores.{Stores}
-use Rattle.normalizer_packing.specs.Entries.{CharacterEntry}
+use Rattle.normalizer_tables.specs.Entries.{CharacterEntry}
 use Rattle.normalizer_packing.specs.inner.PackedWords.{CanPoint}
 use Rattle.normalizer_packing.specs.Spelling.{list_eq}
 use Rattle.normalizer_packing.specs.Stored.{HasLengthOfWord, canonical_lists, is_among, is_narrow, item_at, item_in, item_of, listed_in, low_length, needed_items, place_of}

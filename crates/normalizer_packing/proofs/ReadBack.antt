@@ -17,11 +17,11 @@ use Rattle.normalizer_tables.specs.Table.{code_points}
 use Rattle.normalizer_tables.proofs.CharacterLemmas.{class_of-scalar, list_read-scalar}
 use Rattle.normalizer_tables.proofs.CharacterLemmas.{as_text-scalars}
 use Rattle.normalizer_packing.specs.declared.Packed.{Packed}
-use Rattle.normalizer_packing.specs.declared.entry.Kind.{Kind}
-use Rattle.normalizer_packing.specs.declared.entry.Kind.TheVariants.{Canonical, Compatibility, Mapper}
+use Rattle.normalizer_tables.specs.declared.entry.Kind.{Kind}
+use Rattle.normalizer_tables.specs.declared.entry.Kind.TheVariants.{Canonical, Compatibility, Mapper}
 use Rattle.normalizer_packing.specs.declared.spelling.Spelling.{Spelling}
 use Rattle.normalizer_packing.specs.declared.spelling.Spelling.TheVariants.{Final, Short, Listed}
-use Rattle.normalizer_packing.specs.Entries.{CharacterEntry, class_in, entry_of, kept_list, list_in, reading_of_entries}
+use Rattle.normalizer_tables.specs.Entries.{CharacterEntry, class_in, entry_of, kept_list, list_in, reading_of_entries}
 use Rattle.normalizer_packing.specs.Flags.{without_flags}
 use Rattle.normalizer_packing.specs.Packing.{ArePackable, IsPackedWord, IsSpelled, Packs, PacksKind}
 use Rattle.normalizer_packing.specs.ReadBack.{AreReadable, IsTold, ReadsBack, characters_of, class_by, decompositions_of, has_class_word, list_by, tells_class}

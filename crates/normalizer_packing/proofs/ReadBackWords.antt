@@ -18,9 +18,9 @@ use Rattle.normalizer_tables.proofs.HangulLemmas.{is_hangul_syllable-true}
 use Rattle.normalizer_tables.specs.Words.{class_of_word, is_class_form, is_ordinary_class_form, is_special_class_form, low_byte, is_plain, has_high_zeros, has_low_zeros, listed, read}
 use Rattle.normalizer_tables.specs.Words.{read_low, two_characters}
 use Rattle.normalizer_packing.specs.Flags.{without_flags}
-use Rattle.normalizer_packing.specs.declared.entry.Kind.{Kind}
-use Rattle.normalizer_packing.specs.declared.entry.Kind.TheVariants.{Mapper}
-use Rattle.normalizer_packing.specs.Entries.{CharacterEntry, own_list}
+use Rattle.normalizer_tables.specs.declared.entry.Kind.{Kind}
+use Rattle.normalizer_tables.specs.declared.entry.Kind.TheVariants.{Mapper}
+use Rattle.normalizer_tables.specs.Entries.{CharacterEntry, own_list}
 use Rattle.normalizer_packing.specs.ReadBack.{is_mappers}
 use Rattle.normalizer_packing.specs.Spelling.{has_fixed_list, have_classes, list_eq, spells_two}
 use Rattle.normalizer_packing.specs.Stored.{HasLengthOfWord, low_length}

@@ -3,10 +3,10 @@ use Rattle.std.proofs.Common.{◌≡◌, ℕ, ◌+◌, ◌<◌, true, false, Lis
 use Rattle.std.specs.Char.{OutOfScalarRange}
 use Rattle.std.proofs.lemmas.List.{take_more}
 use Rattle.normalizer_tables.specs.Table.{code_points}
-use Rattle.normalizer_packing.specs.declared.entry.Mapping.{Mapping}
-use Rattle.normalizer_packing.specs.declared.entry.Mapping.TheVariants.{Two}
+use Rattle.normalizer_tables.specs.declared.entry.Mapping.{Mapping}
+use Rattle.normalizer_tables.specs.declared.entry.Mapping.TheVariants.{Two}
 use Rattle.normalizer_packing.specs.declared.stored.Store.{Store}
-use Rattle.normalizer_packing.specs.Entries.{CharacterEntry, class_in, entry_of}
+use Rattle.normalizer_tables.specs.Entries.{CharacterEntry, class_in, entry_of}
 use Rattle.normalizer_packing.specs.Steps.{are_narrow, asked_step, asks_supplement, step_in, step_lists, stored_step, stored_steps, word_of_step}
 use Rattle.normalizer_packing.specs.Stored.{first_come, is_among}
 use Rattle.normalizer_packing.specs.inner.Stores.{Holds, HoldsMore}

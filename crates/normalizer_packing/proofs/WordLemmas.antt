@@ -9,9 +9,9 @@ use Rattle.normalizer_tables.specs.Hangul.{is_hangul_syllable}
 use Rattle.normalizer_tables.specs.Pairs.{Pair}
 use Rattle.normalizer_tables.specs.CharacterConditions.{is_surrogate}
 use Rattle.normalizer_tables.specs.Table.{code_points}
-use Rattle.normalizer_packing.specs.declared.entry.Kind.{Kind}
+use Rattle.normalizer_tables.specs.declared.entry.Kind.{Kind}
 use Rattle.normalizer_packing.specs.declared.spelling.Spelling.TheVariants.{Final, Short, Listed}
-use Rattle.normalizer_packing.specs.Entries.{CharacterEntry, class_in, reading_of_entries, entry_of, kept_list, list_in, own_list}
+use Rattle.normalizer_tables.specs.Entries.{CharacterEntry, class_in, reading_of_entries, entry_of, kept_list, list_in, own_list}
 use Rattle.normalizer_packing.specs.Flags.{IsFlagged, without_flags}
 use Rattle.normalizer_packing.specs.Packing.{IsPackedWord}
 use Rattle.normalizer_packing.specs.Spelling.{final_word, list_eq, spelling, spelling_by_list, spelling_or_ignored}

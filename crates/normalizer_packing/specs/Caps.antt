@@ -3,8 +3,8 @@ use Rattle.std.specs.Prelude.{◌≡◌, ℕ, ◌<◌, ◌≤◌, List, [], ◌�
 use Rattle.normal_forms.specs.Composition.{compose}
 use Rattle.normalizer_tables.specs.Conditions.{cap_limit}
 use Rattle.normalizer_tables.specs.Pairs.{Pair, IsNeverSecond}
-use Rattle.normalizer_packing.specs.declared.entry.Kind.{Kind}
-use Rattle.normalizer_packing.specs.Entries.{CharacterEntry, class_in, list_in, reading_of_entries}
+use Rattle.normalizer_tables.specs.declared.entry.Kind.{Kind}
+use Rattle.normalizer_tables.specs.Entries.{CharacterEntry, class_in, list_in, reading_of_entries}
 
 -- the list begins with a starter that is second in no pair
 abbrev pub BeginsPassed : List CharacterEntry → List Pair → List ℕ → Type 0

@@ -1,5 +1,4 @@
 pub mod Caps
-pub mod Entries
 pub mod Flags
 pub mod Packing
 pub mod ReadBack

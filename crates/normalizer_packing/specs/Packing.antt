@@ -4,13 +4,13 @@ use Rattle.normalizer_tables.specs.Conditions.{item_limit}
 use Rattle.normalizer_tables.specs.Data.{Decompositions}
 use Rattle.normalizer_tables.specs.Pairs.{Pair}
 use Rattle.normalizer_packing.specs.declared.Packed.{Packed}
-use Rattle.normalizer_packing.specs.declared.entry.Kind.{Kind}
-use Rattle.normalizer_packing.specs.declared.entry.Kind.TheVariants.{Canonical, Compatibility, Mapper}
+use Rattle.normalizer_tables.specs.declared.entry.Kind.{Kind}
+use Rattle.normalizer_tables.specs.declared.entry.Kind.TheVariants.{Canonical, Compatibility, Mapper}
 use Rattle.normalizer_packing.specs.declared.spelling.Spelling.{Spelling}
 use Rattle.normalizer_packing.specs.declared.spelling.Spelling.TheVariants.{Final, Short, Listed}
 use Rattle.normalizer_packing.specs.Caps.{IsCap}
-use Rattle.normalizer_packing.specs.Entries.{CharacterEntry, AreRising, class_in, list_in, kept_list}
-use Rattle.normalizer_packing.specs.Entries.{reading_of_entries}
+use Rattle.normalizer_tables.specs.Entries.{CharacterEntry, AreRising, class_in, list_in, kept_list}
+use Rattle.normalizer_tables.specs.Entries.{reading_of_entries}
 use Rattle.normalizer_packing.specs.Flags.{IsFlagged, without_flags}
 use Rattle.normalizer_packing.specs.Spelling.{spelling}
 use Rattle.normalizer_packing.specs.Steps.{PacksSteps}

@@ -13,9 +13,9 @@ use Rattle.normalizer_tables.specs.Data.{Decompositions, Lists, lists_or_none}
 use Rattle.normalizer_tables.specs.Hangul.{hangul_decomposition, is_hangul_syllable}
 use Rattle.normalizer_tables.specs.SpecialLists.{fdfa_list}
 use Rattle.normalizer_packing.specs.declared.Packed.{Packed}
-use Rattle.normalizer_packing.specs.declared.entry.Kind.{Kind}
-use Rattle.normalizer_packing.specs.declared.entry.Kind.TheVariants.{Canonical, Compatibility, Mapper}
-use Rattle.normalizer_packing.specs.Entries.{CharacterEntry, class_in, reading_of_entries, kept_list, list_in}
+use Rattle.normalizer_tables.specs.declared.entry.Kind.{Kind}
+use Rattle.normalizer_tables.specs.declared.entry.Kind.TheVariants.{Canonical, Compatibility, Mapper}
+use Rattle.normalizer_tables.specs.Entries.{CharacterEntry, class_in, reading_of_entries, kept_list, list_in}
 use Rattle.normalizer_packing.specs.Spelling.{has_fixed_list, list_eq}
 use Rattle.normalizer_packing.specs.Stored.{has_marks_behind}
 

@@ -4,10 +4,10 @@ use Rattle.std.specs.Prelude.{take, filter_map, Option, Some, None, if◌then◌
 use Rattle.std.specs.Int.{is_in_range}
 use Rattle.normalizer_tables.specs.Data.{Supplement}
 use Rattle.normalizer_tables.specs.Words.{is_class_form}
-use Rattle.normalizer_packing.specs.declared.entry.Mapping.{Mapping}
-use Rattle.normalizer_packing.specs.declared.entry.Mapping.TheVariants.{One, Two}
+use Rattle.normalizer_tables.specs.declared.entry.Mapping.{Mapping}
+use Rattle.normalizer_tables.specs.declared.entry.Mapping.TheVariants.{One, Two}
 use Rattle.normalizer_packing.specs.declared.spelling.Spelling.TheVariants.{Final, Short, Listed}
-use Rattle.normalizer_packing.specs.Entries.{CharacterEntry, class_in, entry_of}
+use Rattle.normalizer_tables.specs.Entries.{CharacterEntry, class_in, entry_of}
 use Rattle.normalizer_packing.specs.Spelling.{spelling}
 use Rattle.normalizer_packing.specs.Stored.{first_come, items_of, place_of}
 use Rattle.normalizer_packing.specs.Words.{HasWords}

@@ -4,10 +4,10 @@ use Rattle.std.specs.Prelude.{◌++◌, length, drop, filter, if◌then◌else�
 use Rattle.std.specs.List.{before_first, concat, list_all, list_any}
 use Rattle.normalizer_tables.specs.Conditions.{item_count}
 use Rattle.normalizer_tables.specs.Data.{Lists}
-use Rattle.normalizer_packing.specs.declared.entry.Kind.{Kind}
-use Rattle.normalizer_packing.specs.declared.entry.Kind.TheVariants.{Canonical, Compatibility, Mapper}
+use Rattle.normalizer_tables.specs.declared.entry.Kind.{Kind}
+use Rattle.normalizer_tables.specs.declared.entry.Kind.TheVariants.{Canonical, Compatibility, Mapper}
 use Rattle.normalizer_packing.specs.declared.spelling.Spelling.TheVariants.{Final, Short, Listed}
-use Rattle.normalizer_packing.specs.Entries.{CharacterEntry, class_in, own_list}
+use Rattle.normalizer_tables.specs.Entries.{CharacterEntry, class_in, own_list}
 use Rattle.normalizer_packing.specs.Spelling.{list_eq, spelling}
 
 -- the list goes into a table of 16-bit numbers

@@ -3,9 +3,9 @@ ghost use Rattle.std.specs.Prelude.{◌↔◌, ◌<◌, IsTrue};
 ghost use Rattle.normalizer_packing.specs.Caps.{BeginsPassed, IsCap, MayPass, MayPassWith};
 
 use crate::entries::Entries;
-use crate::entry::Kind;
 use crate::flags::composes_to;
 use normalizer_tables::condition::CAP_LIMIT;
+use normalizer_tables::entry::Kind;
 use normalizer_tables::{CanonicalCompositions, is_never_second};
 
 /// The least character that a composing loop may not pass so, but at most the limit.

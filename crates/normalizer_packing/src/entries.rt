@@ -1,10 +1,10 @@
 //! Entries that rise by character, looked up by their places, or by halving.
 ghost use Rattle.std.specs.Prelude.{◌≡◌, [], ◌∷◌, IfOk, map, option_copied};
-ghost use Rattle.normalizer_packing.specs.Entries.{AreRising, class_in, entry_of, list_in};
+ghost use Rattle.normalizer_tables.specs.Entries.{AreRising, class_in, entry_of, list_in};
 ghost use Rattle.normalizer_tables.specs.Places.{ArePlaces};
 
-use crate::entry::{Entry, Kind};
 use normalizer_tables::CodePointTable;
+use normalizer_tables::entry::{Entry, Kind};
 use normalizer_tables::places::{place_in, places_of};
 use std::alloc::{AllocError, Global};
 use std::marker::Model;
@@ -19,7 +19,7 @@ pub struct Entries<'a> {
 
 impl<'a> Model for Entries<'a> {
     ghost use Rattle.std.specs.Prelude.{List, IfSome, map};
-    ghost use Rattle.normalizer_packing.specs.Entries.{CharacterEntry, AreRising};
+    ghost use Rattle.normalizer_tables.specs.Entries.{CharacterEntry, AreRising};
     ghost use Rattle.normalizer_tables.specs.Places.{ArePlaces};
 
     ghost Value = { List CharacterEntry };
@@ -74,7 +74,7 @@ impl<'a> Entries<'a> {
     }
 
     /// The canonical combining class of a character: 0 without an entry.
-    #[tactic(auto, unfolding(crate::specs::Entries::class_in))]
+    #[tactic(auto, unfolding(normalizer_tables::specs::Entries::class_in))]
     pub fn class_of(&self, character: char) -> u8
         ensures { result ≡ class_in self.now character }
     {
@@ -83,7 +83,7 @@ impl<'a> Entries<'a> {
 
     /// The list of a character in one kind of data, or `alone` if the character has no entry. None if the mapper
     /// ignores the character.
-    #[tactic(auto, unfolding(crate::specs::Entries::list_in))]
+    #[tactic(auto, unfolding(normalizer_tables::specs::Entries::list_in))]
     pub fn list_of<'b>(
         &'b self,
         kind: Kind,

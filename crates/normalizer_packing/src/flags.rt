@@ -2,7 +2,7 @@
 ghost use Rattle.std.specs.Prelude.{◌≡◌, ◌↔◌, ◌<◌, ◌≤◌, if◌then◌else◌, ◌||◌, ◌^◌, [], ◌∷◌, IsTrue};
 ghost use Rattle.normal_forms.specs.Composition.{compose, is_blocked, joined};
 ghost use Rattle.normalizer_tables.specs.Words.{is_backward_combining, is_class_form, is_non_round_trip};
-ghost use Rattle.normalizer_packing.specs.Entries.{reading_of_entries};
+ghost use Rattle.normalizer_tables.specs.Entries.{reading_of_entries};
 ghost use Rattle.normalizer_packing.specs.Flags.{without_flags, BeginsUnpaired, IsFlagged};
 
 use crate::entries::Entries;

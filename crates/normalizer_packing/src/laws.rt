@@ -2,8 +2,8 @@
 ghost use Rattle.std.specs.Prelude.{◌≡◌, List};
 ghost use Rattle.normalizer_tables.specs.Pairs.{Pair};
 ghost use Rattle.normalizer_packing.specs.declared.Packed.{Packed};
-ghost use Rattle.normalizer_packing.specs.declared.entry.Kind.{Kind};
-ghost use Rattle.normalizer_packing.specs.Entries.{CharacterEntry};
+ghost use Rattle.normalizer_tables.specs.declared.entry.Kind.{Kind};
+ghost use Rattle.normalizer_tables.specs.Entries.{CharacterEntry};
 ghost use Rattle.normalizer_packing.specs.Packing.{ArePackable, Packs};
 ghost use Rattle.normalizer_packing.specs.ReadBack.{AreReadable, ReadsBack, characters_of};
 

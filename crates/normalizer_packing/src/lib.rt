@@ -3,7 +3,6 @@
 
 mod cap;
 mod entries;
-pub mod entry;
 mod flags;
 pub mod laws;
 mod packable;

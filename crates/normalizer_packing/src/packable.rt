@@ -1,14 +1,14 @@
 //! Whether entries can be packed.
 ghost use Rattle.std.specs.Prelude.{◌≡◌, ◌↔◌, All, IsTrue};
 ghost use Rattle.std.specs.List.{list_all};
-ghost use Rattle.normalizer_packing.specs.Entries.{AreRising, class_in};
+ghost use Rattle.normalizer_tables.specs.Entries.{AreRising, class_in};
 ghost use Rattle.normalizer_packing.specs.inner.Packable.{has_length_if_any, has_length_of_word};
 ghost use Rattle.normalizer_packing.specs.Packing.{ArePackable};
 ghost use Rattle.normalizer_packing.specs.Stored.{HasLengthOfWord, listed_in, listed_of};
 
 use crate::entries::Entries;
-use crate::entry::{Entry, Kind};
 use crate::stored::{is_narrow, listed_of};
+use normalizer_tables::entry::{Entry, Kind};
 
 /// Returns whether entries rise, and a word can encode the length of each list that needs a table.
 pub fn are_packable(entries: &[Entry]) -> bool

@@ -11,12 +11,12 @@ ghost use Rattle.normalizer_packing.specs.inner.Stretches.{ListsTold};
 use crate::Packed;
 use crate::cap::cap_of;
 use crate::entries::Entries;
-use crate::entry::{Entry, Kind};
 use crate::ranges::table_of;
 use crate::steps::supplement_of;
 use crate::stores::{PackError, Stores, stores_of};
 use crate::told::told_characters;
 use crate::words::PackedWords;
+use normalizer_tables::entry::{Entry, Kind};
 use normalizer_tables::{
     CanonicalCompositions, DecompositionData, NonRecursiveDecompositionSupplement, TableError,
 };

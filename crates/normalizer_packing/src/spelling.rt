@@ -1,6 +1,6 @@
 //! How the word of a character spells its list.
 ghost use Rattle.std.specs.Prelude.{◌≡◌, option_copied};
-ghost use Rattle.normalizer_packing.specs.Entries.{class_in};
+ghost use Rattle.normalizer_tables.specs.Entries.{class_in};
 ghost use Rattle.normalizer_packing.specs.Spelling.{HasRoomForFlags, final_word, has_fixed_list, have_classes};
 ghost use Rattle.normalizer_packing.specs.Spelling.{spelling, spelling_by_list, spelling_of_list};
 ghost use Rattle.normalizer_packing.specs.Spelling.{spelling_of_two};

@@ -1,6 +1,6 @@
 //! The supplement: one step of decomposition, if the word of canonical data doesn't determine it.
 ghost use Rattle.std.specs.Prelude.{◌≡◌, true, false, [], ◌∷◌, List, Some, IfOk};
-ghost use Rattle.normalizer_packing.specs.Entries.{class_in, entry_of};
+ghost use Rattle.normalizer_tables.specs.Entries.{class_in, entry_of};
 ghost use Rattle.normalizer_tables.specs.Pairs.{Pair};
 ghost use Rattle.normalizer_packing.specs.Stored.{first_come, is_among, place_of};
 ghost use Rattle.normalizer_packing.specs.inner.Stores.{Holds};
@@ -9,11 +9,11 @@ ghost use Rattle.normalizer_packing.specs.inner.Stretches.{ListsTold};
 ghost use Rattle.normalizer_packing.specs.Steps.{stored_step, stored_steps, word_of_place, word_of_step, PacksSteps};
 
 use crate::entries::Entries;
-use crate::entry::{Entry, Mapping};
 use crate::ranges::{Words, table_of};
 use crate::spelling::{Spelling, spell};
 use crate::stored::Store;
 use normalizer_tables::NonRecursiveDecompositionSupplement;
+use normalizer_tables::entry::{Entry, Mapping};
 use normalizer_tables::word::is_class_form;
 use std::alloc::{AllocError, Global};
 

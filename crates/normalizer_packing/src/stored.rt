@@ -2,14 +2,14 @@
 ghost use Rattle.std.specs.Prelude.{◌≡◌, ◌++◌, nat_le, [], ◌∷◌, true, OnOk, IfOk, length, option_copied};
 ghost use Rattle.std.specs.List.{list_all};
 ghost use Rattle.normalizer_tables.specs.Conditions.{item_count};
-ghost use Rattle.normalizer_packing.specs.Entries.{class_in};
+ghost use Rattle.normalizer_tables.specs.Entries.{class_in};
 ghost use Rattle.normalizer_packing.specs.Stored.{is_narrow, item_at, listed_in, listed_of};
 ghost use Rattle.normalizer_packing.specs.inner.Stores.{place_in, tables_in, Holds, HoldsLists, HoldsMore, StandsAt};
 
 use crate::entries::Entries;
-use crate::entry::{Entry, Kind};
 use crate::spelling::{Spelling, spell};
 use normalizer_tables::DecompositionTables;
+use normalizer_tables::entry::{Entry, Kind};
 use std::alloc::{AllocError, Global};
 use std::collections::BTreeMap;
 

@@ -5,9 +5,9 @@ ghost use Rattle.normalizer_packing.specs.Stored.{needed_items};
 ghost use Rattle.normalizer_packing.specs.inner.Stores.{tables_in, AreStored};
 
 use crate::entries::Entries;
-use crate::entry::Kind;
 use crate::stored::{Store, put_lists};
 use normalizer_tables::condition::ITEM_LIMIT;
+use normalizer_tables::entry::Kind;
 use std::alloc::{AllocError, Global};
 use thiserror::Error;
 

@@ -3,7 +3,7 @@ ghost use Rattle.std.specs.Prelude.{◌≡◌, IfOk, map};
 ghost use Rattle.normalizer_packing.specs.inner.Stretches.{ListsTold, told_numbers};
 
 use crate::entries::characters_of;
-use crate::entry::Entry;
+use normalizer_tables::entry::Entry;
 use std::alloc::{AllocError, Global};
 
 /// The characters at which words may change whatever the entries say: the first composing vowel and trailing consonant

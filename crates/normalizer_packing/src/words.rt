@@ -6,13 +6,13 @@ ghost use Rattle.normalizer_packing.specs.Packing.{IsPackedWord};
 ghost use Rattle.normalizer_packing.specs.Stored.{is_among, item_of, listed_in};
 
 use crate::entries::Entries;
-use crate::entry::Kind;
 use crate::flags::flagged;
 use crate::pointing::pointing_word;
 use crate::ranges::Words;
 use crate::spelling::{Spelling, spell};
 use crate::stores::Stores;
 use normalizer_tables::CanonicalCompositions;
+use normalizer_tables::entry::Kind;
 use normalizer_tables::word::SURROGATE_WORD;
 
 /// What the words of one kind of data are made of.
@@ -42,7 +42,7 @@ impl Words for PackedWords<'_, '_> {
 }
 
 impl PackedWords<'_, '_> {
-    #[tactic(auto, using(crate::proofs::WordLemmas::packed_words), unfolding(crate::specs::Entries::kept_list))]
+    #[tactic(auto, using(crate::proofs::WordLemmas::packed_words), unfolding(normalizer_tables::specs::Entries::kept_list))]
     fn word_of_character(&self, character: char) -> u32
         requires { CanPoint self.now.entries.now self.now.stores.now }
         ensures { IsPackedWord self.now.kind self.now.entries.now self.now.compositions.now character result }

@@ -2,9 +2,9 @@
 use Rattle.std.specs.Prelude.{◌≡◌, ℕ, List, [], ◌∷◌, ◌++◌, map, All, Contains, Option, Some, None}
 use Rattle.std.specs.List.Sorted.{IsPermutation, IsStrictlyIncreasing}
 use Rattle.normalizer_tables.specs.Pairs.{Pair, AreRising as ArePairsRising}
-use Rattle.normalizer_packing.specs.declared.entry.Mapping.{Mapping}
-use Rattle.normalizer_packing.specs.declared.entry.Mapping.TheVariants.{One, Two}
-use Rattle.normalizer_packing.specs.Entries.{CharacterEntry}
+use Rattle.normalizer_tables.specs.declared.entry.Mapping.{Mapping}
+use Rattle.normalizer_tables.specs.declared.entry.Mapping.TheVariants.{One, Two}
+use Rattle.normalizer_tables.specs.Entries.{CharacterEntry}
 use Rattle.normalizer_records.specs.Entry.{Entry, MapperEntry}
 use Rattle.normalizer_records.specs.Faults.{IsFirstRefusal}
 use Rattle.normalizer_records.specs.Meaning.{class_of, canonical_list, canonical_mapping_of, compatibility_list}

@@ -24,7 +24,7 @@ use crate::lists::{cut_list, cut_mapper_list};
 use crate::lookup::{canonical_mapping_of, class_of};
 use crate::records::{Mappings, Record, Uts46Record};
 use crate::step::step_to;
-use normalizer_packing::entry::Entry;
+use normalizer_tables::entry::Entry;
 use normalizer_tables::members::Members;
 use normalizer_tables::special::fixed_list_of;
 use std::alloc::{AllocError, Global};

@@ -28,7 +28,7 @@ use crate::lookup::uts46_record_of;
 use crate::pair_list::{are_rising as are_rising_pairs, pairs};
 use crate::records::{Record, Uts46Record, Uts46Status};
 use crate::refusal::Refusal;
-use normalizer_packing::entry::Entry;
+use normalizer_tables::entry::Entry;
 use std::alloc::{AllocError, Global};
 use std::collections::BTreeSet;
 

@@ -2,7 +2,7 @@
 ghost use Rattle.std.specs.Prelude.{◌≡◌};
 ghost use Rattle.normalizer_records.specs.Recorded.{step_to};
 
-use normalizer_packing::entry::Mapping;
+use normalizer_tables::entry::Mapping;
 
 /// Returns one step of a mapping to one or two characters.
 pub fn step_to(mapping: &[char]) -> Option<Mapping>

@@ -3,6 +3,7 @@ pub mod CharacterConditions
 pub mod Characters
 pub mod Conditions
 pub mod Data
+pub mod Entries
 pub mod Hangul
 pub mod HangulComposition
 pub mod Held

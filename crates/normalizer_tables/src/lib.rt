@@ -5,6 +5,7 @@ mod blocks;
 pub mod characters;
 pub mod check;
 pub mod condition;
+pub mod entry;
 mod hangul;
 pub mod laws;
 pub mod loaded;

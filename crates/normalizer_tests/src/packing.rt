@@ -1,6 +1,6 @@
 //! Which entries can be packed.
 use normalizer_packing::are_packable;
-use normalizer_packing::entry::Entry;
+use normalizer_tables::entry::Entry;
 use std::alloc::Global;
 
 /// An entry of a character without a mapping, that has one list in all kinds of data.

@@ -1,6 +1,6 @@
 //! Normalizing text with data built from plain records.
 ghost use Rattle.std.specs.Prelude.{◌≡◌, IfOk, IsOkUnless, MatchResult};
-ghost use Rattle.normalizer_packing.specs.declared.entry.Kind.TheVariants.{Canonical};
+ghost use Rattle.normalizer_tables.specs.declared.entry.Kind.TheVariants.{Canonical};
 ghost use Rattle.normalizer_packing.specs.ReadBack.{characters_of};
 ghost use Rattle.normalizer_text.specs.Utf8.{decoded_utf8};
 ghost use Rattle.normalizer_properties.specs.Properties as properties;

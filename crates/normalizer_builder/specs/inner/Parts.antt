@@ -3,7 +3,7 @@ use Rattle.std.specs.Prelude.{◌<◌, List, All, IfSome}
 use Rattle.std.specs.Char.{IsScalar}
 use Rattle.normal_forms.specs.Reading.{IsText}
 use Rattle.normalizer_packing.specs.declared.Packed.{Packed}
-use Rattle.normalizer_packing.specs.Entries.{CharacterEntry}
+use Rattle.normalizer_tables.specs.Entries.{CharacterEntry}
 use Rattle.normalizer_records.specs.Entry.{Entry, MapperEntry}
 use Rattle.normalizer_builder.specs.Building.{PacksRecords}
 

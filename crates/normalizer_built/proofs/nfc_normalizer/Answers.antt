@@ -1,6 +1,6 @@
 use Rattle.normalizer_tables.specs.declared.provider.DataMarkerInfo.TheVariants.{NormalizerNfdDataV1}
 use Rattle.normalizer_calls.specs.ComposingAcceptance.{RefusesToCompose}
-use Rattle.normalizer_packing.specs.declared.entry.Kind.TheVariants.{Canonical}
+use Rattle.normalizer_tables.specs.declared.entry.Kind.TheVariants.{Canonical}
 use Rattle.normalizer_packing.specs.ReadBack.{characters_of}
 use Rattle.normalizer_built.proofs.AcceptedData.{memory_alone}
 use Rattle.normalizer_built.proofs.nfc_normalizer.Goals as goal

@@ -1,9 +1,9 @@
 -- Data of all kinds.
 use Rattle.std.specs.Prelude.{List}
 use Rattle.normalizer_tables.specs.Pairs.{Pair}
-use Rattle.normalizer_packing.specs.declared.entry.Kind.TheVariants.{Canonical, Compatibility, Mapper}
+use Rattle.normalizer_tables.specs.declared.entry.Kind.TheVariants.{Canonical, Compatibility, Mapper}
 use Rattle.normalizer_packing.specs.declared.packing.Kinds.{Kinds}
-use Rattle.normalizer_packing.specs.Entries.{CharacterEntry}
+use Rattle.normalizer_tables.specs.Entries.{CharacterEntry}
 use Rattle.normalizer_packing.specs.Packing.{PacksKind}
 
 -- each packs the entries with the pairs

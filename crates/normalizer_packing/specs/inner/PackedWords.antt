@@ -2,7 +2,7 @@
 use Rattle.std.specs.Prelude.{◌≤◌, List}
 use Rattle.normalizer_tables.specs.Conditions.{item_limit}
 use Rattle.normalizer_packing.specs.declared.stores.Stores.{Stores}
-use Rattle.normalizer_packing.specs.Entries.{CharacterEntry}
+use Rattle.normalizer_tables.specs.Entries.{CharacterEntry}
 use Rattle.normalizer_packing.specs.Packing.{ArePackable}
 use Rattle.normalizer_packing.specs.Stored.{needed_items}
 use Rattle.normalizer_packing.specs.inner.Stores.{AreStored}

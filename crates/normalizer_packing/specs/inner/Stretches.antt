@@ -3,7 +3,7 @@ use Rattle.std.specs.Prelude.{ℕ, ◌+◌, ◌<◌, ◌≤◌, List, [], ◌∷
 use Rattle.std.specs.List.Sorted.{IsStrictlyIncreasing}
 use Rattle.normalizer_tables.specs.Pairs.{Pair}
 use Rattle.normalizer_tables.specs.Ranges.{IsRangeList, WordRange, word_in}
-use Rattle.normalizer_packing.specs.Entries.{CharacterEntry}
+use Rattle.normalizer_tables.specs.Entries.{CharacterEntry}
 
 -- ranges before `end`, one after another, with the word of each number there
 pub record CoverUpTo (is_word : ℕ → ℕ → Type 0) (rs : List WordRange) (end : ℕ) : Type 0 where

@@ -1,5 +1,5 @@
 use Rattle.std.proofs.Common.{ℕ, ◌<◌, length, get_or}
-use Rattle.normalizer_packing.specs.Entries.{CharacterEntry}
+use Rattle.normalizer_tables.specs.Entries.{CharacterEntry}
 use Rattle.normalizer_builder.specs.inner.Parts.{IsOfCharacters}
 use Rattle.normalizer_builder.proofs.scalars.are_of_characters.Given as goal
 

@@ -1,6 +1,6 @@
 use Rattle.std.proofs.Common.{◌≡◌, [], ◌∷◌, drop}
 use Rattle.normal_forms.specs.Composition.{compose, compose_from}
-use Rattle.normalizer_packing.specs.Entries.{reading_of_entries}
+use Rattle.normalizer_tables.specs.Entries.{reading_of_entries}
 use Rattle.normalizer_packing.proofs.flags.composes_to.Given as goal
 
 -- the rest composes after the composite as the whole list does

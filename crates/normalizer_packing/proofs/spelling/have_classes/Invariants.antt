@@ -1,5 +1,5 @@
 use Rattle.std.proofs.Common.{◌≡◌, drop}
-use Rattle.normalizer_packing.specs.Entries.{class_in}
+use Rattle.normalizer_tables.specs.Entries.{class_in}
 use Rattle.normalizer_packing.specs.Spelling.{have_classes}
 use Rattle.normalizer_packing.proofs.spelling.have_classes.Given as goal
 

@@ -1,6 +1,6 @@
 use Rattle.normalizer_tables.specs.declared.provider.DataMarkerInfo.TheVariants.{NormalizerNfdDataV1}
 use Rattle.normalizer_properties.specs.StepData.{RefusesSteps}
-use Rattle.normalizer_packing.specs.declared.entry.Kind.TheVariants.{Canonical}
+use Rattle.normalizer_tables.specs.declared.entry.Kind.TheVariants.{Canonical}
 use Rattle.normalizer_packing.specs.ReadBack.{characters_of}
 use Rattle.normalizer_built.proofs.AcceptedData.{IsOkUnless-memory}
 use Rattle.normalizer_uses.proofs.by_records.built_decomposition.Goals as goal

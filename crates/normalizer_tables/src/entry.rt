@@ -1,6 +1,6 @@
 //! What is packed.
 ghost use Rattle.std.specs.Prelude.{◌≡◌, option_copied};
-ghost use Rattle.normalizer_packing.specs.Entries.{own_list};
+ghost use Rattle.normalizer_tables.specs.Entries.{own_list};
 
 use std::marker::Model;
 
@@ -44,7 +44,7 @@ pub struct Entry {
 
 impl Model for Entry {
     ghost use Rattle.std.specs.Option.{option_map};
-    ghost use Rattle.normalizer_packing.specs.Entries.{CharacterEntry};
+    ghost use Rattle.normalizer_tables.specs.Entries.{CharacterEntry};
 
     ghost Value = { CharacterEntry };
 

@@ -1,9 +1,9 @@
 -- What is packed: for each character its lists in the three kinds of data, its class, and its mapping.
 use Rattle.std.specs.Prelude.{ℕ, ◌<◌, ◌==◌, List, [], ◌∷◌, AllPairs, find, Option, Some, None, unwrap_or}
 use Rattle.normal_forms.specs.Reading.{Reading}
-use Rattle.normalizer_packing.specs.declared.entry.Kind.{Kind}
-use Rattle.normalizer_packing.specs.declared.entry.Kind.TheVariants.{Canonical, Compatibility, Mapper}
-use Rattle.normalizer_packing.specs.declared.entry.Mapping.{Mapping}
+use Rattle.normalizer_tables.specs.declared.entry.Kind.{Kind}
+use Rattle.normalizer_tables.specs.declared.entry.Kind.TheVariants.{Canonical, Compatibility, Mapper}
+use Rattle.normalizer_tables.specs.declared.entry.Mapping.{Mapping}
 use Rattle.normalizer_tables.specs.Pairs.{Pair, pair_of}
 
 -- a character, its class, its full decompositions, and its recorded canonical mapping. The mapper ignores a character
