@@ -5,7 +5,6 @@ pub mod Checks
 pub mod ComposingAcceptance
 pub mod ComposingNormalizers
 pub mod Forms
-pub mod Iterating
 pub mod Mappers
 pub mod Normalizers
 pub mod Owned

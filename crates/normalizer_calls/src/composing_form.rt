@@ -5,7 +5,7 @@ ghost use Rattle.normal_forms.specs.Forms.{nfc};
 ghost use Rattle.normalizer_tables.specs.Ignored.{ignored_list};
 ghost use Rattle.normalizer_tables.specs.PairConditions.{HasOrderedLists};
 ghost use Rattle.normalizer_tables.specs.declared.characters.IgnoredCharacters.TheVariants.{Dropped};
-ghost use Rattle.normalizer_calls.specs.Iterating.{YieldsFormBy};
+ghost use Rattle.normalizer_iterators.specs.Iterating.{YieldsFormBy};
 ghost use Rattle.normalizer_calls.specs.Serving.{ServesComposing};
 
 use crate::borrowed::NormalizerBorrowed;

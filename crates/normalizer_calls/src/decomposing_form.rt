@@ -3,7 +3,7 @@ ghost use Rattle.std.specs.Prelude.{IfOk, []};
 ghost use Rattle.std.specs.Iterator.{IsFinite};
 ghost use Rattle.normal_forms.specs.Forms.{nfd};
 ghost use Rattle.normalizer_tables.specs.declared.characters.IgnoredCharacters.TheVariants.{Dropped};
-ghost use Rattle.normalizer_calls.specs.Iterating.{YieldsFormBy};
+ghost use Rattle.normalizer_iterators.specs.Iterating.{YieldsFormBy};
 ghost use Rattle.normalizer_calls.specs.Serving.{ServesDecomposing};
 
 use crate::borrowed::NormalizerBorrowed;

@@ -7,7 +7,7 @@ ghost use Rattle.normalizer_tables.specs.Held.{AnswersHeld};
 ghost use Rattle.normalizer_tables.specs.Owned.{characters_owned};
 ghost use Rattle.normalizer_calls.specs.Acceptance.{bounds_of};
 ghost use Rattle.normalizer_calls.specs.ComposingAcceptance.{RefusesToCompose, SuitsComposing};
-ghost use Rattle.normalizer_calls.specs.Iterating.{YieldsFormBy};
+ghost use Rattle.normalizer_iterators.specs.Iterating.{YieldsFormBy};
 ghost use Rattle.normalizer_calls.specs.Uts46.{uts46_data, ServesMapper};
 
 use normalizer_iterators::composition::composed;

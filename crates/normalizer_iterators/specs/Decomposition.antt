@@ -3,15 +3,13 @@ use Rattle.std.specs.Prelude.{◌≡◌, ℕ, ◌+◌, ◌*◌, ◌<◌, List, [
 use Rattle.std.specs.Iterator.{Count, size}
 use Rattle.normal_forms.specs.Reading.{Reading}
 use Rattle.normal_forms.specs.Forms.{nfd}
-use Rattle.normalizer_tables.specs.declared.characters.IgnoredCharacters.{IgnoredCharacters}
-use Rattle.normalizer_tables.specs.Characters.{Characters, has_class_form}
+use Rattle.normalizer_tables.specs.Characters.{has_class_form}
 use Rattle.normalizer_tables.specs.Readings.{reading_by}
 use Rattle.normalizer_text.specs.Steps.{Spells}
 use Rattle.normalizer_iterators.specs.declared.decomposition.Decomposition.{Decomposition}
 use Rattle.normalizer_iterators.specs.declared.error.NormalizeError.{NormalizeError}
 use Rattle.normalizer_iterators.specs.declared.waiting.Classed.{Classed}
 use Rattle.normalizer_iterators.specs.Delegate.{Extent, IsReadyBehind, MayGive, Source}
-use Rattle.normalizer_iterators.specs.Items.{YieldsForm}
 use Rattle.normalizer_iterators.specs.LazyReading.{longest_list}
 use Rattle.normalizer_iterators.specs.NextItem.{CameFirst, YieldsNext}
 use Rattle.normalizer_iterators.specs.Reads.{character_of}
@@ -61,10 +59,3 @@ module _ {I : Type 0} where
     pub ready : CanDecompose from.can_next from.remaining s → CanDecompose from.can_next from.remaining t
     pub kept : (t.characters ≡ s.characters) × (t.ignored ≡ s.ignored)
     pub fewer : OnSome r (items_left from.remaining t < items_left from.remaining s)
-
-  -- an iterator that was made over a source yields the NFD by these data of what the source yields
-  abbrev pub YieldsNfd : {S : Type 0} → (I → Option ℕ → I → Type 0)
-      → (S → Option (Result ℕ NormalizeError) → S → Type 0) → Characters → IgnoredCharacters → I
-      → Result S NormalizeError → Type 0
-  YieldsNfd source_gives gives s ignored =
-      YieldsForm source_gives gives (has_class_form s) (reading_by s ignored []) nfd

@@ -3,6 +3,7 @@ pub mod Composition
 pub mod Decomposition
 pub mod Delegate
 pub mod Items
+pub mod Iterating
 pub mod LazyComposing
 pub mod LazyReading
 pub mod MarkRuns

@@ -11,7 +11,7 @@ ghost use Rattle.normalizer_tables.specs.Readings.{reading_by};
 ghost use Rattle.normalizer_tables.specs.declared.characters.IgnoredCharacters.TheVariants.{Dropped};
 ghost use Rattle.normalizer_text.specs.Steps.{Spells};
 ghost use Rattle.normalizer_iterators.specs.Delegate.{HasRead, IsReadyBehind, MayGive};
-ghost use Rattle.normalizer_iterators.specs.Items.{YieldsForm};
+ghost use Rattle.normalizer_iterators.specs.Iterating.{YieldsFormBy};
 ghost use Rattle.normalizer_iterators.specs.LazyReading.{SuitsLazyReading};
 ghost use Rattle.normalizer_iterators.specs.NextItem.{IsFormOfSource};
 ghost use Rattle.normalizer_iterators.specs.WaitingList.{AgreesWith, ordered, unordered};
@@ -56,7 +56,6 @@ impl<'data, I: Iterator<Item = char> + Drop> Decomposition<'data, I> {
       IsEnded,
       StaysShort,
       WillGive,
-      YieldsNfd,
       item_of,
       items_left,
     };
@@ -77,8 +76,8 @@ impl<'data, I: Iterator<Item = char> + Drop> Decomposition<'data, I> {
         requires can { I.can_next delegate }
         requires ends { IsFinite (I.remaining delegate) }
         requires sound { IsSoundNfdData decompositions.now tables.now }
-        ensures form { YieldsNfd I.next_gives ⟦<Decomposition<'data, I> as Iterator>⟧.next_gives
-            (characters_from decompositions.now tables.now None) Dropped delegate result }
+        ensures form { YieldsFormBy I.next_gives ⟦<Decomposition<'data, I> as Iterator>⟧.next_gives
+            (characters_from decompositions.now tables.now None) Dropped [] nfd delegate result }
         ensures ready { IfOk result ⟦<Decomposition<'data, I> as Iterator>⟧.can_next }
     {
         let characters = CharacterData::new(decompositions, tables, None, false);
@@ -209,8 +208,8 @@ pub fn decomposed<'data, I: Iterator<Item = char> + Drop>(
     requires can { I.can_next delegate }
     requires ends { IsFinite (I.remaining delegate) }
     requires suits { SuitsLazyReading (has_class_form characters) (reading_by characters ignored []) }
-    ensures form { YieldsForm I.next_gives ⟦<Decomposition<'data, I> as Iterator>⟧.next_gives
-        (has_class_form characters.entry) (reading_by characters.entry ignored []) nfd delegate result }
+    ensures form { YieldsFormBy I.next_gives ⟦<Decomposition<'data, I> as Iterator>⟧.next_gives
+        characters.entry ignored [] nfd delegate result }
     ensures ready { IfOk result ⟦<Decomposition<'data, I> as Iterator>⟧.can_next }
 {
     Decomposition::over(characters, ignored, delegate)

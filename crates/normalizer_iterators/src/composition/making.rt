@@ -5,7 +5,7 @@ ghost use Rattle.normal_forms.specs.Forms.{nfc};
 ghost use Rattle.normalizer_tables.specs.Characters.{has_class_form};
 ghost use Rattle.normalizer_tables.specs.Readings.{reading_by};
 ghost use Rattle.normalizer_iterators.specs.Composition.{data_of_composition, pairs_of_composition};
-ghost use Rattle.normalizer_iterators.specs.Items.{YieldsForm};
+ghost use Rattle.normalizer_iterators.specs.Iterating.{YieldsFormBy};
 ghost use Rattle.normalizer_iterators.specs.LazyComposing.{SuitsLazyComposing};
 ghost use Rattle.normalizer_iterators.specs.LazyReading.{SuitsLazyReading};
 
@@ -31,8 +31,8 @@ pub fn composed<'data, I: Iterator<Item = char> + Drop>(
     requires ends { IsFinite (I.remaining delegate) }
     requires reading { SuitsLazyReading (has_class_form characters) (reading_by characters ignored []) }
     requires composing { SuitsLazyComposing characters bounds pairs.now }
-    ensures form { YieldsForm I.next_gives ⟦<Composition<'data, I> as Iterator>⟧.next_gives
-        (has_class_form characters.entry) (reading_by characters.entry ignored pairs.now) nfc delegate result }
+    ensures form { YieldsFormBy I.next_gives ⟦<Composition<'data, I> as Iterator>⟧.next_gives
+        characters.entry ignored pairs.now nfc delegate result }
     ensures ready { IfOk result ⟦<Composition<'data, I> as Iterator>⟧.can_next }
     ensures kept { IfOk result (λ it.
         (data_of_composition it ≡ characters.entry) × (pairs_of_composition it ≡ pairs.now)) }
