@@ -139,24 +139,31 @@ fn is_too_long(list: &[char]) -> bool
     is_long(list) && !has_members(list, &Members::of_fdfa())
 }
 
-/// Whether the mapper's list has a wrong form.
-fn is_wrong_mapping(records: &[Record], c: char, mapped: &Option<Vec<char>>) -> bool
+/// The faults that one list of a character shows.
+fn list_faults(records: &[Record], c: char, is_mark: bool, list: &[char]) -> ListFaults
     requires { AreRising records.now }
-    ensures { IsTrue result ↔ IsSomeAnd (option_map (λ v. v.items) mapped.now) (IsWrong records.now c false) }
+    ensures class { IsTrue result.class ↔ IsWrong records.now c is_mark list.now }
+    ensures length { IsTrue result.length ↔ IsTooLong list.now }
 {
-    match mapped {
-        Some(list) => is_wrong(records, c, false, list),
-        None => false,
+    ListFaults {
+        class: is_wrong(records, c, is_mark, list),
+        length: is_too_long(list),
     }
 }
 
-/// Whether the mapper's list is too long.
-fn is_too_long_mapping(mapped: &Option<Vec<char>>) -> bool
-    ensures { IsTrue result ↔ IsSomeAnd (option_map (λ v. v.items) mapped.now) IsTooLong }
+/// The same of the mapper's list, if it doesn't ignore the character.
+fn mapped_faults(records: &[Record], c: char, mapped: &Option<Vec<char>>) -> ListFaults
+    requires { AreRising records.now }
+    ensures class { IsTrue result.class ↔
+        IsSomeAnd (option_map (λ v. v.items) mapped.now) (IsWrong records.now c false) }
+    ensures length { IsTrue result.length ↔ IsSomeAnd (option_map (λ v. v.items) mapped.now) IsTooLong }
 {
     match mapped {
-        Some(list) => is_too_long(list),
-        None => false,
+        Some(list) => list_faults(records, c, false, list),
+        None => ListFaults {
+            class: false,
+            length: false,
+        },
     }
 }
 
@@ -178,16 +185,12 @@ pub(crate) fn checked_entry(
     let compatibility = cut_list(alloc, records, Mappings::All, c)?;
     let mapper = cut_mapper_list(alloc, records, uts46, c, &canonical)?;
     let class = class_of(records, c);
-    let is_mark = 0 < class;
-    let wrong_canonical = is_wrong(records, c, is_mark, &canonical);
-    let wrong_compatibility = is_wrong(records, c, is_mark, &compatibility);
-    let wrong_mapping = is_wrong_mapping(records, c, &mapper);
-    let long_canonical = is_too_long(&canonical);
-    let long_compatibility = is_too_long(&compatibility);
-    let long_mapping = is_too_long_mapping(&mapper);
+    let own = list_faults(records, c, 0 < class, &canonical);
+    let other = list_faults(records, c, 0 < class, &compatibility);
+    let mapped = mapped_faults(records, c, &mapper);
     let faults = ListFaults {
-        class: (class == 255) | (wrong_canonical | (wrong_compatibility | wrong_mapping)),
-        length: long_canonical | (long_compatibility | long_mapping),
+        class: (class == 255) | (own.class | (other.class | mapped.class)),
+        length: own.length | (other.length | mapped.length),
     };
     let mapping = step_to(canonical_mapping_of(records, c));
     let entry = Entry {

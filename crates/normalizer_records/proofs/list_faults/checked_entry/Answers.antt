@@ -12,16 +12,16 @@ returns-clause-class c =
     let class = c.class_of-class.ensures in
     let char = c.args.c in
     Decides-or _ _ (subst (λ (n : ℕ). IsTrue (c.class_of-class.result == 255) ↔ (n ≡ 255)) class (Decides-eqb c.class_of-class.result 255))
-    (any_decides _ _ _ (rw (class, c.deref-2.ensures.value) at c.is_wrong-wrong_canonical.ensures) (c.in_ok-canonical.ensures.wrong char _)
-    (rw (class, c.deref-3.ensures.value) at c.is_wrong-wrong_compatibility.ensures) (c.in_ok-compatibility.ensures.wrong char _)
-    c.is_wrong_mapping-wrong_mapping.ensures (MayStandFor-some c.args.records.now (IsWrong c.args.records.now char false) (λ list cut stands. stands.wrong char false) _ _ c.in_ok-mapper.ensures))
+    (any_decides _ _ _ (rw (class, c.deref-2.ensures.value) at c.list_faults-own.ensures.class) (c.in_ok-canonical.ensures.wrong char _)
+    (rw (class, c.deref-3.ensures.value) at c.list_faults-other.ensures.class) (c.in_ok-compatibility.ensures.wrong char _)
+    c.mapped_faults-mapped.ensures.class (MayStandFor-some c.args.records.now (IsWrong c.args.records.now char false) (λ list cut stands. stands.wrong char false) _ _ c.in_ok-mapper.ensures))
 
 pub returns-clause-length : goal.returns-clause-length
 unfolding HasLongList
 returns-clause-length c =
-    any_decides _ _ _ (rw c.deref-4.ensures.value at c.is_too_long-long_canonical.ensures) c.in_ok-canonical.ensures.long
-    (rw c.deref-5.ensures.value at c.is_too_long-long_compatibility.ensures) c.in_ok-compatibility.ensures.long
-    c.is_too_long_mapping-long_mapping.ensures (MayStandFor-some c.args.records.now IsTooLong (λ list cut stands. stands.long) _ _ c.in_ok-mapper.ensures)
+    any_decides _ _ _ (rw c.deref-2.ensures.value at c.list_faults-own.ensures.length) c.in_ok-canonical.ensures.long
+    (rw c.deref-3.ensures.value at c.list_faults-other.ensures.length) c.in_ok-compatibility.ensures.long
+    c.mapped_faults-mapped.ensures.length (MayStandFor-some c.args.records.now IsTooLong (λ list cut stands. stands.long) _ _ c.in_ok-mapper.ensures)
 
 pub cut_mapper_list-requires-clause-canonical : goal.cut_mapper_list-requires-clause-canonical
 cut_mapper_list-requires-clause-canonical c = rw c.deref.ensures.value c.in_ok-canonical.ensures
