@@ -4,7 +4,8 @@ ghost use Rattle.normal_forms.specs.declared.Form.TheVariants.{Composing};
 ghost use Rattle.normalizer_tables.specs.PairConditions.{is_passed};
 ghost use Rattle.normalizer_tables.specs.Readings.{reading_by};
 ghost use Rattle.normalizer_tables.specs.declared.characters.IgnoredCharacters.TheVariants.{Dropped};
-ghost use Rattle.normalizer_calls.specs.inner.Passing.{ComposesTo, IsKeptSegment, IsKeptStarter, IsStableStarter, StaysMark};
+ghost use Rattle.normalizer_calls.specs.inner.Passing.{ComposesTo, IsKeptSegment, IsKeptStarter};
+ghost use Rattle.normalizer_calls.specs.inner.Passing.{IsStableStarter, StaysMark};
 
 use crate::composing_form::ComposingForm;
 use crate::forming::Forming;

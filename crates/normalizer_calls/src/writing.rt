@@ -1,5 +1,6 @@
 //! Writing the characters of an iterator to an output.
-ghost use Rattle.std.specs.Prelude.{ℕ, ◌≡◌, ◌<◌, List, [], ◌∷◌, length, Err, IfErr, IfOk, IfSome, IsErrOf, IsOk, IsOkUnless};
+ghost use Rattle.std.specs.Prelude.{ℕ, ◌≡◌, ◌<◌, ◌∷◌, [], List, length};
+ghost use Rattle.std.specs.Prelude.{Err, IfErr, IfOk, IfSome, IsErrOf, IsOk, IsOkUnless};
 ghost use Rattle.std.specs.Iterator.{IsFinite};
 ghost use Rattle.normalizer_iterators.specs.Items.{SpellsOk, SpellsUnless};
 ghost use Rattle.normalizer_calls.specs.Forms.{form_in, HasShortUnits};

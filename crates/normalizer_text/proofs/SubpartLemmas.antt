@@ -12,7 +12,7 @@ use Rattle.normalizer_text.proofs.MatchLemmas.{allows-true, matched-le, AreWithi
 use Rattle.normalizer_text.proofs.RowLemmas.{Each, find-Each, row_of-IsRow, by_row-whole}
 use Rattle.normalizer_text.proofs.SequenceLemmas.{row-ascii, row-two, row-E0, row-E1, row-ED, row-EE, row-F0, row-F1, row-F4, allows_from, matched-AreWithin}
 use Rattle.normalizer_text.proofs.SequenceLemmas.{HasRow-sequence, first-sequence}
-use Rattle.normalizer_text.specs.inner.Trails.{BeginsWithSequence, LeadsThree}
+use Rattle.normalizer_text.specs.inner.Trails.{BeginsWithSequence, LeadsFour, LeadsThree}
 use Rattle.normalizer_text.proofs.Sequences.{IsSequence}
 use Rattle.normalizer_text.proofs.Utf8Lemmas.{by_cases}
 
@@ -96,6 +96,17 @@ BeginsWithSequence-three (a ∷ b ∷ []) more = absurd (omega arith)
 BeginsWithSequence-three (a ∷ b ∷ c ∷ bs) more = λ leads third.
     let t = allows-true continuation c third in
     (omega arith, sequence_of_bounds (a ∷ b ∷ c ∷ []) (leads.0, leads.1, leads.2, leads.3, leads.4, leads.5, t.0, t.1))
+
+pub BeginsWithSequence-four : (bytes : List ℕ) → 3 < length bytes → LeadsFour (get_or bytes 0 0) (get_or bytes 1 0) → allows continuation (get_or bytes 2 0) ≡ true
+    → allows continuation (get_or bytes 3 0) ≡ true → BeginsWithSequence bytes 4
+BeginsWithSequence-four [] more = absurd (omega arith)
+BeginsWithSequence-four (a ∷ []) more = absurd (omega arith)
+BeginsWithSequence-four (a ∷ b ∷ []) more = absurd (omega arith)
+BeginsWithSequence-four (a ∷ b ∷ c ∷ []) more = absurd (omega arith)
+BeginsWithSequence-four (a ∷ b ∷ c ∷ e ∷ bs) more = λ leads third fourth.
+    let t = allows-true continuation c third in
+    let f = allows-true continuation e fourth in
+    (omega arith, sequence_of_bounds (a ∷ b ∷ c ∷ e ∷ []) (leads.0, leads.1, leads.2, leads.3, leads.4, leads.5, t.0, t.1, f.0, f.1))
 
 -- the step in front of bytes that begin with a sequence
 pub first-begins : (bytes : List ℕ) (n : ℕ) → BeginsWithSequence bytes n → read (scalar_value (take n bytes)) n ≡ first_of_utf8 bytes

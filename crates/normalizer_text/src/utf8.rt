@@ -5,7 +5,7 @@ ghost use Rattle.normalizer_text.specs.Scans.{low_byte};
 ghost use Rattle.normalizer_text.specs.Steps.{IsWellFormed};
 ghost use Rattle.normalizer_text.specs.Utf8.{continuation, allows, row_of, matched, scalar_value, first_of_utf8};
 ghost use Rattle.normalizer_text.specs.MaximalSubparts.{IsWellFormedSequence};
-ghost use Rattle.normalizer_text.specs.inner.Trails.{BeginsWithSequence, LeadsThree};
+ghost use Rattle.normalizer_text.specs.inner.Trails.{BeginsWithSequence, LeadsFour, LeadsThree};
 
 use crate::step::Step;
 
@@ -161,6 +161,23 @@ fn begins_with_three(bytes: &[u8]) -> bool
     is_continuation(bytes[2])
 }
 
+// Whether bytes begin with a sequence of four.
+#[inline(always)]
+fn begins_with_four(bytes: &[u8]) -> bool
+    ensures { IsTrue result → BeginsWithSequence bytes.now 4 }
+{
+    if bytes.len() < 4 {
+        return false;
+    }
+    if !leads_four(bytes[0], bytes[1]) {
+        return false;
+    }
+    if !is_continuation(bytes[2]) {
+        return false;
+    }
+    is_continuation(bytes[3])
+}
+
 // Whether a byte begins a sequence of two.
 #[inline(always)]
 fn leads_two(lead: u8) -> bool
@@ -183,6 +200,19 @@ fn leads_three(lead: u8, second: u8) -> bool
     }
 }
 
+// Whether two bytes begin a sequence of four.
+#[inline(always)]
+fn leads_four(lead: u8, second: u8) -> bool
+    ensures { IsTrue result → LeadsFour lead second }
+{
+    match lead {
+        0xF0 => 0x90 <= second && second <= 0xBF,
+        0xF1..=0xF3 => is_continuation(second),
+        0xF4 => 0x80 <= second && second <= 0x8F,
+        _ => false,
+    }
+}
+
 // The step in front of bytes of which there are some.
 #[inline(always)]
 pub(crate) fn first_step(bytes: &[u8]) -> Step
@@ -194,8 +224,10 @@ pub(crate) fn first_step(bytes: &[u8]) -> Step
         Step::read(char::from(lead), 1)
     } else if lead < 0xE0 {
         first_step_of_two(bytes)
-    } else {
+    } else if lead < 0xF0 {
         first_step_of_three(bytes)
+    } else {
+        first_step_of_four(bytes)
     }
 }
 
@@ -220,6 +252,19 @@ fn first_step_of_three(bytes: &[u8]) -> Step
 {
     if begins_with_three(bytes) {
         Step::read(character_of(&bytes[..3]), 3)
+    } else {
+        first_step_of_more(bytes)
+    }
+}
+
+// Returns the first step, at once if it is a sequence of four.
+#[inline(always)]
+fn first_step_of_four(bytes: &[u8]) -> Step
+    requires { 0 < length bytes.now }
+    ensures { result ≡ first_of_utf8 bytes.now }
+{
+    if begins_with_four(bytes) {
+        Step::read(character_of(&bytes[..4]), 4)
     } else {
         first_step_of_more(bytes)
     }

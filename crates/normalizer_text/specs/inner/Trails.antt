@@ -16,3 +16,8 @@ BeginsWithSequence bytes n = (n ≤ length bytes) × IsWellFormedSequence (take 
 abbrev pub LeadsThree : ℕ → ℕ → Type 0
 LeadsThree a b =
     (0xE0 ≤ a) × (a ≤ 0xEF) × (a ≡ 0xE0 → 0xA0 ≤ b) × (a ≡ 0xED → b ≤ 0x9F) × (0x80 ≤ b) × (b ≤ 0xBF)
+
+-- the two bytes begin a well-formed sequence of four
+abbrev pub LeadsFour : ℕ → ℕ → Type 0
+LeadsFour a b =
+    (0xF0 ≤ a) × (a ≤ 0xF4) × (a ≡ 0xF0 → 0x90 ≤ b) × (a ≡ 0xF4 → b ≤ 0x8F) × (0x80 ≤ b) × (b ≤ 0xBF)

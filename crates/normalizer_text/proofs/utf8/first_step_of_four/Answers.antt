@@ -1,0 +1,11 @@
+use Rattle.std.proofs.Common.{◌∙◌, length-take-le, sym, ap}
+use Rattle.normalizer_text.specs.Steps.{read}
+use Rattle.normalizer_text.proofs.SubpartLemmas.{first-begins}
+use Rattle.normalizer_text.proofs.utf8.first_step_of_four.Goals as goal
+
+pub slice_bounds-character_of-end : goal.slice_bounds-character_of-end
+slice_bounds-character_of-end c = sym (length-take-le _ _ (c.begins_with_four.ensures c.if-begins_with_four.true).0)
+
+pub returns-then-begins_with_four : goal.returns-then-begins_with_four
+returns-then-begins_with_four c =
+    c.read.ensures ∙ ap (λ v. read v 4) c.character_of.ensures ∙ first-begins c.args.bytes.now 4 (c.begins_with_four.ensures c.if-begins_with_four.true)
