@@ -29,6 +29,7 @@ impl Trail {
     ghost use Rattle.normalizer_text.specs.inner.Trails.{places};
 
     // Whether the byte may be at place n.
+    #[inline(always)]
     fn allows(self, n: usize, byte: u8) -> bool
         requires { n < self.length }
         ensures { result ≡ allows (slice_index_or (places self) n continuation) byte }
@@ -41,6 +42,7 @@ impl Trail {
     }
 
     // Returns the number of leading places that have a byte that may be there.
+    #[inline(always)]
     fn matched(self, bytes: &[u8]) -> usize
         ensures { result ≡ matched (places self) bytes.now }
     {
@@ -52,6 +54,7 @@ impl Trail {
     }
 
     // The bytes that may follow this one, if a character may begin with it: the rows of table 3-7.
+    #[inline(always)]
     #[tactic(auto, unfolding(crate::specs::Utf8::row_of))]
     fn of(lead: u8) -> Option<Trail>
         ensures { option_map places result ≡ option_map (λ r. r.trail) (row_of lead) }
@@ -270,7 +273,9 @@ fn first_step_of_four(bytes: &[u8]) -> Step
     }
 }
 
-// Returns the first step if the first byte is no character by itself.
+// Returns the first step if the first byte is no character by itself. It is inlined, though it is long: a step that a
+// call returns goes through memory.
+#[inline(always)]
 fn first_step_of_more(bytes: &[u8]) -> Step
     requires { 0 < length bytes.now }
     ensures { result ≡ first_of_utf8 bytes.now }
