@@ -54,6 +54,7 @@ impl<U: Units> Iterator for Chars<U> {
 
     ghost remaining = { λ units. at_most (length units) };
 
+    #[inline(always)]
     fn next(&mut self) -> Option<char> {
         let step = self.units.first_step()?;
         self.units = self.units.after(step.width);

@@ -77,6 +77,7 @@ pub trait Units: Copy {
     }
 
     // The step in front, if there are units.
+    #[inline(always)]
     final fn first_step(self) -> Option<Step>
         ensures { MatchOption result (units self ≡ []) (IsFirstStep (first_in encoding) (units self)) }
     {
