@@ -14,7 +14,7 @@ use normalizer_tables::compose;
 use normalizer_text::{Step, Units};
 
 /// Returns the end of the segment in front, if it is a starter that composes to itself, and marks after it, each its
-/// own list, in canonical order, of which none composes with the starter.
+/// own list, in canonical order, each blocked from the starter or not composing with it.
 pub(crate) fn kept_segment<U: Units>(form: &ComposingForm<'_>, units: U) -> Option<usize>
     requires { 0 < length (U.units units) }
     ensures { let f = form.now in IfSome result (IsKeptSegment (is_passed f.characters f.bounds) U.encoding
@@ -22,13 +22,15 @@ pub(crate) fn kept_segment<U: Units>(form: &ComposingForm<'_>, units: U) -> Opti
 {
     let first = units.step_at(0);
     let mut last = class_of_starter(form, first)?;
+    let mut blocked = 0;
     let mut end = first.width;
     while end < units.len() {
         let step = units.step_at(end);
         if form.begins(step.character) {
             return Some(end);
         }
-        last = class_that_stays(form, first.character, last, step)?;
+        last = class_that_stays(form, first.character, last, blocked, step)?;
+        blocked = last;
         end += step.width;
     }
     Some(end)
@@ -84,18 +86,28 @@ fn class_of_last_member(form: &ComposingForm<'_>, character: char) -> Option<u8>
     Some(form.characters.class_of(members.at(count - 1)))
 }
 
-/// Returns the class of a mark, if it stays after a starter and marks of classes up to `last`.
+/// Returns the class of a mark, if it stays after a starter and characters of classes up to `last`. Marks of classes up
+/// to `blocked` are blocked from the starter.
 #[inline(always)]
-fn class_that_stays(form: &ComposingForm<'_>, starter: char, last: u8, step: Step) -> Option<u8>
+fn class_that_stays(
+    form: &ComposingForm<'_>,
+    starter: char,
+    last: u8,
+    blocked: u8,
+    step: Step,
+) -> Option<u8>
     ensures { IfSome result
-        (StaysMark (reading_by form.now.characters Dropped form.now.pairs.now) starter last step) }
+        (StaysMark (reading_by form.now.characters Dropped form.now.pairs.now) starter last blocked step) }
 {
     if step.is_error {
         return None;
     }
     let word = form.characters.word_of(step.character);
     let class = form.characters.class_of_itself(step.character, word)?;
-    if class == 0 || class < last || compose(form.pairs, starter, step.character).is_some() {
+    if class == 0 || class < last {
+        return None;
+    }
+    if class > blocked && compose(form.pairs, starter, step.character).is_some() {
         return None;
     }
     Some(class)

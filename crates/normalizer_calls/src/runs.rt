@@ -1,5 +1,6 @@
 //! The ends of runs of characters that are passed on as they are, and of the segments between them.
-ghost use Rattle.std.specs.Prelude.{◌≡◌, ◌<◌, ◌≤◌, length, take};
+ghost use Rattle.std.specs.Prelude.{◌≡◌, ◌<◌, ◌≤◌, drop, length, take, IfSome};
+ghost use Rattle.normalizer_text.specs.Encodings.{first_in};
 ghost use Rattle.normalizer_input.specs.InputCut.{IsInputNormalized};
 ghost use Rattle.normalizer_calls.specs.inner.Passing.{IsKeptTo, IsPassedOn, IsPart, IsRunEnd, IsSegmentEnd};
 ghost use Rattle.normalizer_calls.specs.inner.Passing.{next_class};
@@ -17,10 +18,11 @@ struct Run {
     end: usize,
 }
 
-/// The end of a segment, and whether the character that follows is passed on as it is.
+/// The end of a segment, the step that follows, and whether that is passed on as it is.
 #[derive(Clone, Copy)]
 pub(crate) struct Segment {
     pub(crate) end: usize,
+    pub(crate) next: Option<Step>,
     pub(crate) is_before_run: bool,
 }
 
@@ -67,23 +69,31 @@ fn run_end<U: Units, N: Forming>(normalizer: &N, units: U) -> Run
     Run { marks, end }
 }
 
-/// Returns the segment that begins with the first character: it ends before the next one that is normalized apart.
+/// Returns the segment that begins with the first step: it ends before the next character that is normalized apart.
 #[inline(always)]
-pub(crate) fn front_segment<U: Units, N: Forming>(normalizer: &N, units: U) -> Segment
-    requires { 0 < length (U.units units) }
-    ensures { IsSegmentEnd (N.beginning normalizer.now) U.encoding (U.units units) result.end }
+pub(crate) fn front_segment<U: Units, N: Forming>(normalizer: &N, units: U, first: Step) -> Segment
+    requires some { 0 < length (U.units units) }
+    requires first { first ≡ first_in U.encoding (U.units units) }
+    ensures end { IsSegmentEnd (N.beginning normalizer.now) U.encoding (U.units units) result.end }
+    ensures next { IfSome result.next (λ next. next ≡ first_in U.encoding (drop result.end (U.units units))) }
 {
-    let mut end = units.step_at(0).width;
+    let mut end = first.width;
     while end < units.len() {
         let step = units.step_at(end);
         if normalizer.begins(step.character) {
-            let is_before_run = normalizer.passed_class(step.character).is_some();
-            return Segment { end, is_before_run };
+            return Segment {
+                end,
+                next: Some(step),
+                is_before_run: normalizer.passed_class(step.character).is_some(),
+            };
         }
         end += step.width;
     }
-    let is_before_run = false;
-    Segment { end, is_before_run }
+    Segment {
+        end,
+        next: None,
+        is_before_run: false,
+    }
 }
 
 /// Returns the end of the front of the units that is passed on as it is: of a run, without the last character if it may

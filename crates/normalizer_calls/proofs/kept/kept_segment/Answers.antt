@@ -18,7 +18,7 @@ returns-then-begins g c = record {
     boundary = c.loop-end.invariant.1.boundary;
     next = λ _. ap (λ s. is_passed c.args.form.now.characters c.args.form.now.bounds s.character) (sym c.step_at-step.ensures) ∙ sym c.begins.ensures ∙ c.if-begins.true;
   };
-  own = KeptMarks-own _ _ _ _ _ _ _ c.args.form.now.serves.composing.starters c.args.form.now.serves.laws.laws.2
+  own = KeptMarks-own _ _ _ _ _ _ _ _ c.args.form.now.serves.composing.starters c.args.form.now.serves.laws.laws.2
       (rw c.in_ok-last.was at c.class_of_starter.ensures).stable c.loop-end.invariant.1;
 }
 
@@ -37,12 +37,12 @@ loop-end-smaller g c =
 pub loop-end-preserved : goal.loop-end-preserved
 loop-end-preserved g c = (
   omega (arith, c.loop-end.invariant.0),
-  KeptMarks-more _ _ _ _ _ _ _ _ c.step_at-step.ensures (omega (arith, c.len.ensures)) c.loop-end.invariant.1 (rw c.in_ok-last-2.was at c.class_that_stays.ensures),
+  KeptMarks-more _ _ _ _ _ _ _ _ _ c.step_at-step.ensures (omega (arith, c.len.ensures)) c.loop-end.invariant.1 (rw c.in_ok-last-2.was at c.class_that_stays.ensures),
 )
 
 pub returns : goal.returns
 returns g c = record {
   segment = record { some = c.loop-end.invariant.0; boundary = c.loop-end.invariant.1.boundary; next = λ more. absurd (omega (arith, c.len.ensures)) };
-  own = KeptMarks-own _ _ _ _ _ _ _ c.args.form.now.serves.composing.starters c.args.form.now.serves.laws.laws.2
+  own = KeptMarks-own _ _ _ _ _ _ _ _ c.args.form.now.serves.composing.starters c.args.form.now.serves.laws.laws.2
       (rw c.in_ok-last.was at c.class_of_starter.ensures).stable c.loop-end.invariant.1;
 }
