@@ -69,6 +69,19 @@ fn run_end<U: Units, N: Forming>(normalizer: &N, units: U) -> Run
     Run { marks, end }
 }
 
+/// Returns the first step of the units, which may have been read before.
+#[inline(always)]
+pub(crate) fn first_step<U: Units>(units: U, first: Option<Step>) -> Step
+    requires some { 0 < length (U.units units) }
+    requires first { IfSome first (λ first. first ≡ first_in U.encoding (U.units units)) }
+    ensures { result ≡ first_in U.encoding (U.units units) }
+{
+    match first {
+        Some(first) => first,
+        None => units.step_at(0),
+    }
+}
+
 /// Returns the segment that begins with the first step: it ends before the next character that is normalized apart.
 #[inline(always)]
 pub(crate) fn front_segment<U: Units, N: Forming>(normalizer: &N, units: U, first: Step) -> Segment
@@ -128,12 +141,18 @@ pub(crate) fn kept_end<U: Units, N: Forming>(normalizer: &N, units: U) -> usize
 {
     normalizer.passed_characters_stand_apart();
     let mut end = passed_end(normalizer, units);
+    let mut first = None;
     while end < units.len() {
-        let Some(segment) = normalizer.kept_segment(units.after(end)) else {
+        let rest = units.after(end);
+        let Some(kept) = normalizer.kept_segment(rest, first_step(rest, first)) else {
             return end;
         };
-        end += segment;
-        end += passed_end(normalizer, units.after(end));
+        end += kept.end;
+        first = kept.next;
+        if first.is_none() {
+            end += passed_end(normalizer, units.after(end));
+            first = None;
+        }
     }
     end
 }

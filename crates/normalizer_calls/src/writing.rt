@@ -11,7 +11,7 @@ ghost use Rattle.normalizer_calls.specs.Writing.{TellsLengthFirst};
 ghost use Rattle.normalizer_calls.specs.inner.Writing.{NothingOffered, WritesPart, WritesText, WritesUnits};
 
 use crate::forming::Forming;
-use crate::runs::{Segment, front_segment, kept_end};
+use crate::runs::{Segment, first_step, front_segment, kept_end};
 use normalizer_iterators::{NormalizeError, SegmentBuffers};
 use normalizer_tables::members::Members;
 use normalizer_text::output::Output;
@@ -184,19 +184,6 @@ fn write_front_segment<U: Units, N: Forming, O: Output<U>>(
         output,
     )?;
     Ok(segment)
-}
-
-/// Returns the first step of the units, which may have been read before.
-#[inline(always)]
-fn first_step<U: Units>(units: U, first: Option<Step>) -> Step
-    requires some { 0 < length (U.units units) }
-    requires first { IfSome first (λ first. first ≡ first_in U.encoding (U.units units)) }
-    ensures { result ≡ first_in U.encoding (U.units units) }
-{
-    match first {
-        Some(first) => first,
-        None => units.step_at(0),
-    }
 }
 
 /// Writes the form of what the units decode to: runs, and the segments between them.

@@ -5,9 +5,9 @@ use Rattle.normalizer_calls.proofs.writing.write_parts.Goals as goal
 
 pub loop-position-init : goal.loop-position-init
 loop-position-init g c = (
-    WroteUpTo-first _ _ _ g.O.Output.taken g.O.Output.refused g.O.Output.left g.O.Output.refuses _ _ _ _
-    (rw c.in_ok-position.was at c.write_run.ensures.none) (rw c.in_ok-position.was at c.write_run.ensures.part),
-    tt,
+  WroteUpTo-first _ _ _ g.O.Output.taken g.O.Output.refused g.O.Output.left g.O.Output.refuses _ _ _ _
+      (rw c.in_ok-position.was at c.write_run.ensures.none) (rw c.in_ok-position.was at c.write_run.ensures.part),
+  tt,
 )
 
 pub write_front_segment-requires-clause-first : goal.write_front_segment-requires-clause-first
@@ -81,10 +81,9 @@ overflow_add-position-then-segment g c =
 pub loop-position-preserved-then-segment : goal.loop-position-preserved-then-segment
 loop-position-preserved-then-segment g c =
     let so_far = WroteUpTo-more _ _ _ g.O.Output.taken g.O.Output.refused g.O.Output.left g.O.Output.refuses _ _ _ _ c.loop-position.invariant.0 _ c.after-rest.ensures _ _
-    (rw c.in_ok-segment.was at c.write_front_segment.ensures.part) in
-    (
+    (rw c.in_ok-segment.was at c.write_front_segment.ensures.part) in (
       WroteUpTo-maybe _ _ _ g.O.Output.taken g.O.Output.refused g.O.Output.left g.O.Output.refuses _ _ _ _ so_far _ c.after.ensures _ _
-      (rw c.in_ok-position-2.was at c.write_run-then-segment.ensures.none) (rw c.in_ok-position-2.was at c.write_run-then-segment.ensures.part),
+          (rw c.in_ok-position-2.was at c.write_run-then-segment.ensures.none) (rw c.in_ok-position-2.was at c.write_run-then-segment.ensures.part),
       tt,
     )
 
