@@ -165,6 +165,7 @@ impl<'a> Forming for DecomposingForm<'a> {
         None
     }
 
+    #[inline(always)]
     fn form_of_one(&self, character: char) -> Option<Members<'_>> {
         Some(
             self.characters

@@ -53,6 +53,7 @@ where
 }
 
 /// Writes the members of a list, each after the one before.
+#[inline(always)]
 fn write_members<U: Units, O: Output<U>>(
     members: &Members<'_>,
     output: &mut O,
@@ -61,6 +62,12 @@ fn write_members<U: Units, O: Output<U>>(
         members.now output.old result output.new }
     ensures room { ¬ IsErrOf result NormalizeError.Memory }
 {
+    if let Some(two) = members.as_two() {
+        return write_text::<U, O>(&two, output);
+    }
+    if let Some(three) = members.as_three() {
+        return write_text::<U, O>(&three, output);
+    }
     let mut place = 0;
     while place < members.len() {
         output.write_char(members.at(place))?;
@@ -70,6 +77,7 @@ fn write_members<U: Units, O: Output<U>>(
 }
 
 /// Writes characters, each after the one before.
+#[inline(always)]
 fn write_text<U: Units, O: Output<U>>(text: &[char], output: &mut O) -> Result<(), NormalizeError>
     ensures text { WritesText U.encoding O.taken O.refused O.left O.refuses NothingOffered
         text.now output.old result output.new }

@@ -1,5 +1,5 @@
 //! The list of a character, walked without taking memory.
-ghost use Rattle.std.specs.Prelude.{◌≡◌, ◌↔◌, ◌<◌, ℕ, List, [], ◌∷◌, Some, IsTrue, All, length, slice_get, true};
+ghost use Rattle.std.specs.Prelude.{◌≡◌, ◌↔◌, ◌<◌, ℕ, List, [], ◌∷◌, Some, IfSome, IsTrue, All, length, slice_get, true};
 ghost use lib.Utf8.{scalar};
 ghost use Rattle.std.specs.Char.{IsScalar};
 ghost use Rattle.std.specs.List.{list_all};
@@ -88,6 +88,28 @@ impl<'a> Members<'a> {
         ensures { slice_get self.now place ≡ Some result }
     {
         self.get(place).unwrap()
+    }
+
+    /// Returns the members, if there are two.
+    #[inline(always)]
+    pub fn as_two(&self) -> Option<[char; 2]>
+        ensures { IfSome result (λ two. two ≡ self.now) }
+    {
+        match self.shape {
+            Shape::Two(a, b) => Some([a, b]),
+            _ => None,
+        }
+    }
+
+    /// Returns the members, if they are the three jamo of a Hangul syllable.
+    #[inline(always)]
+    pub fn as_three(&self) -> Option<[char; 3]>
+        ensures { IfSome result (λ three. three ≡ self.now) }
+    {
+        match self.shape {
+            Shape::Three(a, b, c) => Some([a, b, c]),
+            _ => None,
+        }
     }
 
     /// Returns the list of no member.
