@@ -12,15 +12,17 @@ loop-end-init g c = (
 )
 
 pub returns-then-begins-clause-kept : goal.returns-then-begins-clause-kept
-returns-then-begins-clause-kept g c = record {
-  segment = record {
-    some = c.loop-end.invariant.0;
-    boundary = c.loop-end.invariant.1.boundary;
-    next = λ _. ap (λ s. is_passed c.args.form.now.characters c.args.form.now.bounds s.character) (sym c.step_at-step.ensures) ∙ sym c.begins.ensures ∙ c.if-begins.true;
-  };
-  own = KeptMarks-own _ _ _ _ _ _ _ _ c.args.form.now.serves.composing.starters c.args.form.now.serves.laws.laws.2
-      (rw c.in_ok-last.was at c.class_of_starter.ensures).stable c.loop-end.invariant.1;
-}
+returns-then-begins-clause-kept g c =
+    rw c.before-then-begins.ensures.end
+    (record {
+      segment = record {
+        some = c.loop-end.invariant.0;
+        boundary = c.loop-end.invariant.1.boundary;
+        next = λ _. ap (λ s. is_passed c.args.form.now.characters c.args.form.now.bounds s.character) (sym c.step_at-step.ensures) ∙ sym c.begins.ensures ∙ c.if-begins.true;
+      };
+      own = KeptMarks-own _ _ _ _ _ _ _ _ c.args.form.now.serves.composing.starters c.args.form.now.serves.laws.laws.2
+          (rw c.in_ok-last.was at c.class_of_starter.ensures).stable c.loop-end.invariant.1;
+    })
 
 pub overflow_add-end : goal.overflow_add-end
 overflow_add-end g c =
