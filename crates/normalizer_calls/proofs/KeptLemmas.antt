@@ -1,14 +1,16 @@
 -- Fronts of kept parts, and segments that stay as they are.
 use Rattle.std.proofs.Common.{◌≡◌, ℕ, ◌+◌, ◌<◌, ◌≤◌, false, List, [], ◌∷◌, ◌++◌, length, take, drop, map, refl, sym, ap, subst, ◌∙◌}
 use Rattle.std.proofs.Common.{append_assoc, append-nil, arith, length-drop, inl, inr}
-use Rattle.std.specs.Prelude.{All}
+use Rattle.std.specs.Prelude.{All, None, ◌⊎◌}
+use Rattle.std.proofs.lemmas.Bool.{and_right}
+use Rattle.std.proofs.lemmas.Bool.Decides.{nat_tests}
 use Rattle.std.proofs.Math.Nat.{eq-zero-or-pos}
 use Rattle.std.proofs.Math.Seq.{take-add}
 use Rattle.std.proofs.lemmas.List.{drop-drop, map-append}
 use Rattle.std.proofs.lemmas.List.Elements.{All-nil, All-cons, All-append, All-same}
 use Rattle.normal_forms.specs.Reading.{Reading}
 use Rattle.normal_forms.specs.Composition.{compose}
-use Rattle.normal_forms.specs.CompositionByStarters.{compose_after}
+use Rattle.normal_forms.specs.CompositionByStarters.{compose_after, is_above, join}
 use Rattle.normal_forms.specs.Decomposition.{expand}
 use Rattle.normal_forms.specs.declared.Form.{Form}
 use Rattle.normal_forms.specs.declared.Form.TheVariants.{Composing}
@@ -91,7 +93,27 @@ module _ (e : Encoding) (d : Reading) (form : Form) (units : List ℕ) where
 
 -- ---- a starter and marks that stay after it
 
-pub record KeptMarks (d : Reading) (e : Encoding) (units : List ℕ) (first end last : ℕ) : Type 0 where
+is_above-blocked : (d : Reading) (y : List ℕ) (m c : ℕ) → d.class c ≤ d.class m → is_above d (y ++ m ∷ []) c ≡ false
+unfolding is_above
+is_above-blocked d [] m c low = grind (arith, nat_tests)
+is_above-blocked d (n ∷ y) m c low = and_right _ _ (is_above-blocked d y m c low)
+
+join-blocked : (d : Reading) (a : ℕ) (y : List ℕ) (m c : ℕ) → d.class c ≤ d.class m → join d a (y ++ m ∷ []) c ≡ None
+unfolding join
+join-blocked d a y m c low = rw (is_above-blocked d y m c low)
+
+-- the last mark, if there is one, blocks marks of classes up to its own
+abbrev pub Blocks : Reading → List ℕ → ℕ → Type 0
+Blocks d marks blocked = 0 < blocked → (y : List ℕ) × (m : ℕ) × (marks ≡ y ++ m ∷ []) × (d.class m ≡ blocked)
+
+join-after_mark : (d : Reading) (a : ℕ) (marks : List ℕ) (c blocked : ℕ) → 0 < d.class c → Blocks d marks blocked
+    → (d.class c ≤ blocked) ⊎ (d.pair a c ≡ None) → join d a marks c ≡ None
+join-after_mark d a marks c blocked mark blocks (inl low) =
+    let last = blocks (omega arith) in
+    ap (λ l. join d a l c) last.2 ∙ join-blocked d a last.0 last.1 c (omega (arith, last.3))
+join-after_mark d a marks c blocked mark blocks (inr alone) = join-none d a marks c alone
+
+pub record KeptMarks (d : Reading) (e : Encoding) (units : List ℕ) (first end last blocked : ℕ) : Type 0 where
   pub boundary : IsBoundary (first_in e) units end
   pub right : All (λ s. s.is_error ≡ false) boundary.before
   pub marks : List ℕ
@@ -99,11 +121,12 @@ pub record KeptMarks (d : Reading) (e : Encoding) (units : List ℕ) (first end 
   pub own : expand d marks ≡ marks
   pub fit : NeighboursFit d (d.list first ++ marks)
   pub ends : EndsWith d (d.list first ++ marks) last
+  pub blocks : Blocks d marks blocked
   pub composed : (rest : List ℕ) → compose_after d first [] (marks ++ rest) ≡ compose_after d first marks rest
 
 module _ (d : Reading) (e : Encoding) (units : List ℕ) where
   pub KeptMarks-first : HasStarterResults d → HasFaithfulResults d → (s : Step) → s ≡ first_in e (drop 0 units) → 0 < length units → (last : ℕ) → IsKeptStarter d s last
-      → KeptMarks d e units s.character s.width last
+      → KeptMarks d e units s.character s.width last 0
   unfolding expand
   KeptMarks-first results faithful s is some last first =
       let list = d.list s.character in
@@ -119,14 +142,15 @@ module _ (d : Reading) (e : Encoding) (units : List ℕ) where
         text = refl;
         own = refl;
         fit = subst (NeighboursFit d) (sym (append-nil list)) (NeighboursFit-ordered d list (stable-ordered d results faithful s.character last first.stable));
+        blocks = λ some. absurd (omega arith);
         ends = inr (first.stable.front, first.stable.end, append-nil list ∙ first.stable.list, first.stable.class);
         composed = λ rest. refl;
       }
 
-  pub KeptMarks-more : (first end last k : ℕ) (s : Step) → s ≡ first_in e (drop end units) → end < length units → KeptMarks d e units first end last → StaysMark d first last s k
-      → KeptMarks d e units first (end + s.width) k
+  pub KeptMarks-more : (first end last blocked k : ℕ) (s : Step) → s ≡ first_in e (drop end units) → end < length units → KeptMarks d e units first end last blocked
+      → StaysMark d first last blocked s k → KeptMarks d e units first (end + s.width) k k
   unfolding expand
-  KeptMarks-more first end last k s is more so_far stays =
+  KeptMarks-more first end last blocked k s is more so_far stays =
       let b = so_far.boundary in
       let rest = drop end units in
       let some : 0 < length rest = omega (arith, length-drop end units) in
@@ -135,6 +159,7 @@ module _ (d : Reading) (e : Encoding) (units : List ℕ) where
       let x = list ++ so_far.marks in
       let class = stays.class in
       let ordered = stays.ordered in
+      let mark : 0 < d.class c = (let some = stays.mark in omega (arith, class)) in
       record {
         boundary = record {
           before = b.before ++ s ∷ [];
@@ -151,16 +176,19 @@ module _ (d : Reading) (e : Encoding) (units : List ℕ) where
         own = expand-append d so_far.marks (c ∷ []) ∙ ap (λ l. l ++ expand d (c ∷ [])) so_far.own ∙ ap (λ l. so_far.marks ++ (l ++ [])) stays.itself;
         fit = subst (NeighboursFit d) (append_assoc list so_far.marks (c ∷ [])) (fit-more d x last c so_far.fit so_far.ends (λ mark falls. omega (arith, class)));
         ends = inr (x, c, sym (append_assoc list so_far.marks (c ∷ [])), stays.class);
+        blocks = λ some. (so_far.marks, c, refl, stays.class);
         composed = λ after.
             ap (compose_after d first []) (append_assoc so_far.marks (c ∷ []) after)
             ∙ so_far.composed (c ∷ after)
-            ∙ compose_after-mark d first so_far.marks c after (join-none d first so_far.marks c stays.alone) (let mark = stays.mark in omega (arith, class));
+            ∙ compose_after-mark d first so_far.marks c after
+            (join-after_mark d first so_far.marks c blocked mark so_far.blocks (subst (λ n. (n ≤ blocked) ⊎ (d.pair first c ≡ None)) (sym class) stays.alone)) mark;
       }
 
   -- they are normalized
-  pub KeptMarks-own : (first end last k : ℕ) → HasStarterResults d → HasFaithfulResults d → IsStableStarter d first k → KeptMarks d e units first end last → IsInputNormalized e d Composing (take end units)
+  pub KeptMarks-own : (first end last blocked k : ℕ) → HasStarterResults d → HasFaithfulResults d → IsStableStarter d first k → KeptMarks d e units first end last blocked
+      → IsInputNormalized e d Composing (take end units)
   unfolding normal_form nfc nfd expand
-  KeptMarks-own first end last l results faithful stable k =
+  KeptMarks-own first end last blocked l results faithful stable k =
       let same : steps (first_in e) (take end units) ≡ k.boundary.before = (steps-parts (first_in e) (IsDecoding-first e) units end k.boundary).0 in
       let x = d.list first ++ k.marks in
       let text : decoded_in e (take end units) ≡ first ∷ k.marks = ap (map (λ s. s.character)) same ∙ k.text in

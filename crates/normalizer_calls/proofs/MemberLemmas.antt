@@ -1,12 +1,14 @@
 -- Writing the members of a list, as if from an iterator.
-use Rattle.std.proofs.Common.{◌≡◌, ℕ, zero, suc, ◌+◌, ◌-◌, ◌<◌, ◌≤◌, List, [], ◌∷◌, length, length-drop, drop, Option, Some, None, Result, Ok, arith, refl, ap, sym, subst, ◌∙◌}
-use Rattle.std.specs.Prelude.{All, slice_get}
-use Rattle.std.proofs.lemmas.List.{drop_all}
+use Rattle.std.proofs.Common.{◌≡◌, ℕ, zero, suc, ◌+◌, ◌-◌, ◌<◌, ◌≤◌, List, [], ◌∷◌, ◌++◌, length, length-drop, length-take, drop, take, Option, Some, None, Result, Ok, arith, refl, ap, sym, subst, ◌∙◌}
+use Rattle.std.specs.Prelude.{All, IfSome, slice_get}
+use Rattle.std.proofs.lemmas.List.{drop_all, drop-drop}
 use Rattle.std.proofs.lemmas.List.Elements.{All-nil, All-cons}
 use Rattle.normalizer_text.specs.declared.step.Step.{Step}
 use Rattle.normalizer_text.specs.Encodings.{Encoding, first_in, decoded_in}
 use Rattle.normalizer_text.proofs.EncodingRules.{IsDecoding-first}
-use Rattle.normalizer_text.proofs.StepLemmas.{decoded-nil, decoded-some}
+use Rattle.normalizer_text.specs.Steps.{steps, IsBoundary}
+use Rattle.normalizer_text.proofs.BoundaryLemmas.{boundary-le, steps-take-drop}
+use Rattle.normalizer_text.proofs.StepLemmas.{decoded-nil, decoded-some, steps-some}
 use Rattle.normalizer_iterators.specs.declared.error.NormalizeError.{NormalizeError}
 use Rattle.normalizer_iterators.specs.declared.error.NormalizeError.TheVariants.{Memory}
 use Rattle.normalizer_iterators.specs.Items.{Answers, HasEnded, SpellsUnless}
@@ -53,3 +55,24 @@ decoded-two e units s t some is next more whole =
     decoded-some (first_in e) (IsDecoding-first e) units some
     ∙ ap (λ r. r.character ∷ decoded_in e (drop r.width units)) (sym is)
     ∙ ap (λ x. s.character ∷ x) (decoded-one e (drop s.width units) t (omega (arith, length-drop s.width units)) next (whole ∙ sym (length-drop s.width units)))
+
+-- units that end where a step does begin with the same step
+pub first-take : (e : Encoding) (units : List ℕ) (n : ℕ) → 0 < n → IsBoundary (first_in e) units n → first_in e (take n units) ≡ first_in e units
+first-take e units n some b =
+    let long : n ≤ length units = boundary-le (first_in e) (IsDecoding-first e) units n b in
+    let front : 0 < length (take n units) = omega (arith, length-take n units) in
+    let whole : 0 < length units = omega arith in
+    let parts : steps (first_in e) units ≡ steps (first_in e) (take n units) ++ steps (first_in e) (drop n units) = steps-take-drop (first_in e) (IsDecoding-first e) units n b in
+    let of_front = steps-some (first_in e) (IsDecoding-first e) (take n units) front in
+    let of_whole = steps-some (first_in e) (IsDecoding-first e) units whole in
+    same_head _ _ _ _ (sym (ap (λ l. l ++ steps (first_in e) (drop n units)) of_front) ∙ sym parts ∙ of_whole)
+  where
+    same_head : (s t : Step) (x y : List Step) → s ∷ x ≡ t ∷ y → s ≡ t
+    same_head s t x y same = cc
+
+-- the step after some units, which is the first one of the rest
+pub first-drop : (e : Encoding) (units rest : List ℕ) (position end : ℕ) (next : Option Step) → rest ≡ drop position units → IfSome next (λ s. s ≡ first_in e (drop end rest))
+    → IfSome next (λ s. s ≡ first_in e (drop (position + end) units))
+first-drop e units rest position end None is next = tt
+first-drop e units rest position end (Some s) is next =
+    next ∙ ap (λ l. first_in e (drop end l)) is ∙ ap (first_in e) (drop-drop end position units ∙ ap (λ n. drop n units) (omega arith))

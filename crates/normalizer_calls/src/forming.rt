@@ -1,6 +1,6 @@
 //! What the decomposing and the composing form differ in, as one trait: every call on text is written once over it.
 ghost use Rattle.std.specs.Prelude.{◌≡◌, ◌<◌, ◌||◌, ◌∷◌, [], nat_lt, not, ℕ, Bool, true, false, IfOk, IfSome};
-ghost use Rattle.std.specs.Prelude.{◌≤◌, length, IsTrue, IsOk, IsOkUnless, IsErrOf, Option, Some, None};
+ghost use Rattle.std.specs.Prelude.{◌≤◌, drop, length, IsTrue, IsOk, IsOkUnless, IsErrOf, Option, Some, None};
 ghost use Rattle.std.specs.Prelude.{if◌then◌else◌};
 ghost use Rattle.std.specs.Char.{IsScalar};
 ghost use Rattle.normal_forms.specs.Decomposition.{expand};
@@ -8,7 +8,7 @@ ghost use Rattle.normal_forms.specs.ShortRuns.{places};
 ghost use Rattle.normalizer_tables.specs.AcceptedData.{SuitsTexts};
 ghost use Rattle.normalizer_tables.specs.Characters.{class_of_itself, has_class_form, reading_of_word};
 ghost use Rattle.normalizer_tables.specs.PairConditions.{is_passed};
-ghost use Rattle.normalizer_text.specs.Encodings.{decoded_in};
+ghost use Rattle.normalizer_text.specs.Encodings.{decoded_in, first_in};
 ghost use Rattle.normalizer_iterators.specs.Segment.{text};
 ghost use Rattle.normalizer_calls.specs.BeginsApart.{BeginsApart};
 ghost use Rattle.normalizer_calls.specs.Forms.{form_by, form_in, form_of, HasShortUnits, MadeForm};
@@ -18,14 +18,14 @@ ghost use Rattle.normalizer_calls.specs.inner.Writing.{NothingOffered, WritesTex
 
 use crate::composing_form::ComposingForm;
 use crate::decomposing_form::DecomposingForm;
-use crate::kept::{composite_of, kept_segment};
+use crate::kept::{KeptSegment, composite_of, kept_segment};
 use crate::writing::{first_item, write_items};
 use normalizer_iterators::{NormalizeError, SegmentBuffers};
 use normalizer_tables::characters::IgnoredCharacters;
 use normalizer_tables::members::Members;
 use normalizer_tables::word::{is_backward_combining, is_non_round_trip};
 use normalizer_text::output::Output;
-use normalizer_text::{Chars, Units};
+use normalizer_text::{Chars, Step, Units};
 use std::alloc::Global;
 
 /// A form with the data that it is made by.
@@ -63,11 +63,15 @@ pub trait Forming {
     fn begins(&self, character: char) -> bool
         ensures { result ≡ beginning self.now character };
 
-    /// Returns the end of the segment in front, if it is seen to be well-formed and normalized while it is read.
-    fn kept_segment<U: Units>(&self, units: U) -> Option<usize>
-        requires { 0 < length (U.units units) }
-        ensures { let m = made self.now in IfSome result (IsKeptSegment (beginning self.now) U.encoding
-            m.reading m.form (U.units units)) };
+    /// Returns the segment that begins with the first step, if it is seen to be well-formed and normalized while it is
+    /// read.
+    fn kept_segment<U: Units>(&self, units: U, first: Step) -> Option<KeptSegment>
+        requires some { 0 < length (U.units units) }
+        requires first { first ≡ first_in U.encoding (U.units units) }
+        ensures kept { let m = made self.now in IfSome result (λ kept. IsKeptSegment (beginning self.now) U.encoding
+            m.reading m.form (U.units units) kept.end) }
+        ensures next { IfSome result (λ kept.
+            IfSome kept.next (λ next. next ≡ first_in U.encoding (drop kept.end (U.units units)))) };
 
     /// The form of a character alone, if its list is that.
     fn form_of_one(&self, character: char) -> Option<Members<'_>>
@@ -157,10 +161,11 @@ impl<'a> Forming for DecomposingForm<'a> {
         (character as u32) < self.bounds.decomposition || !self.characters.has_class_form(character)
     }
 
-    fn kept_segment<U: Units>(&self, _units: U) -> Option<usize> {
+    fn kept_segment<U: Units>(&self, _units: U, _first: Step) -> Option<KeptSegment> {
         None
     }
 
+    #[inline(always)]
     fn form_of_one(&self, character: char) -> Option<Members<'_>> {
         Some(
             self.characters
@@ -237,8 +242,9 @@ impl<'a> Forming for ComposingForm<'a> {
             || (character as u32) < self.bounds.composition
     }
 
-    fn kept_segment<U: Units>(&self, units: U) -> Option<usize> {
-        kept_segment(self, units)
+    #[inline(always)]
+    fn kept_segment<U: Units>(&self, units: U, first: Step) -> Option<KeptSegment> {
+        kept_segment(self, units, first)
     }
 
     fn form_of_one(&self, _character: char) -> Option<Members<'_>> {

@@ -1,5 +1,6 @@
 //! Segments of the composing form that stay as they are.
-ghost use Rattle.std.specs.Prelude.{◌<◌, IfSome, IsTrue, length};
+ghost use Rattle.std.specs.Prelude.{◌≡◌, ◌<◌, drop, length, IfSome, IsTrue};
+ghost use Rattle.normalizer_text.specs.Encodings.{first_in};
 ghost use Rattle.normal_forms.specs.declared.Form.TheVariants.{Composing};
 ghost use Rattle.normalizer_tables.specs.PairConditions.{is_passed};
 ghost use Rattle.normalizer_tables.specs.Readings.{reading_by};
@@ -13,25 +14,57 @@ use normalizer_tables::characters::IgnoredCharacters;
 use normalizer_tables::compose;
 use normalizer_text::{Step, Units};
 
-/// Returns the end of the segment in front, if it is a starter that composes to itself, and marks after it, each its
-/// own list, in canonical order, of which none composes with the starter.
-pub(crate) fn kept_segment<U: Units>(form: &ComposingForm<'_>, units: U) -> Option<usize>
-    requires { 0 < length (U.units units) }
-    ensures { let f = form.now in IfSome result (IsKeptSegment (is_passed f.characters f.bounds) U.encoding
-        (reading_by f.characters Dropped f.pairs.now) Composing (U.units units)) }
+/// A segment that stays as it is: its end, and the step that follows, unless a run may begin there.
+#[derive(Clone, Copy)]
+pub struct KeptSegment {
+    pub(crate) end: usize,
+    pub(crate) next: Option<Step>,
+}
+
+impl KeptSegment {
+    // A segment before a step. A run of characters below the bound may be long.
+    #[inline(always)]
+    fn before(end: usize, bound: u32, step: Step) -> Self
+        ensures end { result.end ≡ end }
+        ensures next { IfSome result.next (λ next. next ≡ step) }
+    {
+        let next = if (step.character as u32) < bound {
+            None
+        } else {
+            Some(step)
+        };
+        KeptSegment { end, next }
+    }
+}
+
+/// Returns the segment that begins with the first step, if it is a starter that composes to itself, and marks after it,
+/// each its own list, in canonical order, each blocked from the starter or not composing with it.
+#[inline(always)]
+pub(crate) fn kept_segment<U: Units>(
+    form: &ComposingForm<'_>,
+    units: U,
+    first: Step,
+) -> Option<KeptSegment>
+    requires some { 0 < length (U.units units) }
+    requires first { first ≡ first_in U.encoding (U.units units) }
+    ensures kept { let f = form.now in IfSome result (λ kept. IsKeptSegment (is_passed f.characters f.bounds) U.encoding
+        (reading_by f.characters Dropped f.pairs.now) Composing (U.units units) kept.end) }
+    ensures next { IfSome result (λ kept.
+        IfSome kept.next (λ next. next ≡ first_in U.encoding (drop kept.end (U.units units)))) }
 {
-    let first = units.step_at(0);
     let mut last = class_of_starter(form, first)?;
+    let mut blocked = 0;
     let mut end = first.width;
     while end < units.len() {
         let step = units.step_at(end);
         if form.begins(step.character) {
-            return Some(end);
+            return Some(KeptSegment::before(end, form.bounds.composition, step));
         }
-        last = class_that_stays(form, first.character, last, step)?;
+        last = class_that_stays(form, first.character, last, blocked, step)?;
+        blocked = last;
         end += step.width;
     }
-    Some(end)
+    Some(KeptSegment { end, next: None })
 }
 
 /// Returns what a starter and a character compose to, if each is its own list and they do.
@@ -84,18 +117,28 @@ fn class_of_last_member(form: &ComposingForm<'_>, character: char) -> Option<u8>
     Some(form.characters.class_of(members.at(count - 1)))
 }
 
-/// Returns the class of a mark, if it stays after a starter and marks of classes up to `last`.
+/// Returns the class of a mark, if it stays after a starter and characters of classes up to `last`. Marks of classes up
+/// to `blocked` are blocked from the starter.
 #[inline(always)]
-fn class_that_stays(form: &ComposingForm<'_>, starter: char, last: u8, step: Step) -> Option<u8>
+fn class_that_stays(
+    form: &ComposingForm<'_>,
+    starter: char,
+    last: u8,
+    blocked: u8,
+    step: Step,
+) -> Option<u8>
     ensures { IfSome result
-        (StaysMark (reading_by form.now.characters Dropped form.now.pairs.now) starter last step) }
+        (StaysMark (reading_by form.now.characters Dropped form.now.pairs.now) starter last blocked step) }
 {
     if step.is_error {
         return None;
     }
     let word = form.characters.word_of(step.character);
     let class = form.characters.class_of_itself(step.character, word)?;
-    if class == 0 || class < last || compose(form.pairs, starter, step.character).is_some() {
+    if class == 0 || class < last {
+        return None;
+    }
+    if class > blocked && compose(form.pairs, starter, step.character).is_some() {
         return None;
     }
     Some(class)

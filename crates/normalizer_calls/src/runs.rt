@@ -1,5 +1,6 @@
 //! The ends of runs of characters that are passed on as they are, and of the segments between them.
-ghost use Rattle.std.specs.Prelude.{◌≡◌, ◌<◌, ◌≤◌, length, take};
+ghost use Rattle.std.specs.Prelude.{◌≡◌, ◌<◌, ◌≤◌, drop, length, take, IfSome};
+ghost use Rattle.normalizer_text.specs.Encodings.{first_in};
 ghost use Rattle.normalizer_input.specs.InputCut.{IsInputNormalized};
 ghost use Rattle.normalizer_calls.specs.inner.Passing.{IsKeptTo, IsPassedOn, IsPart, IsRunEnd, IsSegmentEnd};
 ghost use Rattle.normalizer_calls.specs.inner.Passing.{next_class};
@@ -17,10 +18,11 @@ struct Run {
     end: usize,
 }
 
-/// The end of a segment, and whether the character that follows is passed on as it is.
+/// The end of a segment, the step that follows, and whether that is passed on as it is.
 #[derive(Clone, Copy)]
 pub(crate) struct Segment {
     pub(crate) end: usize,
+    pub(crate) next: Option<Step>,
     pub(crate) is_before_run: bool,
 }
 
@@ -67,23 +69,44 @@ fn run_end<U: Units, N: Forming>(normalizer: &N, units: U) -> Run
     Run { marks, end }
 }
 
-/// Returns the segment that begins with the first character: it ends before the next one that is normalized apart.
+/// Returns the first step of the units, which may have been read before.
 #[inline(always)]
-pub(crate) fn front_segment<U: Units, N: Forming>(normalizer: &N, units: U) -> Segment
-    requires { 0 < length (U.units units) }
-    ensures { IsSegmentEnd (N.beginning normalizer.now) U.encoding (U.units units) result.end }
+pub(crate) fn first_step<U: Units>(units: U, first: Option<Step>) -> Step
+    requires some { 0 < length (U.units units) }
+    requires first { IfSome first (λ first. first ≡ first_in U.encoding (U.units units)) }
+    ensures { result ≡ first_in U.encoding (U.units units) }
 {
-    let mut end = units.step_at(0).width;
+    match first {
+        Some(first) => first,
+        None => units.step_at(0),
+    }
+}
+
+/// Returns the segment that begins with the first step: it ends before the next character that is normalized apart.
+#[inline(always)]
+pub(crate) fn front_segment<U: Units, N: Forming>(normalizer: &N, units: U, first: Step) -> Segment
+    requires some { 0 < length (U.units units) }
+    requires first { first ≡ first_in U.encoding (U.units units) }
+    ensures end { IsSegmentEnd (N.beginning normalizer.now) U.encoding (U.units units) result.end }
+    ensures next { IfSome result.next (λ next. next ≡ first_in U.encoding (drop result.end (U.units units))) }
+{
+    let mut end = first.width;
     while end < units.len() {
         let step = units.step_at(end);
         if normalizer.begins(step.character) {
-            let is_before_run = normalizer.passed_class(step.character).is_some();
-            return Segment { end, is_before_run };
+            return Segment {
+                end,
+                next: Some(step),
+                is_before_run: normalizer.passed_class(step.character).is_some(),
+            };
         }
         end += step.width;
     }
-    let is_before_run = false;
-    Segment { end, is_before_run }
+    Segment {
+        end,
+        next: None,
+        is_before_run: false,
+    }
 }
 
 /// Returns the end of the front of the units that is passed on as it is: of a run, without the last character if it may
@@ -118,12 +141,18 @@ pub(crate) fn kept_end<U: Units, N: Forming>(normalizer: &N, units: U) -> usize
 {
     normalizer.passed_characters_stand_apart();
     let mut end = passed_end(normalizer, units);
+    let mut first = None;
     while end < units.len() {
-        let Some(segment) = normalizer.kept_segment(units.after(end)) else {
+        let rest = units.after(end);
+        let Some(kept) = normalizer.kept_segment(rest, first_step(rest, first)) else {
             return end;
         };
-        end += segment;
-        end += passed_end(normalizer, units.after(end));
+        end += kept.end;
+        first = kept.next;
+        if first.is_none() {
+            end += passed_end(normalizer, units.after(end));
+            first = None;
+        }
     }
     end
 }

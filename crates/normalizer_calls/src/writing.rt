@@ -1,7 +1,8 @@
 //! Writing the characters of an iterator to an output.
-ghost use Rattle.std.specs.Prelude.{ℕ, ◌≡◌, ◌<◌, ◌∷◌, [], List, length};
+ghost use Rattle.std.specs.Prelude.{ℕ, ◌≡◌, ◌<◌, ◌∷◌, [], List, drop, length};
 ghost use Rattle.std.specs.Prelude.{Err, IfErr, IfOk, IfSome, IsErrOf, IsOk, IsOkUnless};
 ghost use Rattle.std.specs.Iterator.{IsFinite};
+ghost use Rattle.normalizer_text.specs.Encodings.{first_in};
 ghost use Rattle.normalizer_iterators.specs.Items.{SpellsOk, SpellsUnless};
 ghost use Rattle.normalizer_calls.specs.Forms.{form_in, HasShortUnits};
 ghost use Rattle.normalizer_calls.specs.inner.Offences.{IsFirstOrNone};
@@ -10,11 +11,11 @@ ghost use Rattle.normalizer_calls.specs.Writing.{TellsLengthFirst};
 ghost use Rattle.normalizer_calls.specs.inner.Writing.{NothingOffered, WritesPart, WritesText, WritesUnits};
 
 use crate::forming::Forming;
-use crate::runs::{Segment, front_segment, kept_end};
+use crate::runs::{Segment, first_step, front_segment, kept_end};
 use normalizer_iterators::{NormalizeError, SegmentBuffers};
 use normalizer_tables::members::Members;
-use normalizer_text::Units;
 use normalizer_text::output::Output;
+use normalizer_text::{Step, Units};
 
 /// Writes the characters, each after the one before, up to the first error.
 pub(crate) fn write_items<U: Units, I, O: Output<U>>(
@@ -52,6 +53,7 @@ where
 }
 
 /// Writes the members of a list, each after the one before.
+#[inline(always)]
 fn write_members<U: Units, O: Output<U>>(
     members: &Members<'_>,
     output: &mut O,
@@ -60,6 +62,12 @@ fn write_members<U: Units, O: Output<U>>(
         members.now output.old result output.new }
     ensures room { ¬ IsErrOf result NormalizeError.Memory }
 {
+    if let Some(two) = members.as_two() {
+        return write_text::<U, O>(&two, output);
+    }
+    if let Some(three) = members.as_three() {
+        return write_text::<U, O>(&three, output);
+    }
     let mut place = 0;
     while place < members.len() {
         output.write_char(members.at(place))?;
@@ -69,6 +77,7 @@ fn write_members<U: Units, O: Output<U>>(
 }
 
 /// Writes characters, each after the one before.
+#[inline(always)]
 fn write_text<U: Units, O: Output<U>>(text: &[char], output: &mut O) -> Result<(), NormalizeError>
     ensures text { WritesText U.encoding O.taken O.refused O.left O.refuses NothingOffered
         text.now output.old result output.new }
@@ -82,13 +91,14 @@ fn write_text<U: Units, O: Output<U>>(text: &[char], output: &mut O) -> Result<(
     Ok(())
 }
 
-/// Returns the form of what the units decode to, if these are two characters and it is seen to be one.
+/// Returns the form of what the units decode to, if these are two characters and it is seen to be one. The first step
+/// was read before.
 #[inline(always)]
-fn form_of_pair<U: Units, N: Forming>(normalizer: &N, units: U) -> Option<char>
-    requires { 0 < length (U.units units) }
+fn form_of_pair<U: Units, N: Forming>(normalizer: &N, units: U, first: Step) -> Option<char>
+    requires some { 0 < length (U.units units) }
+    requires first { first ≡ first_in U.encoding (U.units units) }
     ensures { IfSome result (λ c. form_in (N.made normalizer.now) U.encoding (U.units units) ≡ c ∷ []) }
 {
-    let first = units.step_at(0);
     if first.width >= units.len() {
         return None;
     }
@@ -100,26 +110,27 @@ fn form_of_pair<U: Units, N: Forming>(normalizer: &N, units: U) -> Option<char>
 }
 
 /// Writes the form of what the units decode to, character by character: from the list of a single character, from what
-/// two compose to, from the buffers if it fits, or from an iterator.
+/// two compose to, from the buffers if it fits, or from an iterator. The first step was read before.
 fn write_segment<U: Units, N: Forming, O: Output<U>>(
     normalizer: &N,
     units: U,
+    first: Step,
     buffers: &mut SegmentBuffers,
     output: &mut O,
 ) -> Result<(), NormalizeError>
-    requires { 0 < length (U.units units) }
+    requires some { 0 < length (U.units units) }
+    requires first { first ≡ first_in U.encoding (U.units units) }
     ensures text { WritesText U.encoding O.taken O.refused O.left O.refuses NothingOffered
         (form_in (N.made normalizer.now) U.encoding (U.units units)) output.old result output.new }
     ensures room { HasShortUnits (N.made normalizer.now) U.encoding (U.units units) →
         ¬ IsErrOf result NormalizeError.Memory }
 {
-    let first = units.step_at(0);
     if first.width == units.len() {
         if let Some(members) = normalizer.form_of_one(first.character) {
             return write_members::<U, O>(&members, output);
         }
     }
-    if let Some(composite) = form_of_pair(normalizer, units) {
+    if let Some(composite) = form_of_pair(normalizer, units, first) {
         return write_text::<U, O>(&[composite], output);
     }
     if normalizer.short_form(units, buffers) {
@@ -148,16 +159,21 @@ fn write_run<U: Units, N: Forming, O: Output<U>>(
     Ok(end)
 }
 
-/// Writes the form of the segment at the front of the units, and returns that.
+/// Writes the form of the segment at the front of the units, and returns that. The first step may have been read before.
+#[inline(always)]
 fn write_front_segment<U: Units, N: Forming, O: Output<U>>(
     normalizer: &N,
     units: U,
+    first: Option<Step>,
     buffers: &mut SegmentBuffers,
     output: &mut O,
 ) -> Result<Segment, NormalizeError>
-    requires { 0 < length (U.units units) }
+    requires some { 0 < length (U.units units) }
+    requires first { IfSome first (λ first. first ≡ first_in U.encoding (U.units units)) }
     ensures segment { IfOk result (λ segment. IsSegmentEnd (N.beginning normalizer.now)
         U.encoding (U.units units) segment.end) }
+    ensures next { IfOk result (λ segment. IfSome segment.next
+        (λ next. next ≡ first_in U.encoding (drop segment.end (U.units units)))) }
     ensures part { IfOk result (λ segment. WritesPart O.taken O.refused U.encoding
         (N.made normalizer.now) (U.units units) output.old segment.end output.new) }
     ensures refused { IfErr result (λ fault. WritesUnits U.encoding O.taken O.refused O.left O.refuses
@@ -166,8 +182,15 @@ fn write_front_segment<U: Units, N: Forming, O: Output<U>>(
         ¬ IsErrOf result NormalizeError.Memory }
 {
     normalizer.passed_characters_stand_apart();
-    let segment = front_segment(normalizer, units);
-    write_segment(normalizer, units.before(segment.end), buffers, output)?;
+    let first = first_step(units, first);
+    let segment = front_segment(normalizer, units, first);
+    write_segment(
+        normalizer,
+        units.before(segment.end),
+        first,
+        buffers,
+        output,
+    )?;
     Ok(segment)
 }
 
@@ -187,11 +210,15 @@ fn write_parts<U: Units, N: Forming, O: Output<U>>(
         return Ok(());
     }
     let mut buffers = normalizer.segment_buffers();
+    let mut first = None;
     while position < units.len() {
-        let segment = write_front_segment(normalizer, units.after(position), &mut buffers, output)?;
+        let rest = units.after(position);
+        let segment = write_front_segment(normalizer, rest, first, &mut buffers, output)?;
         position += segment.end;
+        first = segment.next;
         if segment.is_before_run {
             position += write_run(normalizer, units.after(position), output)?;
+            first = None;
         }
     }
     Ok(())

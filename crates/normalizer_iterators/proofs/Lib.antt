@@ -1,4 +1,5 @@
 pub mod BeforeStarterLemmas
+pub mod ByClassLemmas
 pub mod ComposingLemmas
 pub mod CompositionLemmas
 pub mod DecompositionLemmas
@@ -14,6 +15,7 @@ pub mod ProgressLemmas
 pub mod ReadingLemmas
 pub mod SegmentLemmas
 pub mod ShortChunkLemmas
+pub mod SortedByClassLemmas
 pub mod SortedMarkLemmas
 pub mod SoundData
 pub mod ShortTextLemmas

@@ -1,3 +1,4 @@
+pub mod ByClass
 pub mod Composing
 pub mod Composition
 pub mod Decomposition

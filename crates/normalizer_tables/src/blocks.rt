@@ -59,6 +59,7 @@ impl Blocks {
     }
 
     /// The word of a code point.
+    #[inline(always)]
     pub(crate) fn word(&self, number: u32) -> u32
         requires { number < code_points }
         ensures { result ≡ slice_index self.now number }

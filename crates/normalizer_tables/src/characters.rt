@@ -118,6 +118,7 @@ impl<'a> CharacterData<'a> {
 
     /// Returns whether a character is below the bound: it is its own list, with class 0 and no class form. Its word
     /// isn't looked up.
+    #[inline(always)]
     pub fn passes_unseen(&self, character: char) -> bool
         ensures { IsTrue result → PassesUnseen self.now character }
     {
@@ -132,6 +133,7 @@ impl<'a> CharacterData<'a> {
 
     /// Returns the word of a character.
     #[tactic(auto, unfolding(crate::specs::Characters::word_of))]
+    #[inline(always)]
     pub fn word_of(&self, character: char) -> u32
         ensures { result ≡ word_of self.now character }
     {
@@ -203,6 +205,7 @@ impl<'a> CharacterData<'a> {
 
     /// Returns the canonical combining class of a character.
     #[tactic(auto, using(crate::proofs::CharacterLemmas::of_scalars), unfolding(crate::specs::Words::class_of_word, crate::specs::Characters::class_of))]
+    #[inline(always)]
     pub fn class_of(&self, character: char) -> u8
         ensures { result ≡ class_of self.now character }
     {
@@ -214,6 +217,7 @@ impl<'a> CharacterData<'a> {
 
     /// Returns whether the word of a character has one of the two class forms.
     #[tactic(auto, unfolding(crate::specs::Characters::has_class_form))]
+    #[inline(always)]
     pub fn has_class_form(&self, character: char) -> bool
         ensures { result ≡ has_class_form self.now character }
     {
@@ -221,6 +225,7 @@ impl<'a> CharacterData<'a> {
     }
 
     /// Returns the list of a character: the character itself if its word doesn't read.
+    #[inline(always)]
     pub fn members(&self, character: char, ignored: IgnoredCharacters) -> Members<'a>
         ensures { result ≡ list_of self.now (ignored_list ignored) character }
     {
@@ -229,6 +234,7 @@ impl<'a> CharacterData<'a> {
 
     /// Returns the list of a character, from its word.
     #[tactic(auto, unfolding(crate::specs::Characters::list_of))]
+    #[inline(always)]
     pub fn members_by(&self, character: char, word: u32, ignored: IgnoredCharacters) -> Members<'a>
         requires { word ≡ word_of self.now character }
         ensures { result ≡ list_of self.now (ignored_list ignored) character }
@@ -240,6 +246,7 @@ impl<'a> CharacterData<'a> {
     /// Returns whether the list of a character has members, from its word: all have but ignored characters that are
     /// dropped.
     #[tactic(auto, using(crate::proofs::WordLemmas::readings), unfolding(crate::specs::Characters::list_read, crate::specs::Characters::named_list))]
+    #[inline(always)]
     pub fn has_members(&self, character: char, word: u32, ignored: IgnoredCharacters) -> bool
         requires { word ≡ word_of self.now character }
         ensures { IsTrue result ↔ (list_of self.now (ignored_list ignored) character ≢ []) }
@@ -252,6 +259,7 @@ impl<'a> CharacterData<'a> {
 
     /// Returns the class of a character, if its word says that it is its own list.
     #[tactic(auto, using(crate::proofs::WordLemmas::readings), unfolding(crate::specs::Characters::class_of_itself, crate::specs::Characters::list_read, crate::specs::Characters::named_list, crate::specs::Characters::reading_of_word))]
+    #[inline(always)]
     pub fn class_of_itself(&self, character: char, word: u32) -> Option<u8>
         requires { word ≡ word_of self.now character }
         ensures reading { result ≡ class_of_itself (reading_of_word self.now character) }
@@ -270,6 +278,7 @@ impl<'a> CharacterData<'a> {
     }
 
     #[tactic(auto, using(crate::proofs::WordLemmas::readings), unfolding(crate::specs::Characters::list_read, crate::specs::Characters::named_list))]
+    #[inline(always)]
     pub(crate) fn members_of(
         &self,
         character: char,
@@ -296,6 +305,7 @@ impl<'a> CharacterData<'a> {
 
     /// How the word of a character reads.
     #[tactic(auto, unfolding(crate::specs::Characters::reading_of_word))]
+    #[inline(always)]
     pub(crate) fn reading_by(&self, character: char, word: u32) -> WordReading
         requires { word ≡ word_of self.now character }
         ensures { result ≡ reading_of_word self.now character }

@@ -51,6 +51,7 @@ pub fn is_never_hangul_second(second: char) -> bool
 }
 
 #[tactic(auto, unfolding(crate::specs::HangulComposition::is_leading_consonant))]
+#[inline(always)]
 fn is_leading_consonant(c: char) -> bool
     ensures { result ≡ is_leading_consonant c }
 {
@@ -58,6 +59,7 @@ fn is_leading_consonant(c: char) -> bool
 }
 
 #[tactic(auto, unfolding(crate::specs::HangulComposition::is_vowel))]
+#[inline(always)]
 fn is_vowel(c: char) -> bool
     ensures { result ≡ is_vowel c }
 {
@@ -65,6 +67,7 @@ fn is_vowel(c: char) -> bool
 }
 
 #[tactic(auto, unfolding(crate::specs::HangulComposition::is_trailing_consonant))]
+#[inline(always)]
 fn is_trailing_consonant(c: char) -> bool
     ensures { result ≡ is_trailing_consonant c }
 {

@@ -1,5 +1,5 @@
 //! The list of a character, walked without taking memory.
-ghost use Rattle.std.specs.Prelude.{◌≡◌, ◌↔◌, ◌<◌, ℕ, List, [], ◌∷◌, Some, IsTrue, All, length, slice_get, true};
+ghost use Rattle.std.specs.Prelude.{◌≡◌, ◌↔◌, ◌<◌, ℕ, List, [], ◌∷◌, Some, IfSome, IsTrue, All, length, slice_get, true};
 ghost use lib.Utf8.{scalar};
 ghost use Rattle.std.specs.Char.{IsScalar};
 ghost use Rattle.std.specs.List.{list_all};
@@ -45,6 +45,7 @@ static FDFA: [char; 18] = [
 
 impl<'a> Members<'a> {
     /// Returns how many members there are.
+    #[inline(always)]
     pub fn len(&self) -> usize
         ensures { result ≡ length self.now }
     {
@@ -66,6 +67,7 @@ impl<'a> Members<'a> {
     }
 
     /// Returns the member at this place, counted from 0.
+    #[inline(always)]
     pub fn get(&self, place: usize) -> Option<char>
         ensures { result ≡ slice_get self.now place }
     {
@@ -80,11 +82,34 @@ impl<'a> Members<'a> {
     }
 
     /// Returns the member at a place before the end.
+    #[inline(always)]
     pub fn at(&self, place: usize) -> char
         requires { place < length self.now }
         ensures { slice_get self.now place ≡ Some result }
     {
         self.get(place).unwrap()
+    }
+
+    /// Returns the members, if there are two.
+    #[inline(always)]
+    pub fn as_two(&self) -> Option<[char; 2]>
+        ensures { IfSome result (λ two. two ≡ self.now) }
+    {
+        match self.shape {
+            Shape::Two(a, b) => Some([a, b]),
+            _ => None,
+        }
+    }
+
+    /// Returns the members, if they are the three jamo of a Hangul syllable.
+    #[inline(always)]
+    pub fn as_three(&self) -> Option<[char; 3]>
+        ensures { IfSome result (λ three. three ≡ self.now) }
+    {
+        match self.shape {
+            Shape::Three(a, b, c) => Some([a, b, c]),
+            _ => None,
+        }
     }
 
     /// Returns the list of no member.
@@ -97,6 +122,7 @@ impl<'a> Members<'a> {
     }
 
     /// Returns the list of one member.
+    #[inline(always)]
     pub fn one(a: char) -> Self
         ensures { result ≡ a ∷ [] }
     {
@@ -105,6 +131,7 @@ impl<'a> Members<'a> {
         }
     }
 
+    #[inline(always)]
     pub(crate) fn two(a: char, b: char) -> Self
         ensures { result ≡ a ∷ b ∷ [] }
     {
@@ -115,6 +142,7 @@ impl<'a> Members<'a> {
 
     /// The one character of this number.
     #[tactic(auto, unfolding(crate::specs::Characters::as_text))]
+    #[inline(always)]
     pub(crate) fn of_number(a: u32) -> Option<Self>
         ensures { result ≡ as_text (a ∷ []) }
     {
@@ -123,6 +151,7 @@ impl<'a> Members<'a> {
 
     /// The two characters of these numbers.
     #[tactic(auto, unfolding(crate::specs::Characters::as_text))]
+    #[inline(always)]
     pub(crate) fn of_numbers(a: u32, b: u32) -> Option<Self>
         ensures { result ≡ as_text (a ∷ b ∷ []) }
     {
@@ -142,6 +171,7 @@ impl<'a> Members<'a> {
     }
 
     /// Characters up to U+FFFF.
+    #[inline(always)]
     pub(crate) fn of_characters(units: &'a [u16]) -> Self
         requires { list_all scalar units.now ≡ true }
         ensures { result ≡ units.now }
@@ -152,6 +182,7 @@ impl<'a> Members<'a> {
     }
 
     /// Returns the list of these members.
+    #[inline(always)]
     pub fn of_scalars(scalars: &'a [char]) -> Self
         ensures { result ≡ scalars.now }
     {
@@ -162,6 +193,7 @@ impl<'a> Members<'a> {
 
     /// The jamo of a Hangul syllable (The Unicode Standard, section 3.12).
     #[tactic(auto, unfolding(crate::specs::Characters::as_text, crate::specs::Hangul::hangul_decomposition, crate::specs::Hangul::is_hangul_syllable))]
+    #[inline(always)]
     pub fn of_hangul_syllable(syllable: char) -> Option<Self>
         requires { is_hangul_syllable syllable ≡ true }
         ensures { result ≡ as_text (hangul_decomposition syllable) }
@@ -196,6 +228,7 @@ pub fn fdfa_list() -> &'static [char]
 }
 
 /// The character at a place among numbers of characters.
+#[inline(always)]
 fn character_at(units: &[u16], place: usize) -> Option<char>
     requires { All IsScalar units.now }
     ensures { result ≡ slice_get units.now place }

@@ -102,6 +102,7 @@ impl CanonicalCompositions {
 /// Returns what two characters compose to, if they do: by the arithmetic of Hangul alone if the second is a vowel or
 /// a trailing consonant of that block, otherwise as listed.
 #[tactic(auto, unfolding(crate::specs::Pairs::pair_of))]
+#[inline(always)]
 pub fn compose(pairs: &CanonicalCompositions, first: char, second: char) -> Option<char>
     ensures { result ≡ pair_of pairs.now first second }
 {
@@ -196,6 +197,7 @@ fn is_before(pair: &(char, char, char), second: char, first: char) -> bool
 }
 
 #[tactic(auto, unfolding(crate::specs::Pairs::is_of))]
+#[inline(always)]
 fn is_of(pair: &(char, char, char), first: char, second: char) -> bool
     ensures { result ≡ is_of pair.now first second }
 {
@@ -203,6 +205,7 @@ fn is_of(pair: &(char, char, char), first: char, second: char) -> bool
 }
 
 #[tactic(auto, unfolding(crate::specs::Pairs::is_vowel_or_trailing_jamo))]
+#[inline(always)]
 fn is_vowel_or_trailing_jamo(c: char) -> bool
     ensures { result ≡ is_vowel_or_trailing_jamo c }
 {

@@ -78,6 +78,7 @@ impl CodePointTable {
     }
 
     /// Returns the word of a character.
+    #[inline(always)]
     pub fn get(&self, c: char) -> u32
         ensures { result ≡ word_at self.now c }
     {
@@ -85,6 +86,7 @@ impl CodePointTable {
     }
 
     /// Returns the word of a 16-bit number, surrogates included.
+    #[inline(always)]
     pub fn get16(&self, unit: u16) -> u32
         ensures { result ≡ word_at self.now unit }
     {
@@ -93,6 +95,7 @@ impl CodePointTable {
 
     /// Returns the word of any number.
     #[tactic(auto, unfolding(crate::specs::Table::code_points, crate::specs::Table::word_at, crate::specs::Ranges::IsComplete))]
+    #[inline(always)]
     pub fn get32(&self, number: u32) -> u32
         ensures word { result ≡ word_at self.now number }
         ensures past { code_points ≤ number → result ≡ self.now.past }

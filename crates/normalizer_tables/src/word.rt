@@ -50,6 +50,7 @@ pub enum WordReading {
 
 /// Returns the reading of the word of a character, in the mapper's data or in others.
 #[tactic(auto, using(crate::proofs::WordLemmas::item_above_zero), unfolding(crate::specs::Words::read, crate::specs::Words::two_characters, crate::specs::Words::listed, crate::specs::Words::read_low))]
+#[inline(always)]
 pub fn read(character: char, word: u32, is_mapper: bool) -> WordReading
     ensures { result ≡ read character word is_mapper }
 {
@@ -78,6 +79,7 @@ pub fn read(character: char, word: u32, is_mapper: bool) -> WordReading
 
 /// Returns the class in a word: the low byte of a class form, otherwise 0.
 #[tactic(auto, unfolding(crate::specs::Words::class_of_word))]
+#[inline(always)]
 pub fn class_of_word(word: u32) -> u8
     ensures { result ≡ class_of_word word }
 {
@@ -90,6 +92,7 @@ pub fn class_of_word(word: u32) -> u8
 
 /// Returns whether a word has one of the two class forms.
 #[tactic(auto, unfolding(crate::specs::Words::is_class_form))]
+#[inline(always)]
 pub fn is_class_form(word: u32) -> bool
     ensures { result ≡ is_class_form word }
 {
@@ -97,6 +100,7 @@ pub fn is_class_form(word: u32) -> bool
 }
 
 #[tactic(auto, unfolding(crate::specs::Words::is_ordinary_class_form))]
+#[inline(always)]
 pub(crate) fn is_ordinary_class_form(word: u32) -> bool
     ensures { result ≡ is_ordinary_class_form word }
 {
@@ -104,6 +108,7 @@ pub(crate) fn is_ordinary_class_form(word: u32) -> bool
 }
 
 #[tactic(auto, unfolding(crate::specs::Words::is_special_class_form))]
+#[inline(always)]
 pub(crate) fn is_special_class_form(word: u32) -> bool
     ensures { result ≡ is_special_class_form word }
 {
@@ -112,6 +117,7 @@ pub(crate) fn is_special_class_form(word: u32) -> bool
 
 /// Returns whether bit 30, NON_ROUND_TRIP, is set: the list doesn't compose to the character alone.
 #[tactic(auto, unfolding(crate::specs::Words::is_non_round_trip))]
+#[inline(always)]
 pub fn is_non_round_trip(word: u32) -> bool
     ensures { result ≡ is_non_round_trip word }
 {
@@ -120,6 +126,7 @@ pub fn is_non_round_trip(word: u32) -> bool
 
 /// Returns whether bit 31, BACKWARD_COMBINING, is set: the list begins with a mark or with the second of a pair.
 #[tactic(auto, unfolding(crate::specs::Words::is_backward_combining))]
+#[inline(always)]
 pub fn is_backward_combining(word: u32) -> bool
     ensures { result ≡ is_backward_combining word }
 {
@@ -128,6 +135,7 @@ pub fn is_backward_combining(word: u32) -> bool
 
 /// Returns whether a number is that of a Hangul syllable.
 #[tactic(auto, unfolding(crate::specs::Hangul::is_hangul_syllable))]
+#[inline(always)]
 pub fn is_hangul_syllable(number: u32) -> bool
     ensures { result ≡ is_hangul_syllable number }
 {
@@ -136,6 +144,7 @@ pub fn is_hangul_syllable(number: u32) -> bool
 
 /// Whether a word reads as the character itself with class 0, whatever its flags.
 #[tactic(auto, unfolding(crate::specs::Words::is_plain))]
+#[inline(always)]
 pub(crate) fn is_plain(word: u32) -> bool
     ensures { result ≡ is_plain word }
 {
@@ -143,6 +152,7 @@ pub(crate) fn is_plain(word: u32) -> bool
 }
 
 #[tactic(auto, unfolding(crate::specs::Words::has_high_zeros))]
+#[inline(always)]
 fn has_high_zeros(word: u32) -> bool
     ensures { result ≡ has_high_zeros word }
 {
@@ -150,6 +160,7 @@ fn has_high_zeros(word: u32) -> bool
 }
 
 #[tactic(auto, unfolding(crate::specs::Words::has_low_zeros))]
+#[inline(always)]
 fn has_low_zeros(word: u32) -> bool
     ensures { result ≡ has_low_zeros word }
 {
@@ -158,6 +169,7 @@ fn has_low_zeros(word: u32) -> bool
 
 /// The low byte of a word, the class of a class form.
 #[tactic(auto, unfolding(crate::specs::Words::low_byte))]
+#[inline(always)]
 pub(crate) fn low_byte(word: u32) -> u8
     ensures { result ≡ low_byte word }
 {

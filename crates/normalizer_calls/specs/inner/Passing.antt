@@ -131,15 +131,16 @@ pub record IsKeptStarter (d : Reading) (s : Step) (last : ℕ) : Type 0 where
   pub right : s.is_error ≡ false
   pub stable : IsStableStarter d s.character last
 
--- the step is no error, and its character is a mark of class k that stays after a starter and marks of classes up to
--- `last`: it is its own list, in canonical order, and doesn't compose with the starter
-pub record StaysMark (d : Reading) (starter last : ℕ) (s : Step) (k : ℕ) : Type 0 where
+-- the step is no error, and its character is a mark of class k that stays after a starter and characters of classes up
+-- to `last`: it is its own list, in canonical order, and blocked from the starter, as marks of classes up to `blocked`
+-- are, or doesn't compose with it
+pub record StaysMark (d : Reading) (starter last blocked : ℕ) (s : Step) (k : ℕ) : Type 0 where
   pub right : s.is_error ≡ false
   pub itself : ReadsAsItself d s.character
   pub class : d.class s.character ≡ k
   pub mark : 0 < k
   pub ordered : last ≤ k
-  pub alone : d.pair starter s.character ≡ None
+  pub alone : (k ≤ blocked) ⊎ (d.pair starter s.character ≡ None)
 
 -- the composed form of a and c is the one character r
 abbrev pub ComposesTo : Reading → ℕ → ℕ → ℕ → Type 0

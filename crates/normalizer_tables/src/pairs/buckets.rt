@@ -71,6 +71,7 @@ impl PairBuckets {
     }
 
     /// The result of the first pair of two characters.
+    #[inline(always)]
     pub(crate) fn result_of(&self, first: char, second: char) -> Option<char>
         ensures { result ≡ listed_result self.now first second }
     {
@@ -113,6 +114,7 @@ fn chain(heads: &mut [usize], nexts: &mut [usize], pairs: &[(char, char, char)])
 }
 
 /// The bucket of two characters.
+#[inline(always)]
 fn bucket_of(first: char, second: char) -> usize
     ensures { result ≡ bucket_of first second }
 {

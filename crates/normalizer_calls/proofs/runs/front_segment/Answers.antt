@@ -7,12 +7,12 @@ use Rattle.normalizer_calls.proofs.runs.front_segment.Goals as goal
 
 pub loop-end-init : goal.loop-end-init
 loop-end-init g c = (
-  some_step (g.N.Forming.passed_class c.args.normalizer.now) g.U.Units.encoding (g.U.Units.units c.args.units) 0 c.step_at-end.result c.step_at-end.ensures c.requires,
-  boundary-first (first_in g.U.Units.encoding) (IsDecoding-first g.U.Units.encoding) (g.U.Units.units c.args.units) c.step_at-end.result (record { some = c.requires; is = c.step_at-end.ensures }),
+  some_step (g.N.Forming.passed_class c.args.normalizer.now) g.U.Units.encoding (g.U.Units.units c.args.units) 0 c.args.first c.requires.first c.requires.some,
+  boundary-first (first_in g.U.Units.encoding) (IsDecoding-first g.U.Units.encoding) (g.U.Units.units c.args.units) c.args.first (record { some = c.requires.some; is = c.requires.first }),
 )
 
-pub returns-then-begins : goal.returns-then-begins
-returns-then-begins g c = record {
+pub returns-then-begins-clause-end : goal.returns-then-begins-clause-end
+returns-then-begins-clause-end g c = record {
   some = c.loop-end.invariant.0;
   boundary = c.loop-end.invariant.1;
   next = λ _. ap (λ s. g.N.Forming.beginning c.args.normalizer.now s.character) (sym c.step_at-step.ensures) ∙ sym c.begins.ensures ∙ c.if-begins.true;
@@ -37,5 +37,5 @@ loop-end-preserved g c = (
       c.step_at-step.ensures (omega (arith, c.len.ensures)) c.loop-end.invariant.1,
 )
 
-pub returns : goal.returns
-returns g c = record { some = c.loop-end.invariant.0; boundary = c.loop-end.invariant.1; next = λ more. absurd (omega (arith, c.len.ensures)) }
+pub returns-clause-end : goal.returns-clause-end
+returns-clause-end g c = record { some = c.loop-end.invariant.0; boundary = c.loop-end.invariant.1; next = λ more. absurd (omega (arith, c.len.ensures)) }

@@ -7,7 +7,7 @@ use Rattle.normalizer_calls.proofs.writing.form_of_pair.Goals as goal
 pub returns : goal.returns
 returns g c =
     let m = g.N.Forming.made c.args.normalizer.now in
-    let two = decoded-two g.U.Units.encoding _ c.step_at-first.result c.step_at-second.result c.requires c.step_at-first.ensures c.step_at-second.ensures
+    let two = decoded-two g.U.Units.encoding _ c.args.first c.step_at-second.result c.requires.some c.requires.first c.step_at-second.ensures
     (omega (arith, c.len.ensures, c.if-first-len.false))
-    (c.if-second-len.false ∙ ap (λ n. n - c.step_at-first.result.width) c.len-2.ensures) in
+    (c.if-second-len.false ∙ ap (λ n. n - c.args.first.width) c.len-2.ensures) in
     subst (λ x. IfSome c.form_of_two.result (λ r. normal_form m.reading m.form x ≡ r ∷ [])) (sym two) c.form_of_two.ensures

@@ -6,7 +6,7 @@ use Rattle.normalizer_calls.proofs.writing.write_segment.Goals as goal
 
 pub returns-in-Some-clause-text : goal.returns-in-Some-clause-text
 returns-in-Some-clause-text g c =
-    let one = decoded-one g.U.Units.encoding _ c.step_at-first.result c.requires c.step_at-first.ensures (c.if-first-len.true ∙ c.len.ensures) in
+    let one = decoded-one g.U.Units.encoding _ c.args.first c.requires.some c.requires.first (c.if-first-len.true ∙ c.len.ensures) in
     let same = c.in-Some.ensures ∙ ap (normal_form (g.N.Forming.made c.args.normalizer.now).reading (g.N.Forming.made c.args.normalizer.now).form) (sym one) in
     WritesText-same g.U.Units.encoding g.O.Output.taken g.O.Output.refused g.O.Output.left g.O.Output.refuses _ _ _ _ _ same c.write_members.ensures.text
 
