@@ -13,7 +13,6 @@ use Rattle.normal_forms.specs.ShortRuns.{continues, leading_length, HasShortChun
 use Rattle.normal_forms.proofs.ChunkLemmas.{HasShortRuns-rest}
 use Rattle.normalizer_text.specs.declared.sink.SinkError.{SinkError}
 use Rattle.normalizer_text.specs.Encodings.{Encoding, first_in, encoded_in, decoded_in}
-use Rattle.normalizer_text.specs.Outputs.{AnswersUnits}
 use Rattle.normalizer_text.specs.Steps.{IsBoundary}
 use Rattle.normalizer_text.proofs.BoundaryLemmas.{boundary-after, boundary-le, boundary-start, decoded-take-drop}
 use Rattle.normalizer_text.proofs.EncodingRules.{IsDecoding-first, encoded-decoded}
@@ -23,10 +22,11 @@ use Rattle.normalizer_input.specs.EncodedForm.{encoded_form}
 use Rattle.normalizer_input.specs.InputCut.{IsInputNormalized}
 use Rattle.normalizer_iterators.specs.declared.error.NormalizeError.{NormalizeError}
 use Rattle.normalizer_iterators.specs.declared.error.NormalizeError.TheVariants.{Sink}
-use Rattle.normalizer_calls.specs.inner.Passing.{Divides, IsPart, StandsInInput, WrotePart}
+use Rattle.normalizer_calls.specs.inner.Passing.{Divides, IsPart, StandsInInput}
 use Rattle.normalizer_calls.specs.Writing.{TookBeginning}
 use Rattle.normalizer_calls.proofs.PassingLemmas.{normal_form-nil, Divides-start}
-use Rattle.normalizer_calls.specs.inner.Writing.{NothingOffered, WritesText}
+use Rattle.normalizer_calls.proofs.WritingLemmas.{Answered}
+use Rattle.normalizer_calls.specs.inner.Writing.{NothingOffered, Target, WritesText, WrotePart}
 
 -- ---- short runs of a front
 
@@ -94,21 +94,21 @@ module _ (e : Encoding) (d : Reading) (form : Form) where
         subst (λ l. HasShortRuns f d (decoded_in e l)) (sym is)
         (HasShortRuns-front f d (decoded_in e (take end units)) (decoded_in e (drop end units)) (subst (HasShortRuns f d) (text-parts units end part.boundary) h))
 
-    module _ {S : Type 0} (taken : S → List ℕ) (refused left : S → S → Type 0) (refuses : S → List ℕ → Type 0) (old new : S) where
+    module _ {S U : Type 0} (into : Target S U) (old new : S) where
       -- a run was written as it is
       module _ (own : IsInputNormalized e d form (take end units)) (piece : List ℕ) (is : piece ≡ take end units) where
         same_form : encoded_form e d form (take end units) ≡ take end units
         same_form = ap (encoded_in e) own.own ∙ encoded-decoded e (take end units) own.well_formed
 
-        pub WrotePart-run : AnswersUnits taken refused left refuses old piece (Ok tt) new → WrotePart taken refused e d form units old end new
+        pub WrotePart-run : Answered into old piece (Ok tt) new → WrotePart e into d form units old end new
         WrotePart-run answer = record {
           part = part;
-          took = answer.written.appends ∙ ap (λ l. taken old ++ l) (is ∙ sym same_form);
+          took = answer.written.appends ∙ ap (λ l. into.taken old ++ l) (is ∙ sym same_form);
           ahead = answer.written.ahead;
         }
 
-        pub WritesText-run_refused : (refusal : SinkError) → AnswersUnits taken refused left refuses old piece (Err refusal) new
-            → WritesText e taken refused left refuses (StandsInInput e d form units) (normal_form d form (decoded_in e units)) old (Err Sink) new
+        pub WritesText-run_refused : (refusal : SinkError) → Answered into old piece (Err refusal) new
+            → WritesText e into (StandsInInput e d form units) (normal_form d form (decoded_in e units)) old (Err Sink) new
         WritesText-run_refused refusal answer = record {
           written = tt;
           ahead = tt;
@@ -119,7 +119,7 @@ module _ (e : Encoding) (d : Reading) (form : Form) where
               front = [];
               rest = normal_form d form (decoded_in e units);
               parts = refl;
-              took = sym (append-nil (taken old)) ∙ ap (λ l. taken old ++ l) (sym (encoded_in-nil e));
+              took = sym (append-nil (into.taken old)) ∙ ap (λ l. into.taken old ++ l) (sym (encoded_in-nil e));
             };
             piece = decoded_in e (take end units);
             kind = inr (record {
@@ -130,7 +130,7 @@ module _ (e : Encoding) (d : Reading) (form : Form) where
             });
             rest = normal_form d form (decoded_in e (drop end units));
             goes_on = form-parts ∙ ap (λ l. l ++ normal_form d form (decoded_in e (drop end units))) own.own;
-            known = subst (refuses old) (is ∙ sym (encoded-decoded e (take end units) own.well_formed)) answer.known;
+            known = subst (into.refuses old) (is ∙ sym (encoded-decoded e (take end units) own.well_formed)) answer.known;
             leaves = answer.written.leaves;
           };
           begun = λ k. absurd (cc);
@@ -138,11 +138,11 @@ module _ (e : Encoding) (d : Reading) (form : Form) where
 
       -- the form of a segment was written
       module _ (segment : List ℕ) (is : segment ≡ take end units) where
-        pub WrotePart-segment : WritesText e taken refused left refuses NothingOffered (normal_form d form (decoded_in e segment)) old (Ok tt) new
-            → WrotePart taken refused e d form units old end new
+        pub WrotePart-segment : WritesText e into NothingOffered (normal_form d form (decoded_in e segment)) old (Ok tt) new
+            → WrotePart e into d form units old end new
         WrotePart-segment h = record {
           part = part;
-          took = h.written ∙ ap (λ l. taken old ++ encoded_form e d form l) is;
+          took = h.written ∙ ap (λ l. into.taken old ++ encoded_form e d form l) is;
           ahead = h.ahead;
         }
 
@@ -150,7 +150,7 @@ module _ (e : Encoding) (d : Reading) (form : Form) where
         whole = form-parts ∙ ap (λ l. normal_form d form (decoded_in e l) ++ normal_form d form (decoded_in e (drop end units))) (sym is)
 
         -- or a beginning of it, which begins the form of all
-        longer : (to : S) → TookBeginning e taken (normal_form d form (decoded_in e segment)) old to → TookBeginning e taken (normal_form d form (decoded_in e units)) old to
+        longer : (to : S) → TookBeginning e into.taken (normal_form d form (decoded_in e segment)) old to → TookBeginning e into.taken (normal_form d form (decoded_in e units)) old to
         longer to b = record {
           front = b.front;
           rest = b.rest ++ normal_form d form (decoded_in e (drop end units));
@@ -158,8 +158,8 @@ module _ (e : Encoding) (d : Reading) (form : Form) where
           took = b.took;
         }
 
-        pub WritesText-segment_refused : (fault : NormalizeError) → WritesText e taken refused left refuses NothingOffered (normal_form d form (decoded_in e segment)) old (Err fault) new
-            → WritesText e taken refused left refuses (StandsInInput e d form units) (normal_form d form (decoded_in e units)) old (Err fault) new
+        pub WritesText-segment_refused : (fault : NormalizeError) → WritesText e into NothingOffered (normal_form d form (decoded_in e segment)) old (Err fault) new
+            → WritesText e into (StandsInInput e d form units) (normal_form d form (decoded_in e units)) old (Err fault) new
         unfolding longer
         WritesText-segment_refused fault h = record {
           written = tt;
@@ -185,36 +185,36 @@ module _ (e : Encoding) (d : Reading) (form : Form) where
   -- ---- one part after another
 
   -- all before a position was written
-  pub record WroteUpTo {S : Type 0} (taken : S → List ℕ) (refused : S → S → Type 0) (units : List ℕ) (old : S) (position : ℕ) (now : S) : Type 0 where
+  pub record WroteUpTo {S U : Type 0} (into : Target S U) (units : List ℕ) (old : S) (position : ℕ) (now : S) : Type 0 where
     pub boundary : IsBoundary (first_in e) units position
     pub divides : Divides d form (decoded_in e (take position units)) (decoded_in e (drop position units))
-    pub took : taken now ≡ taken old ++ encoded_form e d form (take position units)
-    pub ahead : (later : S) → refused now later → refused old later
+    pub took : into.taken now ≡ into.taken old ++ encoded_form e d form (take position units)
+    pub ahead : (later : S) → into.refused now later → into.refused old later
 
-  module _ {S : Type 0} (taken : S → List ℕ) (refused left : S → S → Type 0) (refuses : S → List ℕ → Type 0) (units : List ℕ) (old : S) where
-    pub WroteUpTo-none : WroteUpTo taken refused units old 0 old
+  module _ {S U : Type 0} (into : Target S U) (units : List ℕ) (old : S) where
+    pub WroteUpTo-none : WroteUpTo into units old 0 old
     WroteUpTo-none = record {
       boundary = boundary-start (first_in e) (IsDecoding-first e) units;
       divides = subst (λ x. Divides d form x (decoded_in e units)) (sym (decoded-nil (first_in e))) (Divides-start d form (decoded_in e units));
-      took = sym (append-nil (taken old)) ∙ ap (λ l. taken old ++ l) (sym encoded_form-nil);
+      took = sym (append-nil (into.taken old)) ∙ ap (λ l. into.taken old ++ l) (sym encoded_form-nil);
       ahead = λ later h. h;
     }
 
     -- all was written
-    pub WritesText-parts : {offered : List ℕ → List ℕ → Type 0} → (position : ℕ) (now : S) → WroteUpTo taken refused units old position now → length units ≤ position
-        → WritesText e taken refused left refuses offered (normal_form d form (decoded_in e units)) old (Ok tt) now
+    pub WritesText-parts : {offered : List ℕ → List ℕ → Type 0} → (position : ℕ) (now : S) → WroteUpTo into units old position now → length units ≤ position
+        → WritesText e into offered (normal_form d form (decoded_in e units)) old (Ok tt) now
     WritesText-parts position now so_far all =
         let most = boundary-le (first_in e) (IsDecoding-first e) units position so_far.boundary in
         let end : position ≡ length units = omega (arith, most) in
         record {
-          written = so_far.took ∙ ap (λ l. taken old ++ encoded_form e d form l) (ap (λ n. take n units) end ∙ take-length units);
+          written = so_far.took ∙ ap (λ l. into.taken old ++ encoded_form e d form l) (ap (λ n. take n units) end ∙ take-length units);
           ahead = so_far.ahead;
           fault = λ k. absurd (cc);
           refusal = λ k. absurd (cc);
           begun = λ k. absurd (cc);
         }
 
-    module _ (position : ℕ) (now : S) (so_far : WroteUpTo taken refused units old position now) (rest : List ℕ) (is : rest ≡ drop position units) where
+    module _ (position : ℕ) (now : S) (so_far : WroteUpTo into units old position now) (rest : List ℕ) (is : rest ≡ drop position units) where
       text_before : List ℕ
       text_before = decoded_in e (take position units)
 
@@ -247,7 +247,7 @@ module _ (e : Encoding) (d : Reading) (form : Form) where
           ∙ so_far.divides (decoded_in e rest) [] (ap (decoded_in e) (sym is) ∙ sym (append-nil (decoded_in e rest)))
 
       -- one more part was written
-      pub WroteUpTo-more : (end : ℕ) (new : S) → WrotePart taken refused e d form rest now end new → WroteUpTo taken refused units old (position + end) new
+      pub WroteUpTo-more : (end : ℕ) (new : S) → WrotePart e into d form rest now end new → WroteUpTo into units old (position + end) new
       WroteUpTo-more end new wrote = record {
         boundary = boundary_behind end wrote.part.boundary;
         divides = subst (λ x. Divides d form x (decoded_in e (drop (position + end) units))) (sym (text_to end wrote.part.boundary))
@@ -255,20 +255,20 @@ module _ (e : Encoding) (d : Reading) (form : Form) where
             (wrote.part.divides (decoded_in e (take position units))));
         took = wrote.took
             ∙ ap (λ l. l ++ encoded_form e d form (take end rest)) so_far.took
-            ∙ append_assoc (taken old) (encoded_form e d form (take position units)) (encoded_form e d form (take end rest))
-            ∙ ap (λ l. taken old ++ l)
+            ∙ append_assoc (into.taken old) (encoded_form e d form (take position units)) (encoded_form e d form (take end rest))
+            ∙ ap (λ l. into.taken old ++ l)
             (sym (encoded_in-append e (normal_form d form (decoded_in e (take position units))) (normal_form d form (decoded_in e (take end rest))))
             ∙ ap (encoded_in e) (sym (form_to end wrote.part.boundary)));
         ahead = λ later h. so_far.ahead later (wrote.ahead later h);
       }
 
       -- a part may have been written
-      pub WroteUpTo-maybe : (end : ℕ) (new : S) → (end ≡ 0 → new ≡ now) → (0 < end → WrotePart taken refused e d form rest now end new)
-          → WroteUpTo taken refused units old (position + end) new
+      pub WroteUpTo-maybe : (end : ℕ) (new : S) → (end ≡ 0 → new ≡ now) → (0 < end → WrotePart e into d form rest now end new)
+          → WroteUpTo into units old (position + end) new
       WroteUpTo-maybe end new none wrote = elim (eq-zero-or-pos end) [
         | inl empty ↦
             let same : position ≡ position + end = omega (arith, empty) in
-            subst (λ n. WroteUpTo taken refused units old n new) same (subst (WroteUpTo taken refused units old position) (sym (none empty)) so_far)
+            subst (λ n. WroteUpTo into units old n new) same (subst (WroteUpTo into units old position) (sym (none empty)) so_far)
         | inr some ↦ WroteUpTo-more end new (wrote some)
       ]
 
@@ -281,15 +281,15 @@ module _ (e : Encoding) (d : Reading) (form : Form) where
           (HasShortRuns-rest f d (decoded_in e (take position units)) (decoded_in e (drop position units)) (subst (HasShortRuns f d) (text-parts units position so_far.boundary) h))
 
       -- a beginning of the form of the rest, after what was written
-      beginning_behind : (to : S) → TookBeginning e taken (normal_form d form (decoded_in e rest)) now to → TookBeginning e taken (normal_form d form (decoded_in e units)) old to
+      beginning_behind : (to : S) → TookBeginning e into.taken (normal_form d form (decoded_in e rest)) now to → TookBeginning e into.taken (normal_form d form (decoded_in e units)) old to
       beginning_behind to b = record {
         front = normal_form d form (decoded_in e (take position units)) ++ b.front;
         rest = b.rest;
         parts = form_of_all ∙ ap (λ l. normal_form d form (decoded_in e (take position units)) ++ l) b.parts
             ∙ sym (append_assoc (normal_form d form (decoded_in e (take position units))) b.front b.rest);
         took = b.took ∙ ap (λ l. l ++ encoded_in e b.front) so_far.took
-            ∙ append_assoc (taken old) (encoded_form e d form (take position units)) (encoded_in e b.front)
-            ∙ ap (λ l. taken old ++ l) (sym (encoded_in-append e (normal_form d form (decoded_in e (take position units))) b.front));
+            ∙ append_assoc (into.taken old) (encoded_form e d form (take position units)) (encoded_in e b.front)
+            ∙ ap (λ l. into.taken old ++ l) (sym (encoded_in-append e (normal_form d form (decoded_in e (take position units))) b.front));
       }
 
       -- a piece of the rest is one of the whole
@@ -305,8 +305,8 @@ module _ (e : Encoding) (d : Reading) (form : Form) where
 
       -- the next part was not written
       pub WritesText-behind : (fault : NormalizeError) (new : S)
-          → WritesText e taken refused left refuses (StandsInInput e d form rest) (normal_form d form (decoded_in e rest)) now (Err fault) new
-          → WritesText e taken refused left refuses (StandsInInput e d form units) (normal_form d form (decoded_in e units)) old (Err fault) new
+          → WritesText e into (StandsInInput e d form rest) (normal_form d form (decoded_in e rest)) now (Err fault) new
+          → WritesText e into (StandsInInput e d form units) (normal_form d form (decoded_in e units)) old (Err fault) new
       unfolding beginning_behind
       WritesText-behind fault new h = record {
         written = tt;
@@ -326,10 +326,10 @@ module _ (e : Encoding) (d : Reading) (form : Form) where
       }
 
     -- the first part may have been written
-    pub WroteUpTo-first : (end : ℕ) (new : S) → (end ≡ 0 → new ≡ old) → (0 < end → WrotePart taken refused e d form units old end new) → WroteUpTo taken refused units old end new
+    pub WroteUpTo-first : (end : ℕ) (new : S) → (end ≡ 0 → new ≡ old) → (0 < end → WrotePart e into d form units old end new) → WroteUpTo into units old end new
     WroteUpTo-first end new none wrote =
         let same : 0 + end ≡ end = omega arith in
-        subst (λ n. WroteUpTo taken refused units old n new) same (WroteUpTo-maybe 0 old WroteUpTo-none units refl end new none wrote)
+        subst (λ n. WroteUpTo into units old n new) same (WroteUpTo-maybe 0 old WroteUpTo-none units refl end new none wrote)
 
-    pub WroteUpTo-le : (position : ℕ) (now : S) → WroteUpTo taken refused units old position now → position ≤ length units
+    pub WroteUpTo-le : (position : ℕ) (now : S) → WroteUpTo into units old position now → position ≤ length units
     WroteUpTo-le position now so_far = boundary-le (first_in e) (IsDecoding-first e) units position so_far.boundary

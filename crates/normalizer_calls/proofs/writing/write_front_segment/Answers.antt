@@ -20,7 +20,7 @@ returns-in_err-write_segment-clause-refused g c =
     let part = IsPart-segment _ _ _ _ _ c.passed_characters_stand_apart.ensures.begins _ c.front_segment-segment.ensures.end in
     let is : c.from_residual.result ≡ Err c.in_err-write_segment.field-0.0 = search rules in
     rw is
-    (WritesText-segment_refused _ _ _ _ _ part g.O.Output.taken g.O.Output.refused g.O.Output.left g.O.Output.refuses _ _ _ c.before-2.ensures _
+    (WritesText-segment_refused _ _ _ _ _ part g.O.Output _ _ _ c.before-2.ensures _
     (rw c.in_err-write_segment.was at c.write_segment.ensures.text))
 
 pub returns-in_err-write_segment-clause-room : goal.returns-in_err-write_segment-clause-room
@@ -32,4 +32,4 @@ returns-in_err-write_segment-clause-room g c = λ short.
 pub returns-clause-part : goal.returns-clause-part
 returns-clause-part g c =
     let part = IsPart-segment _ _ _ _ _ c.passed_characters_stand_apart.ensures.begins _ c.front_segment-segment.ensures.end in
-    WrotePart-segment _ _ _ _ _ part g.O.Output.taken g.O.Output.refused g.O.Output.left g.O.Output.refuses _ _ _ c.before-2.ensures (rw c.in_ok-write_segment.was at c.write_segment.ensures.text)
+    WrotePart-segment _ _ _ _ _ part g.O.Output _ _ _ c.before-2.ensures (rw c.in_ok-write_segment.was at c.write_segment.ensures.text)

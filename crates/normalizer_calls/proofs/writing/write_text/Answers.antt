@@ -6,11 +6,11 @@ use Rattle.normalizer_calls.proofs.WritingLemmas.{WroteSoFar-none, WroteSoFar-mo
 use Rattle.normalizer_calls.proofs.writing.write_text.Goals as goal
 
 pub loop-place-init : goal.loop-place-init
-loop-place-init g c = WroteSoFar-none g.U.Units.encoding g.O.Output.taken g.O.Output.refused g.O.Output.left g.O.Output.refuses list_gives _ _
+loop-place-init g c = WroteSoFar-none g.U.Units.encoding g.O.Output list_gives _ _
 
 pub loop-place-preserved : goal.loop-place-preserved
 loop-place-preserved g c =
-    WroteSoFar-more g.U.Units.encoding g.O.Output.taken g.O.Output.refused g.O.Output.left g.O.Output.refuses list_gives _ _ _
+    WroteSoFar-more g.U.Units.encoding g.O.Output list_gives _ _ _
     (drop (c.loop-place.place + 1) c.args.text.now) _ _ c.loop-place.invariant c.index-text-place.result
     (list_gives-at c.args.text.now c.loop-place.place c.index-text-place.result (slice_get-get_or c.args.text.now c.loop-place.place c.index-text-place.result (omega arith) ∙ ap (λ x. Some x) (sym c.index-text-place.is))) (rw c.in_ok-write_char.was at c.write_char.ensures)
 
@@ -18,12 +18,12 @@ pub returns-in_err-write_char-clause-text : goal.returns-in_err-write_char-claus
 returns-in_err-write_char-clause-text g c =
     let is : c.from_residual.result ≡ Err Sink = search rules in
     rw is
-    (WritesText-refused g.U.Units.encoding g.O.Output.taken g.O.Output.refused g.O.Output.left g.O.Output.refuses list_gives _ _ _
+    (WritesText-refused g.U.Units.encoding g.O.Output list_gives _ _ _
     (drop (c.loop-place.place + 1) c.args.text.now) _ _ c.loop-place.invariant c.index-text-place.result _
     (list_gives-at c.args.text.now c.loop-place.place c.index-text-place.result (slice_get-get_or c.args.text.now c.loop-place.place c.index-text-place.result (omega arith) ∙ ap (λ x. Some x) (sym c.index-text-place.is))) c.in_err-write_char.ensures _ (SpellsUnless-list c.args.text.now))
 
 pub returns-clause-text : goal.returns-clause-text
 returns-clause-text g c =
     let past : length c.args.text.now ≤ c.loop-place.place = omega (arith, c.loop-place-test.false) in
-    WritesText-all g.U.Units.encoding g.O.Output.taken g.O.Output.refused g.O.Output.left g.O.Output.refuses list_gives _ _ _ _ _ c.loop-place.invariant
+    WritesText-all g.U.Units.encoding g.O.Output list_gives _ _ _ _ _ c.loop-place.invariant
     (list_gives-end c.args.text.now c.loop-place.place past) _ (SpellsUnless-list c.args.text.now)
