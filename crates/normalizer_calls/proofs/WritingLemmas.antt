@@ -32,19 +32,19 @@ pub record WroteSoFar {S U I : Type 0} (e : Encoding) (into : Target S U) (gives
   pub ahead : (later : S) → into.refused now later → into.refused old later
   pub room : (x : List ℕ) → SpellsOk gives start x → (rest : List ℕ) × SpellsOk gives items rest
 
-module _ {S U I : Type 0} (e : Encoding) (into : Target S U) (gives : I → Option (Result ℕ NormalizeError) → I → Type 0) where
-  pub WroteSoFar-none : (start : I) (old : S) → WroteSoFar e into gives start old start old
-  WroteSoFar-none start old = record {
+module _ {S U I : Type 0} {e : Encoding} {into : Target S U} {gives : I → Option (Result ℕ NormalizeError) → I → Type 0} where
+  pub WroteSoFar-none : {start : I} {old : S} → WroteSoFar e into gives start old start old
+  WroteSoFar-none {old = old} = record {
     text = λ x h. (record { front = []; rest = x; parts = refl; took = sym (append-nil (into.taken old)) ∙ ap (λ units. into.taken old ++ units) (sym (encoded_in-nil e)) }, h);
     ahead = λ later h. h;
     room = λ x h. (x, h);
   }
 
-  module _ (start : I) (old : S) (items next : I) (now new : S) (before : WroteSoFar e into gives start old items now) where
+  module _ {start : I} {old : S} {items next : I} {now new : S} (before : WroteSoFar e into gives start old items now) where
     -- one more character was written
-    pub WroteSoFar-more : (c : ℕ) → gives items (Some (Ok c)) next → Answered into now (encoded_in e (c ∷ [])) (Ok tt) new
+    pub WroteSoFar-more : {c : ℕ} → gives items (Some (Ok c)) next → Answered into now (encoded_in e (c ∷ [])) (Ok tt) new
         → WroteSoFar e into gives start old next new
-    WroteSoFar-more c step answer = record {
+    WroteSoFar-more {c = c} step answer = record {
       text = λ x h.
           let so_far = before.text x h in
           let b = so_far.0 in
@@ -65,10 +65,10 @@ module _ {S U I : Type 0} (e : Encoding) (into : Target S U) (gives : I → Opti
     }
 
     -- a character was refused
-    pub WritesText-refused : {offered : List ℕ → List ℕ → Type 0} → (c : ℕ) (refusal : SinkError) → gives items (Some (Ok c)) next
+    pub WritesText-refused : {offered : List ℕ → List ℕ → Type 0} {c : ℕ} {refusal : SinkError} → gives items (Some (Ok c)) next
         → Answered into now (encoded_in e (c ∷ [])) (Err refusal) new
-        → (x : List ℕ) → SpellsUnless gives Memory start x → WritesText e into offered x old (Err Sink) new
-    WritesText-refused c refusal step answer x h =
+        → {x : List ℕ} → SpellsUnless gives Memory start x → WritesText e into offered x old (Err Sink) new
+    WritesText-refused {c = c} step answer {x = x} h =
         let so_far = before.text x h in
         let came = SpellsUnless-next gives Memory items next c so_far.0.rest step so_far.1 in record {
           written = tt;
@@ -87,23 +87,23 @@ module _ {S U I : Type 0} (e : Encoding) (into : Target S U) (gives : I → Opti
           begun = λ k. absurd (cc);
         }
 
-  module _ (start : I) (old : S) (items next : I) (now : S) (before : WroteSoFar e into gives start old items now) where
+  module _ {start : I} {old : S} {items next : I} {now : S} (before : WroteSoFar e into gives start old items now) where
     -- the iterator yielded an error
-    pub WritesText-fault : {offered : List ℕ → List ℕ → Type 0} → (fault : NormalizeError) → gives items (Some (Err fault)) next → (x : List ℕ)
+    pub WritesText-fault : {offered : List ℕ → List ℕ → Type 0} {fault : NormalizeError} → gives items (Some (Err fault)) next → {x : List ℕ}
         → SpellsUnless gives Memory start x → WritesText e into offered x old (Err fault) now
-    WritesText-fault fault step x h =
+    WritesText-fault {fault = fault} step {x = x} h =
         let so_far = before.text x h in
         let memory = (SpellsUnless-fault gives Memory items next fault so_far.0.rest step so_far.1).0 in
         record { written = tt; ahead = tt; fault = λ k. absurd (cc); refusal = λ k. absurd (cc); begun = λ _. so_far.0 }
 
     -- which it never does if each item is `Ok`
-    pub WroteSoFar-room : (fault : NormalizeError) → gives items (Some (Err fault)) next → (x : List ℕ) → SpellsOk gives start x → ⊥
-    WroteSoFar-room fault step x h = let so_far = before.room x h in SpellsOk-no_fault gives items next fault so_far.0 step so_far.1
+    pub WroteSoFar-room : {fault : NormalizeError} → gives items (Some (Err fault)) next → (x : List ℕ) → SpellsOk gives start x → ⊥
+    WroteSoFar-room {fault = fault} step x h = let so_far = before.room x h in SpellsOk-no_fault gives items next fault so_far.0 step so_far.1
 
     -- no character was left
-    pub WritesText-all : {offered : List ℕ → List ℕ → Type 0} → gives items None next → (x : List ℕ) → SpellsUnless gives Memory start x
+    pub WritesText-all : {offered : List ℕ → List ℕ → Type 0} → gives items None next → {x : List ℕ} → SpellsUnless gives Memory start x
         → WritesText e into offered x old (Ok tt) now
-    WritesText-all step x h =
+    WritesText-all step {x = x} h =
         let so_far = before.text x h in
         let b = so_far.0 in
         let ended = (SpellsUnless-end gives Memory items next b.rest step so_far.1).0 in record {
@@ -115,16 +115,16 @@ module _ {S U I : Type 0} (e : Encoding) (into : Target S U) (gives : I → Opti
         }
 
 -- the same text was written
-pub WritesText-same : {S U : Type 0} {offered : List ℕ → List ℕ → Type 0} (e : Encoding) (into : Target S U) (x y : List ℕ) (old : S) (answer : Result ⊤ NormalizeError) (new : S)
+pub WritesText-same : {S U : Type 0} {offered : List ℕ → List ℕ → Type 0} {e : Encoding} {into : Target S U} {x y : List ℕ} {old new : S} {answer : Result ⊤ NormalizeError}
     → x ≡ y → WritesText e into offered x old answer new → WritesText e into offered y old answer new
-WritesText-same {offered = offered} e into x y old answer new same h = subst (λ z. WritesText e into offered z old answer new) same h
+WritesText-same {offered = offered} {e = e} {into = into} {old = old} {new = new} {answer = answer} same h = subst (λ z. WritesText e into offered z old answer new) same h
 
 -- what comes after a hint
-module _ {S U : Type 0} (e : Encoding) (into : Target S U) (old : S) (n : ℕ) where
+module _ {S U : Type 0} (e : Encoding) (into : Target S U) {old : S} {n : ℕ} where
   -- if it was refused, nothing was written
-  pub WritesText-untold : {offered : List ℕ → List ℕ → Type 0} → (refusal : SinkError) (new : S) → AnsweredHint into old n (Err refusal) new
-      → (text : List ℕ) → WritesText e into offered text old (Err Sink) new
-  WritesText-untold refusal new told text =
+  pub WritesText-untold : {offered : List ℕ → List ℕ → Type 0} {refusal : SinkError} {new : S} → AnsweredHint into old n (Err refusal) new
+      → {text : List ℕ} → WritesText e into offered text old (Err Sink) new
+  WritesText-untold told {text = text} =
       let nothing = encoded_in-nil e in record {
         written = tt;
         ahead = tt;
@@ -142,44 +142,45 @@ module _ {S U : Type 0} (e : Encoding) (into : Target S U) (old : S) (n : ℕ) w
         begun = λ k. absurd (cc);
       }
 
-  pub TellsLengthFirst-untold : (len : ℕ) → n ≡ len → (refusal : SinkError) (new : S) → AnsweredHint into old n (Err refusal) new
+  pub TellsLengthFirst-untold : {len : ℕ} → n ≡ len → {refusal : SinkError} {new : S} → AnsweredHint into old n (Err refusal) new
       → TellsLengthFirst into.taken into.hinted len old (Err Sink) new
-  TellsLengthFirst-untold len is refusal new told = record { hint = Err refusal; state = new; first = subst (λ k. into.hinted old k (Err refusal) new) is told.hint; stops = (refl, refl, told.none) }
+  TellsLengthFirst-untold is {refusal = refusal} {new = new} told = record { hint = Err refusal; state = new; first = subst (λ k. into.hinted old k (Err refusal) new) is told.hint; stops = (refl, refl, told.none) }
 
   -- if it was taken, the rest is as if nothing had come before
-  module _ (mid : S) (told : AnsweredHint into old n (Ok tt) mid) (answer : Result ⊤ NormalizeError) (new : S) where
+  module _ {mid : S} (told : AnsweredHint into old n (Ok tt) mid) where
     TookBeginning-told : (text : List ℕ) (to : S) → TookBeginning e into.taken text mid to → TookBeginning e into.taken text old to
     TookBeginning-told text to b = record { front = b.front; rest = b.rest; parts = b.parts; took = b.took ∙ ap (λ units. units ++ encoded_in e b.front) told.none }
 
-    pub WritesText-told : {offered : List ℕ → List ℕ → Type 0} → (text : List ℕ) → WritesText e into offered text mid answer new
-        → WritesText e into offered text old answer new
-    unfolding TookBeginning-told
-    WritesText-told text h = record {
-      written = IfOk-weaker answer _ _ (λ _ w. w ∙ ap (λ units. units ++ encoded_in e text) told.none) h.written;
-      ahead = IfOk-weaker answer _ _ (λ _ ahead later r. told.units.written.ahead later (ahead later r)) h.ahead;
-      fault = λ is. told.units.written.ahead new (h.fault is);
-      refusal = λ is. let r = h.refusal is in
-          record {
-            before = r.before;
-            beginning = TookBeginning-told text r.before r.beginning;
-            piece = r.piece;
-            kind = r.kind;
-            rest = r.rest;
-            goes_on = r.goes_on;
-            known = r.known;
-            leaves = r.leaves;
-          };
-      begun = λ is. TookBeginning-told text new (h.begun is);
-    }
+    module _ {answer : Result ⊤ NormalizeError} {new : S} where
+      pub WritesText-told : {offered : List ℕ → List ℕ → Type 0} {text : List ℕ} → WritesText e into offered text mid answer new
+          → WritesText e into offered text old answer new
+      unfolding TookBeginning-told
+      WritesText-told {text = text} h = record {
+        written = IfOk-weaker answer _ _ (λ _ w. w ∙ ap (λ units. units ++ encoded_in e text) told.none) h.written;
+        ahead = IfOk-weaker answer _ _ (λ _ ahead later r. told.units.written.ahead later (ahead later r)) h.ahead;
+        fault = λ is. told.units.written.ahead new (h.fault is);
+        refusal = λ is. let r = h.refusal is in
+            record {
+              before = r.before;
+              beginning = TookBeginning-told text r.before r.beginning;
+              piece = r.piece;
+              kind = r.kind;
+              rest = r.rest;
+              goes_on = r.goes_on;
+              known = r.known;
+              leaves = r.leaves;
+            };
+        begun = λ is. TookBeginning-told text new (h.begun is);
+      }
 
-    pub TellsLengthFirst-told : (len : ℕ) → n ≡ len → TellsLengthFirst into.taken into.hinted len old answer new
-    TellsLengthFirst-told len is = record { hint = Ok tt; state = mid; first = subst (λ k. into.hinted old k (Ok tt) mid) is told.hint; stops = tt }
+      pub TellsLengthFirst-told : {len : ℕ} → n ≡ len → TellsLengthFirst into.taken into.hinted len old answer new
+      TellsLengthFirst-told is = record { hint = Ok tt; state = mid; first = subst (λ k. into.hinted old k (Ok tt) mid) is told.hint; stops = tt }
 
 -- the form was written, whose text is the form of x
-pub WritesForm-text : {S U : Type 0} {offered : List ℕ → List ℕ → Type 0} (e : Encoding) (into : Target S U) (m : MadeForm) (x y : List ℕ) (old : S) (answer : Result ⊤ NormalizeError) (new : S)
-    → x ≡ y → WritesText e into offered (form_of m x) old answer new → (HasShortRuns m.has_class_form m.reading x → ¬ IsErrOf answer Memory)
+pub WritesForm-text : {S U : Type 0} {offered : List ℕ → List ℕ → Type 0} {e : Encoding} {into : Target S U} {m : MadeForm} {x y : List ℕ} {old new : S}
+    {answer : Result ⊤ NormalizeError} → x ≡ y → WritesText e into offered (form_of m x) old answer new → (HasShortRuns m.has_class_form m.reading x → ¬ IsErrOf answer Memory)
     → WritesForm e into.taken into.refused into.left m y old answer new
-WritesForm-text {S = S} {offered = offered} e into m x y old answer new same h room =
+WritesForm-text {S = S} {offered = offered} {e = e} {into = into} {m = m} {x = x} {old = old} {new = new} {answer = answer} same h room =
     subst (λ z. WritesForm e into.taken into.refused into.left m z old answer new) same (record { written = h.written; ahead = h.ahead; fault = h.fault; room = room; begun = begun answer h })
   where
     begun : (answer : Result ⊤ NormalizeError) → WritesText e into offered (form_of m x) old answer new

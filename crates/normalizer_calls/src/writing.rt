@@ -157,7 +157,8 @@ fn write_run<U: Units, N: Forming, O: Output<U>>(
     Ok(end)
 }
 
-/// Writes the form of the segment at the front of the units, and returns that. The first step may have been read before.
+/// Writes the form of the segment at the front of the units, and returns that. The first step may have been read
+/// before.
 #[inline(always)]
 fn write_front_segment<U: Units, N: Forming, O: Output<U>>(
     normalizer: &N,

@@ -11,7 +11,8 @@ use Rattle.normalizer_calls.specs.Forms.{MadeForm, form_in}
 use Rattle.normalizer_calls.specs.Writing.{TookBeginning}
 use Rattle.normalizer_calls.specs.inner.Passing.{IsPart, StandsInInput}
 
--- what is said of an output S of pieces of U: what it has taken, and what holds after a refused call
+-- what is said of an output S of pieces of U: what it has taken, what a refused call leaves and tells, and what a hint
+-- may return
 abbrev pub Target : Type 0 → Type 0 → Type 1
 Target S U = Ghosts S U
 
@@ -51,6 +52,6 @@ module _ {S U : Type 0} (e : Encoding) (into : Target S U) where
     pub took : into.taken new ≡ into.taken old ++ encoded_form e d form (take end units)
     pub ahead : (later : S) → into.refused new later → into.refused old later
 
-  -- a part of the units was written, by the reading and form that are made
+  -- the same, of a form with its reading
   abbrev pub WritesPart : MadeForm → List ℕ → S → ℕ → S → Type 0
   WritesPart m units = WrotePart m.reading m.form units
