@@ -15,9 +15,10 @@ use Rattle.normal_forms.proofs.ChunkLemmas.{HasShortRuns-rest}
 use Rattle.normal_forms.proofs.TextLemmas.{IsText-normal_form}
 use Rattle.normalizer_tables.specs.AcceptedData.{SuitsTexts}
 use Rattle.normalizer_calls.specs.inner.Offences.{IsCutUnlessNormalized}
-use Rattle.normalizer_calls.specs.inner.Writing.{WasRefusedPiece, WritesText}
+use Rattle.normalizer_calls.specs.inner.Writing.{Target, WasRefusedPiece, WritesText}
 use Rattle.normalizer_text.specs.CheckSinks.{Expectation, ChangesNothing, ExpectsTheSame, IsUnexpected}
 use Rattle.normalizer_text.specs.Encodings.{Encoding, first_in, encoded_in, decoded_in}
+use Rattle.normalizer_text.specs.Outputs.{NoHint}
 use Rattle.normalizer_text.specs.Steps.{IsBoundary, IsFirstStep}
 use Rattle.normalizer_text.specs.declared.step.Step.{Step}
 use Rattle.normalizer_text.proofs.EncodingRules.{IsDecoding-first}
@@ -37,25 +38,29 @@ use Rattle.normalizer_calls.specs.Checks.{IsLastingOffence, IsSplitAtCut}
 use Rattle.normalizer_calls.specs.Forms.{MadeForm}
 use Rattle.normalizer_calls.specs.inner.Passing.{StandsInInput}
 
+-- what is said of a check sink
+abbrev pub check_target : (U : Type 0) → Target Expectation U
+check_target U = record { taken = λ sink. sink.came; refused = ExpectsTheSame; left = ChangesNothing; refuses = IsUnexpected; hinted = NoHint }
+
 module _ (e : Encoding) (d : Reading) (form : Form) (units : List ℕ) where
   abbrev text : List ℕ
   text = normal_form d form (decoded_in e units)
 
   -- a check sink that was given the form
-  abbrev pub IsChecked : Result ⊤ NormalizeError → Expectation → Type 0
-  IsChecked answer new =
-      WritesText e (λ sink. sink.came) ExpectsTheSame ChangesNothing IsUnexpected (StandsInInput e d form units) text (record { came = []; remaining = units }) answer new
+  abbrev pub IsChecked : Type 0 → Result ⊤ NormalizeError → Expectation → Type 0
+  IsChecked U answer new =
+      WritesText e (check_target U) (StandsInInput e d form units) text (record { came = []; remaining = units }) answer new
 
-  module _ (suits : SuitsTexts d form) where
-    pub normalized_where_expected : (new : Expectation) → IsChecked (Ok tt) new → IsInputNormalized e d form units
+  module _ {U : Type 0} (suits : SuitsTexts d form) where
+    pub normalized_where_expected : (new : Expectation) → IsChecked U (Ok tt) new → IsInputNormalized e d form units
     normalized_where_expected new h =
         let texts = IsText-normal_form d form suits.texts suits.scalars in
         let all : new.came ++ new.remaining ≡ units = h.ahead new refl in
         let front : IsFront (encoded_form e d form units) units = (new.remaining, sym all ∙ ap (λ l. l ++ new.remaining) h.written) in
         (is_normalized_iff_encoded_form e d form units texts).1 (form_ends_with_units e d form suits.laws suits.inhabited texts units front)
 
-    module _ (new : Expectation) (h : IsChecked (Err Sink) new) where
-      abbrev refusal : WasRefusedPiece e (λ sink. sink.came) ChangesNothing IsUnexpected (StandsInInput e d form units) text (record { came = []; remaining = units }) new
+    module _ (new : Expectation) (h : IsChecked U (Err Sink) new) where
+      abbrev refusal : WasRefusedPiece e (check_target U) (StandsInInput e d form units) text (record { came = []; remaining = units }) new
       refusal = h.refusal refl
 
       front : List ℕ

@@ -13,7 +13,6 @@ use Rattle.normal_forms.specs.ShortRuns.{continues, leading_length, HasShortChun
 use Rattle.normal_forms.proofs.ChunkLemmas.{HasShortRuns-rest}
 use Rattle.normalizer_text.specs.declared.sink.SinkError.{SinkError}
 use Rattle.normalizer_text.specs.Encodings.{Encoding, first_in, encoded_in, decoded_in}
-use Rattle.normalizer_text.specs.Outputs.{AnswersUnits}
 use Rattle.normalizer_text.specs.Steps.{IsBoundary}
 use Rattle.normalizer_text.proofs.BoundaryLemmas.{boundary-after, boundary-le, boundary-start, decoded-take-drop}
 use Rattle.normalizer_text.proofs.EncodingRules.{IsDecoding-first, encoded-decoded}
@@ -23,10 +22,11 @@ use Rattle.normalizer_input.specs.EncodedForm.{encoded_form}
 use Rattle.normalizer_input.specs.InputCut.{IsInputNormalized}
 use Rattle.normalizer_iterators.specs.declared.error.NormalizeError.{NormalizeError}
 use Rattle.normalizer_iterators.specs.declared.error.NormalizeError.TheVariants.{Sink}
-use Rattle.normalizer_calls.specs.inner.Passing.{Divides, IsPart, StandsInInput, WrotePart}
+use Rattle.normalizer_calls.specs.inner.Passing.{Divides, IsPart, StandsInInput}
 use Rattle.normalizer_calls.specs.Writing.{TookBeginning}
 use Rattle.normalizer_calls.proofs.PassingLemmas.{normal_form-nil, Divides-start}
-use Rattle.normalizer_calls.specs.inner.Writing.{NothingOffered, WritesText}
+use Rattle.normalizer_calls.proofs.WritingLemmas.{Answered}
+use Rattle.normalizer_calls.specs.inner.Writing.{NothingOffered, Target, WritesText, WrotePart}
 
 -- ---- short runs of a front
 
@@ -57,59 +57,83 @@ HasShortRuns-front f d x rest h = record {
 }
 
 -- a fault that a part never returns is not passed on from it
-pub not_handed_on : {A B E : Type 0} (of_part : Result A E) (of_all : Result B E) (fault other : E) → of_part ≡ Err fault → of_all ≡ Err fault → ¬ IsErrOf of_part other → ¬ IsErrOf of_all other
-not_handed_on of_part of_all fault other is handed none got =
+pub not_handed_on : {A B E : Type 0} {of_part : Result A E} {of_all : Result B E} {fault other : E} → of_part ≡ Err fault → of_all ≡ Err fault → ¬ IsErrOf of_part other → ¬ IsErrOf of_all other
+not_handed_on {fault = fault} {other = other} is handed none got =
     let both : Err fault ≡ Err other = sym handed ∙ got in
     let same : fault ≡ other = cc in
     none (is ∙ ap (λ f. Err f) same)
 
-module _ (e : Encoding) (d : Reading) (form : Form) where
-  -- the text in two parts
-  text-parts : (units : List ℕ) (n : ℕ) → IsBoundary (first_in e) units n → decoded_in e units ≡ decoded_in e (take n units) ++ decoded_in e (drop n units)
-  text-parts = decoded-take-drop (first_in e) (IsDecoding-first e)
+-- all before a position was written
+pub record WroteUpTo {S U : Type 0} (e : Encoding) (into : Target S U) (d : Reading) (form : Form) (units : List ℕ) (old : S) (position : ℕ) (now : S) : Type 0 where
+  pub boundary : IsBoundary (first_in e) units position
+  pub divides : Divides d form (decoded_in e (take position units)) (decoded_in e (drop position units))
+  pub took : into.taken now ≡ into.taken old ++ encoded_form e d form (take position units)
+  pub ahead : (later : S) → into.refused now later → into.refused old later
 
+-- the text in two parts
+text-parts : (e : Encoding) (units : List ℕ) (n : ℕ) → IsBoundary (first_in e) units n → decoded_in e units ≡ decoded_in e (take n units) ++ decoded_in e (drop n units)
+text-parts e = decoded-take-drop (first_in e) (IsDecoding-first e)
+
+module _ (e : Encoding) (d : Reading) (form : Form) where
   form_of_nothing : normal_form d form (decoded_in e []) ≡ []
   form_of_nothing = ap (normal_form d form) (decoded-nil (first_in e)) ∙ normal_form-nil d form form
 
   pub encoded_form-nil : encoded_form e d form [] ≡ []
   encoded_form-nil = ap (encoded_in e) form_of_nothing ∙ encoded_in-nil e
 
-  module _ (units : List ℕ) (end : ℕ) (part : IsPart e d form units end) where
+  -- units that are well-formed and normalized are their own form
+  own_form : (units : List ℕ) → IsInputNormalized e d form units → encoded_form e d form units ≡ units
+  own_form units own = ap (encoded_in e) own.own ∙ encoded-decoded e units own.well_formed
+
+module _ {e : Encoding} {d : Reading} {form : Form} where
+  module _ {units : List ℕ} {end : ℕ} (part : IsPart e d form units end) where
     -- the form of all is that of the part and that of the others
     form-parts : normal_form d form (decoded_in e units) ≡ normal_form d form (decoded_in e (take end units)) ++ normal_form d form (decoded_in e (drop end units))
     form-parts =
-        ap (normal_form d form) (text-parts units end part.boundary)
+        ap (normal_form d form) (text-parts e units end part.boundary)
         ∙ part.divides [] (decoded_in e (drop end units)) [] (sym (append-nil (decoded_in e (drop end units))))
 
     -- it has units
-    pub some_part : (segment : List ℕ) → segment ≡ take end units → 0 < length segment
-    some_part segment is =
+    pub some_part : {segment : List ℕ} → segment ≡ take end units → 0 < length segment
+    some_part {segment = segment} is =
         let some = part.some in
         let most = boundary-le (first_in e) (IsDecoding-first e) units end part.boundary in
         let size : length segment ≡ end = ap length is ∙ length-take-le end units most in
         omega (arith, size)
 
-    pub HasShortRuns-part : (f : ℕ → Bool) (segment : List ℕ) → segment ≡ take end units → HasShortRuns f d (decoded_in e units) → HasShortRuns f d (decoded_in e segment)
-    HasShortRuns-part f segment is h =
+    pub HasShortRuns-part : {f : ℕ → Bool} {segment : List ℕ} → segment ≡ take end units → HasShortRuns f d (decoded_in e units) → HasShortRuns f d (decoded_in e segment)
+    HasShortRuns-part {f = f} is h =
         subst (λ l. HasShortRuns f d (decoded_in e l)) (sym is)
-        (HasShortRuns-front f d (decoded_in e (take end units)) (decoded_in e (drop end units)) (subst (HasShortRuns f d) (text-parts units end part.boundary) h))
+        (HasShortRuns-front f d (decoded_in e (take end units)) (decoded_in e (drop end units)) (subst (HasShortRuns f d) (text-parts e units end part.boundary) h))
 
-    module _ {S : Type 0} (taken : S → List ℕ) (refused left : S → S → Type 0) (refuses : S → List ℕ → Type 0) (old new : S) where
+    -- the part is a segment
+    module _ {segment : List ℕ} (is : segment ≡ take end units) where
+      whole : normal_form d form (decoded_in e units) ≡ normal_form d form (decoded_in e segment) ++ normal_form d form (decoded_in e (drop end units))
+      whole = form-parts ∙ ap (λ l. normal_form d form (decoded_in e l) ++ normal_form d form (decoded_in e (drop end units))) (sym is)
+
+      -- a beginning of its form begins the form of all
+      longer : {S : Type 0} {taken : S → List ℕ} {old to : S} → TookBeginning e taken (normal_form d form (decoded_in e segment)) old to
+          → TookBeginning e taken (normal_form d form (decoded_in e units)) old to
+      longer b = record {
+        front = b.front;
+        rest = b.rest ++ normal_form d form (decoded_in e (drop end units));
+        parts = whole ∙ ap (λ l. l ++ normal_form d form (decoded_in e (drop end units))) b.parts ∙ append_assoc b.front b.rest (normal_form d form (decoded_in e (drop end units)));
+        took = b.took;
+      }
+
+    module _ {S U : Type 0} {into : Target S U} {old new : S} where
       -- a run was written as it is
-      module _ (own : IsInputNormalized e d form (take end units)) (piece : List ℕ) (is : piece ≡ take end units) where
-        same_form : encoded_form e d form (take end units) ≡ take end units
-        same_form = ap (encoded_in e) own.own ∙ encoded-decoded e (take end units) own.well_formed
-
-        pub WrotePart-run : AnswersUnits taken refused left refuses old piece (Ok tt) new → WrotePart taken refused e d form units old end new
+      module _ (own : IsInputNormalized e d form (take end units)) {piece : List ℕ} (is : piece ≡ take end units) where
+        pub WrotePart-run : Answered into old piece (Ok tt) new → WrotePart e into d form units old end new
         WrotePart-run answer = record {
           part = part;
-          took = answer.written.appends ∙ ap (λ l. taken old ++ l) (is ∙ sym same_form);
+          took = answer.written.appends ∙ ap (λ l. into.taken old ++ l) (is ∙ sym (own_form e d form (take end units) own));
           ahead = answer.written.ahead;
         }
 
-        pub WritesText-run_refused : (refusal : SinkError) → AnswersUnits taken refused left refuses old piece (Err refusal) new
-            → WritesText e taken refused left refuses (StandsInInput e d form units) (normal_form d form (decoded_in e units)) old (Err Sink) new
-        WritesText-run_refused refusal answer = record {
+        pub WritesText-run_refused : {refusal : SinkError} → Answered into old piece (Err refusal) new
+            → WritesText e into (StandsInInput e d form units) (normal_form d form (decoded_in e units)) old (Err Sink) new
+        WritesText-run_refused answer = record {
           written = tt;
           ahead = tt;
           fault = λ _. answer.written.fault;
@@ -119,55 +143,43 @@ module _ (e : Encoding) (d : Reading) (form : Form) where
               front = [];
               rest = normal_form d form (decoded_in e units);
               parts = refl;
-              took = sym (append-nil (taken old)) ∙ ap (λ l. taken old ++ l) (sym (encoded_in-nil e));
+              took = sym (append-nil (into.taken old)) ∙ ap (λ l. into.taken old ++ l) (sym (encoded_in-nil e));
             };
             piece = decoded_in e (take end units);
             kind = inr (record {
               place = 0;
               boundary = boundary-start (first_in e) (IsDecoding-first e) units;
-              form_before = sym form_of_nothing;
+              form_before = sym (form_of_nothing e d form);
               next = (drop end units, sym (take-append-drop end units) ∙ ap (λ l. l ++ drop end units) (sym (encoded-decoded e (take end units) own.well_formed)));
             });
             rest = normal_form d form (decoded_in e (drop end units));
             goes_on = form-parts ∙ ap (λ l. l ++ normal_form d form (decoded_in e (drop end units))) own.own;
-            known = subst (refuses old) (is ∙ sym (encoded-decoded e (take end units) own.well_formed)) answer.known;
+            known = subst (into.refuses old) (is ∙ sym (encoded-decoded e (take end units) own.well_formed)) answer.known;
             leaves = answer.written.leaves;
           };
           begun = λ k. absurd (cc);
         }
 
       -- the form of a segment was written
-      module _ (segment : List ℕ) (is : segment ≡ take end units) where
-        pub WrotePart-segment : WritesText e taken refused left refuses NothingOffered (normal_form d form (decoded_in e segment)) old (Ok tt) new
-            → WrotePart taken refused e d form units old end new
+      module _ {segment : List ℕ} (is : segment ≡ take end units) where
+        pub WrotePart-segment : WritesText e into NothingOffered (normal_form d form (decoded_in e segment)) old (Ok tt) new
+            → WrotePart e into d form units old end new
         WrotePart-segment h = record {
           part = part;
-          took = h.written ∙ ap (λ l. taken old ++ encoded_form e d form l) is;
+          took = h.written ∙ ap (λ l. into.taken old ++ encoded_form e d form l) is;
           ahead = h.ahead;
         }
 
-        whole : normal_form d form (decoded_in e units) ≡ normal_form d form (decoded_in e segment) ++ normal_form d form (decoded_in e (drop end units))
-        whole = form-parts ∙ ap (λ l. normal_form d form (decoded_in e l) ++ normal_form d form (decoded_in e (drop end units))) (sym is)
-
-        -- or a beginning of it, which begins the form of all
-        longer : (to : S) → TookBeginning e taken (normal_form d form (decoded_in e segment)) old to → TookBeginning e taken (normal_form d form (decoded_in e units)) old to
-        longer to b = record {
-          front = b.front;
-          rest = b.rest ++ normal_form d form (decoded_in e (drop end units));
-          parts = whole ∙ ap (λ l. l ++ normal_form d form (decoded_in e (drop end units))) b.parts ∙ append_assoc b.front b.rest (normal_form d form (decoded_in e (drop end units)));
-          took = b.took;
-        }
-
-        pub WritesText-segment_refused : (fault : NormalizeError) → WritesText e taken refused left refuses NothingOffered (normal_form d form (decoded_in e segment)) old (Err fault) new
-            → WritesText e taken refused left refuses (StandsInInput e d form units) (normal_form d form (decoded_in e units)) old (Err fault) new
+        pub WritesText-segment_refused : {fault : NormalizeError} → WritesText e into NothingOffered (normal_form d form (decoded_in e segment)) old (Err fault) new
+            → WritesText e into (StandsInInput e d form units) (normal_form d form (decoded_in e units)) old (Err fault) new
         unfolding longer
-        WritesText-segment_refused fault h = record {
+        WritesText-segment_refused h = record {
           written = tt;
           ahead = tt;
           fault = h.fault;
-          refusal = λ is. let r = h.refusal is in record {
+          refusal = λ k. let r = h.refusal k in record {
             before = r.before;
-            beginning = longer r.before r.beginning;
+            beginning = longer is r.beginning;
             piece = r.piece;
             kind = single r.piece r.beginning.front r.kind;
             rest = r.rest ++ normal_form d form (decoded_in e (drop end units));
@@ -175,7 +187,7 @@ module _ (e : Encoding) (d : Reading) (form : Form) where
             known = r.known;
             leaves = r.leaves;
           };
-          begun = λ is. longer new (h.begun is);
+          begun = λ k. longer is (h.begun k);
         }
           where
             single : (piece front : List ℕ) → (length piece ≤ 1) ⊎ NothingOffered front piece → (length piece ≤ 1) ⊎ StandsInInput e d form units front piece
@@ -184,37 +196,30 @@ module _ (e : Encoding) (d : Reading) (form : Form) where
 
   -- ---- one part after another
 
-  -- all before a position was written
-  pub record WroteUpTo {S : Type 0} (taken : S → List ℕ) (refused : S → S → Type 0) (units : List ℕ) (old : S) (position : ℕ) (now : S) : Type 0 where
-    pub boundary : IsBoundary (first_in e) units position
-    pub divides : Divides d form (decoded_in e (take position units)) (decoded_in e (drop position units))
-    pub took : taken now ≡ taken old ++ encoded_form e d form (take position units)
-    pub ahead : (later : S) → refused now later → refused old later
-
-  module _ {S : Type 0} (taken : S → List ℕ) (refused left : S → S → Type 0) (refuses : S → List ℕ → Type 0) (units : List ℕ) (old : S) where
-    pub WroteUpTo-none : WroteUpTo taken refused units old 0 old
+  module _ {S U : Type 0} {into : Target S U} {units : List ℕ} {old : S} where
+    pub WroteUpTo-none : WroteUpTo e into d form units old 0 old
     WroteUpTo-none = record {
       boundary = boundary-start (first_in e) (IsDecoding-first e) units;
       divides = subst (λ x. Divides d form x (decoded_in e units)) (sym (decoded-nil (first_in e))) (Divides-start d form (decoded_in e units));
-      took = sym (append-nil (taken old)) ∙ ap (λ l. taken old ++ l) (sym encoded_form-nil);
+      took = sym (append-nil (into.taken old)) ∙ ap (λ l. into.taken old ++ l) (sym (encoded_form-nil e d form));
       ahead = λ later h. h;
     }
 
     -- all was written
-    pub WritesText-parts : {offered : List ℕ → List ℕ → Type 0} → (position : ℕ) (now : S) → WroteUpTo taken refused units old position now → length units ≤ position
-        → WritesText e taken refused left refuses offered (normal_form d form (decoded_in e units)) old (Ok tt) now
-    WritesText-parts position now so_far all =
+    pub WritesText-parts : {offered : List ℕ → List ℕ → Type 0} {position : ℕ} {now : S} → WroteUpTo e into d form units old position now → length units ≤ position
+        → WritesText e into offered (normal_form d form (decoded_in e units)) old (Ok tt) now
+    WritesText-parts {position = position} so_far all =
         let most = boundary-le (first_in e) (IsDecoding-first e) units position so_far.boundary in
         let end : position ≡ length units = omega (arith, most) in
         record {
-          written = so_far.took ∙ ap (λ l. taken old ++ encoded_form e d form l) (ap (λ n. take n units) end ∙ take-length units);
+          written = so_far.took ∙ ap (λ l. into.taken old ++ encoded_form e d form l) (ap (λ n. take n units) end ∙ take-length units);
           ahead = so_far.ahead;
           fault = λ k. absurd (cc);
           refusal = λ k. absurd (cc);
           begun = λ k. absurd (cc);
         }
 
-    module _ (position : ℕ) (now : S) (so_far : WroteUpTo taken refused units old position now) (rest : List ℕ) (is : rest ≡ drop position units) where
+    module _ {position : ℕ} {now : S} (so_far : WroteUpTo e into d form units old position now) {rest : List ℕ} (is : rest ≡ drop position units) where
       text_before : List ℕ
       text_before = decoded_in e (take position units)
 
@@ -228,10 +233,10 @@ module _ (e : Encoding) (d : Reading) (form : Form) where
       -- what comes before a place in the rest
       text_to : (n : ℕ) → IsBoundary (first_in e) rest n → decoded_in e (take (position + n) units) ≡ decoded_in e (take position units) ++ decoded_in e (take n rest)
       text_to n b = append_cancel_right _ _ (decoded_in e (drop (position + n) units))
-          (sym (text-parts units (position + n) (boundary_behind n b))
-          ∙ text-parts units position so_far.boundary
+          (sym (text-parts e units (position + n) (boundary_behind n b))
+          ∙ text-parts e units position so_far.boundary
           ∙ ap (λ l. decoded_in e (take position units) ++ decoded_in e l) (sym is)
-          ∙ ap (λ l. decoded_in e (take position units) ++ l) (text-parts rest n b)
+          ∙ ap (λ l. decoded_in e (take position units) ++ l) (text-parts e rest n b)
           ∙ sym (append_assoc (decoded_in e (take position units)) (decoded_in e (take n rest)) (decoded_in e (drop n rest)))
           ∙ ap (λ l. (decoded_in e (take position units) ++ decoded_in e (take n rest)) ++ decoded_in e l) (rest_behind n))
 
@@ -239,57 +244,57 @@ module _ (e : Encoding) (d : Reading) (form : Form) where
           → normal_form d form (decoded_in e (take (position + n) units)) ≡ normal_form d form (decoded_in e (take position units)) ++ normal_form d form (decoded_in e (take n rest))
       form_to n b =
           ap (normal_form d form) (text_to n b)
-          ∙ so_far.divides (decoded_in e (take n rest)) (decoded_in e (drop n rest)) (ap (decoded_in e) (sym is) ∙ text-parts rest n b)
+          ∙ so_far.divides (decoded_in e (take n rest)) (decoded_in e (drop n rest)) (ap (decoded_in e) (sym is) ∙ text-parts e rest n b)
 
       form_of_all : normal_form d form (decoded_in e units) ≡ normal_form d form (decoded_in e (take position units)) ++ normal_form d form (decoded_in e rest)
       form_of_all =
-          ap (normal_form d form) (text-parts units position so_far.boundary ∙ ap (λ l. decoded_in e (take position units) ++ decoded_in e l) (sym is))
+          ap (normal_form d form) (text-parts e units position so_far.boundary ∙ ap (λ l. decoded_in e (take position units) ++ decoded_in e l) (sym is))
           ∙ so_far.divides (decoded_in e rest) [] (ap (decoded_in e) (sym is) ∙ sym (append-nil (decoded_in e rest)))
 
       -- one more part was written
-      pub WroteUpTo-more : (end : ℕ) (new : S) → WrotePart taken refused e d form rest now end new → WroteUpTo taken refused units old (position + end) new
-      WroteUpTo-more end new wrote = record {
+      pub WroteUpTo-more : {end : ℕ} {new : S} → WrotePart e into d form rest now end new → WroteUpTo e into d form units old (position + end) new
+      WroteUpTo-more {end = end} wrote = record {
         boundary = boundary_behind end wrote.part.boundary;
         divides = subst (λ x. Divides d form x (decoded_in e (drop (position + end) units))) (sym (text_to end wrote.part.boundary))
             (subst (λ l. Divides d form (decoded_in e (take position units) ++ decoded_in e (take end rest)) (decoded_in e l)) (rest_behind end)
             (wrote.part.divides (decoded_in e (take position units))));
         took = wrote.took
             ∙ ap (λ l. l ++ encoded_form e d form (take end rest)) so_far.took
-            ∙ append_assoc (taken old) (encoded_form e d form (take position units)) (encoded_form e d form (take end rest))
-            ∙ ap (λ l. taken old ++ l)
+            ∙ append_assoc (into.taken old) (encoded_form e d form (take position units)) (encoded_form e d form (take end rest))
+            ∙ ap (λ l. into.taken old ++ l)
             (sym (encoded_in-append e (normal_form d form (decoded_in e (take position units))) (normal_form d form (decoded_in e (take end rest))))
             ∙ ap (encoded_in e) (sym (form_to end wrote.part.boundary)));
         ahead = λ later h. so_far.ahead later (wrote.ahead later h);
       }
 
       -- a part may have been written
-      pub WroteUpTo-maybe : (end : ℕ) (new : S) → (end ≡ 0 → new ≡ now) → (0 < end → WrotePart taken refused e d form rest now end new)
-          → WroteUpTo taken refused units old (position + end) new
-      WroteUpTo-maybe end new none wrote = elim (eq-zero-or-pos end) [
+      pub WroteUpTo-maybe : {end : ℕ} {new : S} → (end ≡ 0 → new ≡ now) → (0 < end → WrotePart e into d form rest now end new)
+          → WroteUpTo e into d form units old (position + end) new
+      WroteUpTo-maybe {end = end} {new = new} none wrote = elim (eq-zero-or-pos end) [
         | inl empty ↦
             let same : position ≡ position + end = omega (arith, empty) in
-            subst (λ n. WroteUpTo taken refused units old n new) same (subst (WroteUpTo taken refused units old position) (sym (none empty)) so_far)
-        | inr some ↦ WroteUpTo-more end new (wrote some)
+            subst (λ n. WroteUpTo e into d form units old n new) same (subst (WroteUpTo e into d form units old position) (sym (none empty)) so_far)
+        | inr some ↦ WroteUpTo-more (wrote some)
       ]
 
-      pub within_part : (end : ℕ) → IsPart e d form rest end → position + end ≤ length units
-      within_part end part = boundary-le (first_in e) (IsDecoding-first e) units (position + end) (boundary_behind end part.boundary)
+      pub within_part : {end : ℕ} → IsPart e d form rest end → position + end ≤ length units
+      within_part {end = end} part = boundary-le (first_in e) (IsDecoding-first e) units (position + end) (boundary_behind end part.boundary)
 
-      pub HasShortRuns-behind : (f : ℕ → Bool) → HasShortRuns f d (decoded_in e units) → HasShortRuns f d (decoded_in e rest)
-      HasShortRuns-behind f h =
+      pub HasShortRuns-behind : {f : ℕ → Bool} → HasShortRuns f d (decoded_in e units) → HasShortRuns f d (decoded_in e rest)
+      HasShortRuns-behind {f = f} h =
           subst (λ l. HasShortRuns f d (decoded_in e l)) (sym is)
-          (HasShortRuns-rest f d (decoded_in e (take position units)) (decoded_in e (drop position units)) (subst (HasShortRuns f d) (text-parts units position so_far.boundary) h))
+          (HasShortRuns-rest f d (decoded_in e (take position units)) (decoded_in e (drop position units)) (subst (HasShortRuns f d) (text-parts e units position so_far.boundary) h))
 
       -- a beginning of the form of the rest, after what was written
-      beginning_behind : (to : S) → TookBeginning e taken (normal_form d form (decoded_in e rest)) now to → TookBeginning e taken (normal_form d form (decoded_in e units)) old to
+      beginning_behind : (to : S) → TookBeginning e into.taken (normal_form d form (decoded_in e rest)) now to → TookBeginning e into.taken (normal_form d form (decoded_in e units)) old to
       beginning_behind to b = record {
         front = normal_form d form (decoded_in e (take position units)) ++ b.front;
         rest = b.rest;
         parts = form_of_all ∙ ap (λ l. normal_form d form (decoded_in e (take position units)) ++ l) b.parts
             ∙ sym (append_assoc (normal_form d form (decoded_in e (take position units))) b.front b.rest);
         took = b.took ∙ ap (λ l. l ++ encoded_in e b.front) so_far.took
-            ∙ append_assoc (taken old) (encoded_form e d form (take position units)) (encoded_in e b.front)
-            ∙ ap (λ l. taken old ++ l) (sym (encoded_in-append e (normal_form d form (decoded_in e (take position units))) b.front));
+            ∙ append_assoc (into.taken old) (encoded_form e d form (take position units)) (encoded_in e b.front)
+            ∙ ap (λ l. into.taken old ++ l) (sym (encoded_in-append e (normal_form d form (decoded_in e (take position units))) b.front));
       }
 
       -- a piece of the rest is one of the whole
@@ -304,11 +309,11 @@ module _ (e : Encoding) (d : Reading) (form : Form) where
       })
 
       -- the next part was not written
-      pub WritesText-behind : (fault : NormalizeError) (new : S)
-          → WritesText e taken refused left refuses (StandsInInput e d form rest) (normal_form d form (decoded_in e rest)) now (Err fault) new
-          → WritesText e taken refused left refuses (StandsInInput e d form units) (normal_form d form (decoded_in e units)) old (Err fault) new
+      pub WritesText-behind : {fault : NormalizeError} {new : S}
+          → WritesText e into (StandsInInput e d form rest) (normal_form d form (decoded_in e rest)) now (Err fault) new
+          → WritesText e into (StandsInInput e d form units) (normal_form d form (decoded_in e units)) old (Err fault) new
       unfolding beginning_behind
-      WritesText-behind fault new h = record {
+      WritesText-behind {new = new} h = record {
         written = tt;
         ahead = tt;
         fault = λ is. so_far.ahead new (h.fault is);
@@ -326,10 +331,10 @@ module _ (e : Encoding) (d : Reading) (form : Form) where
       }
 
     -- the first part may have been written
-    pub WroteUpTo-first : (end : ℕ) (new : S) → (end ≡ 0 → new ≡ old) → (0 < end → WrotePart taken refused e d form units old end new) → WroteUpTo taken refused units old end new
-    WroteUpTo-first end new none wrote =
+    pub WroteUpTo-first : {end : ℕ} {new : S} → (end ≡ 0 → new ≡ old) → (0 < end → WrotePart e into d form units old end new) → WroteUpTo e into d form units old end new
+    WroteUpTo-first {end = end} {new = new} none wrote =
         let same : 0 + end ≡ end = omega arith in
-        subst (λ n. WroteUpTo taken refused units old n new) same (WroteUpTo-maybe 0 old WroteUpTo-none units refl end new none wrote)
+        subst (λ n. WroteUpTo e into d form units old n new) same (WroteUpTo-maybe WroteUpTo-none refl none wrote)
 
-    pub WroteUpTo-le : (position : ℕ) (now : S) → WroteUpTo taken refused units old position now → position ≤ length units
-    WroteUpTo-le position now so_far = boundary-le (first_in e) (IsDecoding-first e) units position so_far.boundary
+    pub WroteUpTo-le : {position : ℕ} {now : S} → WroteUpTo e into d form units old position now → position ≤ length units
+    WroteUpTo-le {position = position} so_far = boundary-le (first_in e) (IsDecoding-first e) units position so_far.boundary

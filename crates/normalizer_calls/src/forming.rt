@@ -98,7 +98,7 @@ pub trait Forming {
         units: U,
         output: &mut O,
     ) -> Result<(), NormalizeError>
-        ensures text { WritesText U.encoding O.taken O.refused O.left O.refuses NothingOffered
+        ensures text { WritesText U.encoding O.Output NothingOffered
             (form_in (made self.now) U.encoding (U.units units)) output.old result output.new }
         ensures room { HasShortUnits (made self.now) U.encoding (U.units units) →
             ¬ IsErrOf result NormalizeError.Memory };

@@ -27,7 +27,7 @@ where
     requires can { I.can_next items }
     requires ends { IsFinite (I.remaining items) }
     ensures text { (x : List ℕ) → SpellsUnless I.next_gives NormalizeError.Memory items x
-        → WritesText U.encoding O.taken O.refused O.left O.refuses NothingOffered x output.old result output.new }
+        → WritesText U.encoding O.Output NothingOffered x output.old result output.new }
     ensures room { (x : List ℕ) → SpellsOk I.next_gives items x → ¬ IsErrOf result NormalizeError.Memory }
 {
     for item in items {
@@ -58,8 +58,7 @@ fn write_members<U: Units, O: Output<U>>(
     members: &Members<'_>,
     output: &mut O,
 ) -> Result<(), NormalizeError>
-    ensures text { WritesText U.encoding O.taken O.refused O.left O.refuses NothingOffered
-        members.now output.old result output.new }
+    ensures text { WritesText U.encoding O.Output NothingOffered members.now output.old result output.new }
     ensures room { ¬ IsErrOf result NormalizeError.Memory }
 {
     if let Some(two) = members.as_two() {
@@ -79,8 +78,7 @@ fn write_members<U: Units, O: Output<U>>(
 /// Writes characters, each after the one before.
 #[inline(always)]
 fn write_text<U: Units, O: Output<U>>(text: &[char], output: &mut O) -> Result<(), NormalizeError>
-    ensures text { WritesText U.encoding O.taken O.refused O.left O.refuses NothingOffered
-        text.now output.old result output.new }
+    ensures text { WritesText U.encoding O.Output NothingOffered text.now output.old result output.new }
     ensures room { ¬ IsErrOf result NormalizeError.Memory }
 {
     let mut place = 0;
@@ -120,7 +118,7 @@ fn write_segment<U: Units, N: Forming, O: Output<U>>(
 ) -> Result<(), NormalizeError>
     requires some { 0 < length (U.units units) }
     requires first { first ≡ first_in U.encoding (U.units units) }
-    ensures text { WritesText U.encoding O.taken O.refused O.left O.refuses NothingOffered
+    ensures text { WritesText U.encoding O.Output NothingOffered
         (form_in (N.made normalizer.now) U.encoding (U.units units)) output.old result output.new }
     ensures room { HasShortUnits (N.made normalizer.now) U.encoding (U.units units) →
         ¬ IsErrOf result NormalizeError.Memory }
@@ -146,10 +144,10 @@ fn write_run<U: Units, N: Forming, O: Output<U>>(
     output: &mut O,
 ) -> Result<usize, NormalizeError>
     ensures none { IfOk result (λ end. end ≡ 0 → output.new ≡ output.old) }
-    ensures part { IfOk result (λ end. 0 < end → WritesPart O.taken O.refused U.encoding
-        (N.made normalizer.now) (U.units units) output.old end output.new) }
-    ensures refused { IfErr result (λ fault. WritesUnits U.encoding O.taken O.refused O.left O.refuses
-        (N.made normalizer.now) (U.units units) output.old (Err fault) output.new) }
+    ensures part { IfOk result (λ end. 0 < end → WritesPart U.encoding O.Output (N.made normalizer.now)
+        (U.units units) output.old end output.new) }
+    ensures refused { IfErr result (λ fault. WritesUnits U.encoding O.Output (N.made normalizer.now)
+        (U.units units) output.old (Err fault) output.new) }
     ensures room { ¬ IsErrOf result NormalizeError.Memory }
 {
     let end = kept_end(normalizer, units);
@@ -159,7 +157,8 @@ fn write_run<U: Units, N: Forming, O: Output<U>>(
     Ok(end)
 }
 
-/// Writes the form of the segment at the front of the units, and returns that. The first step may have been read before.
+/// Writes the form of the segment at the front of the units, and returns that. The first step may have been read
+/// before.
 #[inline(always)]
 fn write_front_segment<U: Units, N: Forming, O: Output<U>>(
     normalizer: &N,
@@ -174,10 +173,10 @@ fn write_front_segment<U: Units, N: Forming, O: Output<U>>(
         U.encoding (U.units units) segment.end) }
     ensures next { IfOk result (λ segment. IfSome segment.next
         (λ next. next ≡ first_in U.encoding (drop segment.end (U.units units)))) }
-    ensures part { IfOk result (λ segment. WritesPart O.taken O.refused U.encoding
-        (N.made normalizer.now) (U.units units) output.old segment.end output.new) }
-    ensures refused { IfErr result (λ fault. WritesUnits U.encoding O.taken O.refused O.left O.refuses
-        (N.made normalizer.now) (U.units units) output.old (Err fault) output.new) }
+    ensures part { IfOk result (λ segment. WritesPart U.encoding O.Output (N.made normalizer.now)
+        (U.units units) output.old segment.end output.new) }
+    ensures refused { IfErr result (λ fault. WritesUnits U.encoding O.Output (N.made normalizer.now)
+        (U.units units) output.old (Err fault) output.new) }
     ensures room { HasShortUnits (N.made normalizer.now) U.encoding (U.units units) →
         ¬ IsErrOf result NormalizeError.Memory }
 {
@@ -200,8 +199,8 @@ fn write_parts<U: Units, N: Forming, O: Output<U>>(
     units: U,
     output: &mut O,
 ) -> Result<(), NormalizeError>
-    ensures text { WritesUnits U.encoding O.taken O.refused O.left O.refuses (N.made normalizer.now)
-        (U.units units) output.old result output.new }
+    ensures text { WritesUnits U.encoding O.Output (N.made normalizer.now) (U.units units)
+        output.old result output.new }
     ensures room { HasShortUnits (N.made normalizer.now) U.encoding (U.units units) →
         ¬ IsErrOf result NormalizeError.Memory }
 {
@@ -230,8 +229,8 @@ pub(crate) fn form_to<U: Units, N: Forming, O: Output<U>>(
     units: U,
     output: &mut O,
 ) -> Result<(), NormalizeError>
-    ensures text { WritesUnits U.encoding O.taken O.refused O.left O.refuses (N.made normalizer.now)
-        (U.units units) output.old result output.new }
+    ensures text { WritesUnits U.encoding O.Output (N.made normalizer.now) (U.units units)
+        output.old result output.new }
     ensures room { HasShortUnits (N.made normalizer.now) U.encoding (U.units units) →
         ¬ IsErrOf result NormalizeError.Memory }
     ensures first { TellsLengthFirst O.taken O.hinted (length (U.units units)) output.old result output.new }

@@ -10,7 +10,6 @@ use Rattle.normal_forms.specs.Cut.{IsFront}
 use Rattle.normalizer_text.specs.declared.step.Step.{Step}
 use Rattle.normalizer_text.specs.Encodings.{Encoding, first_in, encoded_in, decoded_in}
 use Rattle.normalizer_text.specs.Steps.{IsBoundary, IsLastStep}
-use Rattle.normalizer_input.specs.EncodedForm.{encoded_form}
 use Rattle.normalizer_input.specs.InputCut.{IsInputNormalized}
 use Rattle.normalizer_calls.specs.BeginsApart.{BeginsApart}
 
@@ -152,10 +151,3 @@ pub record StandsInInput (e : Encoding) (d : Reading) (form : Form) (units front
   pub boundary : IsBoundary (first_in e) units place
   pub form_before : front ≡ normal_form d form (decoded_in e (take place units))
   pub next : IsFront (encoded_in e piece) (drop place units)
-
--- a part of the units was written: its form was appended to what was taken before
-pub record WrotePart {S : Type 0} (taken : S → List ℕ) (refused : S → S → Type 0) (e : Encoding) (d : Reading)
-    (form : Form) (units : List ℕ) (old : S) (end : ℕ) (new : S) : Type 0 where
-  pub part : IsPart e d form units end
-  pub took : taken new ≡ taken old ++ encoded_form e d form (take end units)
-  pub ahead : (later : S) → refused new later → refused old later

@@ -8,7 +8,7 @@ use Rattle.normalizer_calls.proofs.writing.write_front_segment.Goals as goal
 pub write_segment-requires-clause-some : goal.write_segment-requires-clause-some
 write_segment-requires-clause-some g c =
     let part = IsPart-segment _ _ _ _ _ c.passed_characters_stand_apart.ensures.begins _ c.front_segment-segment.ensures.end in
-    some_part _ _ _ _ _ part _ c.before-2.ensures
+    some_part part c.before-2.ensures
 
 pub write_segment-requires-clause-first : goal.write_segment-requires-clause-first
 write_segment-requires-clause-first g c =
@@ -20,16 +20,16 @@ returns-in_err-write_segment-clause-refused g c =
     let part = IsPart-segment _ _ _ _ _ c.passed_characters_stand_apart.ensures.begins _ c.front_segment-segment.ensures.end in
     let is : c.from_residual.result ≡ Err c.in_err-write_segment.field-0.0 = search rules in
     rw is
-    (WritesText-segment_refused _ _ _ _ _ part g.O.Output.taken g.O.Output.refused g.O.Output.left g.O.Output.refuses _ _ _ c.before-2.ensures _
+    (WritesText-segment_refused part c.before-2.ensures
     (rw c.in_err-write_segment.was at c.write_segment.ensures.text))
 
 pub returns-in_err-write_segment-clause-room : goal.returns-in_err-write_segment-clause-room
 returns-in_err-write_segment-clause-room g c = λ short.
     let part = IsPart-segment _ _ _ _ _ c.passed_characters_stand_apart.ensures.begins _ c.front_segment-segment.ensures.end in
     let is : c.from_residual.result ≡ Err c.in_err-write_segment.field-0.0 = search rules in
-    not_handed_on _ _ _ _ c.in_err-write_segment.was is (c.write_segment.ensures.room (HasShortRuns-part _ _ _ _ _ part _ _ c.before-2.ensures short))
+    not_handed_on c.in_err-write_segment.was is (c.write_segment.ensures.room (HasShortRuns-part part c.before-2.ensures short))
 
 pub returns-clause-part : goal.returns-clause-part
 returns-clause-part g c =
     let part = IsPart-segment _ _ _ _ _ c.passed_characters_stand_apart.ensures.begins _ c.front_segment-segment.ensures.end in
-    WrotePart-segment _ _ _ _ _ part g.O.Output.taken g.O.Output.refused g.O.Output.left g.O.Output.refuses _ _ _ c.before-2.ensures (rw c.in_ok-write_segment.was at c.write_segment.ensures.text)
+    WrotePart-segment part c.before-2.ensures (rw c.in_ok-write_segment.was at c.write_segment.ensures.text)

@@ -6,7 +6,7 @@ use Rattle.normalizer_calls.proofs.writing.write_parts.Given as goal
 
 abbrev pub invariant-loop-position : goal.invariant-loop-position
 invariant-loop-position g l =
-    WroteUpTo g.U.Units.encoding (g.N.Forming.made l.normalizer).reading (g.N.Forming.made l.normalizer).form g.O.Output.taken g.O.Output.refused (g.U.Units.units l.units) l.fn.output l.position l.output
+    WroteUpTo g.U.Units.encoding g.O.Output (g.N.Forming.made l.normalizer).reading (g.N.Forming.made l.normalizer).form (g.U.Units.units l.units) l.fn.output l.position l.output
     × IfSome l.first (λ first. first ≡ first_in g.U.Units.encoding (drop l.position (g.U.Units.units l.units)))
 
 abbrev pub decreases-loop-position : goal.decreases-loop-position

@@ -3,4 +3,4 @@ use Rattle.normalizer_calls.proofs.WritingLemmas.{WritesForm-text}
 use Rattle.normalizer_calls.proofs.borrowed.NormalizerBorrowed.normalize_utf8_to.Goals as goal
 
 pub returns : goal.returns
-returns g c = WritesForm-text _ _ _ _ _ _ _ _ _ _ _ refl c.form_to.ensures.text c.form_to.ensures.room
+returns g c = WritesForm-text refl c.form_to.ensures.text c.form_to.ensures.room
