@@ -17,8 +17,6 @@ use Rattle.normalizer_packing.specs.Packing.{Packs}
 use Rattle.normalizer_packing.specs.Stored.{needed_items}
 use Rattle.normalizer_records.specs.declared.records.BuildError.{BuildError}
 use Rattle.normalizer_records.specs.declared.records.BuildError.TheVariants as error
-use Rattle.normalizer_records.specs.declared.refusal.Refusal.{Refusal}
-use Rattle.normalizer_records.specs.declared.refusal.Refusal.TheVariants as refusal
 use Rattle.normalizer_records.specs.Entry.{Entry, MapperEntry}
 use Rattle.normalizer_records.specs.Faults.{IsFirstRefusal}
 use Rattle.normalizer_records.specs.Meaning.{canonical_list, class_of as recorded_class_of, compatibility_list}
@@ -113,16 +111,6 @@ pub record Builds (records : List Entry) (uts46 : List MapperEntry) (p : Packed)
   pub means : MeansRecords records uts46 p
   pub fit : IsFirstUnfitOfRecords records p None
 
--- the error of a refusal
-abbrev pub error_of : Refusal → BuildError
-error_of refusal.Order = error.Order
-error_of refusal.Fixed = error.Fixed
-error_of refusal.Class = error.Class
-error_of refusal.Mapping = error.Mapping
-error_of refusal.Chain = error.Chain
-error_of refusal.Length = error.Length
-error_of refusal.Pair = error.Pair
-
 -- the smallest fault: the first of the records themselves, then too many items, then the least requirement that data
 -- that pack them don't meet. `Memory` may come anywhere.
 unfoldable pub IsSmallest : List Entry → List MapperEntry → BuildError → Type 0
@@ -132,10 +120,4 @@ IsSmallest records uts46 (error.Unfit marker condition) =
     IsFirstRefusal records uts46 None
     × ((p : Packed) × PacksRecords records uts46 p
     × IsFirstUnfitOfRecords records p (Some (record { marker = marker; condition = condition })))
-IsSmallest records uts46 error.Order = IsFirstRefusal records uts46 (Some refusal.Order)
-IsSmallest records uts46 error.Fixed = IsFirstRefusal records uts46 (Some refusal.Fixed)
-IsSmallest records uts46 error.Class = IsFirstRefusal records uts46 (Some refusal.Class)
-IsSmallest records uts46 error.Mapping = IsFirstRefusal records uts46 (Some refusal.Mapping)
-IsSmallest records uts46 error.Chain = IsFirstRefusal records uts46 (Some refusal.Chain)
-IsSmallest records uts46 error.Length = IsFirstRefusal records uts46 (Some refusal.Length)
-IsSmallest records uts46 error.Pair = IsFirstRefusal records uts46 (Some refusal.Pair)
+IsSmallest records uts46 e = IsFirstRefusal records uts46 (Some e)
