@@ -2,16 +2,12 @@
 use Rattle.std.specs.Prelude.{◌≡◌, ℕ, ◌<◌, List, [], Option, Some, None, IfSome, unwrap_or}
 use Rattle.std.specs.List.Sorted.{IsPermutation}
 use Rattle.normalizer_tables.specs.declared.provider.DataMarkerInfo.TheVariants.{NormalizerNfdSupplementV1}
-use Rattle.normalizer_tables.specs.declared.step.Step.{Step}
-use Rattle.normalizer_tables.specs.declared.step.Step.TheVariants.{Singleton, Expansion}
 use Rattle.normalizer_tables.specs.Characters.{class_of, list_of}
 use Rattle.normalizer_tables.specs.Conditions.{item_limit}
 use Rattle.normalizer_tables.specs.Pairs.{Pair, pair_of, AreRising as ArePairsRising}
 use Rattle.normalizer_tables.specs.Steps.{step_of}
 use Rattle.normalizer_packing.specs.declared.Packed.{Packed}
 use Rattle.normalizer_tables.specs.declared.entry.Kind.TheVariants.{Canonical, Compatibility, Mapper}
-use Rattle.normalizer_tables.specs.declared.entry.Mapping.{Mapping}
-use Rattle.normalizer_tables.specs.declared.entry.Mapping.TheVariants.{One, Two}
 use Rattle.normalizer_tables.specs.Entries.{CharacterEntry}
 use Rattle.normalizer_packing.specs.Packing.{Packs}
 use Rattle.normalizer_packing.specs.Stored.{needed_items}
@@ -42,16 +38,10 @@ pub record HasTooManyItems (records : List Entry) (uts46 : List MapperEntry) : T
   pub made : AreMadeOf records uts46 entries
   pub full : item_limit < needed_items entries
 
--- the step of a mapping of one character or two
-abbrev pub step_of_mapping : Mapping → Step
-step_of_mapping (One a) = Singleton a
-step_of_mapping (Two a b) = Expansion a b
-
 -- one step of n is the canonical mapping that is recorded of it
 unfoldable pub KeepsMapping : List Entry → Packed → ℕ → Type 0
 KeepsMapping records p n =
-    IfSome (recorded_step records n)
-    (λ m. step_of (characters_of p Canonical) p.supplement n ≡ Some (step_of_mapping m))
+    IfSome (recorded_step records n) (λ s. step_of (characters_of p Canonical) p.supplement n ≡ Some s)
 
 -- the data say of every character, and of every two, what the records mean
 pub record MeansRecords (records : List Entry) (uts46 : List MapperEntry) (p : Packed) : Type 0 where

@@ -19,4 +19,4 @@ pub use lookup::{canonical_mapping_of, class_of};
 pub use pair_list::pairs;
 pub use records::{BuildError, Mappings, Record, Uts46Record, Uts46Status};
 pub use refusals::{ExpandedRecords, expanded};
-pub use step::step_to;
+pub use step::recorded_step;
