@@ -1,5 +1,5 @@
 -- What is packed of recorded characters.
-use Rattle.std.specs.Prelude.{◌≡◌, ℕ, List, [], ◌∷◌, ◌++◌, map, All, Contains, Option, None, unwrap_or}
+use Rattle.std.specs.Prelude.{◌≡◌, ℕ, List, ◌++◌, map, All, Contains, Option, None, unwrap_or}
 use Rattle.std.specs.List.Sorted.{IsPermutation, IsStrictlyIncreasing}
 use Rattle.normalizer_tables.specs.Pairs.{Pair, AreRising as ArePairsRising}
 use Rattle.normalizer_tables.specs.declared.step.Step.{Step}
