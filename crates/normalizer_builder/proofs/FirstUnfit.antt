@@ -21,6 +21,7 @@ use Rattle.normalizer_builder.specs.Demands.{Demand, Asks, IsMade, Meets, answer
 use Rattle.normalizer_builder.specs.Fitness.{IsFirstUnfit, IsFirstUnfitOfKind, IsMadeOfKind}
 use Rattle.normalizer_builder.specs.Ranks.{IsBefore, IsLeast, IsLeastUnmet, IsFirstUnmet}
 use Rattle.normalizer_records.specs.Recorded.{recorded_step}
+use Rattle.normalizer_tables.specs.Steps.{step_to}
 
 IsBefore-itself : (u : Unfit) → ¬ IsBefore u u
 unfolding IsBefore
@@ -124,7 +125,7 @@ first_unfit_of_kinds p a b r h k least =
 
 module _ (records : List Entry) (p : Packed) where
   unrecorded_keeps : (n : ℕ) → entry_of records n ≡ None → KeepsMapping records p n
-  unfolding KeepsMapping recorded_step canonical_mapping_of
+  unfolding KeepsMapping recorded_step canonical_mapping_of step_to
   unrecorded_keeps n missing = rw missing tt
 
   -- what holds of the recorded characters holds of all

@@ -19,7 +19,7 @@ use Rattle.normalizer_tables.specs.declared.entry.Kind.TheVariants as kind
 use Rattle.normalizer_packing.proofs.EntryLemmas.{find-tells}
 use Rattle.normalizer_records.specs.declared.records.Mappings.{Mappings}
 use Rattle.normalizer_records.specs.declared.records.Mappings.TheVariants.{Canonical, All as AllMappings}
-use Rattle.normalizer_records.specs.declared.refusal.Refusal.TheVariants as refusal
+use Rattle.normalizer_records.specs.declared.records.BuildError.TheVariants as error
 use Rattle.normalizer_records.specs.Entry.{Entry, MapperEntry, Status, MapsTo, IsIgnored, IsDisallowed}
 use Rattle.normalizer_records.specs.Faults.{AreRising, HasFault, HasOrderFault, HasClassFault, HasWrongClass, has_fixed_fault, HasLengthFault, HasLongList}
 use Rattle.normalizer_records.specs.Faults.{IsFirstRefusal, IsTooLong, IsWrong, has_mapping_fault, has_zero, is_bad_mapping, is_bad_status, is_disallowed, is_fixed}
@@ -131,15 +131,15 @@ disallowed_replacement r here h = disallowed r.status (rw here at h)
 module _ (records : List Entry) (uts46 : List MapperEntry) (none : IsFirstRefusal records uts46 None) where
   pub rising : AreRising records
   unfolding IsFirstRefusal HasFault HasOrderFault
-  rising i j d below within = stable _ _ (λ falls. none refusal.Order (λ both. falls (both.0 i j d below within)))
+  rising i j d below within = stable _ _ (λ falls. none error.Order (λ both. falls (both.0 i j d below within)))
 
   no_fixed_fault : has_fixed_fault records uts46 ≡ false
   unfolding IsFirstRefusal HasFault
-  no_fixed_fault = false_from_ne_true _ (none refusal.Fixed)
+  no_fixed_fault = false_from_ne_true _ (none error.Fixed)
 
   no_mapping_fault : has_mapping_fault records uts46 ≡ false
   unfolding IsFirstRefusal HasFault
-  no_mapping_fault = false_from_ne_true _ (none refusal.Mapping)
+  no_mapping_fault = false_from_ne_true _ (none error.Mapping)
 
   unfixed_records : All (λ r. is_fixed r.c ≡ false) records
   unfolding has_fixed_fault
@@ -255,16 +255,16 @@ module _ (records : List Entry) (uts46 : List MapperEntry) (none : IsFirstRefusa
   unfolding IsFirstRefusal HasFault HasLengthFault HasLongList HasClassFault HasWrongClass mapper_list
   IsGiven-recorded kind.Canonical n = record {
     sound = IsSound-full_list _ (λ m h _. h) Canonical n (λ h. h);
-    short = λ h. none refusal.Length (n, asked records uts46 none n, inl h);
-    right = λ h. none refusal.Class (n, asked records uts46 none n, inr (inl h));
+    short = λ h. none error.Length (n, asked records uts46 none n, inl h);
+    right = λ h. none error.Class (n, asked records uts46 none n, inr (inl h));
   }
   IsGiven-recorded kind.Compatibility n = record {
     sound = IsSound-full_list _ (λ m h _. h) AllMappings n (λ h. h);
-    short = λ h. none refusal.Length (n, asked records uts46 none n, inr (inl h));
-    right = λ h. none refusal.Class (n, asked records uts46 none n, inr (inr (inl h)));
+    short = λ h. none error.Length (n, asked records uts46 none n, inr (inl h));
+    right = λ h. none error.Class (n, asked records uts46 none n, inr (inr (inl h)));
   }
   IsGiven-recorded kind.Mapper n = by (mapper_list records uts46 n) (IsSound-mapped _ (λ m h _. h) n (status_of uts46 n) refl (λ h. h))
-      (λ h. none refusal.Length (n, asked records uts46 none n, inr (inr h))) (λ h. none refusal.Class (n, asked records uts46 none n, inr (inr (inr h))))
+      (λ h. none error.Length (n, asked records uts46 none n, inr (inr h))) (λ h. none error.Class (n, asked records uts46 none n, inr (inr (inr h))))
     where
       by : (o : Option (List ℕ)) → IfSome o (IsSound (λ m. 0 < n → 0 < m)) → ¬ IsSomeAnd o IsTooLong → ¬ IsSomeAnd o (IsWrong records n false) → IfSome o (IsGiven records kind.Mapper n)
       by None sound short right = tt

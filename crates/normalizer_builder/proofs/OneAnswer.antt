@@ -8,12 +8,11 @@ use Rattle.normalizer_tables.specs.Entries.{CharacterEntry}
 use Rattle.normalizer_packing.specs.Stored.{needed_items}
 use Rattle.normalizer_records.specs.declared.records.BuildError.{BuildError}
 use Rattle.normalizer_records.specs.declared.records.BuildError.TheVariants as error
-use Rattle.normalizer_records.specs.declared.refusal.Refusal.{Refusal}
 use Rattle.normalizer_records.specs.Entry.{Entry, MapperEntry}
-use Rattle.normalizer_records.specs.Faults.{IsFirstRefusal, rank_of}
-use Rattle.normalizer_records.proofs.RefusalLemmas.{same_rank}
+use Rattle.normalizer_records.specs.Faults.{HasFault, IsFirstRefusal, IsRefusal, rank_of}
+use Rattle.normalizer_records.proofs.RefusalLemmas.{one_fault}
 use Rattle.normalizer_builder.specs.declared.rank.Unfit.{Unfit}
-use Rattle.normalizer_builder.specs.Building.{Builds, HasTooManyItems, IsFirstUnfitOfRecords, IsMadeOfRecords, IsSmallest, MeetsRecords, PacksRecords, answer_of_records, error_of}
+use Rattle.normalizer_builder.specs.Building.{Builds, HasTooManyItems, IsFirstUnfitOfRecords, IsMadeOfRecords, IsSmallest, MeetsRecords, PacksRecords, answer_of_records}
 use Rattle.normalizer_builder.specs.Ranks.{IsBefore, IsFirstUnmet, place_of}
 use Rattle.normalizer_builder.proofs.SameParts.{one_packing_of_records, same_entries}
 
@@ -39,16 +38,25 @@ one_unmet made answer meets (Some u) (Some v) h k = ap Some (one_of_neither u v
     (λ before. k.unmet.3 (h.before k.unmet.0 k.unmet.1 (subst (λ w. IsBefore w u) (sym k.unmet.2) before))))
 
 module _ (records : List Entry) (uts46 : List MapperEntry) where
-  one_refusal : (o p : Option Refusal) → IsFirstRefusal records uts46 o → IsFirstRefusal records uts46 p → o ≡ p
+  one_refusal : (o p : Option BuildError) → IsFirstRefusal records uts46 o → IsFirstRefusal records uts46 p → o ≡ p
   unfolding IsFirstRefusal
   one_refusal None None h k = refl
   one_refusal None (Some s) h k = absurd (h s k.0)
   one_refusal (Some r) None h k = absurd (k r h.0)
   one_refusal (Some r) (Some s) h k = elim (cases_order (rank_of r) (rank_of s)) as (λ _. Some r ≡ Some s) [
-    | inl same ↦ ap Some (same_rank r s same)
+    | inl same ↦ ap Some (one_fault records uts46 r s h.0 same)
     | inr (inl below) ↦ absurd (k.1 r below h.0)
     | inr (inr above) ↦ absurd (h.1 s above k.0)
   ]
+
+  -- a refusal of the records themselves is the smallest fault
+  pub IsSmallest-refusal : (e : BuildError) → IsRefusal records uts46 e → IsSmallest records uts46 e
+  unfolding IsSmallest IsFirstRefusal HasFault
+  IsSmallest-refusal e (inl memory) = subst (IsSmallest records uts46) (sym memory) tt
+  IsSmallest-refusal error.Memory (inr h) = tt
+  IsSmallest-refusal error.TableFull (inr h) = absurd h.0
+  IsSmallest-refusal (error.Unfit marker condition) (inr h) = absurd h.0
+  IsSmallest-refusal e (inr h) = h
 
   -- what becomes of records that aren't refused: too many items, or data, and the least error for what they don't meet
   abbrev Becomes : Option (Option Unfit) → Type 0
@@ -74,7 +82,7 @@ module _ (records : List Entry) (uts46 : List MapperEntry) where
 
   -- the result, with `Memory` in place of data
   data Cause : BuildError → Type 0 where
-    refused : (r : Refusal) → IsFirstRefusal records uts46 (Some r) → Cause (error_of r)
+    refused : (e : BuildError) → IsFirstRefusal records uts46 (Some e) → Cause e
     become : (v : Option (Option Unfit)) → IsFirstRefusal records uts46 None → Becomes v → Cause (error_of_outcome v)
 
   cause_of : (e : BuildError) → (e ≡ error.Memory → Cause e) → IsSmallest records uts46 e → Cause e
@@ -82,11 +90,10 @@ module _ (records : List Entry) (uts46 : List MapperEntry) where
   cause_of error.Memory memory h = memory refl
   cause_of error.TableFull memory h = become None h.0 h.1
   cause_of (error.Unfit marker condition) memory h = become (Some (Some (record { marker = marker; condition = condition }))) h.0 h.1
-  cause_of error.Order memory h = refused _ h
-  cause_of _ memory h = refused _ h
+  cause_of e memory h = refused e h
 
   one_cause : (e f : BuildError) → Cause e → Cause f → e ≡ f
-  one_cause e f (refused r h) (refused s k) = (let some = one_refusal (Some r) (Some s) h k in let same : r ≡ s = cc in ap error_of same)
+  one_cause e f (refused r h) (refused s k) = (let some = one_refusal (Some r) (Some s) h k in cc)
   one_cause e f (refused r h) (become v none k) = absurd (let never = one_refusal (Some r) None h none in cc)
   one_cause e f (become v none h) (refused s k) = absurd (let never = one_refusal (Some s) None k none in cc)
   one_cause e f (become v none h) (become w also k) = ap error_of_outcome (one_outcome v w h k)

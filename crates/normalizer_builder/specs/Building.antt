@@ -2,23 +2,17 @@
 use Rattle.std.specs.Prelude.{◌≡◌, ℕ, ◌<◌, List, [], Option, Some, None, IfSome, unwrap_or}
 use Rattle.std.specs.List.Sorted.{IsPermutation}
 use Rattle.normalizer_tables.specs.declared.provider.DataMarkerInfo.TheVariants.{NormalizerNfdSupplementV1}
-use Rattle.normalizer_tables.specs.declared.step.Step.{Step}
-use Rattle.normalizer_tables.specs.declared.step.Step.TheVariants.{Singleton, Expansion}
 use Rattle.normalizer_tables.specs.Characters.{class_of, list_of}
 use Rattle.normalizer_tables.specs.Conditions.{item_limit}
 use Rattle.normalizer_tables.specs.Pairs.{Pair, pair_of, AreRising as ArePairsRising}
 use Rattle.normalizer_tables.specs.Steps.{step_of}
 use Rattle.normalizer_packing.specs.declared.Packed.{Packed}
 use Rattle.normalizer_tables.specs.declared.entry.Kind.TheVariants.{Canonical, Compatibility, Mapper}
-use Rattle.normalizer_tables.specs.declared.entry.Mapping.{Mapping}
-use Rattle.normalizer_tables.specs.declared.entry.Mapping.TheVariants.{One, Two}
 use Rattle.normalizer_tables.specs.Entries.{CharacterEntry}
 use Rattle.normalizer_packing.specs.Packing.{Packs}
 use Rattle.normalizer_packing.specs.Stored.{needed_items}
 use Rattle.normalizer_records.specs.declared.records.BuildError.{BuildError}
 use Rattle.normalizer_records.specs.declared.records.BuildError.TheVariants as error
-use Rattle.normalizer_records.specs.declared.refusal.Refusal.{Refusal}
-use Rattle.normalizer_records.specs.declared.refusal.Refusal.TheVariants as refusal
 use Rattle.normalizer_records.specs.Entry.{Entry, MapperEntry}
 use Rattle.normalizer_records.specs.Faults.{IsFirstRefusal}
 use Rattle.normalizer_records.specs.Meaning.{canonical_list, class_of as recorded_class_of, compatibility_list}
@@ -44,16 +38,10 @@ pub record HasTooManyItems (records : List Entry) (uts46 : List MapperEntry) : T
   pub made : AreMadeOf records uts46 entries
   pub full : item_limit < needed_items entries
 
--- the step of a mapping of one character or two
-abbrev pub step_of_mapping : Mapping → Step
-step_of_mapping (One a) = Singleton a
-step_of_mapping (Two a b) = Expansion a b
-
 -- one step of n is the canonical mapping that is recorded of it
 unfoldable pub KeepsMapping : List Entry → Packed → ℕ → Type 0
 KeepsMapping records p n =
-    IfSome (recorded_step records n)
-    (λ m. step_of (characters_of p Canonical) p.supplement n ≡ Some (step_of_mapping m))
+    IfSome (recorded_step records n) (λ s. step_of (characters_of p Canonical) p.supplement n ≡ Some s)
 
 -- the data say of every character, and of every two, what the records mean
 pub record MeansRecords (records : List Entry) (uts46 : List MapperEntry) (p : Packed) : Type 0 where
@@ -113,16 +101,6 @@ pub record Builds (records : List Entry) (uts46 : List MapperEntry) (p : Packed)
   pub means : MeansRecords records uts46 p
   pub fit : IsFirstUnfitOfRecords records p None
 
--- the error of a refusal
-abbrev pub error_of : Refusal → BuildError
-error_of refusal.Order = error.Order
-error_of refusal.Fixed = error.Fixed
-error_of refusal.Class = error.Class
-error_of refusal.Mapping = error.Mapping
-error_of refusal.Chain = error.Chain
-error_of refusal.Length = error.Length
-error_of refusal.Pair = error.Pair
-
 -- the smallest fault: the first of the records themselves, then too many items, then the least requirement that data
 -- that pack them don't meet. `Memory` may come anywhere.
 unfoldable pub IsSmallest : List Entry → List MapperEntry → BuildError → Type 0
@@ -132,10 +110,4 @@ IsSmallest records uts46 (error.Unfit marker condition) =
     IsFirstRefusal records uts46 None
     × ((p : Packed) × PacksRecords records uts46 p
     × IsFirstUnfitOfRecords records p (Some (record { marker = marker; condition = condition })))
-IsSmallest records uts46 error.Order = IsFirstRefusal records uts46 (Some refusal.Order)
-IsSmallest records uts46 error.Fixed = IsFirstRefusal records uts46 (Some refusal.Fixed)
-IsSmallest records uts46 error.Class = IsFirstRefusal records uts46 (Some refusal.Class)
-IsSmallest records uts46 error.Mapping = IsFirstRefusal records uts46 (Some refusal.Mapping)
-IsSmallest records uts46 error.Chain = IsFirstRefusal records uts46 (Some refusal.Chain)
-IsSmallest records uts46 error.Length = IsFirstRefusal records uts46 (Some refusal.Length)
-IsSmallest records uts46 error.Pair = IsFirstRefusal records uts46 (Some refusal.Pair)
+IsSmallest records uts46 e = IsFirstRefusal records uts46 (Some e)

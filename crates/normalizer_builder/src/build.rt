@@ -1,7 +1,7 @@
 //! Builds data from records.
 ghost use Rattle.std.specs.Prelude.{◌≡◌, MatchResult};
 ghost use Rattle.normalizer_records.specs.Recorded.{AreExpanded};
-ghost use Rattle.normalizer_builder.specs.Building.{Builds, IsSmallest, error_of};
+ghost use Rattle.normalizer_builder.specs.Building.{Builds, IsSmallest};
 ghost use Rattle.normalizer_builder.specs.Built.{data_in};
 ghost use Rattle.normalizer_builder.specs.inner.Parts.{PacksCharacters};
 
@@ -9,8 +9,7 @@ use crate::built::Built;
 use crate::mappings::first_unfit_of_records;
 use crate::scalars::are_of_characters;
 use normalizer_packing::{PackError, Packed, pack};
-use normalizer_records::{BuildError, Record, Refusal, Uts46Record, expanded};
-use normalizer_tables::entry::Entry;
+use normalizer_records::{BuildError, ExpandedRecords, Record, Uts46Record, expanded};
 use std::alloc::Global;
 
 /// Builds data from plain records of characters.
@@ -39,63 +38,30 @@ impl Records {
         ensures { MatchResult result (λ b. Builds records.now uts46.now (data_in b))
             (IsSmallest records.now uts46.now) }
     {
-        match expanded(alloc, records, uts46) {
-            Ok(Ok((entries, pairs))) => build_expanded(alloc, records, uts46, entries, pairs),
-            Ok(Err(refusal)) => Err(error_of(refusal)),
-            Err(_) => Err(BuildError::Memory),
+        let expanded = expanded(alloc, records, uts46)?;
+        let packed = packed_of(alloc, records, uts46, expanded)?;
+        match first_unfit_of_records(records, &packed) {
+            None => Ok(Built { packed }),
+            Some(unfit) => Err(BuildError::Unfit {
+                marker: unfit.marker,
+                condition: unfit.condition,
+            }),
         }
     }
 }
 
-/// The error that a refusal of the records is.
-fn error_of(refusal: Refusal) -> BuildError
-    ensures { result ≡ error_of refusal }
-{
-    match refusal {
-        Refusal::Order => BuildError::Order,
-        Refusal::Fixed => BuildError::Fixed,
-        Refusal::Class => BuildError::Class,
-        Refusal::Mapping => BuildError::Mapping,
-        Refusal::Chain => BuildError::Chain,
-        Refusal::Length => BuildError::Length,
-        Refusal::Pair => BuildError::Pair,
-    }
-}
-
-/// The data of records that aren't refused themselves, of what is packed of them.
-#[tactic(auto, unfolding(crate::specs::Building::IsSmallest))]
-fn build_expanded(
-    alloc: Global,
-    records: &[Record],
-    uts46: &[Uts46Record],
-    entries: Vec<Entry>,
-    pairs: Vec<(char, char, char)>,
-) -> Result<Built, BuildError>
-    requires { AreExpanded records.now uts46.now entries.items pairs.items }
-    ensures { MatchResult result (λ b. Builds records.now uts46.now (data_in b)) (IsSmallest records.now uts46.now) }
-{
-    let packed = packed_of(alloc, records, uts46, entries, pairs)?;
-    match first_unfit_of_records(records, &packed) {
-        None => Ok(Built { packed }),
-        Some(unfit) => Err(BuildError::Unfit {
-            marker: unfit.marker,
-            condition: unfit.condition,
-        }),
-    }
-}
-
-/// Data that pack such records.
+/// Data that pack records, of what is packed of them.
 #[tactic(auto, unfolding(crate::specs::Building::IsSmallest))]
 fn packed_of(
     alloc: Global,
     records: &[Record],
     uts46: &[Uts46Record],
-    entries: Vec<Entry>,
-    pairs: Vec<(char, char, char)>,
+    expanded: ExpandedRecords,
 ) -> Result<Packed, BuildError>
-    requires { AreExpanded records.now uts46.now entries.items pairs.items }
+    requires { AreExpanded records.now uts46.now expanded.entries.items expanded.pairs.items }
     ensures { MatchResult result (PacksCharacters records.now uts46.now) (IsSmallest records.now uts46.now) }
 {
+    let ExpandedRecords { entries, pairs } = expanded;
     are_of_characters(entries.as_slice());
     match pack(alloc, entries.as_slice(), pairs) {
         Ok(packed) => Ok(packed),

@@ -4,16 +4,15 @@ ghost use Rattle.normalizer_tables.specs.declared.entry.Kind.TheVariants.{Canoni
 ghost use Rattle.normalizer_records.specs.Faults.{AreRising};
 ghost use Rattle.normalizer_tables.specs.Steps.{step_of};
 ghost use Rattle.normalizer_builder.specs.Building.{IsFirstUnfitOfMappings, IsFirstUnfitOfRecords, KeepsMapping};
-ghost use Rattle.normalizer_builder.specs.Building.{step_of_mapping};
 ghost use Rattle.normalizer_builder.specs.Demands.{characters_of};
 
 use crate::rank::{Unfit, least};
 use crate::unfit::{characters_of, first_unfit};
 use normalizer_packing::Packed;
-use normalizer_records::{Record, canonical_mapping_of, step_to};
+use normalizer_records::{Record, recorded_step};
 use normalizer_tables::DataMarkerInfo;
-use normalizer_tables::entry::{Kind, Mapping};
-use normalizer_tables::step::{Step, step_of};
+use normalizer_tables::entry::Kind;
+use normalizer_tables::step::step_of;
 
 /// The first requirement that data that pack records don't meet: those of constructors, and that one step keeps the
 /// recorded mappings.
@@ -52,26 +51,16 @@ fn keeps_mappings(records: &[Record], packed: &Packed) -> bool
 }
 
 /// Whether one step of a character is the mapping that is recorded of it.
-#[tactic(auto, unfolding(crate::specs::Building::KeepsMapping, normalizer_records::specs::Recorded::recorded_step))]
+#[tactic(auto, unfolding(crate::specs::Building::KeepsMapping))]
 fn keeps_mapping(records: &[Record], packed: &Packed, character: char) -> bool
     requires { AreRising records.now }
     ensures { IsTrue result ↔ KeepsMapping records.now packed.now character }
 {
-    match step_to(canonical_mapping_of(records, character)) {
-        Some(mapping) => {
+    match recorded_step(records, character) {
+        Some(step) => {
             let characters = characters_of(packed, Kind::Canonical);
-            step_of(&characters, &packed.supplement, character) == Some(step_of_mapping(mapping))
+            step_of(&characters, &packed.supplement, character) == Some(step)
         }
         None => true,
-    }
-}
-
-/// The step that is a mapping.
-fn step_of_mapping(mapping: Mapping) -> Step
-    ensures { result ≡ step_of_mapping mapping }
-{
-    match mapping {
-        Mapping::One(only) => Step::Singleton(only),
-        Mapping::Two(first, second) => Step::Expansion(first, second),
     }
 }

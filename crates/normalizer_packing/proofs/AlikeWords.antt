@@ -18,6 +18,7 @@ use Rattle.normalizer_tables.specs.Entries.{CharacterEntry, class_in, reading_of
 use Rattle.normalizer_packing.specs.Flags.{IsFlagged}
 use Rattle.normalizer_packing.specs.Packing.{HasFlags, IsPackedWord, IsSpelled}
 use Rattle.normalizer_packing.specs.Spelling.{final_word, spelling, spelling_by_list, spelling_or_ignored}
+use Rattle.normalizer_tables.specs.declared.step.Step.TheVariants.{Default}
 use Rattle.normalizer_packing.specs.Steps.{step_in, step_lists, word_of_step}
 use Rattle.normalizer_packing.specs.inner.Stretches.{AreAlike, ListsTold, edges}
 use Rattle.normalizer_packing.proofs.EntryLemmas.{Contains-map, find-missing, find-tells}
@@ -119,7 +120,7 @@ module _ (entries : List CharacterEntry) (pairs : List Pair) (told : List ℕ) (
           short_packs kind entries pairs (n + 1) 0 w second spelled
           (rw (kept-none entries kind (n + 1) two.entry) (flags_next entries pairs n one two (reading_of_entries entries pairs) w (rw (kept-none entries kind n one.entry) at flags)))
 
-  step-none : (n : ℕ) → entry_of entries n ≡ None → step_in entries n ≡ None
+  step-none : (n : ℕ) → entry_of entries n ≡ None → step_in entries n ≡ Default
   unfolding step_in
   step-none n none = rw (none, step_in) refl
 

@@ -4,8 +4,8 @@ use Rattle.std.specs.Prelude.{take, filter_map, Option, Some, None, if◌then◌
 use Rattle.std.specs.Int.{is_in_range}
 use Rattle.normalizer_tables.specs.Data.{Supplement}
 use Rattle.normalizer_tables.specs.Words.{is_class_form}
-use Rattle.normalizer_tables.specs.declared.entry.Mapping.{Mapping}
-use Rattle.normalizer_tables.specs.declared.entry.Mapping.TheVariants.{One, Two}
+use Rattle.normalizer_tables.specs.declared.step.Step.{Step}
+use Rattle.normalizer_tables.specs.declared.step.Step.TheVariants.{Default, Singleton, Expansion}
 use Rattle.normalizer_packing.specs.declared.spelling.Spelling.TheVariants.{Final, Short, Listed}
 use Rattle.normalizer_tables.specs.Entries.{CharacterEntry, class_in, entry_of}
 use Rattle.normalizer_packing.specs.Spelling.{spelling}
@@ -25,19 +25,19 @@ asks_supplement class e = elim (spelling class e.character (Some e.canonical)) [
   | Listed ↦ not (e.character == 0x212B) && nat_lt 2 (length e.canonical)
 ]
 
--- the mapping for which one step needs the supplement
-unfoldable pub asked_step : List CharacterEntry → CharacterEntry → Option Mapping
-asked_step entries e = if asks_supplement (class_in entries) e then e.mapping else None
+-- the step that needs the supplement
+unfoldable pub asked_step : List CharacterEntry → CharacterEntry → Step
+asked_step entries e = if asks_supplement (class_in entries) e then e.mapping else Default
 
 -- two characters that a word of the supplement spells
 unfoldable pub are_narrow : ℕ → ℕ → Bool
 are_narrow a b = nat_le a 0xFFFF && nat_le b 0xFFFF
 
 -- the step, if it is of two characters that only the table can hold
-unfoldable pub stored_step : Option Mapping → Option (List ℕ)
-stored_step None = None
-stored_step (Some (One a)) = None
-stored_step (Some (Two a b)) = if are_narrow a b then None else Some (a ∷ b ∷ [])
+unfoldable pub stored_step : Step → Option (List ℕ)
+stored_step Default = None
+stored_step (Singleton a) = None
+stored_step (Expansion a b) = if are_narrow a b then None else Some (a ∷ b ∷ [])
 
 -- those that characters need, by rising character
 unfoldable pub stored_steps : List CharacterEntry → List (List ℕ)
@@ -52,15 +52,15 @@ abbrev pub word_of_place : ℕ → ℕ
 word_of_place place = if nat_le (place + 2) step_limit then (place + 1) * 0x10000 else 0
 
 -- the word of a step, if the table holds these lists
-unfoldable pub word_of_step : List (List ℕ) → Option Mapping → ℕ
-word_of_step lists None = 0
-word_of_step lists (Some (One a)) = if nat_le a 0xFFFF then a else 0
-word_of_step lists (Some (Two a b)) =
+unfoldable pub word_of_step : List (List ℕ) → Step → ℕ
+word_of_step lists Default = 0
+word_of_step lists (Singleton a) = if nat_le a 0xFFFF then a else 0
+word_of_step lists (Expansion a b) =
     if are_narrow a b then a + b * 0x10000 else word_of_place (place_of lists (a ∷ b ∷ []))
 
 -- the step that the supplement has of a number
-unfoldable pub step_in : List CharacterEntry → ℕ → Option Mapping
-step_in entries n = elim (entry_of entries n) [ Some e ↦ asked_step entries e | None ↦ None ]
+unfoldable pub step_in : List CharacterEntry → ℕ → Step
+step_in entries n = elim (entry_of entries n) [ Some e ↦ asked_step entries e | None ↦ Default ]
 
 -- a word for each step that is needed, and the table as far as it may have items: a step past it has no word
 pub record PacksSteps (entries : List CharacterEntry) (s : Supplement) : Type 0 where

@@ -13,13 +13,14 @@ use crate::ranges::{Words, table_of};
 use crate::spelling::{Spelling, spell};
 use crate::stored::Store;
 use normalizer_tables::NonRecursiveDecompositionSupplement;
-use normalizer_tables::entry::{Entry, Mapping};
+use normalizer_tables::entry::Entry;
+use normalizer_tables::step::Step;
 use normalizer_tables::word::is_class_form;
 use std::alloc::{AllocError, Global};
 
-/// The mapping for which one step of a character needs the supplement.
+/// The step of a character that needs the supplement.
 #[tactic(auto, unfolding(crate::specs::Steps::asked_step, crate::specs::Steps::asks_supplement))]
-fn asked_step(entries: &Entries<'_>, entry: &Entry) -> Option<Mapping>
+fn asked_step(entries: &Entries<'_>, entry: &Entry) -> Step
     ensures { result ≡ asked_step entries.now entry.now }
 {
     let list = entry.canonical.as_slice();
@@ -30,7 +31,7 @@ fn asked_step(entries: &Entries<'_>, entry: &Entry) -> Option<Mapping>
                 && '\u{1F71}' <= entry.character
                 && entry.character <= '\u{1FFB}' => { entry.mapping }
         Spelling::Listed if entry.character != '\u{212B}' && 2 < list.len() => entry.mapping,
-        _ => None,
+        _ => Step::Default,
     }
 }
 
@@ -44,11 +45,11 @@ fn are_narrow(first: char, second: char) -> bool
 
 /// The two characters of a step that only the table can hold.
 #[tactic(auto, unfolding(crate::specs::Steps::stored_step))]
-fn stored_step(step: Option<Mapping>) -> Option<[char; 2]>
+fn stored_step(step: Step) -> Option<[char; 2]>
     ensures { result ≡ stored_step step }
 {
     match step {
-        Some(Mapping::Two(first, second)) if !are_narrow(first, second) => Some([first, second]),
+        Step::Expansion(first, second) if !are_narrow(first, second) => Some([first, second]),
         _ => None,
     }
 }
@@ -109,10 +110,13 @@ impl Words for StepWords<'_, '_, '_> {
 impl StepWords<'_, '_, '_> {
     /// The step that the supplement has of a character.
     #[tactic(auto, unfolding(crate::specs::Steps::step_in))]
-    fn step_of(&self, character: char) -> Option<Mapping>
+    fn step_of(&self, character: char) -> Step
         ensures { result ≡ step_in self.now.entries.now character }
     {
-        asked_step(self.entries, self.entries.entry_of(character)?)
+        match self.entries.entry_of(character) {
+            Some(entry) => asked_step(self.entries, entry),
+            None => Step::Default,
+        }
     }
 
     #[tactic(auto, using(crate::proofs::StepLemmas::step_among), unfolding(crate::specs::Steps::word_of_step, crate::specs::Steps::are_narrow))]
@@ -121,11 +125,11 @@ impl StepWords<'_, '_, '_> {
         ensures { result ≡ word_of_step (step_lists self.now.entries.now) (step_in self.now.entries.now character) }
     {
         match self.step_of(character) {
-            Some(Mapping::One(member)) if member <= '\u{FFFF}' => member as u32,
-            Some(Mapping::Two(first, second)) if are_narrow(first, second) => {
+            Step::Singleton(member) if member <= '\u{FFFF}' => member as u32,
+            Step::Expansion(first, second) if are_narrow(first, second) => {
                 first as u32 + second as u32 * 0x10000
             }
-            Some(Mapping::Two(first, second)) => self.word_of_stored(first, second),
+            Step::Expansion(first, second) => self.word_of_stored(first, second),
             _ => 0,
         }
     }

@@ -9,35 +9,47 @@ use Rattle.std.proofs.lemmas.List.Folds.{Any-from_list_any, list_any_at}
 use Rattle.normalizer_records.specs.Meaning.{status_of}
 use Rattle.normalizer_records.specs.inner.Chains.{IsSetOf}
 use Rattle.std.proofs.lemmas.Bool.{true≢false}
-use Rattle.normalizer_records.specs.declared.refusal.Refusal.{Refusal}
-use Rattle.normalizer_records.specs.declared.refusal.Refusal.TheVariants.{Order, Fixed, Class, Mapping, Chain, Length, Pair}
+use Rattle.normalizer_records.specs.declared.records.BuildError.{BuildError}
+use Rattle.normalizer_records.specs.declared.records.BuildError.TheVariants.{Order, Fixed, Class, Mapping, Chain, Length, Pair, Unfit, TableFull, Memory}
 use Rattle.normalizer_records.specs.Entry.{Entry, MapperEntry}
 use Rattle.normalizer_records.specs.Faults.{HasFault, has_fixed_fault, has_mapping_fault, HasClassFault, HasLengthFault, HasPairFault, first_among, rank_of, IsFirstRefusal, HasOrderFault}
 use Rattle.normalizer_records.specs.Faults.{HasChainFault, AreRising, AreMapperRising, IsAsked, IsOnLongChain, mapped_to}
 
-ranks : (r : Refusal) → (0 < rank_of r) × (rank_of r < 8)
-ranks r = grind arith
+some_rank : (e : BuildError) → 0 < rank_of e
+some_rank e = grind arith
 
-pub same_rank : (r s : Refusal) → rank_of r ≡ rank_of s → r ≡ s
-same_rank r s e = grind arith
+same_rank : (e f : BuildError) → rank_of e < 8 → rank_of e ≡ rank_of f → e ≡ f
+same_rank e f low same = grind arith
 
 module _ (records : List Entry) (uts46 : List MapperEntry) where
-  -- none of these refusals' faults
+  -- no error past the seventh is a fault of the records by themselves
+  low_rank : (e : BuildError) → HasFault records uts46 e → rank_of e < 8
+  unfolding HasFault
+  low_rank (Unfit marker condition) h = absurd h
+  low_rank TableFull h = absurd h
+  low_rank Memory h = absurd h
+  low_rank Order h = omega arith
+  low_rank _ h = omega arith
+
+  pub one_fault : (e f : BuildError) → HasFault records uts46 e → rank_of e ≡ rank_of f → e ≡ f
+  one_fault e f h same = same_rank e f (low_rank e h) same
+
+  -- none of the faults of these errors
   abbrev NoneBelow : ℕ → Type 0
-  NoneBelow n = (s : Refusal) → rank_of s < n → HasFault records uts46 s → ⊥
+  NoneBelow n = (s : BuildError) → rank_of s < n → HasFault records uts46 s → ⊥
 
   none_at_all : NoneBelow 1
-  none_at_all s low = let some = (ranks s).0 in absurd (omega arith)
+  none_at_all s low = let some = some_rank s in absurd (omega arith)
 
-  none_more : (r : Refusal) → NoneBelow (rank_of r) → (HasFault records uts46 r → ⊥) → NoneBelow (rank_of r + 1)
-  none_more r below not s low fault = absurd (grind (arith, same_rank s r, below s, not))
+  none_more : (r : BuildError) → NoneBelow (rank_of r) → (HasFault records uts46 r → ⊥) → NoneBelow (rank_of r + 1)
+  none_more r below not s low fault = absurd (grind (arith, one_fault s r fault, below s, not))
 
   no_order_fault : AreRising records → AreMapperRising uts46 → NoneBelow 2
   unfolding HasFault HasOrderFault
   no_order_fault rising mapper = none_more Order none_at_all (λ h. h (rising, mapper))
 
   -- one test after another
-  test : (r : Refusal) (b : Bool) (rest : Option Refusal) → IsTrue b ↔ HasFault records uts46 r → NoneBelow (rank_of r) → (NoneBelow (rank_of r + 1) → IsFirstRefusal records uts46 rest) →
+  test : (r : BuildError) (b : Bool) (rest : Option BuildError) → IsTrue b ↔ HasFault records uts46 r → NoneBelow (rank_of r) → (NoneBelow (rank_of r + 1) → IsFirstRefusal records uts46 rest) →
       IsFirstRefusal records uts46 (if b then Some r else rest)
   unfolding IsFirstRefusal
   test r true rest h below further = (h.0 refl, below)
@@ -50,7 +62,7 @@ module _ (records : List Entry) (uts46 : List MapperEntry) where
   first_among-is rising mapper fixed class mapping chain long pair a b c d e =
       let none = none_more Fixed (no_order_fault rising mapper) (λ h. true≢false (sym h ∙ fixed)) in
       test Class class _ a none (λ below. test Mapping mapping _ (λ h. sym b ∙ h, λ h. b ∙ h) below (λ below. test Chain chain _ c below (λ below. test Length long _ d below
-      (λ below. test Pair pair _ e below (λ below r. below r (ranks r).1)))))
+      (λ below. test Pair pair _ e below (λ below e fault. below e (low_rank e fault) fault)))))
 
   pub order_first : HasOrderFault records uts46 → IsFirstRefusal records uts46 (Some Order)
   unfolding HasFault IsFirstRefusal

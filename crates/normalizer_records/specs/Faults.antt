@@ -6,9 +6,9 @@ use Rattle.std.specs.List.{list_any}
 use Rattle.std.specs.Int.{is_in_range}
 use Rattle.normalizer_tables.specs.Hangul.{is_hangul_syllable}
 use Rattle.normalizer_tables.specs.SpecialLists.{fixed_list_of, fdfa_list}
-use Rattle.normalizer_records.specs.declared.refusal.Refusal.{Refusal}
-use Rattle.normalizer_records.specs.declared.refusal.Refusal.TheVariants.{Order, Fixed, Class, Mapping, Chain, Length}
-use Rattle.normalizer_records.specs.declared.refusal.Refusal.TheVariants.{Pair}
+use Rattle.normalizer_records.specs.declared.records.BuildError.{BuildError}
+use Rattle.normalizer_records.specs.declared.records.BuildError.TheVariants.{Order, Fixed, Class, Mapping, Chain}
+use Rattle.normalizer_records.specs.declared.records.BuildError.TheVariants.{Length, Pair, Unfit, TableFull, Memory}
 use Rattle.normalizer_records.specs.Entry.{Entry, Status, MapsTo, IsIgnored, IsDisallowed, MapperEntry}
 use Rattle.normalizer_records.specs.Meaning.{canonical_list, chain_limit, class_of, compatibility_list, entry_of}
 use Rattle.normalizer_records.specs.Meaning.{mapper_list, mapping_of, pairs_of, status_of}
@@ -184,8 +184,9 @@ HasPairFault records = (first second : ℕ) × (1 < count_by (λ p. (p.0 == seco
 
 -- All
 
--- what each refusal says
-unfoldable pub HasFault : List Entry → List MapperEntry → Refusal → Type 0
+-- what each error says of the records by themselves. The last three say nothing of them: `Unfit` and `TableFull` speak
+-- of the data that are packed, `Memory` of allocations.
+unfoldable pub HasFault : List Entry → List MapperEntry → BuildError → Type 0
 HasFault records uts46 Order = HasOrderFault records uts46
 HasFault records uts46 Fixed = has_fixed_fault records uts46 ≡ true
 HasFault records uts46 Class = HasClassFault records uts46
@@ -193,9 +194,12 @@ HasFault records uts46 Mapping = has_mapping_fault records uts46 ≡ true
 HasFault records uts46 Chain = HasChainFault records
 HasFault records uts46 Length = HasLengthFault records uts46
 HasFault records uts46 Pair = HasPairFault records
+HasFault records uts46 (Unfit marker condition) = ⊥
+HasFault records uts46 TableFull = ⊥
+HasFault records uts46 Memory = ⊥
 
 -- their order, the smallest first
-abbrev pub rank_of : Refusal → ℕ
+abbrev pub rank_of : BuildError → ℕ
 rank_of Order = 1
 rank_of Fixed = 2
 rank_of Class = 3
@@ -203,15 +207,22 @@ rank_of Mapping = 4
 rank_of Chain = 5
 rank_of Length = 6
 rank_of Pair = 7
+rank_of (Unfit marker condition) = 8
+rank_of TableFull = 9
+rank_of Memory = 10
 
--- none if nothing is wrong, else the smallest refusal whose fault the records have
-unfoldable pub IsFirstRefusal : List Entry → List MapperEntry → Option Refusal → Type 0
-IsFirstRefusal records uts46 None = (r : Refusal) → ¬ HasFault records uts46 r
-IsFirstRefusal records uts46 (Some r) =
-    HasFault records uts46 r × ((s : Refusal) → rank_of s < rank_of r → ¬ HasFault records uts46 s)
+-- none if nothing is wrong, else the smallest error whose fault the records have: none of the last three
+unfoldable pub IsFirstRefusal : List Entry → List MapperEntry → Option BuildError → Type 0
+IsFirstRefusal records uts46 None = (e : BuildError) → ¬ HasFault records uts46 e
+IsFirstRefusal records uts46 (Some e) =
+    HasFault records uts46 e × ((f : BuildError) → rank_of f < rank_of e → ¬ HasFault records uts46 f)
+
+-- the first refusal, unless memory was refused
+abbrev pub IsRefusal : List Entry → List MapperEntry → BuildError → Type 0
+IsRefusal records uts46 e = (e ≡ Memory) ⊎ IsFirstRefusal records uts46 (Some e)
 
 -- the smallest of those past the second that are so
-abbrev pub first_among : Bool → Bool → Bool → Bool → Bool → Option Refusal
+abbrev pub first_among : Bool → Bool → Bool → Bool → Bool → Option BuildError
 first_among class mapping chain long pair =
     if class then Some Class
     else if mapping then Some Mapping

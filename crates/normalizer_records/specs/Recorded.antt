@@ -1,9 +1,10 @@
 -- What is packed of recorded characters.
-use Rattle.std.specs.Prelude.{◌≡◌, ℕ, List, [], ◌∷◌, ◌++◌, map, All, Contains, Option, Some, None}
+use Rattle.std.specs.Prelude.{◌≡◌, ℕ, List, ◌++◌, map, All, Contains, Option, None, unwrap_or}
 use Rattle.std.specs.List.Sorted.{IsPermutation, IsStrictlyIncreasing}
 use Rattle.normalizer_tables.specs.Pairs.{Pair, AreRising as ArePairsRising}
-use Rattle.normalizer_tables.specs.declared.entry.Mapping.{Mapping}
-use Rattle.normalizer_tables.specs.declared.entry.Mapping.TheVariants.{One, Two}
+use Rattle.normalizer_tables.specs.declared.step.Step.{Step}
+use Rattle.normalizer_tables.specs.declared.step.Step.TheVariants.{Default}
+use Rattle.normalizer_tables.specs.Steps.{step_to}
 use Rattle.normalizer_tables.specs.Entries.{CharacterEntry}
 use Rattle.normalizer_records.specs.Entry.{Entry, MapperEntry}
 use Rattle.normalizer_records.specs.Faults.{IsFirstRefusal}
@@ -20,14 +21,8 @@ pub record ListsCharacters (records : List Entry) (uts46 : List MapperEntry) (ch
   pub recorded : All (Contains (recorded_characters records uts46)) characters
   pub rising : IsStrictlyIncreasing characters
 
--- one step of a mapping to one or two characters
-abbrev pub step_to : List ℕ → Option Mapping
-step_to (a ∷ []) = Some (One a)
-step_to (a ∷ b ∷ []) = Some (Two a b)
-step_to x = None
-
--- the recorded canonical mapping
-unfoldable pub recorded_step : List Entry → ℕ → Option Mapping
+-- the recorded canonical mapping, if it is of one character or two
+unfoldable pub recorded_step : List Entry → ℕ → Option Step
 recorded_step records c = step_to (canonical_mapping_of records c)
 
 -- what records say of a character, as it is packed
@@ -38,7 +33,7 @@ entry_for records uts46 c = record {
   canonical = canonical_list records c;
   compatibility = compatibility_list records c;
   mapper = mapper_list records uts46 c;
-  mapping = recorded_step records c;
+  mapping = unwrap_or (recorded_step records c) Default;
 }
 
 -- an entry for each character that has a record of either kind, in their order

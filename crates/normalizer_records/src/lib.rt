@@ -12,13 +12,11 @@ mod lookup;
 mod ordering;
 mod pair_list;
 mod records;
-pub mod refusal;
 mod refusals;
 mod step;
 
 pub use lookup::{canonical_mapping_of, class_of};
 pub use pair_list::pairs;
 pub use records::{BuildError, Mappings, Record, Uts46Record, Uts46Status};
-pub use refusal::Refusal;
-pub use refusals::expanded;
-pub use step::step_to;
+pub use refusals::{ExpandedRecords, expanded};
+pub use step::recorded_step;

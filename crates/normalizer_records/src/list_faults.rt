@@ -21,12 +21,13 @@ ghost use Rattle.normalizer_records.specs.Meaning.{class_of};
 ghost use Rattle.normalizer_records.specs.Recorded.{entry_for};
 
 use crate::lists::{cut_list, cut_mapper_list};
-use crate::lookup::{canonical_mapping_of, class_of};
+use crate::lookup::class_of;
 use crate::records::{Mappings, Record, Uts46Record};
-use crate::step::step_to;
+use crate::step::recorded_step;
 use normalizer_tables::entry::Entry;
 use normalizer_tables::members::Members;
 use normalizer_tables::special::fixed_list_of;
+use normalizer_tables::step::Step;
 use std::alloc::{AllocError, Global};
 
 /// Whether there is a fault of classes, and one of lengths.
@@ -168,7 +169,6 @@ fn mapped_faults(records: &[Record], c: char, mapped: &Option<Vec<char>>) -> Lis
 }
 
 /// What records say of a character, and the faults that its lists show. A list that is too long is cut.
-#[tactic(auto, unfolding(crate::specs::Recorded::recorded_step))]
 pub(crate) fn checked_entry(
     alloc: Global,
     records: &[Record],
@@ -192,7 +192,7 @@ pub(crate) fn checked_entry(
         class: (class == 255) | (own.class | (other.class | mapped.class)),
         length: own.length | (other.length | mapped.length),
     };
-    let mapping = step_to(canonical_mapping_of(records, c));
+    let mapping = recorded_step(records, c).unwrap_or(Step::Default);
     let entry = Entry {
         character: c,
         class,

@@ -5,6 +5,7 @@ ghost use Rattle.normalizer_records.specs.Equal.{entry_eq, mapper_entry_eq};
 ghost use Rattle.normalizer_records.specs.EqualLaws.{entry_equivalence, mapper_entry_equivalence};
 
 use normalizer_tables::DataMarkerInfo;
+use std::alloc::AllocError;
 use std::marker::Model;
 use thiserror::Error;
 
@@ -153,4 +154,14 @@ pub enum BuildError {
     /// An allocation was refused.
     #[error("out of memory")]
     Memory,
+}
+
+impl From<AllocError> for BuildError {
+    ghost use Rattle.normalizer_records.specs.declared.records.BuildError.TheVariants.{Memory};
+
+    ghost from_gives = { λ _ error. error ≡ Memory };
+
+    fn from(_error: AllocError) -> BuildError {
+        BuildError::Memory
+    }
 }

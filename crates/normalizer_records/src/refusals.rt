@@ -1,5 +1,5 @@
 //! What is packed of records, or the first thing that is wrong with them.
-ghost use Rattle.std.specs.Prelude.{◌≡◌, ◌↔◌, ◌∷◌, ℕ, false, length, map, IfOk, IsTrue, MatchResult, Some};
+ghost use Rattle.std.specs.Prelude.{◌≡◌, ◌↔◌, ◌∷◌, ℕ, false, length, map, IfOk, IsTrue, MatchResult};
 ghost use Rattle.std.specs.BTreeSet.{contains};
 ghost use Rattle.std.specs.List.{list_any};
 ghost use Rattle.std.specs.Ordering.{nat_cmp};
@@ -13,8 +13,8 @@ ghost use Rattle.normalizer_records.specs.Faults.{
   HasLongList,
   HasWrongClass,
   IsAsked,
-  IsFirstRefusal,
   IsOnLongChain,
+  IsRefusal,
   mapped_to,
 };
 ghost use Rattle.normalizer_records.specs.Meaning.{status_of};
@@ -26,8 +26,7 @@ use crate::faults::{are_mapper_rising, are_rising, has_fixed_fault, has_mapping_
 use crate::list_faults::{ListFaults, checked_entry};
 use crate::lookup::uts46_record_of;
 use crate::pair_list::{are_rising as are_rising_pairs, pairs};
-use crate::records::{Record, Uts46Record, Uts46Status};
-use crate::refusal::Refusal;
+use crate::records::{BuildError, Record, Uts46Record, Uts46Status};
 use normalizer_tables::entry::Entry;
 use std::alloc::{AllocError, Global};
 use std::collections::BTreeSet;
@@ -89,18 +88,26 @@ fn checked_entries(
     Ok((entries, ListFaults { class, length }))
 }
 
+/// What is packed of records: an entry for each character that has a record, and the pairs, which rise.
+#[derive(Drop)]
+pub struct ExpandedRecords {
+    /// What records mean of each character.
+    pub entries: Vec<Entry>,
+    /// The second character, the first one, and what they compose to.
+    pub pairs: Vec<(char, char, char)>,
+}
+
 /// What is packed of records that rise and have no fixed character, or their first refusal.
 fn expanded_of_rising(
     alloc: Global,
     records: &[Record],
     uts46: &[Uts46Record],
-) -> Result<Result<(Vec<Entry>, Vec<(char, char, char)>), Refusal>, AllocError>
+) -> Result<ExpandedRecords, BuildError>
     requires rising { AreRising records.now }
     requires mapper { AreMapperRising uts46.now }
     requires fixed { has_fixed_fault records.now uts46.now ≡ false }
-    ensures { IfOk result (λ r.
-        MatchResult r (λ parts. AreExpanded records.now uts46.now parts.0.items parts.1.items)
-        (λ refusal. IsFirstRefusal records.now uts46.now (Some refusal))) }
+    ensures { MatchResult result (λ x. AreExpanded records.now uts46.now x.entries.items x.pairs.items)
+        (IsRefusal records.now uts46.now) }
 {
     let long = on_long_chains(alloc, records)?;
     let characters = sorted_characters(alloc, records, uts46)?;
@@ -110,49 +117,54 @@ fn expanded_of_rising(
     let pairs = pairs(alloc, records)?;
     let pair = !are_rising_pairs(&pairs);
     match first_among(faults.class, mapping, chain, faults.length, pair) {
-        None => Ok(Ok((entries, pairs))),
-        Some(refusal) => Ok(Err(refusal)),
+        None => Ok(ExpandedRecords { entries, pairs }),
+        Some(refusal) => Err(refusal),
     }
 }
 
 /// The smallest of the refusals that are so.
-fn first_among(class: bool, mapping: bool, chain: bool, length: bool, pair: bool) -> Option<Refusal>
+fn first_among(
+    class: bool,
+    mapping: bool,
+    chain: bool,
+    length: bool,
+    pair: bool,
+) -> Option<BuildError>
     ensures { result ≡ first_among class mapping chain length pair }
 {
     if class {
-        Some(Refusal::Class)
+        Some(BuildError::Class)
     } else if mapping {
-        Some(Refusal::Mapping)
+        Some(BuildError::Mapping)
     } else if chain {
-        Some(Refusal::Chain)
+        Some(BuildError::Chain)
     } else if length {
-        Some(Refusal::Length)
+        Some(BuildError::Length)
     } else if pair {
-        Some(Refusal::Pair)
+        Some(BuildError::Pair)
     } else {
         None
     }
 }
 
-/// Returns what is packed of records, or the first thing that is wrong with them. An entry says what records mean of a
-/// character; the pairs rise.
+/// Returns what is packed of records.
 ///
 /// # Errors
-/// [`AllocError`] if an allocation was refused.
+/// The first thing that is wrong with the records by themselves, `Pair` or a variant of [`BuildError`] before it; or
+/// `Memory` if an allocation was refused.
 pub fn expanded(
     alloc: Global,
     records: &[Record],
     uts46: &[Uts46Record],
-) -> Result<Result<(Vec<Entry>, Vec<(char, char, char)>), Refusal>, AllocError>
-    ensures { IfOk result (λ r.
-        MatchResult r (λ parts. AreExpanded records.now uts46.now parts.0.items parts.1.items)
-        (λ refusal. IsFirstRefusal records.now uts46.now (Some refusal))) }
+) -> Result<ExpandedRecords, BuildError>
+    ensures { MatchResult result (λ x. AreExpanded records.now uts46.now x.entries.items x.pairs.items)
+        (IsRefusal records.now uts46.now) }
 {
     if !are_rising(records) || !are_mapper_rising(uts46) {
-        return Ok(Err(Refusal::Order));
+        return Err(BuildError::Order);
     }
     if has_fixed_fault(records, uts46) {
-        return Ok(Err(Refusal::Fixed));
+        return Err(BuildError::Fixed);
     }
     expanded_of_rising(alloc, records, uts46)
 }

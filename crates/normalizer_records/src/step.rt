@@ -1,16 +1,18 @@
-//! One step of a mapping.
+//! One step of a recorded mapping.
 ghost use Rattle.std.specs.Prelude.{◌≡◌};
-ghost use Rattle.normalizer_records.specs.Recorded.{step_to};
+ghost use Rattle.normalizer_records.specs.Faults.{AreRising};
+ghost use Rattle.normalizer_records.specs.Recorded.{recorded_step};
 
-use normalizer_tables::entry::Mapping;
+use crate::lookup::canonical_mapping_of;
+use crate::records::Record;
+use normalizer_tables::members::Members;
+use normalizer_tables::step::{Step, step_to};
 
-/// Returns one step of a mapping to one or two characters.
-pub fn step_to(mapping: &[char]) -> Option<Mapping>
-    ensures { result ≡ step_to mapping.now }
+/// Returns the recorded canonical mapping of a character, if it has one of one or two characters.
+#[tactic(auto, unfolding(crate::specs::Recorded::recorded_step))]
+pub fn recorded_step(records: &[Record], c: char) -> Option<Step>
+    requires { AreRising records.now }
+    ensures { result ≡ recorded_step records.now c }
 {
-    match mapping {
-        [only] => Some(Mapping::One(*only)),
-        [first, second] => Some(Mapping::Two(*first, *second)),
-        _ => None,
-    }
+    step_to(&Members::of_scalars(canonical_mapping_of(records, c)))
 }

@@ -1,5 +1,5 @@
 -- What the conditions say of all that was loaded: apart from the walk over words, and of each character.
-use Rattle.std.proofs.Common.{◌≡◌, ◌↔◌, ℕ, ◌+◌, inl, inr, true, false, List, ◌++◌, length, All, Option, Some, None, IfSome, subst, true≢false, arith}
+use Rattle.std.proofs.Common.{◌≡◌, ◌↔◌, ℕ, ◌+◌, inl, inr, false, List, ◌++◌, length, All, Option, Some, None, IfSome, subst, true≢false, arith}
 use Rattle.std.specs.Char.{IsScalar}
 use lib.Utf8.{scalar}
 use Rattle.std.proofs.lemmas.Bool.{cases_Bool}

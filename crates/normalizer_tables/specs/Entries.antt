@@ -3,7 +3,7 @@ use Rattle.std.specs.Prelude.{ℕ, ◌<◌, ◌==◌, List, [], ◌∷◌, AllPa
 use Rattle.normal_forms.specs.Reading.{Reading}
 use Rattle.normalizer_tables.specs.declared.entry.Kind.{Kind}
 use Rattle.normalizer_tables.specs.declared.entry.Kind.TheVariants.{Canonical, Compatibility, Mapper}
-use Rattle.normalizer_tables.specs.declared.entry.Mapping.{Mapping}
+use Rattle.normalizer_tables.specs.declared.step.Step.{Step}
 use Rattle.normalizer_tables.specs.Pairs.{Pair, pair_of}
 
 -- a character, its class, its full decompositions, and its recorded canonical mapping. The mapper ignores a character
@@ -14,7 +14,7 @@ pub record CharacterEntry : Type 0 where
   pub canonical : List ℕ
   pub compatibility : List ℕ
   pub mapper : Option (List ℕ)
-  pub mapping : Option Mapping
+  pub mapping : Step
 
 -- the entries strictly rise by character
 abbrev pub AreRising : List CharacterEntry → Type 0

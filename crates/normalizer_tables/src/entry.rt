@@ -2,6 +2,7 @@
 ghost use Rattle.std.specs.Prelude.{◌≡◌, option_copied};
 ghost use Rattle.normalizer_tables.specs.Entries.{own_list};
 
+use crate::step::Step;
 use std::marker::Model;
 
 /// The three kinds of decomposition data.
@@ -13,15 +14,6 @@ pub enum Kind {
     Compatibility,
     /// The mapper's (UTS #46, section 4).
     Mapper,
-}
-
-/// A canonical mapping as it is recorded, before it is replaced further.
-#[derive(Clone, Copy, Debug, PartialEq, Eq)]
-pub enum Mapping {
-    /// To one character.
-    One(char),
-    /// To two characters.
-    Two(char, char),
 }
 
 /// A character, its canonical combining class, its full decomposition in each kind of data, and its recorded canonical
@@ -38,8 +30,8 @@ pub struct Entry {
     pub compatibility: Vec<char>,
     /// `None` if the mapper ignores the character.
     pub mapper: Option<Vec<char>>,
-    /// Its recorded canonical mapping, if it has one.
-    pub mapping: Option<Mapping>,
+    /// Its recorded canonical mapping, before it is replaced further.
+    pub mapping: Step,
 }
 
 impl Model for Entry {

@@ -127,9 +127,9 @@ fn supplementary_step(
     step_to(&mapping)
 }
 
-/// The step to one character, or to two.
+/// Returns the step of a mapping to one character, or to two.
 #[tactic(auto, unfolding(crate::specs::Steps::step_to))]
-fn step_to(mapping: &Members<'_>) -> Option<Step>
+pub fn step_to(mapping: &Members<'_>) -> Option<Step>
     ensures { result ≡ step_to mapping.now }
 {
     match mapping.len() {

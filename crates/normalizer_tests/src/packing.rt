@@ -1,6 +1,7 @@
 //! Which entries can be packed.
 use normalizer_packing::are_packable;
 use normalizer_tables::entry::Entry;
+use normalizer_tables::step::Step;
 use std::alloc::Global;
 
 /// An entry of a character without a mapping, that has one list in all kinds of data.
@@ -11,7 +12,7 @@ fn entry(alloc: Global, character: char, class: u8, list: &[char]) -> Option<Ent
         canonical: list.to_vec(alloc).ok()?,
         compatibility: list.to_vec(alloc).ok()?,
         mapper: Some(list.to_vec(alloc).ok()?),
-        mapping: None,
+        mapping: Step::Default,
     })
 }
 

@@ -4,7 +4,7 @@ use Rattle.normalizer_builder.proofs.build.packed_of.Goals as goal
 pub pack-requires : goal.pack-requires
 pack-requires c =
     rw c.as_slice-2.ensures.value
-    (ArePackable-made c.args.records.now c.args.uts46.now c.requires.unrefused c.args.entries.items c.requires.made (rw c.as_slice.ensures.value at c.are_of_characters.ensures))
+    (ArePackable-made c.args.records.now c.args.uts46.now c.requires.unrefused c.args.expanded.entries.items c.requires.made (rw c.as_slice.ensures.value at c.are_of_characters.ensures))
 
 pub returns-in-Ok : goal.returns-in-Ok
 returns-in-Ok c = record {

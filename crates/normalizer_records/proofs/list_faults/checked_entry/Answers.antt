@@ -1,7 +1,7 @@
 use Rattle.std.proofs.Common.{◌≡◌, ◌↔◌, ◌==◌, ℕ, false, IsTrue, subst}
 use Rattle.std.proofs.lemmas.Bool.Decides.{Decides-eqb, Decides-or}
 use Rattle.normalizer_records.specs.Faults.{HasWrongClass, HasLongList, IsTooLong, IsWrong}
-use Rattle.normalizer_records.specs.Recorded.{entry_for, recorded_step}
+use Rattle.normalizer_records.specs.Recorded.{entry_for}
 use Rattle.normalizer_records.proofs.CutLemmas.{MayStandFor-short, MayStandFor-some}
 use Rattle.normalizer_records.proofs.OrLemmas.{any_decides}
 use Rattle.normalizer_records.proofs.list_faults.checked_entry.Goals as goal
@@ -27,12 +27,12 @@ pub cut_mapper_list-requires-clause-canonical : goal.cut_mapper_list-requires-cl
 cut_mapper_list-requires-clause-canonical c = rw c.deref.ensures.value c.in_ok-canonical.ensures
 
 pub returns-clause-entry : goal.returns-clause-entry
-unfolding entry_for recorded_step
+unfolding entry_for
 returns-clause-entry c room =
     let canonical = c.in_ok-canonical.ensures.short room.canonical in
     let compatibility = c.in_ok-compatibility.ensures.short room.compatibility in
     let mapper = MayStandFor-short c.args.records.now _ _ room.mapper c.in_ok-mapper.ensures in
     let class = c.class_of-class.ensures in
-    let mapping = c.step_to-mapping.ensures in
-    let from = c.canonical_mapping_of.ensures in
+    let step = c.recorded_step.ensures in
+    let mapping = c.unwrap_or-mapping.ensures in
     cc

@@ -1,5 +1,5 @@
-use Rattle.std.proofs.Common.{◌≡◌, ◌↔◌, ℕ, Bool, false, List, All, Contains, length, IsTrue, None, sym, subst}
-use Rattle.normalizer_records.specs.declared.refusal.Refusal.TheVariants.{Pair}
+use Rattle.std.proofs.Common.{◌≡◌, ◌↔◌, ℕ, Bool, false, List, All, Contains, length, IsTrue, None, inr, sym, subst}
+use Rattle.normalizer_records.specs.declared.records.BuildError.TheVariants.{Pair}
 use Rattle.normalizer_records.specs.Entry.{Entry, MapperEntry}
 use Rattle.normalizer_records.specs.Faults.{AreRising, AreMapperRising, first_among, has_fixed_fault, has_mapping_fault, HasChainFault, HasFault, HasLongList, HasPairFault, HasWrongClass, IsAsked}
 use Rattle.normalizer_records.specs.Faults.{IsFirstRefusal}
@@ -46,7 +46,7 @@ returns c =
     let records = c.args.records.now in
     let uts46 = c.args.uts46.now in
     let same = c.deref.ensures.value in
-    subst (IsFirstRefusal records uts46) (sym c.in-Some.ensures)
+    inr (subst (IsFirstRefusal records uts46) (sym c.in-Some.ensures)
     (by_characters records uts46 c.requires.rising c.requires.mapper c.requires.fixed _ c.in_ok-characters.ensures.all _ _ _ _ _ (rw same at c.in_ok-entries.ensures.class) c.has_mapping_fault-mapping.ensures
     (HasChainFault-some records _ c.in_ok-long.ensures _ c.is_empty-chain.ensures) (rw same at c.in_ok-entries.ensures.length)
-    (decides records _ c.in_ok-pairs.ensures.same c.in_ok-pairs.ensures.sorted _ (rw c.deref-2.ensures.value at c.are_rising-pair.ensures)))
+    (decides records _ c.in_ok-pairs.ensures.same c.in_ok-pairs.ensures.sorted _ (rw c.deref-2.ensures.value at c.are_rising-pair.ensures))))
