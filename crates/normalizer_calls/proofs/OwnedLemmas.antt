@@ -30,10 +30,10 @@ form_from_cut e d form units place cut =
     ∙ ap (encoded_in e) cut.qualifies.keeps
 
 -- they are written one after the other
-pub written_from_cut : {S A E : Type 0} (taken : S → List ℕ) (e : Encoding) (d : Reading) (form : Form) (units : List ℕ) (place : ℕ) → IsInputCut e d form units place
-    → (old mid new : S) (prefix rest : List ℕ) (answer : Result A E) → prefix ≡ take place units → rest ≡ drop place units → taken mid ≡ taken old ++ prefix
+pub written_from_cut : {S A E : Type 0} (taken : S → List ℕ) {e : Encoding} {d : Reading} {form : Form} {units : List ℕ} {place : ℕ} → IsInputCut e d form units place
+    → (old mid new : S) {prefix rest : List ℕ} (answer : Result A E) → prefix ≡ take place units → rest ≡ drop place units → taken mid ≡ taken old ++ prefix
     → OnOk answer (taken new ≡ taken mid ++ encoded_form e d form rest) → OnOk answer (taken new ≡ taken old ++ encoded_form e d form units)
-written_from_cut taken e d form units place cut old mid new prefix rest answer prefix_is rest_is took h =
+written_from_cut taken {e = e} {d = d} {form = form} {units = units} {place = place} cut old mid new {prefix = prefix} {rest = rest} answer prefix_is rest_is took h =
     let whole : prefix ++ encoded_form e d form rest ≡ encoded_form e d form units =
     ap (λ l. l ++ encoded_form e d form rest) prefix_is ∙ ap (λ l. take place units ++ encoded_form e d form l) rest_is ∙ form_from_cut e d form units place cut in
     IfOk-weaker answer _ _
@@ -75,7 +75,7 @@ IsEncodedFormOf-own m e units suits own =
     IsEncodedFormOf-encoded m e units suits units (sym ((is_normalized_iff_encoded_form e m.reading m.form units (IsText-normal_form m.reading m.form suits.texts suits.scalars)).0 own))
 
 -- what was written
-module _ {S : Type 0} (taken : S → List ℕ) (m : MadeForm) (e : Encoding) (units : List ℕ) (suits : SuitsTexts m.reading m.form) (old new : S) where
+module _ {S : Type 0} {taken : S → List ℕ} {m : MadeForm} {e : Encoding} {units : List ℕ} {old new : S} (suits : SuitsTexts m.reading m.form) where
   pub WroteUnlessOwn-kept : IsInputNormalized e m.reading m.form units → WroteUnlessOwn taken m e units old true new
   WroteUnlessOwn-kept own = record {
     is_own = (λ _. own, λ _. refl);
@@ -91,8 +91,8 @@ module _ {S : Type 0} (taken : S → List ℕ) (m : MadeForm) (e : Encoding) (un
   }
 
 -- what was returned
-module _ {S A : Type 0} (content : A → List ℕ) (IsBorrowed : A → Type 0) (taken : S → List ℕ) (m : MadeForm) (e : Encoding) (units : List ℕ) (old new : S)
-    (own : Bool) (wrote : WroteUnlessOwn taken m e units old own new) (z : A) where
+module _ {S A : Type 0} {content : A → List ℕ} {IsBorrowed : A → Type 0} {taken : S → List ℕ} {m : MadeForm} {e : Encoding} {units : List ℕ} {old new : S}
+    {own : Bool} (wrote : WroteUnlessOwn taken m e units old own new) {z : A} where
   pub ReturnsForm-borrowed : IsTrue own → content z ≡ units → IsBorrowed z → ReturnsForm content IsBorrowed m e units (Ok z)
   ReturnsForm-borrowed is same borrowed = record {
     form = subst (IsEncodedFormOf m e units) (sym same) (wrote.kept is);

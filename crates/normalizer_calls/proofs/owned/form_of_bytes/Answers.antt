@@ -1,11 +1,9 @@
 use Rattle.std.proofs.Common.{refl}
-use Rattle.std.specs.Cow.{cow_str_bytes, IsBorrowedStr}
-use Rattle.std.specs.Prelude.{string_bytes}
 use Rattle.normalizer_calls.proofs.OwnedLemmas.{ReturnsForm-borrowed, ReturnsForm-owned}
 use Rattle.normalizer_calls.proofs.owned.form_of_bytes.Goals as goal
 
 pub returns-then-branch : goal.returns-then-branch
-returns-then-branch g c = ReturnsForm-borrowed cow_str_bytes IsBorrowedStr string_bytes _ _ _ _ _ _ c.in_ok-write_unless_own.ensures.wrote _ c.if-branch.true c.text_of.ensures tt
+returns-then-branch g c = ReturnsForm-borrowed c.in_ok-write_unless_own.ensures.wrote c.if-branch.true c.text_of.ensures tt
 
 pub returns : goal.returns
-returns g c = ReturnsForm-owned cow_str_bytes IsBorrowedStr string_bytes _ _ _ _ _ _ c.in_ok-write_unless_own.ensures.wrote _ c.if-branch.false c.new-owned.ensures.bytes refl (λ borrowed. borrowed)
+returns g c = ReturnsForm-owned c.in_ok-write_unless_own.ensures.wrote c.if-branch.false c.new-owned.ensures.bytes refl (λ borrowed. borrowed)

@@ -19,9 +19,7 @@ pub returns-in_err-write_segment-clause-refused : goal.returns-in_err-write_segm
 returns-in_err-write_segment-clause-refused g c =
     let part = IsPart-segment _ _ _ _ _ c.passed_characters_stand_apart.ensures.begins _ c.front_segment-segment.ensures.end in
     let is : c.from_residual.result ≡ Err c.in_err-write_segment.field-0.0 = search rules in
-    rw is
-    (WritesText-segment_refused part c.before-2.ensures
-    (rw c.in_err-write_segment.was at c.write_segment.ensures.text))
+    rw is (WritesText-segment_refused part c.before-2.ensures (rw c.in_err-write_segment.was at c.write_segment.ensures.text))
 
 pub returns-in_err-write_segment-clause-room : goal.returns-in_err-write_segment-clause-room
 returns-in_err-write_segment-clause-room g c = λ short.

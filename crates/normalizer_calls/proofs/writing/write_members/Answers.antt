@@ -22,5 +22,4 @@ returns-in_err-write_char-clause-text g c =
 pub returns-clause-text : goal.returns-clause-text
 returns-clause-text g c =
     let past : length c.args.members.now ≤ c.loop-place.place = omega (arith, c.len.ensures) in
-    WritesText-all c.loop-place.invariant
-    (list_gives-end c.args.members.now c.loop-place.place past) (SpellsUnless-list c.args.members.now)
+    WritesText-all c.loop-place.invariant (list_gives-end c.args.members.now c.loop-place.place past) (SpellsUnless-list c.args.members.now)

@@ -23,5 +23,4 @@ returns-in_err-write_char-clause-text g c =
 pub returns-clause-text : goal.returns-clause-text
 returns-clause-text g c =
     let past : length c.args.text.now ≤ c.loop-place.place = omega (arith, c.loop-place-test.false) in
-    WritesText-all c.loop-place.invariant
-    (list_gives-end c.args.text.now c.loop-place.place past) (SpellsUnless-list c.args.text.now)
+    WritesText-all c.loop-place.invariant (list_gives-end c.args.text.now c.loop-place.place past) (SpellsUnless-list c.args.text.now)
