@@ -15,8 +15,10 @@ use normalizer_calls::{ComposingNormalizer, DecomposingNormalizer, Uts46Mapper};
 use normalizer_iterators::NormalizeError;
 use normalizer_tables::DataError;
 
+mod mapping;
 mod normalizer;
 
+pub use mapping::mapped;
 pub use normalizer::Normalizer;
 
 /// The four normal forms (UAX #15, section 1.2).

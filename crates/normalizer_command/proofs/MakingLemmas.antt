@@ -11,13 +11,14 @@ use Rattle.normalizer_packing.specs.ReadBack.{characters_of}
 use Rattle.normalizer_records.specs.Entry.{Entry, MapperEntry}
 use Rattle.normalizer_builder.specs.Building.{Builds}
 use Rattle.normalizer_built.specs.declared.NormalForm.TheVariants.{Nfd, Nfc, Nfkd, Nfkc}
+use Rattle.normalizer_built.specs.Mapping.{mapper_reading}
 use Rattle.normalizer_built.proofs.FormsOfData.{form_of_data-recorded}
 use Rattle.normalizer_calls.specs.declared.normalizer.DecomposingNormalizer.{DecomposingNormalizer}
 use Rattle.normalizer_calls.specs.declared.composing_normalizer.ComposingNormalizer.{ComposingNormalizer}
 use Rattle.normalizer_calls.specs.Normalizers.{data_of}
 use Rattle.normalizer_calls.specs.ComposingNormalizers.{composing_data_of, pairs_of}
 use Rattle.normalizer_built.specs.declared.normalizer.Normalizer.TheVariants as normalizer
-use Rattle.normalizer_command.specs.Making.{making_by, mapper_reading, mapping_by, Makes, Maps}
+use Rattle.normalizer_command.specs.Making.{making_by, mapping_by, Makes, Maps}
 
 module _ (n : DecomposingNormalizer) (records : List Entry) (mapper : List MapperEntry) (p : Packed) (builds : Builds records mapper p) where
   pub makes-nfd : data_of n ≡ characters_of p kind.Canonical → Makes (normalizer.Decomposing n) (making_by records Nfd)
@@ -43,7 +44,7 @@ pub maps-recorded : (h : MapperData) (records : List Entry) (uts46 : List Mapper
 maps-recorded h records uts46 p builds held =
     let means = builds.means in
     rw held (record {
-      same_map = nfc-alike (reading_by (characters_of p kind.Mapper) Dropped p.compositions) (mapper_reading records uts46 []) (means.mapper []) means.mapper_classes means.pairs;
-      same_validate = nfc-alike (reading_by (characters_of p kind.Mapper) Replaced p.compositions) (mapper_reading records uts46 (0xFFFD ∷ [])) (means.mapper (0xFFFD ∷ [])) means.mapper_classes
+      same_map = nfc-alike (reading_by (characters_of p kind.Mapper) Dropped p.compositions) (mapper_reading records uts46 Dropped) (means.mapper []) means.mapper_classes means.pairs;
+      same_validate = nfc-alike (reading_by (characters_of p kind.Mapper) Replaced p.compositions) (mapper_reading records uts46 Replaced) (means.mapper (0xFFFD ∷ [])) means.mapper_classes
           means.pairs;
     })

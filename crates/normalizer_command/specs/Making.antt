@@ -1,21 +1,18 @@
 -- What is made of texts, by what records mean.
-use Rattle.std.specs.Prelude.{◌≡◌, ℕ, List, [], ◌∷◌, unwrap_or}
+use Rattle.std.specs.Prelude.{◌≡◌, ℕ, List}
 use Rattle.normal_forms.specs.declared.Form.{Form}
 use Rattle.normal_forms.specs.declared.Form.TheVariants.{Decomposing, Composing}
 use Rattle.normal_forms.specs.Forms.{nfc, normal_form}
 use Rattle.normal_forms.specs.Reading.{Reading}
 use Rattle.normalizer_tables.specs.declared.characters.IgnoredCharacters.TheVariants.{Dropped, Replaced}
-use Rattle.normalizer_tables.specs.Pairs.{pair_of}
-use Rattle.normalizer_tables.specs.Readings.{reading_by}
 use Rattle.normalizer_records.specs.declared.records.Mappings.{Mappings}
 use Rattle.normalizer_records.specs.declared.records.Mappings.TheVariants.{Canonical, All}
 use Rattle.normalizer_records.specs.Entry.{Entry, MapperEntry}
-use Rattle.normalizer_records.specs.Meaning.{mapper_list, pairs_of}
 use Rattle.normalizer_builder.specs.Readings.{recorded_reading}
-use Rattle.normalizer_builder.specs.Recorded.{mapper_class_of}
 use Rattle.normalizer_built.specs.declared.NormalForm.{NormalForm}
 use Rattle.normalizer_built.specs.declared.NormalForm.TheVariants.{Nfd, Nfc, Nfkd, Nfkc}
 use Rattle.normalizer_built.specs.declared.normalizer.Normalizer.{Normalizer}
+use Rattle.normalizer_built.specs.Mapping.{mapped_in, mapper_reading}
 use Rattle.normalizer_built.specs.Normalizers.{kind_by, reading_of}
 use Rattle.normalizer_calls.specs.Uts46.{MapperData}
 
@@ -50,25 +47,17 @@ pub record Mapping : Type 0 where
   pub map : List ℕ → List ℕ
   pub validate : List ℕ → List ℕ
 
--- the reading of the mapper, with this list for each ignored character
-abbrev pub mapper_reading : List Entry → List MapperEntry → (ignored : List ℕ) → Reading
-mapper_reading records uts46 ignored = record {
-  list = λ c. unwrap_or (mapper_list records uts46 c) ignored;
-  class = mapper_class_of records uts46;
-  pair = pair_of (pairs_of records);
-}
-
 -- Map and Normalize (UTS #46, section 4) by what records mean: ignored characters are dropped, or if the text is
 -- validated, each becomes U+FFFD
 abbrev pub mapping_by : List Entry → List MapperEntry → Mapping
 mapping_by records uts46 = record {
-  map = nfc (mapper_reading records uts46 []);
-  validate = nfc (mapper_reading records uts46 (0xFFFD ∷ []));
+  map = nfc (mapper_reading records uts46 Dropped);
+  validate = nfc (mapper_reading records uts46 Replaced);
 }
 
 -- Map and Normalize over data
 abbrev pub mapping_of : MapperData → Mapping
-mapping_of h = record { map = nfc (reading_by h.0 Dropped h.1); validate = nfc (reading_by h.0 Replaced h.1) }
+mapping_of h = record { map = mapped_in h Dropped; validate = mapped_in h Replaced }
 
 -- a mapper over these data makes this of every text
 pub record Maps (h : MapperData) (m : Mapping) : Type 0 where

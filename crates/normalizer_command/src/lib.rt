@@ -1,7 +1,6 @@
 //! The program `uninorm` but for its files and standard streams.
 #![tactic(auto)]
 
-mod characters;
 mod data;
 pub mod fault;
 mod files;

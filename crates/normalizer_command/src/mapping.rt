@@ -7,12 +7,13 @@ ghost use Rattle.normalizer_command.specs.Making.{mapping_of, Mapping, Maps};
 ghost use Rattle.normalizer_command.specs.Replies.{IsReplyOfLines, IsReplyOfMapper};
 ghost use Rattle.normalizer_command.specs.inner.EachLine.{feed_unless, replies_to, reply_to};
 
-use crate::characters::collected;
 use crate::fault::Fault;
 use crate::reply::Reply;
+use normalizer_built::mapped;
 use normalizer_calls::{Uts46Mapper, Uts46MapperBorrowed};
 use normalizer_io::Answer;
 use normalizer_streams::EncodingScheme;
+use normalizer_tables::characters::IgnoredCharacters::{Dropped, Replaced};
 use std::alloc::{AllocError, Global};
 
 /// What is done with a file by the mapper.
@@ -141,7 +142,7 @@ fn mapped_line(
     ensures refused { IsOkUnless result Fault.Memory }
 {
     let mut text = feed_unless(alloc, is_first)?;
-    let mapped = mapped(alloc, mapper, line)?;
+    let mapped = mapped(alloc, mapper, Dropped, line.iter().copied())?;
     text.extend_from_slice(&mapped)?;
     Ok(text)
 }
@@ -155,32 +156,6 @@ fn feed_unless(alloc: Global, is_first: bool) -> Result<Vec<char>, AllocError>
         text.push('\n')?;
     }
     Ok(text)
-}
-
-// What mapping makes of a text.
-fn mapped(
-    alloc: Global,
-    mapper: &Uts46MapperBorrowed<'_>,
-    text: &[char],
-) -> Result<Vec<char>, Fault>
-    ensures text { IfOk result (λ m. m.items ≡ (mapping_of (mapper_data_of_borrowed mapper.now)).map text.now) }
-    ensures refused { IsOkUnless result Fault.Memory }
-{
-    let characters = mapper.map_normalize(text.iter().copied())?;
-    collected(alloc, characters)
-}
-
-// What validation makes of a text.
-fn validated(
-    alloc: Global,
-    mapper: &Uts46MapperBorrowed<'_>,
-    text: &[char],
-) -> Result<Vec<char>, Fault>
-    ensures text { IfOk result (λ v. v.items ≡ (mapping_of (mapper_data_of_borrowed mapper.now)).validate text.now) }
-    ensures refused { IsOkUnless result Fault.Memory }
-{
-    let characters = mapper.normalize_validate(text.iter().copied())?;
-    collected(alloc, characters)
 }
 
 // The report of a line, unless it is valid.
@@ -215,8 +190,8 @@ fn is_valid_line(
         is_valid_line (mapping_of (mapper_data_of_borrowed mapper.now)) line.now) }
     ensures refused { IsOkUnless result Fault.Memory }
 {
-    let text = validated(alloc, mapper, line)?;
-    Ok(!holds_replacement(line) && is_same(&text, line))
+    let valid = mapped(alloc, mapper, Replaced, line.iter().copied())?;
+    Ok(!holds_replacement(line) && is_same(&valid, line))
 }
 
 fn is_same(a: &[char], b: &[char]) -> bool

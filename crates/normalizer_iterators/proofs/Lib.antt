@@ -13,6 +13,7 @@ pub mod PassingLemmas
 pub mod PlainLemmas
 pub mod ProgressLemmas
 pub mod ReadingLemmas
+pub mod RunLemmas
 pub mod SegmentLemmas
 pub mod ShortChunkLemmas
 pub mod SortedByClassLemmas

@@ -1,6 +1,7 @@
 //! Iterators over the characters of a normal form (The Unicode Standard, D118 to D121).
 #![tactic(auto)]
 
+mod collecting;
 pub mod composition;
 pub mod decomposition;
 mod error;
@@ -11,6 +12,7 @@ mod reading;
 pub mod segment;
 mod waiting;
 
+pub use collecting::collected;
 pub use composition::Composition;
 pub use decomposition::Decomposition;
 pub use error::NormalizeError;

@@ -2,21 +2,12 @@
 use Rattle.std.specs.Prelude.{◌≡◌, ◌↔◌, ◌==◌, ◌&&◌, not, ℕ, Bool, IsTrue}
 use Rattle.std.specs.Prelude.{List, [], ◌∷◌, ◌++◌, All, filter, flat_map, bytes_eq}
 use Rattle.std.specs.List.{list_any, slice_split}
-use Rattle.normal_forms.specs.Forms.{nfc}
-use Rattle.normalizer_tables.specs.declared.characters.IgnoredCharacters.TheVariants.{Dropped, Replaced}
-use Rattle.normalizer_tables.specs.Readings.{reading_by}
+use Rattle.normalizer_tables.specs.declared.characters.IgnoredCharacters.TheVariants.{Replaced}
 use Rattle.normalizer_calls.specs.Uts46.{MapperData}
+use Rattle.normalizer_built.specs.Mapping.{mapped_in}
 use Rattle.normalizer_io.specs.declared.outcome.Answer.{Answer}
 use Rattle.normalizer_io.specs.declared.outcome.Answer.TheVariants.{Done}
 use Rattle.normalizer_program.specs.OffenceLines.{line_feed}
-
--- the mapping of a text (UTS #46, section 4, Map and Normalize), which drops ignored characters
-abbrev pub mapped : MapperData → List ℕ → List ℕ
-mapped h x = nfc (reading_by h.0 Dropped h.1) x
-
--- the validation of it, in which each of them becomes U+FFFD
-abbrev pub validated : MapperData → List ℕ → List ℕ
-validated h x = nfc (reading_by h.0 Replaced h.1) x
 
 -- what is between the full stops of a text: one field more than there are full stops
 abbrev pub fields : List ℕ → List (List ℕ)
@@ -25,7 +16,7 @@ fields x = slice_split (λ c. c == 0x2E) x
 -- the field has no U+FFFD, and validation leaves it as it is (bytes_eq decides of any two lists of numbers whether they
 -- are the same)
 abbrev pub is_kept : MapperData → List ℕ → Bool
-is_kept h field = not (list_any (λ c. c == 0xFFFD) field) && bytes_eq (validated h field) field
+is_kept h field = not (list_any (λ c. c == 0xFFFD) field) && bytes_eq (mapped_in h Replaced field) field
 
 -- the fields that are kept, in order, each followed by a line feed
 abbrev pub kept_lines : MapperData → List (List ℕ) → List ℕ

@@ -4,18 +4,20 @@ use Rattle.normal_forms.specs.declared.Form.{Form}
 use Rattle.normal_forms.specs.Reading.{Reading}
 use Rattle.normalizer_text.specs.Encodings.{Encoding}
 use Rattle.normalizer_text.specs.Utf8.{decoded_utf8}
+use Rattle.normalizer_tables.specs.declared.characters.IgnoredCharacters.TheVariants.{Dropped, Replaced}
 use Rattle.normalizer_input.specs.declared.offence.Offence.{Offence}
 use Rattle.normalizer_input.specs.EncodedForm.{encoded_form}
 use Rattle.normalizer_input.specs.InputCut.{IsInputNormalized}
 use Rattle.normalizer_input.specs.InputOffence.{IsInputOffenceOf}
 use Rattle.normalizer_calls.specs.Uts46.{MapperData}
+use Rattle.normalizer_built.specs.Mapping.{mapped_in}
 use Rattle.normalizer_io.specs.declared.outcome.Answer.{Answer}
 use Rattle.normalizer_io.specs.declared.outcome.Answer.TheVariants.{Done}
 use Rattle.normalizer_program.specs.declared.task.FormTask.{FormTask}
 use Rattle.normalizer_program.specs.declared.task.FormTask.TheVariants.{Write, Check, Locate}
 use Rattle.normalizer_program.specs.declared.task.MapperTask.{MapperTask}
 use Rattle.normalizer_program.specs.declared.task.MapperTask.TheVariants.{Map, Validate, Label}
-use Rattle.normalizer_program.specs.Labels.{fields, mapped, validated, TellsKept}
+use Rattle.normalizer_program.specs.Labels.{fields, TellsKept}
 use Rattle.normalizer_program.specs.Needs.{Work, OfForm, OfMapper}
 use Rattle.normalizer_program.specs.OffenceLines.{TellsOffence}
 
@@ -33,11 +35,11 @@ IsReplyOfForm Locate form d input answer output =
 -- the UTF-8 of what mapping or validation makes of the decoded bytes, or of the lines of the fields that are kept
 abbrev pub IsReplyOfMapper : MapperTask → MapperData → (input : List ℕ) → Answer → (output : List ℕ) → Type 0
 IsReplyOfMapper Map h input answer output =
-    (answer ≡ Done) × (output ≡ encode_utf8_all (mapped h (decoded_utf8 input)))
+    (answer ≡ Done) × (output ≡ encode_utf8_all (mapped_in h Dropped (decoded_utf8 input)))
 IsReplyOfMapper Validate h input answer output =
-    (answer ≡ Done) × (output ≡ encode_utf8_all (validated h (decoded_utf8 input)))
+    (answer ≡ Done) × (output ≡ encode_utf8_all (mapped_in h Replaced (decoded_utf8 input)))
 IsReplyOfMapper Label h input answer output =
-    (lines : List ℕ) × TellsKept h (fields (mapped h (decoded_utf8 input))) answer lines
+    (lines : List ℕ) × TellsKept h (fields (mapped_in h Dropped (decoded_utf8 input))) answer lines
     × (output ≡ encode_utf8_all lines)
 
 -- the reply of a command to its input: a result, and what is written

@@ -3,7 +3,6 @@
 #![tactic(auto)]
 
 mod building;
-mod characters;
 pub mod ending;
 mod mapping;
 mod normalizer;

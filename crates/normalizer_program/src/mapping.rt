@@ -1,17 +1,17 @@
 //! The calls on the mapper.
-ghost use Rattle.std.specs.Prelude.{◌≡◌, ◌==◌, IfOk, IfErr, map, string_bytes};
+ghost use Rattle.std.specs.Prelude.{◌≡◌, ◌==◌, IfOk, IfErr, encode_utf8_all, map, string_bytes};
 ghost use Rattle.std.specs.List.{list_any};
-ghost use Rattle.normalizer_text.specs.Utf8.{decoded_utf8};
 ghost use Rattle.normalizer_calls.specs.Mappers.{mapper_data_of, mapper_data_of_borrowed};
-ghost use Rattle.normalizer_program.specs.Labels.{fields, is_kept, mapped, validated, TellsKept};
+ghost use Rattle.normalizer_program.specs.Labels.{fields, is_kept, TellsKept};
 ghost use Rattle.normalizer_program.specs.Replies.{IsReplyOfMapper};
 
-use crate::characters::{collected, encoded};
 use crate::ending::ToolFault;
 use crate::reply::Reply;
 use crate::task::MapperTask;
+use normalizer_built::mapped;
 use normalizer_calls::{Uts46Mapper, Uts46MapperBorrowed};
 use normalizer_io::Answer;
+use normalizer_tables::characters::IgnoredCharacters::{Dropped, Replaced};
 use normalizer_text::Utf8Chars;
 use std::alloc::{AllocError, Global};
 
@@ -28,12 +28,13 @@ impl MapperTask {
         ensures errors { IfErr result (λ fault. fault ≡ ToolFault.Memory) }
     {
         let mapper = mapper.as_borrowed();
+        let text = Utf8Chars::new(input);
         let (answer, characters) = match self {
-            MapperTask::Map => (Answer::Done, mapped(alloc, &mapper, input)?),
-            MapperTask::Validate => (Answer::Done, validated(alloc, &mapper, input)?),
+            MapperTask::Map => (Answer::Done, mapped(alloc, &mapper, Dropped, text)?),
+            MapperTask::Validate => (Answer::Done, mapped(alloc, &mapper, Replaced, text)?),
             MapperTask::Label => {
-                let text = mapped(alloc, &mapper, input)?;
-                labelled(alloc, &mapper, &text)?
+                let mapped = mapped(alloc, &mapper, Dropped, text)?;
+                labelled(alloc, &mapper, &mapped)?
             }
         };
         let output = encoded(alloc, &characters)?;
@@ -41,32 +42,11 @@ impl MapperTask {
     }
 }
 
-// What mapping makes of the text that bytes decode to.
-fn mapped(
-    alloc: Global,
-    mapper: &Uts46MapperBorrowed<'_>,
-    bytes: &[u8],
-) -> Result<Vec<char>, ToolFault>
-    ensures text { IfOk result (λ m. m.items
-        ≡ mapped (mapper_data_of_borrowed mapper.now) (decoded_utf8 bytes.now)) }
-    ensures errors { IfErr result (λ fault. fault ≡ ToolFault.Memory) }
+/// The UTF-8 of characters.
+fn encoded(alloc: Global, characters: &[char]) -> Result<String, AllocError>
+    ensures { IfOk result (λ text. string_bytes text ≡ encode_utf8_all characters.now) }
 {
-    let characters = mapper.map_normalize(Utf8Chars::new(bytes))?;
-    collected(alloc, characters)
-}
-
-// What validation makes of the text that bytes decode to.
-fn validated(
-    alloc: Global,
-    mapper: &Uts46MapperBorrowed<'_>,
-    bytes: &[u8],
-) -> Result<Vec<char>, ToolFault>
-    ensures text { IfOk result (λ v. v.items
-        ≡ validated (mapper_data_of_borrowed mapper.now) (decoded_utf8 bytes.now)) }
-    ensures errors { IfErr result (λ fault. fault ≡ ToolFault.Memory) }
-{
-    let characters = mapper.normalize_validate(Utf8Chars::new(bytes))?;
-    collected(alloc, characters)
+    characters.iter().copied().collect(alloc)
 }
 
 /// Whether all fields of a text are kept, and those that are, each followed by a line feed.
@@ -111,8 +91,7 @@ fn is_kept(
     if holds_replacement(field) {
         return Ok(false);
     }
-    let characters = mapper.normalize_validate(field.iter().copied())?;
-    let valid = collected(alloc, characters)?;
+    let valid = mapped(alloc, mapper, Replaced, field.iter().copied())?;
     Ok(valid.as_slice() == field)
 }
 

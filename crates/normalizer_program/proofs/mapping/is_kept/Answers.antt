@@ -12,6 +12,6 @@ pub returns-clause-kept : goal.returns-clause-kept
 returns-clause-kept c =
     let field = c.args.field.now in
     let given = (YieldsList-from_copied {s = c.copied.result} (YieldsList-from_slice field cc)).runs in
-    let valid = c.in_ok-valid.ensures.text _ (c.in_ok-characters.ensures.form.text field given) in
+    let valid = c.in_ok-valid.ensures.text field given in
     let none : list_any (λ k. k == 0xFFFD) field ≡ false = sym c.holds_replacement.ensures ∙ c.if-holds_replacement.false in
     rw (none, ← valid) (rw c.as_slice.ensures.value at c.eq.ensures)

@@ -1,7 +1,8 @@
-use Rattle.std.proofs.Common.{◌≡◌, ◌++◌, ℕ, List}
+use Rattle.std.proofs.Common.{◌≡◌, ◌++◌, ℕ, List, Ok, map}
+use Rattle.std.specs.Iterator.{Yields}
 use Rattle.normalizer_iterators.specs.Items.{SpellsUnless}
 use Rattle.normalizer_iterators.specs.declared.error.NormalizeError.TheVariants.{Memory}
-use Rattle.normalizer_program.proofs.characters.collected.Given as goal
+use Rattle.normalizer_iterators.proofs.collecting.collected.Given as goal
 
 abbrev pub invariant-loop-item : goal.invariant-loop-item
 invariant-loop-item g l = record {
@@ -9,4 +10,5 @@ invariant-loop-item g l = record {
   ends : (goal.iterator-loop-item g).is_finite l.item-iterator;
   text : (x : List ℕ) → SpellsUnless g.I.Iterator.next_gives Memory l.fn.items x → (rest : List ℕ) × SpellsUnless g.I.Iterator.next_gives Memory l.item-iterator rest
       × (x ≡ l.characters.items ++ rest);
+  run : Yields g.I.Iterator.next_gives l.fn.items (map Ok l.characters.items) l.item-iterator;
 }
