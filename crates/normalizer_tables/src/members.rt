@@ -1,5 +1,6 @@
 //! The list of a character, walked without taking memory.
-ghost use Rattle.std.specs.Prelude.{◌≡◌, ◌↔◌, ◌<◌, ℕ, List, [], ◌∷◌, Some, IfSome, IsTrue, All, length, slice_get, true};
+ghost use Rattle.std.specs.Prelude.{◌≡◌, ◌↔◌, ◌<◌, ℕ, List, [], ◌∷◌, Some, IfSome, IsTrue, All};
+ghost use Rattle.std.specs.Prelude.{length, slice_get, true};
 ghost use lib.Utf8.{scalar};
 ghost use Rattle.std.specs.Char.{IsScalar};
 ghost use Rattle.std.specs.List.{list_all};
@@ -90,7 +91,7 @@ impl<'a> Members<'a> {
         self.get(place).unwrap()
     }
 
-    /// Returns the members, if there are two.
+    /// Returns the members, if they are held as two characters. `None` says nothing: a table may hold two as well.
     #[inline(always)]
     pub fn as_two(&self) -> Option<[char; 2]>
         ensures { IfSome result (λ two. two ≡ self.now) }
@@ -101,7 +102,8 @@ impl<'a> Members<'a> {
         }
     }
 
-    /// Returns the members, if they are the three jamo of a Hangul syllable.
+    /// Returns the members, if they are held as three characters, as the jamo of a Hangul syllable are. `None` says
+    /// nothing.
     #[inline(always)]
     pub fn as_three(&self) -> Option<[char; 3]>
         ensures { IfSome result (λ three. three ≡ self.now) }
