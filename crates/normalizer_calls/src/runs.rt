@@ -151,7 +151,6 @@ pub(crate) fn kept_end<U: Units, N: Forming>(normalizer: &N, units: U) -> usize
         first = kept.next;
         if first.is_none() {
             end += passed_end(normalizer, units.after(end));
-            first = None;
         }
     }
     end

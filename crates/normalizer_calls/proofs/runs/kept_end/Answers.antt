@@ -1,6 +1,7 @@
-use Rattle.std.proofs.Common.{arith, length-drop}
+use Rattle.std.proofs.Common.{arith, ap, length-drop, ◌∙◌}
+use Rattle.std.specs.Prelude.{not}
 use Rattle.normalizer_calls.proofs.KeptLemmas.{IsKeptTo-first, IsKeptTo-le, IsKeptTo-more}
-use Rattle.normalizer_calls.proofs.MemberLemmas.{first-drop}
+use Rattle.normalizer_calls.proofs.MemberLemmas.{first-drop, holds_of_none}
 use Rattle.normalizer_calls.proofs.RunParts.{IsPart-segment}
 use Rattle.normalizer_calls.proofs.runs.kept_end.Goals as goal
 
@@ -46,8 +47,10 @@ overflow_add-end-then-is_none g c =
 pub loop-end-preserved-then-is_none : goal.loop-end-preserved-then-is_none
 loop-end-preserved-then-is_none g c =
     let so_far = IsKeptTo-more _ _ _ _ _ _ _ c.after-rest.ensures c.loop-end.invariant.0
-    (λ _. (IsPart-segment _ _ _ _ _ c.passed_characters_stand_apart.ensures.begins _ c.in-Some.ensures.kept.segment, c.in-Some.ensures.kept.own)) in
-    (IsKeptTo-more _ _ _ _ _ _ _ c.after.ensures so_far c.passed_end-end-then-is_none.ensures.part, tt)
+    (λ _. (IsPart-segment _ _ _ _ _ c.passed_characters_stand_apart.ensures.begins _ c.in-Some.ensures.kept.segment, c.in-Some.ensures.kept.own)) in (
+      IsKeptTo-more _ _ _ _ _ _ _ c.after.ensures so_far c.passed_end-end-then-is_none.ensures.part,
+      holds_of_none _ _ (c.is_none.ensures ∙ ap not c.if-is_none.true),
+    )
 
 pub loop-end-preserved : goal.loop-end-preserved
 loop-end-preserved g c = (
