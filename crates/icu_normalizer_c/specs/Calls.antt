@@ -6,6 +6,7 @@ use Rattle.normalizer_input.specs.EncodedForm.{encoded_form}
 use Rattle.normalizer_input.specs.InputCut.{IsInputCut, IsInputNormalized}
 use Rattle.normalizer_input.specs.declared.offence.Offence.{Offence}
 use Rattle.normalizer_built.specs.declared.NormalForm.{NormalForm}
+use Rattle.normalizer_built.specs.Mapping.{mapped_in}
 use Rattle.normalizer_calls.specs.Checks.{IsLastingOffence}
 use Rattle.normalizer_calls.specs.Forms.{MadeForm}
 use Rattle.normalizer_calls.specs.declared.uts46.Uts46Mapper.{Uts46Mapper}
@@ -21,7 +22,6 @@ use Rattle.icu_normalizer_c.specs.Buffers.{Fills, Reports}
 use Rattle.icu_normalizer_c.specs.Defects.{defect_after}
 use Rattle.icu_normalizer_c.specs.Forms.{last_form, number_of}
 use Rattle.icu_normalizer_c.specs.Made.{made_in}
-use Rattle.icu_normalizer_c.specs.Mapping.{mapped_in}
 use Rattle.icu_normalizer_c.specs.Mismatches.{mismatch_of}
 use Rattle.icu_normalizer_c.specs.Status.{status_of}
 

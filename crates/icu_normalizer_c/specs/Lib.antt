@@ -3,7 +3,6 @@ pub mod Calls
 pub mod Defects
 pub mod Forms
 pub mod Made
-pub mod Mapping
 pub mod Mismatches
 pub mod Opening
 pub mod PlainRecords

@@ -5,6 +5,7 @@ use Rattle.normal_forms.specs.Forms.{nfc}
 use Rattle.normalizer_records.specs.Entry.{Entry, MapperEntry}
 use Rattle.normalizer_built.specs.declared.NormalForm.{NormalForm}
 use Rattle.normalizer_built.specs.declared.NormalForm.TheVariants.{Nfd, Nfc, Nfkd, Nfkc}
+use Rattle.normalizer_built.specs.Mapping.{mapped_in, mapper_reading}
 use Rattle.normalizer_built.specs.RecordedForms.{recorded_form}
 use Rattle.normalizer_tables.specs.declared.characters.IgnoredCharacters.{IgnoredCharacters}
 use Rattle.normalizer_calls.specs.ComposingNormalizers.{composing_data_of, pairs_of}
@@ -16,7 +17,6 @@ use Rattle.normalizer_calls.specs.Forms.{MadeForm, composed_by, decomposed_by, f
 use Rattle.icu_normalizer_c.specs.declared.normalizers.Normalizer.{Normalizer}
 use Rattle.icu_normalizer_c.specs.declared.normalizers.Normalizer.TheVariants as normalizer
 use Rattle.icu_normalizer_c.specs.declared.normalizers.Normalizers.{Normalizers}
-use Rattle.icu_normalizer_c.specs.Mapping.{mapped_in, mapper_reading}
 
 -- the form of a normalizer
 abbrev pub made_by : Normalizer → MadeForm

@@ -1,23 +1,20 @@
 //! Mapping and validating text by Unicode Technical Standard #46.
-ghost use Rattle.std.specs.Prelude.{◌≡◌, ℕ, List, IfErr, IfOk, encode_utf8_all, string_bytes};
-ghost use Rattle.std.specs.Iterator.{IsFinite};
+ghost use Rattle.std.specs.Prelude.{◌≡◌, IfOk, encode_utf8_all, string_bytes};
 ghost use Rattle.normalizer_calls.specs.Mappers.{mapper_data_of_borrowed};
-ghost use Rattle.normalizer_iterators.specs.Items.{SpellsUnless};
 ghost use Rattle.normalizer_text.specs.Encodings.{Encoding, decoded_in, encoded_in};
 ghost use Rattle.normalizer_text.specs.Utf16.{encode_utf16_all};
+ghost use Rattle.normalizer_built.specs.Mapping.{mapped_in};
 ghost use Rattle.icu_normalizer_c.specs.Calls.{held, AtMapper, IsStatus, OverMapper, WritesMapped};
-ghost use Rattle.icu_normalizer_c.specs.Mapping.{mapped_in};
 
 use crate::buffer::fill;
 use crate::fault::Fault;
 use crate::handle::Handle;
 use crate::normalizers::Normalizers;
 use crate::text::{Text, write};
-use icu_normalizer::NormalizeError;
 use icu_normalizer::uts46::Uts46MapperBorrowed;
-use normalizer_iterators::laws::text_comes_unless_a_fault_does;
+use normalizer_built::mapped;
 use normalizer_tables::characters::IgnoredCharacters;
-use normalizer_text::{Chars, Units};
+use normalizer_text::Chars;
 use std::alloc::{AllocError, Global};
 
 /// What an input is mapped to.
@@ -172,9 +169,9 @@ fn write_utf8(
     ensures { WritesMapped Encoding.Utf8 ignored input.now output.old output.new needed.old needed.new
         (mapper_data_of_borrowed mapper.now) result }
 {
-    let characters = mapped_characters(alloc, mapper, ignored, input)?;
-    let mapped = encoded_utf8(alloc, &characters)?;
-    fill(mapped.as_bytes(), output, needed)
+    let characters = mapped(alloc, mapper, ignored, Chars::new(input))?;
+    let encoded = encoded_utf8(alloc, &characters)?;
+    fill(encoded.as_bytes(), output, needed)
 }
 
 fn write_utf16(
@@ -188,47 +185,9 @@ fn write_utf16(
     ensures { WritesMapped Encoding.Utf16 ignored input.now output.old output.new needed.old needed.new
         (mapper_data_of_borrowed mapper.now) result }
 {
-    let characters = mapped_characters(alloc, mapper, ignored, input)?;
-    let mapped = encoded_utf16(alloc, &characters)?;
-    fill(mapped.as_slice(), output, needed)
-}
-
-/// Returns the text that units decode to, mapped, in NFC.
-fn mapped_characters<U: Units>(
-    alloc: Global,
-    mapper: &Uts46MapperBorrowed<'_>,
-    ignored: IgnoredCharacters,
-    units: U,
-) -> Result<Vec<char>, Fault>
-    ensures text { IfOk result (λ text. text.items
-        ≡ mapped_in (mapper_data_of_borrowed mapper.now) ignored (decoded_in U.encoding (U.units units))) }
-    ensures errors { IfErr result (λ fault. fault ≡ Fault.Memory) }
-{
-    match ignored {
-        IgnoredCharacters::Dropped => collected(alloc, mapper.map_normalize(Chars::new(units))?),
-        IgnoredCharacters::Replaced => {
-            collected(alloc, mapper.normalize_validate(Chars::new(units))?)
-        }
-    }
-}
-
-/// Returns the characters, up to the first error, which is `Memory`.
-fn collected<I: Iterator<Item = Result<char, NormalizeError>> + Drop>(
-    alloc: Global,
-    items: I,
-) -> Result<Vec<char>, Fault>
-    requires can { I.can_next items }
-    requires ends { IsFinite (I.remaining items) }
-    ensures text { (x : List ℕ) → SpellsUnless I.next_gives NormalizeError.Memory items x →
-        IfOk result (λ characters. characters.items ≡ x) }
-    ensures errors { IfErr result (λ fault. fault ≡ Fault.Memory) }
-{
-    text_comes_unless_a_fault_does::<NormalizeError, I>();
-    let mut characters = Vec::new(alloc);
-    for item in items {
-        characters.push(item?)?;
-    }
-    Ok(characters)
+    let characters = mapped(alloc, mapper, ignored, Chars::new(input))?;
+    let encoded = encoded_utf16(alloc, &characters)?;
+    fill(encoded.as_slice(), output, needed)
 }
 
 fn encoded_utf8(alloc: Global, characters: &[char]) -> Result<String, AllocError>
