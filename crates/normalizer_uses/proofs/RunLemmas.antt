@@ -1,25 +1,7 @@
--- Runs of iterators whose calls may fail.
-use Rattle.std.proofs.Common.{◌≡◌, ℕ, List, [], ◌∷◌, ◌++◌, map, Option, Some, Result, Ok, Err, refl, sym, subst, MatchResult, IfOk, IsOkUnless, ◌⊎◌, inl, inr}
-use Rattle.std.specs.Iterator.{Drains, Yields}
-use Rattle.normalizer_iterators.specs.Items.{YieldsFormOfRun}
-use Rattle.normalizer_iterators.specs.declared.error.NormalizeError.{NormalizeError}
-use Rattle.normalizer_iterators.specs.declared.error.NormalizeError.TheVariants.{Memory}
-use Rattle.normalizer_uses.specs.Runs.{GaveFault}
+-- What is known of the results of runs.
+use Rattle.std.proofs.Common.{Result, Ok, Err, MatchResult, IfOk}
 
 -- what is known of the one case
 pub IfOk-run : {A E : Type 0} (r : Result A E) (P Q : A → Type 0) (R : E → Type 0) → ((a : A) → P a → Q a) → MatchResult r P R → IfOk r Q
 IfOk-run (Ok a) P Q R more h = more a h
 IfOk-run (Err e) P Q R more h = tt
-
-module _ {S : Type 0} (gives : S → Option (Result ℕ NormalizeError) → S → Type 0) where
-  -- one more character came
-  pub Yields-more : (s : S) (out : List ℕ) (t : S) (c : ℕ) (u : S) → Yields gives s (map Ok out) t → gives t (Some (Ok c)) u → Yields gives s (map Ok (out ++ c ∷ [])) u
-  Yields-more s [] t c u run step = (u, subst (λ v. gives v (Some (Ok c)) u) (sym run) step, refl)
-  Yields-more s (b ∷ out) t c u run step = (run.0, run.1, Yields-more run.0 out t c u run.2 step)
-
-  -- a fault that came of an iterator of normalized text is `Memory`
-  pub IsOkUnless-run : {A I : Type 0} (source_gives : I → Option ℕ → I → Type 0) (form : List ℕ → List ℕ) (source : I) (s : S) → YieldsFormOfRun source_gives gives form source s
-      → (Is : A → Type 0) (r : Result A NormalizeError) → MatchResult r Is (λ e. (e ≡ Memory) ⊎ GaveFault gives s e) → IsOkUnless r Memory
-  IsOkUnless-run source_gives form source s run Is (Ok a) h = tt
-  IsOkUnless-run source_gives form source s run Is (Err e) (inl memory) = memory
-  IsOkUnless-run source_gives form source s run Is (Err e) (inr (out, now, gave)) = (run.fault out e now gave).0

@@ -1,4 +1,5 @@
-use Rattle.normalizer_uses.proofs.RunLemmas.{IfOk-run, IsOkUnless-run}
+use Rattle.normalizer_iterators.proofs.RunLemmas.{IsOkUnless-run}
+use Rattle.normalizer_uses.proofs.RunLemmas.{IfOk-run}
 use Rattle.normalizer_uses.proofs.nfd_of_characters.Goals as goal
 
 pub returns-clause-form : goal.returns-clause-form
