@@ -37,6 +37,7 @@ pub use normalizer_calls::{
     ComposingNormalizer, ComposingNormalizerBorrowed, DecomposingNormalizer,
     DecomposingNormalizerBorrowed, Offence,
 };
+pub use normalizer_conditions::check_nfd_data;
 pub use normalizer_iterators::{Composition, Decomposition, NormalizeError};
 pub use normalizer_properties::harfbuzz;
 pub use normalizer_records::{BuildError, Record, Uts46Record, Uts46Status};
@@ -45,6 +46,5 @@ pub use normalizer_tables::{
     DecompositionData, DecompositionTables, NonRecursiveDecompositionSupplement, NormalizerNfcV1,
     NormalizerNfdDataV1, NormalizerNfdSupplementV1, NormalizerNfdTablesV1, NormalizerNfkdDataV1,
     NormalizerNfkdTablesV1, NormalizerUts46DataV1, Scalars16, Scalars24, TableError,
-    check_nfd_data,
 };
 pub use normalizer_text::{Utf8Chars, Utf16Chars, sink};

@@ -6,7 +6,7 @@ ghost use Rattle.normal_forms.specs.Hypotheses.{HasInhabitedLists, SuitsForm};
 ghost use Rattle.normalizer_tables.specs.declared.condition.Condition.{Condition};
 ghost use Rattle.normalizer_tables.specs.declared.provider.DataError.{DataError};
 ghost use Rattle.normalizer_tables.specs.declared.provider.DataMarkerInfo.{DataMarkerInfo};
-ghost use Rattle.normalizer_tables.specs.AcceptedData.{
+ghost use Rattle.normalizer_conditions.specs.AcceptedData.{
   AreAcceptedPairs,
   class_conditions,
   composing_conditions,
@@ -25,7 +25,7 @@ ghost use Rattle.normalizer_tables.specs.Loaded.{
 };
 ghost use Rattle.normalizer_tables.specs.PairConditions.{AreSoundPairs};
 ghost use Rattle.normalizer_tables.specs.Pairs.{Pair};
-ghost use Rattle.normalizer_tables.specs.Refusals.{RefusesFirstFailing};
+ghost use Rattle.normalizer_conditions.specs.Refusals.{RefusesFirstFailing};
 ghost use Rattle.normalizer_packing.specs.declared.Packed.{Packed};
 ghost use Rattle.normalizer_tables.specs.declared.entry.Kind.TheVariants.{Canonical, Compatibility, Mapper};
 ghost use Rattle.normalizer_packing.specs.ReadBack.{characters_of};
@@ -38,10 +38,10 @@ ghost use Rattle.normalizer_builder.specs.Building.{Builds, IsSmallest, PacksRec
 ghost use Rattle.normalizer_builder.specs.Readings.{recorded_reading};
 
 use normal_forms::laws::alike_readings_make_the_same_forms;
-use normalizer_tables::laws::accepted::{
+use normalizer_conditions::laws::accepted::{
     accepted_data_have_sound_classes, accepted_data_suit_texts, accepted_pairs_are_sound,
 };
-use normalizer_tables::laws::lists_are_inhabited;
+use normalizer_conditions::laws::lists_are_inhabited;
 
 /// All data that pack the same records are equal, so that the records alone decide which condition fails.
 pub fn packed_records_are_one()

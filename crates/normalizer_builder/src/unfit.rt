@@ -11,14 +11,14 @@ ghost use Rattle.normalizer_builder.specs.Demands.{
 ghost use Rattle.normalizer_builder.specs.Fitness.{IsFirstUnfit, IsFirstUnfitOfKind};
 
 use crate::rank::{Unfit, least};
+use normalizer_conditions::check::first_failing;
+use normalizer_conditions::loaded::LoadedData;
+use normalizer_conditions::refusal::marker_of;
 use normalizer_packing::Packed;
 use normalizer_tables::DataMarkerInfo;
 use normalizer_tables::characters::CharacterData;
-use normalizer_tables::check::first_failing;
 use normalizer_tables::condition::{Bounds, COMPOSING, Condition, EVERY, MAPPING};
 use normalizer_tables::entry::Kind;
-use normalizer_tables::loaded::LoadedData;
-use normalizer_tables::refusal::marker_of;
 
 /// The first condition that the data break, of all that constructors require: the least by its number, and of one
 /// number the one of the earliest marker. It takes no memory.

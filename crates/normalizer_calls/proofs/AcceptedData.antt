@@ -5,7 +5,7 @@ use Rattle.std.specs.Char.{IsScalar}
 use Rattle.normal_forms.specs.Order.{order}
 use Rattle.normal_forms.specs.declared.Form.TheVariants.{Composing}
 use Rattle.normalizer_tables.specs.declared.condition.Condition.TheVariants.{Order, Results}
-use Rattle.normalizer_tables.specs.AcceptedData.{AreAcceptedPairs, pair_conditions}
+use Rattle.normalizer_conditions.specs.AcceptedData.{AreAcceptedPairs, pair_conditions}
 use Rattle.normalizer_tables.specs.Conditions.{IsMet}
 use Rattle.normalizer_tables.specs.Loaded.{characters_loaded, pairs_loaded}
 use Rattle.normalizer_tables.specs.PairConditions.{HasOrderedLists}
@@ -16,9 +16,10 @@ use Rattle.normalizer_tables.specs.NfdData.{IsSoundNfdData, nfd_bounds}
 use Rattle.normalizer_tables.specs.Pairs.{Pair}
 use Rattle.normalizer_tables.specs.Readings.{reading_by}
 use Rattle.normalizer_tables.specs.declared.characters.IgnoredCharacters.TheVariants.{Dropped}
-use Rattle.normalizer_tables.proofs.LoadedLemmas.{parts_met}
-use Rattle.normalizer_tables.proofs.AcceptedLaws.{SuitsTexts-accepted, SuitsTexts-accepted_pairs, SuitsTexts-handed_in}
-use Rattle.normalizer_tables.proofs.UnseenLemmas.{PassUnseenBelow-accepted, PassUnseenBelow-handed_in}
+use Rattle.normalizer_conditions.proofs.LoadedLemmas.{parts_met}
+use Rattle.normalizer_conditions.proofs.AcceptedLaws.{SuitsTexts-accepted, SuitsTexts-accepted_pairs, SuitsTexts-handed_in}
+use Rattle.normalizer_conditions.proofs.AcceptedLaws.{PassUnseenBelow-accepted}
+use Rattle.normalizer_tables.proofs.UnseenLemmas.{PassUnseenBelow-handed_in}
 use Rattle.normalizer_calls.specs.Acceptance.{bounds_of, SuitsDecomposing}
 use Rattle.normalizer_calls.specs.ComposingAcceptance.{SuitsComposing}
 use Rattle.normalizer_calls.specs.Serving.{ServesDecomposing, ServesComposing}

@@ -13,7 +13,7 @@ use Rattle.normal_forms.specs.Offence.{IsFirst}
 use Rattle.normal_forms.specs.ShortRuns.{HasShortRuns}
 use Rattle.normal_forms.proofs.ChunkLemmas.{HasShortRuns-rest}
 use Rattle.normal_forms.proofs.TextLemmas.{IsText-normal_form}
-use Rattle.normalizer_tables.specs.AcceptedData.{SuitsTexts}
+use Rattle.normalizer_conditions.specs.AcceptedData.{SuitsTexts}
 use Rattle.normalizer_calls.specs.inner.Offences.{IsCutUnlessNormalized}
 use Rattle.normalizer_calls.specs.inner.Writing.{Target, WasRefusedPiece, WritesText}
 use Rattle.normalizer_text.specs.CheckSinks.{Expectation, ChangesNothing, ExpectsTheSame, IsUnexpected}

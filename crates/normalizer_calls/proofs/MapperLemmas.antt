@@ -10,11 +10,10 @@ use Rattle.normalizer_tables.specs.Ignored.{ignored_list}
 use Rattle.normalizer_tables.specs.Pairs.{Pair, pair_of}
 use Rattle.normalizer_tables.specs.SoundData.{IsSoundData}
 use Rattle.normalizer_tables.specs.Readings.{reading_by}
-use Rattle.normalizer_tables.proofs.AcceptedLaws.{IsSoundData-accepted, SuitsMapper-accepted}
+use Rattle.normalizer_conditions.proofs.AcceptedLaws.{IsSoundData-accepted, PassUnseenBelow-accepted, SuitsMapper-accepted}
 use Rattle.normalizer_tables.proofs.ListLengths.{length-list_of}
-use Rattle.normalizer_tables.proofs.LoadedLemmas.{parts_met}
+use Rattle.normalizer_conditions.proofs.LoadedLemmas.{parts_met}
 use Rattle.normalizer_tables.proofs.SoundLists.{BeginsWithStarter-list_of}
-use Rattle.normalizer_tables.proofs.UnseenLemmas.{PassUnseenBelow-accepted}
 use Rattle.normalizer_iterators.specs.LazyReading.{SuitsLazyReading}
 use Rattle.normalizer_calls.specs.Acceptance.{bounds_of}
 use Rattle.normalizer_calls.specs.ComposingAcceptance.{SuitsComposing}

@@ -9,7 +9,7 @@ use Rattle.normal_forms.specs.Forms.{nfd, normal_form, IsNormalized}
 use Rattle.normal_forms.proofs.TextLemmas.{IsText-normal_form}
 use Rattle.normal_forms.proofs.EquivalenceLemmas.{equivalent_texts}
 use Rattle.normal_forms.proofs.LawLemmas.{nfd-nfc, normal_form-normal_form}
-use Rattle.normalizer_tables.specs.AcceptedData.{SuitsTexts}
+use Rattle.normalizer_conditions.specs.AcceptedData.{SuitsTexts}
 use Rattle.normalizer_calls.specs.inner.Owned.{WroteUnlessOwn}
 use Rattle.normalizer_text.specs.Encodings.{Encoding, first_in, encoded_in, decoded_in}
 use Rattle.normalizer_text.proofs.EncodingRules.{IsDecoding-first, DecodesBack-in, encoded-decoded}

@@ -20,7 +20,7 @@ use Rattle.normal_forms.proofs.OrderLemmas.{insert-nil, insert-stays, is_reorder
 use Rattle.normalizer_tables.specs.declared.characters.IgnoredCharacters.TheVariants.{Dropped}
 use Rattle.normalizer_tables.specs.declared.condition.Bounds.{Bounds}
 use Rattle.normalizer_tables.specs.declared.condition.Condition.TheVariants.{SafeBeginning}
-use Rattle.normalizer_tables.specs.AcceptedData.{AreAcceptedPairs}
+use Rattle.normalizer_conditions.specs.AcceptedData.{AreAcceptedPairs}
 use Rattle.normalizer_tables.specs.Conditions.{IsMet}
 use Rattle.normalizer_tables.specs.PairConditions.{is_passed, is_taken_to_begin_safely, KeepsBeginning}
 use Rattle.normalizer_tables.specs.Characters.{Characters, class_of, class_of_itself, has_class_form, list_of, list_read, named_list, reading_of_word, word_of}

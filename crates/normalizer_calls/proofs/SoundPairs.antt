@@ -5,13 +5,13 @@ use Rattle.std.proofs.lemmas.List.Elements.{All-nil}
 use Rattle.normal_forms.specs.Boundary.{BeginsSafely}
 use Rattle.normal_forms.specs.Reading.{Reading, IsStarter}
 use Rattle.normalizer_tables.specs.declared.condition.Condition.TheVariants.{Hangul, Words, Order, Pairs, RoundTrip, SafeBeginning}
-use Rattle.normalizer_tables.specs.AcceptedData.{AreAcceptedPairs, IsAccepted}
+use Rattle.normalizer_conditions.specs.AcceptedData.{AreAcceptedPairs, IsAccepted}
 use Rattle.normalizer_tables.specs.Characters.{Characters, list_of}
 use Rattle.normalizer_tables.specs.Ignored.{ignored_list}
 use Rattle.normalizer_tables.specs.PairConditions.{HasOrderedLists}
 use Rattle.normalizer_tables.specs.Pairs.{Pair}
 use Rattle.normalizer_tables.specs.Readings.{reading_by}
-use Rattle.normalizer_tables.proofs.PairLaws.{HasFaithfulResults-reading_of, HasStarterResults-reading_of, IsNormalized-passed, BeginsSafely-passed, inhabited-passed}
+use Rattle.normalizer_conditions.proofs.PairLaws.{HasFaithfulResults-reading_of, HasStarterResults-reading_of, IsNormalized-passed, BeginsSafely-passed, inhabited-passed}
 use Rattle.normalizer_calls.specs.Acceptance.{bounds_of}
 use Rattle.normalizer_iterators.specs.LazyComposing.{SuitsLazyComposing}
 use Rattle.normalizer_iterators.proofs.PassedClasses.{no_class_form-passed}

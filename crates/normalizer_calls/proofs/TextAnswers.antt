@@ -14,7 +14,7 @@ use Rattle.normal_forms.specs.Cut.{IsCut}
 use Rattle.normal_forms.specs.ShortRuns.{HasShortRuns}
 use Rattle.normal_forms.proofs.OffenceLemmas.{continued_offence, found_differs}
 use Rattle.normal_forms.proofs.TextLemmas.{IsText-normal_form}
-use Rattle.normalizer_tables.specs.AcceptedData.{SuitsTexts}
+use Rattle.normalizer_conditions.specs.AcceptedData.{SuitsTexts}
 use Rattle.normalizer_text.specs.Encodings.{Encoding}
 use Rattle.normalizer_text.specs.Steps.{IsWellFormed}
 use Rattle.normalizer_text.specs.Utf8.{decoded_utf8, first_of_utf8}

@@ -11,9 +11,9 @@ ghost use Rattle.normalizer_calls.specs.Serving.{ServesComposing};
 
 use crate::borrowed::{ComposingNormalizerBorrowed, NormalizerBorrowed};
 use crate::composing_form::ComposingForm;
-use normalizer_tables::check::check;
+use normalizer_conditions::check::check;
+use normalizer_conditions::loaded::LoadedData;
 use normalizer_tables::condition::{Bounds, COMPOSING};
-use normalizer_tables::loaded::LoadedData;
 use normalizer_tables::owned::OwnedCharacterData;
 use normalizer_tables::{
     CanonicalCompositions, DataError, DataMarkerInfo, DataProvider, NormalizerNfcV1,

@@ -5,7 +5,7 @@ ghost use Rattle.std.specs.Prelude.{if◌then◌else◌};
 ghost use Rattle.std.specs.Char.{IsScalar};
 ghost use Rattle.normal_forms.specs.Decomposition.{expand};
 ghost use Rattle.normal_forms.specs.ShortRuns.{places};
-ghost use Rattle.normalizer_tables.specs.AcceptedData.{SuitsTexts};
+ghost use Rattle.normalizer_conditions.specs.AcceptedData.{SuitsTexts};
 ghost use Rattle.normalizer_tables.specs.Characters.{class_of_itself, has_class_form, reading_of_word};
 ghost use Rattle.normalizer_tables.specs.PairConditions.{is_passed};
 ghost use Rattle.normalizer_text.specs.Encodings.{decoded_in, first_in};

@@ -1,7 +1,7 @@
 //! The data of a normalizer satisfy the hypotheses of the laws of the normal forms. Each function does nothing: its
 //! contract is the law.
 ghost use Rattle.normal_forms.specs.declared.Form.TheVariants.{Composing, Decomposing};
-ghost use Rattle.normalizer_tables.specs.AcceptedData.{SuitsTexts};
+ghost use Rattle.normalizer_conditions.specs.AcceptedData.{SuitsTexts};
 ghost use Rattle.normalizer_calls.specs.Forms.{composed_by, decomposed_by};
 
 use crate::{ComposingNormalizerBorrowed, DecomposingNormalizerBorrowed};

@@ -13,9 +13,9 @@ ghost use Rattle.normalizer_calls.specs.Serving.{ServesDecomposing};
 
 use crate::borrowed::{DecomposingNormalizerBorrowed, NormalizerBorrowed};
 use crate::decomposing_form::DecomposingForm;
-use normalizer_tables::check::check;
+use normalizer_conditions::check::check;
+use normalizer_conditions::loaded::LoadedData;
 use normalizer_tables::condition::{Bounds, DECOMPOSING};
-use normalizer_tables::loaded::LoadedData;
 use normalizer_tables::owned::OwnedCharacterData;
 use normalizer_tables::{
     DataError, DataMarkerInfo, DataProvider, NormalizerNfdDataV1, NormalizerNfdTablesV1,

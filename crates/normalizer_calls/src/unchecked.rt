@@ -14,7 +14,7 @@ impl<'a> NormalizerBorrowed<DecomposingForm<'a>> {
 
     /// Makes a normalizer to NFD over canonical data that the caller has checked. Nothing is copied or checked.
     ///
-    /// The caller owes that [`check_nfd_data`](normalizer_tables::check_nfd_data) returned `Ok` for exactly these
+    /// The caller owes that [`check_nfd_data`](normalizer_conditions::check_nfd_data) returned `Ok` for exactly these
     /// values.
     ///
     /// # Examples

@@ -10,12 +10,12 @@ ghost use Rattle.normalizer_calls.specs.ComposingAcceptance.{RefusesToCompose, S
 ghost use Rattle.normalizer_iterators.specs.Iterating.{YieldsFormBy};
 ghost use Rattle.normalizer_calls.specs.Uts46.{uts46_data, ServesMapper};
 
+use normalizer_conditions::check::check;
+use normalizer_conditions::loaded::LoadedData;
 use normalizer_iterators::composition::composed;
 use normalizer_iterators::{Composition, NormalizeError};
 use normalizer_tables::characters::{CharacterData, IgnoredCharacters};
-use normalizer_tables::check::check;
 use normalizer_tables::condition::{Bounds, MAPPING};
-use normalizer_tables::loaded::LoadedData;
 use normalizer_tables::owned::OwnedCharacterData;
 use normalizer_tables::{
     CanonicalCompositions, DataError, DataMarkerInfo, DataProvider, NormalizerNfcV1,

@@ -14,7 +14,7 @@ use Rattle.normalizer_tables.specs.declared.characters.IgnoredCharacters.{Ignore
 use Rattle.normalizer_tables.specs.Characters.{Characters, list_of}
 use Rattle.normalizer_tables.specs.Ignored.{ignored_list}
 use Rattle.normalizer_tables.specs.PairConditions.{HasOrderedLists}
-use Rattle.normalizer_tables.proofs.PairLaws.{order-own}
+use Rattle.normalizer_tables.proofs.SoundLists.{order-own}
 use Rattle.normalizer_tables.proofs.PairLemmas.{All-listed_result}
 use Rattle.normalizer_tables.specs.HangulComposition.{compose_hangul}
 use Rattle.normalizer_tables.specs.Pairs.{Pair, is_vowel_or_trailing_jamo, listed_result, pair_of}

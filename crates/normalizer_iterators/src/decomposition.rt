@@ -62,7 +62,7 @@ impl<'data, I: Iterator<Item = char> + Drop> Decomposition<'data, I> {
 
     /// Returns an iterator over the NFD of what `delegate` yields, using canonical data that the caller has checked.
     ///
-    /// The caller owes that [`check_nfd_data`](normalizer_tables::check_nfd_data) returned `Ok` for exactly these
+    /// The caller owes that `check_nfd_data` of `normalizer_conditions` returned `Ok` for exactly these
     /// values.
     ///
     /// # Errors

@@ -18,7 +18,8 @@ use Rattle.normalizer_tables.specs.declared.condition.Bounds.{Bounds}
 use Rattle.normalizer_tables.specs.Steps.{hangul_mapping, step_by, step_of, step_to}
 use Rattle.normalizer_tables.specs.Readings.{reading_by}
 use Rattle.normalizer_tables.specs.declared.characters.IgnoredCharacters.TheVariants.{Dropped}
-use Rattle.normalizer_tables.proofs.PairLaws.{HasFaithfulResults-reading_of, apart-syllable, list_of-syllable, order-own, sound_hangul, three-composed, two-composed}
+use Rattle.normalizer_conditions.proofs.PairLaws.{HasFaithfulResults-reading_of, apart-syllable, list_of-syllable, sound_hangul, three-composed, two-composed}
+use Rattle.normalizer_tables.proofs.SoundLists.{order-own}
 
 -- the two characters that a syllable maps to, which compose to it
 pub record IsHangulMapping (n a b : ℕ) : Type 0 where

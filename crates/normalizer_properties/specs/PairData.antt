@@ -5,7 +5,7 @@ use Rattle.normalizer_tables.specs.declared.condition.Condition.TheVariants.{Pai
 use Rattle.normalizer_tables.specs.declared.provider.DataMarkerInfo.{DataMarkerInfo}
 use Rattle.normalizer_tables.specs.PairConditions.{AreSoundPairs}
 use Rattle.normalizer_tables.specs.Pairs.{Pair}
-use Rattle.normalizer_tables.specs.Refusals.{refusal_of}
+use Rattle.normalizer_conditions.specs.Refusals.{refusal_of}
 
 -- pairs that don't rise, or have a second of the Hangul arithmetic, break condition 11
 abbrev pub RefusesPairs : DataMarkerInfo → List Pair → DataError → Type 0

@@ -8,10 +8,10 @@ ghost use Rattle.normalizer_properties.specs.ClassData.{
   SuitsClasses,
 };
 
+use normalizer_conditions::check::check;
+use normalizer_conditions::loaded::LoadedData;
 use normalizer_tables::characters::CharacterData;
-use normalizer_tables::check::check;
 use normalizer_tables::condition::{CLASSES, GREATEST_BOUNDS};
-use normalizer_tables::loaded::LoadedData;
 use normalizer_tables::word::class_of_word;
 use normalizer_tables::{
     DataError, DataMarkerInfo, DataProvider, DecompositionData, DecompositionTables,

@@ -5,9 +5,9 @@ ghost use Rattle.normalizer_tables.specs.PairConditions.{AreSoundPairs};
 ghost use Rattle.normalizer_tables.specs.Pairs.{pair_of};
 ghost use Rattle.normalizer_properties.specs.PairData.{RefusesPairs};
 
+use normalizer_conditions::pair_check::are_sound_pairs;
+use normalizer_conditions::refusal::refusal_of;
 use normalizer_tables::condition::Condition;
-use normalizer_tables::pair_check::are_sound_pairs;
-use normalizer_tables::refusal::refusal_of;
 use normalizer_tables::{
     CanonicalCompositions, DataError, DataMarkerInfo, DataProvider, NormalizerNfcV1, compose,
 };

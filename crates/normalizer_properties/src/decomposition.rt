@@ -11,10 +11,10 @@ ghost use Rattle.normalizer_properties.specs.StepData.{
 };
 ghost use Rattle.normalizer_properties.specs.StepMeaning.{HasSteps, MeansInLists};
 
+use normalizer_conditions::check::check;
+use normalizer_conditions::loaded::LoadedData;
 use normalizer_tables::characters::CharacterData;
-use normalizer_tables::check::check;
 use normalizer_tables::condition::{GREATEST_BOUNDS, STEPPING};
-use normalizer_tables::loaded::LoadedData;
 use normalizer_tables::step::{Step as Decomposed, step_of};
 use normalizer_tables::{
     DataError, DataMarkerInfo, DataProvider, DecompositionData, DecompositionTables,

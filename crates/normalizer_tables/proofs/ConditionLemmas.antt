@@ -9,12 +9,7 @@ use Rattle.std.proofs.lemmas.List.Elements.{All-cons, All-nil}
 use Rattle.std.proofs.lemmas.Nat.{and_assoc}
 use Rattle.normal_forms.specs.Order.{order, insert}
 use Rattle.normalizer_tables.specs.declared.word.WordReading.TheVariants.{Itself}
-use Rattle.normalizer_tables.specs.declared.condition.Bounds.{Bounds}
-use Rattle.normalizer_tables.specs.declared.condition.Condition.TheVariants.{Surrogates, PastTheEnd, Words, SurrogateClasses, WordClasses}
-use Rattle.normalizer_tables.specs.AcceptedData.{class_conditions}
 use Rattle.normalizer_tables.specs.CharacterConditions.{is_composing_jamo, is_surrogate, IsOrderedList, IsSoundClass, IsSoundWord, KeepsPromise, ReadsToItself}
-use Rattle.normalizer_tables.specs.Conditions.{IsMet}
-use Rattle.normalizer_tables.specs.Loaded.{characters_loaded, classes_loaded}
 use Rattle.normalizer_tables.specs.StepConditions.{HasSoundStep, IsSoundStep}
 use Rattle.normalizer_tables.specs.Data.{Supplement}
 use Rattle.normalizer_tables.specs.Table.{code_points}
@@ -109,15 +104,6 @@ syllable-scalar n h = grind (arith, nat_tests)
 pub jamo_scalar : (n : ℕ) → is_composing_jamo n ≡ true → scalar n ≡ true
 unfolding is_composing_jamo
 jamo_scalar n h = grind (arith, nat_tests)
-
--- what is required for classes alone is part of what is required of whole data
-pub class_conditions-met : (s : Characters) (b : Bounds) → IsMet (characters_loaded s b) Surrogates → IsMet (characters_loaded s b) PastTheEnd →
-    IsMet (characters_loaded s b) Words → All (IsMet (classes_loaded s.decompositions)) class_conditions
-unfolding IsMet word_of is_class_form is_ordinary_class_form is_special_class_form
-class_conditions-met s b surrogates past words =
-    let P = IsMet (classes_loaded s.decompositions) in
-    All-cons P SurrogateClasses (PastTheEnd ∷ WordClasses ∷ []) (λ n is. ap is_class_form (surrogates n is))
-    (All-cons P PastTheEnd (WordClasses ∷ []) past (All-cons P WordClasses [] (λ n is. (words n is).class) (All-nil P)))
 
 -- what a word that is 0, flags aside, says of its character
 pub ruleset plain_words = (read-plain, list_read-plain)

@@ -1,4 +1,3 @@
-pub mod AcceptedLaws
 pub mod BlockCounts
 pub mod BlockEquality
 pub mod BlockLemmas
@@ -6,19 +5,13 @@ pub mod BucketLemmas
 pub mod CharacterLemmas
 pub mod CompositionLemmas
 pub mod ConditionLemmas
-pub mod FailingLemmas
-pub mod FdfaWords
-pub mod FirstFailing
 pub mod HangulLemmas
 pub mod InhabitedLists
 pub mod ListLengths
 pub mod ListedLemmas
-pub mod LoadedLemmas
 pub mod NextInBlocks
 pub mod NextWords
 pub mod OrderedLists
-pub mod PairConditionLemmas
-pub mod PairLaws
 pub mod PairLemmas
 pub mod PlaceTables
 pub mod PlainCharacters
@@ -27,9 +20,7 @@ pub mod ReadLemmas
 pub mod RisingLists
 pub mod SoundLists
 pub mod StoredParts
-pub mod SyllableLemmas
 pub mod Tables
 pub mod UnseenLemmas
-pub mod WalkLemmas
 pub mod WordLemmas
 pub mod WordsInRanges

@@ -3,7 +3,7 @@ use Rattle.std.proofs.Common.{arith, ◌≡◌, true, false, [], Some, None, ap,
 use Rattle.normalizer_tables.specs.declared.read.ReadCharacter.{ReadCharacter}
 use Rattle.normalizer_tables.specs.Words.{class_of_word}
 use Rattle.normalizer_tables.specs.Characters.{Characters, list_read, list_of, class_of}
-use Rattle.normalizer_tables.specs.inner.Read.{IsRead}
+use Rattle.normalizer_tables.specs.Read.{IsRead}
 use Rattle.normalizer_tables.proofs.CharacterLemmas.{list_of-reads, class_of-scalar}
 
 -- the list is read, or none is

@@ -6,7 +6,7 @@ use Rattle.std.proofs.lemmas.Bool.{cases_Bool}
 use Rattle.std.proofs.lemmas.List.Elements.{All-cons, All-nil}
 use Rattle.normal_forms.specs.Boundary.{BeginsWithStarter}
 use Rattle.normal_forms.specs.Hypotheses.{HasFullLists}
-use Rattle.normal_forms.specs.Order.{order}
+use Rattle.normal_forms.specs.Order.{insert, is_reorderable, order}
 use Rattle.normal_forms.specs.Reading.{Reading}
 use Rattle.normalizer_tables.specs.declared.word.WordReading.{WordReading}
 use Rattle.normalizer_tables.specs.declared.word.WordReading.TheVariants.{Ignored}
@@ -19,6 +19,11 @@ use Rattle.normalizer_tables.specs.SoundData.{Bounds, IsSoundData}
 use Rattle.normalizer_tables.specs.Readings.{reading_by, reading_of}
 use Rattle.normalizer_tables.proofs.CharacterLemmas.{list_read-scalar, list_of-reads, list_of-default}
 use Rattle.normalizer_tables.proofs.OrderedLists.{rising-order, order-rising, order-short}
+
+-- only classes matter to the order
+pub order-own : (s : Characters) (ignored : List ℕ) (pairing : ℕ → ℕ → Option ℕ) (x : List ℕ) → order (reading_by s Dropped []) x ≡ order (reading_of s ignored pairing) x
+unfolding order insert is_reorderable
+order-own s ignored pairing x = refl
 
 pub list_read-elsewhere : (s : Characters) (ignored : List ℕ) (n : ℕ) → scalar n ≡ false → list_read s ignored n ≡ None
 unfolding list_read

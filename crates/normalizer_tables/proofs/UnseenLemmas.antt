@@ -3,7 +3,6 @@ use Rattle.std.proofs.Common.{◌≡◌, ℕ, false, None, arith}
 use Rattle.std.specs.Char.{IsScalar}
 use Rattle.normalizer_tables.specs.declared.condition.Bounds.{Bounds}
 use Rattle.normalizer_tables.specs.declared.condition.Condition.TheVariants as condition
-use Rattle.normalizer_tables.specs.AcceptedData.{IsAccepted}
 use Rattle.normalizer_tables.specs.CharacterConditions.{IsPlainStarter, IsSoundWord, ReadsToItself}
 use Rattle.normalizer_tables.specs.Conditions.{IsMet}
 use Rattle.normalizer_tables.specs.Loaded.{characters_loaded}
@@ -22,16 +21,13 @@ no_class_form-itself : (s : Characters) (n : ℕ) → IsScalar n → IsSoundWord
 unfolding has_class_form is_class_form ReadsToItself class_of class_of_word list_read reading_of_word read named_list fixed_list_of
 no_class_form-itself s n h sound itself starter = grind (arith, plain-no_class_form (word_of s n), one_class_form (word_of s n), sound.class.ordinary)
 
-PassUnseenBelow-conditions : (s : Characters) (b : Bounds) → IsMet (characters_loaded s b) condition.Words → IsMet (characters_loaded s b) condition.Passthrough → PassUnseenBelow s b.decomposition
+pub PassUnseenBelow-conditions : (s : Characters) (b : Bounds) → IsMet (characters_loaded s b) condition.Words → IsMet (characters_loaded s b) condition.Passthrough → PassUnseenBelow s b.decomposition
 unfolding IsMet IsPlainStarter
 PassUnseenBelow-conditions s b words passthrough = λ c h below. record {
   itself = λ ignored. reads_as_itself s ignored c (passthrough c h below).0;
   starter = (passthrough c h below).1;
   no_class_form = no_class_form-itself s c h (words c h) (passthrough c h below).0 (passthrough c h below).1;
 }
-
-pub PassUnseenBelow-accepted : (s : Characters) (b : Bounds) → IsAccepted s b → PassUnseenBelow s b.decomposition
-PassUnseenBelow-accepted s b accepted = PassUnseenBelow-conditions s b (accepted 6 condition.Words (omega arith)) (accepted 9 condition.Passthrough (omega arith))
 
 pub PassUnseenBelow-handed_in : (decompositions : Decompositions) (tables : Lists) → IsSoundNfdData decompositions tables →
     PassUnseenBelow (characters_from decompositions tables None) nfd_bounds.decomposition

@@ -1,4 +1,3 @@
-pub mod AcceptedData
 pub mod CharacterConditions
 pub mod Characters
 pub mod Conditions
@@ -15,8 +14,8 @@ pub mod PairConditions
 pub mod Pairs
 pub mod Places
 pub mod Ranges
+pub mod Read
 pub mod Readings
-pub mod Refusals
 pub mod SoundData
 pub mod SpecialLists
 pub mod StepConditions

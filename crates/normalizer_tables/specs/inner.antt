@@ -2,5 +2,3 @@
 pub mod Blocks
 pub mod Buckets
 pub mod Members
-pub mod Read
-pub mod Walk

@@ -153,8 +153,8 @@ impl<'a> CharacterData<'a> {
         decompositions.table.get32(number)
     }
 
-    /// The first number from this one on whose word isn't 0, flags aside, or the first past the code points.
-    pub(crate) fn next_with_word(&self, from: u32) -> u32
+    /// Returns the first number from this one on whose word isn't 0, flags aside, or the first past the code points.
+    pub fn next_with_word(&self, from: u32) -> u32
         requires { from ≤ code_points }
         ensures { IsNextWord self.now from result }
     {

@@ -11,7 +11,7 @@ ghost use Rattle.normalizer_tables.specs.HangulComposition.{
 
 use crate::word::is_hangul_syllable;
 
-pub(crate) const S_BASE: u32 = 0xAC00;
+pub const S_BASE: u32 = 0xAC00;
 
 pub(crate) const L_BASE: u32 = 0x1100;
 
@@ -21,7 +21,7 @@ pub(crate) const T_BASE: u32 = 0x11A7;
 
 pub(crate) const T_COUNT: u32 = 28;
 
-pub(crate) const N_COUNT: u32 = 588;
+pub const N_COUNT: u32 = 588;
 
 /// Returns the syllable of a leading consonant and a vowel, or of such a syllable and a trailing consonant.
 #[tactic(auto, using(crate::proofs::HangulLemmas::compositions), unfolding(crate::specs::HangulComposition::compose_hangul, crate::specs::HangulComposition::is_lv_syllable))]

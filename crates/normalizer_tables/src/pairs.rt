@@ -52,41 +52,6 @@ impl CanonicalCompositions {
         Ok(CanonicalCompositions { pairs, is_rising })
     }
 
-    /// Whether the list strictly rises by second, then by first.
-    pub(crate) fn is_rising(&self) -> bool
-        ensures { IsTrue result ↔ AreRising self.now }
-    {
-        self.is_rising
-    }
-
-    /// How many pairs there are.
-    pub(crate) fn len(&self) -> usize
-        ensures { result ≡ length self.now }
-    {
-        self.pairs.len()
-    }
-
-    /// The pair at this place, counted from 0: second, first and result.
-    pub(crate) fn at(&self, place: usize) -> (char, char, char)
-        requires { place < length self.now }
-        ensures { slice_get self.now place ≡ Some result }
-    {
-        self.pairs.at(place)
-    }
-
-    /// Whether no second is in U+1161 to U+11FF, whose characters compose by arithmetic.
-    #[tactic(auto, unfolding(crate::specs::Pairs::pair_at))]
-    pub(crate) fn has_no_jamo_second(&self) -> bool
-        ensures { IsTrue result ↔ All (λ p. is_vowel_or_trailing_jamo p.0 ≡ false) self.now }
-    {
-        for place in 0..self.len() {
-            if is_vowel_or_trailing_jamo(self.at(place).0) {
-                return false;
-            }
-        }
-        true
-    }
-
     /// Whether no pair has this second.
     fn is_never_listed_second(&self, second: char) -> bool
         ensures { IsTrue result ↔ ((first : ℕ) → listed_result self.now first second ≡ None) }
@@ -123,6 +88,41 @@ pub fn is_never_second(pairs: &CanonicalCompositions, second: char) -> bool
     } else {
         pairs.is_never_listed_second(second)
     }
+}
+
+/// Returns whether the list strictly rises by second, then by first.
+pub fn is_rising(pairs: &CanonicalCompositions) -> bool
+    ensures { IsTrue result ↔ AreRising pairs.now }
+{
+    pairs.is_rising
+}
+
+/// Returns how many pairs there are.
+pub fn pair_count(pairs: &CanonicalCompositions) -> usize
+    ensures { result ≡ length pairs.now }
+{
+    pairs.pairs.len()
+}
+
+/// Returns the pair at this place, counted from 0: second, first and result.
+pub fn pair_at(pairs: &CanonicalCompositions, place: usize) -> (char, char, char)
+    requires { place < length pairs.now }
+    ensures { slice_get pairs.now place ≡ Some result }
+{
+    pairs.pairs.at(place)
+}
+
+/// Returns whether no second is in U+1161 to U+11FF, whose characters compose by arithmetic.
+#[tactic(auto, unfolding(crate::specs::Pairs::pair_at))]
+pub fn has_no_jamo_second(pairs: &CanonicalCompositions) -> bool
+    ensures { IsTrue result ↔ All (λ p. is_vowel_or_trailing_jamo p.0 ≡ false) pairs.now }
+{
+    for place in 0..pair_count(pairs) {
+        if is_vowel_or_trailing_jamo(pair_at(pairs, place).0) {
+            return false;
+        }
+    }
+    true
 }
 
 /// Equal exactly if the lists are.

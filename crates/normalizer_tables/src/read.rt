@@ -1,7 +1,7 @@
 //! A character with its word and reading, which are looked up once.
 ghost use Rattle.std.specs.Prelude.{◌≡◌};
 ghost use Rattle.normalizer_tables.specs.Characters.{word_of};
-ghost use Rattle.normalizer_tables.specs.inner.Read.{IsRead};
+ghost use Rattle.normalizer_tables.specs.Read.{IsRead};
 
 use crate::characters::{CharacterData, IgnoredCharacters};
 use crate::members::Members;

@@ -2,7 +2,7 @@
 ghost use Rattle.std.specs.Prelude.{◌≡◌, [], true, false};
 ghost use Rattle.normalizer_tables.specs.Characters.{Characters, as_text, list_read};
 ghost use Rattle.normalizer_tables.specs.Hangul.{is_hangul_syllable};
-ghost use Rattle.normalizer_tables.specs.inner.Read.{IsRead};
+ghost use Rattle.normalizer_tables.specs.Read.{IsRead};
 ghost use Rattle.normalizer_tables.specs.Steps.{
   listed_step,
   may_have_oxia,
@@ -53,9 +53,9 @@ pub fn step_of(
     step_by_reading(supplement, &read_character(data, character))
 }
 
-/// The canonical mapping of a character that is no Hangul syllable.
+/// Returns the canonical mapping of a character that is no Hangul syllable.
 #[tactic(auto, using(crate::proofs::ReadLemmas::readings), unfolding(crate::specs::Steps::step_of, crate::specs::Steps::step_of_reading, crate::specs::Steps::two_characters_step, crate::specs::Steps::step_by))]
-pub(crate) fn step_by_reading(
+pub fn step_by_reading(
     supplement: &NonRecursiveDecompositionSupplement,
     read: &ReadCharacter<'_>,
 ) -> Option<Step>

@@ -101,7 +101,7 @@ pub fn is_class_form(word: u32) -> bool
 
 #[tactic(auto, unfolding(crate::specs::Words::is_ordinary_class_form))]
 #[inline(always)]
-pub(crate) fn is_ordinary_class_form(word: u32) -> bool
+pub fn is_ordinary_class_form(word: u32) -> bool
     ensures { result ≡ is_ordinary_class_form word }
 {
     word & 0x3FFF_FF00 == 0xD800
@@ -109,7 +109,7 @@ pub(crate) fn is_ordinary_class_form(word: u32) -> bool
 
 #[tactic(auto, unfolding(crate::specs::Words::is_special_class_form))]
 #[inline(always)]
-pub(crate) fn is_special_class_form(word: u32) -> bool
+pub fn is_special_class_form(word: u32) -> bool
     ensures { result ≡ is_special_class_form word }
 {
     word & 0x3FFF_FF00 == 0xD900
@@ -145,7 +145,7 @@ pub fn is_hangul_syllable(number: u32) -> bool
 /// Whether a word reads as the character itself with class 0, whatever its flags.
 #[tactic(auto, unfolding(crate::specs::Words::is_plain))]
 #[inline(always)]
-pub(crate) fn is_plain(word: u32) -> bool
+pub fn is_plain(word: u32) -> bool
     ensures { result ≡ is_plain word }
 {
     word & 0x3FFF_FFFF == 0
@@ -170,7 +170,7 @@ fn has_low_zeros(word: u32) -> bool
 /// The low byte of a word, the class of a class form.
 #[tactic(auto, unfolding(crate::specs::Words::low_byte))]
 #[inline(always)]
-pub(crate) fn low_byte(word: u32) -> u8
+pub fn low_byte(word: u32) -> u8
     ensures { result ≡ low_byte word }
 {
     (word & 0xFF) as u8

@@ -9,7 +9,7 @@ ghost use Rattle.normalizer_tables.specs.declared.provider.DataMarkerInfo.TheVar
 ghost use Rattle.normalizer_tables.specs.Characters.{has_class_form, Characters, characters_from};
 ghost use Rattle.normalizer_tables.specs.NfdData.{nfd_conditions, nfd_loaded};
 ghost use Rattle.normalizer_tables.specs.Pairs.{Pair};
-ghost use Rattle.normalizer_tables.specs.Refusals.{RefusesFirstFailing};
+ghost use Rattle.normalizer_conditions.specs.Refusals.{RefusesFirstFailing};
 ghost use Rattle.normalizer_tables.specs.Readings.{reading_by};
 ghost use Rattle.normalizer_tables.specs.declared.characters.IgnoredCharacters.TheVariants.{Dropped};
 ghost use Rattle.normalizer_text.specs.Utf8.{decoded_utf8};

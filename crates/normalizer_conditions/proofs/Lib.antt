@@ -1,0 +1,9 @@
+pub mod AcceptedLaws
+pub mod FailingLemmas
+pub mod FdfaWords
+pub mod FirstFailing
+pub mod LoadedLemmas
+pub mod PairConditionLemmas
+pub mod PairLaws
+pub mod SyllableLemmas
+pub mod WalkLemmas

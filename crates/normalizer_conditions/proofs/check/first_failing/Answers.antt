@@ -1,0 +1,48 @@
+use Rattle.std.proofs.Common.{◌∙◌, sym, subst, arith}
+use Rattle.normalizer_tables.specs.Characters.{IsNextWord}
+use Rattle.normalizer_tables.specs.Table.{code_points}
+use Rattle.normalizer_conditions.proofs.FirstFailing.{FailsFirst-all, copied_slice_get, FailsFirst-step, has_sound_hangul, unasked}
+use Rattle.normalizer_conditions.proofs.LoadedLemmas.{IsMet-parts}
+use Rattle.normalizer_conditions.proofs.PairConditionLemmas.{scalar_below}
+use Rattle.normalizer_conditions.proofs.WalkLemmas.{IsMetAt-answered}
+use Rattle.normalizer_conditions.proofs.check.first_failing.Goals as goal
+use Rattle.normalizer_conditions.proofs.check.first_failing.Goals.{then-loop-from-test+else-are_asked_of_words, else-loop-from-test}
+
+pub loop-from-init : goal.loop-from-init
+loop-from-init c =
+    let apart = c.first_failing_apart-failing.ensures in
+    record {
+      within = omega arith;
+      first = record {
+        within = apart.within;
+        before = λ k d low kh. (apart.before k d low kh, λ n none. absurd (omega arith));
+        fails = λ k e met. apart.fails k e ((IsMet-parts c.args.data.now k).0 met).0;
+      };
+    }
+
+pub loop-from-preserved : goal.loop-from-preserved
+unfolding code_points
+loop-from-preserved c =
+    let apart = c.first_failing_apart-failing.ensures in
+    let next = subst (λ d. IsNextWord d.characters c.loop-from.from c.next_with_word-number.result) c.data.view_is c.next_with_word-number.ensures in
+    record {
+      within = c.end_of_alike-from.ensures.within next.within;
+      first =
+          FailsFirst-step c.args.data.now c.args.conditions.now c.loop-from.from c.next_with_word-number.result c.end_of_alike-from.result c.loop-from.failing c.first_failing_at-failing.result
+          c.loop-from.invariant.first
+          (IsMetAt-answered c.args.data.now c.asks_hangul-hangul_is_sound.result
+          (λ asked. has_sound_hangul c.args.data.now c.args.conditions.now c.first_failing_apart-failing.result apart (c.asks_hangul-hangul_is_sound.ensures.0 asked)) c.loop-from.from
+          c.next_with_word-number.result c.end_of_alike-from.result next c.end_of_alike-from.ensures)
+          c.first_failing_at-failing.ensures;
+    }
+
+pub returns : goal.returns
+unfolding code_points
+returns c =
+    FailsFirst-all c.args.data.now c.args.conditions.now c.loop-from.from c.loop-from.failing c.copied.result c.loop-from.invariant.first
+    (elim c.loop-from-test.branch [
+      | then-loop-from-test+else-are_asked_of_words w ↦
+          unasked c.args.data.now c.args.conditions.now c.loop-from.from c.loop-from.failing c.loop-from.invariant.first.within (sym w.if-are_asked_of_words.ensures)
+      | else-loop-from-test w ↦ λ k d low kh met. (IsMet-parts c.args.data.now _).1 (met.0, λ n is. met.1 n (omega (arith, scalar_below n is)) is)
+    ])
+    (c.copied.ensures ∙ copied_slice_get c.args.conditions.now c.loop-from.failing c.get.result c.get.ensures.lookup.1 c.get.ensures.lookup.3)

@@ -1,0 +1,5 @@
+use Rattle.normalizer_conditions.proofs.AcceptedLaws.{SuitsMapper-accepted}
+use Rattle.normalizer_conditions.proofs.laws.accepted.accepted_data_suit_mappers.Goals as goal
+
+pub returns : goal.returns
+returns c = SuitsMapper-accepted

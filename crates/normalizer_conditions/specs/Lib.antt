@@ -1,0 +1,3 @@
+pub mod AcceptedData
+pub mod Refusals
+pub mod inner

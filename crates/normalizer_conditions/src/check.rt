@@ -1,0 +1,127 @@
+//! The complete check of what was loaded: the first of the written conditions that it breaks.
+ghost use Rattle.std.specs.Prelude.{◌≡◌, ◌↔◌, ◌≤◌, IsTrue, IsOk, IfErr, All};
+ghost use Rattle.std.specs.Char.{IsScalar};
+ghost use Rattle.std.specs.List.{Contains, list_any};
+ghost use Rattle.normalizer_tables.specs.Conditions.{IsFirstFailing, IsMet, IsPlaceOfFirstFailing};
+ghost use Rattle.normalizer_conditions.specs.Refusals.{RefusesFirstFailing};
+ghost use Rattle.normalizer_tables.specs.Table.{code_points};
+ghost use Rattle.normalizer_tables.specs.declared.condition.Condition.TheVariants as condition;
+ghost use Rattle.normalizer_conditions.specs.inner.Walk.{IsEndOfAlike, IsMetApart, IsMetAt, is_asked_of_words};
+
+use crate::check::met::{is_met_apart, is_met_at};
+use crate::loaded::LoadedData;
+use crate::refusal::refusal_of;
+use normalizer_tables::characters::CODE_POINTS;
+use normalizer_tables::condition::Condition;
+use normalizer_tables::hangul::{N_COUNT, S_BASE};
+use normalizer_tables::read::read_character;
+use normalizer_tables::word::is_hangul_syllable;
+use normalizer_tables::{DataError, DataMarkerInfo};
+
+mod lists;
+mod met;
+mod numbers;
+mod overall;
+
+/// Checks that loaded data meet these conditions; the decomposition data have the marker. It takes no memory.
+///
+/// # Errors
+/// The error for the first condition that fails.
+pub fn check(
+    data: &LoadedData<'_>,
+    data_marker: DataMarkerInfo,
+    conditions: &[Condition],
+) -> Result<(), DataError>
+    ensures ok { IsOk result ↔ All (IsMet data.now) conditions.now }
+    ensures err { IfErr result (RefusesFirstFailing data_marker data.now conditions.now) }
+{
+    match first_failing(data, conditions) {
+        Some(condition) => Err(refusal_of(data_marker, condition)),
+        None => Ok(()),
+    }
+}
+
+/// Returns the first of these conditions that loaded data don't meet, if there is one. It takes no memory.
+#[tactic(auto, unfolding(normalizer_tables::specs::Table::code_points))]
+pub fn first_failing(data: &LoadedData<'_>, conditions: &[Condition]) -> Option<Condition>
+    ensures { IsFirstFailing (IsMet data.now) conditions.now result }
+{
+    let mut failing = first_failing_apart(data, conditions);
+    let hangul_is_sound = asks_hangul(&conditions[..failing]);
+    let mut from = 0;
+    while from < CODE_POINTS && are_asked_of_words(&conditions[..failing]) {
+        let number = data.characters.next_with_word(from);
+        failing = first_failing_at(data, &conditions[..failing], number);
+        from = end_of_alike(number, hangul_is_sound);
+    }
+    conditions.get(failing).copied()
+}
+
+/// Whether Hangul is among these conditions.
+fn asks_hangul(conditions: &[Condition]) -> bool
+    ensures { IsTrue result ↔ Contains conditions.now condition.Hangul }
+{
+    conditions
+        .iter()
+        .any(|&condition| condition == Condition::Hangul)
+}
+
+/// Whether one of these conditions says something of each character.
+#[tactic(auto, unfolding(crate::specs::inner::Walk::is_asked_of_words))]
+fn are_asked_of_words(conditions: &[Condition]) -> bool
+    ensures { result ≡ list_any is_asked_of_words conditions.now }
+{
+    conditions.iter().any(|&condition| {
+        matches!(
+            condition,
+            Condition::Words
+                | Condition::Members
+                | Condition::Order
+                | Condition::Passthrough
+                | Condition::RoundTrip
+                | Condition::SafeBeginning
+                | Condition::FdfaForms
+                | Condition::Steps
+                | Condition::WordClasses
+        )
+    })
+}
+
+/// The end of the numbers for which it suffices to check this one. If Hangul is sound, that is all syllables after it
+/// with the same leading consonant.
+#[tactic(auto, unfolding(normalizer_tables::specs::Hangul::is_hangul_syllable, normalizer_tables::specs::Table::code_points))]
+fn end_of_alike(number: u32, hangul_is_sound: bool) -> u32
+    requires { number ≤ code_points }
+    ensures { IsEndOfAlike hangul_is_sound number result }
+{
+    if hangul_is_sound && is_hangul_syllable(number) {
+        S_BASE + ((number - S_BASE) / N_COUNT + 1) * N_COUNT
+    } else {
+        number + 1
+    }
+}
+
+/// The place of the first condition that fails apart from the walk over words.
+fn first_failing_apart(data: &LoadedData<'_>, conditions: &[Condition]) -> usize
+    ensures { IsPlaceOfFirstFailing (IsMetApart data.now) conditions.now result }
+{
+    conditions
+        .iter()
+        .position(|&condition| !is_met_apart(data, condition))
+        .unwrap_or(conditions.len())
+}
+
+/// The place of the first condition that fails of a number, if a character has it.
+fn first_failing_at(data: &LoadedData<'_>, conditions: &[Condition], number: u32) -> usize
+    ensures { IsPlaceOfFirstFailing (λ c. IsScalar number → IsMetAt data.now c number) conditions.now result }
+{
+    let Some(character) = char::from_u32(number) else {
+        return conditions.len();
+    };
+    // It is read here for all conditions.
+    let read = read_character(&data.characters, character);
+    conditions
+        .iter()
+        .position(|&condition| !is_met_at(data, condition, &read))
+        .unwrap_or(conditions.len())
+}
