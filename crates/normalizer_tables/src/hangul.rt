@@ -11,6 +11,7 @@ ghost use Rattle.normalizer_tables.specs.HangulComposition.{
 
 use crate::word::is_hangul_syllable;
 
+/// SBase, the first syllable.
 pub const S_BASE: u32 = 0xAC00;
 
 pub(crate) const L_BASE: u32 = 0x1100;
@@ -21,6 +22,7 @@ pub(crate) const T_BASE: u32 = 0x11A7;
 
 pub(crate) const T_COUNT: u32 = 28;
 
+/// How many syllables have the same leading consonant.
 pub const N_COUNT: u32 = 588;
 
 /// Returns the syllable of a leading consonant and a vowel, or of such a syllable and a trailing consonant.

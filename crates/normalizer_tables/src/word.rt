@@ -99,6 +99,7 @@ pub fn is_class_form(word: u32) -> bool
     is_ordinary_class_form(word) || is_special_class_form(word)
 }
 
+/// Returns whether a word has the ordinary class form: the character itself, with the class of the low byte.
 #[tactic(auto, unfolding(crate::specs::Words::is_ordinary_class_form))]
 #[inline(always)]
 pub fn is_ordinary_class_form(word: u32) -> bool
@@ -107,6 +108,7 @@ pub fn is_ordinary_class_form(word: u32) -> bool
     word & 0x3FFF_FF00 == 0xD800
 }
 
+/// Returns whether a word has the special class form: the fixed list of the character, with the class of the low byte.
 #[tactic(auto, unfolding(crate::specs::Words::is_special_class_form))]
 #[inline(always)]
 pub fn is_special_class_form(word: u32) -> bool
@@ -142,7 +144,7 @@ pub fn is_hangul_syllable(number: u32) -> bool
     0xAC00 <= number && number <= 0xD7A3
 }
 
-/// Whether a word reads as the character itself with class 0, whatever its flags.
+/// Returns whether a word reads as the character itself with class 0, whatever its flags.
 #[tactic(auto, unfolding(crate::specs::Words::is_plain))]
 #[inline(always)]
 pub fn is_plain(word: u32) -> bool
@@ -167,7 +169,7 @@ fn has_low_zeros(word: u32) -> bool
     word & 0xFFE0 == 0
 }
 
-/// The low byte of a word, the class of a class form.
+/// Returns the low byte of a word, the class of a class form.
 #[tactic(auto, unfolding(crate::specs::Words::low_byte))]
 #[inline(always)]
 pub fn low_byte(word: u32) -> u8
