@@ -26,7 +26,7 @@ use std::alloc::{AllocError, Global};
 use std::marker::Model;
 
 // The most bytes that one read returns.
-const BLOCK: usize = 65536;
+const BLOCK: usize = 32768;
 
 /// Bytes that were read, at the beginning of a buffer.
 #[derive(Drop)]

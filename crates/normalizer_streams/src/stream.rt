@@ -46,7 +46,7 @@ use std::alloc::Global;
 const LONGEST_SEQUENCE: usize = 4;
 
 /// Reads to the end, and writes the form of the text that all the bytes decode to, in the same scheme. Each maximal
-/// ill-formed subpart reads as U+FFFD. What no later byte can change is written after each block of 64 KiB at most, so
+/// ill-formed subpart reads as U+FFFD. What no later byte can change is written after each block of 32 KiB at most, so
 /// that only a run of characters without a boundary between them takes more memory.
 ///
 /// # Errors
