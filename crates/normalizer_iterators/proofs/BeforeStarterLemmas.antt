@@ -4,8 +4,6 @@ use Rattle.normal_forms.specs.Reading.{Reading, IsStarter, IsMark}
 use Rattle.normal_forms.specs.CompositionByStarters.{compose_after, compose_by_starters}
 use Rattle.normal_forms.proofs.ComposeLemmas.{compose_by_starters-nil, compose_by_starters-starter, compose_by_starters-mark}
 use Rattle.normalizer_text.specs.Steps.{Spells}
-use Rattle.normalizer_iterators.specs.declared.composition.Ahead.{Ahead}
-use Rattle.normalizer_iterators.specs.declared.composition.Ahead.TheVariants.{NoStarter, Passed, Starter}
 use Rattle.normalizer_iterators.specs.declared.composition.Composition.{Composition}
 use Rattle.normalizer_iterators.specs.declared.decomposition.Decomposition.{Decomposition}
 use Rattle.normalizer_iterators.specs.declared.error.NormalizeError.{NormalizeError}
@@ -15,7 +13,7 @@ use Rattle.normalizer_iterators.specs.NextItem.{GaveFirst}
 use Rattle.normalizer_iterators.specs.StayingMarks.{staying}
 use Rattle.normalizer_iterators.specs.MarkRuns.{HasShortMarkRuns}
 use Rattle.normalizer_iterators.specs.inner.Passing.{PassesOn}
-use Rattle.normalizer_iterators.specs.Composing.{composed_ahead, ahead_left, IsBeforeStarter, GivesShort}
+use Rattle.normalizer_iterators.specs.Composing.{composed_ahead, ahead_left, GivesShort}
 use Rattle.normalizer_iterators.specs.Composition.{ComposesOn, CompositionSteps, WillGive, items_left, pairing_by}
 use Rattle.normalizer_iterators.proofs.MarkRunLemmas.{HasShortMarkRuns-rest}
 use Rattle.normalizer_iterators.proofs.DecompositionLemmas.{items_left-ended}
@@ -25,21 +23,11 @@ use Rattle.normalizer_tables.specs.declared.characters.IgnoredCharacters.TheVari
 use Rattle.normalizer_iterators.proofs.CompositionLemmas.{Becomes, WillGive-by, WillGive-parts, WillGive-end, StaysShort-by, items_left-by, CameFirst-composed, IsEnded-parts}
 
 module _ {I : Type 0} (from : Source I) where
-  composed_before : (d : Reading) (ahead : Ahead) → IsBeforeStarter ahead → (y : List ℕ) → composed_ahead d ahead y ≡ compose_by_starters d y
-  composed_before d NoStarter before y = refl
-  composed_before d Passed before y = refl
-  composed_before d (Starter a) before y = absurd before
-
-  left_before : (ahead : Ahead) → IsBeforeStarter ahead → (n : ℕ) → ahead_left ahead n ≡ n
-  left_before NoStarter before n = refl
-  left_before Passed before n = refl
-  left_before (Starter a) before n = absurd before
-
-  module _ (s : Composition I) (before : IsBeforeStarter s.ahead) (none : staying s.marks ≡ []) where
+  module _ (s : Composition I) (before : s.ahead ≡ None) (none : staying s.marks ≡ []) where
     text_before : (out : List ℕ) (h : WillGive (Spells from.next_gives) s out) → out ≡ compose_by_starters (pairing_by s) h.unread
     text_before out h =
         let d = pairing_by s in
-        h.text ∙ ap (λ l. staying s.marks ++ l) (composed_before d s.ahead before h.unread) ∙ ap (λ l. l ++ compose_by_starters d h.unread) none
+        h.text ∙ ap (λ l. staying s.marks ++ l) (ap (λ a. composed_ahead d a h.unread) before) ∙ ap (λ l. l ++ compose_by_starters d h.unread) none
 
     -- what the decomposition may yield is composed
     may_come : (Comes : I → List ℕ → Type 0) (y out : List ℕ) → decomposition.WillGive Comes s.decomposed y → compose_by_starters (pairing_by s) y ≡ out → WillGive Comes s out
@@ -48,11 +36,11 @@ module _ {I : Type 0} (from : Source I) where
         record {
           unread = y;
           source = h;
-          text = sym (ap (λ l. staying s.marks ++ l) (composed_before d s.ahead before y) ∙ ap (λ l. l ++ compose_by_starters d y) none ∙ composed);
+          text = sym (ap (λ l. staying s.marks ++ l) (ap (λ a. composed_ahead d a y) before) ∙ ap (λ l. l ++ compose_by_starters d y) none ∙ composed);
         }
 
     left_in_source : items_left from.remaining s ≡ decomposition.items_left from.remaining s.decomposed
-    left_in_source = omega (arith, ap length none, left_before s.ahead before (decomposition.items_left from.remaining s.decomposed))
+    left_in_source = omega (arith, ap length none, ap (λ a. ahead_left a (decomposition.items_left from.remaining s.decomposed)) before)
 
     -- a starter is next
     pub Steps-first_starter : (c : ℕ) (n : Decomposition I) (r : Result ℕ NormalizeError) (t : Composition I) → decomposition.DecompositionSteps from s.decomposed (Some (Ok c)) n
@@ -80,7 +68,7 @@ module _ {I : Type 0} (from : Source I) where
         }
 
     module _ (t : Composition I) where
-      pub Steps-fault : (e : NormalizeError) → Becomes s [] NoStarter t → decomposition.DecompositionSteps from s.decomposed (Some (Err e)) t.decomposed
+      pub Steps-fault : (e : NormalizeError) → Becomes s [] None t → decomposition.DecompositionSteps from s.decomposed (Some (Err e)) t.decomposed
           → CompositionSteps from s (Some (Err e)) t
       Steps-fault e parts step = record {
         item = record {
@@ -93,10 +81,10 @@ module _ {I : Type 0} (from : Source I) where
         came = λ k. tt;
         ready = step.ready;
         kept = parts.kept;
-        fewer = omega (arith, step.fewer, left_in_source, items_left-by from s t [] NoStarter parts);
+        fewer = omega (arith, step.fewer, left_in_source, items_left-by from s t [] None parts);
       }
 
-      pub Steps-end : Becomes s [] NoStarter t → decomposition.DecompositionSteps from s.decomposed None t.decomposed → CompositionSteps from s None t
+      pub Steps-end : Becomes s [] None t → decomposition.DecompositionSteps from s.decomposed None t.decomposed → CompositionSteps from s None t
       Steps-end parts step =
           let d = pairing_by s in
           record {
@@ -105,7 +93,7 @@ module _ {I : Type 0} (from : Source I) where
                   let end = step.item.first h.unread h.source in
                   (text_before out h ∙ ap (compose_by_starters d) end.0 ∙ compose_by_starters-nil d, WillGive-end from s t parts step.item.ends);
               fault = tt;
-              room = λ h. (tt, StaysShort-by from s t [] NoStarter parts (GivesShort-end from d s.decomposed t.decomposed step h));
+              room = λ h. (tt, StaysShort-by from s t [] None parts (GivesShort-end from d s.decomposed t.decomposed step h));
               ends = IsEnded-parts from s t parts step.item.ends;
               stays = λ h. refl;
             };
@@ -116,7 +104,7 @@ module _ {I : Type 0} (from : Source I) where
           }
 
       -- a character is given as it is
-      pub Steps-passed : (c : ℕ) → Becomes s [] Passed t → PassesOn from s.pairs.now s.decomposed c t.decomposed → CompositionSteps from s (Some (Ok c)) t
+      pub Steps-passed : (c : ℕ) → Becomes s [] None t → PassesOn from s.pairs.now s.decomposed c t.decomposed → CompositionSteps from s (Some (Ok c)) t
       Steps-passed c parts on =
           let d = pairing_by s in
           record {
@@ -125,13 +113,13 @@ module _ {I : Type 0} (from : Source I) where
                   let next = on.text h.unread h.source in (
                     compose_by_starters d next.1,
                     text_before out h ∙ next.3,
-                    WillGive-by from s t [] Passed parts _ (record { unread = next.1; source = next.4; text = refl }),
+                    WillGive-by from s t [] None parts _ (record { unread = next.1; source = next.4; text = refl }),
                   );
               fault = tt;
               room = λ h.
                   let next = on.text h.unread h.source in (
                     refl,
-                    StaysShort-by from s t [] Passed parts (record {
+                    StaysShort-by from s t [] None parts (record {
                       unread = next.1;
                       source = next.4;
                       short = on.short h.short;
@@ -142,16 +130,16 @@ module _ {I : Type 0} (from : Source I) where
               stays = λ h. absurd (omega (arith, on.fewer, items_left-ended from s.decomposed h.2));
             };
             came = λ e out h.
-                let b = WillGive-parts from (MayGive from.next_gives e) s t [] Passed parts out h in
+                let b = WillGive-parts from (MayGive from.next_gives e) s t [] None parts out h in
                 let y = on.came e b.unread b.source in
                 may_come (MayGive from.next_gives e) y.0 (c ∷ out) y.1 (y.2 ∙ ap (λ l. c ∷ l) (sym b.text));
             ready = λ _. on.ready;
             kept = parts.kept;
-            fewer = omega (arith, on.fewer, left_in_source, items_left-by from s t [] Passed parts);
+            fewer = omega (arith, on.fewer, left_in_source, items_left-by from s t [] None parts);
           }
 
       -- a mark is given before any starter
-      pub Steps-leading_mark : (c : ℕ) → Becomes s [] NoStarter t → decomposition.DecompositionSteps from s.decomposed (Some (Ok c)) t.decomposed → IsMark (pairing_by s) c
+      pub Steps-leading_mark : (c : ℕ) → Becomes s [] None t → decomposition.DecompositionSteps from s.decomposed (Some (Ok c)) t.decomposed → IsMark (pairing_by s) c
           → CompositionSteps from s (Some (Ok c)) t
       Steps-leading_mark c parts step mark =
           let d = pairing_by s in
@@ -161,18 +149,18 @@ module _ {I : Type 0} (from : Source I) where
                   let next = step.item.first h.unread h.source in (
                     compose_by_starters d next.0,
                     text_before out h ∙ ap (compose_by_starters d) next.1 ∙ compose_by_starters-mark d c next.0 mark,
-                    WillGive-by from s t [] NoStarter parts _ (record { unread = next.0; source = next.2; text = refl }),
+                    WillGive-by from s t [] None parts _ (record { unread = next.0; source = next.2; text = refl }),
                   );
               fault = tt;
-              room = λ h. (refl, StaysShort-by from s t [] NoStarter parts (GivesShort-next from d s.decomposed c t.decomposed step h).0);
+              room = λ h. (refl, StaysShort-by from s t [] None parts (GivesShort-next from d s.decomposed c t.decomposed step h).0);
               ends = tt;
               stays = λ h. cc (step.item.stays h.2);
             };
             came = λ e out h.
-                let b = WillGive-parts from (MayGive from.next_gives e) s t [] NoStarter parts out h in
+                let b = WillGive-parts from (MayGive from.next_gives e) s t [] None parts out h in
                 may_come (MayGive from.next_gives e) (c ∷ b.unread) (c ∷ out) (step.came e b.unread b.source)
                 (compose_by_starters-mark d c b.unread mark ∙ ap (λ l. c ∷ l) (sym b.text));
             ready = step.ready;
             kept = parts.kept;
-            fewer = omega (arith, step.fewer, left_in_source, items_left-by from s t [] NoStarter parts);
+            fewer = omega (arith, step.fewer, left_in_source, items_left-by from s t [] None parts);
           }

@@ -4,8 +4,6 @@ use Rattle.std.specs.Iterator.{at_most, MakesProgress}
 use Rattle.normal_forms.specs.Reading.{Reading}
 use Rattle.normal_forms.specs.CompositionByStarters.{compose_after}
 use Rattle.normalizer_text.specs.Steps.{Spells}
-use Rattle.normalizer_iterators.specs.declared.composition.Ahead.{Ahead}
-use Rattle.normalizer_iterators.specs.declared.composition.Ahead.TheVariants.{NoStarter, Starter}
 use Rattle.normalizer_iterators.specs.declared.composition.Composition.{Composition}
 use Rattle.normalizer_iterators.specs.declared.decomposition.Decomposition.{Decomposition}
 use Rattle.normalizer_iterators.specs.declared.error.NormalizeError.{NormalizeError}
@@ -14,7 +12,7 @@ use Rattle.normalizer_iterators.specs.Decomposition as decomposition
 use Rattle.normalizer_iterators.specs.Delegate.{Extent, MayGive, Source}
 use Rattle.normalizer_iterators.specs.NextItem.{CameFirst, GaveFirst}
 use Rattle.normalizer_iterators.specs.StayingMarks.{staying}
-use Rattle.normalizer_iterators.specs.Composing.{composed_ahead, ahead_left, IsBeforeStarter, WillGiveBehind, GivesShort, ComposesStarter}
+use Rattle.normalizer_iterators.specs.Composing.{composed_ahead, ahead_left, WillGiveBehind, GivesShort, ComposesStarter}
 use Rattle.normalizer_iterators.specs.Composition.{CanCompose, ComposesOn, CompositionSteps, IsEnded, StaysShort, WillGive, items_left, pairing_by}
 use Rattle.normal_forms.proofs.ComposeLemmas.{compose_by_starters-nil}
 use Rattle.normalizer_iterators.proofs.DecompositionLemmas.{ended, items_left-ended}
@@ -24,7 +22,7 @@ use Rattle.normalizer_tables.specs.declared.characters.IgnoredCharacters.TheVari
 
 module _ {I : Type 0} where
   -- t has the data and the pairs of s; these marks stay, and this is ahead
-  pub record Becomes (s : Composition I) (front : List ℕ) (behind : Ahead) (t : Composition I) : Type 0 where
+  pub record Becomes (s : Composition I) (front : List ℕ) (behind : Option ℕ) (t : Composition I) : Type 0 where
     pub kept : (t.decomposed.characters ≡ s.decomposed.characters) × (t.pairs.now ≡ s.pairs.now)
     pub marks : staying t.marks ≡ front
     pub ahead : t.ahead ≡ behind
@@ -41,7 +39,7 @@ module _ {I : Type 0} where
 module _ {I : Type 0} (from : Source I) where
   -- ---- the same reading under another name
 
-  pub behind_by : (d e : Reading) (marks : List ℕ) (ahead : Ahead) (n : Decomposition I) (out : List ℕ) → d ≡ e → WillGiveBehind (Spells from.next_gives) e marks ahead n out
+  pub behind_by : (d e : Reading) (marks : List ℕ) (ahead : Option ℕ) (n : Decomposition I) (out : List ℕ) → d ≡ e → WillGiveBehind (Spells from.next_gives) e marks ahead n out
       → WillGiveBehind (Spells from.next_gives) d marks ahead n out
   behind_by d e marks ahead n out same h = subst (λ k. WillGiveBehind (Spells from.next_gives) k marks ahead n out) (sym same) h
 
@@ -53,14 +51,14 @@ module _ {I : Type 0} (from : Source I) where
   pairing_by-kept : (s t : Composition I) → (t.decomposed.characters ≡ s.decomposed.characters) × (t.pairs.now ≡ s.pairs.now) → pairing_by t ≡ pairing_by s
   pairing_by-kept s t kept = ap (λ k. reading_by k Dropped t.pairs.now) kept.0 ∙ ap (reading_by s.decomposed.characters Dropped) kept.1
 
-  pub WillGive-by : (s t : Composition I) (front : List ℕ) (behind : Ahead) → Becomes s front behind t → (out : List ℕ)
+  pub WillGive-by : (s t : Composition I) (front : List ℕ) (behind : Option ℕ) → Becomes s front behind t → (out : List ℕ)
       → WillGiveBehind (Spells from.next_gives) (pairing_by s) front behind t.decomposed out → WillGive (Spells from.next_gives) t out
   WillGive-by s t front behind parts out h =
       behind_by (pairing_by t) (pairing_by s) (staying t.marks) t.ahead t.decomposed out (pairing_by-kept s t parts.kept)
       (subst (λ l. WillGiveBehind (Spells from.next_gives) (pairing_by s) l t.ahead t.decomposed out) (sym parts.marks)
       (subst (λ a. WillGiveBehind (Spells from.next_gives) (pairing_by s) front a t.decomposed out) (sym parts.ahead) h))
 
-  pub WillGive-parts : (Comes : I → List ℕ → Type 0) (s t : Composition I) (front : List ℕ) (behind : Ahead) → Becomes s front behind t → (out : List ℕ)
+  pub WillGive-parts : (Comes : I → List ℕ → Type 0) (s t : Composition I) (front : List ℕ) (behind : Option ℕ) → Becomes s front behind t → (out : List ℕ)
       → WillGive Comes t out → WillGiveBehind Comes (pairing_by s) front behind t.decomposed out
   WillGive-parts Comes s t front behind parts out h =
       subst (λ a. WillGiveBehind Comes (pairing_by s) front a t.decomposed out) parts.ahead
@@ -81,23 +79,23 @@ module _ {I : Type 0} (from : Source I) where
   CameFirst-composed s t e n d a (Ok c) on back = λ out h. let y = on out h in back y.0 (c ∷ out) y.1 y.2
   CameFirst-composed s t e n d a (Err k) on back = tt
 
-  pub StaysShort-by : (s t : Composition I) (front : List ℕ) (behind : Ahead) → Becomes s front behind t → GivesShort from.next_gives (pairing_by s) t.decomposed → StaysShort from.next_gives t
+  pub StaysShort-by : (s t : Composition I) (front : List ℕ) (behind : Option ℕ) → Becomes s front behind t → GivesShort from.next_gives (pairing_by s) t.decomposed → StaysShort from.next_gives t
   StaysShort-by s t front behind parts h = short_by (pairing_by t) (pairing_by s) t.decomposed (pairing_by-kept s t parts.kept) h
 
-  pub items_left-by : (s t : Composition I) (front : List ℕ) (behind : Ahead) → Becomes s front behind t → items_left from.remaining t ≡ length front + ahead_left behind (decomposition.items_left from.remaining t.decomposed)
+  pub items_left-by : (s t : Composition I) (front : List ℕ) (behind : Option ℕ) → Becomes s front behind t → items_left from.remaining t ≡ length front + ahead_left behind (decomposition.items_left from.remaining t.decomposed)
   items_left-by s t front behind parts = rw (parts.marks, parts.ahead) refl
 
   -- nothing is to come
-  pub WillGive-end : (s t : Composition I) → Becomes s [] NoStarter t → decomposition.IsEnded t.decomposed → WillGive (Spells from.next_gives) t []
-  WillGive-end s t parts end = WillGive-by s t [] NoStarter parts []
+  pub WillGive-end : (s t : Composition I) → Becomes s [] None t → decomposition.IsEnded t.decomposed → WillGive (Spells from.next_gives) t []
+  WillGive-end s t parts end = WillGive-by s t [] None parts []
       (record { unread = []; source = ended from (Spells from.next_gives) t.decomposed end.0 end.1; text = sym (compose_by_starters-nil (pairing_by s)) })
 
-  pub IsEnded-parts : (s t : Composition I) → Becomes s [] NoStarter t → decomposition.IsEnded t.decomposed → IsEnded t
-  IsEnded-parts s t parts end = (subst IsBeforeStarter (sym parts.ahead) tt, parts.marks, end)
+  pub IsEnded-parts : (s t : Composition I) → Becomes s [] None t → decomposition.IsEnded t.decomposed → IsEnded t
+  IsEnded-parts s t parts end = (parts.ahead, parts.marks, end)
 
   -- ---- a starter is composed, or a fault comes
 
-  pub ComposesOn-given : (starter : ℕ) (s t : Composition I) (composite : ℕ) (marks : List ℕ) (ahead : Ahead) → Becomes s marks ahead t
+  pub ComposesOn-given : (starter : ℕ) (s t : Composition I) (composite : ℕ) (marks : List ℕ) (ahead : Option ℕ) → Becomes s marks ahead t
       → ComposesStarter from.next_gives from.remaining (pairing_by s) starter s.decomposed composite marks ahead t.decomposed → CanCompose from.can_next from.remaining t
       → ComposesOn from starter s.decomposed s.pairs.now (Ok composite) t
   ComposesOn-given starter s t composite marks ahead parts composes ready = record {
@@ -111,7 +109,7 @@ module _ {I : Type 0} (from : Source I) where
     kept = parts.kept;
   }
 
-  pub ComposesOn-fault : (starter : ℕ) (s t : Composition I) (e : NormalizeError) → Becomes s [] NoStarter t → decomposition.IsEnded t.decomposed → e ≡ Memory
+  pub ComposesOn-fault : (starter : ℕ) (s t : Composition I) (e : NormalizeError) → Becomes s [] None t → decomposition.IsEnded t.decomposed → e ≡ Memory
       → (GivesShort from.next_gives (pairing_by s) s.decomposed → ⊥) → ComposesOn from starter s.decomposed s.pairs.now (Err e) t
   ComposesOn-fault starter s t e parts end memory long = record {
     first = λ y h. WillGive-end s t parts end;
@@ -120,7 +118,7 @@ module _ {I : Type 0} (from : Source I) where
     room = λ h. absurd (long h);
     ends = IsEnded-parts s t parts end;
     ready = rw end.0 tt;
-    fewer = omega (arith, items_left-by s t [] NoStarter parts, items_left-ended from t.decomposed end);
+    fewer = omega (arith, items_left-by s t [] None parts, items_left-ended from t.decomposed end);
     kept = parts.kept;
   }
 
@@ -154,7 +152,7 @@ module _ {I : Type 0} (from : Source I) where
 
   -- ---- there is a starter
 
-  pub Steps-starter : (s t : Composition I) (a : ℕ) (r : Result ℕ NormalizeError) → staying s.marks ≡ [] → ComposesOn from a s.decomposed s.pairs.now r t → s.ahead ≡ Starter a
+  pub Steps-starter : (s t : Composition I) (a : ℕ) (r : Result ℕ NormalizeError) → staying s.marks ≡ [] → ComposesOn from a s.decomposed s.pairs.now r t → s.ahead ≡ Some a
       → CompositionSteps from s (Some r) t
   Steps-starter s t a r none on is =
       let d = pairing_by s in
@@ -166,7 +164,7 @@ module _ {I : Type 0} (from : Source I) where
           fault = on.fault;
           room = on.room;
           ends = on.ends;
-          stays = λ h. absurd (subst IsBeforeStarter is h.0);
+          stays = λ h. cc (h.0, is);
         };
         came = λ e. CameFirst-composed s t e s.decomposed d a r (on.came e) (λ y out h composed. record {
           unread = y;
@@ -208,7 +206,7 @@ module _ {I : Type 0} (from : Source I) where
         fault = step.item.fault;
         room = λ h. step.item.room (StaysShort-by s u [] s.ahead without_marks (rw same.decomposed h));
         ends = step.item.ends;
-        stays = λ h. step.item.stays (subst IsBeforeStarter (sym same.ahead) h.0, none_left, subst decomposition.IsEnded (sym same.decomposed) h.2);
+        stays = λ h. step.item.stays (same.ahead ∙ h.0, none_left, subst decomposition.IsEnded (sym same.decomposed) h.2);
       };
       came = λ e. CameFirst-by (WillGive (MayGive from.next_gives e)) s u r t (without_marks_back (MayGive from.next_gives e)) (step.came e);
       ready = λ h. step.ready (rw same.decomposed h);

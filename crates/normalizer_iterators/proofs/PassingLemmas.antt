@@ -1,5 +1,5 @@
 -- Characters that a composing loop passes, in a text that is decomposed.
-use Rattle.std.proofs.Common.{◌≡◌, ℕ, ◌+◌, ◌*◌, ◌<◌, Bool, false, List, [], ◌∷◌, ◌++◌, length, refl, sym, ap, ◌∙◌, subst, arith, Option, Some, None, OnSome, MatchOption, option_to_list}
+use Rattle.std.proofs.Common.{◌≡◌, ℕ, ◌+◌, ◌*◌, ◌<◌, Bool, false, List, [], ◌∷◌, ◌++◌, length, refl, sym, ap, ◌∙◌, subst, arith, Option, Some, None, OnSome, MatchOption, option_to_list, Result, Ok, Err}
 use Rattle.std.proofs.Common.{append-nil}
 use Rattle.std.specs.Option.{ForSome}
 use Rattle.std.specs.Iterator.{size, IsFinite}
@@ -21,12 +21,15 @@ use Rattle.normalizer_tables.specs.Characters.{Characters, has_class_form}
 use Rattle.normalizer_tables.specs.Pairs.{Pair}
 use Rattle.normalizer_tables.specs.Readings.{reading_by}
 use Rattle.normalizer_tables.specs.declared.characters.IgnoredCharacters.TheVariants.{Dropped}
+use Rattle.normalizer_iterators.specs.declared.composition.passing.Given.{Given}
+use Rattle.normalizer_iterators.specs.declared.composition.passing.Given.TheVariants.{Itself, FirstMember}
 use Rattle.normalizer_iterators.specs.declared.decomposition.Decomposition.{Decomposition}
+use Rattle.normalizer_iterators.specs.declared.error.NormalizeError.{NormalizeError}
 use Rattle.normalizer_iterators.specs.Delegate.{ComesBehind, Extent, IsReadyBehind, MayGive, SpellsBehind, Source}
 use Rattle.normalizer_iterators.specs.Decomposition.{StaysShort, WillGive, pending_of, reading_of}
 use Rattle.normalizer_iterators.specs.LazyComposing.{IsPassed, StandsApart, StandsApartIn, PassedBeginAnew, SuitsLazyComposing}
 use Rattle.normalizer_iterators.specs.LazyReading.{longest_list}
-use Rattle.normalizer_iterators.specs.inner.Passing.{AllPassed, StandsAtPassed, IsAtPassed, PassesOn, YieldsStarter}
+use Rattle.normalizer_iterators.specs.inner.Passing.{AllPassed, StandsAtPassed, IsAtPassed, Passes, PassesOn, YieldsStarter}
 use Rattle.normalizer_iterators.specs.inner.ReadingOn.{ReadsChunk}
 use Rattle.normalizer_iterators.specs.ToCome.{IsToCome, reads_left}
 use Rattle.normalizer_iterators.specs.WaitingList.{ordered}
@@ -55,6 +58,13 @@ first_passed s b (Some c) h = h
 
 pub IsAtPassed-stands : {I : Type 0} (b : Bounds) (pairs : List Pair) (s : Decomposition I) → SuitsLazyComposing s.characters b pairs → StandsAtPassed b s → IsAtPassed pairs s
 IsAtPassed-stands b pairs s suits stands = record { waiting = stands.0; apart = all_apart s.characters b pairs suits s.ignored (pending_of s) (first_passed s.characters b (pending_of s) stands.1) }
+
+pub Passes-kept : {I : Type 0} (from : Source I) (pairs : List Pair) (s : Decomposition I) (r : Option (Result Given NormalizeError)) (t : Decomposition I) → Passes from pairs s r t
+    → t.characters ≡ s.characters
+Passes-kept from pairs s None t h = h.kept.0
+Passes-kept from pairs s (Some (Err e)) t h = h.kept.0
+Passes-kept from pairs s (Some (Ok (Itself c))) t h = h.kept
+Passes-kept from pairs s (Some (Ok (FirstMember c))) t h = h.steps.kept.0
 
 -- ---- the composing form
 

@@ -6,7 +6,6 @@ use Rattle.normal_forms.specs.Boundary.{BeginsSafely}
 use Rattle.normal_forms.specs.ShortRuns.{places}
 use Rattle.normal_forms.proofs.ComposeLemmas.{starter_or_mark, compose_after-nil, compose_after-join, compose_after-starter, compose_after-mark, compose_by_starters-nil}
 use Rattle.normalizer_text.specs.Steps.{Spells}
-use Rattle.normalizer_iterators.specs.declared.composition.Ahead.TheVariants.{NoStarter, Starter, Passed}
 use Rattle.normalizer_iterators.specs.declared.decomposition.Decomposition.{Decomposition}
 use Rattle.normalizer_iterators.specs.declared.error.NormalizeError.{NormalizeError}
 use Rattle.normalizer_iterators.specs.declared.marks.StayingMarks.{StayingMarks}
@@ -138,9 +137,9 @@ module _ {I : Type 0} (from : Source I) (d : Reading) where
   pub ComposesStarter-starts : (starter : ℕ) (old : Decomposition I) (composite : ℕ) (now : Decomposition I) (marks : StayingMarks) (c : ℕ) (next : Decomposition I) (after : StayingMarks)
       → ComposedSoFar from d starter old composite now marks → decomposition.DecompositionSteps from now (Some (Ok c)) next
       → join d composite (staying marks) c ≡ None → IsStarter d c → after ≡ marks
-      → ComposesStarter from.next_gives from.remaining d starter old composite (staying after) (Starter c) next
+      → ComposesStarter from.next_gives from.remaining d starter old composite (staying after) (Some c) next
   ComposesStarter-starts starter old composite now marks c next after before step apart starts kept =
-      subst (λ m. ComposesStarter from.next_gives from.remaining d starter old composite (staying m) (Starter c) next) (sym kept) (record {
+      subst (λ m. ComposesStarter from.next_gives from.remaining d starter old composite (staying m) (Some c) next) (sym kept) (record {
         text = λ all h.
             let b = before.text all h in
             let first = step.item.first b.0 b.2 in (
@@ -166,7 +165,7 @@ module _ {I : Type 0} (from : Source I) (d : Reading) where
 
   pub ComposesStarter-ends : (starter : ℕ) (old : Decomposition I) (composite : ℕ) (now : Decomposition I) (marks : StayingMarks) (next : Decomposition I)
       → ComposedSoFar from d starter old composite now marks → decomposition.DecompositionSteps from now None next
-      → ComposesStarter from.next_gives from.remaining d starter old composite (staying marks) NoStarter next
+      → ComposesStarter from.next_gives from.remaining d starter old composite (staying marks) None next
   ComposesStarter-ends starter old composite now marks next before step = record {
     text = λ all h.
         let b = before.text all h in
@@ -189,7 +188,7 @@ module _ {I : Type 0} (from : Source I) (d : Reading) where
 
   -- what begins safely is not composed with what comes before it
   pub ComposesStarter-passes : (starter : ℕ) (old : Decomposition I) (composite : ℕ) (now : Decomposition I) (marks : StayingMarks) → ComposedSoFar from d starter old composite now marks
-      → ((Comes : I → List ℕ → Type 0) (y : List ℕ) → decomposition.WillGive Comes now y → BeginsSafely d y) → ComposesStarter from.next_gives from.remaining d starter old composite (staying marks) Passed now
+      → ((Comes : I → List ℕ → Type 0) (y : List ℕ) → decomposition.WillGive Comes now y → BeginsSafely d y) → ComposesStarter from.next_gives from.remaining d starter old composite (staying marks) None now
   ComposesStarter-passes starter old composite now marks before begins = record {
     text = λ all h.
         let b = before.text all h in (

@@ -8,8 +8,6 @@ use Rattle.normalizer_tables.specs.Characters.{Characters, class_of}
 use Rattle.normalizer_tables.specs.Pairs.{Pair, pair_of}
 use Rattle.normalizer_tables.specs.Readings.{reading_by}
 use Rattle.normalizer_text.specs.Steps.{Spells}
-use Rattle.normalizer_iterators.specs.declared.composition.Ahead.{Ahead}
-use Rattle.normalizer_iterators.specs.declared.composition.Ahead.TheVariants.{NoStarter, Passed, Starter}
 use Rattle.normalizer_iterators.specs.declared.composition.Visited.{Visited}
 use Rattle.normalizer_iterators.specs.declared.composition.Visited.TheVariants.{Joined, StartsAnew, Stays}
 use Rattle.normalizer_iterators.specs.declared.decomposition.Decomposition.{Decomposition}
@@ -41,27 +39,19 @@ abbrev pub IsJoinBy : List Pair → ℕ → StayingMarks → Classed → Option 
 IsJoinBy pairs a marks given r = (d : Reading) → BlocksBelow d marks → given.class ≡ d.class given.character
     → pair_of pairs a given.character ≡ d.pair a given.character → r ≡ join d a (staying marks) given.character
 
--- what the remaining characters compose to, after the marks that are yielded first
-abbrev pub composed_ahead : Reading → Ahead → List ℕ → List ℕ
-composed_ahead d NoStarter y = compose_by_starters d y
-composed_ahead d Passed y = compose_by_starters d y
-composed_ahead d (Starter a) y = compose_after d a [] y
+-- what the starter that was taken, if one was, and the remaining characters compose to
+abbrev pub composed_ahead : Reading → Option ℕ → List ℕ → List ℕ
+composed_ahead d None y = compose_by_starters d y
+composed_ahead d (Some a) y = compose_after d a [] y
 
 -- how many characters may come, if at most n are read
-abbrev pub ahead_left : Ahead → ℕ → ℕ
-ahead_left NoStarter n = n
-ahead_left Passed n = n
-ahead_left (Starter a) n = n + 1
-
--- there is no starter
-abbrev pub IsBeforeStarter : Ahead → Type 0
-IsBeforeStarter NoStarter = Unit {0}
-IsBeforeStarter Passed = Unit {0}
-IsBeforeStarter (Starter a) = ⊥
+abbrev pub ahead_left : Option ℕ → ℕ → ℕ
+ahead_left None n = n
+ahead_left (Some a) n = n + 1
 
 module _ {I : Type 0} where
   -- these characters, if memory suffices: some marks, and then what is ahead
-  pub record WillGiveBehind (Comes : I → List ℕ → Type 0) (d : Reading) (marks : List ℕ) (ahead : Ahead)
+  pub record WillGiveBehind (Comes : I → List ℕ → Type 0) (d : Reading) (marks : List ℕ) (ahead : Option ℕ)
       (s : Decomposition I) (out : List ℕ) : Type 0 where
     pub unread : List ℕ
     pub source : decomposition.WillGive Comes s unread
@@ -76,7 +66,7 @@ module _ {I : Type 0} where
 
   -- a starter became a composite by what followed it; the marks that stay come next, and then what is ahead
   pub record ComposesStarter (gives : I → Option ℕ → I → Type 0) (left : I → Count) (d : Reading) (starter : ℕ)
-      (old : Decomposition I) (composite : ℕ) (marks : List ℕ) (ahead : Ahead) (new : Decomposition I) : Type 0 where
+      (old : Decomposition I) (composite : ℕ) (marks : List ℕ) (ahead : Option ℕ) (new : Decomposition I) : Type 0 where
     pub text : (y : List ℕ) → decomposition.WillGive (Spells gives) old y → (rest : List ℕ)
         × (compose_after d starter [] y ≡ composite ∷ rest) × WillGiveBehind (Spells gives) d marks ahead new rest
     pub came : (e : Extent) (rest : List ℕ) → WillGiveBehind (MayGive gives e) d marks ahead new rest → (y : List ℕ)
@@ -86,7 +76,7 @@ module _ {I : Type 0} where
 
   -- the same using data and pairs
   abbrev pub ComposesStarterBy : (I → Option ℕ → I → Type 0) → (I → Count) → List Pair → ℕ → Decomposition I → ℕ
-      → List ℕ → Ahead → Decomposition I → Type 0
+      → List ℕ → Option ℕ → Decomposition I → Type 0
   ComposesStarterBy gives left pairs starter old =
       ComposesStarter gives left (reading_by old.characters Dropped pairs) starter old
 

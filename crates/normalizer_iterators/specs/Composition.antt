@@ -1,5 +1,5 @@
 -- What is still to come of a composition.
-use Rattle.std.specs.Prelude.{◌≡◌, ℕ, ◌+◌, ◌≤◌, List, [], ◌∷◌, ◌++◌, length, All, Option, Result, MatchResult}
+use Rattle.std.specs.Prelude.{◌≡◌, ℕ, ◌+◌, ◌≤◌, List, [], ◌∷◌, ◌++◌, length, All, Option, None, Result, MatchResult}
 use Rattle.std.specs.Prelude.{◌<◌, IfErr, IfOk, IfSome, IsOk, OnErr, OnSome}
 use Rattle.std.specs.Iterator.{Count}
 use Rattle.normal_forms.specs.Reading.{Reading}
@@ -17,7 +17,7 @@ use Rattle.normalizer_iterators.specs.declared.composition.Composition.{Composit
 use Rattle.normalizer_iterators.specs.declared.decomposition.Decomposition.{Decomposition}
 use Rattle.normalizer_iterators.specs.declared.error.NormalizeError.{NormalizeError}
 use Rattle.normalizer_iterators.specs.declared.error.NormalizeError.TheVariants.{Memory}
-use Rattle.normalizer_iterators.specs.Composing.{IsBeforeStarter, WillGiveBehind, GivesShort, ahead_left}
+use Rattle.normalizer_iterators.specs.Composing.{WillGiveBehind, GivesShort, ahead_left}
 use Rattle.normalizer_iterators.specs.Decomposition as decomposition
 use Rattle.normalizer_iterators.specs.Delegate.{Extent, MayGive, Source}
 use Rattle.normalizer_iterators.specs.NextItem.{CameFirst, GaveFirst, YieldsNext}
@@ -53,7 +53,7 @@ module _ {I : Type 0} where
 
   -- nothing is to come
   abbrev pub IsEnded : Composition I → Type 0
-  IsEnded s = IsBeforeStarter s.ahead × (staying s.marks ≡ []) × decomposition.IsEnded s.decomposed
+  IsEnded s = (s.ahead ≡ None) × (staying s.marks ≡ []) × decomposition.IsEnded s.decomposed
 
   -- the delegate may be called, and ends
   abbrev pub CanCompose : (I → Type 0) → (I → Count) → Composition I → Type 0

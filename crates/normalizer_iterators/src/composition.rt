@@ -1,5 +1,5 @@
 //! Composing text character by character (The Unicode Standard, D117, D120 and D121).
-ghost use Rattle.std.specs.Prelude.{◌≡◌, ◌<◌, ◌≤◌, ℕ, List, [], Option, IfErr, OnErr, IfOk};
+ghost use Rattle.std.specs.Prelude.{◌≡◌, ◌<◌, ◌≤◌, ℕ, List, [], Option, None, IfErr, OnErr, IfOk};
 ghost use Rattle.std.specs.Prelude.{IsOk, IsOkUnless};
 ghost use Rattle.std.specs.Iterator.{at_most, IsFinite, MakesProgress};
 ghost use Rattle.normal_forms.specs.Forms.{nfc};
@@ -9,7 +9,6 @@ ghost use Rattle.normalizer_tables.specs.Characters.{has_class_form};
 ghost use Rattle.normalizer_tables.specs.Pairs.{pair_of};
 ghost use Rattle.normalizer_tables.specs.Readings.{reading_by};
 ghost use Rattle.normalizer_text.specs.Steps.{Spells};
-ghost use Rattle.normalizer_iterators.specs.declared.composition.Ahead.TheVariants.{NoStarter, Passed};
 ghost use Rattle.normalizer_iterators.specs.Decomposition.{CanDecompose};
 ghost use Rattle.normalizer_iterators.specs.Delegate.{MayGive};
 ghost use Rattle.normalizer_iterators.specs.LazyComposing.{SuitsLazyComposing};
@@ -17,7 +16,7 @@ ghost use Rattle.normalizer_iterators.specs.inner.Passing.{IsAtPassed};
 ghost use Rattle.normalizer_iterators.specs.LazyReading.{SuitsLazyReading};
 ghost use Rattle.normalizer_iterators.specs.NextItem.{IsFormOfSource};
 ghost use Rattle.normalizer_iterators.specs.StayingMarks.{staying, used};
-ghost use Rattle.normalizer_iterators.specs.Composing.{ComposesStarterBy, HasVisitedBy, IsBeforeStarter, IsJoinBy};
+ghost use Rattle.normalizer_iterators.specs.Composing.{ComposesStarterBy, HasVisitedBy, IsJoinBy};
 ghost use Rattle.normalizer_iterators.specs.Composing.{IsRefused};
 ghost use Rattle.normalizer_iterators.specs.inner.ReadingOn.{IfShortRuns};
 
@@ -46,20 +45,9 @@ pub struct Composition<'data, I> {
     pairs: &'data CanonicalCompositions,
     bounds: Bounds,
     marks: StayingMarks,
-    ahead: Ahead,
+    /// The starter after the marks that stay, if one was taken from what is decomposed.
+    ahead: Option<char>,
     ghost suits: { SuitsLazyComposing decomposed.characters bounds pairs.now },
-    ghost passed: { ahead ≡ Passed → IsAtPassed pairs.now decomposed },
-}
-
-/// What comes after the marks that stay.
-#[derive(Clone, Copy)]
-enum Ahead {
-    /// What is decomposed, if any is left: no starter has come yet, or the end is reached.
-    NoStarter,
-    /// A character that is passed, not yet decomposed, if any is left.
-    Passed,
-    /// A starter, and what is decomposed after it.
-    Starter(char),
 }
 
 /// What happened to a character after a starter and the marks that stay.
@@ -116,7 +104,7 @@ impl<'data, I: Iterator<Item = char> + Drop> Composition<'data, I> {
             pairs,
             bounds,
             marks,
-            ahead: Ahead::NoStarter,
+            ahead: None,
         })
     }
 
@@ -149,7 +137,7 @@ impl<'data, I: Iterator<Item = char> + Drop> Composition<'data, I> {
             Err(error) => {
                 self.marks.clear();
                 self.decomposed.stop();
-                self.ahead = Ahead::NoStarter;
+                self.ahead = None;
                 Err(error)
             }
         }
@@ -160,27 +148,15 @@ impl<'data, I: Iterator<Item = char> + Drop> Composition<'data, I> {
     fn pass(&mut self) -> Option<Result<char, NormalizeError>>
         requires can { CanCompose I.can_next I.remaining self.old }
         requires marks { staying self.old.marks ≡ [] }
-        requires ahead { IsBeforeStarter self.old.ahead }
+        requires ahead { self.old.ahead ≡ None }
         requires at_passed { IsAtPassed self.old.pairs.now self.old.decomposed }
         ensures { CompositionSteps I.Iterator self.old result self.new }
     {
         match pass_next(&mut self.decomposed, self.bounds) {
-            Some(Ok(Given::Itself(character))) => {
-                self.ahead = Ahead::Passed;
-                Some(Ok(character))
-            }
-            Some(Ok(Given::FirstMember(starter))) => {
-                self.ahead = Ahead::NoStarter;
-                Some(self.compose_on(starter))
-            }
-            Some(Err(error)) => {
-                self.ahead = Ahead::NoStarter;
-                Some(Err(error))
-            }
-            None => {
-                self.ahead = Ahead::NoStarter;
-                None
-            }
+            Some(Ok(Given::Itself(character))) => Some(Ok(character)),
+            Some(Ok(Given::FirstMember(starter))) => Some(self.compose_on(starter)),
+            Some(Err(error)) => Some(Err(error)),
+            None => None,
         }
     }
 
@@ -189,7 +165,7 @@ impl<'data, I: Iterator<Item = char> + Drop> Composition<'data, I> {
     fn next_decomposed(&mut self) -> Option<Result<char, NormalizeError>>
         requires can { CanCompose I.can_next I.remaining self.old }
         requires marks { staying self.old.marks ≡ [] }
-        requires ahead { self.old.ahead ≡ NoStarter }
+        requires ahead { self.old.ahead ≡ None }
         ensures { CompositionSteps I.Iterator self.old result self.new }
     {
         match self.decomposed.next_with_class() {
@@ -214,33 +190,29 @@ impl<'data, I: Iterator<Item = char> + Drop> Composition<'data, I> {
         if let Some(mark) = self.marks.pop_front() {
             return Some(Ok(mark));
         }
-        match self.ahead {
-            Ahead::Starter(starter) => Some(self.compose_on(starter)),
-            Ahead::Passed => self.pass(),
-            Ahead::NoStarter => {
-                if is_at_passed(&self.decomposed, self.bounds) {
-                    return self.pass();
-                }
-                self.next_decomposed()
-            }
+        if let Some(starter) = self.ahead {
+            return Some(self.compose_on(starter));
         }
+        if is_at_passed(&self.decomposed, self.bounds) {
+            return self.pass();
+        }
+        self.next_decomposed()
     }
 }
 
 /// What a starter and the characters that follow it compose to, up to a character that is passed or the next starter
-/// that doesn't join; and what is ahead then, after the marks that stay.
+/// that doesn't join; and that starter, if there is one.
 fn compose_starter<I: Iterator<Item = char> + Drop>(
     decomposed: &mut Decomposition<'_, I>,
     pairs: &CanonicalCompositions,
     bounds: Bounds,
     marks: &mut StayingMarks,
     starter: char,
-) -> Result<(char, Ahead), NormalizeError>
+) -> Result<(char, Option<char>), NormalizeError>
     requires can { CanDecompose I.can_next I.remaining decomposed.old }
     requires suits { SuitsLazyComposing decomposed.old.characters bounds pairs.now }
     ensures ready { CanDecompose I.can_next I.remaining decomposed.new }
     ensures kept { decomposed.new.characters ≡ decomposed.old.characters }
-    ensures passed { IfOk result (λ r. r.1 ≡ Ahead.Passed → IsAtPassed pairs.now decomposed.new) }
     ensures ok { IfOk result (λ r. ComposesStarterBy I.next_gives I.remaining pairs.now starter decomposed.old r.0
         (staying marks.new) r.1 decomposed.new) }
     ensures err { IfErr result (IsRefused I.next_gives pairs.now decomposed.old) }
@@ -249,7 +221,7 @@ fn compose_starter<I: Iterator<Item = char> + Drop>(
     marks.clear();
     while !is_at_passed(decomposed, bounds) {
         let Some(item) = decomposed.next_with_class() else {
-            return Ok((composite, Ahead::NoStarter));
+            return Ok((composite, None));
         };
         let given = match item {
             Ok(given) => given,
@@ -257,12 +229,12 @@ fn compose_starter<I: Iterator<Item = char> + Drop>(
         };
         match visit(pairs, marks, composite, given) {
             Ok(Visited::Joined(joined)) => composite = joined,
-            Ok(Visited::StartsAnew) => return Ok((composite, Ahead::Starter(given.character))),
+            Ok(Visited::StartsAnew) => return Ok((composite, Some(given.character))),
             Ok(Visited::Stays) => {}
             Err(_) => return Err(NormalizeError::Memory),
         }
     }
-    Ok((composite, Ahead::Passed))
+    Ok((composite, None))
 }
 
 /// Joins a character with a starter if none of the marks between them blocks it and the two compose; else a mark stays.

@@ -71,9 +71,3 @@ returns-clause-ok g c =
     ComposesStarter-passes g.I.Iterator _ _ _ _ c.loop-bounds.decomposed _ before
     (λ Comes y h. subst (λ k. BeginsSafely (reading_by k Dropped c.args.pairs.now) y) same
     (BeginsSafely-to_come g.I.Iterator c.args.pairs.now c.loop-bounds.decomposed here Comes y h))
-
-pub returns-clause-passed : goal.returns-clause-passed
-returns-clause-passed g c = λ _.
-    let same = c.loop-bounds.invariant.kept in
-    let suits = subst (λ k. SuitsLazyComposing k c.args.bounds c.args.pairs.now) (sym same) c.requires.suits in
-    IsAtPassed-stands c.args.bounds c.args.pairs.now c.loop-bounds.decomposed suits (c.is_at_passed.ensures.0 c.loop-bounds-test.false)

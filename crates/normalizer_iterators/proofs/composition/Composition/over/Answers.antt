@@ -1,4 +1,4 @@
-use Rattle.std.proofs.Common.{◌++◌, ap, sym, ◌∙◌, []}
+use Rattle.std.proofs.Common.{◌++◌, None, ap, sym, ◌∙◌, []}
 use Rattle.normal_forms.specs.Forms.{nfd}
 use Rattle.normal_forms.specs.CompositionByStarters.{compose_by_starters}
 use Rattle.normalizer_tables.specs.Characters.{has_class_form}
@@ -6,7 +6,6 @@ use Rattle.normalizer_tables.specs.Readings.{reading_by}
 use Rattle.normalizer_tables.specs.declared.characters.IgnoredCharacters.TheVariants.{Dropped}
 use Rattle.normalizer_iterators.proofs.ComposingLemmas.{nfc-reading_by, HasShortMarkRuns-reading_by}
 use Rattle.normalizer_iterators.proofs.ShortChunkLemmas.{HasShortMarkRuns-nfd}
-use Rattle.normalizer_iterators.specs.declared.composition.Ahead.TheVariants.{NoStarter}
 use Rattle.normalizer_iterators.proofs.CompositionLemmas.{behind_by, short_by}
 use Rattle.normalizer_iterators.proofs.composition.Composition.over.Goals as goal
 
@@ -16,7 +15,7 @@ returns-clause-text g c = λ x spelled.
     let ignored = c.args.ignored in
     let pairs = c.args.pairs.now in
     let y = nfd (reading_by s ignored []) x in
-    behind_by g.I.Iterator _ (reading_by s Dropped pairs) _ NoStarter _ _
+    behind_by g.I.Iterator _ (reading_by s Dropped pairs) _ None _ _
     (ap (λ k. reading_by k Dropped pairs) c.in_ok-over.ensures.kept.0) (record {
       unread = y;
       source = c.in_ok-over.ensures.text x spelled;

@@ -1,6 +1,6 @@
 use Rattle.std.proofs.Common.{refl}
 use Rattle.normalizer_iterators.proofs.BeforeStarterLemmas.{Steps-fault, Steps-end, Steps-first_starter, Steps-passed}
-use Rattle.normalizer_iterators.proofs.PassingLemmas.{begins_anew}
+use Rattle.normalizer_iterators.proofs.PassingLemmas.{begins_anew, Passes-kept}
 use Rattle.normalizer_iterators.proofs.composition.Composition.pass.Goals as goal
 
 pub pass_next-requires : goal.pass_next-requires
@@ -20,14 +20,12 @@ returns-in-Some-Ok-Itself g c =
     let reached = rw c.in-Some-Ok-Itself.field-0-is at c.in-Some-Ok-Itself.ensures s.pairs.now s.suits c.requires.at_passed in
     let given = rw c.in-Some-Ok-Itself.field-0-0-is at reached in
     Steps-passed g.I.Iterator s c.requires.ahead c.requires.marks _ c.in-Some-Ok-Itself.character
-    (record { kept = (given.kept, refl); marks = c.requires.marks; ahead = refl }) given
+    (record { kept = (given.kept, refl); marks = c.requires.marks; ahead = c.requires.ahead }) given
 
 pub invariant_of-self : goal.invariant_of-self
 invariant_of-self g c =
     let s = c.args.self.now in
-    let reached = rw c.in-Some-Ok-Itself.field-0-is at c.in-Some-Ok-Itself.ensures s.pairs.now s.suits c.requires.at_passed in
-    let given = rw c.in-Some-Ok-Itself.field-0-0-is at reached in
-    record { suits = rw given.kept s.suits; passed = λ is. given.at_passed }
+    record { suits = rw (Passes-kept g.I.Iterator s.pairs.now s.decomposed _ _ (c.pass_next.ensures s.pairs.now s.suits c.requires.at_passed)) s.suits }
 
 -- ---- the first member of its list is composed
 
@@ -37,13 +35,6 @@ compose_on-requires g c =
     let reached = rw c.in-Some-Ok-FirstMember.field-0-is at c.in-Some-Ok-FirstMember.ensures s.pairs.now s.suits c.requires.at_passed in
     let given = rw c.in-Some-Ok-FirstMember.field-0-0-is at reached in
     given.steps.ready c.requires.can
-
-pub invariant_of-self-in-Some-Ok-FirstMember : goal.invariant_of-self-in-Some-Ok-FirstMember
-invariant_of-self-in-Some-Ok-FirstMember g c =
-    let s = c.args.self.now in
-    let reached = rw c.in-Some-Ok-FirstMember.field-0-is at c.in-Some-Ok-FirstMember.ensures s.pairs.now s.suits c.requires.at_passed in
-    let given = rw c.in-Some-Ok-FirstMember.field-0-0-is at reached in
-    record { suits = rw given.steps.kept.0 s.suits; passed = λ is. cc is }
 
 pub returns-in-Some-Ok-FirstMember : goal.returns-in-Some-Ok-FirstMember
 returns-in-Some-Ok-FirstMember g c =
@@ -60,23 +51,11 @@ returns-in-Some-Err g c =
     let s = c.args.self.now in
     let reached = rw c.in-Some-Err.field-0-is at c.in-Some-Err.ensures s.pairs.now s.suits c.requires.at_passed in
     Steps-fault g.I.Iterator s c.requires.ahead c.requires.marks _ c.in-Some-Err.error
-    (record { kept = (reached.kept.0, refl); marks = c.requires.marks; ahead = refl }) reached
-
-pub invariant_of-self-in-Some-Err : goal.invariant_of-self-in-Some-Err
-invariant_of-self-in-Some-Err g c =
-    let s = c.args.self.now in
-    let reached = rw c.in-Some-Err.field-0-is at c.in-Some-Err.ensures s.pairs.now s.suits c.requires.at_passed in
-    record { suits = rw reached.kept.0 s.suits; passed = λ is. cc is }
+    (record { kept = (reached.kept.0, refl); marks = c.requires.marks; ahead = c.requires.ahead }) reached
 
 pub returns-in-None : goal.returns-in-None
 returns-in-None g c =
     let s = c.args.self.now in
     let end = c.in-None.ensures s.pairs.now s.suits c.requires.at_passed in
     Steps-end g.I.Iterator s c.requires.ahead c.requires.marks _
-    (record { kept = (end.kept.0, refl); marks = c.requires.marks; ahead = refl }) end
-
-pub invariant_of-self-in-None : goal.invariant_of-self-in-None
-invariant_of-self-in-None g c =
-    let s = c.args.self.now in
-    let end = c.in-None.ensures s.pairs.now s.suits c.requires.at_passed in
-    record { suits = rw end.kept.0 s.suits; passed = λ is. cc is }
+    (record { kept = (end.kept.0, refl); marks = c.requires.marks; ahead = c.requires.ahead }) end
