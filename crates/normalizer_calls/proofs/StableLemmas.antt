@@ -19,6 +19,7 @@ use Rattle.normal_forms.proofs.OrderLemmas.{IsOrdered, IsOrdered-head, IsOrdered
 use Rattle.normal_forms.proofs.VisitLemmas.{compose_is_by_starters}
 use Rattle.normalizer_iterators.proofs.InOrderLemmas.{NeighboursFit}
 use Rattle.normalizer_iterators.proofs.ReadingLemmas.{drop_member}
+use Rattle.normalizer_calls.specs.inner.Kept.{HasBase, IsFirstOfTwo}
 use Rattle.normalizer_calls.specs.inner.Passing.{ComposesTo, IsStableStarter}
 
 -- ---- order
@@ -117,6 +118,22 @@ module _ (d : Reading) (results : HasStarterResults d) (faithful : HasFaithfulRe
   pub stable-composed : (rest : List ℕ) → compose_by_starters d (d.list c ++ rest) ≡ compose_after d c [] rest
   stable-composed rest = composed_if (d.list c) refl stable.begins rest
 
+  -- the two members of its list are a pair that it is composed of
+  pub stable-pair : (a e : ℕ) → d.list c ≡ a ∷ e ∷ [] → IsStarter d a × (d.pair a e ≡ Some c)
+  stable-pair a e is =
+      let starter : IsStarter d a = subst (BeginsWithStarter d) is stable.begins in
+      let to : compose_after d a [] (e ∷ []) ≡ c ∷ [] =
+      sym (compose_by_starters-starter d a (e ∷ []) starter) ∙ ap (compose_by_starters d) (sym is ∙ sym stable-ordered) ∙ composed in (
+        starter,
+        compose_after-cases d a [] e [] (λ l. l ≡ c ∷ [] → d.pair a e ≡ Some c)
+            (λ r joins one.
+            let same : r ≡ c = cc (compose_after-nil d r [], one) in
+            pair_of_join d a [] e r joins ∙ ap Some same)
+            (λ none starts two. absurd (omega (arith, ap length two, ap length (compose_after-nil d e []))))
+            (λ none mark two. absurd (omega (arith, ap length two, ap length (compose_after-nil d a (e ∷ [])))))
+            to,
+      )
+
 -- ---- which starters are stable
 
 pub stable_itself : (d : Reading) → HasStarterResults d → (c : ℕ) → ReadsAsItself d c → IsStarter d c → IsStableStarter d c 0
@@ -135,6 +152,21 @@ pub last_member : (x : List ℕ) (place c : ℕ) → place + 1 ≡ length x → 
 last_member x place c all is =
     sym (take-append-drop place x)
     ∙ ap (λ l. take place x ++ l) (drop_member x place c is ∙ ap (λ n. c ∷ drop n x) all ∙ ap (λ l. c ∷ l) (drop-length x))
+
+pub two_members : (x : List ℕ) (a : ℕ) → length x ≡ 2 → slice_get x 0 ≡ Some a → IsFirstOfTwo x a
+two_members [] a two is = absurd (omega (arith, two))
+two_members (b ∷ []) a two is = absurd (omega (arith, two))
+two_members (b ∷ e ∷ []) a two is = let same : b ≡ a = cc is in (e, ap (λ c. c ∷ e ∷ []) same)
+two_members (b ∷ e ∷ f ∷ x) a two is = absurd (omega (arith, two))
+
+pub base_of_two : (d : Reading) (c : ℕ) (o : Option ℕ) (place end last : ℕ) → IfSome o (IsFirstOfTwo (d.list c)) → place + 1 ≡ length (d.list c) → Some end ≡ slice_get (d.list c) place
+    → d.class end ≡ last → IfSome o (HasBase d c last)
+base_of_two d c None place end last two all is class = tt
+base_of_two d c (Some a) place end last two all is class =
+    let second : place ≡ 1 = omega (arith, all, ap length two.1) in
+    let at : Some end ≡ slice_get (a ∷ two.0 ∷ []) 1 = is ∙ ap (λ l. slice_get l place) two.1 ∙ ap (slice_get (a ∷ two.0 ∷ [])) second in
+    let same : two.0 ≡ end = cc at in
+    (two.0, two.1, ap d.class same ∙ class)
 
 -- ---- two characters
 

@@ -1,4 +1,5 @@
 -- What the contracts of private functions alone cite.
+pub mod Kept
 pub mod Offences
 pub mod Owned
 pub mod Passing

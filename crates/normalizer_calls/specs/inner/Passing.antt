@@ -1,5 +1,5 @@
 -- Text whose form is made in parts: runs of characters that are passed on as they are, and what is between them.
-use Rattle.std.specs.Prelude.{◌≡◌, ◌≢◌, ℕ, ◌+◌, ◌<◌, ◌≤◌, ◌⊎◌, Bool, true, false, ◌||◌, ◌==◌, nat_le, if◌then◌else◌}
+use Rattle.std.specs.Prelude.{◌≡◌, ◌≢◌, ℕ, ◌+◌, ◌<◌, ◌⊎◌, Bool, true, false, ◌||◌, ◌==◌, nat_le, if◌then◌else◌}
 use Rattle.std.specs.Prelude.{List, [], ◌∷◌, ◌++◌, length, take, drop, All, Option, Some, None, option_and_then}
 use Rattle.normal_forms.specs.Reading.{Reading, ReadsAsItself}
 use Rattle.normal_forms.specs.declared.Form.{Form}
@@ -124,22 +124,6 @@ pub record IsStableStarter (d : Reading) (c last : ℕ) : Type 0 where
   pub end : ℕ
   pub list : d.list c ≡ front ++ end ∷ []
   pub class : d.class end ≡ last
-
--- the step is no error, and its character is such a starter
-pub record IsKeptStarter (d : Reading) (s : Step) (last : ℕ) : Type 0 where
-  pub right : s.is_error ≡ false
-  pub stable : IsStableStarter d s.character last
-
--- the step is no error, and its character is a mark of class k that stays after a starter and characters of classes up
--- to `last`: it is its own list, in canonical order, and blocked from the starter, as marks of classes up to `blocked`
--- are, or doesn't compose with it
-pub record StaysMark (d : Reading) (starter last blocked : ℕ) (s : Step) (k : ℕ) : Type 0 where
-  pub right : s.is_error ≡ false
-  pub itself : ReadsAsItself d s.character
-  pub class : d.class s.character ≡ k
-  pub mark : 0 < k
-  pub ordered : last ≤ k
-  pub alone : (k ≤ blocked) ⊎ (d.pair starter s.character ≡ None)
 
 -- the composed form of a and c is the one character r
 abbrev pub ComposesTo : Reading → ℕ → ℕ → ℕ → Type 0

@@ -1,14 +1,14 @@
 use Rattle.std.proofs.Common.{None, arith, sym, ap, ◌∙◌}
 use Rattle.normalizer_tables.specs.PairConditions.{is_passed}
-use Rattle.normalizer_calls.proofs.KeptLemmas.{KeptMarks-first, KeptMarks-more, KeptMarks-own}
+use Rattle.normalizer_calls.proofs.KeptLemmas.{kept_itself, KeptMarks-first, KeptMarks-more, KeptMarks-own}
 use Rattle.normalizer_calls.proofs.RunLemmas.{some_step, within_step}
 use Rattle.normalizer_calls.proofs.kept.kept_segment.Goals as goal
 
 pub loop-end-init : goal.loop-end-init
 loop-end-init g c = (
   some_step (λ _. None) g.U.Units.encoding (g.U.Units.units c.args.units) 0 c.args.first c.requires.first c.requires.some,
-  KeptMarks-first _ _ _ c.args.form.now.serves.composing.starters c.args.form.now.serves.laws.laws.2 _ c.requires.first c.requires.some _
-      (rw c.in_ok-last.was at c.class_of_starter.ensures),
+  KeptMarks-first _ c.args.form.now.serves.composing.starters c.args.form.now.serves.laws.laws.2 _ _ _ c.requires.first c.requires.some _
+      (rw c.in_ok-starter.was at c.kept_starter.ensures),
 )
 
 pub returns-then-begins-clause-kept : goal.returns-then-begins-clause-kept
@@ -20,8 +20,8 @@ returns-then-begins-clause-kept g c =
         boundary = c.loop-end.invariant.1.boundary;
         next = λ _. ap (λ s. is_passed c.args.form.now.characters c.args.form.now.bounds s.character) (sym c.step_at-step.ensures) ∙ sym c.begins.ensures ∙ c.if-begins.true;
       };
-      own = KeptMarks-own _ _ _ _ _ _ _ _ c.args.form.now.serves.composing.starters c.args.form.now.serves.laws.laws.2
-          (rw c.in_ok-last.was at c.class_of_starter.ensures).stable c.loop-end.invariant.1;
+      own = KeptMarks-own _ c.args.form.now.serves.composing.starters c.args.form.now.serves.laws.laws.2 _ _ _ _ _
+          (kept_itself _ _ _ (rw c.in_ok-starter.was at c.kept_starter.ensures)) c.loop-end.invariant.1;
     })
 
 pub overflow_add-end : goal.overflow_add-end
@@ -39,12 +39,14 @@ loop-end-smaller g c =
 pub loop-end-preserved : goal.loop-end-preserved
 loop-end-preserved g c = (
   omega (arith, c.loop-end.invariant.0),
-  KeptMarks-more _ _ _ _ _ _ _ _ _ c.step_at-step.ensures (omega (arith, c.len.ensures)) c.loop-end.invariant.1 (rw c.in_ok-last-2.was at c.class_that_stays.ensures),
+  KeptMarks-more _ c.args.form.now.serves.composing.starters c.args.form.now.serves.laws.laws.2 _ _ _ _ _ _ _
+      (kept_itself _ _ _ (rw c.in_ok-starter.was at c.kept_starter.ensures)) c.step_at-step.ensures (omega (arith, c.len.ensures)) c.loop-end.invariant.1
+      (rw c.in_ok-last.was at c.class_that_stays.ensures),
 )
 
 pub returns-clause-kept : goal.returns-clause-kept
 returns-clause-kept g c = record {
   segment = record { some = c.loop-end.invariant.0; boundary = c.loop-end.invariant.1.boundary; next = λ more. absurd (omega (arith, c.len.ensures)) };
-  own = KeptMarks-own _ _ _ _ _ _ _ _ c.args.form.now.serves.composing.starters c.args.form.now.serves.laws.laws.2
-      (rw c.in_ok-last.was at c.class_of_starter.ensures).stable c.loop-end.invariant.1;
+  own = KeptMarks-own _ c.args.form.now.serves.composing.starters c.args.form.now.serves.laws.laws.2 _ _ _ _ _
+      (kept_itself _ _ _ (rw c.in_ok-starter.was at c.kept_starter.ensures)) c.loop-end.invariant.1;
 }

@@ -6,7 +6,7 @@ use Rattle.normalizer_calls.proofs.kept.kept_segment.Given as goal
 
 abbrev pub invariant-loop-end : goal.invariant-loop-end
 invariant-loop-end g l =
-    (0 < l.end) × KeptMarks (reading_by l.form.characters Dropped l.form.pairs.now) g.U.Units.encoding (g.U.Units.units l.units) l.first.character l.end l.last l.blocked
+    (0 < l.end) × KeptMarks (reading_by l.form.characters Dropped l.form.pairs.now) g.U.Units.encoding (g.U.Units.units l.units) l.starter l.end l.last
 
 abbrev pub decreases-loop-end : goal.decreases-loop-end
 decreases-loop-end g l = length (g.U.Units.units l.units) - l.end
