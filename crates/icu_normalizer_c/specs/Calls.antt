@@ -1,5 +1,5 @@
 -- What the calls of C do.
-use Rattle.std.specs.Prelude.{◌≡◌, ◌⊎◌, ◌↔◌, ℕ, ◌<◌, Bool, List, [], ⊤, Result, Ok, Err, Option, Some, None, IsTrue}
+use Rattle.std.specs.Prelude.{◌≡◌, ◌⊎◌, ◌↔◌, ℕ, ◌<◌, Bool, List, ⊤, Result, Err, Option, Some, None, IsTrue}
 use Rattle.normalizer_tables.specs.declared.characters.IgnoredCharacters.{IgnoredCharacters}
 use Rattle.normalizer_text.specs.Encodings.{Encoding, encoded_in, decoded_in}
 use Rattle.normalizer_input.specs.EncodedForm.{encoded_form}

@@ -1,8 +1,7 @@
 -- What a handle is opened by, and why it isn't.
-use Rattle.std.specs.Prelude.{◌≡◌, ◌⊎◌, ℕ, List, [], ⊤, Option, Some, None, Result, Ok, Err}
+use Rattle.std.specs.Prelude.{◌≡◌, ◌⊎◌, ℕ, List, ⊤, Option, Some, Result, Ok, Err}
 use Rattle.normalizer_builder.specs.Building.{IsSmallest}
 use Rattle.normalizer_records.specs.Entry.{Entry, MapperEntry}
-use Rattle.normalizer_records.specs.declared.records.BuildError.{BuildError}
 use Rattle.normalizer_ucd.specs.declared.error.LineFault.{LineFault}
 use Rattle.normalizer_ucd.specs.declared.idna_table.Disallowed.TheVariants.{RangesUpTo}
 use Rattle.normalizer_ucd.specs.IdnaTable.{uts46_records_of}

@@ -6,7 +6,8 @@ ghost use Rattle.normalizer_records.specs.Entry.{Entry};
 ghost use Rattle.icu_normalizer_c.specs.Calls.{IsNumbered};
 ghost use Rattle.icu_normalizer_c.specs.Forms.{last_form};
 ghost use Rattle.icu_normalizer_c.specs.declared.fault.Fault.TheVariants.{UnknownForm};
-ghost use Rattle.icu_normalizer_c.specs.Made.{made_by, made_in, MakeBy, MapBy};
+ghost use Rattle.icu_normalizer_c.specs.Made.{made_by, made_in, AreOver, MakeBy, MapBy};
+ghost use Rattle.normalizer_tables.specs.declared.entry.Kind.TheVariants.{Canonical, Compatibility};
 
 use crate::fault::Fault;
 use crate::form::form_numbered;
@@ -26,12 +27,26 @@ pub enum Normalizer<'a> {
     Composing(ComposingNormalizerBorrowed<'a>),
 }
 
+/// Normalizers to the decomposing and the composing form, by mappings of one kind.
+pub struct BothForms {
+    pub(crate) decomposing: DecomposingNormalizer,
+    pub(crate) composing: ComposingNormalizer,
+}
+
+// Written out, so that each place that drops one makes one call.
+impl Drop for BothForms {
+    fn drop(self) {
+        let BothForms {
+            decomposing: _decomposing,
+            composing: _composing,
+        } = self;
+    }
+}
+
 /// Normalizers to the four forms, over the same data, and a mapper if it has records.
 pub struct Normalizers {
-    pub(crate) nfd: DecomposingNormalizer,
-    pub(crate) nfc: ComposingNormalizer,
-    pub(crate) nfkd: DecomposingNormalizer,
-    pub(crate) nfkc: ComposingNormalizer,
+    pub(crate) canonical: BothForms,
+    pub(crate) compatibility: BothForms,
     pub(crate) mapper: Option<Uts46Mapper>,
 }
 
@@ -39,10 +54,8 @@ pub struct Normalizers {
 impl Drop for Normalizers {
     fn drop(self) {
         let Normalizers {
-            nfd: _nfd,
-            nfc: _nfc,
-            nfkd: _nfkd,
-            nfkc: _nfkc,
+            canonical: _canonical,
+            compatibility: _compatibility,
             mapper: _mapper,
         } = self;
     }
@@ -59,10 +72,8 @@ impl Normalizers {
         ensures refused { IsOkUnless result NormalizeError.Memory }
     {
         Ok(Normalizers {
-            nfd: nfd_normalizer(built)?,
-            nfc: nfc_normalizer(built)?,
-            nfkd: nfkd_normalizer(built)?,
-            nfkc: nfkc_normalizer(built)?,
+            canonical: canonical_forms(built)?,
+            compatibility: compatibility_forms(built)?,
             mapper: mapper_over(built, mapper)?,
         })
     }
@@ -72,10 +83,12 @@ impl Normalizers {
         ensures { made_by result ≡ made_in self.now form }
     {
         match form {
-            NormalForm::Nfd => Normalizer::Decomposing(self.nfd.as_borrowed()),
-            NormalForm::Nfc => Normalizer::Composing(self.nfc.as_borrowed()),
-            NormalForm::Nfkd => Normalizer::Decomposing(self.nfkd.as_borrowed()),
-            NormalForm::Nfkc => Normalizer::Composing(self.nfkc.as_borrowed()),
+            NormalForm::Nfd => Normalizer::Decomposing(self.canonical.decomposing.as_borrowed()),
+            NormalForm::Nfc => Normalizer::Composing(self.canonical.composing.as_borrowed()),
+            NormalForm::Nfkd => Normalizer::Decomposing(
+                self.compatibility.decomposing.as_borrowed(),
+            ),
+            NormalForm::Nfkc => Normalizer::Composing(self.compatibility.composing.as_borrowed()),
         }
     }
 
@@ -89,6 +102,30 @@ impl Normalizers {
             None => Err(Fault::UnknownForm),
         }
     }
+}
+
+/// Returns the normalizers to NFD and NFC over built data.
+fn canonical_forms(built: &Built) -> Result<BothForms, NormalizeError>
+    requires { AreBuilt (data_in built.now) }
+    ensures held { IfOk result (AreOver (data_in built.now) Canonical) }
+    ensures refused { IsOkUnless result NormalizeError.Memory }
+{
+    Ok(BothForms {
+        decomposing: nfd_normalizer(built)?,
+        composing: nfc_normalizer(built)?,
+    })
+}
+
+/// Returns the normalizers to NFKD and NFKC over built data.
+fn compatibility_forms(built: &Built) -> Result<BothForms, NormalizeError>
+    requires { AreBuilt (data_in built.now) }
+    ensures held { IfOk result (AreOver (data_in built.now) Compatibility) }
+    ensures refused { IsOkUnless result NormalizeError.Memory }
+{
+    Ok(BothForms {
+        decomposing: nfkd_normalizer(built)?,
+        composing: nfkc_normalizer(built)?,
+    })
 }
 
 /// Returns the mapper over built data, if it has these records.

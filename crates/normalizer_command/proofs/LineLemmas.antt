@@ -1,5 +1,5 @@
 -- The lines of a text: one after another, and by mappings that make the same.
-use Rattle.std.proofs.Common.{◌≡◌, ℕ, ◌+◌, ◌==◌, ◌<◌, ◌≤◌, zero, suc, false, List, [], ◌∷◌, ◌++◌, length, drop, get_or, map, Bor, append-nil, append_assoc, refl, sym, ap, ◌∙◌, arith}
+use Rattle.std.proofs.Common.{◌≡◌, ℕ, ◌+◌, ◌==◌, ◌<◌, ◌≤◌, suc, List, [], ◌∷◌, ◌++◌, length, drop, get_or, map, Bor, append-nil, append_assoc, refl, sym, ap, ◌∙◌, arith}
 use Rattle.std.specs.Prelude.{bytes_eq, not, ◌&&◌}
 use Rattle.std.specs.List.{join_with_byte, list_any}
 use Rattle.std.proofs.Math.Dec.{eqb-suc-zero}
@@ -16,7 +16,7 @@ use Rattle.normalizer_command.specs.declared.mapping.MapperTask.{MapperTask}
 use Rattle.normalizer_command.specs.declared.mapping.MapperTask.TheVariants.{Map, Validate}
 use Rattle.normalizer_command.specs.Making.{Mapping, Maps, mapping_of}
 use Rattle.normalizer_command.specs.Lines.{invalid_lines, is_valid_line, line_feed, mapped_lines, told_unless}
-use Rattle.normalizer_command.specs.inner.EachLine.{feed_unless, replies_to, reply_to}
+use Rattle.normalizer_command.specs.inner.EachLine.{replies_to, reply_to}
 
 abbrev pub texts : List (Bor (List ℕ)) → List (List ℕ)
 texts lines = map (λ line. line.now) lines

@@ -1,6 +1,6 @@
 -- What normalizers and the mapper over built data make.
 use Rattle.std.proofs.Common.{◌≡◌, List, [], ◌∷◌, refl}
-use Rattle.normal_forms.specs.Forms.{nfc, normal_form}
+use Rattle.normal_forms.specs.Forms.{normal_form}
 use Rattle.normal_forms.proofs.AlikeReadings.{nfc-alike}
 use Rattle.normalizer_tables.specs.Readings.{reading_by}
 use Rattle.normalizer_tables.specs.declared.characters.IgnoredCharacters.TheVariants.{Dropped, Replaced}

@@ -12,7 +12,7 @@ use Rattle.normalizer_command.specs.Devices.{Devices}
 use Rattle.normalizer_command.specs.Faults.{IsFileFault}
 use Rattle.normalizer_command.specs.Replies.{IsReply}
 use Rattle.normalizer_command.specs.Reports.{Report, Tells}
-use Rattle.normalizer_command.specs.Works.{Work, OfForm, OfMapper}
+use Rattle.normalizer_command.specs.Works.{Work, OfForm}
 
 -- the output, what was reported, and the exit status so far
 pub record State (W : Type 0) : Type 0 where

@@ -1,5 +1,5 @@
 -- The reply to the bytes of a file, and what is written.
-use Rattle.std.specs.Prelude.{◌≡◌, ℕ, List, [], ◌∷◌, ◌++◌, Option}
+use Rattle.std.specs.Prelude.{◌≡◌, ℕ, List, [], Option}
 use Rattle.normalizer_input.specs.EncodedForm.{encoded_form}
 use Rattle.normalizer_input.specs.InputCut.{IsInputNormalized}
 use Rattle.normalizer_input.specs.InputOffence.{IsInputOffenceOf}

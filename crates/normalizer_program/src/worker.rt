@@ -5,7 +5,7 @@ ghost use Rattle.normalizer_program.specs.Workers.{work_by};
 ghost use Rattle.normalizer_program.specs.Replies.{IsReply};
 
 use crate::ending::ToolFault;
-use crate::normalizer::normalizer_for_form;
+use crate::normalizer::FormData;
 use crate::reply::Reply;
 use crate::task::{FormTask, MapperTask, Task};
 use normalizer_built::Normalizer;
@@ -69,7 +69,7 @@ where
     fn worker(&self, task: Task) -> Result<Worker, ToolFault> {
         match task {
             Task::OfForm(task, form) => {
-                let normalizer = normalizer_for_form(self, form)?;
+                let normalizer = self.normalizer(form)?;
                 Ok(Worker::OfForm(task, normalizer))
             }
             Task::OfMapper(task) => {
