@@ -6,8 +6,8 @@ ghost use Rattle.normalizer_builder.specs.Built.{data_in};
 ghost use Rattle.normalizer_builder.specs.inner.Parts.{PacksCharacters};
 
 use crate::built::Built;
-use crate::mappings::first_unfit_of_records;
 use crate::scalars::are_of_characters;
+use crate::unmet::first_unmet;
 use normalizer_packing::{PackError, Packed, pack};
 use normalizer_records::{BuildError, ExpandedRecords, Record, Uts46Record, expanded};
 use std::alloc::Global;
@@ -40,12 +40,9 @@ impl Records {
     {
         let expanded = expanded(alloc, records, uts46)?;
         let packed = packed_of(alloc, records, uts46, expanded)?;
-        match first_unfit_of_records(records, &packed) {
+        match first_unmet(records, &packed) {
             None => Ok(Built { packed }),
-            Some(unfit) => Err(BuildError::Unfit {
-                marker: unfit.marker,
-                condition: unfit.condition,
-            }),
+            Some(demand) => Err(demand.error()),
         }
     }
 }
