@@ -15,7 +15,7 @@ use Rattle.normalizer_records.specs.Entry.{Entry, MapperEntry}
 use Rattle.normalizer_records.specs.Faults.{IsFirstRefusal}
 use Rattle.normalizer_builder.specs.Building.{Builds, PacksRecords}
 use Rattle.normalizer_builder.specs.Demands.{IsFirstUnmet}
-use Rattle.normalizer_builder.specs.inner.Parts.{IsOfCharacters}
+use Rattle.normalizer_records.specs.Recorded.{IsOfCharacters}
 use Rattle.normalizer_records.specs.Recorded.{entry_for}
 use Rattle.normalizer_builder.proofs.EntriesOfRecords.{IsAlone, same_list, told}
 use Rattle.normalizer_builder.proofs.FirstUnmet.{mappings_met}

@@ -5,7 +5,6 @@ mod build;
 mod built;
 mod demand;
 pub mod laws;
-mod scalars;
 mod unmet;
 
 pub use build::Records;

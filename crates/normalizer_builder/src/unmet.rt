@@ -1,4 +1,16 @@
 //! The first requirement that data that pack records don't meet.
+#![tactic(
+    auto,
+    using(
+        crate::proofs::FirstUnmet::mappings_unkept,
+        crate::proofs::FirstUnmet::asked_unmet,
+        crate::proofs::FirstUnmet::all_met,
+        crate::proofs::FirstUnmet::of_all_kinds
+    ),
+    unfolding(
+        crate::specs::Demands::KeepsMapping
+    )
+)]
 ghost use Rattle.std.specs.Prelude.{◌≡◌, ◌↔◌, All, IsTrue, List, option_map};
 ghost use Rattle.normalizer_tables.specs.Conditions.{IsFirstFailing, IsMet};
 ghost use Rattle.normalizer_records.specs.Entry.{Entry};
@@ -25,7 +37,6 @@ use normalizer_tables::loaded::LoadedData;
 use normalizer_tables::step::step_of;
 
 /// The first requirement that data that pack records don't meet, if there is one. It takes no memory.
-#[tactic(auto, using(crate::proofs::FirstUnmet::mappings_unkept, crate::proofs::FirstUnmet::asked_unmet, crate::proofs::FirstUnmet::all_met))]
 pub(crate) fn first_unmet(records: &[Record], packed: &Packed) -> Option<Demand>
     requires { AreRising records.now }
     ensures { IsFirstUnmet records.now packed.now result }
@@ -38,7 +49,6 @@ pub(crate) fn first_unmet(records: &[Record], packed: &Packed) -> Option<Demand>
 }
 
 /// The first requirement of constructors that packed data don't meet.
-#[tactic(auto, using(crate::proofs::FirstUnmet::of_all_kinds))]
 fn first_asked(packed: &Packed) -> Option<Demand>
     ensures { (records : List Entry) → IsFirstFailing (Meets records packed.now) asked result }
 {
@@ -118,7 +128,6 @@ fn keeps_mappings(records: &[Record], packed: &Packed) -> bool
 }
 
 /// Whether one step of a character is the mapping that is recorded of it.
-#[tactic(auto, unfolding(crate::specs::Demands::KeepsMapping))]
 fn keeps_mapping(records: &[Record], packed: &Packed, character: char) -> bool
     requires { AreRising records.now }
     ensures { IsTrue result ↔ KeepsMapping records.now packed.now character }
