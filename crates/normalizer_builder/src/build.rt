@@ -1,5 +1,6 @@
 //! Builds data from records.
 #![tactic(auto, unfolding(crate::specs::Building::IsSmallest))]
+
 ghost use Rattle.std.specs.Prelude.{◌≡◌, MatchResult};
 ghost use Rattle.normalizer_records.specs.Recorded.{AreExpanded};
 ghost use Rattle.normalizer_builder.specs.Building.{Builds, IsSmallest};

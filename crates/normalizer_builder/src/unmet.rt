@@ -1,16 +1,6 @@
 //! The first requirement that data that pack records don't meet.
-#![tactic(
-    auto,
-    using(
-        crate::proofs::FirstUnmet::mappings_unkept,
-        crate::proofs::FirstUnmet::asked_unmet,
-        crate::proofs::FirstUnmet::all_met,
-        crate::proofs::FirstUnmet::of_all_kinds
-    ),
-    unfolding(
-        crate::specs::Demands::KeepsMapping
-    )
-)]
+#![tactic(auto, using(crate::proofs::FirstUnmet::mappings_unkept, crate::proofs::FirstUnmet::asked_unmet, crate::proofs::FirstUnmet::all_met, crate::proofs::FirstUnmet::of_all_kinds), unfolding(crate::specs::Demands::KeepsMapping))]
+
 ghost use Rattle.std.specs.Prelude.{◌≡◌, ◌↔◌, All, IsTrue, List, option_map};
 ghost use Rattle.normalizer_tables.specs.Conditions.{IsFirstFailing, IsMet};
 ghost use Rattle.normalizer_records.specs.Entry.{Entry};

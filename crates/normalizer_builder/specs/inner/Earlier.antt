@@ -1,7 +1,6 @@
 -- The first of the requirements on the data of each kind, put together.
-use Rattle.std.specs.Prelude.{◌++◌, nat_lt, List, [], ◌∷◌, map, Option, Some, None, true, false, if◌then◌else◌}
+use Rattle.std.specs.Prelude.{nat_lt, List, map, Option, Some, None, true, false, if◌then◌else◌}
 use Rattle.normalizer_tables.specs.declared.condition.Condition.{Condition}
-use Rattle.normalizer_tables.specs.declared.condition.Condition.TheVariants.{FdfaForms, Steps}
 use Rattle.normalizer_tables.specs.declared.entry.Kind.{Kind}
 use Rattle.normalizer_tables.specs.declared.entry.Kind.TheVariants.{Canonical, Compatibility, Mapper}
 use Rattle.normalizer_tables.specs.AcceptedData.{composing_conditions}
