@@ -19,9 +19,9 @@ use Rattle.normalizer_packing.specs.declared.Packed.{Packed}
 use Rattle.normalizer_tables.specs.declared.entry.Kind.TheVariants.{Canonical, Compatibility, Mapper}
 use Rattle.normalizer_packing.specs.ReadBack.{characters_of}
 use Rattle.normalizer_builder.specs.Accepted.{steps_loaded}
-use Rattle.normalizer_builder.specs.Demands.{loaded_of}
-use Rattle.normalizer_builder.specs.Fitness.{IsFirstUnfit}
-use Rattle.normalizer_builder.proofs.FitData.{fit_kind}
+use Rattle.normalizer_records.specs.Entry.{Entry}
+use Rattle.normalizer_builder.specs.Demands.{IsFirstUnmet, loaded_of}
+use Rattle.normalizer_builder.proofs.FirstUnmet.{fit_kind}
 
 pub met_not_refused : (d : Loaded) (conditions : List Condition) (kind : DataMarkerInfo) (e : DataError) → All (IsMet d) conditions → ¬ RefusesFirstFailing kind d conditions e
 met_not_refused d conditions kind e met refuses = IsFirstFailing-not_all (IsMet d) conditions refuses.0 refuses.1 met
@@ -33,16 +33,16 @@ module _ (s : Characters) (pairs : List Pair) (met : All (IsMet (characters_and_
   pub accepted_pairs : AreAcceptedPairs s (bounds_of_cap s.decompositions.cap) pairs
   accepted_pairs = (parts_met s pairs met).1
 
-module _ (p : Packed) (fit : IsFirstUnfit p None) where
+module _ (records : List Entry) (p : Packed) (fit : IsFirstUnmet records p None) where
   -- of the conditions of canonical data those on texts are first, and none of them speaks of the supplement
   pub nfc_met : All (IsMet (characters_and_pairs (characters_of p Canonical) p.compositions)) (composing_conditions false)
-  nfc_met = λ k c h. IsMet-unsupplemented (loaded_of p Canonical) _ (All-front (IsMet (loaded_of p Canonical)) (composing_conditions false) (FdfaForms ∷ Steps ∷ []) (fit_kind p fit Canonical) k c h)
+  nfc_met = λ k c h. IsMet-unsupplemented (loaded_of p Canonical) _ (All-front (IsMet (loaded_of p Canonical)) (composing_conditions false) (FdfaForms ∷ Steps ∷ []) (fit_kind records p fit Canonical) k c h)
 
   pub nfkc_met : All (IsMet (characters_and_pairs (characters_of p Compatibility) p.compositions)) (composing_conditions false)
-  nfkc_met = fit_kind p fit Compatibility
+  nfkc_met = fit_kind records p fit Compatibility
 
   pub mapper_met : All (IsMet (characters_and_pairs (characters_of p Mapper) p.compositions)) (composing_conditions true)
-  mapper_met = fit_kind p fit Mapper
+  mapper_met = fit_kind records p fit Mapper
 
   pub nfd_met : All (IsMet (characters_alone (characters_of p Canonical))) decomposing_conditions
   nfd_met = accepted_characters (characters_of p Canonical) p.compositions nfc_met
@@ -63,7 +63,7 @@ module _ (p : Packed) (fit : IsFirstUnfit p None) where
   pub steps_met : All (IsMet (steps_loaded p)) step_conditions
   unfolding IsMet
   steps_met =
-      let met = fit_kind p fit Canonical in
+      let met = fit_kind records p fit Canonical in
       let P = IsMet (steps_loaded p) in
       let limit = met 0 ItemLimit (omega arith) in
       let past = met 4 PastTheEnd (omega arith) in

@@ -13,11 +13,12 @@ use Rattle.normalizer_packing.specs.ReadBack.{ReadsBack, characters_of, class_by
 use Rattle.normalizer_packing.proofs.ReadBack.{packs_reads_back}
 use Rattle.normalizer_records.specs.Entry.{Entry, MapperEntry}
 use Rattle.normalizer_records.specs.Faults.{IsFirstRefusal}
-use Rattle.normalizer_builder.specs.Building.{Builds, IsFirstUnfitOfRecords, IsMadeOfRecords, MeetsRecords, OfMappings, PacksRecords}
-use Rattle.normalizer_builder.specs.inner.Parts.{IsOfCharacters}
-use Rattle.normalizer_builder.specs.Ranks.{IsFirstUnmet}
+use Rattle.normalizer_builder.specs.Building.{Builds, PacksRecords}
+use Rattle.normalizer_builder.specs.Demands.{IsFirstUnmet}
+use Rattle.normalizer_records.specs.Recorded.{IsOfCharacters}
 use Rattle.normalizer_records.specs.Recorded.{entry_for}
 use Rattle.normalizer_builder.proofs.EntriesOfRecords.{IsAlone, same_list, told}
+use Rattle.normalizer_builder.proofs.FirstUnmet.{mappings_met}
 use Rattle.normalizer_builder.proofs.NoRefusal.{recorded_list}
 use Rattle.normalizer_builder.proofs.PackableEntries.{ArePackable-made}
 use Rattle.normalizer_builder.proofs.ReadableEntries.{AreReadable-made, class_by-canonical, class_by-compatibility, class_by-mapper}
@@ -56,8 +57,7 @@ module _ (records : List Entry) (uts46 : List MapperEntry) (none : IsFirstRefusa
     | inr e ↦ (let own = (beyond n e).class in grind arith)
   ]
 
-  pub Builds-packed : IsFirstUnfitOfRecords records p None → Builds records uts46 p
-  unfolding IsFirstUnmet IsMadeOfRecords MeetsRecords
+  pub Builds-packed : IsFirstUnmet records p None → Builds records uts46 p
   Builds-packed fit = record {
     unrefused = none;
     packs = packs;
@@ -70,7 +70,7 @@ module _ (records : List Entry) (uts46 : List MapperEntry) (none : IsFirstRefusa
       mapper_classes = λ n. same_classes kind.Mapper n ∙ class_by-mapper records uts46 none packs.entries packs.made characters n;
       pairs = λ first second.
           ap (λ l. pair_of l first second) packs.packs.compositions ∙ pair_of-permutation _ packs.pairs packs.same_pairs packs.rising_pairs first second;
-      steps = fit OfMappings tt;
+      steps = mappings_met records p fit;
     };
     fit = fit;
   }

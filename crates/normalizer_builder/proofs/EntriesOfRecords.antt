@@ -15,7 +15,7 @@ use Rattle.normalizer_packing.proofs.EntryLemmas.{Contains-map, find-missing, fi
 use Rattle.normalizer_records.specs.Entry.{Entry, MapperEntry}
 use Rattle.normalizer_records.specs.Faults.{IsFirstRefusal}
 use Rattle.normalizer_records.specs.Meaning.{class_of, entry_of, status_of}
-use Rattle.normalizer_builder.specs.inner.Parts.{IsOfCharacters}
+use Rattle.normalizer_records.specs.Recorded.{IsOfCharacters}
 use Rattle.normalizer_records.specs.Recorded.{AreMadeOf, entry_for, recorded_characters}
 use Rattle.normalizer_builder.proofs.NoRefusal.{class_of-unrecorded, no_syllables, recorded_list, recorded_list-unrecorded}
 

@@ -1,8 +1,7 @@
 pub mod AcceptedData
 pub mod BuiltMeaning
 pub mod EntriesOfRecords
-pub mod FirstUnfit
-pub mod FitData
+pub mod FirstUnmet
 pub mod NoRefusal
 pub mod OneAnswer
 pub mod PackableEntries

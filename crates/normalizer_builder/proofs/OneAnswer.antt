@@ -1,7 +1,6 @@
 -- Records have at most one smallest refusal, memory aside, and none if they build data.
 use Rattle.std.proofs.Common.{◌≡◌, ◌≢◌, inl, inr, ◌≤◌, List, Option, Some, None, refl, ap, sym, subst, arith}
 use Rattle.std.proofs.lemmas.Bool.{cases_order}
-use Rattle.normalizer_tables.specs.declared.provider.DataMarkerInfo.{DataMarkerInfo}
 use Rattle.normalizer_tables.specs.Conditions.{item_limit}
 use Rattle.normalizer_packing.specs.declared.Packed.{Packed}
 use Rattle.normalizer_tables.specs.Entries.{CharacterEntry}
@@ -11,31 +10,11 @@ use Rattle.normalizer_records.specs.declared.records.BuildError.TheVariants as e
 use Rattle.normalizer_records.specs.Entry.{Entry, MapperEntry}
 use Rattle.normalizer_records.specs.Faults.{HasFault, IsFirstRefusal, IsRefusal, rank_of}
 use Rattle.normalizer_records.proofs.RefusalLemmas.{one_fault}
-use Rattle.normalizer_builder.specs.declared.rank.Unfit.{Unfit}
-use Rattle.normalizer_builder.specs.Building.{Builds, HasTooManyItems, IsFirstUnfitOfRecords, IsMadeOfRecords, IsSmallest, MeetsRecords, PacksRecords, answer_of_records}
-use Rattle.normalizer_builder.specs.Ranks.{IsBefore, IsFirstUnmet, place_of}
+use Rattle.normalizer_builder.specs.declared.demand.Demand.{Demand}
+use Rattle.normalizer_builder.specs.Building.{Builds, HasTooManyItems, IsSmallest, PacksRecords}
+use Rattle.normalizer_builder.specs.Demands.{demands, error_of, IsFirstUnmet, Meets}
+use Rattle.normalizer_builder.proofs.FirstUnmet.{one_first}
 use Rattle.normalizer_builder.proofs.SameParts.{one_packing_of_records, same_entries}
-
-one_place : (m l : DataMarkerInfo) → place_of m ≡ place_of l → m ≡ l
-one_place m l same = grind arith
-
--- two errors of which neither comes before the other are equal
-one_of_neither : (u v : Unfit) → ¬ IsBefore u v → ¬ IsBefore v u → u ≡ v
-unfolding IsBefore
-one_of_neither u v h k =
-    let conditions : u.condition ≡ v.condition = grind arith in
-    let markers : u.marker ≡ v.marker = one_place u.marker v.marker (grind arith) in
-    λ i. record { marker = markers i; condition = conditions i }
-
--- there is at most one least error for requirements that aren't met
-one_unmet : {D : Type 0} (made : D → Type 0) (answer : D → Unfit) (meets : D → Type 0) (o p : Option Unfit) → IsFirstUnmet made answer meets o → IsFirstUnmet made answer meets p → o ≡ p
-unfolding IsFirstUnmet
-one_unmet made answer meets None None h k = refl
-one_unmet made answer meets None (Some v) h k = absurd (k.unmet.3 (h k.unmet.0 k.unmet.1))
-one_unmet made answer meets (Some u) None h k = absurd (h.unmet.3 (k h.unmet.0 h.unmet.1))
-one_unmet made answer meets (Some u) (Some v) h k = ap Some (one_of_neither u v
-    (λ before. h.unmet.3 (k.before h.unmet.0 h.unmet.1 (subst (λ w. IsBefore w v) (sym h.unmet.2) before)))
-    (λ before. k.unmet.3 (h.before k.unmet.0 k.unmet.1 (subst (λ w. IsBefore w u) (sym k.unmet.2) before))))
 
 module _ (records : List Entry) (uts46 : List MapperEntry) where
   one_refusal : (o p : Option BuildError) → IsFirstRefusal records uts46 o → IsFirstRefusal records uts46 p → o ≡ p
@@ -58,38 +37,38 @@ module _ (records : List Entry) (uts46 : List MapperEntry) where
   IsSmallest-refusal (error.Unfit marker condition) (inr h) = absurd h.0
   IsSmallest-refusal e (inr h) = h
 
-  -- what becomes of records that aren't refused: too many items, or data, and the least error for what they don't meet
-  abbrev Becomes : Option (Option Unfit) → Type 0
+  -- what becomes of records that aren't refused: too many items, or data, and the first requirement that they don't meet
+  abbrev Becomes : Option (Option Demand) → Type 0
   Becomes None = HasTooManyItems records uts46
-  Becomes (Some o) = (p : Packed) × PacksRecords records uts46 p × IsFirstUnfitOfRecords records p o
+  Becomes (Some o) = (p : Packed) × PacksRecords records uts46 p × IsFirstUnmet records p o
 
   too_many : (p : Packed) → PacksRecords records uts46 p → ¬ HasTooManyItems records uts46
   too_many p packs h =
       let few = subst (λ (es : List CharacterEntry). needed_items es ≤ item_limit) (same_entries records uts46 packs.entries h.entries packs.made h.made) packs.packs.within in
       omega (arith, few, h.full)
 
-  one_outcome : (v w : Option (Option Unfit)) → Becomes v → Becomes w → v ≡ w
+  one_outcome : (v w : Option (Option Demand)) → Becomes v → Becomes w → v ≡ w
   one_outcome None None h k = refl
   one_outcome None (Some o) h k = absurd (too_many k.0 k.1 h)
   one_outcome (Some o) None h k = absurd (too_many h.0 h.1 k)
-  one_outcome (Some o) (Some q) h k = ap Some (one_unmet IsMadeOfRecords answer_of_records (MeetsRecords records k.0) o q
-      (subst (λ (p : Packed). IsFirstUnfitOfRecords records p o) (one_packing_of_records records uts46 h.0 k.0 h.1 k.1) h.2) k.2)
+  one_outcome (Some o) (Some q) h k = ap Some (one_first (Meets records k.0) demands o q
+      (subst (λ (p : Packed). IsFirstUnmet records p o) (one_packing_of_records records uts46 h.0 k.0 h.1 k.1) h.2) k.2)
 
-  abbrev error_of_outcome : Option (Option Unfit) → BuildError
+  abbrev error_of_outcome : Option (Option Demand) → BuildError
   error_of_outcome None = error.TableFull
   error_of_outcome (Some None) = error.Memory
-  error_of_outcome (Some (Some u)) = error.Unfit u.marker u.condition
+  error_of_outcome (Some (Some d)) = error_of d
 
   -- the result, with `Memory` in place of data
   data Cause : BuildError → Type 0 where
     refused : (e : BuildError) → IsFirstRefusal records uts46 (Some e) → Cause e
-    become : (v : Option (Option Unfit)) → IsFirstRefusal records uts46 None → Becomes v → Cause (error_of_outcome v)
+    become : (v : Option (Option Demand)) → IsFirstRefusal records uts46 None → Becomes v → Cause (error_of_outcome v)
 
   cause_of : (e : BuildError) → (e ≡ error.Memory → Cause e) → IsSmallest records uts46 e → Cause e
   unfolding IsSmallest
   cause_of error.Memory memory h = memory refl
   cause_of error.TableFull memory h = become None h.0 h.1
-  cause_of (error.Unfit marker condition) memory h = become (Some (Some (record { marker = marker; condition = condition }))) h.0 h.1
+  cause_of (error.Unfit marker condition) memory h = subst Cause h.1.4 (become (Some (Some h.1.1)) h.0 (h.1.0, h.1.2, h.1.3))
   cause_of e memory h = refused e h
 
   one_cause : (e f : BuildError) → Cause e → Cause f → e ≡ f

@@ -15,7 +15,7 @@ use Rattle.normalizer_packing.specs.Spelling.{spelling, spelling_or_ignored, spe
 use Rattle.normalizer_packing.specs.Stored.{HasLengthOfWord, is_narrow, listed_of, listed_in}
 use Rattle.normalizer_records.specs.Entry.{Entry, MapperEntry}
 use Rattle.normalizer_records.specs.Faults.{IsFirstRefusal, is_long}
-use Rattle.normalizer_builder.specs.inner.Parts.{IsOfCharacters}
+use Rattle.normalizer_records.specs.Recorded.{IsOfCharacters}
 use Rattle.normalizer_records.specs.Recorded.{AreMadeOf, entry_for}
 use Rattle.normalizer_builder.proofs.EntriesOfRecords.{AreRising-made, own_recorded}
 use Rattle.normalizer_builder.proofs.NoRefusal.{IsGiven, IsGiven-recorded}

@@ -17,7 +17,7 @@ use Rattle.normalizer_packing.proofs.TableLemmas.{eq_list}
 use Rattle.normalizer_records.specs.Entry.{Entry, MapperEntry}
 use Rattle.normalizer_records.specs.Faults.{IsFirstRefusal, IsFixedForm, IsFreeForm, begins_with_mark}
 use Rattle.normalizer_records.specs.Meaning.{class_of}
-use Rattle.normalizer_builder.specs.inner.Parts.{IsOfCharacters}
+use Rattle.normalizer_records.specs.Recorded.{IsOfCharacters}
 use Rattle.normalizer_records.specs.Recorded.{AreMadeOf, entry_for}
 use Rattle.normalizer_builder.specs.Recorded.{mapper_class_of}
 use Rattle.normalizer_builder.proofs.EntriesOfRecords.{IsAlone, IsTold, own_recorded, same_class, told}

@@ -1,11 +1,9 @@
 -- What records build: data that pack them, or the smallest refusal.
-use Rattle.std.specs.Prelude.{◌≡◌, ℕ, ◌<◌, List, [], Option, Some, None, IfSome, unwrap_or}
+use Rattle.std.specs.Prelude.{◌≡◌, ℕ, ◌<◌, List, [], Some, None, unwrap_or}
 use Rattle.std.specs.List.Sorted.{IsPermutation}
-use Rattle.normalizer_tables.specs.declared.provider.DataMarkerInfo.TheVariants.{NormalizerNfdSupplementV1}
 use Rattle.normalizer_tables.specs.Characters.{class_of, list_of}
 use Rattle.normalizer_tables.specs.Conditions.{item_limit}
 use Rattle.normalizer_tables.specs.Pairs.{Pair, pair_of, AreRising as ArePairsRising}
-use Rattle.normalizer_tables.specs.Steps.{step_of}
 use Rattle.normalizer_packing.specs.declared.Packed.{Packed}
 use Rattle.normalizer_tables.specs.declared.entry.Kind.TheVariants.{Canonical, Compatibility, Mapper}
 use Rattle.normalizer_tables.specs.Entries.{CharacterEntry}
@@ -17,10 +15,9 @@ use Rattle.normalizer_records.specs.Entry.{Entry, MapperEntry}
 use Rattle.normalizer_records.specs.Faults.{IsFirstRefusal}
 use Rattle.normalizer_records.specs.Meaning.{canonical_list, class_of as recorded_class_of, compatibility_list}
 use Rattle.normalizer_records.specs.Meaning.{mapper_list, pairs_of}
-use Rattle.normalizer_builder.specs.declared.rank.Unfit.{Unfit}
-use Rattle.normalizer_builder.specs.Demands.{Demand, IsMade, Meets, answer_to, characters_of}
-use Rattle.normalizer_builder.specs.Ranks.{IsFirstUnmet}
-use Rattle.normalizer_records.specs.Recorded.{AreMadeOf, recorded_step}
+use Rattle.normalizer_records.specs.Recorded.{AreMadeOf}
+use Rattle.normalizer_builder.specs.declared.demand.Demand.{Demand}
+use Rattle.normalizer_builder.specs.Demands.{characters_of, error_of, IsFirstUnmet, KeepsMapping}
 use Rattle.normalizer_builder.specs.Recorded.{mapper_class_of}
 
 -- data that pack records: an entry for each recorded character, and the pairs in order
@@ -38,11 +35,6 @@ pub record HasTooManyItems (records : List Entry) (uts46 : List MapperEntry) : T
   pub made : AreMadeOf records uts46 entries
   pub full : item_limit < needed_items entries
 
--- one step of n is the canonical mapping that is recorded of it
-unfoldable pub KeepsMapping : List Entry → Packed → ℕ → Type 0
-KeepsMapping records p n =
-    IfSome (recorded_step records n) (λ s. step_of (characters_of p Canonical) p.supplement n ≡ Some s)
-
 -- the data say of every character, and of every two, what the records mean
 pub record MeansRecords (records : List Entry) (uts46 : List MapperEntry) (p : Packed) : Type 0 where
   -- the full decompositions. In the mapper's data `ignored` is the list of characters that it ignores.
@@ -58,56 +50,20 @@ pub record MeansRecords (records : List Entry) (uts46 : List MapperEntry) (p : P
   pub pairs : (first second : ℕ) → pair_of p.compositions first second ≡ pair_of (pairs_of records) first second
   pub steps : (n : ℕ) → KeepsMapping records p n
 
--- what is required of data that pack records: by constructors, and that one step keeps the recorded mappings
-pub data RecordDemand : Type 0 where
-  OfConstructors : Demand → RecordDemand
-  OfMappings : RecordDemand
-
--- the requirement is one of those on data that pack records
-unfoldable pub IsMadeOfRecords : RecordDemand → Type 0
-IsMadeOfRecords (OfConstructors d) = IsMade d
-IsMadeOfRecords OfMappings = Unit {0}
-
--- the data meet the requirement
-unfoldable pub MeetsRecords : List Entry → Packed → RecordDemand → Type 0
-MeetsRecords records p (OfConstructors d) = Meets p d
-MeetsRecords records p OfMappings = (n : ℕ) → KeepsMapping records p n
-
--- a mapping that isn't kept is reported as the condition that steps are sound
-abbrev pub answer_to_mappings : Unfit
-answer_to_mappings = record { marker = NormalizerNfdSupplementV1; condition = 16 }
-
--- the error for a requirement that isn't met
-abbrev pub answer_of_records : RecordDemand → Unfit
-answer_of_records (OfConstructors d) = answer_to d
-answer_of_records OfMappings = answer_to_mappings
-
--- all requirements are met, or this is the least error for those that aren't
-abbrev pub IsFirstUnfitOfRecords : List Entry → Packed → Option Unfit → Type 0
-IsFirstUnfitOfRecords records p r = IsFirstUnmet IsMadeOfRecords answer_of_records (MeetsRecords records p) r
-
--- the requirement on the recorded mappings
-abbrev pub IsOfMappings : RecordDemand → Type 0
-IsOfMappings d = d ≡ OfMappings
-
--- the same of the mappings alone
-abbrev pub IsFirstUnfitOfMappings : List Entry → Packed → Option Unfit → Type 0
-IsFirstUnfitOfMappings records p r = IsFirstUnmet IsOfMappings answer_of_records (MeetsRecords records p) r
-
 -- no refusal of the records holds, and these data pack them, mean what they mean, and meet all that is demanded
 pub record Builds (records : List Entry) (uts46 : List MapperEntry) (p : Packed) : Type 0 where
   pub unrefused : IsFirstRefusal records uts46 None
   pub packs : PacksRecords records uts46 p
   pub means : MeansRecords records uts46 p
-  pub fit : IsFirstUnfitOfRecords records p None
+  pub fit : IsFirstUnmet records p None
 
--- the smallest fault: the first of the records themselves, then too many items, then the least requirement that data
+-- the smallest fault: the first of the records themselves, then too many items, then the first requirement that data
 -- that pack them don't meet. `Memory` may come anywhere.
 unfoldable pub IsSmallest : List Entry → List MapperEntry → BuildError → Type 0
 IsSmallest records uts46 error.Memory = Unit {0}
 IsSmallest records uts46 error.TableFull = IsFirstRefusal records uts46 None × HasTooManyItems records uts46
 IsSmallest records uts46 (error.Unfit marker condition) =
     IsFirstRefusal records uts46 None
-    × ((p : Packed) × PacksRecords records uts46 p
-    × IsFirstUnfitOfRecords records p (Some (record { marker = marker; condition = condition })))
+    × ((p : Packed) × (d : Demand) × PacksRecords records uts46 p × IsFirstUnmet records p (Some d)
+    × (error_of d ≡ error.Unfit marker condition))
 IsSmallest records uts46 e = IsFirstRefusal records uts46 (Some e)

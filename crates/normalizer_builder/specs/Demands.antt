@@ -1,26 +1,25 @@
--- What constructors require of packed data, and how data that don't meet a requirement are reported.
-use Rattle.std.specs.Prelude.{List, [], ◌∷◌, ◌++◌, Option, Some, None, true, false}
-use Rattle.std.specs.List.{Contains}
+-- What is required of data that pack records, in order, and how data that don't meet a requirement are reported.
+use Rattle.std.specs.Prelude.{◌≡◌, ℕ, List, [], ◌∷◌, ◌++◌, flat_map, map, Option, Some, None, IfSome, false}
 use Rattle.normalizer_tables.specs.declared.condition.Condition.{Condition}
-use Rattle.normalizer_tables.specs.declared.condition.Condition.TheVariants.{FdfaForms, Steps}
+use Rattle.normalizer_tables.specs.declared.condition.Condition.TheVariants.{FdfaForms, Results, Steps}
 use Rattle.normalizer_tables.specs.declared.provider.DataMarkerInfo.{DataMarkerInfo}
 use Rattle.normalizer_tables.specs.declared.provider.DataMarkerInfo.TheVariants as marker
 use Rattle.normalizer_conditions.specs.AcceptedData.{composing_conditions}
-use Rattle.normalizer_tables.specs.Conditions.{IsMet, number_of}
+use Rattle.normalizer_tables.specs.Conditions.{IsFirstFailing, IsMet, number_of}
 use Rattle.normalizer_tables.specs.Loaded.{bounds_of_cap, Loaded}
 use Rattle.normalizer_tables.specs.Data.{Supplement}
 use Rattle.normalizer_conditions.specs.Refusals.{marker_of}
-use Rattle.normalizer_packing.specs.declared.Packed.{Packed}
+use Rattle.normalizer_tables.specs.Steps.{step_of}
 use Rattle.normalizer_tables.specs.declared.entry.Kind.{Kind}
 use Rattle.normalizer_tables.specs.declared.entry.Kind.TheVariants.{Canonical, Compatibility, Mapper}
+use Rattle.normalizer_packing.specs.declared.Packed.{Packed}
 pub use Rattle.normalizer_packing.specs.ReadBack.{characters_of, decompositions_of}
-use Rattle.normalizer_builder.specs.declared.rank.Unfit.{Unfit}
-
--- the marker of the decomposition data of one kind
-abbrev pub marker_of_kind : Kind → DataMarkerInfo
-marker_of_kind Canonical = marker.NormalizerNfdDataV1
-marker_of_kind Compatibility = marker.NormalizerNfkdDataV1
-marker_of_kind Mapper = marker.NormalizerUts46DataV1
+use Rattle.normalizer_records.specs.declared.records.BuildError.{BuildError}
+use Rattle.normalizer_records.specs.declared.records.BuildError.TheVariants as error
+use Rattle.normalizer_records.specs.Entry.{Entry}
+use Rattle.normalizer_records.specs.Recorded.{recorded_step}
+use Rattle.normalizer_builder.specs.declared.demand.Demand.{Demand}
+use Rattle.normalizer_builder.specs.declared.demand.Demand.TheVariants.{Asks, KeepsMappings}
 
 -- all that constructors load with the data of one kind
 abbrev pub supplement_of : Packed → Kind → Option Supplement
@@ -36,29 +35,56 @@ loaded_of p kind = record {
   supplement = supplement_of p kind;
 }
 
--- the conditions that constructors require of it. What is required for classes alone, or of pairs alone, is part of
--- these, under their numbers and markers.
-abbrev pub conditions_of : Kind → List Condition
-conditions_of Canonical = composing_conditions false ++ FdfaForms ∷ Steps ∷ []
-conditions_of Compatibility = composing_conditions false
-conditions_of Mapper = composing_conditions true
-
--- that the data of one kind meet a condition
-pub data Demand : Type 0 where
-  Asks : Kind → Condition → Demand
-
--- the requirement is one of those of constructors
-unfoldable pub IsMade : Demand → Type 0
-IsMade (Asks kind c) = Contains (conditions_of kind) c
+-- one step of n is the canonical mapping that is recorded of it
+unfoldable pub KeepsMapping : List Entry → Packed → ℕ → Type 0
+KeepsMapping records p n =
+    IfSome (recorded_step records n) (λ s. step_of (characters_of p Canonical) p.supplement n ≡ Some s)
 
 -- the data meet the requirement
-unfoldable pub Meets : Packed → Demand → Type 0
-Meets p (Asks kind c) = IsMet (loaded_of p kind) c
+unfoldable pub Meets : List Entry → Packed → Demand → Type 0
+Meets records p (Asks c kind) = IsMet (loaded_of p kind) c
+Meets records p KeepsMappings = (n : ℕ) → KeepsMapping records p n
 
--- the error for data of one kind that break a condition
-abbrev pub answer_of : Kind → Condition → Unfit
-answer_of kind c = record { marker = marker_of (marker_of_kind kind) c; condition = number_of c }
+-- conditions 1 to 16
+abbrev pub every : List Condition
+every = composing_conditions false ++ FdfaForms ∷ Steps ∷ []
+
+-- the kinds of data of which constructors require the condition. What is required for classes alone, or of pairs
+-- alone, is part of these, under their numbers and markers.
+abbrev pub kinds_asked : Condition → List Kind
+kinds_asked Results = Canonical ∷ Compatibility ∷ []
+kinds_asked FdfaForms = Canonical ∷ []
+kinds_asked Steps = Canonical ∷ []
+kinds_asked c = Canonical ∷ Compatibility ∷ Mapper ∷ []
+
+-- what constructors require
+abbrev pub asked : List Demand
+asked = flat_map (λ c. map (Asks c) (kinds_asked c)) every
+
+-- all that is required: by constructors, then that the recorded mappings are kept
+abbrev pub demands : List Demand
+demands = asked ++ KeepsMappings ∷ []
+
+-- all requirements are met, or this is the first that isn't
+abbrev pub IsFirstUnmet : List Entry → Packed → Option Demand → Type 0
+IsFirstUnmet records p r = IsFirstFailing (Meets records p) demands r
+
+-- the marker of the decomposition data of one kind
+abbrev pub marker_of_kind : Kind → DataMarkerInfo
+marker_of_kind Canonical = marker.NormalizerNfdDataV1
+marker_of_kind Compatibility = marker.NormalizerNfkdDataV1
+marker_of_kind Mapper = marker.NormalizerUts46DataV1
+
+-- the marker that is reported. Mappings that aren't kept are reported as condition 16, that steps are sound.
+abbrev pub reported_marker : Demand → DataMarkerInfo
+reported_marker (Asks c kind) = marker_of (marker_of_kind kind) c
+reported_marker KeepsMappings = marker.NormalizerNfdSupplementV1
+
+-- the number of the condition that is reported
+abbrev pub reported_number : Demand → ℕ
+reported_number (Asks c kind) = number_of c
+reported_number KeepsMappings = number_of Steps
 
 -- the error for a requirement that isn't met
-abbrev pub answer_to : Demand → Unfit
-answer_to (Asks kind c) = answer_of kind c
+abbrev pub error_of : Demand → BuildError
+error_of d = error.Unfit (reported_marker d) (reported_number d)

@@ -2,8 +2,6 @@ pub mod Accepted
 pub mod Building
 pub mod Built
 pub mod Demands
-pub mod Fitness
-pub mod Ranks
 pub mod Readings
 pub mod Recorded
 pub mod inner

@@ -1,4 +1,6 @@
 //! Builds data from records.
+#![tactic(auto, unfolding(crate::specs::Building::IsSmallest))]
+
 ghost use Rattle.std.specs.Prelude.{◌≡◌, MatchResult};
 ghost use Rattle.normalizer_records.specs.Recorded.{AreExpanded};
 ghost use Rattle.normalizer_builder.specs.Building.{Builds, IsSmallest};
@@ -6,8 +8,7 @@ ghost use Rattle.normalizer_builder.specs.Built.{data_in};
 ghost use Rattle.normalizer_builder.specs.inner.Parts.{PacksCharacters};
 
 use crate::built::Built;
-use crate::mappings::first_unfit_of_records;
-use crate::scalars::are_of_characters;
+use crate::unmet::first_unmet;
 use normalizer_packing::{PackError, Packed, pack};
 use normalizer_records::{BuildError, ExpandedRecords, Record, Uts46Record, expanded};
 use std::alloc::Global;
@@ -29,7 +30,6 @@ impl Records {
     /// let data = Records::build(alloc, &records, &[]).ok()?;
     /// let normalizer = ComposingNormalizer::try_new_nfc_unstable(&data).ok()?;
     /// ```
-    #[tactic(auto, unfolding(crate::specs::Building::IsSmallest))]
     pub fn build(
         alloc: Global,
         records: &[Record],
@@ -40,18 +40,14 @@ impl Records {
     {
         let expanded = expanded(alloc, records, uts46)?;
         let packed = packed_of(alloc, records, uts46, expanded)?;
-        match first_unfit_of_records(records, &packed) {
+        match first_unmet(records, &packed) {
             None => Ok(Built { packed }),
-            Some(unfit) => Err(BuildError::Unfit {
-                marker: unfit.marker,
-                condition: unfit.condition,
-            }),
+            Some(demand) => Err(demand.error()),
         }
     }
 }
 
 /// Data that pack records, of what is packed of them.
-#[tactic(auto, unfolding(crate::specs::Building::IsSmallest))]
 fn packed_of(
     alloc: Global,
     records: &[Record],
@@ -62,7 +58,6 @@ fn packed_of(
     ensures { MatchResult result (PacksCharacters records.now uts46.now) (IsSmallest records.now uts46.now) }
 {
     let ExpandedRecords { entries, pairs } = expanded;
-    are_of_characters(entries.as_slice());
     match pack(alloc, entries.as_slice(), pairs) {
         Ok(packed) => Ok(packed),
         Err(PackError::TableFull) => Err(BuildError::TableFull),

@@ -3,13 +3,10 @@
 
 mod build;
 mod built;
+mod demand;
 pub mod laws;
-mod mappings;
-mod rank;
-mod scalars;
-mod unfit;
+mod unmet;
 
 pub use build::Records;
 pub use built::Built;
-pub use rank::Unfit;
-pub use unfit::first_unfit;
+pub use demand::Demand;

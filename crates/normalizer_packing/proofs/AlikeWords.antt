@@ -20,7 +20,7 @@ use Rattle.normalizer_packing.specs.Packing.{HasFlags, IsPackedWord, IsSpelled}
 use Rattle.normalizer_packing.specs.Spelling.{final_word, spelling, spelling_by_list, spelling_or_ignored}
 use Rattle.normalizer_tables.specs.declared.step.Step.TheVariants.{Default}
 use Rattle.normalizer_packing.specs.Steps.{step_in, step_lists, word_of_step}
-use Rattle.normalizer_packing.specs.inner.Stretches.{AreAlike, ListsTold, edges}
+use Rattle.normalizer_packing.specs.inner.Stretches.{AreAlike, AreBreakpoints, edges}
 use Rattle.normalizer_packing.proofs.EntryLemmas.{Contains-map, find-missing, find-tells}
 use Rattle.normalizer_packing.proofs.ReadBackWords.{no_fixed-alone}
 use Rattle.normalizer_packing.proofs.TableLemmas.{eq_list}
@@ -44,18 +44,18 @@ plain (Some w) = Final w
 plain None = Short 0
 
 -- what is known of n if data say nothing of it
-record IsUntold (entries : List CharacterEntry) (pairs : List Pair) (n : ℕ) : Type 0 where
+record IsUnlisted (entries : List CharacterEntry) (pairs : List Pair) (n : ℕ) : Type 0 where
   entry : entry_of entries n ≡ None
   listed : (first : ℕ) → listed_result pairs first n ≡ None
   apart : AllByRecursion (λ e. e ≢ n) edges
 
-module _ (entries : List CharacterEntry) (pairs : List Pair) (told : List ℕ) (lists : ListsTold entries pairs told) where
-  IsUntold-missing : (n : ℕ) → (Contains told n → ⊥) → IsUntold entries pairs n
+module _ (entries : List CharacterEntry) (pairs : List Pair) (breakpoints : List ℕ) (lists : AreBreakpoints entries pairs breakpoints) where
+  IsUnlisted-missing : (n : ℕ) → (Contains breakpoints n → ⊥) → IsUnlisted entries pairs n
   unfolding entry_of
-  IsUntold-missing n untold = record {
-    entry = find-missing {X = CharacterEntry} (λ e. e.character) entries n (λ k. untold (lists.all n (Contains-append_left _ edges n (Contains-append_left _ _ n k))));
-    listed = λ first. listed-missing pairs first n (λ k. untold (lists.all n (Contains-append_left _ edges n (Contains-append_right _ _ n k))));
-    apart = recursion_from_All (λ e. e ≢ n) edges (λ k d within same. untold (lists.all n (Contains-append_right _ edges n (k, within, get_or_default edges k n d within ∙ same))));
+  IsUnlisted-missing n unlisted = record {
+    entry = find-missing {X = CharacterEntry} (λ e. e.character) entries n (λ k. unlisted (lists.all n (Contains-append_left _ edges n (Contains-append_left _ _ n k))));
+    listed = λ first. listed-missing pairs first n (λ k. unlisted (lists.all n (Contains-append_left _ edges n (Contains-append_right _ _ n k))));
+    apart = recursion_from_All (λ e. e ≢ n) edges (λ k d within same. unlisted (lists.all n (Contains-append_right _ edges n (k, within, get_or_default edges k n d within ∙ same))));
   }
 
 -- what composition of Hangul requires of a second
@@ -68,7 +68,7 @@ unfolding IsNeverSecond pair_of compose_hangul
 never_alike pairs a b same listed never first =
     let vowel = ap (λ j. j.0) same in let trailing = ap (λ j. j.1) same in let any = ap (λ j. j.2) same in let before = never first in let unlisted = listed first in grind (arith, nat_tests)
 
-module _ (entries : List CharacterEntry) (pairs : List Pair) (n : ℕ) (one : IsUntold entries pairs n) (next : IsUntold entries pairs (n + 1)) where
+module _ (entries : List CharacterEntry) (pairs : List Pair) (n : ℕ) (one : IsUnlisted entries pairs n) (next : IsUnlisted entries pairs (n + 1)) where
   same_jamo : jamo n ≡ jamo (n + 1)
   unfolding is_vowel is_trailing_consonant is_vowel_or_trailing_jamo
   same_jamo =
@@ -100,18 +100,18 @@ module _ (entries : List CharacterEntry) (kind : Kind) (n : ℕ) (none : entry_o
   unfolding spelling spelling_or_ignored spelling_by_list list_in class_in
   spelled-none = let free = no_fixed-alone (class_in entries) n in let alone = eq_list (n ∷ []) (n ∷ []) refl in grind arith
 
-module _ (entries : List CharacterEntry) (pairs : List Pair) (told : List ℕ) (lists : ListsTold entries pairs told) where
-  pub packed_alike : (kind : Kind) → AreAlike (IsPackedWord kind entries pairs) told
+module _ (entries : List CharacterEntry) (pairs : List Pair) (breakpoints : List ℕ) (lists : AreBreakpoints entries pairs breakpoints) where
+  pub packed_alike : (kind : Kind) → AreAlike (IsPackedWord kind entries pairs) breakpoints
   unfolding AreAlike
-  packed_alike kind n w untold next h =
+  packed_alike kind n w unlisted next h =
       let first = spelled-none entries kind n one.entry in
       go (final_word n) (spelled-none entries kind (n + 1) two.entry ∙ ap plain (sym (same_final entries pairs n one two))) (rw first at h.spelled) (rw first at h.flags)
     where
-      one : IsUntold entries pairs n
-      one = IsUntold-missing entries pairs told lists n untold
+      one : IsUnlisted entries pairs n
+      one = IsUnlisted-missing entries pairs breakpoints lists n unlisted
 
-      two : IsUntold entries pairs (n + 1)
-      two = IsUntold-missing entries pairs told lists (n + 1) next
+      two : IsUnlisted entries pairs (n + 1)
+      two = IsUnlisted-missing entries pairs breakpoints lists (n + 1) next
 
       go : (o : Option ℕ) → spelling (class_in entries) (n + 1) (list_in kind entries (n + 1)) ≡ plain o → IsSpelled entries (kept_list kind entries n) (plain o) w →
           HasFlags kind entries pairs n (plain o) w → IsPackedWord kind entries pairs (n + 1) w
@@ -124,8 +124,8 @@ module _ (entries : List CharacterEntry) (pairs : List Pair) (told : List ℕ) (
   unfolding step_in
   step-none n none = rw (none, step_in) refl
 
-  pub steps_alike : AreAlike (λ n w. w ≡ word_of_step (step_lists entries) (step_in entries n)) told
+  pub steps_alike : AreAlike (λ n w. w ≡ word_of_step (step_lists entries) (step_in entries n)) breakpoints
   unfolding AreAlike
-  steps_alike n w untold next h =
-      let one = step-none n (IsUntold-missing entries pairs told lists n untold).entry in
-      let two = step-none (n + 1) (IsUntold-missing entries pairs told lists (n + 1) next).entry in h ∙ ap (word_of_step (step_lists entries)) (one ∙ sym two)
+  steps_alike n w unlisted next h =
+      let one = step-none n (IsUnlisted-missing entries pairs breakpoints lists n unlisted).entry in
+      let two = step-none (n + 1) (IsUnlisted-missing entries pairs breakpoints lists (n + 1) next).entry in h ∙ ap (word_of_step (step_lists entries)) (one ∙ sym two)

@@ -15,7 +15,7 @@ use Rattle.normalizer_packing.specs.inner.PackedWords.{CanPoint}
 use Rattle.normalizer_packing.specs.Spelling.{list_eq}
 use Rattle.normalizer_packing.specs.Stored.{HasLengthOfWord, canonical_lists, is_among, is_narrow, item_at, item_in, item_of, listed_in, low_length, needed_items, place_of}
 use Rattle.normalizer_packing.specs.Stored.{supplementary_lists, tables_of}
-use Rattle.normalizer_packing.specs.inner.Stores.{StandsAt, place_in, tables_in}
+use Rattle.normalizer_packing.specs.inner.Stores.{StandsAt, stored_place, tables_in}
 use Rattle.normalizer_packing.proofs.StoreLemmas.{is_some-place, narrow_length, place_if_some, placed}
 use Rattle.normalizer_packing.proofs.TableLemmas.{is_among-append, is_among-apart, is_among-first_come, same_list, stands_at_place}
 
@@ -116,7 +116,7 @@ module _ (entries : List CharacterEntry) (s : Stores) (h : CanPoint entries s) (
   within_limit = omega (arith, h.within, item_of-within entries x kind listed (length_of_word x length_of_listed))
 
   -- a list that the first store holds is in its tables
-  module _ (place : ℕ) (found : place_in s.canonical x ≡ Some place) where
+  module _ (place : ℕ) (found : stored_place s.canonical x ≡ Some place) where
     own_place : (is_among x (canonical_lists entries) ≡ true) × (place ≡ place_of (canonical_lists entries) x)
     own_place = place_if_some (canonical_lists entries) s.canonical x h.stored.canonical place found
 
@@ -130,14 +130,14 @@ module _ (entries : List CharacterEntry) (s : Stores) (h : CanPoint entries s) (
     within_first = omega (arith, item_first, within_limit)
 
   -- another is in those of the second
-  module _ (nowhere : place_in s.canonical x ≡ None) where
+  module _ (nowhere : stored_place s.canonical x ≡ None) where
     not_canonical : is_among x (canonical_lists entries) ≡ false
     not_canonical = sym (is_some-place (canonical_lists entries) s.canonical x h.stored.canonical) ∙ ap is_some nowhere
 
     in_second : is_among x (supplementary_lists entries) ≡ true
     in_second = among_supplementary entries x kind listed not_canonical
 
-    pub placed_second : place_in s.supplementary x ≡ Some (place_of (supplementary_lists entries) x)
+    pub placed_second : stored_place s.supplementary x ≡ Some (place_of (supplementary_lists entries) x)
     placed_second = placed (supplementary_lists entries) s.supplementary x h.stored.supplementary in_second
 
     pub stands_second : StandsAt (tables_in s.supplementary) x (place_of (supplementary_lists entries) x)

@@ -11,7 +11,7 @@ use Rattle.normalizer_tables.specs.declared.entry.Kind.{Kind}
 use Rattle.normalizer_tables.specs.Entries.{CharacterEntry, class_in}
 use Rattle.normalizer_packing.specs.Spelling.{list_eq}
 use Rattle.normalizer_packing.specs.Stored.{apart_from, canonical_lists, first_come, listed_in, listed_of, is_among, is_narrow, items_of, needed_items, place_of, supplementary_lists, tables_of}
-use Rattle.normalizer_packing.specs.inner.Stores.{AreStored, Holds, HoldsMore, place_in, tables_in, with_list}
+use Rattle.normalizer_packing.specs.inner.Stores.{AreStored, Holds, HoldsMore, stored_place, tables_in, with_list}
 use Rattle.normalizer_packing.specs.declared.stored.Store.{Store}
 use Rattle.std.specs.BTreeMap.{UpdatesBy, get_by}
 use Rattle.std.specs.Cmp.Lexicographic.{slice_cmp}
@@ -24,13 +24,13 @@ use Rattle.normalizer_packing.proofs.TableLemmas.{same_list}
 
 module _ (lists : List (List ℕ)) (s : Store) (x : List ℕ) (h : Holds lists s) where
   -- a list that has a place is among them, and has its own
-  pub place_if_some : (n : ℕ) → place_in s x ≡ Some n → (is_among x lists ≡ true) × (n ≡ place_of lists x)
+  pub place_if_some : (n : ℕ) → stored_place s x ≡ Some n → (is_among x lists ≡ true) × (n ≡ place_of lists x)
   place_if_some n placed = let here = h.places x in (grind arith, grind arith)
 
-  pub is_some-place : is_some (place_in s x) ≡ is_among x lists
+  pub is_some-place : is_some (stored_place s x) ≡ is_among x lists
   is_some-place = let here = h.places x in grind arith
 
-  pub placed : is_among x lists ≡ true → place_in s x ≡ Some (place_of lists x)
+  pub placed : is_among x lists ≡ true → stored_place s x ≡ Some (place_of lists x)
   placed among = h.places x ∙ rw among refl
 
   -- a list that it holds changes nothing
@@ -39,9 +39,9 @@ module _ (lists : List (List ℕ)) (s : Store) (x : List ℕ) (h : Holds lists s
   Holds-there among = rw among h
 
   -- another list is appended to those of its table
-  module _ (new : Store) (n : ℕ) (b : Bool) (narrow : is_narrow x ≡ b) (fresh : is_among x lists ≡ false) (finds : (y : List ℕ) → place_in new y ≡ cond (list_eq x y) (Some n) (place_in s y))
+  module _ (new : Store) (n : ℕ) (b : Bool) (narrow : is_narrow x ≡ b) (fresh : is_among x lists ≡ false) (finds : (y : List ℕ) → stored_place new y ≡ cond (list_eq x y) (Some n) (stored_place s y))
       (at_end : n ≡ length (if b then s.scalars16.items else s.scalars24.items)) where
-    place_put : (y : List ℕ) → place_in new y ≡ (if is_among y (lists ++ x ∷ []) then Some (place_of (lists ++ x ∷ []) y) else None)
+    place_put : (y : List ℕ) → stored_place new y ≡ (if is_among y (lists ++ x ∷ []) then Some (place_of (lists ++ x ∷ []) y) else None)
     place_put y =
         let found = finds y in
         let held = h.places y in
@@ -95,20 +95,20 @@ module _ (kind : Kind) (entries items : List CharacterEntry) (i : ℕ) (same : i
 
 -- the places of lists after one is put into the map of places
 pub place_updated : (old mid new : Store) (x : List ℕ) (n : ℕ) → mid.places ≡ old.places →
-    UpdatesBy (λ a b. slice_cmp nat_cmp a.now b.now) (λ k. slice_cmp nat_cmp x k.now) mid.places new.places (Some n) → (y : List ℕ) → place_in new y ≡ cond (list_eq x y) (Some n) (place_in old y)
-unfolding place_in
+    UpdatesBy (λ a b. slice_cmp nat_cmp a.now b.now) (λ k. slice_cmp nat_cmp x k.now) mid.places new.places (Some n) → (y : List ℕ) → stored_place new y ≡ cond (list_eq x y) (Some n) (stored_place old y)
+unfolding stored_place
 place_updated old mid new x n same updates y =
     btree_map_updates_str x mid.places new.places (Some n) updates y ∙ ap (λ m. cond (list_eq x y) (Some n) (get_by (λ k. slice_cmp nat_cmp y k.now) m)) same
 
 module _ (before lists : List (List ℕ)) (first s : Store) (x : List ℕ) (held : Holds (first_come before) first) (h : Holds (apart_from before (first_come lists)) s) where
-  among_before : is_some (place_in first x) ≡ is_among x before
+  among_before : is_some (stored_place first x) ≡ is_among x before
   among_before = is_some-place (first_come before) first x held ∙ is_among-first_come x before
 
   -- the store before holds a list, and so this one needn't
-  pub HoldsLists-there : is_some (place_in first x) ≡ true → Holds (apart_from before (first_come (lists ++ x ∷ []))) s
+  pub HoldsLists-there : is_some (stored_place first x) ≡ true → Holds (apart_from before (first_come (lists ++ x ∷ []))) s
   HoldsLists-there some = rw (apart_from-more before lists x, sym among_before ∙ some) h
 
-  pub HoldsLists-more : (new : Store) → is_some (place_in first x) ≡ false → HoldsMore s x new → Holds (apart_from before (first_come (lists ++ x ∷ []))) new
+  pub HoldsLists-more : (new : Store) → is_some (stored_place first x) ≡ false → HoldsMore s x new → Holds (apart_from before (first_come (lists ++ x ∷ []))) new
   HoldsLists-more new none more = rw (apart_from-more before lists x, sym among_before ∙ none) (more (apart_from before (first_come lists)) h)
 
 pub narrow_length : (x : List ℕ) → is_narrow x ≡ true → 2 ≤ length x

@@ -1,5 +1,5 @@
 -- Ranges one after another, and the stretches of numbers with one word.
-use Rattle.std.proofs.Common.{◌≡◌, ℕ, zero, suc, ◌<◌, ◌≤◌, ◌+◌, ◌-◌, List, All, Contains, length, get_or, [], ◌∷◌, ◌++◌, arith, subst, ◌∙◌, inl, inr}
+use Rattle.std.proofs.Common.{◌≡◌, ℕ, zero, suc, ◌<◌, ◌≤◌, ◌+◌, ◌-◌, List, All, Contains, length, get_or, [], ◌∷◌, ◌++◌, arith, refl, subst, ◌∙◌, inl, inr}
 use Rattle.std.specs.List.Sorted.{IsPartitionPoint, IsStrictlyIncreasing}
 use Rattle.std.proofs.lemmas.Bool.{cases_lt}
 use Rattle.std.proofs.lemmas.Bool.Decides.{nat_tests}
@@ -17,6 +17,13 @@ word_in-before : (rs : List WordRange) (b e w n : ℕ) → n < b → word_in (rs
 unfolding word_in
 word_in-before [] b e w n below = grind (arith, nat_tests)
 word_in-before (r ∷ rs) b e w n below = let rest = word_in-before rs b e w n below in grind arith
+
+-- a number past all ranges has the word 0
+word_in-past : (rs : List WordRange) (b n : ℕ) → All (λ r. r.1 < b) rs → b ≤ n → word_in rs n ≡ 0
+unfolding word_in
+word_in-past [] b n before low = refl
+word_in-past (r ∷ rs) b n before low =
+    let first = All-head (λ r. r.1 < b) r rs before in word_in-missed r rs n (inl (omega arith)) ∙ word_in-past rs b n (All-tail (λ r. r.1 < b) r rs before) low
 
 -- and its own numbers have its word
 word_in-behind : (rs : List WordRange) (b e w n : ℕ) → All (λ r. r.1 < b) rs → b ≤ n → n ≤ e → word_in (rs ++ (b, e, w) ∷ []) n ≡ w
@@ -43,41 +50,54 @@ module _ (is_word : ℕ → ℕ → Type 0) where
         ];
       }
 
+  -- a stretch of the word 0 needs no range
+  pub CoverUpTo-skip : (rs : List WordRange) (from : ℕ) → CoverUpTo is_word rs from → (end word : ℕ) → word ≡ 0 → from ≤ end → IsStretch is_word from end → is_word from word → CoverUpTo is_word rs end
+  unfolding IsStretch
+  CoverUpTo-skip rs from so_far end word none low alike here =
+      record {
+        list = so_far.list;
+        before = λ k d inside. omega (arith, so_far.before k d inside);
+        words = λ n below. elim (cases_lt n from) as (λ _. is_word n (word_in rs n)) [
+          | inl before ↦ so_far.words n before
+          | inr behind ↦ rw (word_in-past rs from n so_far.before behind) (rw none at (alike n word behind below here))
+        ];
+      }
+
   pub IsStretch_one : (n : ℕ) → IsStretch is_word n (n + 1)
   unfolding IsStretch
   IsStretch_one n m w low high h = let same : n ≡ m = omega arith in subst (λ (k : ℕ). is_word k w) same h
 
 -- the listed numbers before a place are below `from`, and the others aren't
 abbrev pub HasPassed : List ℕ → ℕ → ℕ → Type 0
-HasPassed told place from = IsPartitionPoint (λ n. n < from) (λ n. from ≤ n) told place
+HasPassed breakpoints place from = IsPartitionPoint (λ n. n < from) (λ n. from ≤ n) breakpoints place
 
-module _ (told : List ℕ) (rising : IsStrictlyIncreasing told) (place from : ℕ) (passed : HasPassed told place from) where
-  not_below : (j d : ℕ) → place ≤ j → j < length told → get_or told place d ≤ get_or told j d
-  not_below j d le within = let less = AllPairs-from_increasing told rising place j d in grind arith
+module _ (breakpoints : List ℕ) (rising : IsStrictlyIncreasing breakpoints) (place from : ℕ) (passed : HasPassed breakpoints place from) where
+  not_below : (j d : ℕ) → place ≤ j → j < length breakpoints → get_or breakpoints place d ≤ get_or breakpoints j d
+  not_below j d le within = let less = AllPairs-from_increasing breakpoints rising place j d in grind arith
 
   -- no listed number comes before the next
-  untold : (end : ℕ) → ((d : ℕ) → place < length told → end ≤ get_or told place d) → (n : ℕ) → from ≤ n → n < end → Contains told n → ⊥
-  untold end next n low below h = elim (cases_lt h.0 place) as (λ _. ⊥) [
+  unlisted : (end : ℕ) → ((d : ℕ) → place < length breakpoints → end ≤ get_or breakpoints place d) → (n : ℕ) → from ≤ n → n < end → Contains breakpoints n → ⊥
+  unlisted end next n low below h = elim (cases_lt h.0 place) as (λ _. ⊥) [
     | inl before ↦ omega (arith, passed.0 h.0 n (omega arith) before, h.2)
     | inr behind ↦ omega (arith, not_below h.0 n behind h.1, next n (omega (arith, h.1)), h.2)
   ]
 
   -- so all up to there are alike
-  pub IsStretch-untold : (is_word : ℕ → ℕ → Type 0) (end : ℕ) → AreAlike is_word told → ((d : ℕ) → place < length told → end ≤ get_or told place d) → IsStretch is_word from end
+  pub IsStretch-between : (is_word : ℕ → ℕ → Type 0) (end : ℕ) → AreAlike is_word breakpoints → ((d : ℕ) → place < length breakpoints → end ≤ get_or breakpoints place d) → IsStretch is_word from end
   unfolding IsStretch AreAlike
-  IsStretch-untold is_word end alike next n w low below h = let same : from + (n - from) ≡ n = omega arith in subst (λ (m : ℕ). is_word m w) same (by (n - from) (omega arith))
+  IsStretch-between is_word end alike next n w low below h = let same : from + (n - from) ≡ n = omega arith in subst (λ (m : ℕ). is_word m w) same (by (n - from) (omega arith))
     where
       by : (k : ℕ) → from + k < end → is_word (from + k) w
       by zero inside = let same : from ≡ from + 0 = omega arith in subst (λ (m : ℕ). is_word m w) same h
       by (suc k) inside =
           let same : from + k + 1 ≡ from + suc k = omega arith in
-          subst (λ (m : ℕ). is_word m w) same (alike (from + k) w (untold end next _ (omega arith) (omega arith)) (untold end next _ (omega arith) (omega arith)) (by k (omega arith)))
+          subst (λ (m : ℕ). is_word m w) same (alike (from + k) w (unlisted end next _ (omega arith) (omega arith)) (unlisted end next _ (omega arith) (omega arith)) (by k (omega arith)))
 
-  pub HasPassed-next : (number : ℕ) → place < length told → (e : ℕ) → number ≡ get_or told place e → HasPassed told (place + 1) (number + 1)
+  pub HasPassed-next : (number : ℕ) → place < length breakpoints → (e : ℕ) → number ≡ get_or breakpoints place e → HasPassed breakpoints (place + 1) (number + 1)
   HasPassed-next number within e here = (
-    λ k d start low. omega (arith, not_above k d low, here, get_or_default told place e d within),
-    λ k d low inside. omega (arith, AllPairs-from_increasing told rising place k d (omega arith) inside, here, get_or_default told place e d within),
+    λ k d start low. omega (arith, not_above k d low, here, get_or_default breakpoints place e d within),
+    λ k d low inside. omega (arith, AllPairs-from_increasing breakpoints rising place k d (omega arith) inside, here, get_or_default breakpoints place e d within),
   )
     where
-      not_above : (k d : ℕ) → k < place + 1 → get_or told k d ≤ get_or told place d
-      not_above k d low = let less = AllPairs-from_increasing told rising k place d in grind arith
+      not_above : (k d : ℕ) → k < place + 1 → get_or breakpoints k d ≤ get_or breakpoints place d
+      not_above k d low = let less = AllPairs-from_increasing breakpoints rising k place d in grind arith

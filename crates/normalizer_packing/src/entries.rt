@@ -1,4 +1,6 @@
 //! Entries that rise by character, looked up by their places, or by halving.
+#![tactic(auto, unfolding(normalizer_tables::specs::Entries::class_in, normalizer_tables::specs::Entries::list_in))]
+
 ghost use Rattle.std.specs.Prelude.{◌≡◌, [], ◌∷◌, IfOk, map, option_copied};
 ghost use Rattle.normalizer_tables.specs.Entries.{AreRising, class_in, entry_of, list_in};
 ghost use Rattle.normalizer_tables.specs.Places.{ArePlaces};
@@ -48,7 +50,7 @@ impl<'a> Entries<'a> {
         requires { AreRising entries.now }
         ensures { IfOk result (λ e. e ≡ entries.now) }
     {
-        let characters = characters_of(alloc, entries)?;
+        let characters = entry_characters(alloc, entries, 0)?;
         let places = places_of(alloc, &characters)?;
         Ok(Entries {
             entries,
@@ -74,7 +76,6 @@ impl<'a> Entries<'a> {
     }
 
     /// The canonical combining class of a character: 0 without an entry.
-    #[tactic(auto, unfolding(normalizer_tables::specs::Entries::class_in))]
     pub fn class_of(&self, character: char) -> u8
         ensures { result ≡ class_in self.now character }
     {
@@ -83,7 +84,6 @@ impl<'a> Entries<'a> {
 
     /// The list of a character in one kind of data, or `alone` if the character has no entry. None if the mapper
     /// ignores the character.
-    #[tactic(auto, unfolding(normalizer_tables::specs::Entries::list_in))]
     pub fn list_of<'b>(
         &'b self,
         kind: Kind,
@@ -98,12 +98,16 @@ impl<'a> Entries<'a> {
     }
 }
 
-/// The characters of entries.
-pub fn characters_of(alloc: Global, entries: &[Entry]) -> Result<Vec<char>, AllocError>
+/// The characters of entries, in a list with room for so many more.
+pub fn entry_characters(
+    alloc: Global,
+    entries: &[Entry],
+    room: usize,
+) -> Result<Vec<char>, AllocError>
     ensures { IfOk result (λ v. v.items ≡ map (λ e. e.character) entries.now) }
 {
     // (`collect` would try again after a refused growth)
-    let mut characters = Vec::with_capacity(alloc, entries.len())?;
+    let mut characters = Vec::with_capacity(alloc, entries.len().saturating_add(room))?;
     for entry in entries {
         characters.push(entry.character)?;
     }

@@ -1,6 +1,7 @@
 //! Packs lists of characters into the words and tables of normalization data.
 #![tactic(auto)]
 
+mod breakpoints;
 mod cap;
 mod entries;
 mod flags;
@@ -13,7 +14,6 @@ mod spelling;
 mod steps;
 mod stored;
 mod stores;
-mod told;
 mod words;
 
 use normalizer_tables::{

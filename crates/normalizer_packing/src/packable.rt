@@ -1,4 +1,6 @@
 //! Whether entries can be packed.
+#![tactic(auto, unfolding(crate::specs::inner::Packable::has_length_if_any, crate::specs::inner::Packable::has_length_of_word))]
+
 ghost use Rattle.std.specs.Prelude.{◌≡◌, ◌↔◌, All, IsTrue};
 ghost use Rattle.std.specs.List.{list_all};
 ghost use Rattle.normalizer_tables.specs.Entries.{AreRising, class_in};
@@ -44,7 +46,6 @@ fn all_have_lengths(entries: &Entries<'_>, kind: Kind, items: &[Entry]) -> bool
 }
 
 /// Whether a word has room for the length of an entry's list, if it goes into a table.
-#[tactic(auto, unfolding(crate::specs::inner::Packable::has_length_if_any))]
 fn has_length(entries: &Entries<'_>, kind: Kind, entry: &Entry) -> bool
     ensures { result ≡ has_length_if_any (listed_of (class_in entries.now) kind entry.now) }
 {
@@ -52,7 +53,6 @@ fn has_length(entries: &Entries<'_>, kind: Kind, entry: &Entry) -> bool
 }
 
 /// Whether a word can state the length of a list in a table.
-#[tactic(auto, unfolding(crate::specs::inner::Packable::has_length_of_word))]
 fn has_length_of_word(list: &[char]) -> bool
     ensures { result ≡ has_length_of_word list.now }
 {

@@ -6,15 +6,15 @@ ghost use Rattle.normalizer_packing.specs.inner.PackedWords.{CanPoint};
 ghost use Rattle.normalizer_packing.specs.Packing.{ArePackable, Packs, PacksKind};
 ghost use Rattle.normalizer_packing.specs.Steps.{PacksSteps};
 ghost use Rattle.normalizer_packing.specs.Stored.{needed_items};
-ghost use Rattle.normalizer_packing.specs.inner.Stretches.{ListsTold};
+ghost use Rattle.normalizer_packing.specs.inner.Stretches.{AreBreakpoints};
 
 use crate::Packed;
+use crate::breakpoints::breakpoints_of;
 use crate::cap::cap_of;
 use crate::entries::Entries;
 use crate::ranges::table_of;
 use crate::steps::supplement_of;
 use crate::stores::{PackError, Stores, stores_of};
-use crate::told::told_characters;
 use crate::words::PackedWords;
 use normalizer_tables::entry::{Entry, Kind};
 use normalizer_tables::{
@@ -97,10 +97,10 @@ fn parts_of<'e>(
     ensures pairs { IfOk result (λ parts. parts.1 ≡ pairs.items) }
     ensures steps { IfOk result (λ parts. PacksSteps entries.now parts.2) }
 {
-    let told = told_characters(alloc, entries.as_slice(), &pairs)?;
+    let breakpoints = breakpoints_of(alloc, entries.as_slice(), &pairs)?;
     let compositions = compositions_of(pairs)?;
-    let kinds = kinds_of(alloc, entries, &compositions, stores, &told)?;
-    let supplement = supplement_of(alloc, entries, &told)?;
+    let kinds = kinds_of(alloc, entries, &compositions, stores, &breakpoints)?;
+    let supplement = supplement_of(alloc, entries, &breakpoints)?;
     Ok((kinds, compositions, supplement))
 }
 
@@ -117,22 +117,36 @@ fn kinds_of<'e>(
     entries: &Entries<'e>,
     compositions: &CanonicalCompositions,
     stores: &Stores<'e>,
-    told: &[char],
+    breakpoints: &[char],
 ) -> Result<Kinds, AllocError>
     requires stored { CanPoint entries.now stores.now }
-    requires told { ListsTold entries.now compositions.now told.now }
+    requires breakpoints { AreBreakpoints entries.now compositions.now breakpoints.now }
     ensures { IfOk result (PackKinds entries.now compositions.now) }
 {
-    let canonical = data_of(alloc, entries, compositions, stores, told, Kind::Canonical)?;
+    let canonical = data_of(
+        alloc,
+        entries,
+        compositions,
+        stores,
+        breakpoints,
+        Kind::Canonical,
+    )?;
     let compatibility = data_of(
         alloc,
         entries,
         compositions,
         stores,
-        told,
+        breakpoints,
         Kind::Compatibility,
     )?;
-    let mapper = data_of(alloc, entries, compositions, stores, told, Kind::Mapper)?;
+    let mapper = data_of(
+        alloc,
+        entries,
+        compositions,
+        stores,
+        breakpoints,
+        Kind::Mapper,
+    )?;
     Ok(Kinds {
         canonical,
         compatibility,
@@ -158,11 +172,11 @@ fn data_of<'a, 'e>(
     entries: &'a Entries<'e>,
     compositions: &'a CanonicalCompositions,
     stores: &'a Stores<'e>,
-    told: &[char],
+    breakpoints: &[char],
     kind: Kind,
 ) -> Result<DecompositionData, AllocError>
     requires stored { CanPoint entries.now stores.now }
-    requires told { ListsTold entries.now compositions.now told.now }
+    requires breakpoints { AreBreakpoints entries.now compositions.now breakpoints.now }
     ensures { IfOk result (PacksKind kind entries.now compositions.now) }
 {
     let words = PackedWords {
@@ -172,7 +186,7 @@ fn data_of<'a, 'e>(
         kind,
     };
     Ok(DecompositionData {
-        table: table_of(alloc, &words, told)?,
+        table: table_of(alloc, &words, breakpoints)?,
         passthrough_cap: cap_of(entries, compositions, kind),
     })
 }

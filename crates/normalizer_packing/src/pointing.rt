@@ -1,4 +1,6 @@
 //! Words that point to a list in a table.
+#![tactic(auto, using(crate::proofs::StoreLemmas::narrow_length), unfolding(crate::specs::Stored::pointing_word, crate::specs::Stored::low_length, crate::specs::Stored::HasLengthOfWord, crate::specs::Stored::has_marks_behind))]
+
 ghost use Rattle.std.specs.Prelude.{◌≡◌, ◌<◌, ◌^◌, nat_lt};
 ghost use Rattle.std.specs.List.{list_all};
 ghost use Rattle.normalizer_tables.specs.Conditions.{item_limit};
@@ -9,7 +11,6 @@ use crate::entries::Entries;
 use crate::stored::is_narrow;
 
 /// The word, without its flags, that points to a list at an item.
-#[tactic(auto, unfolding(crate::specs::Stored::pointing_word))]
 pub fn pointing_word(entries: &Entries<'_>, list: &[char], item: u32) -> u32
     requires within { item < item_limit }
     requires length { HasLengthOfWord list.now }
@@ -25,7 +26,6 @@ pub fn pointing_word(entries: &Entries<'_>, list: &[char], item: u32) -> u32
 }
 
 /// The low bits of a list's length: beyond the least that its table has.
-#[tactic(auto, using(crate::proofs::StoreLemmas::narrow_length), unfolding(crate::specs::Stored::low_length, crate::specs::Stored::HasLengthOfWord))]
 fn low_length(list: &[char]) -> u32
     requires { HasLengthOfWord list.now }
     ensures length { result ≡ low_length list.now }
@@ -39,7 +39,6 @@ fn low_length(list: &[char]) -> u32
 }
 
 /// Whether all members after the first are marks, and there are some.
-#[tactic(auto, unfolding(crate::specs::Stored::has_marks_behind))]
 fn has_marks_behind(entries: &Entries<'_>, list: &[char]) -> bool
     ensures { result ≡ has_marks_behind (class_in entries.now) list.now }
 {

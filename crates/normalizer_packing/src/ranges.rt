@@ -34,14 +34,14 @@ pub trait Words {
 pub fn table_of<W: Words>(
     alloc: Global,
     words: &W,
-    told: &[char],
+    breakpoints: &[char],
 ) -> Result<CodePointTable, AllocError>
     requires ready { W.is_ready words.now }
-    requires rising { IsStrictlyIncreasing told.now }
-    requires alike { AreAlike (W.is_word words.now) told.now }
+    requires rising { IsStrictlyIncreasing breakpoints.now }
+    requires alike { AreAlike (W.is_word words.now) breakpoints.now }
     ensures { IfOk result (HasWords (W.is_word words.now)) }
 {
-    let ranges = ranges_of(alloc, words, told)?;
+    let ranges = ranges_of(alloc, words, breakpoints)?;
     match CodePointTable::from_ranges(ranges, 0) {
         Ok(table) => Ok(table),
         Err(TableError::Memory) => Err(AllocError),
@@ -49,21 +49,22 @@ pub fn table_of<W: Words>(
     }
 }
 
-/// Ranges of one word each, one after another, that have all code points: each listed character, and all between two.
+/// Ranges of one word each, one after another, that have all code points with a word other than 0: each listed
+/// character, and all between two.
 #[tactic(auto, using(crate::proofs::Tilings::IsStretch_one), unfolding(normalizer_tables::specs::Table::code_points))]
 fn ranges_of<W: Words>(
     alloc: Global,
     words: &W,
-    told: &[char],
+    breakpoints: &[char],
 ) -> Result<Vec<(u32, u32, u32)>, AllocError>
     requires ready { W.is_ready words.now }
-    requires rising { IsStrictlyIncreasing told.now }
-    requires alike { AreAlike (W.is_word words.now) told.now }
+    requires rising { IsStrictlyIncreasing breakpoints.now }
+    requires alike { AreAlike (W.is_word words.now) breakpoints.now }
     ensures { IfOk result (λ v. CoverWords (W.is_word words.now) v.items) }
 {
-    let mut ranges = Vec::new(alloc);
+    let mut ranges = Vec::with_capacity(alloc, breakpoints.len())?;
     let mut from = 0;
-    for &character in told {
+    for &character in breakpoints {
         let number = character as u32;
         push_stretch(&mut ranges, words, from, number)?;
         push_stretch(&mut ranges, words, number, number + 1)?;
@@ -73,7 +74,7 @@ fn ranges_of<W: Words>(
     Ok(ranges)
 }
 
-/// Adds the numbers from one up to before another, which have the word of the first.
+/// Adds the numbers from one up to before another, which have the word of the first, unless it is 0.
 fn push_stretch<W: Words>(
     ranges: &mut Vec<(u32, u32, u32)>,
     words: &W,
@@ -87,8 +88,12 @@ fn push_stretch<W: Words>(
     ensures { IfOk result (λ _. CoverUpTo (W.is_word words.now) ranges.old.items from →
         CoverUpTo (W.is_word words.now) ranges.new.items end) }
 {
-    if from < end {
-        ranges.push((from, end - 1, words.word_of(from)))?;
+    if from == end {
+        return Ok(());
+    }
+    let word = words.word_of(from);
+    if word != 0 {
+        ranges.push((from, end - 1, word))?;
     }
     Ok(())
 }

@@ -1,4 +1,6 @@
 //! How the word of a character spells its list.
+#![tactic(auto, unfolding(crate::specs::Spelling::spelling, crate::specs::Spelling::spelling_or_ignored, crate::specs::Spelling::final_word, normalizer_tables::specs::Conditions::is_surrogate, crate::specs::Spelling::spelling_by_list, crate::specs::Spelling::has_fixed_list, crate::specs::Spelling::spelling_of_list, crate::specs::Spelling::spells_two, normalizer_tables::specs::Words::has_high_zeros, normalizer_tables::specs::Words::has_low_zeros))]
+
 ghost use Rattle.std.specs.Prelude.{◌≡◌, option_copied};
 ghost use Rattle.normalizer_tables.specs.Entries.{class_in};
 ghost use Rattle.normalizer_packing.specs.Spelling.{HasRoomForFlags, final_word, has_fixed_list, have_classes};
@@ -23,7 +25,6 @@ pub enum Spelling {
 }
 
 /// How the word of a character spells its list. Without one the character is ignored.
-#[tactic(auto, unfolding(crate::specs::Spelling::spelling, crate::specs::Spelling::spelling_or_ignored))]
 pub fn spell(entries: &Entries<'_>, character: char, list: Option<&[char]>) -> Spelling
     ensures line { result ≡ spelling (class_in entries.now) character (option_copied list.entry) }
     ensures room { HasRoomForFlags result }
@@ -38,7 +39,6 @@ pub fn spell(entries: &Entries<'_>, character: char, list: Option<&[char]>) -> S
 }
 
 /// The word, with its flags, of numbers whose list no entry changes.
-#[tactic(auto, unfolding(crate::specs::Spelling::final_word))]
 pub fn final_word(number: u32) -> Option<u32>
     ensures { result ≡ final_word number }
 {
@@ -53,14 +53,12 @@ pub fn final_word(number: u32) -> Option<u32>
     }
 }
 
-#[tactic(auto, unfolding(normalizer_tables::specs::Conditions::is_surrogate))]
 fn is_surrogate(number: u32) -> bool
     ensures { result ≡ is_surrogate number }
 {
     0xD800 <= number && number <= 0xDFFF
 }
 
-#[tactic(auto, unfolding(crate::specs::Spelling::spelling_by_list))]
 fn spelling_by_list(entries: &Entries<'_>, character: char, list: &[char]) -> Spelling
     ensures line { result ≡ spelling_by_list (class_in entries.now) character list.now }
     ensures room { HasRoomForFlags result }
@@ -76,7 +74,6 @@ fn spelling_by_list(entries: &Entries<'_>, character: char, list: &[char]) -> Sp
 }
 
 /// Whether a character is one of the nine that have a fixed list, with that list and its classes.
-#[tactic(auto, unfolding(crate::specs::Spelling::has_fixed_list))]
 fn has_fixed_list(entries: &Entries<'_>, character: char, list: &[char]) -> bool
     ensures { result ≡ has_fixed_list (class_in entries.now) character list.now }
 {
@@ -105,7 +102,6 @@ fn have_classes(entries: &Entries<'_>, classes: &[u8], list: &[char]) -> bool
 }
 
 /// How a list is spelled that isn't the character alone.
-#[tactic(auto, unfolding(crate::specs::Spelling::spelling_of_list))]
 fn spelling_of_list(entries: &Entries<'_>, character: char, list: &[char]) -> Spelling
     ensures line { result ≡ spelling_of_list (class_in entries.now) character list.now }
     ensures room { HasRoomForFlags result }
@@ -120,7 +116,6 @@ fn spelling_of_list(entries: &Entries<'_>, character: char, list: &[char]) -> Sp
 }
 
 /// How a list of two characters is spelled: in one word if both have 15 bits and it is no other form of word.
-#[tactic(auto, unfolding(crate::specs::Spelling::spells_two, normalizer_tables::specs::Words::has_high_zeros, normalizer_tables::specs::Words::has_low_zeros))]
 fn spelling_of_two(entries: &Entries<'_>, character: char, first: char, second: char) -> Spelling
     ensures line { result ≡ spelling_of_two (class_in entries.now) character first second }
     ensures room { HasRoomForFlags result }

@@ -1,11 +1,13 @@
 //! The supplement: one step of decomposition, if the word of canonical data doesn't determine it.
+#![tactic(auto, using(crate::proofs::StepLemmas::no_step, crate::proofs::StepLemmas::step_among), unfolding(crate::specs::Steps::asked_step, crate::specs::Steps::asks_supplement, crate::specs::Steps::are_narrow, crate::specs::Steps::stored_step, crate::specs::Steps::stored_steps, crate::specs::Stored::first_come, crate::specs::Steps::step_in, crate::specs::Steps::word_of_step, crate::specs::Steps::step_lists))]
+
 ghost use Rattle.std.specs.Prelude.{◌≡◌, true, false, [], ◌∷◌, List, Some, IfOk};
 ghost use Rattle.normalizer_tables.specs.Entries.{class_in, entry_of};
 ghost use Rattle.normalizer_tables.specs.Pairs.{Pair};
 ghost use Rattle.normalizer_packing.specs.Stored.{first_come, is_among, place_of};
 ghost use Rattle.normalizer_packing.specs.inner.Stores.{Holds};
 ghost use Rattle.normalizer_packing.specs.Steps.{are_narrow, asked_step, asks_supplement, step_in, step_lists};
-ghost use Rattle.normalizer_packing.specs.inner.Stretches.{ListsTold};
+ghost use Rattle.normalizer_packing.specs.inner.Stretches.{AreBreakpoints};
 ghost use Rattle.normalizer_packing.specs.Steps.{stored_step, stored_steps, word_of_place, word_of_step, PacksSteps};
 
 use crate::entries::Entries;
@@ -19,7 +21,6 @@ use normalizer_tables::word::is_class_form;
 use std::alloc::{AllocError, Global};
 
 /// The step of a character that needs the supplement.
-#[tactic(auto, unfolding(crate::specs::Steps::asked_step, crate::specs::Steps::asks_supplement))]
 fn asked_step(entries: &Entries<'_>, entry: &Entry) -> Step
     ensures { result ≡ asked_step entries.now entry.now }
 {
@@ -36,7 +37,6 @@ fn asked_step(entries: &Entries<'_>, entry: &Entry) -> Step
 }
 
 /// Whether a word of the supplement spells two characters.
-#[tactic(auto, unfolding(crate::specs::Steps::are_narrow))]
 fn are_narrow(first: char, second: char) -> bool
     ensures { result ≡ are_narrow first second }
 {
@@ -44,7 +44,6 @@ fn are_narrow(first: char, second: char) -> bool
 }
 
 /// The two characters of a step that only the table can hold.
-#[tactic(auto, unfolding(crate::specs::Steps::stored_step))]
 fn stored_step(step: Step) -> Option<[char; 2]>
     ensures { result ≡ stored_step step }
 {
@@ -55,7 +54,6 @@ fn stored_step(step: Step) -> Option<[char; 2]>
 }
 
 /// The steps that only the table can hold.
-#[tactic(auto, unfolding(crate::specs::Steps::stored_steps))]
 fn stored_steps(alloc: Global, entries: &Entries<'_>) -> Result<Vec<[char; 2]>, AllocError>
     ensures { IfOk result (λ v. v.items ≡ stored_steps entries.now) }
 {
@@ -69,7 +67,6 @@ fn stored_steps(alloc: Global, entries: &Entries<'_>) -> Result<Vec<[char; 2]>, 
 }
 
 /// The store of lists of two, equal ones once.
-#[tactic(auto, unfolding(crate::specs::Stored::first_come))]
 fn store_of<'s>(alloc: Global, steps: &'s [[char; 2]]) -> Result<Store<'s>, AllocError>
     ensures { IfOk result (Holds (first_come steps.now)) }
 {
@@ -98,7 +95,6 @@ impl Words for StepWords<'_, '_, '_> {
 
     ghost is_word = { λ w n v. v ≡ word_of_step (step_lists w.entries.now) (step_in w.entries.now n) };
 
-    #[tactic(auto, using(crate::proofs::StepLemmas::no_step))]
     fn word_of(&self, number: u32) -> u32 {
         match char::from_u32(number) {
             Some(character) => self.word_of_character(character),
@@ -109,7 +105,6 @@ impl Words for StepWords<'_, '_, '_> {
 
 impl StepWords<'_, '_, '_> {
     /// The step that the supplement has of a character.
-    #[tactic(auto, unfolding(crate::specs::Steps::step_in))]
     fn step_of(&self, character: char) -> Step
         ensures { result ≡ step_in self.now.entries.now character }
     {
@@ -119,7 +114,6 @@ impl StepWords<'_, '_, '_> {
         }
     }
 
-    #[tactic(auto, using(crate::proofs::StepLemmas::step_among), unfolding(crate::specs::Steps::word_of_step, crate::specs::Steps::are_narrow))]
     fn word_of_character(&self, character: char) -> u32
         requires { Holds (step_lists self.now.entries.now) self.now.store }
         ensures { result ≡ word_of_step (step_lists self.now.entries.now) (step_in self.now.entries.now character) }
@@ -151,19 +145,18 @@ impl StepWords<'_, '_, '_> {
 ///
 /// # Errors
 /// [`AllocError`] if an allocation was refused.
-#[tactic(auto, unfolding(crate::specs::Steps::step_lists))]
 pub fn supplement_of(
     alloc: Global,
     entries: &Entries<'_>,
-    told: &[char],
+    breakpoints: &[char],
 ) -> Result<NonRecursiveDecompositionSupplement, AllocError>
-    requires { (pairs : List Pair) × ListsTold entries.now pairs told.now }
+    requires { (pairs : List Pair) × AreBreakpoints entries.now pairs breakpoints.now }
     ensures { IfOk result (PacksSteps entries.now) }
 {
     let steps = stored_steps(alloc, entries)?;
     let store = store_of(alloc, steps.as_slice())?;
     let words = StepWords { entries, store };
-    let table = table_of(alloc, &words, told)?;
+    let table = table_of(alloc, &words, breakpoints)?;
     let StepWords { store, .. } = words;
     let mut scalars24 = store.into_scalars24();
     scalars24.truncate(STEP_LIMIT);

@@ -1,10 +1,12 @@
 //! Tables of the lists that no word spells.
+#![tactic(auto, using(crate::proofs::PlaceLemmas::place_within, crate::proofs::StoreLemmas::narrow_member), unfolding(crate::specs::inner::Stores::stored_place, crate::specs::Stored::items_of, crate::specs::Stored::is_among, crate::specs::Stored::item_at, crate::specs::Stored::is_narrow, crate::specs::Stored::listed_of))]
+
 ghost use Rattle.std.specs.Prelude.{◌≡◌, ◌++◌, nat_le, [], ◌∷◌, true, OnOk, IfOk, length, option_copied};
 ghost use Rattle.std.specs.List.{list_all};
 ghost use Rattle.normalizer_tables.specs.Conditions.{item_count};
 ghost use Rattle.normalizer_tables.specs.Entries.{class_in};
 ghost use Rattle.normalizer_packing.specs.Stored.{is_narrow, item_at, listed_in, listed_of};
-ghost use Rattle.normalizer_packing.specs.inner.Stores.{place_in, tables_in, Holds, HoldsLists, HoldsMore, StandsAt};
+ghost use Rattle.normalizer_packing.specs.inner.Stores.{stored_place, tables_in, Holds, HoldsLists, HoldsMore, StandsAt};
 
 use crate::entries::Entries;
 use crate::spelling::{Spelling, spell};
@@ -23,7 +25,6 @@ pub struct Store<'a> {
 
 impl<'a> Store<'a> {
     /// Makes a store of no list.
-    #[tactic(auto, unfolding(crate::specs::inner::Stores::place_in, crate::specs::Stored::items_of, crate::specs::Stored::is_among))]
     pub fn new(alloc: Global) -> Self
         ensures { Holds [] result }
     {
@@ -35,15 +36,13 @@ impl<'a> Store<'a> {
     }
 
     /// The place of a list in its table.
-    #[tactic(auto, unfolding(crate::specs::inner::Stores::place_in))]
     pub fn place_of(&self, list: &[char]) -> Option<usize>
-        ensures { result ≡ place_in self.now list.now }
+        ensures { result ≡ stored_place self.now list.now }
     {
         self.places.get(list).copied()
     }
 
     /// The item of a place of a list, if the two tables are put one after the other.
-    #[tactic(auto, using(crate::proofs::PlaceLemmas::place_within), unfolding(crate::specs::Stored::item_at))]
     pub fn item_at(&self, list: &[char], place: usize) -> usize
         requires { StandsAt (tables_in self.now) list.now place }
         ensures { result ≡ item_at (tables_in self.now) list.now place }
@@ -102,7 +101,6 @@ impl<'a> Store<'a> {
 }
 
 /// Whether a list goes into the table of 16-bit numbers.
-#[tactic(auto, unfolding(crate::specs::Stored::is_narrow))]
 pub fn is_narrow(list: &[char]) -> bool
     ensures { result ≡ is_narrow list.now }
 {
@@ -117,7 +115,6 @@ fn fits_units(list: &[char]) -> bool
 }
 
 /// Appends a list to a table of 16-bit numbers, and returns its place.
-#[tactic(auto, using(crate::proofs::StoreLemmas::narrow_member))]
 fn append_narrow(units: &mut Vec<u16>, list: &[char]) -> Result<usize, AllocError>
     requires { is_narrow list.now ≡ true }
     ensures place { IfOk result (λ n. n ≡ length units.old.items) }
@@ -141,7 +138,6 @@ fn append_wide(scalars: &mut Vec<char>, list: &[char]) -> Result<usize, AllocErr
 }
 
 /// The list of an entry, if its word doesn't spell it.
-#[tactic(auto, unfolding(crate::specs::Stored::listed_of))]
 pub fn listed_of<'a>(entries: &Entries<'_>, kind: Kind, entry: &'a Entry) -> Option<&'a [char]>
     ensures { option_copied result ≡ listed_of (class_in entries.now) kind entry.now }
 {

@@ -1,4 +1,6 @@
 //! The words of one kind of data.
+#![tactic(auto, using(crate::proofs::WordLemmas::packed_words, crate::proofs::PlaceLemmas::listed_places), unfolding(normalizer_tables::specs::Entries::kept_list))]
+
 ghost use Rattle.std.specs.Prelude.{◌≡◌, ◌<◌, true};
 ghost use Rattle.normalizer_tables.specs.Conditions.{item_limit};
 ghost use Rattle.normalizer_packing.specs.inner.PackedWords.{CanPoint};
@@ -42,7 +44,6 @@ impl Words for PackedWords<'_, '_> {
 }
 
 impl PackedWords<'_, '_> {
-    #[tactic(auto, using(crate::proofs::WordLemmas::packed_words), unfolding(normalizer_tables::specs::Entries::kept_list))]
     fn word_of_character(&self, character: char) -> u32
         requires { CanPoint self.now.entries.now self.now.stores.now }
         ensures { IsPackedWord self.now.kind self.now.entries.now self.now.compositions.now character result }
@@ -63,7 +64,6 @@ impl PackedWords<'_, '_> {
     }
 
     /// The first item of a list in the four tables, put one after another.
-    #[tactic(auto, using(crate::proofs::PlaceLemmas::listed_places))]
     fn item_of(&self, list: &[char]) -> u32
         requires ready { CanPoint self.now.entries.now self.now.stores.now }
         requires listed { is_among list.now (listed_in self.now.entries.now self.now.kind) ≡ true }

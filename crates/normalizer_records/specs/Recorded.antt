@@ -1,6 +1,8 @@
 -- What is packed of recorded characters.
-use Rattle.std.specs.Prelude.{◌≡◌, ℕ, List, ◌++◌, map, All, Contains, Option, None, unwrap_or}
+use Rattle.std.specs.Prelude.{◌≡◌, ◌<◌, ℕ, List, ◌++◌, map, All, Contains, IfSome, Option, None, unwrap_or}
+use Rattle.std.specs.Char.{IsScalar}
 use Rattle.std.specs.List.Sorted.{IsPermutation, IsStrictlyIncreasing}
+use Rattle.normal_forms.specs.Reading.{IsText}
 use Rattle.normalizer_tables.specs.Pairs.{Pair, AreRising as ArePairsRising}
 use Rattle.normalizer_tables.specs.declared.step.Step.{Step}
 use Rattle.normalizer_tables.specs.declared.step.Step.TheVariants.{Default}
@@ -36,6 +38,14 @@ entry_for records uts46 c = record {
   mapping = unwrap_or (recorded_step records c) Default;
 }
 
+-- an entry of scalar values (D76), whose class has 8 bits
+pub record IsOfCharacters (e : CharacterEntry) : Type 0 where
+  pub character : IsScalar e.character
+  pub class : e.class < 0x100
+  pub canonical : IsText e.canonical
+  pub compatibility : IsText e.compatibility
+  pub mapper : IfSome e.mapper IsText
+
 -- an entry for each character that has a record of either kind, in their order
 pub record AreMadeOf (records : List Entry) (uts46 : List MapperEntry) (entries : List CharacterEntry) : Type 0 where
   pub characters : List ℕ
@@ -47,5 +57,6 @@ pub record AreExpanded (records : List Entry) (uts46 : List MapperEntry) (entrie
     (pairs : List Pair) : Type 0 where
   pub unrefused : IsFirstRefusal records uts46 None
   pub made : AreMadeOf records uts46 entries
+  pub characters : All IsOfCharacters entries
   pub same_pairs : IsPermutation (pairs_of records) pairs
   pub rising_pairs : ArePairsRising pairs

@@ -1,4 +1,6 @@
 //! The faults that each record shows by itself, and the order of the records.
+#![tactic(auto, unfolding(crate::specs::Faults::has_fixed_fault, crate::specs::Faults::is_fixed, crate::specs::Faults::is_fixed_for_mapper, crate::specs::Faults::has_mapping_fault, crate::specs::Faults::is_bad_mapping, crate::specs::Faults::is_bad_canonical, crate::specs::Faults::is_never_second))]
+
 ghost use Rattle.std.specs.Prelude.{◌≡◌, ◌↔◌, IsTrue};
 ghost use Rattle.std.specs.List.{list_any};
 ghost use Rattle.std.specs.Int.{is_in_range};
@@ -37,7 +39,6 @@ pub(crate) fn are_mapper_rising(uts46: &[Uts46Record]) -> bool
 }
 
 /// Whether a record is of a character whose data are fixed.
-#[tactic(auto, unfolding(crate::specs::Faults::has_fixed_fault))]
 pub(crate) fn has_fixed_fault(records: &[Record], uts46: &[Uts46Record]) -> bool
     ensures { result ≡ has_fixed_fault records.now uts46.now }
 {
@@ -56,7 +57,6 @@ fn has_fixed_mapper_record(uts46: &[Uts46Record]) -> bool
     uts46.iter().any(|record| is_fixed_for_mapper(record))
 }
 
-#[tactic(auto, unfolding(crate::specs::Faults::is_fixed))]
 fn is_fixed(c: char) -> bool
     ensures { result ≡ is_fixed c }
 {
@@ -70,7 +70,6 @@ fn is_in_hangul_jamo(c: char) -> bool
     '\u{1100}' <= c && c <= '\u{11FF}'
 }
 
-#[tactic(auto, unfolding(crate::specs::Faults::is_fixed_for_mapper))]
 fn is_fixed_for_mapper(record: &Uts46Record) -> bool
     ensures { result ≡ is_fixed_for_mapper record.now }
 {
@@ -88,7 +87,6 @@ fn is_disallowed(status: &Uts46Status) -> bool
 }
 
 /// Whether a mapping has a wrong length, or a character that it must not have.
-#[tactic(auto, unfolding(crate::specs::Faults::has_mapping_fault))]
 pub(crate) fn has_mapping_fault(records: &[Record], uts46: &[Uts46Record]) -> bool
     ensures { result ≡ has_mapping_fault records.now uts46.now }
 {
@@ -107,7 +105,6 @@ fn has_bad_status(uts46: &[Uts46Record]) -> bool
     uts46.iter().any(|record| is_bad_status(&record.status))
 }
 
-#[tactic(auto, unfolding(crate::specs::Faults::is_bad_mapping))]
 fn is_bad_mapping(record: &Record) -> bool
     ensures { result ≡ is_bad_mapping record.now }
 {
@@ -119,7 +116,6 @@ fn is_bad_mapping(record: &Record) -> bool
     has_zero(&record.mapping) || is_bad
 }
 
-#[tactic(auto, unfolding(crate::specs::Faults::is_bad_canonical))]
 fn is_bad_canonical(mapping: &[char]) -> bool
     ensures { result ≡ is_bad_canonical mapping.now }
 {
@@ -130,7 +126,6 @@ fn is_bad_canonical(mapping: &[char]) -> bool
     }
 }
 
-#[tactic(auto, unfolding(crate::specs::Faults::is_never_second))]
 fn is_never_second(c: char) -> bool
     ensures { result ≡ is_never_second c }
 {

@@ -2,7 +2,6 @@
 #![tactic(auto)]
 
 mod chains;
-mod characters;
 mod expansion;
 mod faults;
 pub mod laws;
@@ -11,12 +10,11 @@ mod lists;
 mod lookup;
 mod ordering;
 mod pair_list;
+mod recorded;
 mod records;
 mod refusals;
-mod step;
 
-pub use lookup::{canonical_mapping_of, class_of};
+pub use lookup::{canonical_mapping_of, class_of, recorded_step};
 pub use pair_list::pairs;
 pub use records::{BuildError, Mappings, Record, Uts46Record, Uts46Status};
 pub use refusals::{ExpandedRecords, expanded};
-pub use step::recorded_step;

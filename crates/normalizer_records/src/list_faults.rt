@@ -18,12 +18,11 @@ ghost use Rattle.normalizer_records.specs.Faults.{
   is_long,
 };
 ghost use Rattle.normalizer_records.specs.Meaning.{class_of};
-ghost use Rattle.normalizer_records.specs.Recorded.{entry_for};
+ghost use Rattle.normalizer_records.specs.Recorded.{IsOfCharacters, entry_for};
 
 use crate::lists::{cut_list, cut_mapper_list};
-use crate::lookup::class_of;
+use crate::lookup::{class_of, recorded_step};
 use crate::records::{Mappings, Record, Uts46Record};
-use crate::step::recorded_step;
 use normalizer_tables::entry::Entry;
 use normalizer_tables::members::Members;
 use normalizer_tables::special::fixed_list_of;
@@ -180,6 +179,7 @@ pub(crate) fn checked_entry(
     ensures class { IfOk result (λ both. IsTrue both.1.class ↔ HasWrongClass records.now uts46.now c) }
     ensures length { IfOk result (λ both. IsTrue both.1.length ↔ HasLongList records.now uts46.now c) }
     ensures entry { IfOk result (λ both. HasRoom records.now uts46.now c → both.0 ≡ entry_for records.now uts46.now c) }
+    ensures characters { IfOk result (λ both. IsOfCharacters both.0) }
 {
     let canonical = cut_list(alloc, records, Mappings::Canonical, c)?;
     let compatibility = cut_list(alloc, records, Mappings::All, c)?;

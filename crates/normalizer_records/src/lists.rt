@@ -1,6 +1,7 @@
 //! The lists of characters, as records mean them.
-ghost use Rattle.std.specs.Prelude.{IfOk};
+ghost use Rattle.std.specs.Prelude.{IfOk, IfSome};
 ghost use Rattle.std.specs.Option.{option_map};
+ghost use Rattle.normal_forms.specs.Reading.{IsText};
 ghost use Rattle.normalizer_records.specs.inner.Cut.{MayStandFor, StandsFor};
 ghost use Rattle.normalizer_records.specs.Faults.{AreMapperRising, AreRising};
 ghost use Rattle.normalizer_records.specs.Meaning.{canonical_list, full_list, list_of_status, mapper_list};
@@ -19,7 +20,8 @@ pub(crate) fn cut_list(
     c: char,
 ) -> Result<Vec<char>, AllocError>
     requires { AreRising records.now }
-    ensures { IfOk result (λ v. StandsFor records.now (full_list records.now mappings c) v.items) }
+    ensures list { IfOk result (λ v. StandsFor records.now (full_list records.now mappings c) v.items) }
+    ensures text { IfOk result (λ v. IsText v.items) }
 {
     let list = cut_text(alloc, records, mappings, &[c])?;
     Ok(list)
@@ -36,8 +38,10 @@ pub(crate) fn cut_mapper_list(
     requires records { AreRising records.now }
     requires mapper { AreMapperRising uts46.now }
     requires canonical { StandsFor records.now (canonical_list records.now c) canonical.now }
-    ensures { IfOk result (λ o.
+    requires text { IsText canonical.now }
+    ensures list { IfOk result (λ o.
         MayStandFor records.now (mapper_list records.now uts46.now c) (option_map (λ v. v.items) o)) }
+    ensures text { IfOk result (λ o. IfSome (option_map (λ v. v.items) o) IsText) }
 {
     match uts46_record_of(uts46, c) {
         None => {
@@ -54,8 +58,9 @@ fn cut_mapped_list(
     status: &Uts46Status,
 ) -> Result<Option<Vec<char>>, AllocError>
     requires { AreRising records.now }
-    ensures { IfOk result (λ o.
+    ensures list { IfOk result (λ o.
         MayStandFor records.now (list_of_status records.now (status_value status.now)) (option_map (λ v. v.items) o)) }
+    ensures text { IfOk result (λ o. IfSome (option_map (λ v. v.items) o) IsText) }
 {
     match status {
         Uts46Status::Ignored => Ok(None),

@@ -1,12 +1,17 @@
 //! The record of a character.
+#![tactic(auto, unfolding(crate::specs::Meaning::class_of, crate::specs::Meaning::mapping_of, crate::specs::Meaning::canonical_mapping_of, crate::specs::Recorded::recorded_step))]
+
 ghost use Rattle.std.specs.Prelude.{◌≡◌};
 ghost use Rattle.std.specs.Option.{option_map};
 ghost use Rattle.normalizer_records.specs.declared.records.Mappings.TheVariants.{Canonical};
 ghost use Rattle.normalizer_records.specs.Faults.{AreRising, AreMapperRising};
 ghost use Rattle.normalizer_records.specs.Meaning.{canonical_mapping_of, class_of, entry_of, mapping_among};
 ghost use Rattle.normalizer_records.specs.Meaning.{mapping_of, status_of};
+ghost use Rattle.normalizer_records.specs.Recorded.{recorded_step};
 
 use crate::records::{Record, Uts46Record};
+use normalizer_tables::members::Members;
+use normalizer_tables::step::{Step, step_to};
 
 /// The record of a character, by halving.
 pub(crate) fn record_of(records: &[Record], c: char) -> Option<&Record>
@@ -20,7 +25,6 @@ pub(crate) fn record_of(records: &[Record], c: char) -> Option<&Record>
 }
 
 /// Returns the recorded class of a character, 0 without a record.
-#[tactic(auto, unfolding(crate::specs::Meaning::class_of))]
 pub fn class_of(records: &[Record], c: char) -> u8
     requires { AreRising records.now }
     ensures { result ≡ class_of records.now c }
@@ -32,7 +36,6 @@ pub fn class_of(records: &[Record], c: char) -> u8
 }
 
 /// The recorded mapping of a character, empty without one.
-#[tactic(auto, unfolding(crate::specs::Meaning::mapping_of))]
 pub(crate) fn mapping_of(records: &[Record], c: char) -> &[char]
     requires { AreRising records.now }
     ensures { result.now ≡ mapping_of records.now c }
@@ -44,7 +47,6 @@ pub(crate) fn mapping_of(records: &[Record], c: char) -> &[char]
 }
 
 /// Returns the recorded canonical mapping of a character, empty without one.
-#[tactic(auto, unfolding(crate::specs::Meaning::canonical_mapping_of))]
 pub fn canonical_mapping_of(records: &[Record], c: char) -> &[char]
     requires { AreRising records.now }
     ensures { result.now ≡ canonical_mapping_of records.now c }
@@ -64,6 +66,14 @@ fn canonical_mapping(record: &Record) -> &[char]
     } else {
         record.mapping.as_slice()
     }
+}
+
+/// Returns the recorded canonical mapping of a character, if it has one of one or two characters.
+pub fn recorded_step(records: &[Record], c: char) -> Option<Step>
+    requires { AreRising records.now }
+    ensures { result ≡ recorded_step records.now c }
+{
+    step_to(&Members::of_scalars(canonical_mapping_of(records, c)))
 }
 
 /// What the mapper does with a character, if that is recorded.

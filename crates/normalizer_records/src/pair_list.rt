@@ -1,4 +1,6 @@
 //! The pairs of records.
+#![tactic(auto, unfolding(crate::specs::Meaning::pair_of_record, crate::specs::Meaning::pairs_of, normalizer_tables::specs::Pairs::is_before))]
+
 ghost use Rattle.std.specs.Prelude.{◌≡◌, IfOk};
 ghost use Rattle.std.specs.List.{IsAllAdjacentAnswer};
 ghost use Rattle.std.specs.List.Sorted.{IsPermutation, IsSorted};
@@ -12,7 +14,6 @@ use normalizer_tables::special::fixed_list_of;
 use std::alloc::{AllocError, Global};
 
 /// The pair of a record: second, first, and what they compose to.
-#[tactic(auto, unfolding(crate::specs::Meaning::pair_of_record))]
 fn pair_of_record(record: &Record) -> Option<(char, char, char)>
     ensures { result ≡ pair_of_record record.now }
 {
@@ -32,7 +33,6 @@ fn pair_of_mapping(c: char, mapping: &[char]) -> Option<(char, char, char)>
     }
 }
 
-#[tactic(auto, unfolding(crate::specs::Meaning::pairs_of))]
 fn unsorted_pairs(alloc: Global, records: &[Record]) -> Result<Vec<(char, char, char)>, AllocError>
     ensures { IfOk result (λ v. v.items ≡ pairs_of records.now) }
 {
@@ -60,7 +60,6 @@ pub fn pairs(alloc: Global, records: &[Record]) -> Result<Vec<(char, char, char)
     Ok(pairs)
 }
 
-#[tactic(auto, unfolding(normalizer_tables::specs::Pairs::is_before))]
 fn is_before(pair: &(char, char, char), next: &(char, char, char)) -> bool
     ensures { result ≡ is_before pair.now next.now.0 next.now.1 }
 {

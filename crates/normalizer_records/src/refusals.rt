@@ -1,5 +1,5 @@
 //! What is packed of records, or the first thing that is wrong with them.
-ghost use Rattle.std.specs.Prelude.{◌≡◌, ◌↔◌, ◌∷◌, ℕ, false, length, map, IfOk, IsTrue, MatchResult};
+ghost use Rattle.std.specs.Prelude.{◌≡◌, ◌↔◌, ◌∷◌, ℕ, All, false, length, map, IfOk, IsTrue, MatchResult};
 ghost use Rattle.std.specs.BTreeSet.{contains};
 ghost use Rattle.std.specs.List.{list_any};
 ghost use Rattle.std.specs.Ordering.{nat_cmp};
@@ -18,14 +18,14 @@ ghost use Rattle.normalizer_records.specs.Faults.{
   mapped_to,
 };
 ghost use Rattle.normalizer_records.specs.Meaning.{status_of};
-ghost use Rattle.normalizer_records.specs.Recorded.{AreExpanded, entry_for};
+ghost use Rattle.normalizer_records.specs.Recorded.{AreExpanded, IsOfCharacters, entry_for};
 
 use crate::chains::{has_any, on_long_chains};
-use crate::characters::sorted_characters;
 use crate::faults::{are_mapper_rising, are_rising, has_fixed_fault, has_mapping_fault};
 use crate::list_faults::{ListFaults, checked_entry};
 use crate::lookup::uts46_record_of;
 use crate::pair_list::{are_rising as are_rising_pairs, pairs};
+use crate::recorded::sorted_characters;
 use crate::records::{BuildError, Record, Uts46Record, Uts46Status};
 use normalizer_tables::entry::Entry;
 use std::alloc::{AllocError, Global};
@@ -72,6 +72,7 @@ fn checked_entries(
         (length characters.now) characters.now) }
     ensures entries { IfOk result (λ both. ((c : ℕ) → HasRoom records.now uts46.now c) →
         both.0.items ≡ map (entry_for records.now uts46.now) characters.now) }
+    ensures characters { IfOk result (λ both. All IsOfCharacters both.0.items) }
 {
     let mut entries = Vec::with_capacity(alloc, characters.len())?;
     let mut class = false;

@@ -11,8 +11,8 @@ use Rattle.normalizer_packing.specs.Stored.{apart_from, canonical_lists, first_c
 use Rattle.normalizer_packing.specs.Stored.{supplementary_lists, tables_of}
 
 -- the place of a list in its table
-unfoldable pub place_in : Store → List ℕ → Option ℕ
-place_in s x = get_by (λ k. slice_cmp nat_cmp x k.now) s.places
+unfoldable pub stored_place : Store → List ℕ → Option ℕ
+stored_place s x = get_by (λ k. slice_cmp nat_cmp x k.now) s.places
 
 abbrev pub tables_in : Store → Lists
 tables_in s = record { scalars16 = s.scalars16.items; scalars24 = s.scalars24.items }
@@ -24,7 +24,7 @@ StandsAt t x place = items_at (if is_narrow x then t.scalars16 else t.scalars24)
 -- the store holds these lists, one after another
 pub record Holds (lists : List (List ℕ)) (s : Store) : Type 0 where
   pub tables : tables_in s ≡ tables_of lists
-  pub places : (x : List ℕ) → place_in s x ≡ (if is_among x lists then Some (place_of lists x) else None)
+  pub places : (x : List ℕ) → stored_place s x ≡ (if is_among x lists then Some (place_of lists x) else None)
 
 -- the lists with x appended, if it isn't among them
 unfoldable pub with_list : List (List ℕ) → List ℕ → List (List ℕ)

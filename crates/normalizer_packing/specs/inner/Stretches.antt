@@ -15,10 +15,10 @@ pub record CoverUpTo (is_word : ℕ → ℕ → Type 0) (rs : List WordRange) (e
 unfoldable pub IsStretch : (ℕ → ℕ → Type 0) → ℕ → ℕ → Type 0
 IsStretch is_word from end = (n w : ℕ) → from ≤ n → n < end → is_word from w → is_word n w
 
--- two neighbours have one word, unless one of them is listed in `told`
+-- two neighbours have one word, unless one of them is listed in `breakpoints`
 unfoldable pub AreAlike : (ℕ → ℕ → Type 0) → List ℕ → Type 0
-AreAlike is_word told =
-    (n w : ℕ) → ¬ Contains told n → ¬ Contains told (n + 1) → is_word n w → is_word (n + 1) w
+AreAlike is_word breakpoints =
+    (n w : ℕ) → ¬ Contains breakpoints n → ¬ Contains breakpoints (n + 1) → is_word n w → is_word (n + 1) w
 
 -- the numbers at which the words of packed data may change whatever the entries say: the first composing vowel and
 -- trailing consonant of Hangul, and the first characters after them and after their block; the first syllable and the
@@ -27,10 +27,10 @@ abbrev pub edges : List ℕ
 edges = 0x1161 ∷ 0x1176 ∷ 0x11A8 ∷ 0x11C3 ∷ 0x1200 ∷ 0xAC00 ∷ 0xD7A4 ∷ 0xD7FF ∷ 0xE000 ∷ 0xFFFD ∷ []
 
 -- the numbers of which entries, pairs, or the packing of numbers that no entry changes say something
-abbrev pub told_numbers : List CharacterEntry → List Pair → List ℕ
-told_numbers entries pairs = map (λ e. e.character) entries ++ map (λ p. p.0) pairs ++ edges
+abbrev pub breakpoint_numbers : List CharacterEntry → List Pair → List ℕ
+breakpoint_numbers entries pairs = map (λ e. e.character) entries ++ map (λ p. p.0) pairs ++ edges
 
 -- they all, in their order
-pub record ListsTold (entries : List CharacterEntry) (pairs : List Pair) (told : List ℕ) : Type 0 where
-  pub all : (n : ℕ) → Contains (told_numbers entries pairs) n → Contains told n
-  pub rising : IsStrictlyIncreasing told
+pub record AreBreakpoints (entries : List CharacterEntry) (pairs : List Pair) (breakpoints : List ℕ) : Type 0 where
+  pub all : (n : ℕ) → Contains (breakpoint_numbers entries pairs) n → Contains breakpoints n
+  pub rising : IsStrictlyIncreasing breakpoints

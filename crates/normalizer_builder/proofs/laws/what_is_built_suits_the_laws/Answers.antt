@@ -8,22 +8,20 @@ use Rattle.normalizer_packing.specs.ReadBack.{characters_of}
 use Rattle.normalizer_records.specs.declared.records.Mappings.TheVariants.{Canonical, All}
 use Rattle.normalizer_builder.specs.Readings.{recorded_reading}
 use Rattle.normalizer_builder.proofs.AcceptedData.{accepted_characters, accepted_pairs, nfc_met, nfkc_met}
-use Rattle.normalizer_builder.proofs.FitData.{fit_of_records}
 use Rattle.normalizer_builder.proofs.RecordedLaws.{alike_canonical, alike_compatibility}
 use Rattle.normalizer_builder.proofs.laws.what_is_built_suits_the_laws.Goals as goal
 
 pub returns-clause-suits : goal.returns-clause-suits
 returns-clause-suits c = λ records uts46 p builds m form. (
-    let fit = fit_of_records records p builds.fit in
     let a = characters_of p kind.Canonical in
     let b = characters_of p kind.Compatibility in
     let texts = c.accepted_data_suit_texts.ensures.composing in
     let suits = c.alike_readings_make_the_same_forms.ensures.suits in
     elim m as (λ k. SuitsForm (recorded_reading records k) form) [
       | Canonical ↦ suits _ _ (alike_canonical records uts46 p builds.means) form
-          (texts a (bounds_of_cap a.decompositions.cap) p.compositions refl (accepted_characters a p.compositions (nfc_met p fit)) (accepted_pairs a p.compositions (nfc_met p fit)) form).laws
+          (texts a (bounds_of_cap a.decompositions.cap) p.compositions refl (accepted_characters a p.compositions (nfc_met records p builds.fit)) (accepted_pairs a p.compositions (nfc_met records p builds.fit)) form).laws
       | All ↦ suits _ _ (alike_compatibility records uts46 p builds.means) form
-          (texts b (bounds_of_cap b.decompositions.cap) p.compositions refl (accepted_characters b p.compositions (nfkc_met p fit)) (accepted_pairs b p.compositions (nfkc_met p fit)) form).laws
+          (texts b (bounds_of_cap b.decompositions.cap) p.compositions refl (accepted_characters b p.compositions (nfkc_met records p builds.fit)) (accepted_pairs b p.compositions (nfkc_met records p builds.fit)) form).laws
     ])
 
 pub returns-clause-inhabited : goal.returns-clause-inhabited

@@ -7,4 +7,4 @@ use Rattle.normalizer_packing.proofs.ranges.ranges_of.Given as goal
 -- the numbers before `from` have their words, and no listed one after it was passed
 abbrev pub invariant-loop-character : goal.invariant-loop-character
 invariant-loop-character g l =
-    CoverUpTo (g.W.Words.is_word l.words) l.ranges.items l.from × HasPassed l.told l.character-index l.from × (l.from ≤ code_points)
+    CoverUpTo (g.W.Words.is_word l.words) l.ranges.items l.from × HasPassed l.breakpoints l.character-index l.from × (l.from ≤ code_points)

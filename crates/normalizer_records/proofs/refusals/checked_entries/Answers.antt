@@ -1,7 +1,8 @@
 use Rattle.std.proofs.Common.{◌≡◌, ◌<◌, ◌+◌, ◌++◌, ◌∷◌, [], ℕ, length, map, take, arith, ap, sym, ◌∙◌}
 use Rattle.std.proofs.lemmas.List.{get_or_read, map-append, take_more}
+use Rattle.std.proofs.lemmas.List.Elements.{All-push}
 use Rattle.normalizer_records.specs.Faults.{IsAsked, HasWrongClass, HasLongList}
-use Rattle.normalizer_records.specs.Recorded.{entry_for}
+use Rattle.normalizer_records.specs.Recorded.{IsOfCharacters, entry_for}
 use Rattle.normalizer_records.proofs.OrLemmas.{IsOfSome-more}
 use Rattle.normalizer_records.proofs.RefusalLemmas.{asked, not_asked}
 use Rattle.normalizer_records.proofs.refusals.checked_entries.Goals as goal
@@ -29,11 +30,13 @@ loop-place-preserved c =
             class = more (HasWrongClass records uts46) _ _ _ w.class-is c.loop-place.invariant.class (given _ _ c.in_ok-entry.ensures.class);
             length = more (HasLongList records uts46) _ _ _ w.length-is c.loop-place.invariant.length (given _ _ c.in_ok-entry.ensures.length);
             made = λ room. (let before = so_far room in let here = entry (room x) in rw grown cc);
+            characters = rw pushed (All-push IsOfCharacters _ _ c.loop-place.invariant.characters c.in_ok-entry.ensures.characters);
           }
       | else-not-is_among w ↦
           let never = not_asked records uts46 c.args.long.now c.requires.chains x (sym c.is_among.ensures ∙ w.if-not-is_among.false) in record {
             class = more (HasWrongClass records uts46) _ _ _ w.class-is c.loop-place.invariant.class (never (HasWrongClass records uts46 x));
             length = more (HasLongList records uts46) _ _ _ w.length-is c.loop-place.invariant.length (never (HasLongList records uts46 x));
             made = λ room. (let before = so_far room in let here = entry (room x) in rw grown cc);
+            characters = rw pushed (All-push IsOfCharacters _ _ c.loop-place.invariant.characters c.in_ok-entry.ensures.characters);
           }
     ]

@@ -37,6 +37,7 @@ returns-in-None c =
     record {
       unrefused = none;
       made = record { characters = _; listed = listed; made = rw same at c.in_ok-entries.ensures.entries (room records uts46 none) };
+      characters = c.in_ok-entries.ensures.characters;
       same_pairs = c.in_ok-pairs.ensures.same;
       rising_pairs = c.in_ok-pairs.ensures.rising (none Pair);
     }

@@ -9,8 +9,8 @@ returns-in_err-expanded c =
     let is : c.from_residual.result ≡ Err c.in_err-expanded.field-0.0 = search rules in
     rw is (IsSmallest-refusal c.args.records.now c.args.uts46.now c.in_err-expanded.field-0.0 c.in_err-expanded.ensures)
 
-pub first_unfit_of_records-requires : goal.first_unfit_of_records-requires
-first_unfit_of_records-requires c = rising c.args.records.now c.args.uts46.now c.in_ok-expanded.ensures.unrefused
+pub first_unmet-requires : goal.first_unmet-requires
+first_unmet-requires c = rising c.args.records.now c.args.uts46.now c.in_ok-expanded.ensures.unrefused
 
 pub returns-in-None : goal.returns-in-None
 returns-in-None c =

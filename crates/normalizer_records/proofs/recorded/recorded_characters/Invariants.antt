@@ -1,5 +1,5 @@
 use Rattle.std.proofs.Common.{◌≡◌, ◌++◌, map, take}
-use Rattle.normalizer_records.proofs.characters.recorded_characters.Given as goal
+use Rattle.normalizer_records.proofs.recorded.recorded_characters.Given as goal
 
 -- the characters of the records so far
 abbrev pub invariant-loop-entry : goal.invariant-loop-entry

@@ -6,7 +6,7 @@ use Rattle.std.proofs.lemmas.List.Kept.{Contains-dedup_nat}
 use Rattle.std.proofs.lemmas.List.Sorted.{All-permutation, Contains-permutation}
 use Rattle.std.proofs.lemmas.Map.Keys.{IsStrictlyIncreasing-dedup}
 use Rattle.normalizer_records.specs.Recorded.{recorded_characters}
-use Rattle.normalizer_records.proofs.characters.sorted_characters.Goals as goal
+use Rattle.normalizer_records.proofs.recorded.sorted_characters.Goals as goal
 
 -- the sort only moves the characters, and one of each is kept
 pub returns : goal.returns

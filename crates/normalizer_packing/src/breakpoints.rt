@@ -1,8 +1,8 @@
 //! The characters at which the word may change: all numbers between two of them have one word.
 ghost use Rattle.std.specs.Prelude.{◌≡◌, IfOk, map};
-ghost use Rattle.normalizer_packing.specs.inner.Stretches.{ListsTold, told_numbers};
+ghost use Rattle.normalizer_packing.specs.inner.Stretches.{AreBreakpoints, breakpoint_numbers};
 
-use crate::entries::characters_of;
+use crate::entries::entry_characters;
 use normalizer_tables::entry::Entry;
 use std::alloc::{AllocError, Global};
 
@@ -19,30 +19,31 @@ const EDGES: [char; 10] = [
 ///
 /// # Errors
 /// [`AllocError`] if an allocation was refused.
-pub fn told_characters(
+pub fn breakpoints_of(
     alloc: Global,
     entries: &[Entry],
     pairs: &[(char, char, char)],
 ) -> Result<Vec<char>, AllocError>
-    ensures { IfOk result (λ v. ListsTold entries.now pairs.now v.items) }
+    ensures { IfOk result (λ v. AreBreakpoints entries.now pairs.now v.items) }
 {
-    let mut told = unsorted_characters(alloc, entries, pairs)?;
-    told.sort_unstable();
-    told.dedup();
-    Ok(told)
+    let mut breakpoints = unsorted_breakpoints(alloc, entries, pairs)?;
+    breakpoints.sort_unstable();
+    breakpoints.dedup();
+    Ok(breakpoints)
 }
 
-fn unsorted_characters(
+fn unsorted_breakpoints(
     alloc: Global,
     entries: &[Entry],
     pairs: &[(char, char, char)],
 ) -> Result<Vec<char>, AllocError>
-    ensures { IfOk result (λ v. v.items ≡ told_numbers entries.now pairs.now) }
+    ensures { IfOk result (λ v. v.items ≡ breakpoint_numbers entries.now pairs.now) }
 {
-    let mut told = characters_of(alloc, entries)?;
+    let room = pairs.len().saturating_add(EDGES.len());
+    let mut breakpoints = entry_characters(alloc, entries, room)?;
     for pair in pairs {
-        told.push(pair.0)?;
+        breakpoints.push(pair.0)?;
     }
-    told.extend_from_slice(&EDGES)?;
-    Ok(told)
+    breakpoints.extend_from_slice(&EDGES)?;
+    Ok(breakpoints)
 }

@@ -4,15 +4,15 @@ use Rattle.std.proofs.lemmas.List.Filters.{dedup_is}
 use Rattle.std.proofs.lemmas.List.Kept.{Contains-dedup_nat}
 use Rattle.std.proofs.lemmas.List.Sorted.{Contains-permutation}
 use Rattle.std.proofs.lemmas.Map.Keys.{IsStrictlyIncreasing-dedup}
-use Rattle.normalizer_packing.specs.inner.Stretches.{told_numbers}
-use Rattle.normalizer_packing.proofs.told.told_characters.Goals as goal
+use Rattle.normalizer_packing.specs.inner.Stretches.{breakpoint_numbers}
+use Rattle.normalizer_packing.proofs.breakpoints.breakpoints_of.Goals as goal
 
 -- the sort only moves the characters, and one of each is kept
 pub returns : goal.returns
 returns c =
-    let all : List ℕ = told_numbers c.args.entries.now c.args.pairs.now in
+    let all : List ℕ = breakpoint_numbers c.args.entries.now c.args.pairs.now in
     let sorted : List ℕ = c.sort_unstable.new.self.items in
-    let moved : IsPermutation all sorted = subst (λ (x : List ℕ). IsPermutation x sorted) c.in_ok-told.ensures c.sort_unstable.ensures.permutation in
+    let moved : IsPermutation all sorted = subst (λ (x : List ℕ). IsPermutation x sorted) c.in_ok-breakpoints.ensures c.sort_unstable.ensures.permutation in
     let kept = dedup_is nat_eq sorted _ c.dedup.ensures.filtered in
     record {
       all = λ n there. rw kept (Contains-dedup_nat sorted n (Contains-permutation all sorted n moved there));

@@ -1,0 +1,132 @@
+//! The first requirement that data that pack records don't meet.
+#![tactic(auto, using(crate::proofs::FirstUnmet::mappings_unkept, crate::proofs::FirstUnmet::asked_unmet, crate::proofs::FirstUnmet::all_met, crate::proofs::FirstUnmet::of_all_kinds), unfolding(crate::specs::Demands::KeepsMapping))]
+
+ghost use Rattle.std.specs.Prelude.{◌≡◌, ◌↔◌, All, IsTrue, List, option_map};
+ghost use Rattle.normalizer_tables.specs.Conditions.{IsFirstFailing, IsMet};
+ghost use Rattle.normalizer_records.specs.Entry.{Entry};
+ghost use Rattle.normalizer_records.specs.Faults.{AreRising};
+ghost use Rattle.normalizer_builder.specs.Demands.{
+  asked,
+  characters_of,
+  IsFirstUnmet,
+  KeepsMapping,
+  loaded_of,
+  Meets,
+};
+ghost use Rattle.normalizer_builder.specs.declared.demand.Demand.TheVariants.{Asks};
+ghost use Rattle.normalizer_builder.specs.inner.Earlier.{asked_of, conditions_of};
+
+use crate::demand::{Demand, earlier};
+use normalizer_packing::Packed;
+use normalizer_records::{Record, recorded_step};
+use normalizer_tables::characters::CharacterData;
+use normalizer_conditions::check::first_failing;
+use normalizer_tables::condition::{Bounds, COMPOSING, Condition, EVERY, MAPPING};
+use normalizer_tables::entry::Kind;
+use normalizer_conditions::loaded::LoadedData;
+use normalizer_tables::step::step_of;
+
+/// The first requirement that data that pack records don't meet, if there is one. It takes no memory.
+pub(crate) fn first_unmet(records: &[Record], packed: &Packed) -> Option<Demand>
+    requires { AreRising records.now }
+    ensures { IsFirstUnmet records.now packed.now result }
+{
+    match first_asked(packed) {
+        Some(demand) => Some(demand),
+        None if keeps_mappings(records, packed) => None,
+        None => Some(Demand::KeepsMappings),
+    }
+}
+
+/// The first requirement of constructors that packed data don't meet.
+fn first_asked(packed: &Packed) -> Option<Demand>
+    ensures { (records : List Entry) → IsFirstFailing (Meets records packed.now) asked result }
+{
+    let mapper = first_of_kind(packed, Kind::Mapper);
+    let others = earlier(first_of_kind(packed, Kind::Compatibility), mapper);
+    earlier(first_of_kind(packed, Kind::Canonical), others)
+}
+
+/// The first requirement of constructors that the data of one kind don't meet.
+fn first_of_kind(packed: &Packed, kind: Kind) -> Option<Demand>
+    ensures { (records : List Entry) → IsFirstFailing (Meets records packed.now) (asked_of kind) result }
+{
+    asked_of(kind, first_failing_of_kind(packed, kind))
+}
+
+/// That the data of one kind meet a condition.
+fn asked_of(kind: Kind, condition: Option<Condition>) -> Option<Demand>
+    ensures { result ≡ option_map (λ c. Asks c kind) condition }
+{
+    condition.map(|condition| Demand::Asks(condition, kind))
+}
+
+fn first_failing_of_kind(packed: &Packed, kind: Kind) -> Option<Condition>
+    ensures { IsFirstFailing (IsMet (loaded_of packed.now kind)) (conditions_of kind) result }
+{
+    let loaded = loaded_of(packed, kind);
+    match kind {
+        Kind::Canonical => first_failing(&loaded, &EVERY),
+        Kind::Compatibility => first_failing(&loaded, &COMPOSING),
+        Kind::Mapper => first_failing(&loaded, &MAPPING),
+    }
+}
+
+/// All that constructors load with the data of one kind.
+fn loaded_of(packed: &Packed, kind: Kind) -> LoadedData<'_>
+    ensures { result ≡ loaded_of packed.now kind }
+{
+    let characters = characters_of(packed, kind);
+    let bounds = Bounds::of_cap(characters.cap());
+    let supplement = match kind {
+        Kind::Canonical => Some(&packed.supplement),
+        Kind::Compatibility | Kind::Mapper => None,
+    };
+    LoadedData::new(characters, bounds, Some(&packed.compositions), supplement)
+}
+
+/// What the data of one kind say of characters.
+fn characters_of(packed: &Packed, kind: Kind) -> CharacterData<'_>
+    ensures { result ≡ characters_of packed.now kind }
+{
+    let supplementary = &packed.supplementary_tables;
+    match kind {
+        Kind::Canonical => CharacterData::new(&packed.canonical, &packed.tables, None, false),
+        Kind::Compatibility => CharacterData::new(
+            &packed.compatibility,
+            &packed.tables,
+            Some(supplementary),
+            false,
+        ),
+        Kind::Mapper => CharacterData::new(
+            &packed.mapper,
+            &packed.tables,
+            Some(supplementary),
+            true,
+        ),
+    }
+}
+
+/// Whether the data keep the mappings of all records.
+fn keeps_mappings(records: &[Record], packed: &Packed) -> bool
+    requires { AreRising records.now }
+    ensures { IsTrue result ↔ All (λ r. KeepsMapping records.now packed.now r.c) records.now }
+{
+    records
+        .iter()
+        .all(|recorded| keeps_mapping(records, packed, recorded.c))
+}
+
+/// Whether one step of a character is the mapping that is recorded of it.
+fn keeps_mapping(records: &[Record], packed: &Packed, character: char) -> bool
+    requires { AreRising records.now }
+    ensures { IsTrue result ↔ KeepsMapping records.now packed.now character }
+{
+    match recorded_step(records, character) {
+        Some(step) => {
+            let characters = characters_of(packed, Kind::Canonical);
+            step_of(&characters, &packed.supplement, character) == Some(step)
+        }
+        None => true,
+    }
+}
