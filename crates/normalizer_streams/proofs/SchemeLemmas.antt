@@ -1,15 +1,12 @@
 -- Units of bytes, in parts.
-use Rattle.std.proofs.Common.{◌≡◌, ℕ, zero, suc, ◌+◌, ◌*◌, ◌<◌, ◌≤◌, ◌%◌, Bool, true, false, List, [], ◌∷◌, ◌++◌, length, take, drop, get_or, min, Some, append-nil, append_assoc, refl, sym, ap, ◌∙◌, arith}
+use Rattle.std.proofs.Common.{◌≡◌, ℕ, zero, suc, ◌+◌, ◌*◌, ◌<◌, ◌≤◌, ◌%◌, Bool, true, false, List, [], ◌∷◌, ◌++◌, length, take, drop, get_or, min, refl, sym, ap, ◌∙◌, arith}
 use Rattle.std.specs.Prelude.{◌&&◌}
 use Rattle.std.proofs.Math.Seq.{drop-cons, take-nil}
 use Rattle.std.proofs.Math.ListN.{drop_of_length-le}
 use Rattle.std.proofs.lemmas.List.{take_all}
 use Rattle.std.proofs.lemmas.List.Concat.{flat_map-append}
 use Rattle.std.proofs.lemmas.Bool.{eq-eqb, eqb-true, true≢false}
-use Rattle.normalizer_text.specs.Encodings.{Encoding, first_in, decoded_in}
-use Rattle.normalizer_text.specs.Steps.{decoded, TakesFirst}
 use Rattle.normalizer_text.specs.Utf16.{first_of_utf16, is_high, is_single, unpaired}
-use Rattle.normalizer_text.proofs.StepLemmas.{decoded-nil, decoded-some}
 use Rattle.normalizer_text.proofs.Utf16Lemmas.{first-single, first-unpaired}
 use Rattle.normalizer_text.proofs.Utf8Lemmas.{IsDecoding-utf8, HasTrails-utf8}
 use Rattle.normalizer_streams.specs.declared.scheme.ByteOrder.{ByteOrder}
@@ -132,14 +129,3 @@ front-bytes bytes n = take-within bytes n
 pub front-pairs : (order : ByteOrder) (bytes : List ℕ) (n k : ℕ) → (min k (length bytes) ≡ min (2 * n) (length bytes))
     → units_of_pairs order (take (min k (length bytes)) bytes) ≡ take n (units_of_pairs order bytes)
 front-pairs order bytes n k same = rw (same, take-within bytes (2 * n)) (units-front order bytes n)
-
--- characters that are decoded one after another
-module _ (e : Encoding) (units text all : List ℕ) where
-  pub decoded-more : (left more : List ℕ) (c : ℕ) → TakesFirst (first_in e) units (Some c) left → more ≡ text ++ c ∷ []
-      → text ++ decoded_in e units ≡ all → more ++ decoded_in e left ≡ all
-  decoded-more left more c taken grown before =
-      let step : decoded_in e units ≡ c ∷ decoded_in e left = decoded-some e units taken.0 ∙ rw (taken.1, taken.2) refl in
-      ap (λ x. x ++ decoded_in e left) grown ∙ append_assoc text (c ∷ []) (decoded_in e left) ∙ ap (λ x. text ++ x) (sym step) ∙ before
-
-  pub decoded-end : units ≡ [] → text ++ decoded_in e units ≡ all → text ≡ all
-  decoded-end none before = sym (append-nil text) ∙ ap (λ x. text ++ x) (sym (ap (decoded_in e) none ∙ decoded-nil e)) ∙ before
