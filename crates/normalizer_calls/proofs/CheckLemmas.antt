@@ -21,9 +21,8 @@ use Rattle.normalizer_text.specs.Encodings.{Encoding, first_in, encoded_in, deco
 use Rattle.normalizer_text.specs.Outputs.{NoHint}
 use Rattle.normalizer_text.specs.Steps.{IsBoundary, IsFirstStep}
 use Rattle.normalizer_text.specs.declared.step.Step.{Step}
-use Rattle.normalizer_text.proofs.EncodingRules.{IsDecoding-first}
 use Rattle.normalizer_text.proofs.StepLemmas.{decoded-nil, decoded-some}
-use Rattle.normalizer_text.proofs.OutputLemmas.{encoded_in-append, encoded_in-nil}
+use Rattle.normalizer_text.proofs.EncodingLemmas.{encoded_in-append, encoded_in-nil}
 use Rattle.normalizer_input.specs.InputCut.{IsInputNormalized, IsInputCut}
 use Rattle.normalizer_input.specs.InputOffence.{IsInputOffence, IsInputOffenceOf}
 use Rattle.normalizer_input.specs.declared.offence.Offence.{Offence}
@@ -159,7 +158,7 @@ module _ (e : Encoding) (d : Reading) (form : Form) (units : List ℕ) where
       pub some_behind_cut : drop place units ≡ [] → ⊥
       some_behind_cut none =
           let at = there in
-          let empty : [] ≡ at.0 ∷ at.2.is_found.0 = sym (decoded-nil (first_in e)) ∙ sym (ap (decoded_in e) none) ∙ at.2.is_found.1 in
+          let empty : [] ≡ at.0 ∷ at.2.is_found.0 = sym (decoded-nil e) ∙ sym (ap (decoded_in e) none) ∙ at.2.is_found.1 in
           cc
 
       pub wanted_behind_cut : normal_form d form (decoded_in e (drop place units)) ≡ [] → ⊥
@@ -176,7 +175,7 @@ module _ (e : Encoding) (d : Reading) (form : Form) (units : List ℕ) where
     pub found_at : (rest : List ℕ) (s : Step) → IsFirstStep (first_in e) rest s → IsFirst (decoded_in e rest) s.character
     found_at rest s first = (
       decoded_in e (drop (first_in e rest).width rest),
-      decoded-some (first_in e) (IsDecoding-first e) rest first.some ∙ ap (λ t. t.character ∷ decoded_in e (drop (first_in e rest).width rest)) (sym first.is),
+      decoded-some e rest first.some ∙ ap (λ t. t.character ∷ decoded_in e (drop (first_in e rest).width rest)) (sym first.is),
     )
 
 -- `None` is returned exactly if the units are well-formed and normalized

@@ -27,7 +27,6 @@ use Rattle.normalizer_text.specs.declared.step.Step.{Step}
 use Rattle.normalizer_text.specs.Encodings.{Encoding, first_in, decoded_in}
 use Rattle.normalizer_text.specs.Steps.{steps, IsBoundary}
 use Rattle.normalizer_text.proofs.BoundaryLemmas.{boundary-after, boundary-le, boundary-start, decoded-take-drop, steps-parts, width_of-append}
-use Rattle.normalizer_text.proofs.EncodingRules.{IsDecoding-first}
 use Rattle.normalizer_text.proofs.StepLemmas.{decoded-append, steps-some}
 use Rattle.normalizer_input.specs.InputCut.{IsInputNormalized}
 use Rattle.normalizer_input.proofs.InputBoundaryLemmas.{IsWellFormed-append}
@@ -47,7 +46,7 @@ module _ (e : Encoding) (d : Reading) (form : Form) (units : List ℕ) where
   pub IsKeptTo-first : (end : ℕ) → (0 < end → IsOwnPart units end) → IsKeptTo e d form units end
   IsKeptTo-first end part = record {
     boundary = elim (eq-zero-or-pos end) [
-      | inl none ↦ subst (IsBoundary (first_in e) units) (sym none) (boundary-start (first_in e) (IsDecoding-first e) units)
+      | inl none ↦ subst (IsBoundary (first_in e) units) (sym none) (boundary-start e units)
       | inr some ↦ (part some).0.boundary
     ];
     part = part;
@@ -55,13 +54,13 @@ module _ (e : Encoding) (d : Reading) (form : Form) (units : List ℕ) where
 
   module _ (a b : ℕ) (before : IsOwnPart units a) (behind : IsOwnPart (drop a units) b) where
     text_to : decoded_in e (take (a + b) units) ≡ decoded_in e (take a units) ++ decoded_in e (take b (drop a units))
-    text_to = ap (decoded_in e) (take-add a b units) ∙ decoded-append (first_in e) (IsDecoding-first e) (take a units) (take b (drop a units)) before.1.well_formed
+    text_to = ap (decoded_in e) (take-add a b units) ∙ decoded-append e (take a units) (take b (drop a units)) before.1.well_formed
 
     IsOwnPart-both : IsOwnPart units (a + b)
     IsOwnPart-both = (
       record {
         some = (let some = before.0.some in omega arith);
-        boundary = boundary-after (first_in e) (IsDecoding-first e) units a b before.0.boundary behind.0.boundary;
+        boundary = boundary-after e units a b before.0.boundary behind.0.boundary;
         divides = λ front.
             let x = decoded_in e (take a units) in
             let y = decoded_in e (take b (drop a units)) in
@@ -74,7 +73,7 @@ module _ (e : Encoding) (d : Reading) (form : Form) (units : List ℕ) where
             (IsWellFormed-append e (take a units) (take b (drop a units)) before.1.well_formed behind.1.well_formed);
         own = subst (λ l. normal_form d form l ≡ l) (sym text_to)
             (before.0.divides [] (decoded_in e (take b (drop a units))) (decoded_in e (drop b (drop a units)))
-            (decoded-take-drop (first_in e) (IsDecoding-first e) (drop a units) b behind.0.boundary)
+            (decoded-take-drop e (drop a units) b behind.0.boundary)
             ∙ ap (λ l. l ++ normal_form d form (decoded_in e (take b (drop a units)))) before.1.own
             ∙ ap (λ l. decoded_in e (take a units) ++ l) behind.1.own);
       },
@@ -95,7 +94,7 @@ module _ (e : Encoding) (d : Reading) (form : Form) (units : List ℕ) where
   ]
 
   pub IsKeptTo-le : (end : ℕ) → IsKeptTo e d form units end → end ≤ length units
-  IsKeptTo-le end so_far = boundary-le (first_in e) (IsDecoding-first e) units end so_far.boundary
+  IsKeptTo-le end so_far = boundary-le e units end so_far.boundary
 
 -- ---- a starter and marks that stay after it
 
@@ -285,7 +284,7 @@ module _ (d : Reading) (results : HasStarterResults d) (faithful : HasFaithfulRe
     boundary = record {
       before = s ∷ [];
       after = steps (first_in e) (drop s.width units);
-      apart = steps-some (first_in e) (IsDecoding-first e) units some ∙ ap (λ t. t ∷ steps (first_in e) (drop t.width units)) (sym is);
+      apart = steps-some e units some ∙ ap (λ t. t ∷ steps (first_in e) (drop t.width units)) (sym is);
       taken = omega arith;
     };
     right = All-cons (λ t. t.is_error ≡ false) s [] first.right (All-nil (λ t. t.is_error ≡ false));
@@ -309,7 +308,7 @@ module _ (d : Reading) (results : HasStarterResults d) (faithful : HasFaithfulRe
           before = b.before ++ s ∷ [];
           after = steps (first_in e) (drop (first_in e rest).width rest);
           apart = b.apart
-              ∙ ap (λ l. b.before ++ l) (sym (steps-parts (first_in e) (IsDecoding-first e) units end b).1 ∙ steps-some (first_in e) (IsDecoding-first e) rest some)
+              ∙ ap (λ l. b.before ++ l) (sym (steps-parts e units end b).1 ∙ steps-some e rest some)
               ∙ ap (λ t. b.before ++ t ∷ steps (first_in e) (drop (first_in e rest).width rest)) (sym is)
               ∙ sym (append_assoc b.before (s ∷ []) (steps (first_in e) (drop (first_in e rest).width rest)));
           taken = (let n = b.taken in omega (arith, width_of-append b.before (s ∷ [])));
@@ -325,7 +324,7 @@ module _ (d : Reading) (results : HasStarterResults d) (faithful : HasFaithfulRe
   -- they are normalized
   pub KeptMarks-own : (r : KeptStarter) (end last : ℕ) → IsKeptCharacter d r.character r → KeptMarks d e units r end last → IsInputNormalized e d Composing (take end units)
   KeptMarks-own r end last kept k =
-      let same : steps (first_in e) (take end units) ≡ k.boundary.before = (steps-parts (first_in e) (IsDecoding-first e) units end k.boundary).0 in
+      let same : steps (first_in e) (take end units) ≡ k.boundary.before = (steps-parts e units end k.boundary).0 in
       let text : decoded_in e (take end units) ≡ r.character ∷ k.marks = ap (map (λ s. s.character)) same ∙ k.text in
       let done = settled_order d results faithful r k.marks last kept k.in_place in
       record {

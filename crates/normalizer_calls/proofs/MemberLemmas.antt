@@ -6,7 +6,6 @@ use Rattle.std.proofs.lemmas.List.{drop_all, drop-drop}
 use Rattle.std.proofs.lemmas.List.Elements.{All-nil, All-cons}
 use Rattle.normalizer_text.specs.declared.step.Step.{Step}
 use Rattle.normalizer_text.specs.Encodings.{Encoding, first_in, decoded_in}
-use Rattle.normalizer_text.proofs.EncodingRules.{IsDecoding-first}
 use Rattle.normalizer_text.specs.Steps.{steps, IsBoundary}
 use Rattle.normalizer_text.proofs.BoundaryLemmas.{boundary-le, steps-take-drop}
 use Rattle.normalizer_text.proofs.StepLemmas.{decoded-nil, decoded-some, steps-some}
@@ -44,28 +43,28 @@ list_gives-end x place past = let is = drop_all place x past in rw is (refl, ref
 -- one step alone
 pub decoded-one : (e : Encoding) (units : List ℕ) (s : Step) → 0 < length units → s ≡ first_in e units → s.width ≡ length units → decoded_in e units ≡ s.character ∷ []
 decoded-one e units s some is whole =
-    decoded-some (first_in e) (IsDecoding-first e) units some
+    decoded-some e units some
     ∙ ap (λ t. t.character ∷ decoded_in e (drop t.width units)) (sym is)
     ∙ ap (λ rest. s.character ∷ decoded_in e rest) (drop_all s.width units (omega arith))
-    ∙ ap (λ x. s.character ∷ x) (decoded-nil (first_in e))
+    ∙ ap (λ x. s.character ∷ x) (decoded-nil e)
 
 -- two steps alone
 pub decoded-two : (e : Encoding) (units : List ℕ) (s t : Step) → 0 < length units → s ≡ first_in e units → t ≡ first_in e (drop s.width units) → s.width < length units
     → t.width ≡ length units - s.width → decoded_in e units ≡ s.character ∷ t.character ∷ []
 decoded-two e units s t some is next more whole =
-    decoded-some (first_in e) (IsDecoding-first e) units some
+    decoded-some e units some
     ∙ ap (λ r. r.character ∷ decoded_in e (drop r.width units)) (sym is)
     ∙ ap (λ x. s.character ∷ x) (decoded-one e (drop s.width units) t (omega (arith, length-drop s.width units)) next (whole ∙ sym (length-drop s.width units)))
 
 -- units that end where a step does begin with the same step
 pub first-take : (e : Encoding) (units : List ℕ) (n : ℕ) → 0 < n → IsBoundary (first_in e) units n → first_in e (take n units) ≡ first_in e units
 first-take e units n some b =
-    let long : n ≤ length units = boundary-le (first_in e) (IsDecoding-first e) units n b in
+    let long : n ≤ length units = boundary-le e units n b in
     let front : 0 < length (take n units) = omega (arith, length-take n units) in
     let whole : 0 < length units = omega arith in
-    let parts : steps (first_in e) units ≡ steps (first_in e) (take n units) ++ steps (first_in e) (drop n units) = steps-take-drop (first_in e) (IsDecoding-first e) units n b in
-    let of_front = steps-some (first_in e) (IsDecoding-first e) (take n units) front in
-    let of_whole = steps-some (first_in e) (IsDecoding-first e) units whole in
+    let parts : steps (first_in e) units ≡ steps (first_in e) (take n units) ++ steps (first_in e) (drop n units) = steps-take-drop e units n b in
+    let of_front = steps-some e (take n units) front in
+    let of_whole = steps-some e units whole in
     same_head _ _ _ _ (sym (ap (λ l. l ++ steps (first_in e) (drop n units)) of_front) ∙ sym parts ∙ of_whole)
   where
     same_head : (s t : Step) (x y : List Step) → s ∷ x ≡ t ∷ y → s ≡ t

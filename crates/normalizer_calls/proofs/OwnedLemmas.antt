@@ -11,9 +11,8 @@ use Rattle.normal_forms.proofs.EquivalenceLemmas.{equivalent_texts}
 use Rattle.normal_forms.proofs.LawLemmas.{nfd-nfc, normal_form-normal_form}
 use Rattle.normalizer_conditions.specs.AcceptedData.{SuitsTexts}
 use Rattle.normalizer_calls.specs.inner.Owned.{WroteUnlessOwn}
-use Rattle.normalizer_text.specs.Encodings.{Encoding, first_in, encoded_in, decoded_in}
-use Rattle.normalizer_text.proofs.EncodingRules.{IsDecoding-first, DecodesBack-in, encoded-decoded}
-use Rattle.normalizer_text.proofs.OutputLemmas.{encoded_in-append}
+use Rattle.normalizer_text.specs.Encodings.{Encoding, encoded_in, decoded_in}
+use Rattle.normalizer_text.proofs.EncodingLemmas.{DecodesBack-in, encoded-decoded, encoded_in-append}
 use Rattle.normalizer_text.proofs.StepLemmas.{decoded-IsText}
 use Rattle.normalizer_input.specs.EncodedForm.{encoded_form}
 use Rattle.normalizer_input.proofs.EncodedFormLemmas.{is_normalized_iff_encoded_form}
@@ -54,7 +53,7 @@ IsEncodedFormOf-encoded m e units suits content is =
     let d = m.reading in
     let x : List ℕ = decoded_in e units in
     let form_of_x : List ℕ = normal_form d m.form x in
-    let x_text : IsText x = decoded-IsText (first_in e) (IsDecoding-first e) units in
+    let x_text : IsText x = decoded-IsText e units in
     let form_text : IsText form_of_x = IsText-normal_form d m.form suits.texts suits.scalars x x_text in
     let decodes : decoded_in e content ≡ form_of_x = ap (decoded_in e) is ∙ (DecodesBack-in e form_of_x form_text).text in
     record {

@@ -15,8 +15,7 @@ use Rattle.normalizer_text.specs.declared.sink.SinkError.{SinkError}
 use Rattle.normalizer_text.specs.Encodings.{Encoding, first_in, encoded_in, decoded_in}
 use Rattle.normalizer_text.specs.Steps.{IsBoundary}
 use Rattle.normalizer_text.proofs.BoundaryLemmas.{boundary-after, boundary-le, boundary-start, decoded-take-drop}
-use Rattle.normalizer_text.proofs.EncodingRules.{IsDecoding-first, encoded-decoded}
-use Rattle.normalizer_text.proofs.OutputLemmas.{encoded_in-append, encoded_in-nil}
+use Rattle.normalizer_text.proofs.EncodingLemmas.{encoded-decoded, encoded_in-append, encoded_in-nil}
 use Rattle.normalizer_text.proofs.StepLemmas.{decoded-nil}
 use Rattle.normalizer_input.specs.EncodedForm.{encoded_form}
 use Rattle.normalizer_input.specs.InputCut.{IsInputNormalized}
@@ -72,11 +71,11 @@ pub record WroteUpTo {S U : Type 0} (e : Encoding) (into : Target S U) (d : Read
 
 -- the text in two parts
 text-parts : (e : Encoding) (units : List ℕ) (n : ℕ) → IsBoundary (first_in e) units n → decoded_in e units ≡ decoded_in e (take n units) ++ decoded_in e (drop n units)
-text-parts e = decoded-take-drop (first_in e) (IsDecoding-first e)
+text-parts e = decoded-take-drop e
 
 module _ (e : Encoding) (d : Reading) (form : Form) where
   form_of_nothing : normal_form d form (decoded_in e []) ≡ []
-  form_of_nothing = ap (normal_form d form) (decoded-nil (first_in e)) ∙ normal_form-nil d form form
+  form_of_nothing = ap (normal_form d form) (decoded-nil e) ∙ normal_form-nil d form form
 
   pub encoded_form-nil : encoded_form e d form [] ≡ []
   encoded_form-nil = ap (encoded_in e) form_of_nothing ∙ encoded_in-nil e
@@ -97,7 +96,7 @@ module _ {e : Encoding} {d : Reading} {form : Form} where
     pub some_part : {segment : List ℕ} → segment ≡ take end units → 0 < length segment
     some_part {segment = segment} is =
         let some = part.some in
-        let most = boundary-le (first_in e) (IsDecoding-first e) units end part.boundary in
+        let most = boundary-le e units end part.boundary in
         let size : length segment ≡ end = ap length is ∙ length-take-le end units most in
         omega (arith, size)
 
@@ -148,7 +147,7 @@ module _ {e : Encoding} {d : Reading} {form : Form} where
             piece = decoded_in e (take end units);
             kind = inr (record {
               place = 0;
-              boundary = boundary-start (first_in e) (IsDecoding-first e) units;
+              boundary = boundary-start e units;
               form_before = sym (form_of_nothing e d form);
               next = (drop end units, sym (take-append-drop end units) ∙ ap (λ l. l ++ drop end units) (sym (encoded-decoded e (take end units) own.well_formed)));
             });
@@ -199,8 +198,8 @@ module _ {e : Encoding} {d : Reading} {form : Form} where
   module _ {S U : Type 0} {into : Target S U} {units : List ℕ} {old : S} where
     pub WroteUpTo-none : WroteUpTo e into d form units old 0 old
     WroteUpTo-none = record {
-      boundary = boundary-start (first_in e) (IsDecoding-first e) units;
-      divides = subst (λ x. Divides d form x (decoded_in e units)) (sym (decoded-nil (first_in e))) (Divides-start d form (decoded_in e units));
+      boundary = boundary-start e units;
+      divides = subst (λ x. Divides d form x (decoded_in e units)) (sym (decoded-nil e)) (Divides-start d form (decoded_in e units));
       took = sym (append-nil (into.taken old)) ∙ ap (λ l. into.taken old ++ l) (sym (encoded_form-nil e d form));
       ahead = λ later h. h;
     }
@@ -209,7 +208,7 @@ module _ {e : Encoding} {d : Reading} {form : Form} where
     pub WritesText-parts : {offered : List ℕ → List ℕ → Type 0} {position : ℕ} {now : S} → WroteUpTo e into d form units old position now → length units ≤ position
         → WritesText e into offered (normal_form d form (decoded_in e units)) old (Ok tt) now
     WritesText-parts {position = position} so_far all =
-        let most = boundary-le (first_in e) (IsDecoding-first e) units position so_far.boundary in
+        let most = boundary-le e units position so_far.boundary in
         let end : position ≡ length units = omega (arith, most) in
         record {
           written = so_far.took ∙ ap (λ l. into.taken old ++ encoded_form e d form l) (ap (λ n. take n units) end ∙ take-length units);
@@ -224,7 +223,7 @@ module _ {e : Encoding} {d : Reading} {form : Form} where
       text_before = decoded_in e (take position units)
 
       boundary_behind : (n : ℕ) → IsBoundary (first_in e) rest n → IsBoundary (first_in e) units (position + n)
-      boundary_behind n b = boundary-after (first_in e) (IsDecoding-first e) units position n so_far.boundary (subst (λ l. IsBoundary (first_in e) l n) is b)
+      boundary_behind n b = boundary-after e units position n so_far.boundary (subst (λ l. IsBoundary (first_in e) l n) is b)
 
       -- the units after both
       rest_behind : (n : ℕ) → drop n rest ≡ drop (position + n) units
@@ -278,7 +277,7 @@ module _ {e : Encoding} {d : Reading} {form : Form} where
       ]
 
       pub within_part : {end : ℕ} → IsPart e d form rest end → position + end ≤ length units
-      within_part {end = end} part = boundary-le (first_in e) (IsDecoding-first e) units (position + end) (boundary_behind end part.boundary)
+      within_part {end = end} part = boundary-le e units (position + end) (boundary_behind end part.boundary)
 
       pub HasShortRuns-behind : {f : ℕ → Bool} → HasShortRuns f d (decoded_in e units) → HasShortRuns f d (decoded_in e rest)
       HasShortRuns-behind {f = f} h =
@@ -337,4 +336,4 @@ module _ {e : Encoding} {d : Reading} {form : Form} where
         subst (λ n. WroteUpTo e into d form units old n new) same (WroteUpTo-maybe WroteUpTo-none refl none wrote)
 
     pub WroteUpTo-le : {position : ℕ} {now : S} → WroteUpTo e into d form units old position now → position ≤ length units
-    WroteUpTo-le {position = position} so_far = boundary-le (first_in e) (IsDecoding-first e) units position so_far.boundary
+    WroteUpTo-le {position = position} so_far = boundary-le e units position so_far.boundary

@@ -107,18 +107,18 @@ module _ (passed : ℕ → Option ℕ) (e : Encoding) (units : List ℕ) where
         let n = new - end in
         let behind = low.behind in
         let more = steps (first_in e) (take n rest) in
-        let most = boundary-le (first_in e) (IsDecoding-first e) units new low.boundary in
+        let most = boundary-le e units new low.boundary in
         record {
           boundary = record {
             before = b.before ++ more;
             after = steps (first_in e) (drop n rest);
             apart = b.apart
                 ∙ ap (λ l. b.before ++ l)
-                (sym (steps-parts (first_in e) (IsDecoding-first e) units end b).1
-                ∙ steps-take-drop (first_in e) (IsDecoding-first e) rest n (boundary-between (first_in e) (IsDecoding-first e) units end new b low.boundary behind))
+                (sym (steps-parts e units end b).1
+                ∙ steps-take-drop e rest n (boundary-between e units end new b low.boundary behind))
                 ∙ sym (append_assoc b.before more (steps (first_in e) (drop n rest)));
             taken = (let k = b.taken in
-                omega (arith, width_of-append b.before more, width_of-steps (first_in e) (IsDecoding-first e) (take n rest), length-take-le n rest (omega (arith, length-drop end units))));
+                omega (arith, width_of-append b.before more, width_of-steps e (take n rest), length-take-le n rest (omega (arith, length-drop end units))));
           };
           pass = class_after-append passed b.before more 0 0 so_far.pass ∙ class_after-starters passed more (all_low_pass more low.low);
         }
@@ -131,7 +131,7 @@ module _ (passed : ℕ → Option ℕ) (e : Encoding) (units : List ℕ) where
           PassesTo-low end new (subst (EndsLowCharacters e units end bound) (sym ends) (low_end end bound so_far.boundary)) so_far
 
   pub PassesTo-le : (end last : ℕ) → PassesTo passed e units end last → end ≤ length units
-  PassesTo-le end last so_far = boundary-le (first_in e) (IsDecoding-first e) units end so_far.boundary
+  PassesTo-le end last so_far = boundary-le e units end so_far.boundary
 
   -- a run that ends with a starter, or is empty
   pub IsRun-starters : (end : ℕ) → PassesTo passed e units end 0 → IsRun passed e units end end 0
@@ -160,7 +160,7 @@ module _ (passed : ℕ → Option ℕ) (e : Encoding) (units : List ℕ) where
             before = b.before ++ s ∷ [];
             after = steps (first_in e) (drop (first_in e rest).width rest);
             apart = b.apart
-                ∙ ap (λ l. b.before ++ l) (sym (steps-parts (first_in e) (IsDecoding-first e) units end b).1 ∙ steps-some (first_in e) (IsDecoding-first e) rest some)
+                ∙ ap (λ l. b.before ++ l) (sym (steps-parts e units end b).1 ∙ steps-some e rest some)
                 ∙ ap (λ t. b.before ++ t ∷ steps (first_in e) (drop (first_in e rest).width rest)) (sym is)
                 ∙ sym (append_assoc b.before (s ∷ []) (steps (first_in e) (drop (first_in e rest).width rest)));
             taken = (let k = b.taken in omega (arith, width_of-append b.before (s ∷ [])));
@@ -183,11 +183,11 @@ module _ (passed : ℕ → Option ℕ) (e : Encoding) (units : List ℕ) where
     }
 
     pub boundary-step : IsBoundary (first_in e) units end → IsBoundary (first_in e) units (end + s.width)
-    boundary-step b = subst (λ t. IsBoundary (first_in e) units (end + t.width)) (sym is) (boundary-more (first_in e) (IsDecoding-first e) units end b more)
+    boundary-step b = subst (λ t. IsBoundary (first_in e) units (end + t.width)) (sym is) (boundary-more e units end b more)
 
     -- a step takes some units, and ends within them
     pub within_step : IsBoundary (first_in e) units end → end + s.width ≤ length units
-    within_step b = boundary-le (first_in e) (IsDecoding-first e) units (end + s.width) (boundary-step b)
+    within_step b = boundary-le e units (end + s.width) (boundary-step b)
 
     pub some_step : 0 < s.width
     some_step = subst (λ t. 0 < t.width) (sym is) ((IsDecoding-first e).some (drop end units) (omega (arith, length-drop end units)))
@@ -196,10 +196,10 @@ module _ (passed : ℕ → Option ℕ) (e : Encoding) (units : List ℕ) where
   module _ (end class : ℕ) (to : PassesTo passed e units end class) (starters : All (λ t. class_of_step passed t ≡ Some 0) to.boundary.before) (s : Step)
       (last : IsLastStep (first_in e) (take end units) s) where
     size : length (take end units) ≡ end
-    size = length-take-le end units (boundary-le (first_in e) (IsDecoding-first e) units end to.boundary)
+    size = length-take-le end units (boundary-le e units end to.boundary)
 
     all_pass : All (λ t. class_of_step passed t ≡ Some 0) (steps (first_in e) (take (length (take end units) - s.width) (take end units)) ++ s ∷ [])
-    all_pass = All-same (λ t. class_of_step passed t ≡ Some 0) _ _ (sym last.last ∙ (steps-parts (first_in e) (IsDecoding-first e) units end to.boundary).0) starters
+    all_pass = All-same (λ t. class_of_step passed t ≡ Some 0) _ _ (sym last.last ∙ (steps-parts e units end to.boundary).0) starters
 
     pub PassesTo-held : PassesTo passed e units (end - s.width) 0
     PassesTo-held =
@@ -209,10 +209,10 @@ module _ (passed : ℕ → Option ℕ) (e : Encoding) (units : List ℕ) where
           boundary = record {
             before = before;
             after = s ∷ steps (first_in e) (drop end units);
-            apart = steps-take-drop (first_in e) (IsDecoding-first e) units end to.boundary
+            apart = steps-take-drop e units end to.boundary
                 ∙ ap (λ l. l ++ steps (first_in e) (drop end units)) last.last
                 ∙ append_assoc before (s ∷ []) (steps (first_in e) (drop end units));
-            taken = width_of-steps (first_in e) (IsDecoding-first e) front
+            taken = width_of-steps e front
                 ∙ length-take-le (length (take end units) - s.width) (take end units) (omega arith) ∙ ap (λ n. n - s.width) size;
           };
           pass = class_after-starters passed before (All-same (λ t. class_of_step passed t ≡ Some 0) _ _ (sym (take_at before (s ∷ []) (length before) refl))
@@ -227,11 +227,11 @@ module _ (passed : ℕ → Option ℕ) (e : Encoding) (units : List ℕ) where
         let rest = drop (end - s.width) units in
         let behind : steps (first_in e) rest ≡ s ∷ steps (first_in e) (drop end units) =
         append_cancel_left before _ _
-        (ap (λ l. l ++ steps (first_in e) rest) (sym (steps-parts (first_in e) (IsDecoding-first e) units (end - s.width) PassesTo-held.boundary).0)
-        ∙ sym (steps-take-drop (first_in e) (IsDecoding-first e) units (end - s.width) PassesTo-held.boundary)
+        (ap (λ l. l ++ steps (first_in e) rest) (sym (steps-parts e units (end - s.width) PassesTo-held.boundary).0)
+        ∙ sym (steps-take-drop e units (end - s.width) PassesTo-held.boundary)
         ∙ PassesTo-held.boundary.apart) in
         let first : steps (first_in e) rest ≡ first_in e rest ∷ steps (first_in e) (drop (first_in e rest).width rest) =
-        steps-some (first_in e) (IsDecoding-first e) rest (omega (arith, length-drop (end - s.width) units)) in
+        steps-some e rest (omega (arith, length-drop (end - s.width) units)) in
         let same : first_in e rest ∷ steps (first_in e) (drop (first_in e rest).width rest) ≡ s ∷ steps (first_in e) (drop end units) = sym first ∙ behind in
         let is : first_in e rest ≡ s = cc in
         let of_last : All (λ t. class_of_step passed t ≡ Some 0) (s ∷ []) =

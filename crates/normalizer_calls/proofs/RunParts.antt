@@ -75,7 +75,7 @@ module _ (e : Encoding) (d : Reading) (form : Form) (units : List ℕ) where
         let rest = drop end units in
         let some : 0 < length rest = omega (arith, length-drop end units) in
         let s = first_in e rest in
-        subst (Divides d form front) (sym (decoded-some (first_in e) (IsDecoding-first e) rest some))
+        subst (Divides d form front) (sym (decoded-some e rest some))
         (Divides-next d form s.character (next more ((IsDecoding-first e).scalar rest some)) front (decoded_in e (drop s.width rest)))
     | inr none ↦
         let rest = drop end units in
@@ -83,7 +83,7 @@ module _ (e : Encoding) (d : Reading) (form : Form) (units : List ℕ) where
   ]
     where
       decoded-none : (e : Encoding) (us : List ℕ) → length us ≡ 0 → decoded_in e us ≡ []
-      decoded-none e [] h = ap (map (λ s. s.character)) (steps-nil (first_in e))
+      decoded-none e [] h = ap (map (λ s. s.character)) (steps-nil e)
       decoded-none e (u ∷ us) h = absurd (omega arith)
 
   -- a segment
@@ -99,11 +99,11 @@ module _ (passed : ℕ → Option ℕ) (e : Encoding) where
   steps-right us = by (length us) us (omega arith)
     where
       by : (n : ℕ) (us : List ℕ) → length us ≤ n → All (λ s. s.is_error ≡ true → s.character ≡ replacement) (steps (first_in e) us)
-      by n [] h = All-same (λ s. s.is_error ≡ true → s.character ≡ replacement) _ _ (steps-nil (first_in e)) (All-nil (λ s. s.is_error ≡ true → s.character ≡ replacement))
+      by n [] h = All-same (λ s. s.is_error ≡ true → s.character ≡ replacement) _ _ (steps-nil e) (All-nil (λ s. s.is_error ≡ true → s.character ≡ replacement))
       by zero (u ∷ us) h = absurd (omega arith)
-      by (suc n) (u ∷ us) h = All-same (λ s. s.is_error ≡ true → s.character ≡ replacement) _ _ (steps-some (first_in e) (IsDecoding-first e) (u ∷ us) (omega arith))
+      by (suc n) (u ∷ us) h = All-same (λ s. s.is_error ≡ true → s.character ≡ replacement) _ _ (steps-some e (u ∷ us) (omega arith))
           (All-cons (λ s. s.is_error ≡ true → s.character ≡ replacement) _ _ (error_first e (u ∷ us))
-          (by n (drop (first_in e (u ∷ us)).width (u ∷ us)) (rest-shorter (first_in e) (IsDecoding-first e) (u ∷ us) n (omega arith) h)))
+          (by n (drop (first_in e (u ∷ us)).width (u ∷ us)) (rest-shorter e (u ∷ us) n (omega arith) h)))
 
   all_right : (ss : List Step) (last k : ℕ) → All (λ s. s.is_error ≡ true → s.character ≡ replacement) ss → class_after passed last ss ≡ Some k → All (λ s. s.is_error ≡ false) ss
   unfolding class_after
@@ -183,7 +183,7 @@ module _ (passed : ℕ → Option ℕ) (e : Encoding) where
       -- characters that all pass are well-formed and normalized
       module _ (end last : ℕ) (to : PassesTo passed e units end last) where
         same_steps : steps (first_in e) (take end units) ≡ to.boundary.before
-        same_steps = (steps-parts (first_in e) (IsDecoding-first e) units end to.boundary).0
+        same_steps = (steps-parts e units end to.boundary).0
 
         passed_steps : class_after passed 0 (steps (first_in e) (take end units)) ≡ Some last
         passed_steps = ap (class_after passed 0) same_steps ∙ to.pass
@@ -191,12 +191,12 @@ module _ (passed : ℕ → Option ℕ) (e : Encoding) where
         pub own_run : IsInputNormalized e d form (take end units)
         own_run = record {
           well_formed = all_right (steps (first_in e) (take end units)) 0 last (steps-right (take end units)) passed_steps;
-          own = own_steps (steps (first_in e) (take end units)) 0 last (decoded-IsText (first_in e) (IsDecoding-first e) (take end units)) passed_steps;
+          own = own_steps (steps (first_in e) (take end units)) 0 last (decoded-IsText e (take end units)) passed_steps;
         }
 
         starters_before : held_back ≡ true → All (λ s. class_of_step passed s ≡ Some 0) to.boundary.before
         starters_before held = All-same (λ s. class_of_step passed s ≡ Some 0) _ _ (sym same_steps)
-            (all_starters held (steps (first_in e) (take end units)) 0 last (decoded-IsText (first_in e) (IsDecoding-first e) (take end units)) passed_steps)
+            (all_starters held (steps (first_in e) (take end units)) 0 last (decoded-IsText e (take end units)) passed_steps)
 
         -- a run up to the end of the units, or to a place where a character begins apart
         pub IsPart-run : 0 < end → (end < length units → IsScalar (first_in e (drop end units)).character → BeginsApart d form (first_in e (drop end units)).character) → IsPart e d form units end
@@ -218,7 +218,7 @@ module _ (passed : ℕ → Option ℕ) (e : Encoding) where
                 let text_is : decoded_in e (take end units) ≡ text ends.front ++ ends.step.character ∷ [] =
                 ap text (same_steps end 0 to ∙ is ∙ ends.parts) ∙ map-append (λ s. s.character) ends.front (ends.step ∷ []) in
                 let scalar : IsScalar ends.step.character =
-                last_of IsScalar (text ends.front) ends.step.character (All-same IsScalar _ _ (sym text_is) (decoded-IsText (first_in e) (IsDecoding-first e) (take end units))) in
+                last_of IsScalar (text ends.front) ends.step.character (All-same IsScalar _ _ (sym text_is) (decoded-IsText e (take end units))) in
                 record {
                   some = some;
                   boundary = to.boundary;

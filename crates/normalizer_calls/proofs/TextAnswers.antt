@@ -18,8 +18,8 @@ use Rattle.normalizer_conditions.specs.AcceptedData.{SuitsTexts}
 use Rattle.normalizer_text.specs.Encodings.{Encoding}
 use Rattle.normalizer_text.specs.Steps.{IsWellFormed}
 use Rattle.normalizer_text.specs.Utf8.{decoded_utf8, first_of_utf8}
-use Rattle.normalizer_text.proofs.EncodingRules.{IsDecoding-first, DecodesBack-in}
-use Rattle.normalizer_text.proofs.SequenceLemmas.{decoded-chars, IsUtf8-IsWellFormed, IsWellFormed-IsUtf8}
+use Rattle.normalizer_text.proofs.EncodingLemmas.{DecodesBack-in}
+use Rattle.normalizer_text.proofs.StrLemmas.{decoded-chars, IsUtf8-IsWellFormed, IsWellFormed-IsUtf8}
 use Rattle.normalizer_text.proofs.StepLemmas.{decoded-IsText}
 use Rattle.normalizer_input.specs.declared.offence.Offence.{Offence}
 use Rattle.normalizer_input.specs.InputCut.{IsInputNormalized}
@@ -109,7 +109,7 @@ module _ (m : MadeForm) (text : List ℕ) (utf8 : IsUtf8 text) where
 
   module _ (z : CowStr Global) (h : IsEncodedFormOf m Encoding.Utf8 text (cow_str_bytes z)) (texts : SuitsTexts m.reading m.form) where
     form_is_text : IsText (normal_form m.reading m.form (decoded_utf8 text))
-    form_is_text = IsText-normal_form m.reading m.form texts.texts texts.scalars (decoded_utf8 text) (decoded-IsText first_of_utf8 (IsDecoding-first Encoding.Utf8) text)
+    form_is_text = IsText-normal_form m.reading m.form texts.texts texts.scalars (decoded_utf8 text) (decoded-IsText Encoding.Utf8 text)
 
     content_utf8 : IsUtf8 (cow_str_bytes z)
     content_utf8 = IsUtf8-IsWellFormed (cow_str_bytes z) (subst (IsWellFormed first_of_utf8) (sym h.encoded)

@@ -7,7 +7,7 @@ use Rattle.normalizer_text.specs.declared.sink.SinkError.{SinkError}
 use Rattle.normalizer_text.specs.Encodings.{Encoding, encoded_in}
 use Rattle.normalizer_text.specs.Outputs.{AnswersHint, AnswersUnits}
 use Rattle.normalizer_text.specs.Sinks.{TakesNothing}
-use Rattle.normalizer_text.proofs.OutputLemmas.{encoded_in-append, encoded_in-nil}
+use Rattle.normalizer_text.proofs.EncodingLemmas.{encoded_in-append, encoded_in-nil}
 use Rattle.normalizer_iterators.specs.declared.error.NormalizeError.{NormalizeError}
 use Rattle.normalizer_iterators.specs.declared.error.NormalizeError.TheVariants.{Memory, Sink}
 use Rattle.normalizer_iterators.specs.Items.{SpellsOk, SpellsUnless}

@@ -5,7 +5,7 @@ use Rattle.std.specs.List.{join_with_byte, list_any}
 use Rattle.std.proofs.Math.Dec.{eqb-suc-zero}
 use Rattle.std.proofs.Math.Seq.{drop-cons}
 use Rattle.std.proofs.Math.ListN.{drop_of_length-le}
-use Rattle.normalizer_text.proofs.EncodingRules.{encoded-append}
+use Rattle.normalizer_text.proofs.EncodingLemmas.{encoded_in-append}
 use Rattle.normalizer_text.specs.Encodings.{encoded_in}
 use Rattle.normalizer_calls.specs.Uts46.{MapperData}
 use Rattle.normalizer_streams.specs.declared.scheme.EncodingScheme.{EncodingScheme}
@@ -45,7 +45,7 @@ module _ (task : MapperTask) (s : EncodingScheme) (m : Mapping) (name : List ℕ
 
 module _ (s : EncodingScheme) where
   encoded_by-append : (x y : List ℕ) → encoded_by s (x ++ y) ≡ encoded_by s x ++ encoded_by s y
-  encoded_by-append x y = ap (bytes_of s) (encoded-append (encoding_of s) x y) ∙ bytes-append s (encoded_in (encoding_of s) x) (encoded_in (encoding_of s) y)
+  encoded_by-append x y = ap (bytes_of s) (encoded_in-append (encoding_of s) x y) ∙ bytes-append s (encoded_in (encoding_of s) x) (encoded_in (encoding_of s) y)
 
   module _ (m : Mapping) (name : List ℕ) where
     joined : (first : List ℕ) (n : ℕ) (lines : List (List ℕ))

@@ -14,7 +14,7 @@ use Rattle.normal_forms.specs.Cut.{IsCommonFront, IsFront}
 use Rattle.normal_forms.proofs.OffenceLemmas.{common_front_from, offered_front_is_normalized}
 use Rattle.normalizer_text.specs.Steps.{IsWellFormed, IsBoundary}
 use Rattle.normalizer_text.specs.Encodings.{Encoding, first_in, encoded_in, decoded_in}
-use Rattle.normalizer_text.proofs.EncodingRules.{IsDecoding-first, DecodesBack-in, encoded-decoded, encoded-append}
+use Rattle.normalizer_text.proofs.EncodingLemmas.{DecodesBack-in, encoded-decoded, encoded_in-append}
 use Rattle.normalizer_text.proofs.StepLemmas.{decoded-IsText}
 use Rattle.normalizer_text.proofs.BoundaryLemmas.{boundary-end, decoded-take-drop}
 use Rattle.normalizer_input.specs.InputCut.{IsInputNormalized, IsInputCut, characters_before, IsErrorFreeBoundary}
@@ -34,7 +34,7 @@ module _ (e : Encoding) (d : Reading) (form : Form) (units : List ℕ) where
   form_of_text = normal_form d form (decoded_in e units)
 
   IsText-form : HasTextForms d form → IsText (normal_form d form (decoded_in e units))
-  IsText-form texts = texts (decoded_in e units) (decoded-IsText (first_in e) (IsDecoding-first e) units)
+  IsText-form texts = texts (decoded_in e units) (decoded-IsText e units)
 
   -- units are normalized exactly if they are the encoding of the form of what they decode to
   pub is_normalized_iff_encoded_form : HasTextForms d form → IsInputNormalized e d form units ↔ (encoded_form e d form units ≡ units)
@@ -99,7 +99,7 @@ module _ (e : Encoding) (d : Reading) (form : Form) (units : List ℕ) where
       let between : List ℕ = encoded_in e (drop j (take k form_of_text)) in
       let front : shorter ++ between ≡ take n units =
       ap (λ l. encoded_in e l ++ between) (sym (take-take j k form_of_text le))
-      ∙ sym (encoded-append e (take j (take k form_of_text)) (drop j (take k form_of_text)))
+      ∙ sym (encoded_in-append e (take j (take k form_of_text)) (drop j (take k form_of_text)))
       ∙ ap (encoded_in e) (take-append-drop j (take k form_of_text))
       ∙ f.same in
       let whole : units ≡ shorter ++ (between ++ drop n units) =
@@ -141,13 +141,13 @@ module _ (e : Encoding) (d : Reading) (form : Form) (suits : SuitsForm d form) (
       let x : List ℕ = decoded_in e (take n units) in
       let y : List ℕ = normal_form d form x in
       let m = length (encoded_in e y) in
-      let back = DecodesBack-in e y (texts x (decoded-IsText (first_in e) (IsDecoding-first e) (take n units))) in
+      let back = DecodesBack-in e y (texts x (decoded-IsText e (take n units))) in
       let front : take m units ≡ encoded_in e y = ap (take m) offered.1 ∙ take-append_seam (encoded_in e y) offered.0 in
       let w : IsWellFormed (first_in e) (take m units) = subst (IsWellFormed (first_in e)) (sym front) back.well_formed in
       let text : decoded_in e (take m units) ≡ y = ap (decoded_in e) front ∙ back.text in
       let own : IsNormalized d form x =
       offered_front_is_normalized d form suits inhabited x (decoded_in e (drop n units))
-      (decoded_in e (drop m units), sym (decoded-take-drop (first_in e) (IsDecoding-first e) units n b) ∙ decoded-parts e units m w ∙ ap (λ l. l ++ decoded_in e (drop m units)) text) in
+      (decoded_in e (drop m units), sym (decoded-take-drop e units n b) ∙ decoded-parts e units m w ∙ ap (λ l. l ++ decoded_in e (drop m units)) text) in
       -- as many characters come before the two boundaries
       let there = (boundary_of_front e units m (omega (arith, ap length offered.1, length-append (encoded_in e y) offered.0)) w).boundary in
       let count : characters_before e units m ≡ characters_before e units n = ap length (text ∙ own) in
@@ -161,6 +161,6 @@ module _ (e : Encoding) (d : Reading) (form : Form) (suits : SuitsForm d form) (
   form_ends_with_units units offered =
       let all = take-length units in
       let own =
-      offered_is_normalized units (length units) (boundary-end (first_in e) (IsDecoding-first e) units)
+      offered_is_normalized units (length units) (boundary-end e units)
       (subst (λ u. IsFront (encoded_form e d form u) units) (sym all) offered) in
       (is_normalized_iff_encoded_form e d form units texts).0 (subst (IsInputNormalized e d form) all own)

@@ -11,7 +11,6 @@ use Rattle.std.proofs.Math.Seq.{drop-append_seam}
 use Rattle.normalizer_text.specs.declared.step.Step.{Step}
 use Rattle.normalizer_text.specs.Steps.{steps, IsWellFormed}
 use Rattle.normalizer_text.specs.Encodings.{Encoding, first_in, decoded_in}
-use Rattle.normalizer_text.proofs.EncodingRules.{IsDecoding-first}
 use Rattle.normalizer_text.proofs.StepLemmas.{steps-nil, steps-append, decoded-append}
 use Rattle.normalizer_text.proofs.BoundaryLemmas.{boundary-le, boundary-well_formed, steps-parts}
 use Rattle.normalizer_input.specs.InputCut.{IsErrorFreeBoundary}
@@ -40,35 +39,35 @@ module _ (e : Encoding) where
   length-decoded us = length-map (steps (first_in e) us) (λ s. s.character)
 
   pub IsWellFormed-nil : IsWellFormed (first_in e) []
-  IsWellFormed-nil = All-same (λ s. s.is_error ≡ false) _ _ (steps-nil (first_in e)) (All-nil (λ s. s.is_error ≡ false))
+  IsWellFormed-nil = All-same (λ s. s.is_error ≡ false) _ _ (steps-nil e) (All-nil (λ s. s.is_error ≡ false))
 
   -- ---- a well-formed front and the rest
 
   pub IsWellFormed-append : (front rest : List ℕ) → IsWellFormed (first_in e) front → IsWellFormed (first_in e) rest → IsWellFormed (first_in e) (front ++ rest)
   IsWellFormed-append front rest a b =
-      All-same (λ s. s.is_error ≡ false) _ _ (steps-append (first_in e) (IsDecoding-first e) front rest a) (All-append (λ s. s.is_error ≡ false) _ _ a b)
+      All-same (λ s. s.is_error ≡ false) _ _ (steps-append e front rest a) (All-append (λ s. s.is_error ≡ false) _ _ a b)
 
   pub IsWellFormed-rest : (front rest : List ℕ) → IsWellFormed (first_in e) front → IsWellFormed (first_in e) (front ++ rest) → IsWellFormed (first_in e) rest
   IsWellFormed-rest front rest a all =
       let right = λ (s : Step). s.is_error ≡ false in
-      let whole = All-same right _ _ (sym (steps-append (first_in e) (IsDecoding-first e) front rest a)) all in
+      let whole = All-same right _ _ (sym (steps-append e front rest a)) all in
       All-same right _ _ (sym (drop-append_seam (steps (first_in e) front) (steps (first_in e) rest))) (All-drop right (length (steps (first_in e) front)) _ whole)
 
   pub decoded-parts : (units : List ℕ) (n : ℕ) → IsWellFormed (first_in e) (take n units) → decoded_in e units ≡ decoded_in e (take n units) ++ decoded_in e (drop n units)
   decoded-parts units n w =
-      ap (decoded_in e) (sym (take-append-drop n units)) ∙ decoded-append (first_in e) (IsDecoding-first e) (take n units) (drop n units) w
+      ap (decoded_in e) (sym (take-append-drop n units)) ∙ decoded-append e (take n units) (drop n units) w
 
   -- ---- the places of boundaries
 
   pub boundary_of_front : (units : List ℕ) (n : ℕ) → n ≤ length units → IsWellFormed (first_in e) (take n units) → IsErrorFreeBoundary e units n
   boundary_of_front units n within w =
-      let b = boundary-well_formed (first_in e) (IsDecoding-first e) units n within w in
-      record { boundary = b; error_free = All-same (λ s. s.is_error ≡ false) _ _ (sym (steps-parts (first_in e) (IsDecoding-first e) units n b).0) w }
+      let b = boundary-well_formed e units n within w in
+      record { boundary = b; error_free = All-same (λ s. s.is_error ≡ false) _ _ (sym (steps-parts e units n b).0) w }
 
   pub front_of_boundary : (units : List ℕ) (n : ℕ) → IsErrorFreeBoundary e units n → (n ≤ length units) × IsWellFormed (first_in e) (take n units)
   front_of_boundary units n b = (
-    boundary-le (first_in e) (IsDecoding-first e) units n b.boundary,
-    All-same (λ s. s.is_error ≡ false) _ _ (steps-parts (first_in e) (IsDecoding-first e) units n b.boundary).0 b.error_free,
+    boundary-le e units n b.boundary,
+    All-same (λ s. s.is_error ≡ false) _ _ (steps-parts e units n b.boundary).0 b.error_free,
   )
 
   -- what is between two boundaries at or before the first error is well-formed

@@ -13,7 +13,6 @@ use Rattle.normal_forms.specs.Cut.{QualifiesForCut, IsCut, IsCommonFront}
 use Rattle.normal_forms.proofs.OffenceLemmas.{parts_of_form, cut_iff, smaller_qualifies}
 use Rattle.normalizer_text.specs.Steps.{steps, IsBoundary, IsWellFormed, width_of}
 use Rattle.normalizer_text.specs.Encodings.{Encoding, first_in, decoded_in}
-use Rattle.normalizer_text.proofs.EncodingRules.{IsDecoding-first}
 use Rattle.normalizer_text.proofs.BoundaryLemmas.{steps-parts, width_of-fewer}
 use Rattle.normalizer_text.proofs.StepLemmas.{decoded-nil, steps-some}
 use Rattle.normal_forms.proofs.PlaceLemmas.{form_of_nothing, same_or_not, greatest_up_to}
@@ -27,7 +26,7 @@ module _ (e : Encoding) where
   -- as many characters come before a boundary as steps
   pub characters_before-steps : (units : List ℕ) (n : ℕ) (b : IsBoundary (first_in e) units n) → characters_before e units n ≡ length b.before
   characters_before-steps units n b =
-      length-decoded e (take n units) ∙ ap length (steps-parts (first_in e) (IsDecoding-first e) units n b).0
+      length-decoded e (take n units) ∙ ap length (steps-parts e units n b).0
 
   -- of two boundaries the one with fewer characters before it comes first
   pub boundary-fewer : (units : List ℕ) (m n : ℕ) → IsBoundary (first_in e) units m → IsBoundary (first_in e) units n → characters_before e units m ≤ characters_before e units n → m ≤ n
@@ -84,7 +83,7 @@ module _ (e : Encoding) where
             let before = b.boundary.before ++ s ∷ [] in
             let after = steps (first_in e) (drop s.width (drop n units)) in
             let behind : b.boundary.after ≡ s ∷ after =
-            sym (steps-parts (first_in e) (IsDecoding-first e) units n b.boundary).1 ∙ steps-some (first_in e) (IsDecoding-first e) (drop n units) (omega (arith, length-drop n units)) in
+            sym (steps-parts e units n b.boundary).1 ∙ steps-some e (drop n units) (omega (arith, length-drop n units)) in
             let next : IsErrorFreeBoundary e units (width_of before) = record {
               boundary = record {
                 before = before;
@@ -106,7 +105,7 @@ module _ (e : Encoding) where
     zero_input_qualifies units = record {
       within = omega arith;
       well_formed = IsWellFormed-nil e;
-      keeps = ap (λ l. l ++ normal_form d form (decoded_in e units)) (decoded-nil (first_in e));
+      keeps = ap (λ l. l ++ normal_form d form (decoded_in e units)) (decoded-nil e);
     }
 
     -- a number qualifies if it is a boundary at or before the first error, and the number of characters before it
@@ -225,12 +224,12 @@ module _ (e : Encoding) where
         qualifies = record {
           within = omega arith;
           well_formed = subst (IsWellFormed (first_in e)) (sym (take-length units)) own.well_formed;
-          keeps = rw (take-length units, drop-length units, decoded-nil (first_in e), form_of_nothing d form) (append-nil (decoded_in e units) ∙ sym own.own);
+          keeps = rw (take-length units, drop-length units, decoded-nil e, form_of_nothing d form) (append-nil (decoded_in e units) ∙ sym own.own);
         };
         greatest = λ m q. q.within;
       },
       λ cut.
-          let keeps = rw (take-length units, drop-length units, decoded-nil (first_in e), form_of_nothing d form) at cut.qualifies.keeps in
+          let keeps = rw (take-length units, drop-length units, decoded-nil e, form_of_nothing d form) at cut.qualifies.keeps in
           record { well_formed = subst (IsWellFormed (first_in e)) (take-length units) cut.qualifies.well_formed; own = sym keeps ∙ append-nil (decoded_in e units) },
     )
 

@@ -9,7 +9,7 @@ use Rattle.normal_forms.specs.Offence.{IsFirst, IsFirstOffence}
 use Rattle.normal_forms.proofs.OffenceLemmas.{cut_unique}
 use Rattle.normalizer_text.specs.Steps.{IsWellFormed}
 use Rattle.normalizer_text.specs.Encodings.{Encoding, first_in, encoded_in, decoded_in}
-use Rattle.normalizer_text.proofs.EncodingRules.{encoded-decoded}
+use Rattle.normalizer_text.proofs.EncodingLemmas.{encoded-decoded}
 use Rattle.normalizer_input.specs.InputCut.{IsInputNormalized, IsInputCut, characters_before}
 use Rattle.normalizer_input.specs.InputOffence.{IsInputOffence}
 use Rattle.normalizer_input.proofs.InputCutLemmas.{take-characters_before, drop-characters_before, input_cut_exists, cut_of_well_formed}

@@ -1,5 +1,5 @@
 -- The first mismatch of an input of units, and of the input with a continuation.
-use Rattle.std.proofs.Common.{◌≡◌, ◌≢◌, ℕ, ◌≤◌, ◌⊎◌, ◌↔◌, List, [], ◌∷◌, ◌++◌, length, take, drop}
+use Rattle.std.proofs.Common.{◌≡◌, ◌≢◌, ℕ, ◌≤◌, ◌⊎◌, ◌↔◌, List, ◌∷◌, ◌++◌, length, take, drop}
 use Rattle.std.proofs.Common.{Option, Some, None, slice_get, inl, inr, refl, sym, ap, subst, ◌∙◌, arith, length-append, length-drop}
 use Rattle.std.proofs.lemmas.Bool.{cases_eq}
 use Rattle.std.proofs.lemmas.List.{take-append-le}
@@ -12,7 +12,6 @@ use Rattle.normal_forms.specs.Offence.{IsFirst, IsFirstOffence}
 use Rattle.normal_forms.proofs.OffenceLemmas.{found_differs, parts_of_form, continued_cut}
 use Rattle.normalizer_text.specs.Steps.{IsWellFormed}
 use Rattle.normalizer_text.specs.Encodings.{Encoding, first_in, decoded_in}
-use Rattle.normalizer_text.proofs.EncodingRules.{IsDecoding-first}
 use Rattle.normalizer_text.proofs.StepLemmas.{decoded-some, decoded-append}
 use Rattle.normal_forms.proofs.PlaceLemmas.{cases_first, cut_of, cut_unique, first_unique, form_is_nothing, normalized_iff_cut, at_seam}
 use Rattle.normalizer_input.specs.InputCut.{IsInputNormalized, IsInputCut, characters_before, IsErrorAt}
@@ -45,7 +44,7 @@ module _ (e : Encoding) (d : Reading) (form : Form) where
       let below = input_cut_below e d form units at.0 differs at.1 in
       let rest : List ℕ = drop at.0 units in
       let s = first_in e rest in
-      let found : decoded_in e rest ≡ s.character ∷ decoded_in e (drop s.width rest) = decoded-some (first_in e) (IsDecoding-first e) rest (omega (arith, length-drop at.0 units)) in
+      let found : decoded_in e rest ≡ s.character ∷ decoded_in e (drop s.width rest) = decoded-some e rest (omega (arith, length-drop at.0 units)) in
       elim (cases_first (normal_form d form (decoded_in e rest))) [
         | inl none ↦ let nothing = form_is_nothing d form inhabited (decoded_in e rest) none in absurd cc
         | inr wanted ↦ (
@@ -103,7 +102,7 @@ module _ (e : Encoding) (d : Reading) (form : Form) where
   parts_of_normalized suits front rest w own =
       let x : List ℕ = decoded_in e front in
       let y : List ℕ = decoded_in e rest in
-      let apart : decoded_in e (front ++ rest) ≡ x ++ y = decoded-append (first_in e) (IsDecoding-first e) front rest w in
+      let apart : decoded_in e (front ++ rest) ≡ x ++ y = decoded-append e front rest w in
       let parts = parts_of_form d form suits (decoded_in e (front ++ rest)) x y (own.own ∙ apart) in (
         record { well_formed = w; own = parts.0 },
         record { well_formed = IsWellFormed-rest e front rest w own.well_formed; own = parts.1 },
@@ -119,7 +118,7 @@ module _ (e : Encoding) (d : Reading) (form : Form) where
   continued_input_cut suits units more n m w differs cut longer =
       let x : List ℕ = decoded_in e units in
       let y : List ℕ = decoded_in e more in
-      let apart : decoded_in e (units ++ more) ≡ x ++ y = decoded-append (first_in e) (IsDecoding-first e) units more w in
+      let apart : decoded_in e (units ++ more) ≡ x ++ y = decoded-append e units more w in
       let text = cut_of_well_formed e d form units n w cut in
       let text_longer = cut_of d form (x ++ y) in
       let same : take n (units ++ more) ≡ take n units = take-append-le n units more cut.qualifies.within in

@@ -46,13 +46,13 @@ pub decoded-left : (e : Encoding) (units : List ℕ) (position : ℕ) (s : Step)
     → decoded_in e (drop position units) ≡ s.character ∷ decoded_in e (drop (position + s.width) units)
 decoded-left e units position s inside is =
     let some : 0 < length (drop position units) = omega (arith, length-drop position units) in
-    decoded-some (first_in e) (IsDecoding-first e) (drop position units) some
+    decoded-some e (drop position units) some
     ∙ ap (λ t. t.character ∷ decoded_in e (drop t.width (drop position units))) (sym is)
     ∙ ap (λ us. s.character ∷ decoded_in e us) (drop-drop s.width position units)
 
 -- at the end nothing is left
 pub decoded-all : (e : Encoding) (units : List ℕ) (position : ℕ) → length units ≤ position → decoded_in e (drop position units) ≡ []
-decoded-all e units position past = ap (decoded_in e) (drop_all position units past) ∙ decoded-nil (first_in e)
+decoded-all e units position past = ap (decoded_in e) (drop_all position units past) ∙ decoded-nil e
 
 expand-left : (d : Reading) (e : Encoding) (units : List ℕ) (position : ℕ) (s : Step) → position < length units → s ≡ first_in e (drop position units)
     → expand d (decoded_in e (drop position units)) ≡ d.list s.character ++ expand d (decoded_in e (drop (position + s.width) units))

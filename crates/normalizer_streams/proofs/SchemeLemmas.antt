@@ -1,16 +1,12 @@
 -- Units of bytes, in parts.
-use Rattle.std.proofs.Common.{◌≡◌, ℕ, zero, suc, ◌+◌, ◌*◌, ◌<◌, ◌≤◌, ◌%◌, Bool, true, false, List, [], ◌∷◌, ◌++◌, length, take, drop, get_or, min, Some, append-nil, append_assoc, refl, sym, ap, ◌∙◌, arith}
+use Rattle.std.proofs.Common.{◌≡◌, ℕ, zero, suc, ◌+◌, ◌*◌, ◌<◌, ◌≤◌, ◌%◌, Bool, true, false, List, [], ◌∷◌, ◌++◌, length, take, drop, get_or, min, refl, sym, ap, ◌∙◌, arith}
 use Rattle.std.specs.Prelude.{◌&&◌}
 use Rattle.std.proofs.Math.Seq.{drop-cons, take-nil}
 use Rattle.std.proofs.Math.ListN.{drop_of_length-le}
 use Rattle.std.proofs.lemmas.List.{take_all}
 use Rattle.std.proofs.lemmas.List.Concat.{flat_map-append}
 use Rattle.std.proofs.lemmas.Bool.{eq-eqb, eqb-true, true≢false}
-use Rattle.normalizer_text.specs.Steps.{decoded, TakesFirst}
 use Rattle.normalizer_text.specs.Utf16.{first_of_utf16, is_high, is_single, unpaired}
-use Rattle.normalizer_text.specs.declared.step.Step.{Step}
-use Rattle.normalizer_text.proofs.Decoding.{IsDecoding}
-use Rattle.normalizer_text.proofs.StepLemmas.{decoded-nil, decoded-some}
 use Rattle.normalizer_text.proofs.Utf16Lemmas.{first-single, first-unpaired}
 use Rattle.normalizer_text.proofs.Utf8Lemmas.{IsDecoding-utf8, HasTrails-utf8}
 use Rattle.normalizer_streams.specs.declared.scheme.ByteOrder.{ByteOrder}
@@ -133,14 +129,3 @@ front-bytes bytes n = take-within bytes n
 pub front-pairs : (order : ByteOrder) (bytes : List ℕ) (n k : ℕ) → (min k (length bytes) ≡ min (2 * n) (length bytes))
     → units_of_pairs order (take (min k (length bytes)) bytes) ≡ take n (units_of_pairs order bytes)
 front-pairs order bytes n k same = rw (same, take-within bytes (2 * n)) (units-front order bytes n)
-
--- characters that are decoded one after another
-module _ (first : List ℕ → Step) (units text all : List ℕ) where
-  pub decoded-more : IsDecoding first → (left more : List ℕ) (c : ℕ) → TakesFirst first units (Some c) left → more ≡ text ++ c ∷ []
-      → text ++ decoded first units ≡ all → more ++ decoded first left ≡ all
-  decoded-more d left more c taken grown before =
-      let step : decoded first units ≡ c ∷ decoded first left = decoded-some first d units taken.0 ∙ rw (taken.1, taken.2) refl in
-      ap (λ x. x ++ decoded first left) grown ∙ append_assoc text (c ∷ []) (decoded first left) ∙ ap (λ x. text ++ x) (sym step) ∙ before
-
-  pub decoded-end : units ≡ [] → text ++ decoded first units ≡ all → text ≡ all
-  decoded-end none before = sym (append-nil text) ∙ ap (λ x. text ++ x) (sym (ap (decoded first) none ∙ decoded-nil first)) ∙ before

@@ -7,7 +7,8 @@ use Rattle.normal_forms.specs.Forms.{normal_form}
 use Rattle.normal_forms.specs.Reading.{Reading}
 use Rattle.normal_forms.specs.declared.Form.{Form}
 use Rattle.normalizer_text.specs.Encodings.{Encoding, first_in, decoded_in, encoded_in, trails_in}
-use Rattle.normalizer_text.proofs.EncodingRules.{IsDecoding-first, HasTrails-first, encoded-append}
+use Rattle.normalizer_text.proofs.EncodingRules.{HasTrails-first}
+use Rattle.normalizer_text.proofs.EncodingLemmas.{encoded_in-append}
 use Rattle.normalizer_text.proofs.BackLemmas.{boundary-at}
 use Rattle.normalizer_text.proofs.BoundaryLemmas.{decoded-take-drop}
 use Rattle.normalizer_text.proofs.StepLemmas.{decoded-some}
@@ -34,11 +35,11 @@ module _ (e : Encoding) (d : Reading) (form : Form) where
       let front = decoded_in e (take place units) in
       let c = (first rest).character in
       let x = decoded_in e (drop (first rest).width rest) in
-      let begins : decoded_in e rest ≡ c ∷ x = decoded-some first (IsDecoding-first e) rest some in
+      let begins : decoded_in e rest ≡ c ∷ x = decoded-some e rest some in
       let parts : decoded_in e units ≡ front ++ decoded_in e rest =
-      decoded-take-drop first (IsDecoding-first e) units place (boundary-at first (IsDecoding-first e) (trails_in e) (HasTrails-first e) units place within lead) in
+      decoded-take-drop e units place (boundary-at e units place within lead) in
       ap (λ z. encoded_in e (normal_form d form z)) (parts ∙ ap (λ z. front ++ z) begins)
-      ∙ ap (encoded_in e) (apart front x) ∙ encoded-append e (normal_form d form front) (normal_form d form (c ∷ x))
+      ∙ ap (encoded_in e) (apart front x) ∙ encoded_in-append e (normal_form d form front) (normal_form d form (c ∷ x))
       ∙ ap (λ z. encoded_in e (normal_form d form front) ++ encoded_in e (normal_form d form z)) (sym begins)
 
   -- a front, and a rest that begins with a character that begins apart

@@ -217,11 +217,7 @@ fn widened(alloc: Global, bytes: &[u8]) -> Result<Vec<u16>, AllocError>
 fn characters<U: Units>(alloc: Global, units: U) -> Result<Vec<char>, AllocError>
     ensures { IfOk result (λ text. text.items ≡ decoded_in U.encoding (U.units units)) }
 {
-    let mut text = Vec::new(alloc);
-    for c in Chars::new(units) {
-        text.push(c)?;
-    }
-    Ok(text)
+    Chars::new(units).collect(alloc)
 }
 
 fn utf8(alloc: Global, text: &[char]) -> Result<String, AllocError>

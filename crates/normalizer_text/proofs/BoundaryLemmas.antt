@@ -1,4 +1,4 @@
--- Positions at which a step ends, of any rule.
+-- Positions at which a step ends.
 use Rattle.std.proofs.Common.{◌≡◌, subst, ℕ, zero, suc, ◌+◌, ◌-◌, ◌<◌, ◌≤◌, inl, inr, List, [], ◌∷◌}
 use Rattle.std.proofs.Common.{◌++◌, length, length-drop, length-take-le, append_assoc, take, drop, arith, refl, ap, sym, ◌∙◌, map, take-append-drop}
 use Rattle.std.specs.Prelude.{All}
@@ -8,7 +8,8 @@ use Rattle.std.specs.List.{slice_range}
 use Rattle.std.proofs.lemmas.List.Elements.{All-take, All-drop, All-same}
 use Rattle.normalizer_text.specs.declared.step.Step.{Step}
 use Rattle.normalizer_text.specs.Steps.{steps, width_of, IsBoundary, IsFirstStep, IsLastStep, IsWellFormed, decoded}
-use Rattle.normalizer_text.proofs.Decoding.{IsDecoding}
+use Rattle.normalizer_text.specs.Encodings.{Encoding, first_in}
+use Rattle.normalizer_text.proofs.EncodingRules.{IsDecoding-first}
 use Rattle.normalizer_text.proofs.StepLemmas.{IsRight, steps-nil, steps-some, steps-apart, rest-shorter, steps-append}
 
 pub width_of-append : (a b : List Step) → width_of (a ++ b) ≡ width_of a + width_of b
@@ -35,19 +36,22 @@ longer_front (s ∷ p) r (s' ∷ q) t same fewer =
     let k = longer_front p r q t tail (omega arith) in
     (k.0, ap (λ c. c ∷ q) (sym head) ∙ ap (λ l. s ∷ l) k.1, k.2)
 
-module _ (first : List ℕ → Step) (d : IsDecoding first) where
+module _ (e : Encoding) where
+  abbrev first : List ℕ → Step
+  first = first_in e
+
   -- the steps take all of the units
   pub width_of-steps : (us : List ℕ) → width_of (steps first us) ≡ length us
   width_of-steps us = by (length us) us (omega arith)
     where
       by : (n : ℕ) (us : List ℕ) → length us ≤ n → width_of (steps first us) ≡ length us
-      by n [] h = ap width_of (steps-nil first)
+      by n [] h = ap width_of (steps-nil e)
       by zero (u ∷ us) h = absurd (omega arith)
       by (suc n) (u ∷ us) h =
           let us' = u ∷ us in
           let w = (first us').width in
-          let fits = d.fits us' (omega arith) in
-          ap width_of (steps-some first d us' (omega arith)) ∙ omega (arith, by n (drop w us') (rest-shorter first d us' n (omega arith) h), length-drop w us')
+          let fits = (IsDecoding-first e).fits us' (omega arith) in
+          ap width_of (steps-some e us' (omega arith)) ∙ omega (arith, by n (drop w us') (rest-shorter e us' n (omega arith) h), length-drop w us')
 
   pub boundary-le : (us : List ℕ) (n : ℕ) → IsBoundary first us n → n ≤ length us
   boundary-le us n b =
@@ -65,7 +69,7 @@ module _ (first : List ℕ → Step) (d : IsDecoding first) where
   boundary-first us s f = record {
     before = s ∷ [];
     after = steps first (drop (first us).width us);
-    apart = steps-some first d us f.some ∙ ap (λ x. x ∷ steps first (drop (first us).width us)) (sym f.is);
+    apart = steps-some e us f.some ∙ ap (λ x. x ∷ steps first (drop (first us).width us)) (sym f.is);
     taken = omega arith;
   }
 
@@ -80,7 +84,7 @@ module _ (first : List ℕ → Step) (d : IsDecoding first) where
 
   -- the steps of the two parts
   pub steps-parts : (us : List ℕ) (n : ℕ) (b : IsBoundary first us n) → (steps first (take n us) ≡ b.before) × (steps first (drop n us) ≡ b.after)
-  steps-parts us n b = subst (λ m. (steps first (take m us) ≡ b.before) × (steps first (drop m us) ≡ b.after)) b.taken (steps-apart first d b.before b.after us b.apart)
+  steps-parts us n b = subst (λ m. (steps first (take m us) ≡ b.before) × (steps first (drop m us) ≡ b.after)) b.taken (steps-apart e b.before b.after us b.apart)
 
   pub steps-take-drop : (us : List ℕ) (n : ℕ) → IsBoundary first us n → steps first us ≡ steps first (take n us) ++ steps first (drop n us)
   steps-take-drop us n b =
@@ -158,6 +162,6 @@ module _ (first : List ℕ → Step) (d : IsDecoding first) where
   boundary-well_formed us n h w = record {
     before = steps first (take n us);
     after = steps first (drop n us);
-    apart = ap (steps first) (sym (take-append-drop n us)) ∙ steps-append first d (take n us) (drop n us) w;
+    apart = ap (steps first) (sym (take-append-drop n us)) ∙ steps-append e (take n us) (drop n us) w;
     taken = width_of-steps (take n us) ∙ length-take-le n us h;
   }

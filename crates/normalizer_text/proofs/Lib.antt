@@ -6,7 +6,6 @@ pub mod EncodingLemmas
 pub mod EncodingRules
 pub mod LowLemmas
 pub mod MatchLemmas
-pub mod OutputLemmas
 pub mod RowLemmas
 pub mod ScalarLemmas
 pub mod ScanLemmas
@@ -14,6 +13,7 @@ pub mod SequenceLemmas
 pub mod Sequences
 pub mod StdLemmas
 pub mod StepLemmas
+pub mod StrLemmas
 pub mod SubpartLemmas
 pub mod Utf16Lemmas
 pub mod Utf8Lemmas

@@ -3,16 +3,15 @@ use Rattle.std.proofs.Common.{◌≡◌, ℕ, zero, suc, ◌-◌, ◌*◌, ◌<�
 use Rattle.std.specs.Prelude.{All}
 use Rattle.std.proofs.lemmas.Bool.{true≢false}
 use Rattle.std.proofs.lemmas.List.Elements.{All-nil, All-cons, All-head, All-tail, All-same, All-drop}
-use Rattle.normalizer_text.specs.declared.step.Step.{Step}
-use Rattle.normalizer_text.specs.Steps.{read, steps, decoded, IsWellFormed}
+use Rattle.normalizer_text.specs.Steps.{read, steps, IsWellFormed}
 use Rattle.normalizer_text.specs.Utf8.{range, row, scalar_value, first_by_row, first_of_utf8, decoded_utf8}
 use Rattle.normalizer_text.specs.Utf16.{first_of_utf16}
 use Rattle.normalizer_text.proofs.Sequences.{IsSequence}
-use Rattle.normalizer_text.proofs.Decoding.{IsDecoding}
+use Rattle.normalizer_text.specs.Encodings.{Encoding, first_in, decoded_in}
 use Rattle.normalizer_text.proofs.StepLemmas.{IsRight, decoded-nil, decoded-some, steps-some, rest-shorter}
 use Rattle.normalizer_text.proofs.RowLemmas.{IsSequence-row, by_row-whole}
 use Rattle.normalizer_text.proofs.SequenceLemmas.{row-ascii}
-use Rattle.normalizer_text.proofs.Utf8Lemmas.{by_cases, IsDecoding-utf8}
+use Rattle.normalizer_text.proofs.Utf8Lemmas.{by_cases}
 use Rattle.normalizer_text.proofs.Utf16Lemmas.{first-single, low-is_single}
 
 pub first-ascii : (b : ℕ) (bs : List ℕ) → b < 0x80 → first_of_utf8 (b ∷ bs) ≡ read b 1
@@ -43,21 +42,21 @@ character-low limit b bs least most below right =
     right
 
 -- what holds of the character that each unit begins, holds of all that well-formed units decode to
-decoded-All : (first : List ℕ → Step) → IsDecoding first → (P Q : ℕ → Type 0)
-    → ((u : ℕ) (us : List ℕ) → P u → (first (u ∷ us)).is_error ≡ false → Q (first (u ∷ us)).character) → (units : List ℕ) → IsWellFormed first units → All P units → All Q (decoded first units)
-decoded-All first d P Q holds units w all = by (length units) units (omega arith) w all
+decoded-All : (e : Encoding) (P Q : ℕ → Type 0)
+    → ((u : ℕ) (us : List ℕ) → P u → (first_in e (u ∷ us)).is_error ≡ false → Q (first_in e (u ∷ us)).character) → (units : List ℕ) → IsWellFormed (first_in e) units → All P units → All Q (decoded_in e units)
+decoded-All e P Q holds units w all = by (length units) units (omega arith) w all
   where
-    by : (n : ℕ) (us : List ℕ) → length us ≤ n → IsWellFormed first us → All P us → All Q (decoded first us)
-    by n [] h w all = All-same Q _ _ (decoded-nil first) (All-nil Q)
+    by : (n : ℕ) (us : List ℕ) → length us ≤ n → IsWellFormed (first_in e) us → All P us → All Q (decoded_in e us)
+    by n [] h w all = All-same Q _ _ (decoded-nil e) (All-nil Q)
     by zero (u ∷ us) h w all = absurd (omega arith)
     by (suc n) (u ∷ us) h w all =
-        let s = first (u ∷ us) in
+        let s = first_in e (u ∷ us) in
         let rest = drop s.width (u ∷ us) in
-        let w' : All IsRight (s ∷ steps first rest) = All-same IsRight (s ∷ steps first rest) (steps first (u ∷ us)) (sym (steps-some first d (u ∷ us) (omega arith))) w in
-        let here = holds u us (All-head P u us all) (All-head IsRight s (steps first rest) w') in
-        let others = by n rest (rest-shorter first d (u ∷ us) n (omega arith) h) (All-tail IsRight s (steps first rest) w') (All-drop P s.width (u ∷ us) all) in
-        All-same Q _ _ (decoded-some first d (u ∷ us) (omega arith)) (All-cons Q s.character (decoded first rest) here others)
+        let w' : All IsRight (s ∷ steps (first_in e) rest) = All-same IsRight (s ∷ steps (first_in e) rest) (steps (first_in e) (u ∷ us)) (sym (steps-some e (u ∷ us) (omega arith))) w in
+        let here = holds u us (All-head P u us all) (All-head IsRight s (steps (first_in e) rest) w') in
+        let others = by n rest (rest-shorter e (u ∷ us) n (omega arith) h) (All-tail IsRight s (steps (first_in e) rest) w') (All-drop P s.width (u ∷ us) all) in
+        All-same Q _ _ (decoded-some e (u ∷ us) (omega arith)) (All-cons Q s.character (decoded_in e rest) here others)
 
 pub decoded-low : (limit : ℕ) → 0xC2 ≤ limit → limit ≤ 0xE0 → (bytes : List ℕ) → IsWellFormed first_of_utf8 bytes → All (λ b. b < limit) bytes → All (λ c. c < (limit - 0xC0) * 64) (decoded_utf8 bytes)
 decoded-low limit least most =
-    decoded-All first_of_utf8 IsDecoding-utf8 (λ b. b < limit) (λ c. c < (limit - 0xC0) * 64) (λ b bs below right. character-low limit b bs least most below right)
+    decoded-All Encoding.Utf8 (λ b. b < limit) (λ c. c < (limit - 0xC0) * 64) (λ b bs below right. character-low limit b bs least most below right)

@@ -15,21 +15,16 @@ use Rattle.std.proofs.lemmas.List.Folds.{prefix_len-append}
 use Rattle.std.proofs.lemmas.Simd.{chunk-drop, length-chunk, get_or-chunk, tops_compared, zip2_splat_left, mask_l-mod, first_set_mask_l}
 use Rattle.std.proofs.lemmas.List.Sums.{prefix_len-drop_yes, prefix_len-drop_no, prefix_len-drop_all, prefix_len-le-length, prefix_len_stops, prefix_len_is}
 use Rattle.std.proofs.lemmas.List.Elements.{All-nil, All-cons, All-head, All-tail, All-same, All-weaker}
-use Rattle.normalizer_text.specs.declared.step.Step.{Step}
 use Rattle.normalizer_text.specs.Encodings.{Encoding, first_in, decoded_in}
 use Rattle.normalizer_text.specs.Scans.{leading_below, low_byte, EndsLowCharacters}
 use Rattle.normalizer_text.specs.Steps.{read, steps, IsWellFormed, IsBoundary}
 use Rattle.normalizer_text.specs.Utf8.{allows, continuation, first_of_utf8, decoded_utf8}
 use Rattle.normalizer_text.specs.Utf16.{first_of_utf16}
-use Rattle.normalizer_text.proofs.Decoding.{IsDecoding}
-use Rattle.normalizer_text.proofs.EncodingRules.{IsDecoding-first}
 use Rattle.normalizer_text.proofs.StepLemmas.{IsRight, decoded-nil, decoded-some, steps-nil, steps-some}
 use Rattle.normalizer_text.proofs.BackLemmas.{boundary-at}
 use Rattle.normalizer_text.proofs.BoundaryLemmas.{boundary-after, boundary-end, boundary-well_formed, well_formed-parts}
 use Rattle.normalizer_text.proofs.LowLemmas.{first-ascii, first-low_unit, decoded-low}
 use Rattle.normalizer_text.proofs.MatchLemmas.{allows-true}
-use Rattle.normalizer_text.proofs.Utf8Lemmas.{IsDecoding-utf8, HasTrails-utf8}
-use Rattle.normalizer_text.proofs.Utf16Lemmas.{IsDecoding-utf16}
 
 -- ---- one unit after another
 
@@ -112,46 +107,46 @@ lanes-below_all w bound units at n room fits high =
 
 -- ---- units that are characters by themselves
 
-module _ (first : List ℕ → Step) (d : IsDecoding first) (P : ℕ → Type 0) (single : (u : ℕ) (us : List ℕ) → P u → first (u ∷ us) ≡ read u 1) where
-  pub steps-single : (low rest : List ℕ) → All P low → steps first (low ++ rest) ≡ map (λ u. read u 1) low ++ steps first rest
+module _ (e : Encoding) (P : ℕ → Type 0) (single : (u : ℕ) (us : List ℕ) → P u → first_in e (u ∷ us) ≡ read u 1) where
+  pub steps-single : (low rest : List ℕ) → All P low → steps (first_in e) (low ++ rest) ≡ map (λ u. read u 1) low ++ steps (first_in e) rest
   steps-single [] rest all = refl
   steps-single (u ∷ low) rest all =
-      steps-some first d (u ∷ (low ++ rest)) (omega arith)
-      ∙ ap (λ s. s ∷ steps first (drop s.width (u ∷ (low ++ rest)))) (single u (low ++ rest) (All-head P u low all))
+      steps-some e (u ∷ (low ++ rest)) (omega arith)
+      ∙ ap (λ s. s ∷ steps (first_in e) (drop s.width (u ∷ (low ++ rest)))) (single u (low ++ rest) (All-head P u low all))
       ∙ ap (λ x. read u 1 ∷ x) (steps-single low rest (All-tail P u low all))
 
-  well_formed-single : (low : List ℕ) → All P low → IsWellFormed first low
+  well_formed-single : (low : List ℕ) → All P low → IsWellFormed (first_in e) low
   well_formed-single low all = All-same IsRight _ (map (λ u. read u 1) low) (
-      ap (steps first) (sym (append-nil low)) ∙ steps-single low [] all ∙ ap (λ x. map (λ u. read u 1) low ++ x) (steps-nil first) ∙ append-nil (map (λ u. read u 1) low)
+      ap (steps (first_in e)) (sym (append-nil low)) ∙ steps-single low [] all ∙ ap (λ x. map (λ u. read u 1) low ++ x) (steps-nil e) ∙ append-nil (map (λ u. read u 1) low)
       ) (by low)
     where
       by : (us : List ℕ) → All IsRight (map (λ u. read u 1) us)
       by [] = All-nil IsRight
       by (u ∷ us) = All-cons IsRight (read u 1) (map (λ u. read u 1) us) refl (by us)
 
-  pub boundary-single : (units : List ℕ) (n : ℕ) → n ≤ length units → All P (take n units) → IsBoundary first units n
-  boundary-single units n h all = boundary-well_formed first d units n h (well_formed-single (take n units) all)
+  pub boundary-single : (units : List ℕ) (n : ℕ) → n ≤ length units → All P (take n units) → IsBoundary (first_in e) units n
+  boundary-single units n h all = boundary-well_formed e units n h (well_formed-single (take n units) all)
 
 pub first-low : (e : Encoding) (u : ℕ) (us : List ℕ) → u < 0x80 → first_in e (u ∷ us) ≡ read u 1
 first-low Encoding.Utf8 u us h = first-ascii u us h
 first-low Encoding.Utf16 u us h = first-low_unit u us (omega arith)
 
 pub steps-ascii : (e : Encoding) (low rest : List ℕ) → All (λ u. u < 0x80) low → steps (first_in e) (low ++ rest) ≡ map (λ u. read u 1) low ++ steps (first_in e) rest
-steps-ascii e = steps-single (first_in e) (IsDecoding-first e) (λ u. u < 0x80) (first-low e)
+steps-ascii e = steps-single e (λ u. u < 0x80) (first-low e)
 
 pub steps-low_units : (low rest : List ℕ) → All (λ u. u < 0xD800) low → steps first_of_utf16 (low ++ rest) ≡ map (λ u. read u 1) low ++ steps first_of_utf16 rest
-steps-low_units = steps-single first_of_utf16 IsDecoding-utf16 (λ u. u < 0xD800) first-low_unit
+steps-low_units = steps-single Encoding.Utf16 (λ u. u < 0xD800) first-low_unit
 
 -- ---- a step ends with them
 
 pub boundary-ascii : (e : Encoding) (bound : ℕ) (units : List ℕ) → bound ≤ 0x80 → IsBoundary (first_in e) units (leading_below bound units)
 boundary-ascii e bound units h =
-    boundary-single (first_in e) (IsDecoding-first e) (λ u. u < bound) (λ u us l. first-low e u us (omega arith)) units (leading_below bound units)
+    boundary-single e (λ u. u < bound) (λ u us l. first-low e u us (omega arith)) units (leading_below bound units)
     (leading_below-le bound units) (All-leading_below bound units)
 
 pub boundary-low_units : (bound : ℕ) (units : List ℕ) → bound ≤ 0xD800 → IsBoundary first_of_utf16 units (leading_below bound units)
 boundary-low_units bound units h =
-    boundary-single first_of_utf16 IsDecoding-utf16 (λ u. u < bound) (λ u us l. first-low_unit u us (omega arith)) units (leading_below bound units)
+    boundary-single Encoding.Utf16 (λ u. u < bound) (λ u us l. first-low_unit u us (omega arith)) units (leading_below bound units)
     (leading_below-le bound units) (All-leading_below bound units)
 
 -- no byte from C0 on comes after the first one of a sequence
@@ -164,17 +159,17 @@ boundary-low_bytes bound bytes h = ⊎_elim
     let stop = prefix_len_stops (λ u. ltb u bound) bytes 0 within in
     let high : bound ≤ get_or bytes (leading_below bound bytes) 0 = ⊎_elim
     (λ l. absurd (true≢false (sym (lt-ltb _ bound l) ∙ stop))) (λ g. g) (cases_lt (get_or bytes (leading_below bound bytes) 0) bound) in
-    boundary-at first_of_utf8 IsDecoding-utf8 (allows continuation) HasTrails-utf8 bytes (leading_below bound bytes) within (lead (get_or bytes (leading_below bound bytes) 0) (omega arith)))
+    boundary-at Encoding.Utf8 bytes (leading_below bound bytes) within (lead (get_or bytes (leading_below bound bytes) 0) (omega arith)))
     (λ past.
     let le = leading_below-le bound bytes in
     let all : length bytes ≡ leading_below bound bytes = omega arith in
-    subst (IsBoundary first_of_utf8 bytes) all (boundary-end first_of_utf8 IsDecoding-utf8 bytes))
+    subst (IsBoundary first_of_utf8 bytes) all (boundary-end Encoding.Utf8 bytes))
     (cases_lt (leading_below bound bytes) (length bytes))
 
 pub text-low_bytes : (limit : ℕ) → 0xC2 ≤ limit → limit ≤ 0xE0 → (bytes : List ℕ) → IsWellFormed first_of_utf8 bytes
     → All (λ c. c < (limit - 0xC0) * 64) (decoded_utf8 (take (leading_below limit bytes) bytes))
 text-low_bytes limit least most bytes w =
-    let front = well_formed-parts first_of_utf8 IsDecoding-utf8 bytes (leading_below limit bytes) (boundary-low_bytes limit bytes (omega arith)) w in
+    let front = well_formed-parts Encoding.Utf8 bytes (leading_below limit bytes) (boundary-low_bytes limit bytes (omega arith)) w in
     decoded-low limit least most (take (leading_below limit bytes) bytes) front.0 (All-leading_below limit bytes)
 
 -- ---- how far it goes with characters below a bound
@@ -183,7 +178,7 @@ module _ (e : Encoding) (bound : ℕ) (units : List ℕ) (from : ℕ) (here : Is
   ends_low : (n : ℕ) → IsBoundary (first_in e) (drop from units) n → All (λ c. c < bound) (decoded_in e (take n (drop from units))) → EndsLowCharacters e units from bound (from + n)
   ends_low n ends low = record {
     behind = omega arith;
-    boundary = boundary-after (first_in e) (IsDecoding-first e) units from n here ends;
+    boundary = boundary-after e units from n here ends;
     low = (let same : from + n - from ≡ n = omega arith in All-same (λ c. c < bound) _ _ (ap (λ k. decoded_in e (take k (drop from units))) same) low);
   }
 
@@ -195,15 +190,15 @@ module _ (e : Encoding) (bound : ℕ) (units : List ℕ) (from : ℕ) (here : Is
       let n = leading_below limit rest in
       subst (EndsLowCharacters e units from bound) (sym is)
       (ends_low n
-      (boundary-single (first_in e) (IsDecoding-first e) (λ u. u < limit) single rest n (leading_below-le limit rest) (All-leading_below limit rest))
+      (boundary-single e (λ u. u < limit) single rest n (leading_below-le limit rest) (All-leading_below limit rest))
       (low_text (take n rest) (All-leading_below limit rest)))
     where
       low_text : (low : List ℕ) → All (λ u. u < limit) low → All (λ c. c < bound) (decoded_in e low)
-      low_text [] all = All-same (λ c. c < bound) _ _ (decoded-nil (first_in e)) (All-nil (λ c. c < bound))
+      low_text [] all = All-same (λ c. c < bound) _ _ (decoded-nil e) (All-nil (λ c. c < bound))
       low_text (u ∷ low) all =
           let small = All-head (λ u. u < limit) u low all in
           All-same (λ c. c < bound) _ _
-          (decoded-some (first_in e) (IsDecoding-first e) (u ∷ low) (omega arith) ∙ ap (λ s. s.character ∷ decoded_in e (drop s.width (u ∷ low))) (single u low small))
+          (decoded-some e (u ∷ low) (omega arith) ∙ ap (λ s. s.character ∷ decoded_in e (drop s.width (u ∷ low))) (single u low small))
           (All-cons (λ c. c < bound) u (decoded_in e low) (omega arith) (low_text low (All-tail (λ u. u < limit) u low all)))
 
 -- in what is well-formed
@@ -218,7 +213,7 @@ EndsLowCharacters-within bound limit (inl single) bytes w from here to is =
 EndsLowCharacters-within bound limit (inr of_pairs) bytes w from here to is =
     let rest = drop from bytes in
     let n = leading_below limit rest in
-    let low = text-low_bytes limit of_pairs.0 of_pairs.1 rest (well_formed-parts first_of_utf8 IsDecoding-utf8 bytes from here w).1 in
+    let low = text-low_bytes limit of_pairs.0 of_pairs.1 rest (well_formed-parts Encoding.Utf8 bytes from here w).1 in
     subst (EndsLowCharacters Encoding.Utf8 bytes from bound) (sym is)
     (ends_low Encoding.Utf8 bound bytes from here n (boundary-low_bytes limit rest (let k = of_pairs.0 in omega arith))
     (All-weaker (λ c. c < (limit - 0xC0) * 64) (λ c. c < bound) (λ c l. let k = of_pairs.2 in omega arith) _ low))

@@ -1,25 +1,21 @@
--- A well-formed sequence in front of bytes, and the encoding of a text.
-use Rattle.std.proofs.Common.{◌≡◌, ℕ, suc, ◌+◌, ◌<◌, ◌≤◌, true, false, List, [], ◌∷◌, ◌++◌, length, length-take-le, take, drop, get_or, get_or-drop, Some, arith, refl, ap, sym, subst, ◌∙◌, ⊎_elim}
-use Rattle.std.specs.Prelude.{All}
+-- A well-formed sequence in front of bytes, and the encoding of a character.
+use Rattle.std.proofs.Common.{◌≡◌, ℕ, suc, ◌+◌, ◌<◌, ◌≤◌, true, false, List, [], ◌∷◌, ◌++◌, length, length-take-le, take, get_or, Some, arith, refl, ap, sym, subst, ◌∙◌, ⊎_elim}
 use Rattle.std.specs.Char.{IsScalar, encode_utf8}
-use Rattle.std.specs.Str.{IsCharBoundary, continuation_len, encode_utf8_all, IsUtf8, chars, all_scalars}
-use Rattle.std.proofs.lemmas.Str.{chars_from_encodes, IsCharBoundary-from_take, IsUtf8-take}
-use Rattle.std.proofs.lemmas.Bool.{true≢false, cases_eq, cases_lt, cond-true, cond-false, and_from, and_parts, le-leb, lt-ltb, le-ltb}
+use Rattle.std.specs.Str.{continuation_len}
+use Rattle.std.proofs.lemmas.Bool.{true≢false, cases_eq, cases_lt, cond-true, cond-false, and_from, le-leb, lt-ltb, le-ltb}
 use Rattle.std.proofs.lemmas.Bool.Decides.{nat_tests}
 use Rattle.std.proofs.lemmas.List.{take_at}
-use Rattle.std.proofs.lemmas.List.Elements.{All-nil, All-cons, All-head, All-tail}
-use Rattle.normalizer_text.specs.Steps.{read, IsWellFormed, IsBoundary}
-use Rattle.normalizer_text.specs.Utf8.{ByteRange, range, Row, row, row_of, continuation, allows, matched, scalar_value, first_by_row, first_of_utf8, decoded_utf8}
+use Rattle.normalizer_text.specs.Steps.{read, IsWellFormed}
+use Rattle.normalizer_text.specs.Utf8.{ByteRange, range, Row, row, row_of, continuation, allows, matched, scalar_value, first_by_row, first_of_utf8}
 use Rattle.normalizer_text.proofs.Sequences.{IsSequence}
 use Rattle.normalizer_text.specs.MaximalSubparts.{IsWithin, AreWithin}
 use Rattle.normalizer_text.proofs.RowLemmas.{IsSequence-row, IsWhole, by_row-whole}
 use Rattle.normalizer_text.proofs.MatchLemmas.{matched-le}
-use Rattle.normalizer_text.proofs.BoundaryLemmas.{boundary-le, boundary-well_formed, well_formed-parts}
-use Rattle.normalizer_text.proofs.EncodingLemmas.{IsEncoding, DecodesBack, DecodesBack-text, all-decoded}
+use Rattle.normalizer_text.specs.Encodings.{Encoding}
+use Rattle.normalizer_text.proofs.Decoding.{IsEncoding}
 use Rattle.normalizer_text.proofs.ScalarLemmas.{encode-scalar_value, Encodes-encode}
-use Rattle.normalizer_text.proofs.StepLemmas.{decoded-IsText, first-right}
-use Rattle.normalizer_text.proofs.Utf8Lemmas.{by_cases, IsDecoding-utf8, HasTrails-utf8}
-use Rattle.normalizer_text.proofs.BackLemmas.{boundary-at}
+use Rattle.normalizer_text.proofs.StepLemmas.{first-right}
+use Rattle.normalizer_text.proofs.Utf8Lemmas.{by_cases}
 
 -- ---- the row of a first byte
 
@@ -134,9 +130,9 @@ whole-well_formed (b ∷ bs) h w =
       step = sym (ap (λ k. read (scalar_value (take k (b ∷ bs))) k) n) ∙ same;
     })
     (λ r f m e _. absurd (true≢false e))
-    (first-right first_of_utf8 IsDecoding-utf8 (b ∷ bs) h w) refl
+    (first-right Encoding.Utf8 (b ∷ bs) h w) refl
 
--- ---- the encoding of a text
+-- ---- the encoding of a character
 
 first-encode : (c : ℕ) (more : List ℕ) → IsScalar c → first_of_utf8 (encode_utf8 c ++ more) ≡ read c (length (encode_utf8 c))
 first-encode c more h =
@@ -158,50 +154,5 @@ encode-first (b ∷ bs) h e = by_cases (λ s. s.is_error ≡ false → encode_ut
     (λ r f m e. absurd (true≢false e))
     e
 
-pub IsEncoding-utf8 : IsEncoding first_of_utf8 encode_utf8 encode_utf8_all
+pub IsEncoding-utf8 : IsEncoding Encoding.Utf8
 IsEncoding-utf8 = record { nil = refl; cons = λ c x. refl; some = some-encode; front = first-encode; back = encode-first }
-
--- what a text encodes to is well-formed, and decodes to the text
-pub DecodesBack-utf8 : (x : List ℕ) → All IsScalar x → DecodesBack first_of_utf8 encode_utf8_all x
-DecodesBack-utf8 = DecodesBack-text first_of_utf8 IsDecoding-utf8 encode_utf8 encode_utf8_all IsEncoding-utf8
-
--- what is well-formed is the encoding of what it decodes to
-pub encode-decoded : (bytes : List ℕ) → IsWellFormed first_of_utf8 bytes → encode_utf8_all (decoded_utf8 bytes) ≡ bytes
-encode-decoded = all-decoded first_of_utf8 IsDecoding-utf8 encode_utf8 encode_utf8_all IsEncoding-utf8
-
--- ---- std's words
-
-text_from_scalars : (x : List ℕ) → all_scalars x ≡ true → All IsScalar x
-text_from_scalars [] h = All-nil IsScalar
-text_from_scalars (c ∷ x) h = let k = and_parts _ _ h in All-cons IsScalar c x k.0 (text_from_scalars x k.1)
-
-scalars_from_text : (x : List ℕ) → All IsScalar x → all_scalars x ≡ true
-scalars_from_text [] h = refl
-scalars_from_text (c ∷ x) h = and_from _ _ (All-head IsScalar c x h) (scalars_from_text x (All-tail IsScalar c x h))
-
-pub IsWellFormed-IsUtf8 : (bytes : List ℕ) → IsUtf8 bytes → IsWellFormed first_of_utf8 bytes
-IsWellFormed-IsUtf8 bytes u = subst (IsWellFormed first_of_utf8) u.1.1 (DecodesBack-utf8 u.0 (text_from_scalars u.0 u.1.0)).well_formed
-
-pub IsUtf8-IsWellFormed : (bytes : List ℕ) → IsWellFormed first_of_utf8 bytes → IsUtf8 bytes
-IsUtf8-IsWellFormed bytes w = (decoded_utf8 bytes, (scalars_from_text _ (decoded-IsText first_of_utf8 IsDecoding-utf8 bytes), encode-decoded bytes w))
-
-pub decoded-chars : (bytes : List ℕ) → IsUtf8 bytes → decoded_utf8 bytes ≡ chars bytes
-decoded-chars bytes u = chars_from_encodes (decoded_utf8 bytes) bytes u (encode-decoded bytes (IsWellFormed-IsUtf8 bytes u))
-
--- a step of a text ends at a character boundary
-pub IsCharBoundary-boundary : (bytes : List ℕ) (n : ℕ) → IsUtf8 bytes → IsBoundary first_of_utf8 bytes n → IsCharBoundary bytes n
-IsCharBoundary-boundary bytes n u b =
-    let parts = well_formed-parts first_of_utf8 IsDecoding-utf8 bytes n b (IsWellFormed-IsUtf8 bytes u) in
-    IsCharBoundary-from_take bytes n u (boundary-le first_of_utf8 IsDecoding-utf8 bytes n b) (IsUtf8-IsWellFormed (take n bytes) parts.0)
-
-pub boundary-IsCharBoundary : (bytes : List ℕ) (n : ℕ) → IsUtf8 bytes → IsCharBoundary bytes n → IsBoundary first_of_utf8 bytes n
-boundary-IsCharBoundary bytes n u c = boundary-well_formed first_of_utf8 IsDecoding-utf8 bytes n c.0 (IsWellFormed-IsUtf8 (take n bytes) (IsUtf8-take bytes n u c))
-
--- ---- a place in a text
-
--- the bytes from one on that can't trail are well-formed
-pub well_formed-at : (text : List ℕ) (n : ℕ) → IsUtf8 text → n < length text → allows continuation (get_or (drop n text) 0 0) ≡ false → IsWellFormed first_of_utf8 (drop n text)
-well_formed-at text n u h lead =
-    let here : get_or text n 0 ≡ get_or (drop n text) 0 0 = ap (λ i. get_or text i 0) (omega arith) ∙ sym (get_or-drop n text 0 0) in
-    let apart = boundary-at first_of_utf8 IsDecoding-utf8 (allows continuation) HasTrails-utf8 text n h (ap (allows continuation) here ∙ lead) in
-    (well_formed-parts first_of_utf8 IsDecoding-utf8 text n apart (IsWellFormed-IsUtf8 text u)).1

@@ -15,15 +15,17 @@ use Rattle.std.proofs.lemmas.Str.{utf16_chars-nil, utf16_chars_lone, utf16_chars
 use Rattle.normalizer_text.specs.declared.step.Step.{Step}
 use Rattle.normalizer_text.specs.Steps.{steps, width_of, IsWellFormed}
 use Rattle.normalizer_text.specs.Utf8.{range, Row, row_of, well_formed_sequences, continuation, allows, matched, first_of_utf8, decoded_utf8}
-use Rattle.normalizer_text.specs.Utf16.{is_high, is_low, pair_value, unpaired, first_of_utf16, decoded_utf16}
+use Rattle.normalizer_text.specs.Utf16.{is_high, is_low, pair_value, unpaired, decoded_utf16}
 use Rattle.normalizer_text.proofs.MatchLemmas.{allows-true}
 use Rattle.normalizer_text.specs.MaximalSubparts.{IsWithin}
 use Rattle.normalizer_text.proofs.RowLemmas.{Each, find-Each}
 use Rattle.normalizer_text.proofs.StepLemmas.{IsRight, steps-nil, decoded-nil, steps-some, decoded-some, steps-append, steps-apart}
 use Rattle.normalizer_text.proofs.BoundaryLemmas.{width_of-steps, width_of-append}
 use Rattle.normalizer_text.proofs.Utf8Lemmas.{by_cases, IsDecoding-utf8}
-use Rattle.normalizer_text.proofs.SequenceLemmas.{encode-decoded, IsWellFormed-IsUtf8, IsUtf8-IsWellFormed}
-use Rattle.normalizer_text.proofs.Utf16Lemmas.{IsDecoding-utf16, unpaired-cases, unpaired-width, first-pair, first-unpaired, pair-bounds, single-cases}
+use Rattle.normalizer_text.specs.Encodings.{Encoding}
+use Rattle.normalizer_text.proofs.EncodingLemmas.{encoded-decoded}
+use Rattle.normalizer_text.proofs.StrLemmas.{IsWellFormed-IsUtf8, IsUtf8-IsWellFormed}
+use Rattle.normalizer_text.proofs.Utf16Lemmas.{unpaired-cases, unpaired-width, first-pair, first-unpaired, pair-bounds, single-cases}
 
 -- ---- 16-bit units
 
@@ -36,25 +38,25 @@ pub decoded-lossy16 : (us : List ℕ) → All (λ u. u < 2 ^ 16) us → decoded_
 decoded-lossy16 us small = by (length us) us (omega arith) small
   where
     by : (n : ℕ) (us : List ℕ) → length us ≤ n → All (λ u. u < 2 ^ 16) us → decoded_utf16 us ≡ utf16_lossy_chars us
-    by n [] h s = decoded-nil first_of_utf16 ∙ sym (ap (map (λ o. unwrap_or o 0xFFFD)) utf16_chars-nil)
+    by n [] h s = decoded-nil Encoding.Utf16 ∙ sym (ap (map (λ o. unwrap_or o 0xFFFD)) utf16_chars-nil)
     by zero (u ∷ us) h s = absurd (omega arith)
     by (suc n) (u ∷ []) h s =
-        decoded-some first_of_utf16 IsDecoding-utf16 (u ∷ []) (omega arith)
+        decoded-some Encoding.Utf16 (u ∷ []) (omega arith)
         ∙ ap (λ w. (unpaired u).character ∷ decoded_utf16 (drop w (u ∷ []))) (unpaired-width u)
-        ∙ ap (λ x. (unpaired u).character ∷ x) (decoded-nil first_of_utf16)
+        ∙ ap (λ x. (unpaired u).character ∷ x) (decoded-nil Encoding.Utf16)
         ∙ ap (λ c. c ∷ []) (lone u (All-head (λ u. u < 2 ^ 16) u [] s))
         ∙ sym (ap (map (λ o. unwrap_or o 0xFFFD)) (utf16_chars_lone u [] (λ p. omega arith) ∙ ap (λ x. lone_unit_char u ∷ x) utf16_chars-nil))
     by (suc n) (u ∷ v ∷ us) h s = ⊎_elim
         (λ pair.
         let k = pair-bounds u v pair in
         let first = first-pair u v us pair in
-        decoded-some first_of_utf16 IsDecoding-utf16 (u ∷ v ∷ us) (omega arith)
+        decoded-some Encoding.Utf16 (u ∷ v ∷ us) (omega arith)
         ∙ ap (λ s. s.character ∷ decoded_utf16 (drop s.width (u ∷ v ∷ us))) first
         ∙ ap (λ x. pair_value u v ∷ x) (by n us (omega arith) (All-tail (λ u. u < 2 ^ 16) v us (All-tail (λ u. u < 2 ^ 16) u (v ∷ us) s)))
         ∙ sym (ap (map (λ o. unwrap_or o 0xFFFD)) (utf16_chars_pair u v us (omega arith, omega arith, omega arith, omega arith))))
         (λ apart.
         let first = first-unpaired u v us apart in
-        decoded-some first_of_utf16 IsDecoding-utf16 (u ∷ v ∷ us) (omega arith)
+        decoded-some Encoding.Utf16 (u ∷ v ∷ us) (omega arith)
         ∙ ap (λ s. s.character ∷ decoded_utf16 (drop s.width (u ∷ v ∷ us))) first
         ∙ ap (λ w. (unpaired u).character ∷ decoded_utf16 (drop w (u ∷ v ∷ us))) (unpaired-width u)
         ∙ ap (λ x. (unpaired u).character ∷ x) (by n (v ∷ us) (omega arith) (All-tail (λ u. u < 2 ^ 16) u (v ∷ us) s))
@@ -248,12 +250,12 @@ record IsFront (bs : List ℕ) (e : HasError (steps first_of_utf8 bs)) (n : ℕ)
 front-IsFront : (bs : List ℕ) (e : HasError (steps first_of_utf8 bs)) → IsFront bs e (width_of e.before)
 front-IsFront bs e =
     let n = width_of e.before in
-    let parts = steps-apart first_of_utf8 IsDecoding-utf8 e.before (e.error ∷ e.after) bs e.apart in
-    let all = width_of-steps first_of_utf8 IsDecoding-utf8 bs in
+    let parts = steps-apart Encoding.Utf8 e.before (e.error ∷ e.after) bs e.apart in
+    let all = width_of-steps Encoding.Utf8 bs in
     let sum = ap width_of e.apart ∙ width_of-append e.before (e.error ∷ e.after) in
     let some = some_steps (drop n bs) parts.1 in
     let cons : first_of_utf8 (drop n bs) ∷ steps first_of_utf8 (drop (first_of_utf8 (drop n bs)).width (drop n bs)) ≡ e.error ∷ e.after =
-    sym (steps-some first_of_utf8 IsDecoding-utf8 (drop n bs) some) ∙ parts.1 in
+    sym (steps-some Encoding.Utf8 (drop n bs) some) ∙ parts.1 in
     let step : first_of_utf8 (drop n bs) ≡ e.error = cc in
     let tail : steps first_of_utf8 (drop (first_of_utf8 (drop n bs)).width (drop n bs)) ≡ e.after = cc in record {
       front = parts.0;
@@ -265,7 +267,7 @@ front-IsFront bs e =
     }
   where
     some_steps : (us : List ℕ) → steps first_of_utf8 us ≡ e.error ∷ e.after → 0 < length us
-    some_steps [] k = absurd (let i : [] ≡ e.error ∷ e.after = sym (steps-nil first_of_utf8) ∙ k in cc)
+    some_steps [] k = absurd (let i : [] ≡ e.error ∷ e.after = sym (steps-nil Encoding.Utf8) ∙ k in cc)
     some_steps (u ∷ us) k = omega arith
 
 IsValidUpTo-front : (bs : List ℕ) (e : HasError (steps first_of_utf8 bs)) → IsValidUpTo bs (width_of e.before)
@@ -280,9 +282,9 @@ IsValidUpTo-front bs e =
       longest = λ m more u.
           let w = IsWellFormed-IsUtf8 (take m bs) u in
           let both : steps first_of_utf8 bs ≡ steps first_of_utf8 (take m bs) ++ steps first_of_utf8 (drop m bs) =
-          ap (steps first_of_utf8) (sym (take-append-drop m bs)) ∙ steps-append first_of_utf8 IsDecoding-utf8 (take m bs) (drop m bs) w in
+          ap (steps first_of_utf8) (sym (take-append-drop m bs)) ∙ steps-append Encoding.Utf8 (take m bs) (drop m bs) w in
           let le = width_of-right (steps first_of_utf8 (take m bs)) e.before (steps first_of_utf8 (drop m bs)) e.after e.error (sym e.apart ∙ both) w e.is in
-          let width = width_of-steps first_of_utf8 IsDecoding-utf8 (take m bs) in
+          let width = width_of-steps Encoding.Utf8 (take m bs) in
           absurd (omega (arith, length-take m bs));
     }
 
@@ -330,7 +332,7 @@ encode-decoded-lossy bytes = by (suc (length bytes)) bytes (omega arith)
     by : (k : ℕ) (bs : List ℕ) → length bs < k → encode_utf8_all (decoded_utf8 bs) ≡ utf8_lossy bs
     by zero bs l = absurd (omega arith)
     by (suc k) bs l = ⊎_elim
-        (λ all. encode-decoded bs all ∙ sym (utf8_lossy-IsUtf8 bs (IsUtf8-IsWellFormed bs all)))
+        (λ all. encoded-decoded Encoding.Utf8 bs all ∙ sym (utf8_lossy-IsUtf8 bs (IsUtf8-IsWellFormed bs all)))
         (λ e.
         let n = width_of e.before in
         let f = front-IsFront bs e in
@@ -342,7 +344,7 @@ encode-decoded-lossy bytes = by (suc (length bytes)) bytes (omega arith)
         let front : IsWellFormed first_of_utf8 (take n bs) = All-same IsRight (steps first_of_utf8 (take n bs)) e.before f.front e.right in
         ap encode_utf8_all (decoded-front bs e)
         ∙ encodes-append (decoded_utf8 (take n bs)) (0xFFFD ∷ decoded_utf8 rest)
-        ∙ ap (λ x. x ++ (encode_utf8 0xFFFD ++ encode_utf8_all (decoded_utf8 rest))) (encode-decoded (take n bs) front)
+        ∙ ap (λ x. x ++ (encode_utf8 0xFFFD ++ encode_utf8_all (decoded_utf8 rest))) (encoded-decoded Encoding.Utf8 (take n bs) front)
         ∙ ap (λ x. take n bs ++ (x ++ encode_utf8_all (decoded_utf8 rest))) encode-replacement
         ∙ ap (λ x. take n bs ++ (replacement_bytes ++ x)) (by k rest shorter)
         ∙ sym (lossy-front bs e))

@@ -1,4 +1,4 @@
--- Steps, one after another, of any rule.
+-- Steps, one after another.
 use Rattle.std.proofs.Common.{◌≡◌, subst, ℕ, zero, suc, ◌+◌, ◌-◌, ◌<◌, ◌≤◌, false, List, [], ◌∷◌, ◌++◌, length, length-drop, take, drop, map, arith, refl, ap, sym, ◌∙◌}
 use Rattle.std.specs.Prelude.{◌↔◌, All}
 use Rattle.std.specs.Char.{IsScalar}
@@ -6,19 +6,27 @@ use Rattle.std.proofs.lemmas.List.{drop-drop, drop-take, drop-append-le, map-app
 use Rattle.std.proofs.lemmas.List.Elements.{All-nil, All-cons, All-head, All-tail, All-same}
 use Rattle.normalizer_text.specs.declared.step.Step.{Step}
 use Rattle.normalizer_text.specs.Steps.{steps_past, steps, decoded, Decodes, IsWellFormed, width_of, TakesFirst, Spells}
+use Rattle.normalizer_text.specs.Encodings.{Encoding, first_in}
 use Rattle.normalizer_text.proofs.Decoding.{IsDecoding}
+use Rattle.normalizer_text.proofs.EncodingRules.{IsDecoding-first}
 
 abbrev pub IsRight : Step → Type 0
 IsRight s = s.is_error ≡ false
 
--- the steps past the first n units are those of the others
-pub steps_past-drop : (first : List ℕ → Step) (n : ℕ) (us : List ℕ) → steps_past first n us ≡ steps first (drop n us)
-unfolding steps_past
-steps_past-drop first zero us = refl
-steps_past-drop first (suc n) [] = refl
-steps_past-drop first (suc n) (u ∷ us) = steps_past-drop first n us
+module _ (e : Encoding) where
+  abbrev first : List ℕ → Step
+  first = first_in e
 
-module _ (first : List ℕ → Step) where
+  d : IsDecoding e
+  d = IsDecoding-first e
+
+  -- the steps past the first n units are those of the others
+  steps_past-drop : (n : ℕ) (us : List ℕ) → steps_past first n us ≡ steps first (drop n us)
+  unfolding steps_past
+  steps_past-drop zero us = refl
+  steps_past-drop (suc n) [] = refl
+  steps_past-drop (suc n) (u ∷ us) = steps_past-drop n us
+
   pub steps-nil : steps first [] ≡ []
   unfolding steps_past
   steps-nil = refl
@@ -32,13 +40,12 @@ module _ (first : List ℕ → Step) where
     where
       by : (w : ℕ) → 0 < w → steps_past first (w - 1) us ≡ steps first (drop w (u ∷ us))
       by zero h = absurd (omega arith)
-      by (suc w) h = let e : suc w - 1 ≡ w = omega arith in rw e (steps_past-drop first w us)
+      by (suc w) h = let e : suc w - 1 ≡ w = omega arith in rw e (steps_past-drop w us)
 
-module _ (first : List ℕ → Step) (d : IsDecoding first) where
   -- the step in front, and the steps of what it leaves
   pub steps-some : (us : List ℕ) → 0 < length us → steps first us ≡ first us ∷ steps first (drop (first us).width us)
   steps-some [] h = absurd (omega arith)
-  steps-some (u ∷ us) h = steps-cons first u us (d.some (u ∷ us) h)
+  steps-some (u ∷ us) h = steps-cons u us (d.some (u ∷ us) h)
 
   pub decoded-some : (us : List ℕ) → 0 < length us → decoded first us ≡ (first us).character ∷ decoded first (drop (first us).width us)
   decoded-some us h = ap (map (λ s. s.character)) (steps-some us h)
@@ -52,7 +59,7 @@ module _ (first : List ℕ → Step) (d : IsDecoding first) where
   Spells-TakesFirst us = by (length us) us (omega arith)
     where
       by : (n : ℕ) (us : List ℕ) → length us ≤ n → Spells (TakesFirst first) us (decoded first us)
-      by n [] h = subst (Spells (TakesFirst first) []) (sym (decoded-nil first)) (λ x j p. absurd (omega (arith, p.0)))
+      by n [] h = subst (Spells (TakesFirst first) []) (sym decoded-nil) (λ x j p. absurd (omega (arith, p.0)))
       by zero (u ∷ us) h = absurd (omega arith)
       by (suc n) (u ∷ us) h = subst (Spells (TakesFirst first) (u ∷ us)) (sym (decoded-some (u ∷ us) (omega arith))) (
         (λ j p. absurd (let k : length (u ∷ us) ≡ 0 = ap length p.0 in omega arith)),
@@ -69,13 +76,13 @@ module _ (first : List ℕ → Step) (d : IsDecoding first) where
   Decodes-decoded us = by (length us) us (omega arith)
     where
       by : (n : ℕ) (us : List ℕ) → length us ≤ n → Decodes first us (decoded first us)
-      by n [] h = subst (Decodes first []) (sym (decoded-nil first)) Decodes.nothing
+      by n [] h = subst (Decodes first []) (sym decoded-nil) Decodes.nothing
       by zero (u ∷ us) h = absurd (omega arith)
       by (suc n) (u ∷ us) h = subst (Decodes first (u ∷ us)) (sym (decoded-some (u ∷ us) (omega arith)))
           (Decodes.step u us _ (by n (drop (first (u ∷ us)).width (u ∷ us)) (rest-shorter (u ∷ us) n (omega arith) h)))
 
   pub decoded_from_Decodes : {us x : List ℕ} → Decodes first us x → x ≡ decoded first us
-  decoded_from_Decodes Decodes.nothing = sym (decoded-nil first)
+  decoded_from_Decodes Decodes.nothing = sym decoded-nil
   decoded_from_Decodes (Decodes.step u us x h) = ap (λ y. (first (u ∷ us)).character ∷ y) (decoded_from_Decodes h) ∙ sym (decoded-some (u ∷ us) (omega arith))
 
   -- ---- each decoded character is a scalar value
@@ -84,7 +91,7 @@ module _ (first : List ℕ → Step) (d : IsDecoding first) where
   decoded-IsText us = by (length us) us (omega arith)
     where
       by : (n : ℕ) (us : List ℕ) → length us ≤ n → All IsScalar (decoded first us)
-      by n [] h = All-same IsScalar _ _ (decoded-nil first) (All-nil IsScalar)
+      by n [] h = All-same IsScalar _ _ decoded-nil (All-nil IsScalar)
       by zero (u ∷ us) h = absurd (omega arith)
       by (suc n) (u ∷ us) h = All-same IsScalar _ _ (decoded-some (u ∷ us) (omega arith))
           (All-cons IsScalar _ _ (d.scalar (u ∷ us) (omega arith)) (by n (drop (first (u ∷ us)).width (u ∷ us)) (rest-shorter (u ∷ us) n (omega arith) h)))
@@ -104,7 +111,7 @@ module _ (first : List ℕ → Step) (d : IsDecoding first) where
   steps-append front rest w = by (length front) front (omega arith) w
     where
       by : (n : ℕ) (us : List ℕ) → length us ≤ n → IsWellFormed first us → steps first (us ++ rest) ≡ steps first us ++ steps first rest
-      by n [] h w = sym (ap (λ x. x ++ steps first rest) (steps-nil first))
+      by n [] h w = sym (ap (λ x. x ++ steps first rest) steps-nil)
       by zero (u ∷ us) h w = absurd (omega arith)
       by (suc n) (u ∷ us) h w =
           let us' = u ∷ us in
@@ -138,11 +145,11 @@ module _ (first : List ℕ → Step) (d : IsDecoding first) where
 
   -- at the boundary of a step the front has the first steps, and the rest the others
   pub steps-apart : (before after : List Step) (us : List ℕ) → steps first us ≡ before ++ after → (steps first (take (width_of before) us) ≡ before) × (steps first (drop (width_of before) us) ≡ after)
-  steps-apart [] after us e = (steps-nil first, e)
-  steps-apart (s ∷ before) after [] e = absurd (let k : [] ≡ s ∷ (before ++ after) = sym (steps-nil first) ∙ e in cc)
-  steps-apart (s ∷ before) after (u ∷ us) e =
+  steps-apart [] after us whole = (steps-nil, whole)
+  steps-apart (s ∷ before) after [] whole = absurd (let k : [] ≡ s ∷ (before ++ after) = sym steps-nil ∙ whole in cc)
+  steps-apart (s ∷ before) after (u ∷ us) whole =
       let us' = u ∷ us in
-      let k : first us' ∷ steps first (drop (first us').width us') ≡ s ∷ (before ++ after) = sym (steps-some us' (omega arith)) ∙ e in
+      let k : first us' ∷ steps first (drop (first us').width us') ≡ s ∷ (before ++ after) = sym (steps-some us' (omega arith)) ∙ whole in
       let head : first us' ≡ s = cc in
       let tail : steps first (drop (first us').width us') ≡ before ++ after = cc in
       let w = (first us').width in
@@ -160,7 +167,7 @@ module _ (first : List ℕ → Step) (d : IsDecoding first) where
   -- ---- what the public laws say
 
   pub Decodes-iff : (units x : List ℕ) → Decodes first units x ↔ (x ≡ decoded first units)
-  Decodes-iff units x = (decoded_from_Decodes, λ e. subst (Decodes first units) (sym e) (Decodes-decoded units))
+  Decodes-iff units x = (decoded_from_Decodes, λ same. subst (Decodes first units) (sym same) (Decodes-decoded units))
 
   pub decoded-append : (front rest : List ℕ) → IsWellFormed first front → decoded first (front ++ rest) ≡ decoded first front ++ decoded first rest
   decoded-append front rest w = ap (map (λ s. s.character)) (steps-append front rest w) ∙ map-append (λ s. s.character) (steps first front) (steps first rest)

@@ -7,10 +7,10 @@ use Rattle.std.proofs.lemmas.Bool.{true≢false, cases_Bool, cases_lt, or_cases,
 use Rattle.std.proofs.lemmas.Bool.Decides.{nat_tests}
 use Rattle.normalizer_text.specs.declared.step.Step.{Step}
 use Rattle.normalizer_text.specs.Steps.{read, replaced}
-use Rattle.normalizer_text.specs.Utf16.{is_high, is_low, is_single, pair_value, unpaired, first_of_utf16, encode_utf16_all}
-use Rattle.normalizer_text.proofs.Decoding.{IsDecoding, HasTrails}
+use Rattle.normalizer_text.specs.Utf16.{is_high, is_low, is_single, pair_value, unpaired, first_of_utf16}
+use Rattle.normalizer_text.specs.Encodings.{Encoding}
+use Rattle.normalizer_text.proofs.Decoding.{IsDecoding, HasTrails, IsEncoding}
 use Rattle.normalizer_text.proofs.ScalarLemmas.{scalar_cases, IsScalar-low, IsScalar-high}
-use Rattle.normalizer_text.proofs.EncodingLemmas.{IsEncoding}
 
 -- ---- kinds of units
 
@@ -117,7 +117,7 @@ extends_utf16 (u ∷ []) (v ∷ more) h e = unpaired-cases (λ s. s.is_error ≡
     e
 extends_utf16 (u ∷ v ∷ us) more h e = refl
 
-pub IsDecoding-utf16 : IsDecoding first_of_utf16
+pub IsDecoding-utf16 : IsDecoding Encoding.Utf16
 IsDecoding-utf16 = record { some = some_utf16; fits = fits_utf16; scalar = scalar_utf16; cut = cut_utf16; extends = extends_utf16 }
 
 inside_utf16 : (us : List ℕ) (k : ℕ) → 0 < k → k < (first_of_utf16 us).width → is_low (get_or us k 0) ≡ true
@@ -138,7 +138,7 @@ alone_utf16 [] h e = absurd (omega arith)
 alone_utf16 (u ∷ []) h e = alone-unpaired u e
 alone_utf16 (u ∷ v ∷ us) h e = first-unpaired u v us (and_left _ _ (low-high u e)) ∙ alone-unpaired u e
 
-pub HasTrails-utf16 : HasTrails first_of_utf16 is_low
+pub HasTrails-utf16 : HasTrails Encoding.Utf16
 HasTrails-utf16 = record { inside = inside_utf16; alone = alone_utf16; short = λ us. omega (arith, short_utf16 us) }
 
 -- ---- encoding
@@ -190,5 +190,5 @@ encode-first (u ∷ v ∷ us) h e = cases (λ s. s.is_error ≡ false → encode
     (λ _ e. encode-unpaired u (v ∷ us) e)
     e
 
-pub IsEncoding-utf16 : IsEncoding first_of_utf16 encode_utf16 encode_utf16_all
+pub IsEncoding-utf16 : IsEncoding Encoding.Utf16
 IsEncoding-utf16 = record { nil = refl; cons = λ c x. refl; some = some-encode; front = first-encode; back = encode-first }

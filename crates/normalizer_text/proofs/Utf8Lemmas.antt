@@ -6,6 +6,7 @@ use Rattle.std.proofs.lemmas.Bool.{true≢false, cases_eq, and_from, le-leb}
 use Rattle.normalizer_text.specs.declared.step.Step.{Step}
 use Rattle.normalizer_text.specs.Steps.{read, replaced}
 use Rattle.normalizer_text.specs.Utf8.{ByteRange, Row, row_of, continuation, allows, matched, scalar_value, first_by_row, first_of_utf8}
+use Rattle.normalizer_text.specs.Encodings.{Encoding}
 use Rattle.normalizer_text.proofs.Decoding.{IsDecoding, HasTrails}
 use Rattle.normalizer_text.proofs.MatchLemmas.{allows-true, allows-below_matched, matched-le, matched-take, matched-append}
 use Rattle.normalizer_text.proofs.RowLemmas.{Each, row_of-IsRow, IsSequence-row, by_row-short, by_row-whole}
@@ -108,7 +109,7 @@ alone_utf8 (b ∷ bs) h e = by (row_of b) refl
         let low = allows-true continuation b e in
         let lead = allows-true r.lead b k.1 in absurd (⊎_elim (λ l. omega arith) (λ g. omega arith) k.0.lead)
 
-pub IsDecoding-utf8 : IsDecoding first_of_utf8
+pub IsDecoding-utf8 : IsDecoding Encoding.Utf8
 IsDecoding-utf8 = record {
   some = some_utf8;
   fits = fits_utf8;
@@ -117,5 +118,5 @@ IsDecoding-utf8 = record {
   extends = extends_utf8;
 }
 
-pub HasTrails-utf8 : HasTrails first_of_utf8 (allows continuation)
+pub HasTrails-utf8 : HasTrails Encoding.Utf8
 HasTrails-utf8 = record { inside = inside_utf8; alone = alone_utf8; short = short_utf8 }

@@ -13,10 +13,8 @@ use Rattle.normal_forms.specs.declared.Form.TheVariants.{Composing}
 use Rattle.normal_forms.specs.Forms.{normal_form, IsNormalized}
 use Rattle.normal_forms.specs.Equivalence.{EquivalentTexts}
 use Rattle.normalizer_text.specs.Encodings.{Encoding}
-use Rattle.normalizer_text.proofs.EncodingRules.{IsDecoding-first}
-use Rattle.normalizer_text.proofs.SequenceLemmas.{decoded-chars, IsUtf8-IsWellFormed}
+use Rattle.normalizer_text.proofs.StrLemmas.{decoded-chars, IsUtf8-IsWellFormed}
 use Rattle.normalizer_text.proofs.StepLemmas.{decoded-IsText}
-use Rattle.normalizer_text.specs.Utf8.{first_of_utf8}
 use Rattle.normalizer_input.specs.declared.offence.Offence.{Offence}
 use Rattle.normalizer_input.specs.InputCut.{IsInputNormalized}
 use Rattle.normalizer_input.proofs.InputCutLemmas.{input_cut_unique, is_normalized_iff_input_cut}
@@ -79,7 +77,7 @@ form_of_parts m text prefix rest split =
 
 -- the characters of a `str` are a text
 pub text_of_utf8 : (bytes : List ℕ) → IsUtf8 bytes → IsText (chars bytes)
-text_of_utf8 bytes utf8 = subst IsText (decoded-chars bytes utf8) (decoded-IsText first_of_utf8 (IsDecoding-first Encoding.Utf8) bytes)
+text_of_utf8 bytes utf8 = subst IsText (decoded-chars bytes utf8) (decoded-IsText Encoding.Utf8 bytes)
 
 -- a test of membership that says no
 pub not_contained : (x : List ℕ) (c : ℕ) (found : Bool) → IsAnyAnswer (λ y b. eqb y c ≡ b) x found → found ≡ false → ¬ Contains x c

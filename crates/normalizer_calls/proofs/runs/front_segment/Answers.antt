@@ -1,14 +1,12 @@
 use Rattle.std.proofs.Common.{arith, sym, ap, ◌∙◌}
-use Rattle.normalizer_text.specs.Encodings.{first_in}
 use Rattle.normalizer_text.proofs.BoundaryLemmas.{boundary-first}
-use Rattle.normalizer_text.proofs.EncodingRules.{IsDecoding-first}
 use Rattle.normalizer_calls.proofs.RunLemmas.{boundary-step, some_step, within_step}
 use Rattle.normalizer_calls.proofs.runs.front_segment.Goals as goal
 
 pub loop-end-init : goal.loop-end-init
 loop-end-init g c = (
   some_step (g.N.Forming.passed_class c.args.normalizer.now) g.U.Units.encoding (g.U.Units.units c.args.units) 0 c.args.first c.requires.first c.requires.some,
-  boundary-first (first_in g.U.Units.encoding) (IsDecoding-first g.U.Units.encoding) (g.U.Units.units c.args.units) c.args.first (record { some = c.requires.some; is = c.requires.first }),
+  boundary-first g.U.Units.encoding (g.U.Units.units c.args.units) c.args.first (record { some = c.requires.some; is = c.requires.first }),
 )
 
 pub returns-then-begins-clause-end : goal.returns-then-begins-clause-end

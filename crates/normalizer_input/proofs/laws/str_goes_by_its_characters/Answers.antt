@@ -1,5 +1,5 @@
 use Rattle.normalizer_text.specs.Encodings.{Encoding}
-use Rattle.normalizer_text.proofs.SequenceLemmas.{decoded-chars, IsWellFormed-IsUtf8}
+use Rattle.normalizer_text.proofs.StrLemmas.{decoded-chars, IsWellFormed-IsUtf8}
 use Rattle.normalizer_input.proofs.InputEncodingLemmas.{is_normalized_iff_text, input_cut_iff_text, input_offence_iff_text}
 use Rattle.normalizer_input.proofs.laws.str_goes_by_its_characters.Goals as goal
 

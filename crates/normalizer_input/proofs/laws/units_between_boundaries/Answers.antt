@@ -1,5 +1,3 @@
-use Rattle.normalizer_text.specs.Encodings.{first_in}
-use Rattle.normalizer_text.proofs.EncodingRules.{IsDecoding-first}
 use Rattle.normalizer_text.proofs.BoundaryLemmas.{decoded-between}
 use Rattle.normalizer_input.proofs.InputBoundaryLemmas.{well_formed-between}
 use Rattle.normalizer_input.proofs.laws.units_between_boundaries.Goals as goal
@@ -7,5 +5,5 @@ use Rattle.normalizer_input.proofs.laws.units_between_boundaries.Goals as goal
 pub returns : goal.returns
 returns c = record {
   well_formed = well_formed-between;
-  text = λ e units n m a b. decoded-between (first_in e) (IsDecoding-first e) units n m a.boundary b.boundary;
+  text = λ e units n m a b. decoded-between e units n m a.boundary b.boundary;
 }

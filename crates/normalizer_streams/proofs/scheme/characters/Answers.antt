@@ -1,12 +1,8 @@
+use Rattle.std.proofs.lemmas.Iterator.{items_from_collect}
 use Rattle.normalizer_text.specs.Encodings.{first_in}
-use Rattle.normalizer_text.proofs.EncodingRules.{IsDecoding-first}
-use Rattle.normalizer_streams.proofs.SchemeLemmas.{decoded-end, decoded-more}
+use Rattle.normalizer_text.specs.Steps.{TakesFirst}
 use Rattle.normalizer_streams.proofs.scheme.characters.Goals as goal
 
-pub loop-c-preserved : goal.loop-c-preserved
-loop-c-preserved g c =
-    let e = g.U.Units.encoding in
-    decoded-more (first_in e) c.loop-c.c-iterator c.loop-c.text.items _ (IsDecoding-first e) _ _ _ c.in-Some.ensures.steps c.in_ok-push.ensures.items c.loop-c.invariant
-
 pub returns : goal.returns
-returns g c = decoded-end (first_in g.U.Units.encoding) c.loop-c.c-iterator c.loop-c.text.items _ c.in-None.ensures.steps.0 c.loop-c.invariant
+returns g c =
+    items_from_collect {steps = TakesFirst (first_in g.U.Units.encoding)} {s = c.new.result} c.collect.result c.collect.ensures.ran (record { runs = c.new.ensures.spells })

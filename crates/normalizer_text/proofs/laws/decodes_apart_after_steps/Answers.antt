@@ -1,14 +1,12 @@
-use Rattle.normalizer_text.specs.Encodings.{first_in}
-use Rattle.normalizer_text.proofs.EncodingRules.{IsDecoding-first}
 use Rattle.normalizer_text.proofs.StepLemmas.{steps-apart}
 use Rattle.normalizer_text.proofs.BoundaryLemmas.{decoded-take-drop, decoded-between}
 use Rattle.normalizer_text.proofs.laws.decodes_apart_after_steps.Goals as goal
 
 pub returns-clause-steps : goal.returns-clause-steps
-returns-clause-steps c = λ e units before after. steps-apart (first_in e) (IsDecoding-first e) before after units
+returns-clause-steps c = λ e units before after. steps-apart e before after units
 
 pub returns-clause-text : goal.returns-clause-text
-returns-clause-text c = λ e. decoded-take-drop (first_in e) (IsDecoding-first e)
+returns-clause-text c = λ e. decoded-take-drop e
 
 pub returns-clause-between : goal.returns-clause-between
-returns-clause-between c = λ e. decoded-between (first_in e) (IsDecoding-first e)
+returns-clause-between c = λ e. decoded-between e

@@ -1,14 +1,12 @@
-use Rattle.normalizer_text.specs.Encodings.{first_in}
-use Rattle.normalizer_text.proofs.EncodingRules.{IsDecoding-first}
 use Rattle.normalizer_text.proofs.StepLemmas.{steps-append, decoded-append}
 use Rattle.normalizer_text.proofs.BoundaryLemmas.{boundary-well_formed}
 use Rattle.normalizer_text.proofs.laws.decodes_apart_after_well_formed.Goals as goal
 
 pub returns-clause-text : goal.returns-clause-text
-returns-clause-text c = λ e. decoded-append (first_in e) (IsDecoding-first e)
+returns-clause-text c = λ e. decoded-append e
 
 pub returns-clause-steps : goal.returns-clause-steps
-returns-clause-steps c = λ e. steps-append (first_in e) (IsDecoding-first e)
+returns-clause-steps c = λ e. steps-append e
 
 pub returns-clause-ends : goal.returns-clause-ends
-returns-clause-ends c = λ e. boundary-well_formed (first_in e) (IsDecoding-first e)
+returns-clause-ends c = λ e. boundary-well_formed e

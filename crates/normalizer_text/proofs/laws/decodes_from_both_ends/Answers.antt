@@ -1,7 +1,5 @@
-use Rattle.normalizer_text.specs.Encodings.{first_in}
-use Rattle.normalizer_text.proofs.EncodingRules.{IsDecoding-first}
 use Rattle.normalizer_text.proofs.BackLemmas.{decoded-TakenFrom}
 use Rattle.normalizer_text.proofs.laws.decodes_from_both_ends.Goals as goal
 
 pub returns : goal.returns
-returns c = λ e units x rest y t. decoded-TakenFrom (first_in e) (IsDecoding-first e) t
+returns c = λ e units x rest y t. decoded-TakenFrom e t

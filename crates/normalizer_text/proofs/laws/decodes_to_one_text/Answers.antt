@@ -1,14 +1,12 @@
-use Rattle.normalizer_text.specs.Encodings.{first_in}
-use Rattle.normalizer_text.proofs.EncodingRules.{IsDecoding-first}
 use Rattle.normalizer_text.proofs.StepLemmas.{Decodes-iff, decoded-IsText}
 use Rattle.normalizer_text.proofs.BoundaryLemmas.{width_of-steps}
 use Rattle.normalizer_text.proofs.laws.decodes_to_one_text.Goals as goal
 
 pub returns-clause-one : goal.returns-clause-one
-returns-clause-one c = λ e. Decodes-iff (first_in e) (IsDecoding-first e)
+returns-clause-one c = λ e. Decodes-iff e
 
 pub returns-clause-text : goal.returns-clause-text
-returns-clause-text c = λ e. decoded-IsText (first_in e) (IsDecoding-first e)
+returns-clause-text c = λ e. decoded-IsText e
 
 pub returns-clause-all : goal.returns-clause-all
-returns-clause-all c = λ e. width_of-steps (first_in e) (IsDecoding-first e)
+returns-clause-all c = λ e. width_of-steps e

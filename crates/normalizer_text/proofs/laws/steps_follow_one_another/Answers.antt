@@ -1,10 +1,8 @@
-use Rattle.normalizer_text.specs.Encodings.{first_in}
-use Rattle.normalizer_text.proofs.EncodingRules.{IsDecoding-first}
 use Rattle.normalizer_text.proofs.StepLemmas.{steps-nil, steps-some}
 use Rattle.normalizer_text.proofs.laws.steps_follow_one_another.Goals as goal
 
 pub returns-clause-none : goal.returns-clause-none
-returns-clause-none c = λ e. steps-nil (first_in e)
+returns-clause-none c = λ e. steps-nil e
 
 pub returns-clause-some : goal.returns-clause-some
-returns-clause-some c = λ e. steps-some (first_in e) (IsDecoding-first e)
+returns-clause-some c = λ e. steps-some e

@@ -1,5 +1,5 @@
 use Rattle.std.proofs.lemmas.Result.{IfOk-weaker}
-use Rattle.normalizer_text.proofs.SequenceLemmas.{decoded-chars}
+use Rattle.normalizer_text.proofs.StrLemmas.{decoded-chars}
 use Rattle.normalizer_calls.proofs.TextAnswers.{offence_of_text}
 use Rattle.normalizer_calls.proofs.borrowed.NormalizerBorrowed.first_offence.Goals as goal
 

@@ -1,4 +1,4 @@
-use Rattle.normalizer_text.proofs.SequenceLemmas.{decoded-chars}
+use Rattle.normalizer_text.proofs.StrLemmas.{decoded-chars}
 use Rattle.normalizer_calls.proofs.WritingLemmas.{WritesForm-text}
 use Rattle.normalizer_calls.proofs.borrowed.NormalizerBorrowed.normalize_to.Goals as goal
 

@@ -1,5 +1,5 @@
 use Rattle.std.proofs.lemmas.Result.{IfOk-weaker}
-use Rattle.normalizer_text.proofs.SequenceLemmas.{decoded-chars}
+use Rattle.normalizer_text.proofs.StrLemmas.{decoded-chars}
 use Rattle.normalizer_calls.proofs.TextAnswers.{IsTextSplitAtCut-bytes}
 use Rattle.normalizer_calls.proofs.borrowed.NormalizerBorrowed.split_normalized.Goals as goal
 

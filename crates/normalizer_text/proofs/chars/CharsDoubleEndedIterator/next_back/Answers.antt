@@ -1,5 +1,4 @@
 use Rattle.normalizer_text.specs.Encodings.{first_in}
-use Rattle.normalizer_text.proofs.EncodingRules.{IsDecoding-first}
 use Rattle.std.proofs.Common.{◌-◌, sym, subst}
 use Rattle.normalizer_text.specs.Steps.{IsBoundary}
 use Rattle.normalizer_text.proofs.BoundaryLemmas.{boundary-last}
@@ -9,4 +8,4 @@ pub before-self-inside-requires : goal.before-self-inside-requires
 before-self-inside-requires g c =
     let e = g.U.Units.encoding in
     subst (λ n. IsBoundary (first_in e) (g.U.Units.units c.self.inside.units) (n - c.in_ok-step.step.width)) (sym c.len.ensures)
-    (boundary-last (first_in e) (IsDecoding-first e) (g.U.Units.units c.self.inside.units) c.in_ok-step.step c.in_ok-step.ensures)
+    (boundary-last e (g.U.Units.units c.self.inside.units) c.in_ok-step.step c.in_ok-step.ensures)

@@ -1,17 +1,16 @@
 use Rattle.std.proofs.Common.{arith}
-use Rattle.normalizer_text.specs.Utf16.{first_of_utf16}
-use Rattle.normalizer_text.proofs.Utf16Lemmas.{IsDecoding-utf16}
+use Rattle.normalizer_text.specs.Encodings.{Encoding}
 use Rattle.normalizer_text.proofs.BoundaryLemmas.{boundary-le}
 use Rattle.normalizer_text.proofs.units.RefSliceU16Units.after.Goals as goal
 
 pub offset_bounds-self-position : goal.offset_bounds-self-position
 offset_bounds-self-position c =
-    let k = boundary-le first_of_utf16 IsDecoding-utf16 c.args.self.now c.args.position c.requires in omega arith
+    let k = boundary-le Encoding.Utf16 c.args.self.now c.args.position c.requires in omega arith
 
 pub slice_bounds-result-count : goal.slice_bounds-result-count
 slice_bounds-result-count c =
-    let k = boundary-le first_of_utf16 IsDecoding-utf16 c.args.self.now c.args.position c.requires in k
+    let k = boundary-le Encoding.Utf16 c.args.self.now c.args.position c.requires in k
 
 pub slice_bounds-result-start : goal.slice_bounds-result-start
 slice_bounds-result-start c =
-    let k = boundary-le first_of_utf16 IsDecoding-utf16 c.args.self.now c.args.position c.requires in omega arith
+    let k = boundary-le Encoding.Utf16 c.args.self.now c.args.position c.requires in omega arith

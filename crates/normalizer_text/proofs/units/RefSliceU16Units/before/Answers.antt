@@ -1,9 +1,8 @@
 use Rattle.std.proofs.Common.{length-take-le, sym}
-use Rattle.normalizer_text.specs.Utf16.{first_of_utf16}
-use Rattle.normalizer_text.proofs.Utf16Lemmas.{IsDecoding-utf16}
+use Rattle.normalizer_text.specs.Encodings.{Encoding}
 use Rattle.normalizer_text.proofs.BoundaryLemmas.{boundary-le}
 use Rattle.normalizer_text.proofs.units.RefSliceU16Units.before.Goals as goal
 
 pub slice_bounds-result-end : goal.slice_bounds-result-end
 slice_bounds-result-end c =
-    let k = boundary-le first_of_utf16 IsDecoding-utf16 c.args.self.now c.args.position c.requires in sym (length-take-le c.args.position c.args.self.now k)
+    let k = boundary-le Encoding.Utf16 c.args.self.now c.args.position c.requires in sym (length-take-le c.args.position c.args.self.now k)

@@ -1,13 +1,12 @@
 use Rattle.std.proofs.Common.{arith}
-use Rattle.normalizer_text.specs.Utf8.{first_of_utf8}
-use Rattle.normalizer_text.proofs.Utf8Lemmas.{IsDecoding-utf8}
+use Rattle.normalizer_text.specs.Encodings.{Encoding}
 use Rattle.normalizer_text.proofs.BoundaryLemmas.{boundary-le}
 use Rattle.normalizer_text.proofs.units.RefSliceU8Units.after.Goals as goal
 
 pub slice_bounds-result-count : goal.slice_bounds-result-count
 slice_bounds-result-count c =
-    let k = boundary-le first_of_utf8 IsDecoding-utf8 c.args.self.now c.args.position c.requires in k
+    let k = boundary-le Encoding.Utf8 c.args.self.now c.args.position c.requires in k
 
 pub slice_bounds-result-start : goal.slice_bounds-result-start
 slice_bounds-result-start c =
-    let k = boundary-le first_of_utf8 IsDecoding-utf8 c.args.self.now c.args.position c.requires in omega arith
+    let k = boundary-le Encoding.Utf8 c.args.self.now c.args.position c.requires in omega arith

@@ -1,18 +1,16 @@
-use Rattle.normalizer_text.specs.Encodings.{first_in, trails_in}
 use Rattle.normalizer_text.proofs.BackLemmas.{IsLastStep-found, IsLastStep-other}
-use Rattle.normalizer_text.proofs.EncodingRules.{IsDecoding-first, HasTrails-first}
 use Rattle.normalizer_text.proofs.units.Units.last_step.Goals as goal
 
 pub returns-then-step-len : goal.returns-then-step-len
 returns-then-step-len g c =
     let e = g.Self.Units.encoding in
-    IsLastStep-found (first_in e) (IsDecoding-first e) (trails_in e) (HasTrails-first e) (g.Self.Units.units c.args.self)
+    IsLastStep-found e (g.Self.Units.units c.args.self)
     c.last_start-start.result c.len-len.result c.step_at-step.result
     c.last_start-start.ensures c.len-len.ensures c.step_at-step.ensures c.if-step-len.true
 
 pub returns-else-step-len : goal.returns-else-step-len
 returns-else-step-len g c =
     let e = g.Self.Units.encoding in
-    IsLastStep-other (first_in e) (IsDecoding-first e) (trails_in e) (HasTrails-first e) (g.Self.Units.units c.args.self)
+    IsLastStep-other e (g.Self.Units.units c.args.self)
     c.last_start-start.result c.len-len.result c.step_at-step.result c.replaced.result
     c.last_start-start.ensures c.len-len.ensures c.step_at-step.ensures c.if-step-len.false c.replaced.ensures
