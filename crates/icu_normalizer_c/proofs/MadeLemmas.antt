@@ -16,7 +16,7 @@ use Rattle.normalizer_tables.specs.Characters.{Characters}
 use Rattle.normalizer_tables.specs.Pairs.{Pair}
 use Rattle.normalizer_calls.specs.Forms.{form_by, form_of}
 use Rattle.icu_normalizer_c.specs.declared.normalizers.Normalizers.{Normalizers}
-use Rattle.icu_normalizer_c.specs.Made.{AreOver, MakeBy}
+use Rattle.icu_normalizer_c.specs.Made.{MakeBy}
 
 module _ (records : List Entry) (mapper : List MapperEntry) (p : Packed) (builds : Builds records mapper p) where
   pub makes-nfd : (held : Characters) → held ≡ characters_of p Canonical → (x : List ℕ)
@@ -40,11 +40,12 @@ module _ (records : List Entry) (mapper : List MapperEntry) (p : Packed) (builds
   makes-nfkc held pairs is are x = rw is (rw are (form_of_data-recorded records mapper p builds.means Nfkc x))
 
   -- all four
-  pub all-made : (n : Normalizers) → AreOver p Canonical n.canonical → AreOver p Compatibility n.compatibility → MakeBy n records
-  all-made n canonical compatibility Nfd = makes-nfd (data_of n.canonical.decomposing) canonical.decomposing
-  all-made n canonical compatibility Nfc =
-      makes-nfc (composing_data_of n.canonical.composing) (pairs_of n.canonical.composing) canonical.composing canonical.pairs
-  all-made n canonical compatibility Nfkd = makes-nfkd (data_of n.compatibility.decomposing) compatibility.decomposing
-  all-made n canonical compatibility Nfkc =
-      makes-nfkc (composing_data_of n.compatibility.composing) (pairs_of n.compatibility.composing) compatibility.composing
-      compatibility.pairs
+  pub all-made : (n : Normalizers) → data_of n.nfd ≡ characters_of p Canonical
+      → composing_data_of n.nfc ≡ characters_of p Canonical → pairs_of n.nfc ≡ p.compositions
+      → data_of n.nfkd ≡ characters_of p Compatibility
+      → composing_data_of n.nfkc ≡ characters_of p Compatibility → pairs_of n.nfkc ≡ p.compositions → MakeBy n records
+  all-made n nfd nfc pairs nfkd nfkc compatibility_pairs Nfd = makes-nfd (data_of n.nfd) nfd
+  all-made n nfd nfc pairs nfkd nfkc compatibility_pairs Nfc = makes-nfc (composing_data_of n.nfc) (pairs_of n.nfc) nfc pairs
+  all-made n nfd nfc pairs nfkd nfkc compatibility_pairs Nfkd = makes-nfkd (data_of n.nfkd) nfkd
+  all-made n nfd nfc pairs nfkd nfkc compatibility_pairs Nfkc =
+      makes-nfkc (composing_data_of n.nfkc) (pairs_of n.nfkc) nfkc compatibility_pairs

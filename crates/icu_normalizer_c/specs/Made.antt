@@ -2,22 +2,18 @@
 use Rattle.std.specs.Prelude.{◌≡◌, ◌≢◌, ℕ, List, [], Option, Some, None}
 use Rattle.normal_forms.specs.declared.Form.TheVariants.{Decomposing, Composing}
 use Rattle.normal_forms.specs.Forms.{nfc}
-use Rattle.normalizer_packing.specs.declared.Packed.{Packed}
-use Rattle.normalizer_packing.specs.ReadBack.{characters_of}
 use Rattle.normalizer_records.specs.Entry.{Entry, MapperEntry}
 use Rattle.normalizer_built.specs.declared.NormalForm.{NormalForm}
 use Rattle.normalizer_built.specs.declared.NormalForm.TheVariants.{Nfd, Nfc, Nfkd, Nfkc}
 use Rattle.normalizer_built.specs.Mapping.{mapped_in, mapper_reading}
 use Rattle.normalizer_built.specs.RecordedForms.{recorded_form}
 use Rattle.normalizer_tables.specs.declared.characters.IgnoredCharacters.{IgnoredCharacters}
-use Rattle.normalizer_tables.specs.declared.entry.Kind.{Kind}
 use Rattle.normalizer_calls.specs.ComposingNormalizers.{composing_data_of, pairs_of}
 use Rattle.normalizer_calls.specs.Normalizers.{data_of}
 use Rattle.normalizer_calls.specs.declared.uts46.Uts46Mapper.{Uts46Mapper}
 use Rattle.normalizer_calls.specs.Mappers.{mapper_data_of}
 use Rattle.normalizer_calls.specs.Uts46.{MapperData}
 use Rattle.normalizer_calls.specs.Forms.{MadeForm, composed_by, decomposed_by, form_by, form_of}
-use Rattle.icu_normalizer_c.specs.declared.normalizers.BothForms.{BothForms}
 use Rattle.icu_normalizer_c.specs.declared.normalizers.Normalizer.{Normalizer}
 use Rattle.icu_normalizer_c.specs.declared.normalizers.Normalizer.TheVariants as normalizer
 use Rattle.icu_normalizer_c.specs.declared.normalizers.Normalizers.{Normalizers}
@@ -29,16 +25,10 @@ made_by (normalizer.Composing n) = composed_by n
 
 -- the form that the normalizers make
 abbrev pub made_in : Normalizers → NormalForm → MadeForm
-made_in n Nfd = form_by (data_of n.canonical.decomposing) [] Decomposing
-made_in n Nfc = form_by (composing_data_of n.canonical.composing) (pairs_of n.canonical.composing) Composing
-made_in n Nfkd = form_by (data_of n.compatibility.decomposing) [] Decomposing
-made_in n Nfkc = form_by (composing_data_of n.compatibility.composing) (pairs_of n.compatibility.composing) Composing
-
--- both normalizers hold the characters of this kind of data, and the pairs
-pub record AreOver (p : Packed) (kind : Kind) (n : BothForms) : Type 0 where
-  pub decomposing : data_of n.decomposing ≡ characters_of p kind
-  pub composing : composing_data_of n.composing ≡ characters_of p kind
-  pub pairs : pairs_of n.composing ≡ p.compositions
+made_in n Nfd = form_by (data_of n.nfd) [] Decomposing
+made_in n Nfc = form_by (composing_data_of n.nfc) (pairs_of n.nfc) Composing
+made_in n Nfkd = form_by (data_of n.nfkd) [] Decomposing
+made_in n Nfkc = form_by (composing_data_of n.nfkc) (pairs_of n.nfkc) Composing
 
 -- every text has all four forms by what the records mean (D118 to D121)
 abbrev pub MakeBy : Normalizers → List Entry → Type 0

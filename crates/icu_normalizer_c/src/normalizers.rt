@@ -6,8 +6,7 @@ ghost use Rattle.normalizer_records.specs.Entry.{Entry};
 ghost use Rattle.icu_normalizer_c.specs.Calls.{IsNumbered};
 ghost use Rattle.icu_normalizer_c.specs.Forms.{last_form};
 ghost use Rattle.icu_normalizer_c.specs.declared.fault.Fault.TheVariants.{UnknownForm};
-ghost use Rattle.icu_normalizer_c.specs.Made.{made_by, made_in, AreOver, MakeBy, MapBy};
-ghost use Rattle.normalizer_tables.specs.declared.entry.Kind.TheVariants.{Canonical, Compatibility};
+ghost use Rattle.icu_normalizer_c.specs.Made.{made_by, made_in, MakeBy, MapBy};
 
 use crate::fault::Fault;
 use crate::form::form_numbered;
@@ -27,26 +26,12 @@ pub enum Normalizer<'a> {
     Composing(ComposingNormalizerBorrowed<'a>),
 }
 
-/// Normalizers to the decomposing and the composing form, by mappings of one kind.
-pub struct BothForms {
-    pub(crate) decomposing: DecomposingNormalizer,
-    pub(crate) composing: ComposingNormalizer,
-}
-
-// Written out, so that each place that drops one makes one call.
-impl Drop for BothForms {
-    fn drop(self) {
-        let BothForms {
-            decomposing: _decomposing,
-            composing: _composing,
-        } = self;
-    }
-}
-
 /// Normalizers to the four forms, over the same data, and a mapper if it has records.
 pub struct Normalizers {
-    pub(crate) canonical: BothForms,
-    pub(crate) compatibility: BothForms,
+    pub(crate) nfd: DecomposingNormalizer,
+    pub(crate) nfc: ComposingNormalizer,
+    pub(crate) nfkd: DecomposingNormalizer,
+    pub(crate) nfkc: ComposingNormalizer,
     pub(crate) mapper: Option<Uts46Mapper>,
 }
 
@@ -54,8 +39,10 @@ pub struct Normalizers {
 impl Drop for Normalizers {
     fn drop(self) {
         let Normalizers {
-            canonical: _canonical,
-            compatibility: _compatibility,
+            nfd: _nfd,
+            nfc: _nfc,
+            nfkd: _nfkd,
+            nfkc: _nfkc,
             mapper: _mapper,
         } = self;
     }
@@ -72,8 +59,10 @@ impl Normalizers {
         ensures refused { IsOkUnless result NormalizeError.Memory }
     {
         Ok(Normalizers {
-            canonical: canonical_forms(built)?,
-            compatibility: compatibility_forms(built)?,
+            nfd: nfd_normalizer(built)?,
+            nfc: nfc_normalizer(built)?,
+            nfkd: nfkd_normalizer(built)?,
+            nfkc: nfkc_normalizer(built)?,
             mapper: mapper_over(built, mapper)?,
         })
     }
@@ -83,12 +72,10 @@ impl Normalizers {
         ensures { made_by result ≡ made_in self.now form }
     {
         match form {
-            NormalForm::Nfd => Normalizer::Decomposing(self.canonical.decomposing.as_borrowed()),
-            NormalForm::Nfc => Normalizer::Composing(self.canonical.composing.as_borrowed()),
-            NormalForm::Nfkd => Normalizer::Decomposing(
-                self.compatibility.decomposing.as_borrowed(),
-            ),
-            NormalForm::Nfkc => Normalizer::Composing(self.compatibility.composing.as_borrowed()),
+            NormalForm::Nfd => Normalizer::Decomposing(self.nfd.as_borrowed()),
+            NormalForm::Nfc => Normalizer::Composing(self.nfc.as_borrowed()),
+            NormalForm::Nfkd => Normalizer::Decomposing(self.nfkd.as_borrowed()),
+            NormalForm::Nfkc => Normalizer::Composing(self.nfkc.as_borrowed()),
         }
     }
 
@@ -102,30 +89,6 @@ impl Normalizers {
             None => Err(Fault::UnknownForm),
         }
     }
-}
-
-/// Returns the normalizers to NFD and NFC over built data.
-fn canonical_forms(built: &Built) -> Result<BothForms, NormalizeError>
-    requires { AreBuilt (data_in built.now) }
-    ensures held { IfOk result (AreOver (data_in built.now) Canonical) }
-    ensures refused { IsOkUnless result NormalizeError.Memory }
-{
-    Ok(BothForms {
-        decomposing: nfd_normalizer(built)?,
-        composing: nfc_normalizer(built)?,
-    })
-}
-
-/// Returns the normalizers to NFKD and NFKC over built data.
-fn compatibility_forms(built: &Built) -> Result<BothForms, NormalizeError>
-    requires { AreBuilt (data_in built.now) }
-    ensures held { IfOk result (AreOver (data_in built.now) Compatibility) }
-    ensures refused { IsOkUnless result NormalizeError.Memory }
-{
-    Ok(BothForms {
-        decomposing: nfkd_normalizer(built)?,
-        composing: nfkc_normalizer(built)?,
-    })
 }
 
 /// Returns the mapper over built data, if it has these records.
