@@ -62,7 +62,7 @@ fn ranges_of<W: Words>(
     requires alike { AreAlike (W.is_word words.now) breakpoints.now }
     ensures { IfOk result (λ v. CoverWords (W.is_word words.now) v.items) }
 {
-    let mut ranges = Vec::with_capacity(alloc, breakpoints.len())?;
+    let mut ranges = Vec::new(alloc);
     let mut from = 0;
     for &character in breakpoints {
         let number = character as u32;
