@@ -1,0 +1,17 @@
+pub mod AcceptedData
+pub mod CheckLemmas
+pub mod ClassWords
+pub mod HangulSteps
+pub mod KeptLemmas
+pub mod MapperLemmas
+pub mod MemberLemmas
+pub mod OwnedLemmas
+pub mod PartLemmas
+pub mod PassingLemmas
+pub mod RunLemmas
+pub mod RunParts
+pub mod SoundPairs
+pub mod SoundSteps
+pub mod StableLemmas
+pub mod TextAnswers
+pub mod WritingLemmas

@@ -27,19 +27,37 @@
 //! The README has it whole, and `docs/GUIDE.md` an example for each task.
 #![tactic(auto)]
 
+mod borrowed;
+mod boundaries;
+mod checks;
+mod combining_class;
+mod composing_form;
+mod composing_normalizer;
+mod composition;
+mod decomposing_form;
+mod decomposition;
+mod forming;
+pub mod harfbuzz;
+mod kept;
 pub mod laws;
+mod normalizer;
+mod offence;
+mod owned;
 pub mod properties;
 pub mod provider;
+mod runs;
+mod splits;
+mod to_sinks;
+mod unchecked;
 pub mod uts46;
+mod writing;
 
+pub use borrowed::{ComposingNormalizerBorrowed, DecomposingNormalizerBorrowed};
+pub use composing_normalizer::ComposingNormalizer;
+pub use normalizer::DecomposingNormalizer;
 pub use normalizer_builder::{Built, Records};
-pub use normalizer_calls::{
-    ComposingNormalizer, ComposingNormalizerBorrowed, DecomposingNormalizer,
-    DecomposingNormalizerBorrowed, Offence,
-};
 pub use normalizer_conditions::check_nfd_data;
 pub use normalizer_iterators::{Composition, Decomposition, NormalizeError};
-pub use normalizer_properties::harfbuzz;
 pub use normalizer_records::{BuildError, Record, Uts46Record, Uts46Status};
 pub use normalizer_tables::{
     CanonicalCompositions, CodePointTable, DataError, DataMarker, DataMarkerInfo, DataProvider,
@@ -47,4 +65,4 @@ pub use normalizer_tables::{
     NormalizerNfdDataV1, NormalizerNfdSupplementV1, NormalizerNfdTablesV1, NormalizerNfkdDataV1,
     NormalizerNfkdTablesV1, NormalizerUts46DataV1, Scalars16, Scalars24, TableError,
 };
-pub use normalizer_text::{Utf8Chars, Utf16Chars, sink};
+pub use normalizer_text::{Offence, Utf8Chars, Utf16Chars, sink};

@@ -1,7 +1,8 @@
 //! Properties of characters: canonical combining classes, the pairs that compose, and one step of canonical
 //! decomposition.
-pub use normalizer_properties::{
+pub use crate::combining_class::{
     CanonicalCombiningClass, CanonicalCombiningClassMap, CanonicalCombiningClassMapBorrowed,
-    CanonicalComposition, CanonicalCompositionBorrowed, CanonicalDecomposition,
-    CanonicalDecompositionBorrowed, Decomposed,
 };
+pub use crate::composition::{CanonicalComposition, CanonicalCompositionBorrowed};
+pub use crate::decomposition::{CanonicalDecomposition, CanonicalDecompositionBorrowed};
+pub use normalizer_tables::step::Step as Decomposed;

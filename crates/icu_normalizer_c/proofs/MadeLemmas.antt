@@ -10,11 +10,11 @@ use Rattle.normalizer_builder.specs.Building.{Builds}
 use Rattle.normalizer_built.specs.declared.NormalForm.TheVariants.{Nfd, Nfc, Nfkd, Nfkc}
 use Rattle.normalizer_built.specs.RecordedForms.{recorded_form}
 use Rattle.normalizer_built.proofs.FormsOfData.{form_of_data-recorded}
-use Rattle.normalizer_calls.specs.ComposingNormalizers.{composing_data_of, pairs_of}
-use Rattle.normalizer_calls.specs.Normalizers.{data_of}
+use Rattle.icu_normalizer.specs.ComposingNormalizers.{composing_data_of, pairs_of}
+use Rattle.icu_normalizer.specs.Normalizers.{data_of}
 use Rattle.normalizer_tables.specs.Characters.{Characters}
 use Rattle.normalizer_tables.specs.Pairs.{Pair}
-use Rattle.normalizer_calls.specs.Forms.{form_by, form_of}
+use Rattle.icu_normalizer.specs.Forms.{form_by, form_of}
 use Rattle.icu_normalizer_c.specs.declared.normalizers.Normalizers.{Normalizers}
 use Rattle.icu_normalizer_c.specs.Made.{MakeBy}
 

@@ -3,7 +3,7 @@ use Rattle.std.specs.Prelude.{◌≡◌, ◌≢◌, ◌⊎◌, ℕ, ◌<◌, ◌
 use Rattle.std.specs.Prelude.{Result, IsOk, OnOk, OnErr, IfErr, IsErrOf}
 use Rattle.normal_forms.specs.ShortRuns.{HasShortRuns}
 use Rattle.normalizer_text.specs.Encodings.{Encoding, decoded_in}
-use Rattle.normalizer_calls.specs.Forms.{MadeForm}
+use Rattle.icu_normalizer.specs.Forms.{MadeForm}
 use Rattle.icu_normalizer_c.specs.declared.fault.Fault.{Fault}
 use Rattle.icu_normalizer_c.specs.declared.fault.Fault.TheVariants.{BufferTooSmall, Memory}
 

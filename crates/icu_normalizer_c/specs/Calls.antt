@@ -2,16 +2,16 @@
 use Rattle.std.specs.Prelude.{◌≡◌, ◌⊎◌, ◌↔◌, ℕ, ◌<◌, Bool, List, ⊤, Result, Err, Option, Some, None, IsTrue}
 use Rattle.normalizer_tables.specs.declared.characters.IgnoredCharacters.{IgnoredCharacters}
 use Rattle.normalizer_text.specs.Encodings.{Encoding, encoded_in, decoded_in}
-use Rattle.normalizer_input.specs.EncodedForm.{encoded_form}
-use Rattle.normalizer_input.specs.InputCut.{IsInputCut, IsInputNormalized}
-use Rattle.normalizer_input.specs.declared.offence.Offence.{Offence}
+use Rattle.normalizer_text.specs.EncodedForm.{encoded_form}
+use Rattle.normalizer_text.specs.InputCut.{IsInputCut, IsInputNormalized}
+use Rattle.normalizer_text.specs.declared.offence.Offence.{Offence}
 use Rattle.normalizer_built.specs.declared.NormalForm.{NormalForm}
 use Rattle.normalizer_built.specs.Mapping.{mapped_in}
-use Rattle.normalizer_calls.specs.Checks.{IsLastingOffence}
-use Rattle.normalizer_calls.specs.Forms.{MadeForm}
-use Rattle.normalizer_calls.specs.declared.uts46.Uts46Mapper.{Uts46Mapper}
-use Rattle.normalizer_calls.specs.Mappers.{mapper_data_of}
-use Rattle.normalizer_calls.specs.Uts46.{MapperData}
+use Rattle.icu_normalizer.specs.Checks.{IsLastingOffence}
+use Rattle.icu_normalizer.specs.Forms.{MadeForm}
+use Rattle.icu_normalizer.specs.declared.uts46.Uts46Mapper.{Uts46Mapper}
+use Rattle.icu_normalizer.specs.Mappers.{mapper_data_of}
+use Rattle.icu_normalizer.specs.Uts46.{MapperData}
 use Rattle.icu_normalizer_c.specs.declared.fault.Fault.{Fault}
 use Rattle.icu_normalizer_c.specs.declared.fault.Fault.TheVariants.{UnknownForm, NotOpen, NoMapper}
 use Rattle.icu_normalizer_c.specs.declared.defect.Defect.{Defect}

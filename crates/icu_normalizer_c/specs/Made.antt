@@ -8,12 +8,12 @@ use Rattle.normalizer_built.specs.declared.NormalForm.TheVariants.{Nfd, Nfc, Nfk
 use Rattle.normalizer_built.specs.Mapping.{mapped_in, mapper_reading}
 use Rattle.normalizer_built.specs.RecordedForms.{recorded_form}
 use Rattle.normalizer_tables.specs.declared.characters.IgnoredCharacters.{IgnoredCharacters}
-use Rattle.normalizer_calls.specs.ComposingNormalizers.{composing_data_of, pairs_of}
-use Rattle.normalizer_calls.specs.Normalizers.{data_of}
-use Rattle.normalizer_calls.specs.declared.uts46.Uts46Mapper.{Uts46Mapper}
-use Rattle.normalizer_calls.specs.Mappers.{mapper_data_of}
-use Rattle.normalizer_calls.specs.Uts46.{MapperData}
-use Rattle.normalizer_calls.specs.Forms.{MadeForm, composed_by, decomposed_by, form_by, form_of}
+use Rattle.icu_normalizer.specs.ComposingNormalizers.{composing_data_of, pairs_of}
+use Rattle.icu_normalizer.specs.Normalizers.{data_of}
+use Rattle.icu_normalizer.specs.declared.uts46.Uts46Mapper.{Uts46Mapper}
+use Rattle.icu_normalizer.specs.Mappers.{mapper_data_of}
+use Rattle.icu_normalizer.specs.Uts46.{MapperData}
+use Rattle.icu_normalizer.specs.Forms.{MadeForm, composed_by, decomposed_by, form_by, form_of}
 use Rattle.icu_normalizer_c.specs.declared.normalizers.Normalizer.{Normalizer}
 use Rattle.icu_normalizer_c.specs.declared.normalizers.Normalizer.TheVariants as normalizer
 use Rattle.icu_normalizer_c.specs.declared.normalizers.Normalizers.{Normalizers}

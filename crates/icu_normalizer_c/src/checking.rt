@@ -1,6 +1,6 @@
 //! Whether inputs are normalized, and how far.
 ghost use Rattle.std.specs.Prelude.{◌≡◌, ◌↔◌, IsTrue};
-ghost use Rattle.normalizer_input.specs.InputCut.{IsInputCut, IsInputNormalized};
+ghost use Rattle.normalizer_text.specs.InputCut.{IsInputCut, IsInputNormalized};
 ghost use Rattle.normalizer_text.specs.Encodings.{Encoding};
 ghost use Rattle.icu_normalizer_c.specs.Calls.{held, IsStatus, Over, ReportsCut, ReportsNormalized};
 

@@ -1,6 +1,6 @@
 //! Mapping and validating text by Unicode Technical Standard #46.
 ghost use Rattle.std.specs.Prelude.{◌≡◌, IfOk, encode_utf8_all, string_bytes};
-ghost use Rattle.normalizer_calls.specs.Mappers.{mapper_data_of_borrowed};
+ghost use Rattle.icu_normalizer.specs.Mappers.{mapper_data_of_borrowed};
 ghost use Rattle.normalizer_text.specs.Encodings.{Encoding, decoded_in, encoded_in};
 ghost use Rattle.normalizer_text.specs.Utf16.{encode_utf16_all};
 ghost use Rattle.normalizer_built.specs.Mapping.{mapped_in};

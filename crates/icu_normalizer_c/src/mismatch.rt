@@ -2,8 +2,8 @@
 ghost use Rattle.std.specs.Prelude.{◌≡◌, Option};
 ghost use Rattle.normalizer_text.specs.Encodings.{Encoding};
 ghost use Rattle.icu_normalizer_c.specs.Calls.{held, IsStatus, Over, ReportsMismatch};
-ghost use Rattle.normalizer_calls.specs.Checks.{IsLastingOffence};
-ghost use Rattle.normalizer_input.specs.declared.offence.Offence.{Offence};
+ghost use Rattle.icu_normalizer.specs.Checks.{IsLastingOffence};
+ghost use Rattle.normalizer_text.specs.declared.offence.Offence.{Offence};
 ghost use Rattle.icu_normalizer_c.specs.Mismatches.{mismatch_of};
 
 use crate::handle::Handle;

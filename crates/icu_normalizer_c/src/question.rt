@@ -1,8 +1,8 @@
 //! Questions about inputs.
 ghost use Rattle.std.specs.Prelude.{◌≡◌, ℕ, List};
 ghost use Rattle.normalizer_text.specs.Encodings.{Encoding, decoded_in};
-ghost use Rattle.normalizer_calls.specs.Checks.{AnswersOf};
-ghost use Rattle.normalizer_calls.specs.Forms.{MadeForm};
+ghost use Rattle.icu_normalizer.specs.Checks.{AnswersOf};
+ghost use Rattle.icu_normalizer.specs.Forms.{MadeForm};
 ghost use Rattle.icu_normalizer_c.specs.Buffers.{Reports};
 ghost use Rattle.icu_normalizer_c.specs.Calls.{held, AtForm, IsStatus, Over};
 ghost use Rattle.icu_normalizer_c.specs.Made.{made_by};

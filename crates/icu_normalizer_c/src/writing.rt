@@ -2,8 +2,8 @@
 ghost use Rattle.std.specs.Prelude.{◌≡◌};
 ghost use Rattle.std.specs.Cow.{cow_slice_items, cow_str_bytes, IsBorrowedSlice, IsBorrowedStr};
 ghost use Rattle.normalizer_text.specs.Encodings.{Encoding};
-ghost use Rattle.normalizer_input.specs.EncodedForm.{encoded_form};
-ghost use Rattle.normalizer_calls.specs.Owned.{ReturnsForm};
+ghost use Rattle.normalizer_text.specs.EncodedForm.{encoded_form};
+ghost use Rattle.icu_normalizer.specs.Owned.{ReturnsForm};
 ghost use Rattle.icu_normalizer_c.specs.Calls.{held, AtForm, IsStatus, Over, WritesForm};
 ghost use Rattle.icu_normalizer_c.specs.Made.{made_by};
 

@@ -13,9 +13,6 @@ pub mod MarkRunLemmas
 pub mod OffenceLemmas
 pub mod OrderLemmas
 pub mod PlaceLemmas
-pub mod PlainExample
-pub mod PlainLemmas
 pub mod RunLemmas
 pub mod TextLemmas
-pub mod UnfaithfulExample
 pub mod VisitLemmas

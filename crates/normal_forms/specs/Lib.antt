@@ -6,12 +6,10 @@ pub mod CompositionByStarters
 pub mod Cut
 pub mod Decomposition
 pub mod Equivalence
-pub mod Example
 pub mod Forms
 pub mod Hypotheses
 pub mod MarkRun
 pub mod Offence
 pub mod Order
 pub mod Reading
-pub mod Rows
 pub mod ShortRuns

@@ -13,4 +13,3 @@ pub enum Form {
 }
 
 pub mod laws;
-pub mod plain;

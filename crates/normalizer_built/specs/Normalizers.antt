@@ -3,8 +3,8 @@ use Rattle.std.specs.Prelude.{[]}
 use Rattle.normal_forms.specs.declared.Form.{Form}
 use Rattle.normal_forms.specs.declared.Form.TheVariants.{Decomposing, Composing}
 use Rattle.normal_forms.specs.Reading.{Reading}
-use Rattle.normalizer_calls.specs.Normalizers.{data_of}
-use Rattle.normalizer_calls.specs.ComposingNormalizers.{composing_data_of, pairs_of}
+use Rattle.icu_normalizer.specs.Normalizers.{data_of}
+use Rattle.icu_normalizer.specs.ComposingNormalizers.{composing_data_of, pairs_of}
 use Rattle.normalizer_built.specs.declared.normalizer.Normalizer.{Normalizer}
 use Rattle.normalizer_built.specs.declared.normalizer.Normalizer.TheVariants as normalizer
 use Rattle.normalizer_tables.specs.Readings.{reading_by}

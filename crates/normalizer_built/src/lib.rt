@@ -4,14 +4,15 @@
 ghost use Rattle.std.specs.Prelude.{◌≡◌, IfOk, IsOkUnless};
 ghost use Rattle.normalizer_tables.specs.declared.entry.Kind.TheVariants.{Canonical, Compatibility, Mapper};
 ghost use Rattle.normalizer_packing.specs.ReadBack.{characters_of};
-ghost use Rattle.normalizer_calls.specs.ComposingNormalizers.{composing_data_of, pairs_of};
-ghost use Rattle.normalizer_calls.specs.Mappers.{mapper_data_of};
-ghost use Rattle.normalizer_calls.specs.Normalizers.{data_of};
+ghost use Rattle.icu_normalizer.specs.ComposingNormalizers.{composing_data_of, pairs_of};
+ghost use Rattle.icu_normalizer.specs.Mappers.{mapper_data_of};
+ghost use Rattle.icu_normalizer.specs.Normalizers.{data_of};
 ghost use Rattle.normalizer_builder.specs.Built.{AreBuilt, data_in};
 
 use normalizer_builder::Built;
 use normalizer_builder::laws::{data_that_meet_conditions_are_accepted, what_is_built_is_accepted};
-use normalizer_calls::{ComposingNormalizer, DecomposingNormalizer, Uts46Mapper};
+use icu_normalizer::uts46::Uts46Mapper;
+use icu_normalizer::{ComposingNormalizer, DecomposingNormalizer};
 use normalizer_iterators::NormalizeError;
 use normalizer_tables::DataError;
 

@@ -2,10 +2,10 @@
 ghost use Rattle.std.specs.Prelude.{◌≡◌, ℕ, List, IfOk, IsOkUnless};
 ghost use Rattle.std.specs.Iterator.{IsFinite};
 ghost use Rattle.normalizer_text.specs.Steps.{Spells};
-ghost use Rattle.normalizer_calls.specs.Mappers.{mapper_data_of_borrowed};
+ghost use Rattle.icu_normalizer.specs.Mappers.{mapper_data_of_borrowed};
 ghost use Rattle.normalizer_built.specs.Mapping.{mapped_in};
 
-use normalizer_calls::Uts46MapperBorrowed;
+use icu_normalizer::uts46::Uts46MapperBorrowed;
 use normalizer_iterators::{NormalizeError, collected};
 use normalizer_tables::characters::IgnoredCharacters;
 use std::alloc::Global;

@@ -1,12 +1,12 @@
 //! Normalizers to any form.
 ghost use Rattle.std.specs.Prelude.{◌≡◌, ◌++◌, ◌↔◌, IfOk, IfErr, IsOkUnless, IsTrue, OnOk, string_bytes};
 ghost use Rattle.normalizer_text.specs.Encodings.{Encoding};
-ghost use Rattle.normalizer_input.specs.EncodedForm.{encoded_form};
-ghost use Rattle.normalizer_input.specs.InputCut.{IsInputNormalized};
-ghost use Rattle.normalizer_input.specs.InputOffence.{IsInputOffenceOf};
+ghost use Rattle.normalizer_text.specs.EncodedForm.{encoded_form};
+ghost use Rattle.normalizer_text.specs.InputCut.{IsInputNormalized};
+ghost use Rattle.normalizer_text.specs.InputOffence.{IsInputOffenceOf};
 ghost use Rattle.normalizer_built.specs.Normalizers.{kind_by, reading_of};
 
-use normalizer_calls::{ComposingNormalizer, DecomposingNormalizer, Offence};
+use icu_normalizer::{ComposingNormalizer, DecomposingNormalizer, Offence};
 use normalizer_iterators::NormalizeError;
 use std::alloc::Global;
 

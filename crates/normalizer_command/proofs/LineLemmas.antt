@@ -7,7 +7,7 @@ use Rattle.std.proofs.Math.Seq.{drop-cons}
 use Rattle.std.proofs.Math.ListN.{drop_of_length-le}
 use Rattle.normalizer_text.proofs.EncodingLemmas.{encoded_in-append}
 use Rattle.normalizer_text.specs.Encodings.{encoded_in}
-use Rattle.normalizer_calls.specs.Uts46.{MapperData}
+use Rattle.icu_normalizer.specs.Uts46.{MapperData}
 use Rattle.normalizer_streams.specs.declared.scheme.EncodingScheme.{EncodingScheme}
 use Rattle.normalizer_streams.specs.declared.scheme.EncodingScheme.TheVariants.{Utf8, Utf16}
 use Rattle.normalizer_streams.specs.Schemes.{bytes_of, encoded_by, encoding_of}

@@ -4,7 +4,7 @@ use Rattle.normal_forms.specs.Forms.{normal_form}
 use Rattle.normal_forms.proofs.AlikeReadings.{nfc-alike}
 use Rattle.normalizer_tables.specs.Readings.{reading_by}
 use Rattle.normalizer_tables.specs.declared.characters.IgnoredCharacters.TheVariants.{Dropped, Replaced}
-use Rattle.normalizer_calls.specs.Uts46.{MapperData}
+use Rattle.icu_normalizer.specs.Uts46.{MapperData}
 use Rattle.normalizer_packing.specs.declared.Packed.{Packed}
 use Rattle.normalizer_tables.specs.declared.entry.Kind.TheVariants as kind
 use Rattle.normalizer_packing.specs.ReadBack.{characters_of}
@@ -13,10 +13,10 @@ use Rattle.normalizer_builder.specs.Building.{Builds}
 use Rattle.normalizer_built.specs.declared.NormalForm.TheVariants.{Nfd, Nfc, Nfkd, Nfkc}
 use Rattle.normalizer_built.specs.Mapping.{mapper_reading}
 use Rattle.normalizer_built.proofs.FormsOfData.{form_of_data-recorded}
-use Rattle.normalizer_calls.specs.declared.normalizer.DecomposingNormalizer.{DecomposingNormalizer}
-use Rattle.normalizer_calls.specs.declared.composing_normalizer.ComposingNormalizer.{ComposingNormalizer}
-use Rattle.normalizer_calls.specs.Normalizers.{data_of}
-use Rattle.normalizer_calls.specs.ComposingNormalizers.{composing_data_of, pairs_of}
+use Rattle.icu_normalizer.specs.declared.normalizer.DecomposingNormalizer.{DecomposingNormalizer}
+use Rattle.icu_normalizer.specs.declared.composing_normalizer.ComposingNormalizer.{ComposingNormalizer}
+use Rattle.icu_normalizer.specs.Normalizers.{data_of}
+use Rattle.icu_normalizer.specs.ComposingNormalizers.{composing_data_of, pairs_of}
 use Rattle.normalizer_built.specs.declared.normalizer.Normalizer.TheVariants as normalizer
 use Rattle.normalizer_command.specs.Making.{making_by, mapping_by, Makes, Maps}
 

@@ -5,9 +5,9 @@ use Rattle.normal_forms.specs.declared.Form.{Form}
 use Rattle.normal_forms.specs.Forms.{normal_form}
 use Rattle.normal_forms.specs.Offence.{IsFirst}
 use Rattle.normalizer_text.specs.Encodings.{Encoding, decoded_in}
-use Rattle.normalizer_input.specs.declared.offence.Offence.{Offence}
-use Rattle.normalizer_input.specs.InputCut.{IsInputNormalized, QualifiesForInputCut}
-use Rattle.normalizer_input.specs.InputOffence.{IsInputOffenceOf}
+use Rattle.normalizer_text.specs.declared.offence.Offence.{Offence}
+use Rattle.normalizer_text.specs.InputCut.{IsInputNormalized, QualifiesForInputCut}
+use Rattle.normalizer_text.specs.InputOffence.{IsInputOffenceOf}
 
 normalized-by : (e : Encoding) (d d' : Reading) (f f' : Form) → ((x : List ℕ) → normal_form d f x ≡ normal_form d' f' x) → (units : List ℕ)
     → IsInputNormalized e d f units → IsInputNormalized e d' f' units

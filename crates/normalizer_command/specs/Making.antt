@@ -14,7 +14,7 @@ use Rattle.normalizer_built.specs.declared.NormalForm.TheVariants.{Nfd, Nfc, Nfk
 use Rattle.normalizer_built.specs.declared.normalizer.Normalizer.{Normalizer}
 use Rattle.normalizer_built.specs.Mapping.{mapped_in, mapper_reading}
 use Rattle.normalizer_built.specs.Normalizers.{kind_by, reading_of}
-use Rattle.normalizer_calls.specs.Uts46.{MapperData}
+use Rattle.icu_normalizer.specs.Uts46.{MapperData}
 
 -- a normal form, and the reading by which it is made
 pub record Making : Type 0 where

@@ -2,7 +2,7 @@
 use Rattle.std.specs.Prelude.{◌≡◌, ℕ, ◌+◌, ◌-◌, ◌*◌, ◌==◌, not, true, List, [], ◌∷◌, ◌++◌, codes, count_by, decimal, length}
 use Rattle.std.specs.Prelude.{Option, Some, None, replicate, reverse, take, take_while}
 use Rattle.std.specs.Fmt.{digits}
-use Rattle.normalizer_input.specs.declared.offence.Offence.{Offence}
+use Rattle.normalizer_text.specs.declared.offence.Offence.{Offence}
 use Rattle.normalizer_streams.specs.declared.scheme.EncodingScheme.{EncodingScheme}
 use Rattle.normalizer_streams.specs.Schemes.{unit_len, units_of}
 use Rattle.normalizer_io.specs.declared.outcome.Answer.{Answer}

@@ -1,9 +1,9 @@
 -- The reply to the bytes of a file, and what is written.
 use Rattle.std.specs.Prelude.{◌≡◌, ℕ, List, [], Option}
-use Rattle.normalizer_input.specs.EncodedForm.{encoded_form}
-use Rattle.normalizer_input.specs.InputCut.{IsInputNormalized}
-use Rattle.normalizer_input.specs.InputOffence.{IsInputOffenceOf}
-use Rattle.normalizer_input.specs.declared.offence.Offence.{Offence}
+use Rattle.normalizer_text.specs.EncodedForm.{encoded_form}
+use Rattle.normalizer_text.specs.InputCut.{IsInputNormalized}
+use Rattle.normalizer_text.specs.InputOffence.{IsInputOffenceOf}
+use Rattle.normalizer_text.specs.declared.offence.Offence.{Offence}
 use Rattle.normalizer_io.specs.declared.outcome.Answer.{Answer}
 use Rattle.normalizer_io.specs.declared.outcome.Answer.TheVariants.{Done, No}
 use Rattle.normalizer_streams.specs.declared.scheme.EncodingScheme.{EncodingScheme}

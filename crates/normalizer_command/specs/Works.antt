@@ -1,7 +1,7 @@
 -- What is done with files.
 use Rattle.std.specs.Prelude.{◌≡◌, List, ⊤}
 use Rattle.normalizer_records.specs.Entry.{Entry, MapperEntry}
-use Rattle.normalizer_calls.specs.Mappers.{mapper_data_of}
+use Rattle.icu_normalizer.specs.Mappers.{mapper_data_of}
 use Rattle.normalizer_streams.specs.declared.scheme.EncodingScheme.{EncodingScheme}
 use Rattle.normalizer_command.specs.declared.mapping.MapperTask.{MapperTask}
 use Rattle.normalizer_command.specs.declared.reply.Task.{Task}

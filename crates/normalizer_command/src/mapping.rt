@@ -1,7 +1,7 @@
 //! What is done with a file by the mapper.
 ghost use Rattle.std.specs.Prelude.{◌≡◌, ◌↔◌, ◌<◌, ◌+◌, ◌^◌, ◌==◌, ◌++◌, [], IfOk, IsOkUnless, map, bytes_eq, string_bytes};
 ghost use Rattle.std.specs.List.{list_any};
-ghost use Rattle.normalizer_calls.specs.Mappers.{mapper_data_of, mapper_data_of_borrowed};
+ghost use Rattle.icu_normalizer.specs.Mappers.{mapper_data_of, mapper_data_of_borrowed};
 ghost use Rattle.normalizer_command.specs.Lines.{invalid_line, is_valid_line, lines_of, told_unless};
 ghost use Rattle.normalizer_command.specs.Making.{mapping_of, Mapping, Maps};
 ghost use Rattle.normalizer_command.specs.Replies.{IsReplyOfLines, IsReplyOfMapper};
@@ -10,7 +10,7 @@ ghost use Rattle.normalizer_command.specs.inner.EachLine.{feed_unless, replies_t
 use crate::fault::Fault;
 use crate::reply::Reply;
 use normalizer_built::mapped;
-use normalizer_calls::{Uts46Mapper, Uts46MapperBorrowed};
+use icu_normalizer::uts46::{Uts46Mapper, Uts46MapperBorrowed};
 use normalizer_io::Answer;
 use normalizer_streams::EncodingScheme;
 use normalizer_tables::characters::IgnoredCharacters::{Dropped, Replaced};

@@ -9,7 +9,7 @@ ghost use Rattle.normalizer_command.specs.Mismatches.{
   units_before,
 };
 
-use normalizer_calls::Offence;
+use icu_normalizer::Offence;
 use normalizer_streams::EncodingScheme;
 use std::alloc::{AllocError, Global};
 

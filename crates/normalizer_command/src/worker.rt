@@ -2,7 +2,7 @@
 ghost use Rattle.std.specs.Prelude.{◌≡◌, IfOk, IsOkUnless, List};
 ghost use Rattle.normalizer_builder.specs.Building.{Builds};
 ghost use Rattle.normalizer_builder.specs.Built.{AreBuilt, data_in};
-ghost use Rattle.normalizer_calls.specs.Mappers.{mapper_data_of};
+ghost use Rattle.icu_normalizer.specs.Mappers.{mapper_data_of};
 ghost use Rattle.normalizer_records.specs.Entry.{Entry, MapperEntry};
 ghost use Rattle.normalizer_command.specs.Making.{mapping_by, Maps};
 ghost use Rattle.normalizer_command.specs.Replies.{IsReply};
@@ -14,7 +14,7 @@ use crate::normalizers::normalizer_to;
 use crate::reply::{Reply, Task};
 use normalizer_builder::Built;
 use normalizer_built::{NormalForm, Normalizer, built_mapper};
-use normalizer_calls::Uts46Mapper;
+use icu_normalizer::uts46::Uts46Mapper;
 use normalizer_iterators::NormalizeError;
 use normalizer_streams::EncodingScheme;
 use std::alloc::Global;

@@ -3,7 +3,7 @@ use Rattle.std.proofs.Common.{◌≡◌, ℕ, true, false, List, [], ◌∷◌, 
 use Rattle.std.proofs.lemmas.List.{take_more, map-append}
 use Rattle.std.proofs.lemmas.List.Elements.{filter-append, All-push, All-pop}
 use Rattle.std.proofs.lemmas.Grind.{flat_map-append}
-use Rattle.normalizer_calls.specs.Uts46.{MapperData}
+use Rattle.icu_normalizer.specs.Uts46.{MapperData}
 use Rattle.normalizer_io.specs.declared.outcome.Answer.{Answer}
 use Rattle.normalizer_io.specs.declared.outcome.Answer.TheVariants.{Done, No}
 use Rattle.normalizer_program.specs.OffenceLines.{line_feed}

@@ -3,7 +3,7 @@ use Rattle.std.specs.Prelude.{◌≡◌, ◌↔◌, ◌==◌, ◌&&◌, not, ℕ
 use Rattle.std.specs.Prelude.{List, [], ◌∷◌, ◌++◌, All, filter, flat_map, bytes_eq}
 use Rattle.std.specs.List.{list_any, slice_split}
 use Rattle.normalizer_tables.specs.declared.characters.IgnoredCharacters.TheVariants.{Replaced}
-use Rattle.normalizer_calls.specs.Uts46.{MapperData}
+use Rattle.icu_normalizer.specs.Uts46.{MapperData}
 use Rattle.normalizer_built.specs.Mapping.{mapped_in}
 use Rattle.normalizer_io.specs.declared.outcome.Answer.{Answer}
 use Rattle.normalizer_io.specs.declared.outcome.Answer.TheVariants.{Done}

@@ -11,10 +11,10 @@ use Rattle.normalizer_tables.specs.declared.provider.DataMarkerInfo.TheVariants 
 use Rattle.normalizer_tables.specs.Pairs.{Pair}
 use Rattle.normalizer_tables.specs.Readings.{reading_by}
 use Rattle.normalizer_tables.specs.declared.characters.IgnoredCharacters.TheVariants.{Dropped}
-use Rattle.normalizer_calls.specs.Acceptance.{nfd_data, nfkd_data, AcceptsHeld, RefusesHeld}
-use Rattle.normalizer_calls.specs.Acceptance.{SuitsDecomposing, RefusesToDecompose}
-use Rattle.normalizer_calls.specs.ComposingAcceptance.{SuitsComposing, RefusesToCompose, with_pairs}
-use Rattle.normalizer_calls.specs.Uts46.{MapperData, uts46_data}
+use Rattle.icu_normalizer.specs.Acceptance.{nfd_data, nfkd_data, AcceptsHeld, RefusesHeld}
+use Rattle.icu_normalizer.specs.Acceptance.{SuitsDecomposing, RefusesToDecompose}
+use Rattle.icu_normalizer.specs.ComposingAcceptance.{SuitsComposing, RefusesToCompose, with_pairs}
+use Rattle.icu_normalizer.specs.Uts46.{MapperData, uts46_data}
 use Rattle.normalizer_program.specs.declared.task.FormTask.{FormTask}
 use Rattle.normalizer_program.specs.declared.task.MapperTask.{MapperTask}
 use Rattle.normalizer_built.specs.declared.NormalForm.{NormalForm}

@@ -5,11 +5,11 @@ use Rattle.normal_forms.specs.Reading.{Reading}
 use Rattle.normalizer_text.specs.Encodings.{Encoding}
 use Rattle.normalizer_text.specs.Utf8.{decoded_utf8}
 use Rattle.normalizer_tables.specs.declared.characters.IgnoredCharacters.TheVariants.{Dropped, Replaced}
-use Rattle.normalizer_input.specs.declared.offence.Offence.{Offence}
-use Rattle.normalizer_input.specs.EncodedForm.{encoded_form}
-use Rattle.normalizer_input.specs.InputCut.{IsInputNormalized}
-use Rattle.normalizer_input.specs.InputOffence.{IsInputOffenceOf}
-use Rattle.normalizer_calls.specs.Uts46.{MapperData}
+use Rattle.normalizer_text.specs.declared.offence.Offence.{Offence}
+use Rattle.normalizer_text.specs.EncodedForm.{encoded_form}
+use Rattle.normalizer_text.specs.InputCut.{IsInputNormalized}
+use Rattle.normalizer_text.specs.InputOffence.{IsInputOffenceOf}
+use Rattle.icu_normalizer.specs.Uts46.{MapperData}
 use Rattle.normalizer_built.specs.Mapping.{mapped_in}
 use Rattle.normalizer_io.specs.declared.outcome.Answer.{Answer}
 use Rattle.normalizer_io.specs.declared.outcome.Answer.TheVariants.{Done}

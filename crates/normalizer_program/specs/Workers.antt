@@ -1,6 +1,6 @@
 -- What works for a command.
 use Rattle.normalizer_built.specs.Normalizers.{kind_by, reading_of}
-use Rattle.normalizer_calls.specs.Mappers.{mapper_data_of}
+use Rattle.icu_normalizer.specs.Mappers.{mapper_data_of}
 use Rattle.normalizer_program.specs.declared.worker.Worker.{Worker}
 use Rattle.normalizer_program.specs.declared.worker.Worker.TheVariants as worker
 use Rattle.normalizer_program.specs.Needs.{Work, OfForm, OfMapper}

@@ -1,7 +1,7 @@
 //! The calls on the mapper.
 ghost use Rattle.std.specs.Prelude.{◌≡◌, ◌==◌, IfOk, IfErr, encode_utf8_all, map, string_bytes};
 ghost use Rattle.std.specs.List.{list_any};
-ghost use Rattle.normalizer_calls.specs.Mappers.{mapper_data_of, mapper_data_of_borrowed};
+ghost use Rattle.icu_normalizer.specs.Mappers.{mapper_data_of, mapper_data_of_borrowed};
 ghost use Rattle.normalizer_program.specs.Labels.{fields, is_kept, TellsKept};
 ghost use Rattle.normalizer_program.specs.Replies.{IsReplyOfMapper};
 
@@ -9,7 +9,7 @@ use crate::ending::ToolFault;
 use crate::reply::Reply;
 use crate::task::MapperTask;
 use normalizer_built::mapped;
-use normalizer_calls::{Uts46Mapper, Uts46MapperBorrowed};
+use icu_normalizer::uts46::{Uts46Mapper, Uts46MapperBorrowed};
 use normalizer_io::Answer;
 use normalizer_tables::characters::IgnoredCharacters::{Dropped, Replaced};
 use normalizer_text::Utf8Chars;

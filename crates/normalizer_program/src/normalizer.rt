@@ -5,7 +5,7 @@ ghost use Rattle.normalizer_program.specs.Needs.{held_for_forms, kind_of, FormLa
 
 use crate::ending::ToolFault;
 use normalizer_built::{NormalForm, Normalizer};
-use normalizer_calls::{ComposingNormalizer, DecomposingNormalizer};
+use icu_normalizer::{ComposingNormalizer, DecomposingNormalizer};
 use normalizer_tables::{
     DataProvider, NormalizerNfcV1, NormalizerNfdDataV1, NormalizerNfdTablesV1,
     NormalizerNfkdDataV1, NormalizerNfkdTablesV1,

@@ -2,7 +2,7 @@
 //! records and over the pairs of those. `plain-cut nfd 0065 0302`: how many characters may be cut off.
 use icu_normalizer::Record;
 use normal_forms::Form;
-use normal_forms::plain::{CharacterRow, PairRow, Rows, cut, normal_form};
+use normalizer_plain::{CharacterRow, PairRow, Rows, cut, normal_form};
 use normalizer_records::pairs;
 use normalizer_row_data::held::Held;
 use normalizer_row_data::setting::Setting;

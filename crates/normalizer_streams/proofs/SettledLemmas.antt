@@ -12,8 +12,8 @@ use Rattle.normalizer_text.proofs.EncodingLemmas.{encoded_in-append}
 use Rattle.normalizer_text.proofs.BackLemmas.{boundary-at}
 use Rattle.normalizer_text.proofs.BoundaryLemmas.{decoded-take-drop}
 use Rattle.normalizer_text.proofs.StepLemmas.{decoded-some}
-use Rattle.normalizer_input.specs.EncodedForm.{encoded_form}
-use Rattle.normalizer_calls.specs.BeginsApart.{BeginsApart}
+use Rattle.normalizer_text.specs.EncodedForm.{encoded_form}
+use Rattle.icu_normalizer.specs.BeginsApart.{BeginsApart}
 use Rattle.normalizer_streams.specs.declared.scheme.EncodingScheme.{EncodingScheme}
 use Rattle.normalizer_streams.specs.Schemes.{bytes_of, encoding_of, first_by, is_aligned, units_of}
 use Rattle.normalizer_streams.specs.inner.Moves.{IsSettled}

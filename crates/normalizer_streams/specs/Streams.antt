@@ -1,11 +1,11 @@
 -- What becomes of the form of a stream.
 use Rattle.std.specs.Prelude.{◌≡◌, ℕ, ◌-◌, ◌^◌, ◌<◌, ◌≤◌, Bool, true, false, List, ◌++◌, length, drop, Option, IfSome}
 use Rattle.std.specs.Io.KnownBytes.{Appends, Consumes}
-use Rattle.normalizer_input.specs.EncodedForm.{encoded_form}
+use Rattle.normalizer_text.specs.EncodedForm.{encoded_form}
 use Rattle.normalizer_tables.specs.Characters.{has_class_form, word_of}
 use Rattle.normalizer_tables.specs.Words.{is_backward_combining}
-use Rattle.normalizer_calls.specs.ComposingNormalizers.{composing_data_of}
-use Rattle.normalizer_calls.specs.Normalizers.{data_of}
+use Rattle.icu_normalizer.specs.ComposingNormalizers.{composing_data_of}
+use Rattle.icu_normalizer.specs.Normalizers.{data_of}
 use Rattle.normalizer_built.specs.Normalizers.{kind_by, reading_of}
 use Rattle.normalizer_io.specs.Transfer.{AppendsFront}
 use Rattle.normalizer_built.specs.declared.normalizer.Normalizer.{Normalizer}

@@ -1,16 +1,16 @@
 //! Normalizers over bytes in an encoding scheme.
 ghost use Rattle.std.specs.Prelude.{◌≡◌, ◌++◌, ◌↔◌, IfOk, IsOkUnless, IsTrue, OnOk};
 ghost use Rattle.normalizer_text.specs.Encodings.{Encoding};
-ghost use Rattle.normalizer_input.specs.EncodedForm.{encoded_form};
-ghost use Rattle.normalizer_input.specs.InputCut.{IsInputNormalized};
-ghost use Rattle.normalizer_input.specs.InputOffence.{IsInputOffenceOf};
+ghost use Rattle.normalizer_text.specs.EncodedForm.{encoded_form};
+ghost use Rattle.normalizer_text.specs.InputCut.{IsInputNormalized};
+ghost use Rattle.normalizer_text.specs.InputOffence.{IsInputOffenceOf};
 ghost use Rattle.normalizer_built.specs.Normalizers.{kind_by, reading_of};
 ghost use Rattle.normalizer_streams.specs.Schemes.{encoding_of, units_of};
 ghost use Rattle.normalizer_streams.specs.Streams.{form_by};
 
 use crate::scheme::{ByteOrder, EncodingScheme};
 use normalizer_built::Normalizer;
-use normalizer_calls::Offence;
+use icu_normalizer::Offence;
 use normalizer_iterators::NormalizeError;
 use std::alloc::Global;
 

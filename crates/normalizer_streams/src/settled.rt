@@ -1,6 +1,6 @@
 //! Places at which the form of bytes may be divided, whatever comes after them.
 ghost use Rattle.std.specs.Prelude.{◌≡◌, ℕ, ◌<◌, ◌≤◌, true, false, length, IfNone, IfSome};
-ghost use Rattle.normalizer_calls.specs.BeginsApart.{BeginsApart};
+ghost use Rattle.icu_normalizer.specs.BeginsApart.{BeginsApart};
 ghost use Rattle.normalizer_built.specs.Normalizers.{kind_by, reading_of};
 ghost use Rattle.normalizer_streams.specs.Schemes.{is_aligned};
 ghost use Rattle.normalizer_streams.specs.Streams.{form_by, may_continue, IsDivision};

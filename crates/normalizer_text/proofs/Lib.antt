@@ -2,8 +2,14 @@ pub mod BackLemmas
 pub mod BoundaryLemmas
 pub mod CheckSinkLemmas
 pub mod Decoding
+pub mod EncodedFormLemmas
 pub mod EncodingLemmas
 pub mod EncodingRules
+pub mod InputBoundaryLemmas
+pub mod InputCutLemmas
+pub mod InputEncodingLemmas
+pub mod InputExamples
+pub mod InputOffenceLemmas
 pub mod LowLemmas
 pub mod MatchLemmas
 pub mod RowLemmas

@@ -1,5 +1,8 @@
 pub mod CheckSinks
+pub mod EncodedForm
 pub mod Encodings
+pub mod InputCut
+pub mod InputOffence
 pub mod MaximalSubparts
 pub mod Outputs
 pub mod Scans

@@ -15,6 +15,8 @@ ghost use Rattle.normalizer_text.specs.Utf8.{first_of_utf8, decoded_utf8};
 ghost use Rattle.normalizer_text.specs.MaximalSubparts.{IsStepOfUtf8};
 ghost use Rattle.normalizer_text.specs.Utf16.{first_of_utf16, decoded_utf16};
 
+pub mod inputs;
+
 /// The steps of units are the first step and the steps of the units after it.
 pub fn steps_follow_one_another()
     ensures none { (e : Encoding) → steps (first_in e) [] ≡ [] }

@@ -5,6 +5,7 @@
 mod chars;
 pub mod check_sink;
 pub mod laws;
+mod offence;
 pub mod output;
 mod scan;
 pub mod sink;
@@ -14,6 +15,7 @@ mod utf16;
 mod utf8;
 
 pub use chars::{Chars, Utf8Chars, Utf16Chars};
+pub use offence::Offence;
 pub use step::Step;
 pub use units::Units;
 pub use utf8::text_of;

@@ -1,5 +1,5 @@
 use Rattle.normalizer_tables.specs.declared.provider.DataMarkerInfo.TheVariants.{NormalizerUts46DataV1}
-use Rattle.normalizer_calls.specs.ComposingAcceptance.{RefusesToCompose}
+use Rattle.icu_normalizer.specs.ComposingAcceptance.{RefusesToCompose}
 use Rattle.normalizer_tables.specs.declared.entry.Kind.TheVariants.{Mapper}
 use Rattle.normalizer_packing.specs.ReadBack.{characters_of}
 use Rattle.normalizer_built.proofs.AcceptedData.{IsOkUnless-memory}

@@ -1,5 +1,5 @@
 use Rattle.normalizer_tables.specs.declared.provider.DataMarkerInfo.TheVariants.{NormalizerNfkdDataV1}
-use Rattle.normalizer_calls.specs.Acceptance.{RefusesToDecompose}
+use Rattle.icu_normalizer.specs.Acceptance.{RefusesToDecompose}
 use Rattle.normalizer_tables.specs.declared.entry.Kind.TheVariants.{Compatibility}
 use Rattle.normalizer_packing.specs.ReadBack.{characters_of}
 use Rattle.normalizer_built.proofs.AcceptedData.{memory_alone}

@@ -1,5 +1,5 @@
 use Rattle.std.proofs.Common.{map, take}
-use Rattle.normalizer_calls.specs.Mappers.{mapper_data_of_borrowed}
+use Rattle.icu_normalizer.specs.Mappers.{mapper_data_of_borrowed}
 use Rattle.normalizer_program.specs.Labels.{TellsKept}
 use Rattle.normalizer_program.proofs.mapping.labelled.Given as goal
 

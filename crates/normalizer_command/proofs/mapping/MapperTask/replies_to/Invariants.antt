@@ -1,5 +1,5 @@
 use Rattle.std.proofs.Common.{◌≡◌, ◌++◌, drop, map}
-use Rattle.normalizer_calls.specs.Mappers.{mapper_data_of_borrowed}
+use Rattle.icu_normalizer.specs.Mappers.{mapper_data_of_borrowed}
 use Rattle.normalizer_command.specs.Making.{mapping_of}
 use Rattle.normalizer_command.specs.inner.EachLine.{replies_to}
 use Rattle.normalizer_command.proofs.mapping.MapperTask.replies_to.Given as goal

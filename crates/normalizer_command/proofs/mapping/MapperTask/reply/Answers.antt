@@ -1,5 +1,5 @@
 use Rattle.std.proofs.Common.{subst, sym}
-use Rattle.normalizer_calls.specs.Mappers.{mapper_data_of_borrowed}
+use Rattle.icu_normalizer.specs.Mappers.{mapper_data_of_borrowed}
 use Rattle.normalizer_command.specs.Making.{Maps}
 use Rattle.normalizer_command.proofs.MapperLemmas.{replies-by}
 use Rattle.normalizer_command.proofs.mapping.MapperTask.reply.Goals as goal

@@ -1,4 +1,4 @@
-use Rattle.normalizer_calls.specs.Mappers.{mapper_data_of_borrowed}
+use Rattle.icu_normalizer.specs.Mappers.{mapper_data_of_borrowed}
 use Rattle.normalizer_command.specs.Making.{mapping_of}
 use Rattle.normalizer_command.proofs.MapperLemmas.{reply-lines}
 use Rattle.normalizer_command.proofs.mapping.MapperTask.reply_to_text.Goals as goal

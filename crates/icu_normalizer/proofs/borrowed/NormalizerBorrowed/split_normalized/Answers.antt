@@ -1,0 +1,11 @@
+use Rattle.std.proofs.lemmas.Result.{IfOk-weaker}
+use Rattle.normalizer_text.proofs.StrLemmas.{decoded-chars}
+use Rattle.icu_normalizer.proofs.TextAnswers.{IsTextSplitAtCut-bytes}
+use Rattle.icu_normalizer.proofs.borrowed.NormalizerBorrowed.split_normalized.Goals as goal
+
+pub returns : goal.returns
+returns g c = record {
+  is = IfOk-weaker _ _ _ (λ parts h. IsTextSplitAtCut-bytes _ _ c.utf8.text _ _ h) c.split_at_cut.ensures.is;
+  room = rw (← decoded-chars c.args.text.now c.utf8.text) c.split_at_cut.ensures.room;
+  refused = c.split_at_cut.ensures.refused;
+}

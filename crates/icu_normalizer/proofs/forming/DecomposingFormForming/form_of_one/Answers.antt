@@ -1,0 +1,6 @@
+use Rattle.std.proofs.Common.{sym, ◌∙◌}
+use Rattle.icu_normalizer.proofs.PassingLemmas.{form_of_one}
+use Rattle.icu_normalizer.proofs.forming.DecomposingFormForming.form_of_one.Goals as goal
+
+pub returns : goal.returns
+returns c = c.members.ensures ∙ sym (form_of_one _ _ c.args.self.now.serves c.args.character c.ranges.character.0)

@@ -1,0 +1,17 @@
+use Rattle.std.proofs.Common.{ap, ◌++◌, ◌∙◌}
+use Rattle.icu_normalizer.proofs.CheckLemmas.{boundary_at_cut}
+use Rattle.icu_normalizer.proofs.OwnedLemmas.{written_from_cut}
+use Rattle.icu_normalizer.proofs.owned.write_from_cut.Goals as goal
+
+pub before-requires : goal.before-requires
+before-requires g c = boundary_at_cut _ _ _ _ _ c.requires
+
+pub after-requires : goal.after-requires
+after-requires g c = boundary_at_cut _ _ _ _ _ c.requires
+
+pub returns : goal.returns
+returns g c =
+    let room = rw c.in_ok-make_room.was at c.make_room.ensures in
+    let took = rw c.in_ok-write_piece.was at c.write_piece.ensures in
+    written_from_cut g.O.Output.taken c.requires _ _ _ _ c.before-2.ensures c.after.ensures
+    (took.written.appends ∙ ap (λ l. l ++ g.U.Units.units c.before-2.result) room) c.form_to.ensures.text.written

@@ -1,0 +1,13 @@
+use Rattle.std.proofs.Common.{◌≡◌, ◌-◌, drop, length}
+use Rattle.std.specs.Prelude.{IfSome}
+use Rattle.normalizer_text.specs.Encodings.{first_in}
+use Rattle.icu_normalizer.specs.inner.Passing.{IsKeptTo}
+use Rattle.icu_normalizer.proofs.runs.kept_end.Given as goal
+
+abbrev pub invariant-loop-end : goal.invariant-loop-end
+invariant-loop-end g l =
+    let m = g.N.Forming.made l.normalizer in IsKeptTo g.U.Units.encoding m.reading m.form (g.U.Units.units l.units) l.end
+    × IfSome l.first (λ first. first ≡ first_in g.U.Units.encoding (drop l.end (g.U.Units.units l.units)))
+
+abbrev pub decreases-loop-end : goal.decreases-loop-end
+decreases-loop-end g l = length (g.U.Units.units l.units) - l.end

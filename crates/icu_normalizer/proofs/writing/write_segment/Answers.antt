@@ -1,0 +1,15 @@
+use Rattle.std.proofs.Common.{ap, sym, ◌∙◌}
+use Rattle.normal_forms.specs.Forms.{normal_form}
+use Rattle.icu_normalizer.proofs.MemberLemmas.{decoded-one}
+use Rattle.icu_normalizer.proofs.WritingLemmas.{WritesText-same}
+use Rattle.icu_normalizer.proofs.writing.write_segment.Goals as goal
+
+pub returns-in-Some-clause-text : goal.returns-in-Some-clause-text
+returns-in-Some-clause-text g c =
+    let one = decoded-one g.U.Units.encoding _ c.args.first c.requires.some c.requires.first (c.if-first-len.true ∙ c.len.ensures) in
+    let same = c.in-Some.ensures ∙ ap (normal_form (g.N.Forming.made c.args.normalizer.now).reading (g.N.Forming.made c.args.normalizer.now).form) (sym one) in
+    WritesText-same same c.write_members.ensures.text
+
+pub returns-in-Some-form_of_pair-clause-text : goal.returns-in-Some-form_of_pair-clause-text
+returns-in-Some-form_of_pair-clause-text g c =
+    WritesText-same (sym c.in-Some-form_of_pair.ensures) c.write_text.ensures.text

@@ -1,0 +1,140 @@
+//! Composing normalizers over the data of a provider.
+ghost use Rattle.std.specs.Prelude.{◌≡◌, false, IfOk, IfErr};
+ghost use Rattle.normalizer_tables.specs.Owned.{characters_owned};
+ghost use Rattle.icu_normalizer.specs.Acceptance.{bounds_of, nfd_data, nfkd_data, AnswersHeld};
+ghost use Rattle.icu_normalizer.specs.ComposingAcceptance.{
+  with_pairs,
+  RefusesToCompose,
+  SuitsComposing,
+};
+ghost use Rattle.icu_normalizer.specs.Serving.{ServesComposing};
+
+use crate::borrowed::{ComposingNormalizerBorrowed, NormalizerBorrowed};
+use crate::composing_form::ComposingForm;
+use normalizer_conditions::check::check;
+use normalizer_conditions::loaded::LoadedData;
+use normalizer_tables::condition::{Bounds, COMPOSING};
+use normalizer_tables::owned::OwnedCharacterData;
+use normalizer_tables::{
+    CanonicalCompositions, DataError, DataMarkerInfo, DataProvider, NormalizerNfcV1,
+    NormalizerNfdDataV1, NormalizerNfdTablesV1, NormalizerNfkdDataV1, NormalizerNfkdTablesV1,
+};
+
+/// A normalizer to NFC, or to NFKC over compatibility data. Its data were checked when it was made.
+///
+/// [`as_borrowed`](ComposingNormalizer::as_borrowed) returns the normalizer that has the calls on text.
+#[derive(Drop)]
+pub struct ComposingNormalizer {
+    characters: OwnedCharacterData,
+    pairs: CanonicalCompositions,
+    ghost serves: { ServesComposing (characters_owned characters false) (bounds_of characters.decompositions) pairs },
+}
+
+impl ComposingNormalizer {
+    ghost use Rattle.icu_normalizer.specs.ComposingNormalizers.{composing_data_of, composing_data_of_borrowed};
+    ghost use Rattle.icu_normalizer.specs.ComposingNormalizers.{data_and_pairs_of, pairs_of, pairs_of_borrowed};
+
+    /// Makes a normalizer to NFC over canonical data and pairs, which it loads from the provider and checks.
+    ///
+    /// # Errors
+    /// - `Provider` if the provider holds nothing for one of the markers; the data of the first marker are loaded
+    ///   first.
+    /// - `FutureExtension` if the tables have more items than the limit.
+    /// - `Invalid`, with the lowest-numbered condition that fails, if the data break one (`docs/CONDITIONS.md`).
+    /// - `Memory` if a load was refused memory. The check itself takes none.
+    ///
+    /// # Examples
+    /// ```rust
+    /// let normalizer = ComposingNormalizer::try_new_nfc_unstable(&data).ok()?;
+    /// ```
+    pub fn try_new_nfc_unstable<P>(provider: &P) -> Result<Self, DataError>
+    where
+        P: DataProvider<NormalizerNfdDataV1>
+            + DataProvider<NormalizerNfdTablesV1>
+            + DataProvider<NormalizerNfcV1>,
+        ensures { AnswersHeld SuitsComposing RefusesToCompose DataMarkerInfo.NormalizerNfdDataV1 data_and_pairs_of
+            (with_pairs (nfd_data (⟦<P as DataProvider<NormalizerNfdDataV1>>⟧.held provider.now)
+            (⟦<P as DataProvider<NormalizerNfdTablesV1>>⟧.held provider.now))
+            (⟦<P as DataProvider<NormalizerNfcV1>>⟧.held provider.now)) result }
+    {
+        let decompositions = <P as DataProvider<NormalizerNfdDataV1>>::load(provider)?;
+        let tables = <P as DataProvider<NormalizerNfdTablesV1>>::load(provider)?;
+        let pairs = <P as DataProvider<NormalizerNfcV1>>::load(provider)?;
+        let characters = OwnedCharacterData {
+            decompositions,
+            tables,
+            supplementary: None,
+        };
+        Self::over(DataMarkerInfo::NormalizerNfdDataV1, characters, pairs)
+    }
+
+    /// Makes a normalizer to NFKC over compatibility data and pairs, which it loads from the provider and checks.
+    ///
+    /// # Errors
+    /// - `Provider` if the provider holds nothing for one of the markers; the data of the first marker are loaded
+    ///   first.
+    /// - `FutureExtension` if the tables have more items than the limit.
+    /// - `Invalid`, with the lowest-numbered condition that fails, if the data break one (`docs/CONDITIONS.md`).
+    /// - `Memory` if a load was refused memory. The check itself takes none.
+    ///
+    /// # Examples
+    /// ```rust
+    /// let normalizer = ComposingNormalizer::try_new_nfkc_unstable(provider)?;
+    /// ```
+    pub fn try_new_nfkc_unstable<P>(provider: &P) -> Result<Self, DataError>
+    where
+        P: DataProvider<NormalizerNfkdDataV1>
+            + DataProvider<NormalizerNfdTablesV1>
+            + DataProvider<NormalizerNfkdTablesV1>
+            + DataProvider<NormalizerNfcV1>,
+        ensures { AnswersHeld SuitsComposing RefusesToCompose DataMarkerInfo.NormalizerNfkdDataV1 data_and_pairs_of
+            (with_pairs (nfkd_data (⟦<P as DataProvider<NormalizerNfkdDataV1>>⟧.held provider.now)
+            (⟦<P as DataProvider<NormalizerNfdTablesV1>>⟧.held provider.now)
+            (⟦<P as DataProvider<NormalizerNfkdTablesV1>>⟧.held provider.now))
+            (⟦<P as DataProvider<NormalizerNfcV1>>⟧.held provider.now)) result }
+    {
+        let decompositions = <P as DataProvider<NormalizerNfkdDataV1>>::load(provider)?;
+        let tables = <P as DataProvider<NormalizerNfdTablesV1>>::load(provider)?;
+        let supplementary = <P as DataProvider<NormalizerNfkdTablesV1>>::load(provider)?;
+        let pairs = <P as DataProvider<NormalizerNfcV1>>::load(provider)?;
+        let characters = OwnedCharacterData {
+            decompositions,
+            tables,
+            supplementary: Some(supplementary),
+        };
+        Self::over(DataMarkerInfo::NormalizerNfkdDataV1, characters, pairs)
+    }
+
+    /// A normalizer over data and pairs that were loaded, if they meet the written conditions.
+    fn over(
+        marker: DataMarkerInfo,
+        characters: OwnedCharacterData,
+        pairs: CanonicalCompositions,
+    ) -> Result<Self, DataError>
+        ensures ok { IfOk result (λ n. (data_and_pairs_of n ≡ (characters_owned characters false, pairs)) ×
+            SuitsComposing (characters_owned characters false, pairs)) }
+        ensures err { IfErr result (RefusesToCompose marker (characters_owned characters false, pairs)) }
+    {
+        let borrowed = characters.as_borrowed(false);
+        let bounds = Bounds::of_cap(borrowed.cap());
+        let loaded = LoadedData::new(borrowed, bounds, Some(&pairs), None);
+        check(&loaded, marker, &COMPOSING)?;
+        Ok(ComposingNormalizer { characters, pairs })
+    }
+
+    /// Returns the normalizer that borrows this one's data.
+    pub fn as_borrowed(&self) -> ComposingNormalizerBorrowed<'_>
+        ensures held { composing_data_of_borrowed result ≡ composing_data_of self.now }
+        ensures pairs { pairs_of_borrowed result ≡ pairs_of self.now }
+    {
+        let characters = self.characters.as_borrowed(false);
+        let bounds = Bounds::of_cap(characters.cap());
+        NormalizerBorrowed {
+            form: ComposingForm {
+                characters: characters.passing_unseen_below(bounds.decomposition),
+                pairs: &self.pairs,
+                bounds,
+            },
+        }
+    }
+}

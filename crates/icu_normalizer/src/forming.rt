@@ -1,0 +1,286 @@
+//! What the decomposing and the composing form differ in, as one trait: every call on text is written once over it.
+ghost use Rattle.std.specs.Prelude.{◌≡◌, ◌<◌, ◌||◌, ◌∷◌, [], nat_lt, not, ℕ, Bool, true, false, IfOk, IfSome};
+ghost use Rattle.std.specs.Prelude.{◌≤◌, drop, length, IsTrue, IsOk, IsOkUnless, IsErrOf, Option, Some, None};
+ghost use Rattle.std.specs.Prelude.{if◌then◌else◌};
+ghost use Rattle.std.specs.Char.{IsScalar};
+ghost use Rattle.normal_forms.specs.Decomposition.{expand};
+ghost use Rattle.normal_forms.specs.ShortRuns.{places};
+ghost use Rattle.normalizer_conditions.specs.AcceptedData.{SuitsTexts};
+ghost use Rattle.normalizer_tables.specs.Characters.{class_of_itself, has_class_form, reading_of_word};
+ghost use Rattle.normalizer_tables.specs.PairConditions.{is_passed};
+ghost use Rattle.normalizer_text.specs.Encodings.{decoded_in, first_in};
+ghost use Rattle.normalizer_iterators.specs.Segment.{text};
+ghost use Rattle.icu_normalizer.specs.BeginsApart.{BeginsApart};
+ghost use Rattle.icu_normalizer.specs.Forms.{form_by, form_in, form_of, HasShortUnits, MadeForm};
+ghost use Rattle.icu_normalizer.specs.inner.Offences.{IsFirstOrNone};
+ghost use Rattle.icu_normalizer.specs.inner.Passing.{IsKeptSegment, MayFollow, MayPass};
+ghost use Rattle.icu_normalizer.specs.inner.Writing.{NothingOffered, WritesText};
+
+use crate::composing_form::ComposingForm;
+use crate::decomposing_form::DecomposingForm;
+use crate::kept::{KeptSegment, composite_of, kept_segment};
+use crate::writing::{first_item, write_items};
+use normalizer_iterators::{NormalizeError, SegmentBuffers};
+use normalizer_tables::characters::IgnoredCharacters;
+use normalizer_tables::members::Members;
+use normalizer_tables::word::{is_backward_combining, is_non_round_trip};
+use normalizer_text::output::Output;
+use normalizer_text::{Chars, Step, Units};
+use std::alloc::Global;
+
+/// A form with the data that it is made by.
+pub trait Forming {
+    /// The form, and the reading by which it is made.
+    ghost made: { Self → MadeForm };
+
+    /// Which characters are passed on as they are, and of which class each is: one of class 0 is so wherever it comes,
+    /// a mark unless its class is less than the one before.
+    ghost passed_class: { Self → ℕ → Option ℕ };
+
+    /// The bound below which each is so, as a starter.
+    ghost bound: { Self → ℕ };
+
+    /// Whether the last one is held back if another one follows.
+    ghost held_back: { Bool };
+
+    /// Which characters begin apart.
+    ghost beginning: { Self → ℕ → Bool };
+
+    /// Returns the class of a character that is passed on as it is: wherever it comes if that is 0, otherwise unless
+    /// the class before is greater.
+    fn passed_class(&self, character: char) -> Option<u8>
+        ensures { result ≡ passed_class self.now character };
+
+    /// Returns the bound below which every character is passed on, with class 0.
+    fn passing_bound(&self) -> u32
+        ensures { result ≡ bound self.now };
+
+    /// Whether a character that passes may be changed by what follows it.
+    fn holds_back(&self) -> bool
+        ensures { result ≡ held_back };
+
+    /// Whether what begins with a character is normalized apart from what comes before.
+    fn begins(&self, character: char) -> bool
+        ensures { result ≡ beginning self.now character };
+
+    /// Returns the segment that begins with the first step, if it is seen to be well-formed and normalized while it is
+    /// read.
+    fn kept_segment<U: Units>(&self, units: U, first: Step) -> Option<KeptSegment>
+        requires some { 0 < length (U.units units) }
+        requires first { first ≡ first_in U.encoding (U.units units) }
+        ensures kept { let m = made self.now in IfSome result (λ kept. IsKeptSegment (beginning self.now) U.encoding
+            m.reading m.form (U.units units) kept.end) }
+        ensures next { IfSome result (λ kept.
+            IfSome kept.next (λ next. next ≡ first_in U.encoding (drop kept.end (U.units units)))) };
+
+    /// The form of a character alone, if its list is that.
+    fn form_of_one(&self, character: char) -> Option<Members<'_>>
+        ensures { IfSome result (λ members. members ≡ form_of (made self.now) (character ∷ [])) };
+
+    /// Returns the form of two characters, if that is seen to be one character.
+    fn form_of_two(&self, first: char, second: char) -> Option<char>
+        ensures { IfSome result (λ c. form_of (made self.now) (first ∷ second ∷ []) ≡ c ∷ []) };
+
+    /// Makes empty buffers for the forms of short texts.
+    fn segment_buffers(&self) -> SegmentBuffers
+        ensures { text result ≡ [] };
+
+    /// Makes the form of what the units decode to in the buffers. Returns whether it fits: whether the lists of the
+    /// characters have at most `places` members together.
+    fn short_form<U: Units>(&self, units: U, buffers: &mut SegmentBuffers) -> bool
+        ensures form { IsTrue result → text buffers.new ≡ form_in (made self.now) U.encoding (U.units units) }
+        ensures fits { length (expand (made self.now).reading (decoded_in U.encoding (U.units units))) ≤ places →
+            IsTrue result };
+
+    /// Writes the form of what the units decode to as an iterator yields it.
+    fn write_items<U: Units, O: Output<U>>(
+        &self,
+        units: U,
+        output: &mut O,
+    ) -> Result<(), NormalizeError>
+        ensures text { WritesText U.encoding O.Output NothingOffered
+            (form_in (made self.now) U.encoding (U.units units)) output.old result output.new }
+        ensures room { HasShortUnits (made self.now) U.encoding (U.units units) →
+            ¬ IsErrOf result NormalizeError.Memory };
+
+    /// Returns the first character of the form of what the units decode to, if there is one.
+    fn first_item<U: Units>(&self, units: U) -> Result<Option<char>, NormalizeError>
+        ensures first { IfOk result (IsFirstOrNone (form_in (made self.now) U.encoding (U.units units))) }
+        ensures room { HasShortUnits (made self.now) U.encoding (U.units units) → IsOk result }
+        ensures refused { IsOkUnless result NormalizeError.Memory };
+
+    /// Returns the allocator of the data.
+    fn allocator(&self) -> Global;
+
+    /// Characters that pass with class 0 are normalized apart, those that pass with another may follow marks of lower
+    /// classes, and those below the bound pass; what `begins` accepts is normalized apart from what comes before.
+    fn passed_characters_stand_apart(&self)
+        ensures apart { (c : ℕ) → IsScalar c → passed_class self.now c ≡ Some 0 →
+            MayPass (made self.now).reading (made self.now).form held_back c }
+        ensures follow { (c k : ℕ) → IsScalar c → passed_class self.now c ≡ Some k → 0 < k →
+            MayFollow (made self.now).reading (made self.now).form held_back c k }
+        ensures begins { (c : ℕ) → IsScalar c → beginning self.now c ≡ true →
+            BeginsApart (made self.now).reading (made self.now).form c }
+        ensures below { (c : ℕ) → c < bound self.now → passed_class self.now c ≡ Some 0 };
+
+    /// The data satisfy the hypotheses of the laws of the form.
+    ghost suits: { (f : Self) → SuitsTexts (made f).reading (made f).form };
+}
+
+impl<'a> Forming for DecomposingForm<'a> {
+    ghost use Rattle.normal_forms.specs.declared.Form.TheVariants.{Decomposing};
+
+    ghost made = { λ f. form_by f.characters [] Decomposing };
+
+    ghost passed_class = { λ f c. if nat_lt c f.bounds.decomposition then Some 0
+        else class_of_itself (reading_of_word f.characters c) };
+
+    ghost bound = { λ f. f.bounds.decomposition };
+
+    ghost held_back = { false };
+
+    ghost beginning = { λ f c. nat_lt c f.bounds.decomposition || not (has_class_form f.characters c) };
+
+    fn passed_class(&self, character: char) -> Option<u8> {
+        if (character as u32) < self.bounds.decomposition {
+            return Some(0);
+        }
+        let word = self.characters.word_of(character);
+        self.characters.class_of_itself(character, word)
+    }
+
+    fn passing_bound(&self) -> u32 {
+        self.bounds.decomposition
+    }
+
+    fn holds_back(&self) -> bool {
+        false
+    }
+
+    fn begins(&self, character: char) -> bool {
+        (character as u32) < self.bounds.decomposition || !self.characters.has_class_form(character)
+    }
+
+    fn kept_segment<U: Units>(&self, _units: U, _first: Step) -> Option<KeptSegment> {
+        None
+    }
+
+    #[inline(always)]
+    fn form_of_one(&self, character: char) -> Option<Members<'_>> {
+        Some(
+            self.characters
+                .members(character, IgnoredCharacters::Dropped),
+        )
+    }
+
+    fn form_of_two(&self, _first: char, _second: char) -> Option<char> {
+        None
+    }
+
+    fn segment_buffers(&self) -> SegmentBuffers {
+        SegmentBuffers::new(&self.characters)
+    }
+
+    fn short_form<U: Units>(&self, units: U, buffers: &mut SegmentBuffers) -> bool {
+        buffers.decompose(&self.characters, IgnoredCharacters::Dropped, units)
+    }
+
+    fn write_items<U: Units, O: Output<U>>(
+        &self,
+        units: U,
+        output: &mut O,
+    ) -> Result<(), NormalizeError> {
+        write_items(self.items(Chars::new(units))?, output)
+    }
+
+    fn first_item<U: Units>(&self, units: U) -> Result<Option<char>, NormalizeError> {
+        first_item(self.items(Chars::new(units))?)
+    }
+
+    fn allocator(&self) -> Global {
+        self.characters.allocator()
+    }
+
+    fn passed_characters_stand_apart(&self) {}
+
+    ghost suits = { λ f. f.serves.laws };
+}
+
+impl<'a> Forming for ComposingForm<'a> {
+    ghost use Rattle.normal_forms.specs.declared.Form.TheVariants.{Composing};
+
+    ghost made = { λ f. form_by f.characters f.pairs.now Composing };
+
+    ghost passed_class = { λ f c. if is_passed f.characters f.bounds c then Some 0 else None };
+
+    ghost bound = { λ f. f.bounds.composition };
+
+    ghost held_back = { true };
+
+    ghost beginning = { λ f c. is_passed f.characters f.bounds c };
+
+    fn passed_class(&self, character: char) -> Option<u8> {
+        if self.begins(character) {
+            Some(0)
+        } else {
+            None
+        }
+    }
+
+    fn passing_bound(&self) -> u32 {
+        self.bounds.composition
+    }
+
+    fn holds_back(&self) -> bool {
+        true
+    }
+
+    #[tactic(auto, unfolding(normalizer_tables::specs::PairConditions::is_passed))]
+    fn begins(&self, character: char) -> bool {
+        let word = self.characters.word_of(character);
+        (!is_non_round_trip(word) && !is_backward_combining(word))
+            || (character as u32) < self.bounds.composition
+    }
+
+    #[inline(always)]
+    fn kept_segment<U: Units>(&self, units: U, first: Step) -> Option<KeptSegment> {
+        kept_segment(self, units, first)
+    }
+
+    fn form_of_one(&self, _character: char) -> Option<Members<'_>> {
+        None
+    }
+
+    fn form_of_two(&self, first: char, second: char) -> Option<char> {
+        composite_of(self, first, second)
+    }
+
+    fn segment_buffers(&self) -> SegmentBuffers {
+        SegmentBuffers::new(&self.characters)
+    }
+
+    fn short_form<U: Units>(&self, units: U, buffers: &mut SegmentBuffers) -> bool {
+        let ignored = IgnoredCharacters::Dropped;
+        buffers.compose(&self.characters, ignored, self.pairs, units)
+    }
+
+    fn write_items<U: Units, O: Output<U>>(
+        &self,
+        units: U,
+        output: &mut O,
+    ) -> Result<(), NormalizeError> {
+        write_items(self.items(Chars::new(units))?, output)
+    }
+
+    fn first_item<U: Units>(&self, units: U) -> Result<Option<char>, NormalizeError> {
+        first_item(self.items(Chars::new(units))?)
+    }
+
+    fn allocator(&self) -> Global {
+        self.characters.allocator()
+    }
+
+    fn passed_characters_stand_apart(&self) {}
+
+    ghost suits = { λ f. f.serves.laws };
+}

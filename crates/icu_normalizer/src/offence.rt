@@ -1,0 +1,56 @@
+//! The first place at which an input is not normalized: one search, on which every check is based.
+ghost use Rattle.std.specs.Prelude.{IfOk, IsOk, IsOkUnless};
+ghost use Rattle.icu_normalizer.specs.Checks.{IsLastingOffence};
+ghost use Rattle.icu_normalizer.specs.Forms.{HasShortUnits};
+ghost use Rattle.icu_normalizer.specs.inner.Offences.{IsCutUnlessNormalized};
+
+use crate::forming::Forming;
+use crate::writing::form_to;
+use normalizer_text::Offence;
+use normalizer_iterators::NormalizeError;
+use normalizer_text::check_sink::{Expected, IsNormalizedSink};
+
+/// The cut of the units, or nothing if they are well-formed and normalized.
+pub(crate) fn cut_of<U: Expected, N: Forming>(
+    normalizer: &N,
+    units: U,
+) -> Result<Option<usize>, NormalizeError>
+    ensures cut { IfOk result (IsCutUnlessNormalized
+        U.encoding (N.made normalizer.now).reading (N.made normalizer.now).form (U.units units)) }
+    ensures room { HasShortUnits (N.made normalizer.now) U.encoding (U.units units) → IsOk result }
+    ensures refused { IsOkUnless result NormalizeError.Memory }
+{
+    let mut expected = IsNormalizedSink::new(units);
+    match form_to(normalizer, units, &mut expected) {
+        Ok(()) => Ok(None),
+        Err(NormalizeError::Sink) => Ok(Some(units.len() - expected.remaining_len())),
+        Err(NormalizeError::Memory) => Err(NormalizeError::Memory),
+    }
+}
+
+/// The first mismatch of the units, which lasts whatever is appended to them, or none if they are well-formed and
+/// normalized.
+pub(crate) fn offence_of<U: Expected, N: Forming>(
+    normalizer: &N,
+    units: U,
+) -> Result<Option<Offence>, NormalizeError>
+    ensures offence { IfOk result (IsLastingOffence (N.made normalizer.now) U.encoding (U.units units)) }
+    ensures room { HasShortUnits (N.made normalizer.now) U.encoding (U.units units) → IsOk result }
+    ensures refused { IsOkUnless result NormalizeError.Memory }
+{
+    let Some(place) = cut_of(normalizer, units)? else {
+        return Ok(None);
+    };
+    let rest = units.after(place);
+    let Some(step) = rest.first_step() else {
+        unreachable!()
+    };
+    let Some(wanted) = normalizer.first_item(rest)? else {
+        unreachable!()
+    };
+    Ok(Some(Offence {
+        place,
+        found: step.character,
+        wanted,
+    }))
+}

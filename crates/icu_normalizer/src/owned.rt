@@ -1,0 +1,186 @@
+//! The forms of text, bytes and 16-bit units, borrowed from the input if it is already normalized.
+ghost use Rattle.std.specs.Prelude.{◌≡◌, ◌++◌, [], chars, IfOk, IsOk, IsOkUnless, OnOk, string_bytes};
+ghost use Rattle.std.specs.Cow.{cow_slice_items, cow_str_bytes, IsBorrowedSlice, IsBorrowedStr};
+ghost use Rattle.normalizer_text.specs.Encodings.{Encoding};
+ghost use Rattle.normalizer_text.specs.EncodedForm.{encoded_form};
+ghost use Rattle.normalizer_text.specs.InputCut.{IsInputCut, IsInputNormalized};
+ghost use Rattle.icu_normalizer.specs.Forms.{HasShortUnits};
+ghost use Rattle.icu_normalizer.specs.Owned.{ReturnsForm, ReturnsFormOfText};
+ghost use Rattle.icu_normalizer.specs.inner.Owned.{WroteUnlessOwn};
+
+use crate::borrowed::NormalizerBorrowed;
+use crate::forming::Forming;
+use crate::offence::cut_of;
+use crate::writing::form_to;
+use normalizer_iterators::NormalizeError;
+use normalizer_text::check_sink::Expected;
+use normalizer_text::output::Output;
+use normalizer_text::sink::SinkError;
+use normalizer_text::{Units, text_of};
+use std::alloc::Global;
+use std::borrow::{CowSlice, CowStr};
+
+/// An output that grows, and makes room at once.
+trait Growing<U: Units>: Output<U> {
+    /// Makes room for this many more units, or refuses it.
+    fn make_room(&mut self, len: usize) -> Result<(), SinkError>
+        ensures { OnOk result (Self.taken self.new ≡ Self.taken self.old) };
+}
+
+impl<'t> Growing<&'t str> for String {
+    fn make_room(&mut self, len: usize) -> Result<(), SinkError>
+        ensures { OnOk result (string_bytes self.new ≡ string_bytes self.old) }
+    {
+        self.reserve(len).map_err(|_| SinkError)
+    }
+}
+
+impl<'t> Growing<&'t [u8]> for String {
+    fn make_room(&mut self, len: usize) -> Result<(), SinkError>
+        ensures { OnOk result (string_bytes self.new ≡ string_bytes self.old) }
+    {
+        self.reserve(len).map_err(|_| SinkError)
+    }
+}
+
+impl<'t> Growing<&'t [u16]> for Vec<u16> {
+    fn make_room(&mut self, len: usize) -> Result<(), SinkError>
+        ensures { OnOk result (self.new.items ≡ self.old.items) }
+    {
+        self.reserve(len).map_err(|_| SinkError)
+    }
+}
+
+/// Writes the form of units that are cut at a place: the prefix as it is, and the form of the rest. Room for as many
+/// units is made first.
+fn write_from_cut<U: Units, N: Forming, O: Growing<U>>(
+    normalizer: &N,
+    units: U,
+    place: usize,
+    output: &mut O,
+) -> Result<(), NormalizeError>
+    requires { IsInputCut U.encoding (N.made normalizer.now).reading (N.made normalizer.now).form
+        (U.units units) place }
+    ensures { let m = N.made normalizer.now in OnOk result (O.taken output.new ≡
+        O.taken output.old ++ encoded_form U.encoding m.reading m.form (U.units units)) }
+{
+    output.make_room(units.len())?;
+    output.write_piece(units.before(place))?;
+    form_to(normalizer, units.after(place), output)
+}
+
+/// Writes the form of the units, unless they are well-formed and normalized. A refused write is reported as `Memory`.
+fn write_unless_own<U: Expected, N: Forming, O: Growing<U>>(
+    normalizer: &N,
+    units: U,
+    output: &mut O,
+) -> Result<bool, NormalizeError>
+    ensures wrote { IfOk result (λ own. WroteUnlessOwn O.taken (N.made normalizer.now)
+        U.encoding (U.units units) output.old own output.new) }
+    ensures room { let m = N.made normalizer.now in HasShortUnits m U.encoding (U.units units) →
+        IsInputNormalized U.encoding m.reading m.form (U.units units) → IsOk result }
+    ensures refused { IsOkUnless result NormalizeError.Memory }
+{
+    let Some(place) = cut_of(normalizer, units)? else {
+        return Ok(true);
+    };
+    match write_from_cut(normalizer, units, place, output) {
+        Ok(()) => Ok(false),
+        Err(_) => Err(NormalizeError::Memory),
+    }
+}
+
+/// The form of a text.
+fn form_of_utf8<'t, N: Forming>(
+    normalizer: &N,
+    text: &'t str,
+) -> Result<CowStr<'t, Global>, NormalizeError>
+    ensures { ReturnsForm cow_str_bytes IsBorrowedStr
+        (N.made normalizer.now) Encoding.Utf8 text.now result }
+{
+    let mut owned = String::new(normalizer.allocator());
+    if write_unless_own::<&'t str, N, String>(normalizer, text, &mut owned)? {
+        Ok(CowStr::Borrowed(text))
+    } else {
+        Ok(CowStr::Owned(owned))
+    }
+}
+
+/// The form of what bytes decode to.
+fn form_of_bytes<'t, N: Forming>(
+    normalizer: &N,
+    bytes: &'t [u8],
+) -> Result<CowStr<'t, Global>, NormalizeError>
+    ensures { ReturnsForm cow_str_bytes IsBorrowedStr
+        (N.made normalizer.now) Encoding.Utf8 bytes.now result }
+{
+    let mut owned = String::new(normalizer.allocator());
+    if write_unless_own::<&'t [u8], N, String>(normalizer, bytes, &mut owned)? {
+        Ok(CowStr::Borrowed(text_of(bytes)))
+    } else {
+        Ok(CowStr::Owned(owned))
+    }
+}
+
+/// The form of what 16-bit units decode to.
+fn form_of_utf16<'t, N: Forming>(
+    normalizer: &N,
+    units: &'t [u16],
+) -> Result<CowSlice<'t, u16, Global>, NormalizeError>
+    ensures { ReturnsForm cow_slice_items IsBorrowedSlice
+        (N.made normalizer.now) Encoding.Utf16 units.now result }
+{
+    let mut owned = Vec::new(normalizer.allocator());
+    if write_unless_own::<&'t [u16], N, Vec<u16>>(normalizer, units, &mut owned)? {
+        Ok(CowSlice::Borrowed(units))
+    } else {
+        Ok(CowSlice::Owned(owned))
+    }
+}
+
+impl<F: Forming> NormalizerBorrowed<F> {
+    /// Returns the normal form of `text`. It borrows from `text` exactly if `text` is already normalized. Exactly
+    /// the texts equivalent to `text` have this form.
+    ///
+    /// # Errors
+    /// `Memory` if an allocation was refused. If `text` is normalized and at most 17 characters are buffered at a
+    /// time, none is made.
+    ///
+    /// # Examples
+    /// ```rust
+    /// let key = normalizer.normalize(text)?;
+    /// ```
+    pub fn normalize<'t>(&self, text: &'t str) -> Result<CowStr<'t, Global>, NormalizeError>
+        ensures { ReturnsFormOfText (F.made self.now.form) (chars text.now) result }
+    {
+        form_of_utf8(&self.form, text)
+    }
+
+    /// Returns the normal form of what `bytes` decode to, in UTF-8. It borrows from `bytes` exactly if they are
+    /// well-formed and already normalized. Each maximal ill-formed subpart reads as U+FFFD.
+    ///
+    /// # Errors
+    /// `Memory` if an allocation was refused. If `bytes` are normalized and at most 17 characters are buffered at a
+    /// time, none is made.
+    pub fn normalize_utf8<'t>(&self, bytes: &'t [u8]) -> Result<CowStr<'t, Global>, NormalizeError>
+        ensures { ReturnsForm cow_str_bytes IsBorrowedStr (F.made self.now.form) Encoding.Utf8 bytes.now result }
+    {
+        form_of_bytes(&self.form, bytes)
+    }
+
+    /// Returns the normal form of what 16-bit units decode to, in UTF-16. It borrows from `units` exactly if they
+    /// are well-formed and already normalized. Each unpaired surrogate reads as U+FFFD.
+    ///
+    /// # Errors
+    /// `Memory` if an allocation was refused. If `units` are normalized and at most 17 characters are buffered at a
+    /// time, none is made.
+    pub fn normalize_utf16<'t>(
+        &self,
+        units: &'t [u16],
+    ) -> Result<CowSlice<'t, u16, Global>, NormalizeError>
+        ensures { ReturnsForm cow_slice_items IsBorrowedSlice
+            (F.made self.now.form) Encoding.Utf16 units.now result }
+    {
+        form_of_utf16(&self.form, units)
+    }
+}

@@ -1,0 +1,157 @@
+//! The ends of runs of characters that are passed on as they are, and of the segments between them.
+ghost use Rattle.std.specs.Prelude.{◌≡◌, ◌<◌, ◌≤◌, drop, length, take, IfSome};
+ghost use Rattle.normalizer_text.specs.Encodings.{first_in};
+ghost use Rattle.normalizer_text.specs.InputCut.{IsInputNormalized};
+ghost use Rattle.icu_normalizer.specs.inner.Passing.{IsKeptTo, IsPassedOn, IsPart, IsRunEnd, IsSegmentEnd};
+ghost use Rattle.icu_normalizer.specs.inner.Passing.{next_class};
+
+use crate::forming::Forming;
+use normalizer_text::{Chars, Step, Units};
+
+// U+FFFD, as which errors read.
+const REPLACEMENT: u32 = char::REPLACEMENT_CHARACTER as u32;
+
+/// A run of characters that are passed on as they are: where the marks at its end begin, and where it ends.
+#[derive(Clone, Copy)]
+struct Run {
+    marks: usize,
+    end: usize,
+}
+
+/// The end of a segment, the step that follows, and whether that is passed on as it is.
+#[derive(Clone, Copy)]
+pub(crate) struct Segment {
+    pub(crate) end: usize,
+    pub(crate) next: Option<Step>,
+    pub(crate) is_before_run: bool,
+}
+
+/// Returns the class of a step that is passed on as it is after a character of class `last`.
+#[inline(always)]
+#[tactic(auto, unfolding(crate::specs::inner::Passing::next_class, crate::specs::inner::Passing::class_of_step, crate::specs::inner::Passing::following))]
+fn next_class<N: Forming>(normalizer: &N, last: u8, step: Step) -> Option<u8>
+    ensures { result ≡ next_class (N.passed_class normalizer.now) last step }
+{
+    if step.character == char::REPLACEMENT_CHARACTER {
+        return None;
+    }
+    let class = normalizer.passed_class(step.character)?;
+    if class == 0 || last <= class {
+        Some(class)
+    } else {
+        None
+    }
+}
+
+/// Returns the run of characters that are passed on as they are: marks as long as their classes don't fall.
+fn run_end<U: Units, N: Forming>(normalizer: &N, units: U) -> Run
+    ensures { IsRunEnd (N.passed_class normalizer.now) U.encoding (U.units units) result.marks result.end }
+{
+    normalizer.passed_characters_stand_apart();
+    units.low_units_are_of_low_characters();
+    let limit = units.low_unit(normalizer.passing_bound().min(REPLACEMENT));
+    let mut end = units.end_of_below(0, limit);
+    let mut marks = end;
+    let mut last = 0;
+    while end < units.len() {
+        let step = units.step_at(end);
+        let Some(class) = next_class(normalizer, last, step) else {
+            return Run { marks, end };
+        };
+        if class == 0 {
+            end = units.end_of_below(end + step.width, limit);
+            marks = end;
+        } else {
+            end += step.width;
+        }
+        last = class;
+    }
+    Run { marks, end }
+}
+
+/// Returns the first step of the units, which may have been read before.
+#[inline(always)]
+pub(crate) fn first_step<U: Units>(units: U, first: Option<Step>) -> Step
+    requires some { 0 < length (U.units units) }
+    requires first { IfSome first (λ first. first ≡ first_in U.encoding (U.units units)) }
+    ensures { result ≡ first_in U.encoding (U.units units) }
+{
+    match first {
+        Some(first) => first,
+        None => units.step_at(0),
+    }
+}
+
+/// Returns the segment that begins with the first step: it ends before the next character that is normalized apart.
+#[inline(always)]
+pub(crate) fn front_segment<U: Units, N: Forming>(normalizer: &N, units: U, first: Step) -> Segment
+    requires some { 0 < length (U.units units) }
+    requires first { first ≡ first_in U.encoding (U.units units) }
+    ensures end { IsSegmentEnd (N.beginning normalizer.now) U.encoding (U.units units) result.end }
+    ensures next { IfSome result.next (λ next. next ≡ first_in U.encoding (drop result.end (U.units units))) }
+{
+    let mut end = first.width;
+    while end < units.len() {
+        let step = units.step_at(end);
+        if normalizer.begins(step.character) {
+            return Segment {
+                end,
+                next: Some(step),
+                is_before_run: normalizer.passed_class(step.character).is_some(),
+            };
+        }
+        end += step.width;
+    }
+    Segment {
+        end,
+        next: None,
+        is_before_run: false,
+    }
+}
+
+/// Returns the end of the front of the units that is passed on as it is: of a run, without the last character if it may
+/// compose with what follows, and without the marks at its end if what follows may be ordered among them.
+pub(crate) fn passed_end<U: Units, N: Forming>(normalizer: &N, units: U) -> usize
+    ensures handed { IsPassedOn (N.passed_class normalizer.now) (N.beginning normalizer.now) N.held_back
+        U.encoding (U.units units) result }
+    ensures part { let m = N.made normalizer.now in 0 < result → IsPart U.encoding m.reading m.form (U.units units)
+        result × IsInputNormalized U.encoding m.reading m.form (take result (U.units units)) }
+{
+    normalizer.passed_characters_stand_apart();
+    let run = run_end(normalizer, units);
+    if run.end == units.len() {
+        return run.end;
+    }
+    if normalizer.holds_back() {
+        return match units.before(run.end).last_step() {
+            Some(step) => run.end - step.width,
+            None => 0,
+        };
+    }
+    if run.marks < run.end && normalizer.begins(units.step_at(run.end).character) {
+        return run.end;
+    }
+    run.marks
+}
+
+/// Returns the end of the front of the units that is kept as it is: runs, and segments between them that are seen to
+/// stay.
+pub(crate) fn kept_end<U: Units, N: Forming>(normalizer: &N, units: U) -> usize
+    ensures { let m = N.made normalizer.now in IsKeptTo U.encoding m.reading m.form (U.units units) result }
+{
+    normalizer.passed_characters_stand_apart();
+    let mut end = passed_end(normalizer, units);
+    let mut first = None;
+    while end < units.len() {
+        let rest = units.after(end);
+        let Some(kept) = normalizer.kept_segment(rest, first_step(rest, first)) else {
+            return end;
+        };
+        end += kept.end;
+        first = kept.next;
+        if first.is_none() {
+            end += passed_end(normalizer, units.after(end));
+        }
+    }
+    end
+}

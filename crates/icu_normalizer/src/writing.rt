@@ -1,0 +1,240 @@
+//! Writing the characters of an iterator to an output.
+ghost use Rattle.std.specs.Prelude.{ℕ, ◌≡◌, ◌<◌, ◌∷◌, [], List, drop, length};
+ghost use Rattle.std.specs.Prelude.{Err, IfErr, IfOk, IfSome, IsErrOf, IsOk, IsOkUnless};
+ghost use Rattle.std.specs.Iterator.{IsFinite};
+ghost use Rattle.normalizer_text.specs.Encodings.{first_in};
+ghost use Rattle.normalizer_iterators.specs.Items.{SpellsOk, SpellsUnless};
+ghost use Rattle.icu_normalizer.specs.Forms.{form_in, HasShortUnits};
+ghost use Rattle.icu_normalizer.specs.inner.Offences.{IsFirstOrNone};
+ghost use Rattle.icu_normalizer.specs.inner.Passing.{IsSegmentEnd};
+ghost use Rattle.icu_normalizer.specs.Writing.{TellsLengthFirst};
+ghost use Rattle.icu_normalizer.specs.inner.Writing.{NothingOffered, WritesPart, WritesText, WritesUnits};
+
+use crate::forming::Forming;
+use crate::runs::{Segment, first_step, front_segment, kept_end};
+use normalizer_iterators::{NormalizeError, SegmentBuffers};
+use normalizer_tables::members::Members;
+use normalizer_text::output::Output;
+use normalizer_text::{Step, Units};
+
+/// Writes the characters, each after the one before, up to the first error.
+pub(crate) fn write_items<U: Units, I, O: Output<U>>(
+    items: I,
+    output: &mut O,
+) -> Result<(), NormalizeError>
+where
+    I: Iterator<Item = Result<char, NormalizeError>> + Drop,
+    requires can { I.can_next items }
+    requires ends { IsFinite (I.remaining items) }
+    ensures text { (x : List ℕ) → SpellsUnless I.next_gives NormalizeError.Memory items x
+        → WritesText U.encoding O.Output NothingOffered x output.old result output.new }
+    ensures room { (x : List ℕ) → SpellsOk I.next_gives items x → ¬ IsErrOf result NormalizeError.Memory }
+{
+    for item in items {
+        output.write_char(item?)?;
+    }
+    Ok(())
+}
+
+/// Returns the first character of an iterator, if there is one.
+pub(crate) fn first_item<I>(mut items: I) -> Result<Option<char>, NormalizeError>
+where
+    I: Iterator<Item = Result<char, NormalizeError>> + Drop,
+    requires { I.can_next items }
+    ensures first { (x : List ℕ) → SpellsUnless I.next_gives NormalizeError.Memory items x →
+        IfOk result (IsFirstOrNone x) × IsOkUnless result NormalizeError.Memory }
+    ensures room { (x : List ℕ) → SpellsOk I.next_gives items x → IsOk result }
+{
+    match items.next() {
+        Some(Ok(first)) => Ok(Some(first)),
+        Some(Err(fault)) => Err(fault),
+        None => Ok(None),
+    }
+}
+
+/// Writes the members of a list, each after the one before.
+#[inline(always)]
+fn write_members<U: Units, O: Output<U>>(
+    members: &Members<'_>,
+    output: &mut O,
+) -> Result<(), NormalizeError>
+    ensures text { WritesText U.encoding O.Output NothingOffered members.now output.old result output.new }
+    ensures room { ¬ IsErrOf result NormalizeError.Memory }
+{
+    if let Some(two) = members.as_two() {
+        return write_text::<U, O>(&two, output);
+    }
+    if let Some(three) = members.as_three() {
+        return write_text::<U, O>(&three, output);
+    }
+    let mut place = 0;
+    while place < members.len() {
+        output.write_char(members.at(place))?;
+        place += 1;
+    }
+    Ok(())
+}
+
+/// Writes characters, each after the one before.
+#[inline(always)]
+fn write_text<U: Units, O: Output<U>>(text: &[char], output: &mut O) -> Result<(), NormalizeError>
+    ensures text { WritesText U.encoding O.Output NothingOffered text.now output.old result output.new }
+    ensures room { ¬ IsErrOf result NormalizeError.Memory }
+{
+    let mut place = 0;
+    while place < text.len() {
+        output.write_char(text[place])?;
+        place += 1;
+    }
+    Ok(())
+}
+
+/// Returns the form of what the units decode to, if these are two characters and it is seen to be one. The first step
+/// was read before.
+#[inline(always)]
+fn form_of_pair<U: Units, N: Forming>(normalizer: &N, units: U, first: Step) -> Option<char>
+    requires some { 0 < length (U.units units) }
+    requires first { first ≡ first_in U.encoding (U.units units) }
+    ensures { IfSome result (λ c. form_in (N.made normalizer.now) U.encoding (U.units units) ≡ c ∷ []) }
+{
+    if first.width >= units.len() {
+        return None;
+    }
+    let second = units.step_at(first.width);
+    if second.width != units.len() - first.width {
+        return None;
+    }
+    normalizer.form_of_two(first.character, second.character)
+}
+
+/// Writes the form of what the units decode to, character by character: from the list of a single character, from what
+/// two compose to, from the buffers if it fits, or from an iterator. The first step was read before.
+fn write_segment<U: Units, N: Forming, O: Output<U>>(
+    normalizer: &N,
+    units: U,
+    first: Step,
+    buffers: &mut SegmentBuffers,
+    output: &mut O,
+) -> Result<(), NormalizeError>
+    requires some { 0 < length (U.units units) }
+    requires first { first ≡ first_in U.encoding (U.units units) }
+    ensures text { WritesText U.encoding O.Output NothingOffered
+        (form_in (N.made normalizer.now) U.encoding (U.units units)) output.old result output.new }
+    ensures room { HasShortUnits (N.made normalizer.now) U.encoding (U.units units) →
+        ¬ IsErrOf result NormalizeError.Memory }
+{
+    if first.width == units.len() {
+        if let Some(members) = normalizer.form_of_one(first.character) {
+            return write_members::<U, O>(&members, output);
+        }
+    }
+    if let Some(composite) = form_of_pair(normalizer, units, first) {
+        return write_text::<U, O>(&[composite], output);
+    }
+    if normalizer.short_form(units, buffers) {
+        return write_text::<U, O>(buffers.text(), output);
+    }
+    normalizer.write_items(units, output)
+}
+
+/// Writes the front of the units that is kept as it is, in one piece, and returns its end: 0 if there is none.
+fn write_run<U: Units, N: Forming, O: Output<U>>(
+    normalizer: &N,
+    units: U,
+    output: &mut O,
+) -> Result<usize, NormalizeError>
+    ensures none { IfOk result (λ end. end ≡ 0 → output.new ≡ output.old) }
+    ensures part { IfOk result (λ end. 0 < end → WritesPart U.encoding O.Output (N.made normalizer.now)
+        (U.units units) output.old end output.new) }
+    ensures refused { IfErr result (λ fault. WritesUnits U.encoding O.Output (N.made normalizer.now)
+        (U.units units) output.old (Err fault) output.new) }
+    ensures room { ¬ IsErrOf result NormalizeError.Memory }
+{
+    let end = kept_end(normalizer, units);
+    if end > 0 {
+        output.write_piece(units.before(end))?;
+    }
+    Ok(end)
+}
+
+/// Writes the form of the segment at the front of the units, and returns that. The first step may have been read
+/// before.
+#[inline(always)]
+fn write_front_segment<U: Units, N: Forming, O: Output<U>>(
+    normalizer: &N,
+    units: U,
+    first: Option<Step>,
+    buffers: &mut SegmentBuffers,
+    output: &mut O,
+) -> Result<Segment, NormalizeError>
+    requires some { 0 < length (U.units units) }
+    requires first { IfSome first (λ first. first ≡ first_in U.encoding (U.units units)) }
+    ensures segment { IfOk result (λ segment. IsSegmentEnd (N.beginning normalizer.now)
+        U.encoding (U.units units) segment.end) }
+    ensures next { IfOk result (λ segment. IfSome segment.next
+        (λ next. next ≡ first_in U.encoding (drop segment.end (U.units units)))) }
+    ensures part { IfOk result (λ segment. WritesPart U.encoding O.Output (N.made normalizer.now)
+        (U.units units) output.old segment.end output.new) }
+    ensures refused { IfErr result (λ fault. WritesUnits U.encoding O.Output (N.made normalizer.now)
+        (U.units units) output.old (Err fault) output.new) }
+    ensures room { HasShortUnits (N.made normalizer.now) U.encoding (U.units units) →
+        ¬ IsErrOf result NormalizeError.Memory }
+{
+    normalizer.passed_characters_stand_apart();
+    let first = first_step(units, first);
+    let segment = front_segment(normalizer, units, first);
+    write_segment(
+        normalizer,
+        units.before(segment.end),
+        first,
+        buffers,
+        output,
+    )?;
+    Ok(segment)
+}
+
+/// Writes the form of what the units decode to: runs, and the segments between them.
+fn write_parts<U: Units, N: Forming, O: Output<U>>(
+    normalizer: &N,
+    units: U,
+    output: &mut O,
+) -> Result<(), NormalizeError>
+    ensures text { WritesUnits U.encoding O.Output (N.made normalizer.now) (U.units units)
+        output.old result output.new }
+    ensures room { HasShortUnits (N.made normalizer.now) U.encoding (U.units units) →
+        ¬ IsErrOf result NormalizeError.Memory }
+{
+    let mut position = write_run(normalizer, units, output)?;
+    if position == units.len() {
+        return Ok(());
+    }
+    let mut buffers = normalizer.segment_buffers();
+    let mut first = None;
+    while position < units.len() {
+        let rest = units.after(position);
+        let segment = write_front_segment(normalizer, rest, first, &mut buffers, output)?;
+        position += segment.end;
+        first = segment.next;
+        if segment.is_before_run {
+            position += write_run(normalizer, units.after(position), output)?;
+            first = None;
+        }
+    }
+    Ok(())
+}
+
+/// Writes the form of what the units decode to. The output first receives the number of units.
+pub(crate) fn form_to<U: Units, N: Forming, O: Output<U>>(
+    normalizer: &N,
+    units: U,
+    output: &mut O,
+) -> Result<(), NormalizeError>
+    ensures text { WritesUnits U.encoding O.Output (N.made normalizer.now) (U.units units)
+        output.old result output.new }
+    ensures room { HasShortUnits (N.made normalizer.now) U.encoding (U.units units) →
+        ¬ IsErrOf result NormalizeError.Memory }
+    ensures first { TellsLengthFirst O.taken O.hinted (length (U.units units)) output.old result output.new }
+{
+    output.begin(units.len())?;
+    write_parts(normalizer, units, output)
+}

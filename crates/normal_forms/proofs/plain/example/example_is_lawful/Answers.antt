@@ -1,5 +1,0 @@
-use Rattle.normal_forms.proofs.PlainExample.{HasFullLists-example, HasStarterResults-example, HasFaithfulResults-example, HasInhabitedLists-example}
-use Rattle.normal_forms.proofs.plain.example.example_is_lawful.Goals as goal
-
-pub returns : goal.returns
-returns c = record { full = HasFullLists-example; starters = HasStarterResults-example; faithful = HasFaithfulResults-example; inhabited = HasInhabitedLists-example }

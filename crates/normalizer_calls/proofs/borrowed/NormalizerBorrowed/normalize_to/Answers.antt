@@ -1,6 +1,0 @@
-use Rattle.normalizer_text.proofs.StrLemmas.{decoded-chars}
-use Rattle.normalizer_calls.proofs.WritingLemmas.{WritesForm-text}
-use Rattle.normalizer_calls.proofs.borrowed.NormalizerBorrowed.normalize_to.Goals as goal
-
-pub returns : goal.returns
-returns g c = WritesForm-text (decoded-chars c.args.text.now c.utf8.text) c.form_to.ensures.text c.form_to.ensures.room

@@ -1,6 +1,0 @@
-use Rattle.std.proofs.Common.{sym, ◌∙◌}
-use Rattle.normalizer_calls.proofs.PassingLemmas.{form_of_one}
-use Rattle.normalizer_calls.proofs.forming.DecomposingFormForming.form_of_one.Goals as goal
-
-pub returns : goal.returns
-returns c = c.members.ensures ∙ sym (form_of_one _ _ c.args.self.now.serves c.args.character c.ranges.character.0)

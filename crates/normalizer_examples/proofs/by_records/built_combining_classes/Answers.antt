@@ -1,0 +1,10 @@
+use Rattle.normalizer_tables.specs.declared.provider.DataMarkerInfo.TheVariants.{NormalizerNfdDataV1}
+use Rattle.icu_normalizer.specs.ClassData.{RefusesClasses}
+use Rattle.normalizer_built.proofs.AcceptedData.{IsOkUnless-memory}
+use Rattle.normalizer_examples.proofs.by_records.built_combining_classes.Goals as goal
+
+pub returns-clause-refused : goal.returns-clause-refused
+returns-clause-refused c =
+    let met = c.what_is_built_is_accepted.ensures.classes c.requires.0 c.requires.1 _ c.requires.2 in
+    let never = c.data_that_meet_conditions_are_accepted.ensures.refused in
+    IsOkUnless-memory (RefusesClasses NormalizerNfdDataV1 c.args.built.now.packed.canonical) (λ e refuses. never _ _ NormalizerNfdDataV1 e met refuses) _ c.try_new_unstable.ensures.1

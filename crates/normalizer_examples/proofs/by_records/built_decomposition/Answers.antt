@@ -1,0 +1,13 @@
+use Rattle.normalizer_tables.specs.declared.provider.DataMarkerInfo.TheVariants.{NormalizerNfdDataV1}
+use Rattle.icu_normalizer.specs.StepData.{RefusesSteps}
+use Rattle.normalizer_tables.specs.declared.entry.Kind.TheVariants.{Canonical}
+use Rattle.normalizer_packing.specs.ReadBack.{characters_of}
+use Rattle.normalizer_built.proofs.AcceptedData.{IsOkUnless-memory}
+use Rattle.normalizer_examples.proofs.by_records.built_decomposition.Goals as goal
+
+pub returns-clause-refused : goal.returns-clause-refused
+returns-clause-refused c =
+    let met = c.what_is_built_is_accepted.ensures.steps c.requires.0 c.requires.1 _ c.requires.2 in
+    let never = c.data_that_meet_conditions_are_accepted.ensures.refused in
+    let p = c.args.built.now.packed in
+    IsOkUnless-memory (RefusesSteps NormalizerNfdDataV1 (characters_of p Canonical, p.supplement)) (λ e refuses. never _ _ NormalizerNfdDataV1 e met refuses) _ c.try_new_unstable.ensures.1

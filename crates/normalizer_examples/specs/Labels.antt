@@ -1,0 +1,20 @@
+-- Labels of domain names (UTS #46, section 4).
+use Rattle.std.specs.Prelude.{◌≡◌, ℕ, List}
+use Rattle.std.specs.List.{Contains}
+use Rattle.normal_forms.specs.Forms.{nfc}
+use Rattle.normalizer_tables.specs.declared.characters.IgnoredCharacters.TheVariants.{Dropped, Replaced}
+use Rattle.normalizer_tables.specs.Readings.{reading_by}
+use Rattle.icu_normalizer.specs.Uts46.{MapperData}
+
+-- a text mapped: ignored characters are dropped
+abbrev pub mapped : MapperData → List ℕ → List ℕ
+mapped h x = nfc (reading_by h.0 Dropped h.1) x
+
+-- a text validated: each ignored character becomes U+FFFD
+abbrev pub validated : MapperData → List ℕ → List ℕ
+validated h x = nfc (reading_by h.0 Replaced h.1) x
+
+-- mapped text that may be a label: it has no U+FFFD, and validation leaves it as it is
+pub record IsLabel (h : MapperData) (x : List ℕ) : Type 0 where
+  pub no_replacement : ¬ Contains x 0xFFFD
+  pub unchanged : validated h x ≡ x

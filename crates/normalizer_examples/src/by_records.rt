@@ -1,0 +1,105 @@
+//! Normalizing text with data built from plain records.
+ghost use Rattle.std.specs.Prelude.{◌≡◌, IfOk, IsOkUnless, MatchResult};
+ghost use Rattle.normalizer_tables.specs.declared.entry.Kind.TheVariants.{Canonical};
+ghost use Rattle.normalizer_packing.specs.ReadBack.{characters_of};
+ghost use Rattle.normalizer_text.specs.Utf8.{decoded_utf8};
+ghost use Rattle.icu_normalizer.specs.Properties as properties;
+ghost use Rattle.normalizer_builder.specs.Building.{IsSmallest};
+ghost use Rattle.normalizer_builder.specs.Built.{AreBuilt, data_in};
+ghost use Rattle.normalizer_built.specs.RecordedForms.{form_of_data, recorded_form};
+
+use crate::{nfc_of_bytes, nfd_of_bytes};
+use icu_normalizer::properties::{
+    CanonicalCombiningClassMap, CanonicalComposition, CanonicalDecomposition,
+};
+use icu_normalizer::{DataError, NormalizeError};
+use normalizer_builder::laws::{data_that_meet_conditions_are_accepted, what_is_built_is_accepted};
+use normalizer_builder::{Built, Records};
+use normalizer_built::{
+    NormalForm, nfc_normalizer, nfd_normalizer, nfkc_normalizer, nfkd_normalizer,
+};
+use normalizer_records::{BuildError, Record, Uts46Record};
+use std::alloc::Global;
+
+/// Returns the normal form, by plain records, of the text that bytes decode to. Records of the mapper don't affect it.
+///
+/// # Errors
+/// The smallest fault of the records, or `Memory`.
+#[tactic(auto, unfolding(normalizer_builder::specs::Building::IsSmallest))]
+pub fn form_by_records(
+    alloc: Global,
+    records: &[Record],
+    uts46: &[Uts46Record],
+    form: NormalForm,
+    bytes: &[u8],
+) -> Result<Vec<char>, BuildError>
+    ensures { MatchResult result (λ v. v.items ≡ recorded_form records.now form (decoded_utf8 bytes.now))
+        (IsSmallest records.now uts46.now) }
+{
+    let built = Records::build(alloc, records, uts46)?;
+    match form_by_built(alloc, &built, form, bytes) {
+        Ok(text) => Ok(text),
+        Err(_) => Err(BuildError::Memory),
+    }
+}
+
+/// The normal form over built data.
+fn form_by_built(
+    alloc: Global,
+    built: &Built,
+    form: NormalForm,
+    bytes: &[u8],
+) -> Result<Vec<char>, NormalizeError>
+    requires { AreBuilt (data_in built.now) }
+    ensures form { IfOk result (λ v. v.items ≡ form_of_data (data_in built.now) form (decoded_utf8 bytes.now)) }
+    ensures refused { IsOkUnless result NormalizeError.Memory }
+{
+    match form {
+        NormalForm::Nfd => nfd_of_bytes(alloc, &nfd_normalizer(built)?.as_borrowed(), bytes),
+        NormalForm::Nfc => nfc_of_bytes(alloc, &nfc_normalizer(built)?.as_borrowed(), bytes),
+        NormalForm::Nfkd => nfd_of_bytes(alloc, &nfkd_normalizer(built)?.as_borrowed(), bytes),
+        NormalForm::Nfkc => nfc_of_bytes(alloc, &nfkc_normalizer(built)?.as_borrowed(), bytes),
+    }
+}
+
+/// Returns the composing pairs of built data.
+///
+/// # Errors
+/// `Memory` if an allocation was refused.
+pub fn built_composition(built: &Built) -> Result<CanonicalComposition, DataError>
+    requires { AreBuilt (data_in built.now) }
+    ensures held { IfOk result (λ c. properties.pairs_of c ≡ (data_in built.now).compositions) }
+    ensures refused { IsOkUnless result DataError.Memory }
+{
+    what_is_built_is_accepted();
+    CanonicalComposition::try_new_unstable(built)
+}
+
+/// Returns the canonical combining classes of built data.
+///
+/// # Errors
+/// `Memory` if an allocation was refused.
+pub fn built_combining_classes(built: &Built) -> Result<CanonicalCombiningClassMap, DataError>
+    requires { AreBuilt (data_in built.now) }
+    ensures held { IfOk result (λ m. properties.classes_of m ≡ (data_in built.now).canonical) }
+    ensures refused { IsOkUnless result DataError.Memory }
+{
+    what_is_built_is_accepted();
+    data_that_meet_conditions_are_accepted();
+    CanonicalCombiningClassMap::try_new_unstable(built)
+}
+
+/// Returns single canonical decomposition steps of built data.
+///
+/// # Errors
+/// `Memory` if an allocation was refused.
+pub fn built_decomposition(built: &Built) -> Result<CanonicalDecomposition, DataError>
+    requires { AreBuilt (data_in built.now) }
+    ensures held { IfOk result (λ d. properties.steps_of d ≡
+        (characters_of (data_in built.now) Canonical, (data_in built.now).supplement)) }
+    ensures refused { IsOkUnless result DataError.Memory }
+{
+    what_is_built_is_accepted();
+    data_that_meet_conditions_are_accepted();
+    CanonicalDecomposition::try_new_unstable(built)
+}

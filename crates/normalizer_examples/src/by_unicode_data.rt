@@ -1,0 +1,44 @@
+//! Normalizing text with a version of Unicode's own data.
+ghost use Rattle.std.specs.Prelude.{MatchResult};
+ghost use Rattle.normalizer_text.specs.Utf8.{decoded_utf8};
+ghost use Rattle.normalizer_examples.specs.UnicodeForms.{IsFormByFiles, IsFaultOfFiles};
+
+use crate::by_records::form_by_records;
+use normalizer_built::NormalForm;
+use normalizer_records::BuildError;
+use normalizer_ucd::{UcdError, records_of_unicode_data};
+use std::alloc::Global;
+
+/// Why Unicode's files yielded no normal form.
+#[derive(Clone, Copy, Debug, PartialEq, Eq)]
+pub enum UnicodeFault {
+    /// A line of a file is wrong, or memory was refused.
+    File(UcdError),
+    /// The records can't be built, or memory was refused.
+    Records(BuildError),
+}
+
+/// Returns the normal form of the text that bytes decode to, by the bytes of `UnicodeData.txt` and
+/// `CompositionExclusions.txt`.
+///
+/// # Errors
+/// The first line that is wrong, the smallest fault of the records, or `Memory`.
+pub fn form_by_unicode_data(
+    alloc: Global,
+    unicode_data: &[u8],
+    exclusions: &[u8],
+    form: NormalForm,
+    bytes: &[u8],
+) -> Result<Vec<char>, UnicodeFault>
+    ensures { MatchResult result
+        (λ v. IsFormByFiles unicode_data.now exclusions.now form (decoded_utf8 bytes.now) v.items)
+        (IsFaultOfFiles unicode_data.now exclusions.now) }
+{
+    match records_of_unicode_data(alloc, unicode_data, exclusions) {
+        Ok(records) => match form_by_records(alloc, &records, &[], form, bytes) {
+            Ok(text) => Ok(text),
+            Err(fault) => Err(UnicodeFault::Records(fault)),
+        },
+        Err(fault) => Err(UnicodeFault::File(fault)),
+    }
+}

@@ -1,0 +1,45 @@
+//! Identifiers: texts that are normalized (UAX #31, normalized identifiers).
+ghost use Rattle.std.specs.Prelude.{◌≡◌, ◌↔◌, chars, IfOk, IsOkUnless, IsTrue, MatchOption};
+ghost use Rattle.normal_forms.specs.declared.Form.TheVariants.{Composing};
+ghost use Rattle.normal_forms.specs.Forms.{IsNormalized};
+ghost use Rattle.normalizer_text.specs.Encodings.{Encoding};
+ghost use Rattle.normalizer_text.specs.InputCut.{IsInputNormalized};
+ghost use Rattle.icu_normalizer.specs.Forms.{composed_by};
+
+use icu_normalizer::{ComposingNormalizerBorrowed, NormalizeError};
+
+/// Returns whether a text is an identifier: exactly if it is already in its composed form.
+///
+/// # Errors
+/// `Memory` if an allocation was refused.
+pub fn is_identifier(
+    normalizer: &ComposingNormalizerBorrowed<'_>,
+    text: &str,
+) -> Result<bool, NormalizeError>
+    ensures accepted { IfOk result (λ yes. IsTrue yes ↔
+        IsNormalized (composed_by normalizer.now).reading Composing (chars text.now)) }
+    ensures refused { IsOkUnless result NormalizeError.Memory }
+{
+    normalizer.is_normalized(text)
+}
+
+/// Returns bytes as an identifier, if they are well-formed and already in their composed form.
+///
+/// # Errors
+/// `Memory` if an allocation was refused.
+pub fn identifier_of_bytes<'t>(
+    normalizer: &ComposingNormalizerBorrowed<'_>,
+    bytes: &'t [u8],
+) -> Result<Option<&'t str>, NormalizeError>
+    ensures accepted { let d = (composed_by normalizer.now).reading in IfOk result (λ identifier. MatchOption identifier
+        (¬ IsInputNormalized Encoding.Utf8 d Composing bytes.now)
+        (λ text. (text.now ≡ bytes.now) × IsNormalized d Composing (chars text.now))) }
+    ensures refused { IsOkUnless result NormalizeError.Memory }
+{
+    let (identifier, rest) = normalizer.split_normalized_utf8(bytes)?;
+    if rest.is_empty() {
+        Ok(Some(identifier))
+    } else {
+        Ok(None)
+    }
+}

@@ -1,6 +1,0 @@
-pub mod EncodedFormLemmas
-pub mod InputBoundaryLemmas
-pub mod InputCutLemmas
-pub mod InputEncodingLemmas
-pub mod InputExamples
-pub mod InputOffenceLemmas

@@ -1,5 +1,0 @@
-use Rattle.normalizer_input.proofs.InputExamples.{offence_at_error}
-use Rattle.normalizer_input.proofs.laws.error_may_be_found_as_wanted.Goals as goal
-
-pub returns : goal.returns
-returns c = offence_at_error

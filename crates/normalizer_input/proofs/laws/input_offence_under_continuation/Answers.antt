@@ -1,9 +1,0 @@
-use Rattle.normalizer_input.proofs.InputOffenceLemmas.{continued_input_cut, continued_input_differs, continued_input_offence}
-use Rattle.normalizer_input.proofs.laws.input_offence_under_continuation.Goals as goal
-
-pub returns : goal.returns
-returns c = record {
-  cut = continued_input_cut;
-  differs = continued_input_differs;
-  offence = continued_input_offence;
-}

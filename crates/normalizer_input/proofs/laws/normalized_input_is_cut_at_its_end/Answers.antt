@@ -1,5 +1,0 @@
-use Rattle.normalizer_input.proofs.InputCutLemmas.{is_normalized_iff_input_cut}
-use Rattle.normalizer_input.proofs.laws.normalized_input_is_cut_at_its_end.Goals as goal
-
-pub returns : goal.returns
-returns c = is_normalized_iff_input_cut

@@ -1,3 +1,0 @@
-pub mod EncodedForm
-pub mod InputCut
-pub mod InputOffence

@@ -1,0 +1,3 @@
+pub mod PlainExample
+pub mod PlainLemmas
+pub mod UnfaithfulExample

@@ -1,3 +1,0 @@
-pub mod ClassWords
-pub mod HangulSteps
-pub mod SoundSteps

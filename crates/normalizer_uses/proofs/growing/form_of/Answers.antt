@@ -1,8 +1,0 @@
-use Rattle.std.proofs.Common.{ap, ◌∙◌}
-use Rattle.std.specs.Prelude.{chars}
-use Rattle.normal_forms.specs.Forms.{normal_form}
-use Rattle.normalizer_uses.proofs.growing.form_of.Goals as goal
-
-pub returns-in-Ok-clause-form : goal.returns-in-Ok-clause-form
-unfolding normal_form
-returns-in-Ok-clause-form c = ap chars (c.in-Ok.ensures.ok ∙ c.deref.ensures.value) ∙ c.in_ok-form.ensures.form.form
