@@ -29,7 +29,7 @@ fn character_of_pair(high: u16, low: u16) -> char
     char::from_u32(code).unwrap()
 }
 
-// The step in front of units of which there are some.
+// The first step of units that aren't empty.
 #[inline(always)]
 pub(crate) fn first_step(units: &[u16]) -> Step
     requires { 0 < length units.now }

@@ -125,7 +125,7 @@ pub(crate) fn low_byte_bound(bound: u32) -> u32
     }
 }
 
-// The step in front of well-formed bytes of which there are some: the first one says how many are taken.
+// The first step of well-formed bytes that aren't empty: the first byte says how many it takes.
 #[inline(always)]
 pub(crate) fn first_step_of_well_formed(bytes: &[u8]) -> Step
     requires some { 0 < length bytes.now }
@@ -216,7 +216,7 @@ fn leads_four(lead: u8, second: u8) -> bool
     }
 }
 
-// The step in front of bytes of which there are some.
+// The first step of bytes that aren't empty.
 #[inline(always)]
 pub(crate) fn first_step(bytes: &[u8]) -> Step
     requires { 0 < length bytes.now }
