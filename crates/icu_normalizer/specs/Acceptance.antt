@@ -12,7 +12,7 @@ use Rattle.normalizer_tables.specs.Data.{Decompositions, Lists}
 pub use Rattle.normalizer_tables.specs.Held.{AcceptsHeld, RefusesHeld, AnswersHeld}
 use Rattle.normalizer_conditions.specs.Refusals.{RefusesFirstFailing}
 
--- below which numbers characters pass unseen
+-- below which numbers characters are passthrough
 abbrev pub bounds_of : Decompositions → Bounds
 bounds_of decompositions = bounds_of_cap decompositions.cap
 

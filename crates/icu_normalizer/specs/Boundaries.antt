@@ -1,7 +1,7 @@
 -- Which characters a normalizer takes for the beginning of a part of a text.
 use Rattle.std.specs.Prelude.{ℕ, Bool, not}
 use Rattle.normalizer_tables.specs.Characters.{has_class_form}
-use Rattle.normalizer_tables.specs.PairConditions.{is_taken_to_begin_safely}
+use Rattle.normalizer_tables.specs.PairConditions.{is_taken_as_boundary}
 use Rattle.icu_normalizer.specs.declared.borrowed.NormalizerBorrowed.{NormalizerBorrowed}
 use Rattle.icu_normalizer.specs.declared.composing_form.ComposingForm.{ComposingForm}
 use Rattle.icu_normalizer.specs.declared.decomposing_form.DecomposingForm.{DecomposingForm}
@@ -15,4 +15,4 @@ has_decomposing_boundary n c = not (has_class_form (data_of_borrowed n) c)
 -- the word of c isn't flagged as backward combining, or c is below the bound: its list begins with a starter that is
 -- second in no pair
 abbrev pub has_composing_boundary : NormalizerBorrowed ComposingForm → ℕ → Bool
-has_composing_boundary n c = is_taken_to_begin_safely (composing_data_of_borrowed n) n.form.bounds c
+has_composing_boundary n c = is_taken_as_boundary (composing_data_of_borrowed n) n.form.bounds c

@@ -1,5 +1,5 @@
 pub mod Acceptance
-pub mod BeginsApart
+pub mod BoundaryBefore
 pub mod Boundaries
 pub mod Checks
 pub mod ClassData

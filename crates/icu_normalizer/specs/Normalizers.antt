@@ -4,7 +4,7 @@ use Rattle.normalizer_tables.specs.Characters.{Characters}
 use Rattle.normalizer_tables.specs.Owned.{characters_owned}
 use Rattle.icu_normalizer.specs.declared.borrowed.NormalizerBorrowed.{NormalizerBorrowed}
 use Rattle.icu_normalizer.specs.declared.decomposing_form.DecomposingForm.{DecomposingForm}
-use Rattle.icu_normalizer.specs.declared.normalizer.DecomposingNormalizer.{DecomposingNormalizer}
+use Rattle.icu_normalizer.specs.declared.decomposing_normalizer.DecomposingNormalizer.{DecomposingNormalizer}
 
 -- the data that it owns
 abbrev pub data_of : DecomposingNormalizer → Characters

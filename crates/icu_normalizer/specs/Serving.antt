@@ -7,32 +7,32 @@ use Rattle.normalizer_tables.specs.declared.condition.Bounds.{Bounds}
 use Rattle.normalizer_conditions.specs.AcceptedData.{SuitsTexts}
 use Rattle.normalizer_tables.specs.Characters.{Characters, has_class_form, list_of}
 use Rattle.normalizer_tables.specs.Pairs.{Pair}
-use Rattle.normalizer_tables.specs.PairConditions.{is_taken_to_begin_safely}
+use Rattle.normalizer_tables.specs.PairConditions.{is_taken_as_boundary}
 use Rattle.normalizer_tables.specs.Readings.{reading_by}
-use Rattle.normalizer_tables.specs.Unseen.{PassUnseenBelow}
+use Rattle.normalizer_tables.specs.Passthrough.{IsPassthroughBelow}
 use Rattle.normalizer_tables.specs.declared.characters.IgnoredCharacters.TheVariants.{Dropped}
 use Rattle.normalizer_iterators.specs.LazyComposing.{SuitsLazyComposing}
 use Rattle.normalizer_iterators.specs.LazyReading.{SuitsLazyReading}
-use Rattle.icu_normalizer.specs.BeginsApart.{BeginsApart}
+use Rattle.icu_normalizer.specs.BoundaryBefore.{HasBoundaryBefore}
 
--- text may be decomposed by them character by character, characters below the bound pass unseen, lists are in canonical
+-- text may be decomposed by them character by character, characters below the bound are passthrough, lists are in canonical
 -- order, and the laws of the decomposing form hold
 pub record ServesDecomposing (s : Characters) (b : Bounds) : Type 0 where
   pub reading : SuitsLazyReading (has_class_form s) (reading_by s Dropped [])
-  pub unseen : PassUnseenBelow s b.decomposition
+  pub passthrough : IsPassthroughBelow s b.decomposition
   pub ordered : (c : ℕ) → IsScalar c → order (reading_by s Dropped []) ((reading_by s Dropped []).list c)
       ≡ (reading_by s Dropped []).list c
   pub laws : SuitsTexts (reading_by s Dropped []) Decomposing
 
 -- text may be decomposed and composed by them character by character, characters below the bound of decomposing pass
--- unseen, characters that are taken to begin safely begin apart (condition 13), what pairs compose to has their lists
+-- unseen, characters that are taken as boundaries have one before them (condition 13), what pairs compose to has their lists
 -- (condition 14), and the laws of both forms hold
 pub record ServesComposing (s : Characters) (b : Bounds) (pairs : List Pair) : Type 0 where
   pub reading : SuitsLazyReading (has_class_form s) (reading_by s Dropped [])
   pub composing : SuitsLazyComposing s b pairs
-  pub beginnings : (c : ℕ) → IsScalar c → is_taken_to_begin_safely s b c ≡ true
-      → BeginsApart (reading_by s Dropped pairs) Composing c
-  pub unseen : PassUnseenBelow s b.decomposition
+  pub beginnings : (c : ℕ) → IsScalar c → is_taken_as_boundary s b c ≡ true
+      → HasBoundaryBefore (reading_by s Dropped pairs) Composing c
+  pub passthrough : IsPassthroughBelow s b.decomposition
   pub results : All (λ p. list_of s [] p.2
       ≡ order (reading_by s Dropped []) (list_of s [] p.1 ++ list_of s [] p.0)) pairs
   pub laws : SuitsTexts (reading_by s Dropped pairs) Composing

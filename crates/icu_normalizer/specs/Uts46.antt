@@ -10,7 +10,7 @@ use Rattle.normalizer_tables.specs.Data.{Decompositions, Lists}
 use Rattle.normalizer_tables.specs.declared.characters.IgnoredCharacters.{IgnoredCharacters}
 use Rattle.normalizer_tables.specs.Pairs.{Pair}
 use Rattle.normalizer_tables.specs.Readings.{reading_by}
-use Rattle.normalizer_tables.specs.Unseen.{PassUnseenBelow}
+use Rattle.normalizer_tables.specs.Passthrough.{IsPassthroughBelow}
 use Rattle.normalizer_iterators.specs.LazyComposing.{SuitsLazyComposing}
 use Rattle.normalizer_iterators.specs.LazyReading.{SuitsLazyReading}
 
@@ -42,5 +42,5 @@ uts46_data (Some decompositions) (Some tables) (Some supplementary) (Some pairs)
 pub record ServesMapper (h : MapperData) (b : Bounds) : Type 0 where
   pub reading : (i : IgnoredCharacters) → SuitsLazyReading (has_class_form h.0) (reading_by h.0 i [])
   pub composing : SuitsLazyComposing h.0 b h.1
-  pub unseen : PassUnseenBelow h.0 b.decomposition
+  pub passthrough : IsPassthroughBelow h.0 b.decomposition
   pub laws : (i : IgnoredCharacters) → SuitsMapper (reading_by h.0 i h.1)

@@ -1,6 +1,6 @@
 -- What the contracts of private functions alone cite.
 pub mod Kept
 pub mod Offences
-pub mod Owned
-pub mod Passing
-pub mod Writing
+pub mod WriteUnlessOwn
+pub mod PassthroughRuns
+pub mod WrittenParts

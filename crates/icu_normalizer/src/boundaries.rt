@@ -1,8 +1,8 @@
 //! Characters before which a text may be divided.
 ghost use Rattle.std.specs.Prelude.{◌≡◌, true};
 ghost use Rattle.normal_forms.specs.declared.Form.TheVariants.{Composing, Decomposing};
-ghost use Rattle.normalizer_tables.specs.PairConditions.{is_taken_to_begin_safely};
-ghost use Rattle.icu_normalizer.specs.BeginsApart.{BeginsApart};
+ghost use Rattle.normalizer_tables.specs.PairConditions.{is_taken_as_boundary};
+ghost use Rattle.icu_normalizer.specs.BoundaryBefore.{HasBoundaryBefore};
 ghost use Rattle.icu_normalizer.specs.Boundaries.{has_composing_boundary, has_decomposing_boundary};
 ghost use Rattle.icu_normalizer.specs.Forms.{composed_by, decomposed_by};
 
@@ -18,7 +18,7 @@ impl<'a> NormalizerBorrowed<DecomposingForm<'a>> {
     /// Standard, D107). If so, a text that begins with it is normalized apart from what comes before it.
     pub fn has_boundary_before(&self, character: char) -> bool
         ensures exactly { result ≡ has_decomposing_boundary self.now character }
-        ensures apart { result ≡ true → BeginsApart (decomposed_by self.now).reading Decomposing character }
+        ensures apart { result ≡ true → HasBoundaryBefore (decomposed_by self.now).reading Decomposing character }
     {
         !self.form.characters.has_class_form(character)
     }
@@ -30,16 +30,16 @@ impl<'a> NormalizerBorrowed<ComposingForm<'a>> {
     /// section 9.1), and a text that begins with it is normalized apart from what comes before it.
     pub fn has_boundary_before(&self, character: char) -> bool
         ensures exactly { result ≡ has_composing_boundary self.now character }
-        ensures apart { result ≡ true → BeginsApart (composed_by self.now).reading Composing character }
+        ensures apart { result ≡ true → HasBoundaryBefore (composed_by self.now).reading Composing character }
     {
-        is_taken_to_begin_safely(&self.form.characters, self.form.bounds, character)
+        is_taken_as_boundary(&self.form.characters, self.form.bounds, character)
     }
 }
 
 /// Whether a character isn't flagged as backward combining, or is below the bound.
-#[tactic(auto, unfolding(normalizer_tables::specs::PairConditions::is_taken_to_begin_safely))]
-fn is_taken_to_begin_safely(characters: &CharacterData<'_>, bounds: Bounds, character: char) -> bool
-    ensures { result ≡ is_taken_to_begin_safely characters.now bounds character }
+#[tactic(auto, unfolding(normalizer_tables::specs::PairConditions::is_taken_as_boundary))]
+fn is_taken_as_boundary(characters: &CharacterData<'_>, bounds: Bounds, character: char) -> bool
+    ensures { result ≡ is_taken_as_boundary characters.now bounds character }
 {
     !is_backward_combining(characters.word_of(character)) || (character as u32) < bounds.composition
 }

@@ -25,7 +25,7 @@ pub struct ComposingForm<'a> {
 }
 
 impl<'a> ComposingForm<'a> {
-    ghost use Rattle.normalizer_iterators.specs.Composition.{data_of_composition, pairs_of_composition};
+    ghost use Rattle.normalizer_iterators.specs.CompositionItems.{data_of_composition, pairs_of_composition};
 
     /// Returns an iterator over the characters of the form of what an iterator yields.
     pub(crate) fn items<I: Iterator<Item = char> + Drop>(
@@ -48,7 +48,7 @@ impl<'a> ComposingForm<'a> {
 
 impl<'a> NormalizerBorrowed<ComposingForm<'a>> {
     ghost use Rattle.icu_normalizer.specs.ComposingNormalizers.{composing_data_of_borrowed, pairs_of_borrowed};
-    ghost use Rattle.normalizer_iterators.specs.Composition.{data_of_composition, pairs_of_composition};
+    ghost use Rattle.normalizer_iterators.specs.CompositionItems.{data_of_composition, pairs_of_composition};
 
     /// Returns an iterator over the characters of the composed form of what `iter` yields. It reads `iter` up to the
     /// first boundary when it is made.

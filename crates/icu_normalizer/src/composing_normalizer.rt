@@ -131,7 +131,7 @@ impl ComposingNormalizer {
         let bounds = Bounds::of_cap(characters.cap());
         NormalizerBorrowed {
             form: ComposingForm {
-                characters: characters.passing_unseen_below(bounds.decomposition),
+                characters: characters.with_passthrough_bound(bounds.decomposition),
                 pairs: &self.pairs,
                 bounds,
             },

@@ -4,17 +4,17 @@ ghost use Rattle.std.specs.Prelude.{◌≤◌, drop, length, IsTrue, IsOk, IsOkU
 ghost use Rattle.std.specs.Prelude.{if◌then◌else◌};
 ghost use Rattle.std.specs.Char.{IsScalar};
 ghost use Rattle.normal_forms.specs.Decomposition.{expand};
-ghost use Rattle.normal_forms.specs.ShortRuns.{places};
+ghost use Rattle.normal_forms.specs.ShortRuns.{buffer_limit};
 ghost use Rattle.normalizer_conditions.specs.AcceptedData.{SuitsTexts};
 ghost use Rattle.normalizer_tables.specs.Characters.{class_of_itself, has_class_form, reading_of_word};
-ghost use Rattle.normalizer_tables.specs.PairConditions.{is_passed};
+ghost use Rattle.normalizer_tables.specs.PairConditions.{is_composing_passthrough};
 ghost use Rattle.normalizer_text.specs.Encodings.{decoded_in, first_in};
 ghost use Rattle.normalizer_iterators.specs.Segment.{text};
-ghost use Rattle.icu_normalizer.specs.BeginsApart.{BeginsApart};
+ghost use Rattle.icu_normalizer.specs.BoundaryBefore.{HasBoundaryBefore};
 ghost use Rattle.icu_normalizer.specs.Forms.{form_by, form_in, form_of, HasShortUnits, MadeForm};
 ghost use Rattle.icu_normalizer.specs.inner.Offences.{IsFirstOrNone};
-ghost use Rattle.icu_normalizer.specs.inner.Passing.{IsKeptSegment, MayFollow, MayPass};
-ghost use Rattle.icu_normalizer.specs.inner.Writing.{NothingOffered, WritesText};
+ghost use Rattle.icu_normalizer.specs.inner.PassthroughRuns.{IsKeptSegment, CanFollowMark, CanPassThrough};
+ghost use Rattle.icu_normalizer.specs.inner.WrittenParts.{NothingOffered, WritesText};
 
 use crate::composing_form::ComposingForm;
 use crate::decomposing_form::DecomposingForm;
@@ -35,7 +35,7 @@ pub trait Forming {
 
     /// Which characters are passed on as they are, and of which class each is: one of class 0 is so wherever it comes,
     /// a mark unless its class is less than the one before.
-    ghost passed_class: { Self → ℕ → Option ℕ };
+    ghost passthrough_class: { Self → ℕ → Option ℕ };
 
     /// The bound below which each is so, as a starter.
     ghost bound: { Self → ℕ };
@@ -43,16 +43,16 @@ pub trait Forming {
     /// Whether the last one is held back if another one follows.
     ghost held_back: { Bool };
 
-    /// Which characters begin apart.
+    /// Which characters begin a new part.
     ghost beginning: { Self → ℕ → Bool };
 
     /// Returns the class of a character that is passed on as it is: wherever it comes if that is 0, otherwise unless
     /// the class before is greater.
-    fn passed_class(&self, character: char) -> Option<u8>
-        ensures { result ≡ passed_class self.now character };
+    fn passthrough_class(&self, character: char) -> Option<u8>
+        ensures { result ≡ passthrough_class self.now character };
 
     /// Returns the bound below which every character is passed on, with class 0.
-    fn passing_bound(&self) -> u32
+    fn passthrough_bound(&self) -> u32
         ensures { result ≡ bound self.now };
 
     /// Whether a character that passes may be changed by what follows it.
@@ -89,7 +89,7 @@ pub trait Forming {
     /// characters have at most `places` members together.
     fn short_form<U: Units>(&self, units: U, buffers: &mut SegmentBuffers) -> bool
         ensures form { IsTrue result → text buffers.new ≡ form_in (made self.now) U.encoding (U.units units) }
-        ensures fits { length (expand (made self.now).reading (decoded_in U.encoding (U.units units))) ≤ places →
+        ensures fits { length (expand (made self.now).reading (decoded_in U.encoding (U.units units))) ≤ buffer_limit →
             IsTrue result };
 
     /// Writes the form of what the units decode to as an iterator yields it.
@@ -114,14 +114,14 @@ pub trait Forming {
 
     /// Characters that pass with class 0 are normalized apart, those that pass with another may follow marks of lower
     /// classes, and those below the bound pass; what `begins` accepts is normalized apart from what comes before.
-    fn passed_characters_stand_apart(&self)
-        ensures apart { (c : ℕ) → IsScalar c → passed_class self.now c ≡ Some 0 →
-            MayPass (made self.now).reading (made self.now).form held_back c }
-        ensures follow { (c k : ℕ) → IsScalar c → passed_class self.now c ≡ Some k → 0 < k →
-            MayFollow (made self.now).reading (made self.now).form held_back c k }
+    fn passthrough_is_normalized_apart(&self)
+        ensures apart { (c : ℕ) → IsScalar c → passthrough_class self.now c ≡ Some 0 →
+            CanPassThrough (made self.now).reading (made self.now).form held_back c }
+        ensures follow { (c k : ℕ) → IsScalar c → passthrough_class self.now c ≡ Some k → 0 < k →
+            CanFollowMark (made self.now).reading (made self.now).form held_back c k }
         ensures begins { (c : ℕ) → IsScalar c → beginning self.now c ≡ true →
-            BeginsApart (made self.now).reading (made self.now).form c }
-        ensures below { (c : ℕ) → c < bound self.now → passed_class self.now c ≡ Some 0 };
+            HasBoundaryBefore (made self.now).reading (made self.now).form c }
+        ensures below { (c : ℕ) → c < bound self.now → passthrough_class self.now c ≡ Some 0 };
 
     /// The data satisfy the hypotheses of the laws of the form.
     ghost suits: { (f : Self) → SuitsTexts (made f).reading (made f).form };
@@ -132,7 +132,7 @@ impl<'a> Forming for DecomposingForm<'a> {
 
     ghost made = { λ f. form_by f.characters [] Decomposing };
 
-    ghost passed_class = { λ f c. if nat_lt c f.bounds.decomposition then Some 0
+    ghost passthrough_class = { λ f c. if nat_lt c f.bounds.decomposition then Some 0
         else class_of_itself (reading_of_word f.characters c) };
 
     ghost bound = { λ f. f.bounds.decomposition };
@@ -141,7 +141,7 @@ impl<'a> Forming for DecomposingForm<'a> {
 
     ghost beginning = { λ f c. nat_lt c f.bounds.decomposition || not (has_class_form f.characters c) };
 
-    fn passed_class(&self, character: char) -> Option<u8> {
+    fn passthrough_class(&self, character: char) -> Option<u8> {
         if (character as u32) < self.bounds.decomposition {
             return Some(0);
         }
@@ -149,7 +149,7 @@ impl<'a> Forming for DecomposingForm<'a> {
         self.characters.class_of_itself(character, word)
     }
 
-    fn passing_bound(&self) -> u32 {
+    fn passthrough_bound(&self) -> u32 {
         self.bounds.decomposition
     }
 
@@ -201,7 +201,7 @@ impl<'a> Forming for DecomposingForm<'a> {
         self.characters.allocator()
     }
 
-    fn passed_characters_stand_apart(&self) {}
+    fn passthrough_is_normalized_apart(&self) {}
 
     ghost suits = { λ f. f.serves.laws };
 }
@@ -211,15 +211,15 @@ impl<'a> Forming for ComposingForm<'a> {
 
     ghost made = { λ f. form_by f.characters f.pairs.now Composing };
 
-    ghost passed_class = { λ f c. if is_passed f.characters f.bounds c then Some 0 else None };
+    ghost passthrough_class = { λ f c. if is_composing_passthrough f.characters f.bounds c then Some 0 else None };
 
     ghost bound = { λ f. f.bounds.composition };
 
     ghost held_back = { true };
 
-    ghost beginning = { λ f c. is_passed f.characters f.bounds c };
+    ghost beginning = { λ f c. is_composing_passthrough f.characters f.bounds c };
 
-    fn passed_class(&self, character: char) -> Option<u8> {
+    fn passthrough_class(&self, character: char) -> Option<u8> {
         if self.begins(character) {
             Some(0)
         } else {
@@ -227,7 +227,7 @@ impl<'a> Forming for ComposingForm<'a> {
         }
     }
 
-    fn passing_bound(&self) -> u32 {
+    fn passthrough_bound(&self) -> u32 {
         self.bounds.composition
     }
 
@@ -235,7 +235,7 @@ impl<'a> Forming for ComposingForm<'a> {
         true
     }
 
-    #[tactic(auto, unfolding(normalizer_tables::specs::PairConditions::is_passed))]
+    #[tactic(auto, unfolding(normalizer_tables::specs::PairConditions::is_composing_passthrough))]
     fn begins(&self, character: char) -> bool {
         let word = self.characters.word_of(character);
         (!is_non_round_trip(word) && !is_backward_combining(word))
@@ -280,7 +280,7 @@ impl<'a> Forming for ComposingForm<'a> {
         self.characters.allocator()
     }
 
-    fn passed_characters_stand_apart(&self) {}
+    fn passthrough_is_normalized_apart(&self) {}
 
     ghost suits = { λ f. f.serves.laws };
 }

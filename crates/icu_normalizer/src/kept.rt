@@ -2,11 +2,11 @@
 ghost use Rattle.std.specs.Prelude.{◌≡◌, ◌<◌, ◌≤◌, drop, length, IfSome, IsTrue, Some};
 ghost use Rattle.normalizer_text.specs.Encodings.{first_in};
 ghost use Rattle.normal_forms.specs.declared.Form.TheVariants.{Composing};
-ghost use Rattle.normalizer_tables.specs.PairConditions.{is_passed};
+ghost use Rattle.normalizer_tables.specs.PairConditions.{is_composing_passthrough};
 ghost use Rattle.normalizer_tables.specs.Readings.{reading_by};
 ghost use Rattle.normalizer_tables.specs.declared.characters.IgnoredCharacters.TheVariants.{Dropped};
 ghost use Rattle.icu_normalizer.specs.inner.Kept.{IsFirstOfTwo, IsKeptCharacter, IsKeptStarter, StaysMark};
-ghost use Rattle.icu_normalizer.specs.inner.Passing.{ComposesTo, IsKeptSegment};
+ghost use Rattle.icu_normalizer.specs.inner.PassthroughRuns.{ComposesTo, IsKeptSegment};
 
 use crate::composing_form::ComposingForm;
 use crate::forming::Forming;
@@ -23,7 +23,7 @@ pub struct KeptSegment {
 }
 
 impl KeptSegment {
-    // A segment before a step. A run of characters below the bound may be long.
+    /// A segment before a step. A run of characters below the bound may be long.
     #[inline(always)]
     fn before(end: usize, bound: u32, step: Step) -> Self
         ensures end { result.end ≡ end }
@@ -73,7 +73,7 @@ pub(crate) fn kept_segment<U: Units>(
 ) -> Option<KeptSegment>
     requires some { 0 < length (U.units units) }
     requires first { first ≡ first_in U.encoding (U.units units) }
-    ensures kept { let f = form.now in IfSome result (λ kept. IsKeptSegment (is_passed f.characters f.bounds) U.encoding
+    ensures kept { let f = form.now in IfSome result (λ kept. IsKeptSegment (is_composing_passthrough f.characters f.bounds) U.encoding
         (reading_by f.characters Dropped f.pairs.now) Composing (U.units units) kept.end) }
     ensures next { IfSome result (λ kept.
         IfSome kept.next (λ next. next ≡ first_in U.encoding (drop kept.end (U.units units)))) }

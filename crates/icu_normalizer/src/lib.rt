@@ -40,7 +40,7 @@ mod forming;
 pub mod harfbuzz;
 mod kept;
 pub mod laws;
-mod normalizer;
+mod decomposing_normalizer;
 mod offence;
 mod owned;
 pub mod properties;
@@ -54,7 +54,7 @@ mod writing;
 
 pub use borrowed::{ComposingNormalizerBorrowed, DecomposingNormalizerBorrowed};
 pub use composing_normalizer::ComposingNormalizer;
-pub use normalizer::DecomposingNormalizer;
+pub use decomposing_normalizer::DecomposingNormalizer;
 pub use normalizer_builder::{Built, Records};
 pub use normalizer_conditions::check_nfd_data;
 pub use normalizer_iterators::{Composition, Decomposition, NormalizeError};

@@ -6,7 +6,7 @@ ghost use Rattle.normalizer_text.specs.EncodedForm.{encoded_form};
 ghost use Rattle.normalizer_text.specs.InputCut.{IsInputCut, IsInputNormalized};
 ghost use Rattle.icu_normalizer.specs.Forms.{HasShortUnits};
 ghost use Rattle.icu_normalizer.specs.Owned.{ReturnsForm, ReturnsFormOfText};
-ghost use Rattle.icu_normalizer.specs.inner.Owned.{WroteUnlessOwn};
+ghost use Rattle.icu_normalizer.specs.inner.WriteUnlessOwn.{WroteUnlessOwn};
 
 use crate::borrowed::NormalizerBorrowed;
 use crate::forming::Forming;

@@ -2,13 +2,13 @@
 ghost use Rattle.std.specs.Prelude.{◌≡◌, ◌<◌, ◌≤◌, drop, length, take, IfSome};
 ghost use Rattle.normalizer_text.specs.Encodings.{first_in};
 ghost use Rattle.normalizer_text.specs.InputCut.{IsInputNormalized};
-ghost use Rattle.icu_normalizer.specs.inner.Passing.{IsKeptTo, IsPassedOn, IsPart, IsRunEnd, IsSegmentEnd};
-ghost use Rattle.icu_normalizer.specs.inner.Passing.{next_class};
+ghost use Rattle.icu_normalizer.specs.inner.PassthroughRuns.{IsKeptTo, IsPassthroughEnd, IsPart, IsRunEnd, IsSegmentEnd};
+ghost use Rattle.icu_normalizer.specs.inner.PassthroughRuns.{next_class};
 
 use crate::forming::Forming;
 use normalizer_text::{Chars, Step, Units};
 
-// U+FFFD, as which errors read.
+/// U+FFFD, as which errors read.
 const REPLACEMENT: u32 = char::REPLACEMENT_CHARACTER as u32;
 
 /// A run of characters that are passed on as they are: where the marks at its end begin, and where it ends.
@@ -28,14 +28,14 @@ pub(crate) struct Segment {
 
 /// Returns the class of a step that is passed on as it is after a character of class `last`.
 #[inline(always)]
-#[tactic(auto, unfolding(crate::specs::inner::Passing::next_class, crate::specs::inner::Passing::class_of_step, crate::specs::inner::Passing::following))]
+#[tactic(auto, unfolding(crate::specs::inner::PassthroughRuns::next_class, crate::specs::inner::PassthroughRuns::class_of_step, crate::specs::inner::PassthroughRuns::following))]
 fn next_class<N: Forming>(normalizer: &N, last: u8, step: Step) -> Option<u8>
-    ensures { result ≡ next_class (N.passed_class normalizer.now) last step }
+    ensures { result ≡ next_class (N.passthrough_class normalizer.now) last step }
 {
     if step.character == char::REPLACEMENT_CHARACTER {
         return None;
     }
-    let class = normalizer.passed_class(step.character)?;
+    let class = normalizer.passthrough_class(step.character)?;
     if class == 0 || last <= class {
         Some(class)
     } else {
@@ -45,11 +45,11 @@ fn next_class<N: Forming>(normalizer: &N, last: u8, step: Step) -> Option<u8>
 
 /// Returns the run of characters that are passed on as they are: marks as long as their classes don't fall.
 fn run_end<U: Units, N: Forming>(normalizer: &N, units: U) -> Run
-    ensures { IsRunEnd (N.passed_class normalizer.now) U.encoding (U.units units) result.marks result.end }
+    ensures { IsRunEnd (N.passthrough_class normalizer.now) U.encoding (U.units units) result.marks result.end }
 {
-    normalizer.passed_characters_stand_apart();
+    normalizer.passthrough_is_normalized_apart();
     units.low_units_are_of_low_characters();
-    let limit = units.low_unit(normalizer.passing_bound().min(REPLACEMENT));
+    let limit = units.low_unit(normalizer.passthrough_bound().min(REPLACEMENT));
     let mut end = units.end_of_below(0, limit);
     let mut marks = end;
     let mut last = 0;
@@ -97,7 +97,7 @@ pub(crate) fn front_segment<U: Units, N: Forming>(normalizer: &N, units: U, firs
             return Segment {
                 end,
                 next: Some(step),
-                is_before_run: normalizer.passed_class(step.character).is_some(),
+                is_before_run: normalizer.passthrough_class(step.character).is_some(),
             };
         }
         end += step.width;
@@ -111,13 +111,13 @@ pub(crate) fn front_segment<U: Units, N: Forming>(normalizer: &N, units: U, firs
 
 /// Returns the end of the front of the units that is passed on as it is: of a run, without the last character if it may
 /// compose with what follows, and without the marks at its end if what follows may be ordered among them.
-pub(crate) fn passed_end<U: Units, N: Forming>(normalizer: &N, units: U) -> usize
-    ensures handed { IsPassedOn (N.passed_class normalizer.now) (N.beginning normalizer.now) N.held_back
+pub(crate) fn passthrough_end<U: Units, N: Forming>(normalizer: &N, units: U) -> usize
+    ensures handed { IsPassthroughEnd (N.passthrough_class normalizer.now) (N.beginning normalizer.now) N.held_back
         U.encoding (U.units units) result }
     ensures part { let m = N.made normalizer.now in 0 < result → IsPart U.encoding m.reading m.form (U.units units)
         result × IsInputNormalized U.encoding m.reading m.form (take result (U.units units)) }
 {
-    normalizer.passed_characters_stand_apart();
+    normalizer.passthrough_is_normalized_apart();
     let run = run_end(normalizer, units);
     if run.end == units.len() {
         return run.end;
@@ -139,8 +139,8 @@ pub(crate) fn passed_end<U: Units, N: Forming>(normalizer: &N, units: U) -> usiz
 pub(crate) fn kept_end<U: Units, N: Forming>(normalizer: &N, units: U) -> usize
     ensures { let m = N.made normalizer.now in IsKeptTo U.encoding m.reading m.form (U.units units) result }
 {
-    normalizer.passed_characters_stand_apart();
-    let mut end = passed_end(normalizer, units);
+    normalizer.passthrough_is_normalized_apart();
+    let mut end = passthrough_end(normalizer, units);
     let mut first = None;
     while end < units.len() {
         let rest = units.after(end);
@@ -150,7 +150,7 @@ pub(crate) fn kept_end<U: Units, N: Forming>(normalizer: &N, units: U) -> usize
         end += kept.end;
         first = kept.next;
         if first.is_none() {
-            end += passed_end(normalizer, units.after(end));
+            end += passthrough_end(normalizer, units.after(end));
         }
     }
     end

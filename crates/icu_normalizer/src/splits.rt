@@ -15,7 +15,7 @@ use normalizer_text::check_sink::Expected;
 use normalizer_text::text_of;
 
 /// Returns the cut of the units: their end if they are well-formed and normalized.
-pub(crate) fn place_of_cut<U: Expected, N: Forming>(
+pub(crate) fn offset_of_cut<U: Expected, N: Forming>(
     normalizer: &N,
     units: U,
 ) -> Result<usize, NormalizeError>
@@ -36,7 +36,7 @@ pub(crate) fn split_at_cut<U: Expected, N: Forming>(
     ensures { AnswersOf (N.made normalizer.now) (decoded_in U.encoding (U.units units)) (λ parts.
         IsSplitAtCut (N.made normalizer.now) U.encoding (U.units units) (U.units parts.0) (U.units parts.1)) result }
 {
-    let place = place_of_cut(normalizer, units)?;
+    let place = offset_of_cut(normalizer, units)?;
     Ok((units.before(place), units.after(place)))
 }
 

@@ -32,7 +32,7 @@ impl<'a> NormalizerBorrowed<DecomposingForm<'a>> {
         let characters = CharacterData::new(decompositions, tables, None, false);
         NormalizerBorrowed {
             form: DecomposingForm {
-                characters: characters.passing_unseen_below(GREATEST_BOUNDS.decomposition),
+                characters: characters.with_passthrough_bound(GREATEST_BOUNDS.decomposition),
                 bounds: GREATEST_BOUNDS,
             },
         }

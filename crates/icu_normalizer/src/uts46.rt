@@ -92,7 +92,7 @@ impl Uts46Mapper {
         let characters = self.characters.as_borrowed(true);
         let bounds = Bounds::of_cap(characters.cap());
         Uts46MapperBorrowed {
-            characters: characters.passing_unseen_below(bounds.decomposition),
+            characters: characters.with_passthrough_bound(bounds.decomposition),
             pairs: &self.pairs,
             bounds,
         }
@@ -110,7 +110,7 @@ pub struct Uts46MapperBorrowed<'a> {
 
 impl<'a> Uts46MapperBorrowed<'a> {
     ghost use Rattle.normalizer_tables.specs.declared.characters.IgnoredCharacters.TheVariants.{Dropped, Replaced};
-    ghost use Rattle.normalizer_iterators.specs.Composition.{data_of_composition, pairs_of_composition};
+    ghost use Rattle.normalizer_iterators.specs.CompositionItems.{data_of_composition, pairs_of_composition};
     ghost use Rattle.icu_normalizer.specs.Mappers.{mapper_data_of_borrowed};
 
     /// Returns whether `character` has the combining class of viramas, 9, in the mapper's data.

@@ -6,9 +6,9 @@ ghost use Rattle.normalizer_text.specs.Encodings.{first_in};
 ghost use Rattle.normalizer_iterators.specs.Items.{SpellsOk, SpellsUnless};
 ghost use Rattle.icu_normalizer.specs.Forms.{form_in, HasShortUnits};
 ghost use Rattle.icu_normalizer.specs.inner.Offences.{IsFirstOrNone};
-ghost use Rattle.icu_normalizer.specs.inner.Passing.{IsSegmentEnd};
+ghost use Rattle.icu_normalizer.specs.inner.PassthroughRuns.{IsSegmentEnd};
 ghost use Rattle.icu_normalizer.specs.Writing.{TellsLengthFirst};
-ghost use Rattle.icu_normalizer.specs.inner.Writing.{NothingOffered, WritesPart, WritesText, WritesUnits};
+ghost use Rattle.icu_normalizer.specs.inner.WrittenParts.{NothingOffered, WritesPart, WritesText, WritesUnits};
 
 use crate::forming::Forming;
 use crate::runs::{Segment, first_step, front_segment, kept_end};
@@ -180,7 +180,7 @@ fn write_front_segment<U: Units, N: Forming, O: Output<U>>(
     ensures room { HasShortUnits (N.made normalizer.now) U.encoding (U.units units) →
         ¬ IsErrOf result NormalizeError.Memory }
 {
-    normalizer.passed_characters_stand_apart();
+    normalizer.passthrough_is_normalized_apart();
     let first = first_step(units, first);
     let segment = front_segment(normalizer, units, first);
     write_segment(

@@ -85,7 +85,7 @@ impl From<NormalizeError> for Fault {
 
     ghost from_gives = { λ _ fault. fault ≡ Memory };
 
-    // No call here writes to a sink.
+    /// No call here writes to a sink.
     fn from(_error: NormalizeError) -> Fault {
         Fault::Memory
     }
@@ -106,7 +106,7 @@ impl From<DataError> for Fault {
 
     ghost from_gives = { λ _ fault. fault ≡ Memory };
 
-    // The data were built from records: nothing but memory is refused.
+    /// The data were built from records: nothing but memory is refused.
     fn from(_error: DataError) -> Fault {
         Fault::Memory
     }

@@ -8,6 +8,6 @@ BeginsWithStarter d [] = Unit {0}
 BeginsWithStarter d (s ∷ x) = IsStarter d s
 
 -- x is empty, or begins with a starter that is second in no pair (D114): nothing is composed across its beginning
-abbrev pub BeginsSafely : Reading → List ℕ → Type 0
-BeginsSafely d [] = Unit {0}
-BeginsSafely d (s ∷ x) = IsStarter d s × ((a : ℕ) → d.pair a s ≡ None)
+abbrev pub BeginsAtBoundary : Reading → List ℕ → Type 0
+BeginsAtBoundary d [] = Unit {0}
+BeginsAtBoundary d (s ∷ x) = IsStarter d s × ((a : ℕ) → d.pair a s ≡ None)

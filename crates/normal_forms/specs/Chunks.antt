@@ -11,6 +11,6 @@ BeginsChunk d [] = Unit {0}
 BeginsChunk d (c ∷ x) = (s : ℕ) × IsFirst (d.list c) s × IsStarter d s
 
 -- x is empty, or its first character does not continue what comes before it
-abbrev pub BeginsAnew : (ℕ → Bool) → Reading → List ℕ → Type 0
-BeginsAnew has_class_form d [] = Unit {0}
-BeginsAnew has_class_form d (c ∷ x) = continues has_class_form d c ≡ false
+abbrev pub DoesNotContinue : (ℕ → Bool) → Reading → List ℕ → Type 0
+DoesNotContinue has_class_form d [] = Unit {0}
+DoesNotContinue has_class_form d (c ∷ x) = continues has_class_form d c ≡ false

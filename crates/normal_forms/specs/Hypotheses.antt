@@ -18,8 +18,8 @@ pub record HasFaithfulResults (d : Reading) : Type 0 where
   pub results : (a c r : ℕ) → d.pair a c ≡ Some r → d.list r ≡ order d (d.list a ++ d.list c)
 
 -- no list is empty
-pub record HasInhabitedLists (d : Reading) : Type 0 where
-  pub inhabited : (c : ℕ) → d.list c ≢ []
+pub record HasNonemptyLists (d : Reading) : Type 0 where
+  pub are_nonempty : (c : ℕ) → d.list c ≢ []
 
 -- the list of a Unicode scalar value is a text
 pub record HasTextLists (d : Reading) : Type 0 where

@@ -3,8 +3,8 @@ use Rattle.std.specs.Prelude.{◌≡◌, ℕ, ◌+◌, ◌-◌, ◌≤◌, Bool,
 use Rattle.normal_forms.specs.Reading.{Reading}
 
 -- how many characters may be buffered
-abbrev pub places : ℕ
-places = 17
+abbrev pub buffer_limit : ℕ
+buffer_limit = 17
 
 -- the list has no member
 abbrev pub is_empty : List ℕ → Bool
@@ -25,11 +25,11 @@ leading_length has_class_form d (c ∷ x) =
 unfoldable pub HasShortChunks : (ℕ → Bool) → Reading → List ℕ → Type 0
 HasShortChunks has_class_form d [] = Unit {0}
 HasShortChunks has_class_form d (c ∷ x) =
-    (continues has_class_form d c ≡ false → length (d.list c) - 1 + leading_length has_class_form d x ≤ places)
+    (continues has_class_form d c ≡ false → length (d.list c) - 1 + leading_length has_class_form d x ≤ buffer_limit)
     × HasShortChunks has_class_form d x
 
 -- the lists of the leading characters that continue have at most 17 characters together, and the other chunks are short
 -- too
 pub record HasShortRuns (has_class_form : ℕ → Bool) (d : Reading) (x : List ℕ) : Type 0 where
-  pub leading : leading_length has_class_form d x ≤ places
+  pub leading : leading_length has_class_form d x ≤ buffer_limit
   pub chunks : HasShortChunks has_class_form d x

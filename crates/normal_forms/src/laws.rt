@@ -7,10 +7,10 @@ ghost use Rattle.std.specs.List.{AllPass};
 ghost use Rattle.normal_forms.specs.Reading.{Reading, IsStarter, IsMark, IsText};
 ghost use Rattle.normal_forms.specs.Alike.{AreAlike};
 ghost use Rattle.normal_forms.specs.Decomposition.{expand};
-ghost use Rattle.normal_forms.specs.Boundary.{BeginsWithStarter, BeginsSafely};
+ghost use Rattle.normal_forms.specs.Boundary.{BeginsWithStarter, BeginsAtBoundary};
 ghost use Rattle.normal_forms.specs.Chunks.{BeginsChunk};
 ghost use Rattle.normal_forms.specs.MarkRun.{compose_marks, IsLastBelow};
-ghost use Rattle.normal_forms.specs.ShortRuns.{continues, leading_length, places, HasShortRuns};
+ghost use Rattle.normal_forms.specs.ShortRuns.{continues, leading_length, buffer_limit, HasShortRuns};
 ghost use Rattle.normal_forms.specs.Order.{InOrder, order};
 ghost use Rattle.normal_forms.specs.Composition.{compose, is_blocked};
 ghost use Rattle.normal_forms.specs.CompositionByStarters.{is_above, compose_after, compose_by_starters};
@@ -21,7 +21,7 @@ ghost use Rattle.normal_forms.specs.Offence.{IsFirstOffence, IsOffenceOf};
 ghost use Rattle.normal_forms.specs.Hypotheses.{
   HasFullLists,
   HasStarterResults,
-  HasInhabitedLists,
+  HasNonemptyLists,
   HasScalarResults,
   HasTextLists,
   SuitsForm,
@@ -124,7 +124,7 @@ pub fn normalized_is_front()
 
 /// A text that isn't normalized has exactly one first mismatch, and the character found there is not the one expected.
 pub fn first_offence()
-    ensures exists { (d : Reading) (form : Form) → HasInhabitedLists d → (x : List ℕ) → normal_form d form x ≢ x →
+    ensures exists { (d : Reading) (form : Form) → HasNonemptyLists d → (x : List ℕ) → normal_form d form x ≢ x →
         (place : ℕ) × (found : ℕ) × (wanted : ℕ) × IsFirstOffence d form x place found wanted }
     ensures unique { (d : Reading) (form : Form) (x : List ℕ) (place found wanted place' found' wanted' : ℕ) →
         IsFirstOffence d form x place found wanted → IsFirstOffence d form x place' found' wanted' →
@@ -135,7 +135,7 @@ pub fn first_offence()
 
 /// A search for the first mismatch of a text has exactly one result: none exactly if the text is normalized.
 pub fn offence_of_text()
-    ensures exists { (d : Reading) (form : Form) → HasInhabitedLists d → (x : List ℕ) →
+    ensures exists { (d : Reading) (form : Form) → HasNonemptyLists d → (x : List ℕ) →
         (o : Option (ℕ × ℕ × ℕ)) × IsOffenceOf d form x o }
     ensures unique { (d : Reading) (form : Form) (x : List ℕ) (o p : Option (ℕ × ℕ × ℕ)) →
         IsOffenceOf d form x o → IsOffenceOf d form x p → o ≡ p }
@@ -158,7 +158,7 @@ pub fn offence_under_continuation()
         normal_form d form x ≢ x → IsCut d form x n → IsCut d form (x ++ y) m → m ≤ n }
     ensures differs { (d : Reading) (form : Form) → SuitsForm d form → (x y : List ℕ) → normal_form d form x ≢ x →
         normal_form d form (x ++ y) ≢ (x ++ y) }
-    ensures offence { (d : Reading) (form : Form) → SuitsForm d form → HasInhabitedLists d →
+    ensures offence { (d : Reading) (form : Form) → SuitsForm d form → HasNonemptyLists d →
         (x y : List ℕ) (n found wanted : ℕ) → IsFirstOffence d form x n found wanted →
         (place : ℕ) × (found' : ℕ) × (wanted' : ℕ) × IsFirstOffence d form (x ++ y) place found' wanted' × (place ≤ n) }
 {}
@@ -166,9 +166,9 @@ pub fn offence_under_continuation()
 /// If a text begins with the form of one of its fronts, that front is normalized. So no text is its form followed by
 /// more.
 pub fn offered_front()
-    ensures piece { (d : Reading) (form : Form) → SuitsForm d form → HasInhabitedLists d → (u v : List ℕ) →
+    ensures piece { (d : Reading) (form : Form) → SuitsForm d form → HasNonemptyLists d → (u v : List ℕ) →
         IsFront (normal_form d form u) (u ++ v) → IsNormalized d form u }
-    ensures whole { (d : Reading) (form : Form) → SuitsForm d form → HasInhabitedLists d → (x : List ℕ) →
+    ensures whole { (d : Reading) (form : Form) → SuitsForm d form → HasNonemptyLists d → (x : List ℕ) →
         IsFront (normal_form d form x) x → IsNormalized d form x }
 {}
 
@@ -177,18 +177,18 @@ pub fn offered_front()
 pub fn safe_boundary()
     ensures decomposing { (d : Reading) (u v : List ℕ) → BeginsWithStarter d (expand d v) →
         nfd d (u ++ v) ≡ nfd d u ++ nfd d v }
-    ensures composing { (d : Reading) → HasStarterResults d → (u v : List ℕ) → BeginsSafely d (expand d v) →
+    ensures composing { (d : Reading) → HasStarterResults d → (u v : List ℕ) → BeginsAtBoundary d (expand d v) →
         nfc d (u ++ v) ≡ nfc d u ++ nfc d v }
 {}
 
 /// A run of characters, each normalized and with a list that begins like that, stays as it is before such a second
 /// part.
-pub fn run_passed_on()
+pub fn passthrough_run()
     ensures decomposing { (d : Reading) (u run v : List ℕ) →
         All (λ c. (nfd d (c ∷ []) ≡ c ∷ []) × BeginsWithStarter d (d.list c)) run → BeginsWithStarter d (expand d v) →
         nfd d (u ++ (run ++ v)) ≡ nfd d u ++ (run ++ nfd d v) }
     ensures composing { (d : Reading) → HasStarterResults d → (u run v : List ℕ) →
-        All (λ c. (nfc d (c ∷ []) ≡ c ∷ []) × BeginsSafely d (d.list c)) run → BeginsSafely d (expand d v) →
+        All (λ c. (nfc d (c ∷ []) ≡ c ∷ []) × BeginsAtBoundary d (d.list c)) run → BeginsAtBoundary d (expand d v) →
         nfc d (u ++ (run ++ v)) ≡ nfc d u ++ (run ++ nfc d v) }
 {}
 
@@ -210,11 +210,11 @@ pub fn short_runs()
         HasShortRuns has_class_form d (front ++ rest) → HasShortRuns has_class_form d rest }
     ensures leading { (has_class_form : ℕ → Bool) (d : Reading) (leading rest : List ℕ) →
         HasShortRuns has_class_form d (leading ++ rest) → AllPass (continues has_class_form d) leading →
-        length (expand d leading) ≤ places }
+        length (expand d leading) ≤ buffer_limit }
     ensures chunk { (has_class_form : ℕ → Bool) (d : Reading) (c first : ℕ) (tail following rest : List ℕ) →
         HasShortRuns has_class_form d (c ∷ (following ++ rest)) → continues has_class_form d c ≡ false →
         d.list c ≡ first ∷ tail → AllPass (continues has_class_form d) following →
-        length (tail ++ expand d following) ≤ places }
+        length (tail ++ expand d following) ≤ buffer_limit }
 {}
 
 /// Over a run of marks composition is one pass, which yields a starter and the marks that stay. A character joins
@@ -233,7 +233,7 @@ pub fn alike_readings_make_the_same_forms()
     ensures same { (d e : Reading) → AreAlike d e → (form : Form) (x : List ℕ) →
         normal_form d form x ≡ normal_form e form x }
     ensures suits { (d e : Reading) → AreAlike d e → (form : Form) → SuitsForm d form → SuitsForm e form }
-    ensures inhabited { (d e : Reading) → AreAlike d e → HasInhabitedLists d → HasInhabitedLists e }
+    ensures are_nonempty { (d e : Reading) → AreAlike d e → HasNonemptyLists d → HasNonemptyLists e }
     ensures texts { (d e : Reading) → AreAlike d e → HasTextLists d → HasTextLists e }
     ensures scalars { (d e : Reading) → AreAlike d e → HasScalarResults d → HasScalarResults e }
 {}

@@ -13,8 +13,8 @@ use Rattle.normalizer_tables.specs.PairConditions.{AreSoundPairs}
 use Rattle.normalizer_tables.specs.Characters.{Characters}
 use Rattle.normalizer_tables.specs.Pairs.{Pair}
 use Rattle.normalizer_conditions.specs.Refusals.{RefusesFirstFailing}
-use Rattle.normalizer_conditions.proofs.FailingLemmas.{IsFirstFailing-not_all}
-use Rattle.normalizer_conditions.proofs.LoadedLemmas.{All-front, IsMet-unsupplemented, parts_met}
+use Rattle.normalizer_conditions.proofs.conditions.FailingLemmas.{IsFirstFailing-not_all}
+use Rattle.normalizer_conditions.proofs.conditions.LoadedLemmas.{All-front, IsMet-unsupplemented, parts_met}
 use Rattle.normalizer_packing.specs.declared.Packed.{Packed}
 use Rattle.normalizer_tables.specs.declared.entry.Kind.TheVariants.{Canonical, Compatibility, Mapper}
 use Rattle.normalizer_packing.specs.ReadBack.{characters_of}

@@ -11,7 +11,7 @@ use Rattle.normalizer_tables.specs.declared.entry.Kind.{Kind}
 use Rattle.normalizer_tables.specs.declared.entry.Kind.TheVariants as kind
 use Rattle.normalizer_tables.specs.Entries.{CharacterEntry, AreRising, own_list, class_in, list_in, entry_of as packed_entry_of}
 use Rattle.normalizer_packing.specs.ReadBack.{list_by}
-use Rattle.normalizer_packing.proofs.EntryLemmas.{Contains-map, find-missing, find-tells}
+use Rattle.normalizer_packing.proofs.entry_data.EntryLemmas.{Contains-map, find-missing, find-tells}
 use Rattle.normalizer_records.specs.Entry.{Entry, MapperEntry}
 use Rattle.normalizer_records.specs.Faults.{IsFirstRefusal}
 use Rattle.normalizer_records.specs.Meaning.{class_of, entry_of, status_of}

@@ -11,10 +11,10 @@ use Rattle.normalizer_tables.specs.Conditions.{IsFirstFailing, IsMet, number_of}
 use Rattle.normalizer_tables.specs.Steps.{step_to}
 use Rattle.normalizer_tables.specs.declared.entry.Kind.{Kind}
 use Rattle.normalizer_tables.specs.declared.entry.Kind.TheVariants.{Canonical, Compatibility, Mapper}
-use Rattle.normalizer_conditions.proofs.FailingLemmas.{IsFirstFailing-here, IsFirstFailing-next}
-use Rattle.normalizer_conditions.proofs.LoadedLemmas.{All-behind, All-front}
+use Rattle.normalizer_conditions.proofs.conditions.FailingLemmas.{IsFirstFailing-here, IsFirstFailing-next}
+use Rattle.normalizer_conditions.proofs.conditions.LoadedLemmas.{All-behind, All-front}
 use Rattle.normalizer_packing.specs.declared.Packed.{Packed}
-use Rattle.normalizer_packing.proofs.EntryLemmas.{find-tells}
+use Rattle.normalizer_packing.proofs.entry_data.EntryLemmas.{find-tells}
 use Rattle.normalizer_records.specs.Entry.{Entry}
 use Rattle.normalizer_records.specs.Meaning.{entry_of, canonical_mapping_of}
 use Rattle.normalizer_records.specs.Recorded.{recorded_step}

@@ -11,12 +11,12 @@ use Rattle.std.proofs.lemmas.List.Folds.{list_any_at}
 use Rattle.std.proofs.lemmas.Option.{same_Some}
 use Rattle.normal_forms.specs.Order.{is_reorderable, insert, order}
 use Rattle.normal_forms.specs.Reading.{Reading}
-use Rattle.normal_forms.proofs.ListLemmas.{AllByRecursion-append}
-use Rattle.normal_forms.proofs.OrderLemmas.{AllByRecursion-order, length-order}
+use Rattle.normal_forms.proofs.forms.ListLemmas.{AllByRecursion-append}
+use Rattle.normal_forms.proofs.ordering.OrderLemmas.{AllByRecursion-order, length-order}
 use Rattle.normalizer_tables.specs.Hangul.{is_hangul_syllable, hangul_decomposition}
 use Rattle.normalizer_tables.specs.declared.entry.Kind.{Kind}
 use Rattle.normalizer_tables.specs.declared.entry.Kind.TheVariants as kind
-use Rattle.normalizer_packing.proofs.EntryLemmas.{find-tells}
+use Rattle.normalizer_packing.proofs.entry_data.EntryLemmas.{find-tells}
 use Rattle.normalizer_records.specs.declared.records.Mappings.{Mappings}
 use Rattle.normalizer_records.specs.declared.records.Mappings.TheVariants.{Canonical, All as AllMappings}
 use Rattle.normalizer_records.specs.declared.records.BuildError.TheVariants as error
@@ -26,10 +26,10 @@ use Rattle.normalizer_records.specs.Faults.{IsFirstRefusal, IsTooLong, IsWrong, 
 use Rattle.normalizer_records.specs.Faults.{is_fixed_for_mapper, is_mark}
 use Rattle.normalizer_records.specs.Meaning.{canonical_list, class_of, compatibility_list, entry_of, expand_all, expansion, full_list, levels, list_of_status, mapped_list, mapper_list}
 use Rattle.normalizer_records.specs.Meaning.{mapping_among, recorded_classes, replace_by, replacement, status_of}
-use Rattle.normalizer_records.proofs.ExpansionLemmas.{expansion-alone, expansion-replaced}
-use Rattle.normalizer_records.proofs.RoomLemmas.{asked}
-use Rattle.normalizer_records.proofs.SyllableLemmas.{by_jamo, jamo_some, replacement-syllable}
-use Rattle.normalizer_records.proofs.UnrecordedLemmas.{jamo_alone, jamo_fixed}
+use Rattle.normalizer_records.proofs.replacing.ExpansionLemmas.{expansion-alone, expansion-replaced}
+use Rattle.normalizer_records.proofs.checked_lists.RoomLemmas.{asked}
+use Rattle.normalizer_records.proofs.checked_lists.JamoOfSyllables.{by_jamo, jamo_some, replacement-syllable}
+use Rattle.normalizer_records.proofs.checked_lists.UnrecordedLemmas.{jamo_alone, jamo_fixed}
 use Rattle.normalizer_records.specs.Recorded.{recorded_characters}
 
 -- the list of n in one kind of data, if records don't ignore n

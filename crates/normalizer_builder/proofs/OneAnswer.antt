@@ -9,7 +9,7 @@ use Rattle.normalizer_records.specs.declared.records.BuildError.{BuildError}
 use Rattle.normalizer_records.specs.declared.records.BuildError.TheVariants as error
 use Rattle.normalizer_records.specs.Entry.{Entry, MapperEntry}
 use Rattle.normalizer_records.specs.Faults.{HasFault, IsFirstRefusal, IsRefusal, rank_of}
-use Rattle.normalizer_records.proofs.RefusalLemmas.{one_fault}
+use Rattle.normalizer_records.proofs.record_faults.RefusalLemmas.{one_fault}
 use Rattle.normalizer_builder.specs.declared.demand.Demand.{Demand}
 use Rattle.normalizer_builder.specs.Building.{Builds, HasTooManyItems, IsSmallest, PacksRecords}
 use Rattle.normalizer_builder.specs.Demands.{demands, error_of, IsFirstUnmet, Meets}

@@ -13,13 +13,13 @@ use Rattle.normalizer_tables.specs.declared.entry.Kind.TheVariants as kind
 use Rattle.normalizer_tables.specs.Entries.{CharacterEntry, class_in, reading_of_entries, kept_list, list_in, own_list}
 use Rattle.normalizer_packing.specs.ReadBack.{AreReadable, class_by, tells_class}
 use Rattle.normalizer_packing.specs.Spelling.{has_fixed_list, have_classes, list_eq}
-use Rattle.normalizer_packing.proofs.TableLemmas.{eq_list}
+use Rattle.normalizer_packing.proofs.lists.TableLemmas.{eq_list}
 use Rattle.normalizer_records.specs.Entry.{Entry, MapperEntry}
 use Rattle.normalizer_records.specs.Faults.{IsFirstRefusal, IsFixedForm, IsFreeForm, begins_with_mark}
 use Rattle.normalizer_records.specs.Meaning.{class_of}
 use Rattle.normalizer_records.specs.Recorded.{IsOfCharacters}
 use Rattle.normalizer_records.specs.Recorded.{AreMadeOf, entry_for}
-use Rattle.normalizer_builder.specs.Recorded.{mapper_class_of}
+use Rattle.normalizer_builder.specs.RecordedClasses.{mapper_class_of}
 use Rattle.normalizer_builder.proofs.EntriesOfRecords.{IsAlone, IsTold, own_recorded, same_class, told}
 use Rattle.normalizer_builder.proofs.NoRefusal.{IsGiven, IsGiven-recorded, asked_mark, class_of-unrecorded, recorded_list, recorded_list-replacement, unrecorded_replacement}
 

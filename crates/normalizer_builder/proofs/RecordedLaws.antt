@@ -9,7 +9,7 @@ use Rattle.normalizer_packing.specs.ReadBack.{characters_of}
 use Rattle.normalizer_records.specs.declared.records.Mappings.TheVariants as mappings
 use Rattle.normalizer_records.specs.Entry.{Entry, MapperEntry}
 use Rattle.normalizer_builder.specs.Building.{MeansRecords}
-use Rattle.normalizer_builder.specs.Readings.{recorded_reading}
+use Rattle.normalizer_builder.specs.RecordedReading.{recorded_reading}
 
 module _ (records : List Entry) (uts46 : List MapperEntry) (p : Packed) (means : MeansRecords records uts46 p) where
   pub alike_canonical : AreAlike (reading_by (characters_of p kind.Canonical) Dropped p.compositions) (recorded_reading records mappings.Canonical)

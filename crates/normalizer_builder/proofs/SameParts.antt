@@ -14,8 +14,8 @@ use Rattle.normalizer_tables.specs.Pairs.{Pair, AreRising as ArePairsRising, is_
 use Rattle.normalizer_packing.specs.declared.Packed.{Packed}
 use Rattle.normalizer_tables.specs.Entries.{CharacterEntry}
 use Rattle.normalizer_packing.specs.Packing.{Packs}
-use Rattle.normalizer_packing.proofs.EntryLemmas.{find-none, find-tells}
-use Rattle.normalizer_packing.proofs.PackingLemmas.{one_packing}
+use Rattle.normalizer_packing.proofs.entry_data.EntryLemmas.{find-none, find-tells}
+use Rattle.normalizer_packing.proofs.entry_data.PackingLemmas.{one_packing}
 use Rattle.normalizer_records.specs.Entry.{Entry, MapperEntry}
 use Rattle.normalizer_builder.specs.Building.{PacksRecords}
 use Rattle.normalizer_records.specs.Recorded.{AreMadeOf, ListsCharacters, entry_for, recorded_characters}

@@ -18,7 +18,7 @@ use Rattle.normalizer_records.specs.Meaning.{mapper_list, pairs_of}
 use Rattle.normalizer_records.specs.Recorded.{AreMadeOf}
 use Rattle.normalizer_builder.specs.declared.demand.Demand.{Demand}
 use Rattle.normalizer_builder.specs.Demands.{characters_of, error_of, IsFirstUnmet, KeepsMapping}
-use Rattle.normalizer_builder.specs.Recorded.{mapper_class_of}
+use Rattle.normalizer_builder.specs.RecordedClasses.{mapper_class_of}
 
 -- data that pack records: an entry for each recorded character, and the pairs in order
 pub record PacksRecords (records : List Entry) (uts46 : List MapperEntry) (p : Packed) : Type 0 where

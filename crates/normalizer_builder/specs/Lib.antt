@@ -2,6 +2,6 @@ pub mod Accepted
 pub mod Building
 pub mod Built
 pub mod Demands
-pub mod Readings
-pub mod Recorded
+pub mod RecordedReading
+pub mod RecordedClasses
 pub mod inner

@@ -2,7 +2,7 @@
 //! its proof is in `proofs/`.
 ghost use Rattle.std.specs.Prelude.{◌≡◌, ◌≢◌, false, true, All, List};
 ghost use Rattle.normal_forms.specs.declared.Form.{Form};
-ghost use Rattle.normal_forms.specs.Hypotheses.{HasInhabitedLists, SuitsForm};
+ghost use Rattle.normal_forms.specs.Hypotheses.{HasNonemptyLists, SuitsForm};
 ghost use Rattle.normalizer_tables.specs.declared.condition.Condition.{Condition};
 ghost use Rattle.normalizer_tables.specs.declared.provider.DataError.{DataError};
 ghost use Rattle.normalizer_tables.specs.declared.provider.DataMarkerInfo.{DataMarkerInfo};
@@ -35,13 +35,13 @@ ghost use Rattle.normalizer_records.specs.declared.records.Mappings.{Mappings};
 ghost use Rattle.normalizer_records.specs.Entry.{Entry, MapperEntry};
 ghost use Rattle.normalizer_builder.specs.Accepted.{steps_loaded};
 ghost use Rattle.normalizer_builder.specs.Building.{Builds, IsSmallest, PacksRecords};
-ghost use Rattle.normalizer_builder.specs.Readings.{recorded_reading};
+ghost use Rattle.normalizer_builder.specs.RecordedReading.{recorded_reading};
 
 use normal_forms::laws::alike_readings_make_the_same_forms;
 use normalizer_conditions::laws::accepted::{
     accepted_data_have_sound_classes, accepted_data_suit_texts, accepted_pairs_are_sound,
 };
-use normalizer_conditions::laws::lists_are_inhabited;
+use normalizer_conditions::laws::lists_are_nonempty;
 
 /// All data that pack the same records are equal, so that the records alone decide which condition fails.
 pub fn packed_records_are_one()
@@ -100,10 +100,10 @@ pub fn data_that_meet_conditions_are_accepted()
 pub fn what_is_built_suits_the_laws()
     ensures suits { (records : List Entry) (uts46 : List MapperEntry) (p : Packed) → Builds records uts46 p →
         (mappings : Mappings) (form : Form) → SuitsForm (recorded_reading records mappings) form }
-    ensures inhabited { (records : List Entry) (uts46 : List MapperEntry) (p : Packed) → Builds records uts46 p →
-        (mappings : Mappings) → HasInhabitedLists (recorded_reading records mappings) }
+    ensures are_nonempty { (records : List Entry) (uts46 : List MapperEntry) (p : Packed) → Builds records uts46 p →
+        (mappings : Mappings) → HasNonemptyLists (recorded_reading records mappings) }
 {
     accepted_data_suit_texts();
-    lists_are_inhabited();
+    lists_are_nonempty();
     alike_readings_make_the_same_forms();
 }

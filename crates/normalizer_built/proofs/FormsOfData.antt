@@ -1,7 +1,7 @@
 -- The forms of normalizers over built data are those of the records.
 use Rattle.std.proofs.Common.{◌≡◌, ℕ, List, []}
 use Rattle.normal_forms.specs.Forms.{normal_form}
-use Rattle.normal_forms.proofs.AlikeReadings.{nfc-alike, nfd-alike}
+use Rattle.normal_forms.proofs.forms.AlikeReadings.{nfc-alike, nfd-alike}
 use Rattle.normalizer_packing.specs.declared.Packed.{Packed}
 use Rattle.normalizer_tables.specs.declared.entry.Kind.TheVariants as kind
 use Rattle.normalizer_packing.specs.ReadBack.{characters_of}
@@ -10,7 +10,7 @@ use Rattle.normalizer_records.specs.Entry.{Entry, MapperEntry}
 use Rattle.normalizer_builder.specs.Building.{MeansRecords}
 use Rattle.normalizer_built.specs.declared.NormalForm.{NormalForm}
 use Rattle.normalizer_built.specs.declared.NormalForm.TheVariants.{Nfd, Nfc, Nfkd, Nfkc}
-use Rattle.normalizer_builder.specs.Readings.{recorded_reading}
+use Rattle.normalizer_builder.specs.RecordedReading.{recorded_reading}
 use Rattle.normalizer_built.specs.RecordedForms.{form_of_data, recorded_form}
 use Rattle.normalizer_tables.specs.Readings.{reading_by}
 use Rattle.normalizer_tables.specs.declared.characters.IgnoredCharacters.TheVariants.{Dropped}

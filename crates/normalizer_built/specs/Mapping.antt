@@ -8,7 +8,7 @@ use Rattle.normalizer_tables.specs.Pairs.{pair_of}
 use Rattle.normalizer_tables.specs.Readings.{reading_by}
 use Rattle.normalizer_records.specs.Entry.{Entry, MapperEntry}
 use Rattle.normalizer_records.specs.Meaning.{mapper_list, pairs_of}
-use Rattle.normalizer_builder.specs.Recorded.{mapper_class_of}
+use Rattle.normalizer_builder.specs.RecordedClasses.{mapper_class_of}
 use Rattle.icu_normalizer.specs.Uts46.{MapperData}
 
 -- the text mapped by data, in NFC: ignored characters are dropped, for mapping, or read as U+FFFD, for validation

@@ -9,7 +9,7 @@ use Rattle.normalizer_tables.specs.declared.entry.Kind.TheVariants as kind
 use Rattle.normalizer_packing.specs.ReadBack.{characters_of}
 use Rattle.normalizer_records.specs.declared.records.Mappings.TheVariants.{Canonical, All}
 use Rattle.normalizer_records.specs.Entry.{Entry}
-use Rattle.normalizer_builder.specs.Readings.{recorded_reading}
+use Rattle.normalizer_builder.specs.RecordedReading.{recorded_reading}
 use Rattle.normalizer_built.specs.declared.NormalForm.{NormalForm}
 use Rattle.normalizer_built.specs.declared.NormalForm.TheVariants.{Nfd, Nfc, Nfkd, Nfkc}
 

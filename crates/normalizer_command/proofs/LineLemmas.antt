@@ -5,7 +5,7 @@ use Rattle.std.specs.List.{join_with_byte, list_any}
 use Rattle.std.proofs.Math.Dec.{eqb-suc-zero}
 use Rattle.std.proofs.Math.Seq.{drop-cons}
 use Rattle.std.proofs.Math.ListN.{drop_of_length-le}
-use Rattle.normalizer_text.proofs.EncodingLemmas.{encoded_in-append}
+use Rattle.normalizer_text.proofs.rules.EncodingLemmas.{encoded_in-append}
 use Rattle.normalizer_text.specs.Encodings.{encoded_in}
 use Rattle.icu_normalizer.specs.Uts46.{MapperData}
 use Rattle.normalizer_streams.specs.declared.scheme.EncodingScheme.{EncodingScheme}

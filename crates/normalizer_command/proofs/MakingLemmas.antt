@@ -1,7 +1,7 @@
 -- What normalizers and the mapper over built data make.
 use Rattle.std.proofs.Common.{◌≡◌, List, [], ◌∷◌, refl}
 use Rattle.normal_forms.specs.Forms.{normal_form}
-use Rattle.normal_forms.proofs.AlikeReadings.{nfc-alike}
+use Rattle.normal_forms.proofs.forms.AlikeReadings.{nfc-alike}
 use Rattle.normalizer_tables.specs.Readings.{reading_by}
 use Rattle.normalizer_tables.specs.declared.characters.IgnoredCharacters.TheVariants.{Dropped, Replaced}
 use Rattle.icu_normalizer.specs.Uts46.{MapperData}
@@ -13,7 +13,7 @@ use Rattle.normalizer_builder.specs.Building.{Builds}
 use Rattle.normalizer_built.specs.declared.NormalForm.TheVariants.{Nfd, Nfc, Nfkd, Nfkc}
 use Rattle.normalizer_built.specs.Mapping.{mapper_reading}
 use Rattle.normalizer_built.proofs.FormsOfData.{form_of_data-recorded}
-use Rattle.icu_normalizer.specs.declared.normalizer.DecomposingNormalizer.{DecomposingNormalizer}
+use Rattle.icu_normalizer.specs.declared.decomposing_normalizer.DecomposingNormalizer.{DecomposingNormalizer}
 use Rattle.icu_normalizer.specs.declared.composing_normalizer.ComposingNormalizer.{ComposingNormalizer}
 use Rattle.icu_normalizer.specs.Normalizers.{data_of}
 use Rattle.icu_normalizer.specs.ComposingNormalizers.{composing_data_of, pairs_of}

@@ -9,6 +9,6 @@ pub mod Replies
 pub mod Reports
 pub mod Runs
 pub mod Versions
-pub mod Words
+pub mod Arguments
 pub mod Works
 pub mod inner

@@ -8,7 +8,7 @@ use Rattle.normalizer_tables.specs.declared.characters.IgnoredCharacters.TheVari
 use Rattle.normalizer_records.specs.declared.records.Mappings.{Mappings}
 use Rattle.normalizer_records.specs.declared.records.Mappings.TheVariants.{Canonical, All}
 use Rattle.normalizer_records.specs.Entry.{Entry, MapperEntry}
-use Rattle.normalizer_builder.specs.Readings.{recorded_reading}
+use Rattle.normalizer_builder.specs.RecordedReading.{recorded_reading}
 use Rattle.normalizer_built.specs.declared.NormalForm.{NormalForm}
 use Rattle.normalizer_built.specs.declared.NormalForm.TheVariants.{Nfd, Nfc, Nfkd, Nfkc}
 use Rattle.normalizer_built.specs.declared.normalizer.Normalizer.{Normalizer}

@@ -81,7 +81,7 @@ pub(crate) fn read_files<I: Inputs>(
     })
 }
 
-// The bytes of the mapping table, if a command needs it.
+/// The bytes of the mapping table, if a command needs it.
 fn read_table<I: Inputs>(
     alloc: Global,
     inputs: &I,
@@ -147,7 +147,7 @@ pub(crate) fn built(alloc: Global, files: &DataFiles) -> Result<Built, DataFault
     }
 }
 
-// The records that the files yield.
+/// The records that the files yield.
 fn records_of(
     alloc: Global,
     files: &DataFiles,
@@ -167,7 +167,7 @@ fn records_of(
     }
 }
 
-// The file that a line is of.
+/// The file that a line is of.
 fn of_file(error: UcdError) -> DataFault
     ensures fault { result.fault ≡ fault_of_file error }
     ensures file { (fault : LineFault) → error ≡ UcdError.Line fault → result.file ≡ fault.place.file }

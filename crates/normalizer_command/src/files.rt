@@ -43,7 +43,7 @@ pub(crate) fn over_files<I: Inputs, W: Target, R: Reports>(
     status
 }
 
-// Reads one file, and writes the reply to it.
+/// Reads one file, and writes the reply to it.
 fn over_file<I: Inputs, W: Target>(
     alloc: Global,
     worker: &Worker,
@@ -64,7 +64,7 @@ fn over_file<I: Inputs, W: Target>(
     over_input(alloc, worker, name, &mut input, writer)
 }
 
-// Writes the form while it reads; else reads to the end, computes the reply, and only then writes it.
+/// Writes the form while it reads; else reads to the end, computes the reply, and only then writes it.
 fn over_input<S: Source, W: Target>(
     alloc: Global,
     worker: &Worker,
@@ -89,7 +89,7 @@ fn over_input<S: Source, W: Target>(
     }
 }
 
-// Reads to the end, computes the reply, and only then writes it.
+/// Reads to the end, computes the reply, and only then writes it.
 fn write_reply<S: Source, W: Target>(
     alloc: Global,
     worker: &Worker,
@@ -112,7 +112,7 @@ fn write_reply<S: Source, W: Target>(
     Ok(reply.answer)
 }
 
-// Reports why a file failed, if it did.
+/// Reports why a file failed, if it did.
 fn tell<R: Reports>(reports: &mut R, name: &str, outcome: Result<Answer, Fault>)
     ensures untold { IfOk outcome (λ _. R.told reports.new ≡ R.told reports.old) }
     ensures told { IfErr outcome (λ fault. Tells (R.told reports.old) (R.told reports.new) (name.now, fault)) }
@@ -128,7 +128,7 @@ fn is_refused_write(outcome: Result<Answer, Fault>) -> bool
     matches!(&outcome, Err(Fault::Write))
 }
 
-// The exit status after a file.
+/// The exit status after a file.
 fn status_of(outcome: Result<Answer, Fault>) -> u8
     ensures { result ≡ status_of outcome }
 {
@@ -139,7 +139,7 @@ fn status_of(outcome: Result<Answer, Fault>) -> u8
     }
 }
 
-// The greater of two.
+/// The greater of two.
 fn greater(a: u8, b: u8) -> u8
     ensures { result ≡ greater a b }
 {

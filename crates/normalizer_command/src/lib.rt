@@ -11,5 +11,5 @@ mod normalizers;
 pub mod reply;
 pub mod run;
 pub mod version;
-pub mod words;
+pub mod arguments;
 pub mod worker;

@@ -43,7 +43,7 @@ impl MapperTask {
         self.reply_to_text(alloc, scheme, &mapper.as_borrowed(), name, &text)
     }
 
-    // Returns the reply to a text, by the mapper's data.
+    /// Returns the reply to a text, by the mapper's data.
     fn reply_to_text(
         self,
         alloc: Global,
@@ -61,7 +61,7 @@ impl MapperTask {
         Ok(self.finished(output))
     }
 
-    // The reply with this output: yes if nothing is reported.
+    /// The reply with this output: yes if nothing is reported.
     fn finished(self, output: Vec<u8>) -> Reply
         ensures output { result.output.items ≡ output.items }
         ensures mapped { self ≡ MapperTask.Map → result.answer ≡ Answer.Done }
@@ -74,7 +74,7 @@ impl MapperTask {
         Reply { answer, output }
     }
 
-    // What is written of the lines.
+    /// What is written of the lines.
     fn replies_to(
         self,
         alloc: Global,
@@ -95,7 +95,7 @@ impl MapperTask {
         Ok(output)
     }
 
-    // What is written of a line.
+    /// What is written of a line.
     fn reply_to(
         self,
         alloc: Global,
@@ -123,14 +123,14 @@ impl MapperTask {
     }
 }
 
-// What is between line feeds.
+/// What is between line feeds.
 fn lines(alloc: Global, text: &[char]) -> Result<Vec<&[char]>, AllocError>
     ensures { IfOk result (λ lines. map (λ line. line.now) lines.items ≡ lines_of text.now) }
 {
     text.split(|c| *c == '\n').collect(alloc)
 }
 
-// A line, mapped; but for the first, after a line feed.
+/// A line, mapped; but for the first, after a line feed.
 fn mapped_line(
     alloc: Global,
     mapper: &Uts46MapperBorrowed<'_>,
@@ -147,7 +147,7 @@ fn mapped_line(
     Ok(text)
 }
 
-// A line feed, or nothing.
+/// A line feed, or nothing.
 fn feed_unless(alloc: Global, is_first: bool) -> Result<Vec<char>, AllocError>
     ensures { IfOk result (λ text. text.items ≡ feed_unless is_first) }
 {
@@ -158,7 +158,7 @@ fn feed_unless(alloc: Global, is_first: bool) -> Result<Vec<char>, AllocError>
     Ok(text)
 }
 
-// The report of a line, unless it is valid.
+/// The report of a line, unless it is valid.
 fn told_unless(
     alloc: Global,
     is_valid: bool,
@@ -173,14 +173,14 @@ fn told_unless(
     Ok(invalid_line(alloc, name, number)?.into_bytes())
 }
 
-// The name of the file, and the number of a line.
+/// The name of the file, and the number of a line.
 fn invalid_line(alloc: Global, name: &str, number: usize) -> Result<String, AllocError>
     ensures { IfOk result (λ line. string_bytes line ≡ invalid_line name.now number) }
 {
     format!(in alloc; "{name}:{number}: invalid\n")
 }
 
-// Whether validation leaves a line as it is, and it has no U+FFFD.
+/// Whether validation leaves a line as it is, and it has no U+FFFD.
 fn is_valid_line(
     alloc: Global,
     mapper: &Uts46MapperBorrowed<'_>,
@@ -200,7 +200,7 @@ fn is_same(a: &[char], b: &[char]) -> bool
     a == b
 }
 
-// Whether a text has U+FFFD.
+/// Whether a text has U+FFFD.
 fn holds_replacement(text: &[char]) -> bool
     ensures { result ≡ list_any (λ c. c == 0xFFFD) text.now }
 {

@@ -13,7 +13,7 @@ use icu_normalizer::Offence;
 use normalizer_streams::EncodingScheme;
 use std::alloc::{AllocError, Global};
 
-// U+000A as a unit.
+/// U+000A as a unit.
 const LINE_FEED: u16 = 0x0A;
 
 /// Returns the line of a mismatch: the name of the file, the line and the byte in it, both from 1, the character that
@@ -34,7 +34,7 @@ pub(crate) fn mismatch_line(
     format!(in alloc; "{position}: found U+{found}, wanted U+{wanted}\n")
 }
 
-// The name, and the line and the byte after the units before the place.
+/// The name, and the line and the byte after the units before the place.
 fn position(
     alloc: Global,
     scheme: EncodingScheme,
@@ -64,7 +64,7 @@ fn byte_after(scheme: EncodingScheme, front: &[u16]) -> usize
     }
 }
 
-// How many units of its line come before the place.
+/// How many units of its line come before the place.
 fn units_before(front: &[u16]) -> usize
     ensures value { result ≡ units_before front.now }
     ensures within { result ≤ length front.now }
@@ -72,7 +72,7 @@ fn units_before(front: &[u16]) -> usize
     front.iter().rev().take_while(|u| **u != LINE_FEED).count()
 }
 
-// Upper-case hexadecimal digits, at least four.
+/// Upper-case hexadecimal digits, at least four.
 fn code_point_digits(alloc: Global, character: char) -> Result<String, AllocError>
     ensures { IfOk result (λ text. string_bytes text ≡ code_point_digits character) }
 {

@@ -69,7 +69,7 @@ impl Task {
     }
 }
 
-// No, with the line of the mismatch; yes, with nothing, if there is none.
+/// No, with the line of the mismatch; yes, with nothing, if there is none.
 fn located(
     alloc: Global,
     scheme: EncodingScheme,
@@ -91,7 +91,7 @@ fn located(
     }
 }
 
-// A name and a line feed.
+/// A name and a line feed.
 fn line(alloc: Global, name: &str) -> Result<String, AllocError>
     ensures { IfOk result (λ line. string_bytes line ≡ line_of name.now) }
 {

@@ -47,7 +47,7 @@ pub fn run<I: Inputs, W: Target, R: Reports>(
     }
 }
 
-// The exit status, or why there are no data: then nothing is written or reported.
+/// The exit status, or why there are no data: then nothing is written or reported.
 fn run_by_files<I: Inputs, W: Target, R: Reports>(
     alloc: Global,
     command: Command,
@@ -78,7 +78,7 @@ fn run_by_files<I: Inputs, W: Target, R: Reports>(
     }
 }
 
-// The exit status, unless there was not enough memory for the normalizer or the mapper.
+/// The exit status, unless there was not enough memory for the normalizer or the mapper.
 fn over_data<I: Inputs, W: Target, R: Reports>(
     alloc: Global,
     data: &Built,

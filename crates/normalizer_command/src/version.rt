@@ -45,7 +45,7 @@ pub fn write_version<I: Inputs, W: Target, R: Reports>(
     }
 }
 
-// Writes the versions, by a directory.
+/// Writes the versions, by a directory.
 fn version_written<I: Inputs, W: Target>(
     alloc: Global,
     directory: &str,
@@ -70,7 +70,7 @@ fn version_written<I: Inputs, W: Target>(
     }
 }
 
-// Writes the versions.
+/// Writes the versions.
 fn text_written<W: Target>(alloc: Global, exclusions: &[u8], writer: &mut W) -> Result<(), Fault>
     ensures written { OnOk result (Appends (W.taken writer.old) (W.taken writer.new) (version_text exclusions.now)) }
     ensures why { IfErr result (IsFileFault (λ _. ⊥) ⊥ (W.refused writer.old writer.new)) }

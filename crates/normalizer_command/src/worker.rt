@@ -54,7 +54,7 @@ pub(crate) fn worker_for(built: &Built, command: Command) -> Result<Worker, Norm
     }
 }
 
-// The mapper, which maps by what the records mean.
+/// The mapper, which maps by what the records mean.
 fn mapper_over(built: &Built) -> Result<Uts46Mapper, NormalizeError>
     requires { AreBuilt (data_in built.now) }
     ensures maps { (records : List Entry) (uts46 : List MapperEntry) → Builds records uts46 (data_in built.now) →

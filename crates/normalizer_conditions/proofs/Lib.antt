@@ -1,9 +1,4 @@
-pub mod AcceptedLaws
-pub mod FailingLemmas
-pub mod FdfaWords
-pub mod FirstFailing
-pub mod LoadedLemmas
-pub mod PairConditionLemmas
-pub mod PairLaws
-pub mod SyllableLemmas
-pub mod WalkLemmas
+pub mod words
+pub mod composites
+pub mod conditions
+pub mod syllables

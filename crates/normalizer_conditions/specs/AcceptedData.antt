@@ -2,7 +2,7 @@
 use Rattle.std.specs.Prelude.{Bool, List, [], ◌∷◌, ◌++◌, All, if◌then◌else◌}
 use Rattle.normal_forms.specs.Reading.{Reading}
 use Rattle.normal_forms.specs.declared.Form.{Form}
-use Rattle.normal_forms.specs.Hypotheses.{HasFullLists, HasInhabitedLists, HasScalarResults, HasStarterResults}
+use Rattle.normal_forms.specs.Hypotheses.{HasFullLists, HasNonemptyLists, HasScalarResults, HasStarterResults}
 use Rattle.normal_forms.specs.Hypotheses.{HasTextLists, SuitsForm}
 use Rattle.normalizer_tables.specs.declared.condition.Bounds.{Bounds}
 use Rattle.normalizer_tables.specs.declared.condition.Condition.{Condition}
@@ -51,7 +51,7 @@ AreAcceptedPairs s b pairs = All (IsMet (pairs_loaded s b pairs)) (pair_conditio
 -- compose to characters
 pub record SuitsTexts (d : Reading) (form : Form) : Type 0 where
   pub laws : SuitsForm d form
-  pub inhabited : HasInhabitedLists d
+  pub are_nonempty : HasNonemptyLists d
   pub texts : HasTextLists d
   pub scalars : HasScalarResults d
 

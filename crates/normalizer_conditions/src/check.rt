@@ -6,7 +6,7 @@ ghost use Rattle.normalizer_tables.specs.Conditions.{IsFirstFailing, IsMet, IsPl
 ghost use Rattle.normalizer_conditions.specs.Refusals.{RefusesFirstFailing};
 ghost use Rattle.normalizer_tables.specs.Table.{code_points};
 ghost use Rattle.normalizer_tables.specs.declared.condition.Condition.TheVariants as condition;
-ghost use Rattle.normalizer_conditions.specs.inner.Walk.{IsEndOfAlike, IsMetApart, IsMetAt, is_asked_of_words};
+ghost use Rattle.normalizer_conditions.specs.inner.Walk.{IsEndOfEqualWords, IsMetApart, IsMetAt, is_asked_of_words};
 
 use crate::check::met::{is_met_apart, is_met_at};
 use crate::loaded::LoadedData;
@@ -52,7 +52,7 @@ pub fn first_failing(data: &LoadedData<'_>, conditions: &[Condition]) -> Option<
     while from < CODE_POINTS && are_asked_of_words(&conditions[..failing]) {
         let number = data.characters.next_with_word(from);
         failing = first_failing_at(data, &conditions[..failing], number);
-        from = end_of_alike(number, hangul_is_sound);
+        from = end_of_equal_words(number, hangul_is_sound);
     }
     conditions.get(failing).copied()
 }
@@ -90,9 +90,9 @@ fn are_asked_of_words(conditions: &[Condition]) -> bool
 /// The end of the numbers for which it suffices to check this one. If Hangul is sound, that is all syllables after it
 /// with the same leading consonant.
 #[tactic(auto, unfolding(normalizer_tables::specs::Hangul::is_hangul_syllable, normalizer_tables::specs::Table::code_points))]
-fn end_of_alike(number: u32, hangul_is_sound: bool) -> u32
+fn end_of_equal_words(number: u32, hangul_is_sound: bool) -> u32
     requires { number ≤ code_points }
-    ensures { IsEndOfAlike hangul_is_sound number result }
+    ensures { IsEndOfEqualWords hangul_is_sound number result }
 {
     if hangul_is_sound && is_hangul_syllable(number) {
         S_BASE + ((number - S_BASE) / N_COUNT + 1) * N_COUNT

@@ -1,11 +1,11 @@
 //! What holds of data that meet the written conditions. Each function does nothing: its contract is the law, and its
 //! proof is in `proofs/`.
-#![tactic(auto, using(normalizer_tables::proofs::InhabitedLists::inhabited_lists, normalizer_tables::proofs::SoundLists::sound_lists))]
+#![tactic(auto, using(normalizer_tables::proofs::lists::NonemptyLists::inhabited_lists, normalizer_tables::proofs::lists::SoundLists::sound_lists))]
 
 ghost use Rattle.std.specs.Prelude.{◌≡◌, ℕ, ◌⊎◌, false, Option};
 ghost use Rattle.std.specs.Char.{IsScalar};
 ghost use Rattle.normal_forms.specs.Boundary.{BeginsWithStarter};
-ghost use Rattle.normal_forms.specs.Hypotheses.{HasFullLists, HasInhabitedLists};
+ghost use Rattle.normal_forms.specs.Hypotheses.{HasFullLists, HasNonemptyLists};
 ghost use Rattle.normal_forms.specs.Order.{order};
 ghost use Rattle.normal_forms.specs.Reading.{IsStarter, IsText};
 ghost use Rattle.normalizer_tables.specs.Characters.{Characters, has_class_form, list_of};
@@ -26,10 +26,10 @@ pub fn lists_are_full()
 {}
 
 /// No list is empty, except those of characters that the mapper drops.
-pub fn lists_are_inhabited()
+pub fn lists_are_nonempty()
     ensures { (s : Characters) (i : IgnoredCharacters) (pairing : ℕ → ℕ → Option ℕ) →
         (s.is_mapper ≡ false) ⊎ (i ≡ Replaced) →
-        HasInhabitedLists (reading_of s (ignored_list i) pairing) }
+        HasNonemptyLists (reading_of s (ignored_list i) pairing) }
 {}
 
 /// The list of a character without class form begins with a starter, and the character is a starter.

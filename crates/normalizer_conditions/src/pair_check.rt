@@ -14,7 +14,7 @@ use normalizer_tables::{
     CanonicalCompositions, has_no_jamo_second, is_rising, pair_at, pair_count,
 };
 
-pub(crate) mod beginnings;
+pub(crate) mod round_trips;
 pub(crate) mod results;
 
 /// Whether pairs strictly rise, and none has a vowel or a trailing consonant of Hangul as its second.

@@ -21,7 +21,7 @@ use normalizer_tables::word::is_hangul_syllable;
 const ROOM: usize = 18;
 
 /// Whether the word of a number, flags aside, has not the form of U+FDFA: that of a Hangul syllable never has.
-#[tactic(auto, using(crate::proofs::FdfaWords::syllable_avoids, crate::proofs::FdfaWords::other_avoids))]
+#[tactic(auto, using(crate::proofs::words::FdfaWords::syllable_avoids, crate::proofs::words::FdfaWords::other_avoids))]
 pub(crate) fn avoids_fdfa(number: u32, word: u32) -> bool
     ensures { (is_mapper : Bool) → IsTrue result ↔ (read number word is_mapper ≢ Fdfa) }
 {
@@ -63,7 +63,7 @@ fn is_sound_step(data: &CharacterData<'_>, read: &ReadCharacter<'_>, step: Step)
 }
 
 /// Whether a list is that of a character put in order.
-#[tactic(auto, using(crate::proofs::PairConditionLemmas::ordered_lists))]
+#[tactic(auto, using(crate::proofs::composites::PairConditionLemmas::ordered_lists))]
 fn has_ordered_list(data: &CharacterData<'_>, list: &Members<'_>, character: char) -> bool
     ensures { IsTrue result ↔ (list.now ≡ order (reading_by data.now Dropped []) (list_of data.now [] character)) }
 {

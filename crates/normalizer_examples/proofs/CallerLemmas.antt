@@ -13,11 +13,11 @@ use Rattle.normal_forms.specs.declared.Form.TheVariants.{Composing}
 use Rattle.normal_forms.specs.Forms.{normal_form, IsNormalized}
 use Rattle.normal_forms.specs.Equivalence.{EquivalentTexts}
 use Rattle.normalizer_text.specs.Encodings.{Encoding}
-use Rattle.normalizer_text.proofs.StrLemmas.{decoded-chars, IsUtf8-IsWellFormed}
-use Rattle.normalizer_text.proofs.StepLemmas.{decoded-IsText}
+use Rattle.normalizer_text.proofs.rules.StrLemmas.{decoded-chars, IsUtf8-IsWellFormed}
+use Rattle.normalizer_text.proofs.steps.StepLemmas.{decoded-IsText}
 use Rattle.normalizer_text.specs.declared.offence.Offence.{Offence}
 use Rattle.normalizer_text.specs.InputCut.{IsInputNormalized}
-use Rattle.normalizer_text.proofs.InputCutLemmas.{input_cut_unique, is_normalized_iff_input_cut}
+use Rattle.normalizer_text.proofs.inputs.InputCutLemmas.{input_cut_unique, is_normalized_iff_input_cut}
 use Rattle.icu_normalizer.specs.Checks.{IsLastingOffenceOfText, IsSplitAtCut, IsTextSplitAtCut}
 use Rattle.icu_normalizer.specs.Forms.{MadeForm}
 use Rattle.icu_normalizer.specs.Owned.{IsFormOf}

@@ -2,7 +2,7 @@
 use Rattle.std.specs.Prelude.{◌≡◌, ℕ, List, [], Ok}
 use Rattle.normalizer_records.specs.Entry.{Entry}
 use Rattle.normalizer_builder.specs.Building.{IsSmallest}
-use Rattle.normalizer_ucd.specs.Reading.{Fails}
+use Rattle.normalizer_ucd.specs.FallibleReads.{Fails}
 use Rattle.normalizer_ucd.specs.UnicodeData.{records_of}
 use Rattle.normalizer_built.specs.RecordedForms.{recorded_form}
 use Rattle.normalizer_built.specs.declared.NormalForm.{NormalForm}

@@ -7,7 +7,7 @@ use crate::device::{Source, Target};
 use crate::outcome::TransferError;
 use std::alloc::Global;
 
-// The most bytes that one read returns.
+/// The most bytes that one read returns.
 const CHUNK: usize = 8192;
 
 /// Reads to the end, and returns the bytes.
@@ -24,7 +24,7 @@ pub fn read_all<R: Source>(alloc: Global, reader: &mut R) -> Result<Vec<u8>, Tra
     read_by(alloc, reader, &mut chunk)
 }
 
-// Reads to the end, as much at a time as a chunk holds.
+/// Reads to the end, as much at a time as a chunk holds.
 fn read_by<R: Source>(
     alloc: Global,
     reader: &mut R,

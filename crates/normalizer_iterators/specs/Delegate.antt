@@ -14,21 +14,21 @@ pub data Extent : Type 0 where
   so_far : Extent
 
 -- calls of an iterator may yield these characters
-abbrev pub MayGive : {I : Type 0} → (I → Option ℕ → I → Type 0) → Extent → I → List ℕ → Type 0
-MayGive {I = I} gives to_end it x = Drains gives it x
-MayGive {I = I} gives so_far it x = (after : I) × Yields gives it x after
+abbrev pub MayYield : {I : Type 0} → (I → Option ℕ → I → Type 0) → Extent → I → List ℕ → Type 0
+MayYield {I = I} gives to_end it x = Drains gives it x
+MayYield {I = I} gives so_far it x = (after : I) × Yields gives it x after
 
 -- what an iterator yields after the character that it yielded last; nothing if that was `None`
-abbrev pub ComesBehind : {I : Type 0} → (I → List ℕ → Type 0) → Option ℕ → I → List ℕ → Type 0
-ComesBehind Comes last it x = MatchOption last (x ≡ []) (λ _. Comes it x)
+abbrev pub ComesAfter : {I : Type 0} → (I → List ℕ → Type 0) → Option ℕ → I → List ℕ → Type 0
+ComesAfter Comes last it x = MatchOption last (x ≡ []) (λ _. Comes it x)
 
 -- what it spells there
-abbrev pub SpellsBehind : {I : Type 0} → (I → Option ℕ → I → Type 0) → Option ℕ → I → List ℕ → Type 0
-SpellsBehind gives last it x = ComesBehind (Spells gives) last it x
+abbrev pub SpellsAfter : {I : Type 0} → (I → Option ℕ → I → Type 0) → Option ℕ → I → List ℕ → Type 0
+SpellsAfter gives last it x = ComesAfter (Spells gives) last it x
 
 -- it may be called, and ends; nothing is required of it if it yielded `None`
-abbrev pub IsReadyBehind : {I : Type 0} → (I → Type 0) → (I → Count) → Option ℕ → I → Type 0
-IsReadyBehind can left last it = MatchOption last ⊤ (λ _. can it × IsFinite (left it))
+abbrev pub IsReadyAfter : {I : Type 0} → (I → Type 0) → (I → Count) → Option ℕ → I → Type 0
+IsReadyAfter can left last it = MatchOption last ⊤ (λ _. can it × IsFinite (left it))
 
 -- a call from `before` yielded this and left `after`, nearer to the end after a character
 pub record HasRead {I : Type 0} (gives : I → Option ℕ → I → Type 0) (left : I → Count) (before : I) (given : Option ℕ)

@@ -1,7 +1,7 @@
 pub mod ByClass
 pub mod Composing
-pub mod Composition
-pub mod Decomposition
+pub mod CompositionItems
+pub mod DecompositionItems
 pub mod Delegate
 pub mod Items
 pub mod Iterating

@@ -3,17 +3,17 @@ use Rattle.std.specs.Prelude.{◌≡◌, ℕ, List, [], ◌∷◌, Option, None,
 use Rattle.std.specs.Prelude.{IfOk, IsOk, OnErr}
 use Rattle.normalizer_iterators.specs.declared.error.NormalizeError.{NormalizeError}
 use Rattle.normalizer_iterators.specs.declared.error.NormalizeError.TheVariants.{Memory}
-use Rattle.normalizer_iterators.specs.Delegate.{Extent, MayGive}
+use Rattle.normalizer_iterators.specs.Delegate.{Extent, MayYield}
 
 -- what may come is the form of what the source may yield
 abbrev pub IsFormOfSource : {I S : Type 0} → (I → Option ℕ → I → Type 0) → (Extent → S → List ℕ → Type 0)
     → (List ℕ → List ℕ) → I → S → Type 0
 IsFormOfSource gives MayCome form source s =
-    (e : Extent) (out : List ℕ) → MayCome e s out → (x : List ℕ) × MayGive gives e source x × (out ≡ form x)
+    (e : Extent) (out : List ℕ) → MayCome e s out → (x : List ℕ) × MayYield gives e source x × (out ≡ form x)
 
 -- the first of out came, and the rest is to come
-abbrev pub GaveFirst : {S : Type 0} → (S → List ℕ → Type 0) → List ℕ → S → ℕ → Type 0
-GaveFirst WillGive out t c = (rest : List ℕ) × (out ≡ c ∷ rest) × WillGive t rest
+abbrev pub YieldedFirst : {S : Type 0} → (S → List ℕ → Type 0) → List ℕ → S → ℕ → Type 0
+YieldedFirst WillYield out t c = (rest : List ℕ) × (out ≡ c ∷ rest) × WillYield t rest
 
 -- A call from s returned r and left t: what may come from t may come from s after the character that was yielded, and
 -- nothing if that was None.
@@ -24,10 +24,10 @@ CameFirst MayCome s r t =
 -- A call from s returned r and left t: the first character of what was to come, or None if nothing was; or the fault
 -- `Memory`. After a fault and after None nothing is to come, and None comes forever. If all runs that are to come are
 -- short, there is no fault.
-pub record YieldsNext {S : Type 0} (WillGive : S → List ℕ → Type 0) (StaysShort IsEnded : S → Type 0) (s : S)
+pub record YieldsNext {S : Type 0} (WillYield : S → List ℕ → Type 0) (StaysShort IsEnded : S → Type 0) (s : S)
     (r : Option (Result ℕ NormalizeError)) (t : S) : Type 0 where
-  pub first : (out : List ℕ) → WillGive s out → MatchOption r ((out ≡ []) × WillGive t [])
-      (λ item. MatchResult item (GaveFirst WillGive out t) (λ _. WillGive t []))
+  pub first : (out : List ℕ) → WillYield s out → MatchOption r ((out ≡ []) × WillYield t [])
+      (λ item. MatchResult item (YieldedFirst WillYield out t) (λ _. WillYield t []))
   pub fault : IfSome r (λ item. IfErr item (λ e. e ≡ Memory))
   pub room : StaysShort s → IfSome r IsOk × StaysShort t
   pub ends : MatchOption r (IsEnded t) (λ item. OnErr item (IsEnded t))

@@ -1,6 +1,6 @@
 -- What the contracts of private functions alone cite.
 pub mod Chunk
-pub mod Passing
+pub mod PassthroughItems
 pub mod ReadingOn
 pub mod Segments
-pub mod ShortText
+pub mod ShortTextSteps

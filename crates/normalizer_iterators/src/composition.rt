@@ -4,15 +4,15 @@ ghost use Rattle.std.specs.Prelude.{IsOk, IsOkUnless};
 ghost use Rattle.std.specs.Iterator.{at_most, IsFinite, MakesProgress};
 ghost use Rattle.normal_forms.specs.Forms.{nfc};
 ghost use Rattle.normal_forms.specs.CompositionByStarters.{join};
-ghost use Rattle.normal_forms.specs.ShortRuns.{places};
+ghost use Rattle.normal_forms.specs.ShortRuns.{buffer_limit};
 ghost use Rattle.normalizer_tables.specs.Characters.{has_class_form};
 ghost use Rattle.normalizer_tables.specs.Pairs.{pair_of};
 ghost use Rattle.normalizer_tables.specs.Readings.{reading_by};
 ghost use Rattle.normalizer_text.specs.Steps.{Spells};
-ghost use Rattle.normalizer_iterators.specs.Decomposition.{CanDecompose};
-ghost use Rattle.normalizer_iterators.specs.Delegate.{MayGive};
+ghost use Rattle.normalizer_iterators.specs.DecompositionItems.{CanDecompose};
+ghost use Rattle.normalizer_iterators.specs.Delegate.{MayYield};
 ghost use Rattle.normalizer_iterators.specs.LazyComposing.{SuitsLazyComposing};
-ghost use Rattle.normalizer_iterators.specs.inner.Passing.{IsAtPassed};
+ghost use Rattle.normalizer_iterators.specs.inner.PassthroughItems.{IsAtPassthrough};
 ghost use Rattle.normalizer_iterators.specs.LazyReading.{SuitsLazyReading};
 ghost use Rattle.normalizer_iterators.specs.NextItem.{IsFormOfSource};
 ghost use Rattle.normalizer_iterators.specs.StayingMarks.{staying, used};
@@ -20,11 +20,11 @@ ghost use Rattle.normalizer_iterators.specs.Composing.{ComposesStarterBy, HasVis
 ghost use Rattle.normalizer_iterators.specs.Composing.{IsRefused};
 ghost use Rattle.normalizer_iterators.specs.inner.ReadingOn.{IfShortRuns};
 
-use crate::composition::passing::{Given, is_at_passed, pass_next};
+use crate::composition::passing::{Given, is_at_passthrough, next_passthrough};
 use crate::decomposition::Decomposition;
 use crate::error::NormalizeError;
 use crate::marks::StayingMarks;
-use crate::waiting::Classed;
+use crate::waiting::ClassedChar;
 use normalizer_tables::characters::{CharacterData, IgnoredCharacters};
 use normalizer_tables::condition::Bounds;
 use normalizer_tables::{CanonicalCompositions, compose};
@@ -56,19 +56,19 @@ enum Visited {
     /// It joined: the starter has become this one.
     Joined(char),
     /// It is the next starter.
-    StartsAnew,
+    BecomesStarter,
     /// It is one more of the marks that stay.
     Stays,
 }
 
 impl<'data, I: Iterator<Item = char> + Drop> Composition<'data, I> {
-    ghost use Rattle.normalizer_iterators.specs.Composition.{
+    ghost use Rattle.normalizer_iterators.specs.CompositionItems.{
       CanCompose,
       ComposesOn,
       CompositionSteps,
       HasListsOfBoth,
       StaysShort,
-      WillGive,
+      WillYield,
       data_of_composition,
       items_left,
       pairs_of_composition,
@@ -87,8 +87,8 @@ impl<'data, I: Iterator<Item = char> + Drop> Composition<'data, I> {
         requires reading { SuitsLazyReading (has_class_form characters) (reading_by characters ignored []) }
         requires composing { SuitsLazyComposing characters bounds pairs.now }
         ensures text { IfOk result (λ it. (x : List ℕ) → Spells I.next_gives delegate x →
-            WillGive (Spells I.next_gives) it (nfc (reading_by characters.entry ignored pairs.now) x)) }
-        ensures came { IfOk result (IsFormOfSource I.next_gives (λ e. WillGive (MayGive I.next_gives e))
+            WillYield (Spells I.next_gives) it (nfc (reading_by characters.entry ignored pairs.now) x)) }
+        ensures came { IfOk result (IsFormOfSource I.next_gives (λ e. WillYield (MayYield I.next_gives e))
             (nfc (reading_by characters.entry ignored pairs.now)) delegate) }
         ensures short { IfOk result (λ it.
             IfShortRuns I.next_gives characters.entry ignored delegate (StaysShort I.next_gives it)) }
@@ -149,10 +149,10 @@ impl<'data, I: Iterator<Item = char> + Drop> Composition<'data, I> {
         requires can { CanCompose I.can_next I.remaining self.old }
         requires marks { staying self.old.marks ≡ [] }
         requires ahead { self.old.ahead ≡ None }
-        requires at_passed { IsAtPassed self.old.pairs.now self.old.decomposed }
+        requires at_passed { IsAtPassthrough self.old.pairs.now self.old.decomposed }
         ensures { CompositionSteps I.Iterator self.old result self.new }
     {
-        match pass_next(&mut self.decomposed, self.bounds) {
+        match next_passthrough(&mut self.decomposed, self.bounds) {
             Some(Ok(Given::Itself(character))) => Some(Ok(character)),
             Some(Ok(Given::FirstMember(starter))) => Some(self.compose_on(starter)),
             Some(Err(error)) => Some(Err(error)),
@@ -193,7 +193,7 @@ impl<'data, I: Iterator<Item = char> + Drop> Composition<'data, I> {
         if let Some(starter) = self.ahead {
             return Some(self.compose_on(starter));
         }
-        if is_at_passed(&self.decomposed, self.bounds) {
+        if is_at_passthrough(&self.decomposed, self.bounds) {
             return self.pass();
         }
         self.next_decomposed()
@@ -219,7 +219,7 @@ fn compose_starter<I: Iterator<Item = char> + Drop>(
 {
     let mut composite = starter;
     marks.clear();
-    while !is_at_passed(decomposed, bounds) {
+    while !is_at_passthrough(decomposed, bounds) {
         let Some(item) = decomposed.next_with_class() else {
             return Ok((composite, None));
         };
@@ -229,7 +229,7 @@ fn compose_starter<I: Iterator<Item = char> + Drop>(
         };
         match visit(pairs, marks, composite, given) {
             Ok(Visited::Joined(joined)) => composite = joined,
-            Ok(Visited::StartsAnew) => return Ok((composite, Some(given.character))),
+            Ok(Visited::BecomesStarter) => return Ok((composite, Some(given.character))),
             Ok(Visited::Stays) => {}
             Err(_) => return Err(NormalizeError::Memory),
         }
@@ -243,16 +243,16 @@ fn visit(
     pairs: &CanonicalCompositions,
     marks: &mut StayingMarks,
     starter: char,
-    given: Classed,
+    given: ClassedChar,
 ) -> Result<Visited, AllocError>
     ensures ok { IfOk result (λ v. HasVisitedBy pairs.now starter given marks.old v marks.new) }
-    ensures err { OnErr result ((places ≤ used marks.old) × (0 < given.class)) }
+    ensures err { OnErr result ((buffer_limit ≤ used marks.old) × (0 < given.class)) }
 {
     if let Some(joined) = join(pairs, marks, starter, given) {
         return Ok(Visited::Joined(joined));
     }
     if given.class == 0 {
-        return Ok(Visited::StartsAnew);
+        return Ok(Visited::BecomesStarter);
     }
     marks.push(given.character, given.class)?;
     Ok(Visited::Stays)
@@ -264,11 +264,11 @@ fn join(
     pairs: &CanonicalCompositions,
     marks: &StayingMarks,
     starter: char,
-    given: Classed,
+    given: ClassedChar,
 ) -> Option<char>
     ensures { IsJoinBy pairs.now starter marks.now given result }
 {
-    if marks.lets_pass(given.class) {
+    if marks.is_unblocked(given.class) {
         compose(pairs, starter, given.character)
     } else {
         None
@@ -276,7 +276,7 @@ fn join(
 }
 
 impl<'data, I: Iterator<Item = char> + Drop> Iterator for Composition<'data, I> {
-    ghost use Rattle.normalizer_iterators.specs.Composition.{CanCompose, CompositionSteps, items_left};
+    ghost use Rattle.normalizer_iterators.specs.CompositionItems.{CanCompose, CompositionSteps, items_left};
 
     type Item = Result<char, NormalizeError>;
 

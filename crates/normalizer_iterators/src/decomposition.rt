@@ -10,20 +10,20 @@ ghost use Rattle.normalizer_tables.specs.NfdData.{IsSoundNfdData};
 ghost use Rattle.normalizer_tables.specs.Readings.{reading_by};
 ghost use Rattle.normalizer_tables.specs.declared.characters.IgnoredCharacters.TheVariants.{Dropped};
 ghost use Rattle.normalizer_text.specs.Steps.{Spells};
-ghost use Rattle.normalizer_iterators.specs.Delegate.{HasRead, IsReadyBehind, MayGive};
+ghost use Rattle.normalizer_iterators.specs.Delegate.{HasRead, IsReadyAfter, MayYield};
 ghost use Rattle.normalizer_iterators.specs.Iterating.{YieldsFormBy};
 ghost use Rattle.normalizer_iterators.specs.LazyReading.{SuitsLazyReading};
 ghost use Rattle.normalizer_iterators.specs.NextItem.{IsFormOfSource};
 ghost use Rattle.normalizer_iterators.specs.WaitingList.{AgreesWith, ordered, unordered};
 ghost use Rattle.normalizer_iterators.specs.Waiting.{HasClassesOf};
 ghost use Rattle.normalizer_iterators.specs.Reads.{character_of, HasOwnWord, HasOwnWords};
-ghost use Rattle.normalizer_iterators.specs.inner.ReadingOn.{ReadsChunkBehind, ChunkDidNotFitBehind, StandsAlone};
+ghost use Rattle.normalizer_iterators.specs.inner.ReadingOn.{ReadsChunkAfter, ChunkDidNotFitAfter, IsWholeChunk};
 ghost use Rattle.normalizer_iterators.specs.inner.ReadingOn.{IfShortRuns};
 
 use crate::error::NormalizeError;
-use crate::read::{ReadCharacter, read_from};
+use crate::pending::{PendingChar, read_from};
 use crate::reading::{push_from, read_on};
-use crate::waiting::{Classed, WaitingList};
+use crate::waiting::{ClassedChar, WaitingList};
 use normalizer_tables::characters::{CharacterData, IgnoredCharacters};
 use normalizer_tables::condition::GREATEST_BOUNDS;
 use normalizer_tables::{DecompositionData, DecompositionTables};
@@ -38,10 +38,10 @@ pub struct Decomposition<'data, I> {
     pub(crate) characters: CharacterData<'data>,
     ignored: IgnoredCharacters,
     pub(crate) delegate: I,
-    pub(crate) pending: Option<ReadCharacter>,
+    pub(crate) pending: Option<PendingChar>,
     pub(crate) waiting: WaitingList,
     ghost suits: { SuitsLazyReading (has_class_form characters) (reading_by characters ignored []) },
-    ghost anew: { ForSome (character_of pending) (λ c. continues (has_class_form characters)
+    ghost at_boundary: { ForSome (character_of pending) (λ c. continues (has_class_form characters)
         (reading_by characters ignored []) c ≡ false) },
     ghost word: { HasOwnWords characters pending },
     ghost settled: { unordered waiting ≡ [] },
@@ -50,12 +50,12 @@ pub struct Decomposition<'data, I> {
 
 impl<'data, I: Iterator<Item = char> + Drop> Decomposition<'data, I> {
     ghost use Rattle.normalizer_iterators.specs.inner.Chunk.{ChunkComes, ChunkIsRefused};
-    ghost use Rattle.normalizer_iterators.specs.Decomposition.{
+    ghost use Rattle.normalizer_iterators.specs.DecompositionItems.{
       CanDecompose,
       DecompositionSteps,
       IsEnded,
       StaysShort,
-      WillGive,
+      WillYield,
       item_of,
       items_left,
     };
@@ -81,7 +81,7 @@ impl<'data, I: Iterator<Item = char> + Drop> Decomposition<'data, I> {
         ensures ready { IfOk result ⟦<Decomposition<'data, I> as Iterator>⟧.can_next }
     {
         let characters = CharacterData::new(decompositions, tables, None, false);
-        let characters = characters.passing_unseen_below(GREATEST_BOUNDS.decomposition);
+        let characters = characters.with_passthrough_bound(GREATEST_BOUNDS.decomposition);
         decomposed(characters, IgnoredCharacters::Dropped, delegate)
     }
 
@@ -95,8 +95,8 @@ impl<'data, I: Iterator<Item = char> + Drop> Decomposition<'data, I> {
         requires ends { IsFinite (I.remaining delegate) }
         requires suits { SuitsLazyReading (has_class_form characters) (reading_by characters ignored []) }
         ensures text { IfOk result (λ it. (x : List ℕ) → Spells I.next_gives delegate x →
-            WillGive (Spells I.next_gives) it (nfd (reading_by characters.entry ignored []) x)) }
-        ensures came { IfOk result (IsFormOfSource I.next_gives (λ e. WillGive (MayGive I.next_gives e))
+            WillYield (Spells I.next_gives) it (nfd (reading_by characters.entry ignored []) x)) }
+        ensures came { IfOk result (IsFormOfSource I.next_gives (λ e. WillYield (MayYield I.next_gives e))
             (nfd (reading_by characters.entry ignored [])) delegate) }
         ensures short { IfOk result (λ it.
             IfShortRuns I.next_gives characters.entry ignored delegate (StaysShort I.next_gives it)) }
@@ -123,16 +123,16 @@ impl<'data, I: Iterator<Item = char> + Drop> Decomposition<'data, I> {
     #[inline(always)]
     pub(crate) fn next_chunk(
         &mut self,
-        read: ReadCharacter,
-        following: Option<ReadCharacter>,
+        read: PendingChar,
+        following: Option<PendingChar>,
     ) -> Result<char, NormalizeError>
         requires taken { self.old.pending ≡ None }
         requires empty { ordered self.old.waiting ≡ [] }
-        requires anew { continues (has_class_form self.old.characters)
+        requires at_boundary { continues (has_class_form self.old.characters)
             (reading_by self.old.characters self.old.ignored []) read.character ≡ false }
         requires word { HasOwnWord self.old.characters read }
         requires words { HasOwnWords self.old.characters following }
-        requires ready { IsReadyBehind I.can_next I.remaining (character_of following) self.old.delegate }
+        requires ready { IsReadyAfter I.can_next I.remaining (character_of following) self.old.delegate }
         requires read { (before : I) ×
             HasRead I.next_gives I.remaining before (character_of following) self.old.delegate }
         ensures ok { IfOk result (λ first. ChunkComes I.Iterator self.old read.character
@@ -141,7 +141,7 @@ impl<'data, I: Iterator<Item = char> + Drop> Decomposition<'data, I> {
             (character_of following) e self.new) }
         ensures kept { (self.new.characters ≡ self.old.characters) × (self.new.ignored ≡ self.old.ignored) }
     {
-        if stands_alone(&self.characters, self.ignored, read, following) {
+        if is_whole_chunk(&self.characters, self.ignored, read, following) {
             self.pending = following;
             return Ok(read.character);
         }
@@ -175,7 +175,7 @@ impl<'data, I: Iterator<Item = char> + Drop> Decomposition<'data, I> {
 
     /// The next character with its canonical combining class.
     #[inline(always)]
-    pub(crate) fn next_with_class(&mut self) -> Option<Result<Classed, NormalizeError>>
+    pub(crate) fn next_with_class(&mut self) -> Option<Result<ClassedChar, NormalizeError>>
         requires { CanDecompose I.can_next I.remaining self.old }
         ensures class { IfSome result (λ item. IfOk item (λ given.
             given.class ≡ class_of self.old.characters given.character)) }
@@ -187,7 +187,7 @@ impl<'data, I: Iterator<Item = char> + Drop> Decomposition<'data, I> {
         let read = self.pending.take()?;
         let following = read_from(&self.characters, 0, self.delegate.next());
         match self.next_chunk(read, following) {
-            Ok(character) => Some(Ok(Classed {
+            Ok(character) => Some(Ok(ClassedChar {
                 character,
                 class: 0,
             })),
@@ -217,22 +217,22 @@ pub fn decomposed<'data, I: Iterator<Item = char> + Drop>(
 
 /// Whether a character is its own list, and a boundary follows it.
 #[inline(always)]
-fn stands_alone(
+fn is_whole_chunk(
     characters: &CharacterData<'_>,
     ignored: IgnoredCharacters,
-    read: ReadCharacter,
-    following: Option<ReadCharacter>,
+    read: PendingChar,
+    following: Option<PendingChar>,
 ) -> bool
     requires word { HasOwnWord characters.now read }
     requires words { HasOwnWords characters.now following }
-    ensures { IsTrue result → StandsAlone (has_class_form characters.now)
+    ensures { IsTrue result → IsWholeChunk (has_class_form characters.now)
         (reading_by characters.now ignored []) read.character (character_of following) }
 {
     if read.class_of_itself(characters).is_none() {
         return false;
     }
     match following {
-        Some(next) => next.begins_anew(characters, ignored),
+        Some(next) => next.has_boundary_before(characters, ignored),
         None => true,
     }
 }
@@ -242,21 +242,21 @@ fn stands_alone(
 fn read_chunk<I: Iterator<Item = char> + Drop>(
     characters: &CharacterData<'_>,
     ignored: IgnoredCharacters,
-    read: ReadCharacter,
-    following: Option<ReadCharacter>,
+    read: PendingChar,
+    following: Option<PendingChar>,
     delegate: &mut I,
     waiting: &mut WaitingList,
-) -> Result<(char, Option<ReadCharacter>), AllocError>
-    requires ready { IsReadyBehind I.can_next I.remaining (character_of following) delegate.old }
+) -> Result<(char, Option<PendingChar>), AllocError>
+    requires ready { IsReadyAfter I.can_next I.remaining (character_of following) delegate.old }
     requires word { HasOwnWord characters.now read }
     requires words { HasOwnWords characters.now following }
-    requires anew { continues (has_class_form characters.now)
+    requires at_boundary { continues (has_class_form characters.now)
         (reading_by characters.now ignored []) read.character ≡ false }
-    ensures ok { IfOk result (λ r. ReadsChunkBehind I.Iterator characters.now ignored
+    ensures ok { IfOk result (λ r. ReadsChunkAfter I.Iterator characters.now ignored
         read.character (character_of following) delegate.old r.0 (character_of r.1) delegate.new waiting.new) }
     ensures words { IfOk result (λ r. HasOwnWords characters.now r.1) }
     ensures classes { OnOk result (AgreesWith (reading_by characters.now ignored []) waiting.new) }
-    ensures err { OnErr result (ChunkDidNotFitBehind I.next_gives I.remaining characters.now ignored read.character
+    ensures err { OnErr result (ChunkDidNotFitAfter I.next_gives I.remaining characters.now ignored read.character
         (character_of following) delegate.old) }
 {
     let members = read.members(characters, ignored);
@@ -270,7 +270,7 @@ fn read_chunk<I: Iterator<Item = char> + Drop>(
 }
 
 impl<'data, I: Iterator<Item = char> + Drop> Iterator for Decomposition<'data, I> {
-    ghost use Rattle.normalizer_iterators.specs.Decomposition.{DecompositionSteps, CanDecompose, items_left};
+    ghost use Rattle.normalizer_iterators.specs.DecompositionItems.{DecompositionSteps, CanDecompose, items_left};
 
     type Item = Result<char, NormalizeError>;
 

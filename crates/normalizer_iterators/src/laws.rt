@@ -2,13 +2,13 @@
 //! its proof is in `proofs/`. A loop that relies on a law calls it.
 ghost use Rattle.std.specs.Prelude.{◌≡◌, ℕ, List, [], Option, Some, None, Result, Ok, Err};
 ghost use Rattle.normalizer_iterators.specs.Items.{HasEnded, SpellsOk, SpellsUnless};
-ghost use Rattle.normalizer_iterators.specs.NextItem.{GaveFirst};
+ghost use Rattle.normalizer_iterators.specs.NextItem.{YieldedFirst};
 
 /// If an iterator spells a text unless there is a fault, one call returns the first of the remaining characters, or
 /// `None` if none remains, or that fault; after the last two nothing comes.
 pub fn text_comes_unless_a_fault_does<E, I: Iterator<Item = Result<char, E>>>()
     ensures next { (fault : E) (s t : I) (c : ℕ) (x : List ℕ) → I.next_gives s (Some (Ok c)) t →
-        SpellsUnless I.next_gives fault s x → GaveFirst (SpellsUnless I.next_gives fault) x t c }
+        SpellsUnless I.next_gives fault s x → YieldedFirst (SpellsUnless I.next_gives fault) x t c }
     ensures end { (fault : E) (s t : I) (x : List ℕ) → I.next_gives s None t →
         SpellsUnless I.next_gives fault s x → (x ≡ []) × HasEnded I.next_gives t }
     ensures refused { (fault : E) (s t : I) (e : E) (x : List ℕ) → I.next_gives s (Some (Err e)) t →
@@ -19,7 +19,7 @@ pub fn text_comes_unless_a_fault_does<E, I: Iterator<Item = Result<char, E>>>()
 /// none remains; so it also spells the text unless there is a fault, whichever that is.
 pub fn text_comes_without_faults<E, I: Iterator<Item = Result<char, E>>>()
     ensures next { (s t : I) (c : ℕ) (x : List ℕ) → I.next_gives s (Some (Ok c)) t →
-        SpellsOk I.next_gives s x → GaveFirst (SpellsOk I.next_gives) x t c }
+        SpellsOk I.next_gives s x → YieldedFirst (SpellsOk I.next_gives) x t c }
     ensures end { (s t : I) (x : List ℕ) → I.next_gives s None t →
         SpellsOk I.next_gives s x → (x ≡ []) × HasEnded I.next_gives t }
     ensures refused { (s t : I) (e : E) (x : List ℕ) → I.next_gives s (Some (Err e)) t → SpellsOk I.next_gives s x → ⊥ }
@@ -28,7 +28,7 @@ pub fn text_comes_without_faults<E, I: Iterator<Item = Result<char, E>>>()
 {}
 
 /// After the end every call returns `None`.
-pub fn nothing_comes_behind_the_end<E, I: Iterator<Item = Result<char, E>>>()
+pub fn nothing_comes_after_the_end<E, I: Iterator<Item = Result<char, E>>>()
     ensures { (s t : I) (r : Option (Result ℕ E)) → I.next_gives s r t →
         HasEnded I.next_gives s → (r ≡ None) × HasEnded I.next_gives t }
 {}

@@ -7,7 +7,7 @@ pub mod decomposition;
 mod error;
 pub mod laws;
 mod marks;
-mod read;
+mod pending;
 mod reading;
 pub mod segment;
 mod waiting;

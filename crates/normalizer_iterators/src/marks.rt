@@ -3,7 +3,7 @@ ghost use Rattle.std.specs.Prelude.{◌≡◌, ◌+◌, ◌<◌, ◌≤◌, ◌�
 ghost use Rattle.smallvec.specs.SmallVec.{small_vec_len};
 ghost use Rattle.normal_forms.specs.Reading.{Reading};
 ghost use Rattle.normal_forms.specs.CompositionByStarters.{is_above};
-ghost use Rattle.normal_forms.specs.ShortRuns.{places};
+ghost use Rattle.normal_forms.specs.ShortRuns.{buffer_limit};
 
 use crate::waiting::remove_all;
 use smallvec::SmallVec;
@@ -16,7 +16,7 @@ pub(crate) struct StayingMarks {
     next: usize,
     unblocked: u16,
     ghost given: { next ≤ small_vec_len marks },
-    ghost room: { places ≤ marks.capacity },
+    ghost room: { buffer_limit ≤ marks.capacity },
 }
 
 impl StayingMarks {
@@ -65,7 +65,7 @@ impl StayingMarks {
     /// Whether none of them blocks a character of this class.
     #[tactic(auto, unfolding(crate::specs::StayingMarks::BlocksBelow))]
     #[inline(always)]
-    pub(crate) fn lets_pass(&self, class: u8) -> bool
+    pub(crate) fn is_unblocked(&self, class: u8) -> bool
         ensures { (d : Reading) (c : ℕ) → BlocksBelow d self.now → class ≡ d.class c →
             result ≡ is_above d (staying self.now) c }
     {
@@ -79,7 +79,7 @@ impl StayingMarks {
         ensures used { OnOk result (used self.new ≡ used self.old + 1) }
         ensures blocking { OnOk result
             ((d : Reading) → BlocksBelow d self.old → class ≡ d.class mark → BlocksBelow d self.new) }
-        ensures succeeds { used self.old < places → IsOk result }
+        ensures succeeds { used self.old < buffer_limit → IsOk result }
     {
         self.marks.push(mark)?;
         self.unblocked = self.unblocked.max(class as u16 + 1);

@@ -1,15 +1,15 @@
 //! Reading further characters, up to a boundary.
 ghost use Rattle.std.specs.Prelude.{◌≡◌, ◌+◌, ◌≤◌, length, drop, IsOk, IfOk, OnOk, OnErr, []};
-ghost use Rattle.normal_forms.specs.ShortRuns.{places};
+ghost use Rattle.normal_forms.specs.ShortRuns.{buffer_limit};
 ghost use Rattle.normalizer_tables.specs.Characters.{list_of};
 ghost use Rattle.normalizer_tables.specs.Ignored.{ignored_list};
 ghost use Rattle.normalizer_tables.specs.Readings.{reading_by};
-ghost use Rattle.normalizer_iterators.specs.Delegate.{IsReadyBehind};
+ghost use Rattle.normalizer_iterators.specs.Delegate.{IsReadyAfter};
 ghost use Rattle.normalizer_iterators.specs.WaitingList.{held, AgreesWith};
-ghost use Rattle.normalizer_iterators.specs.inner.ReadingOn.{Adds, KeepsClasses, ReadsOnBehind, DidNotFitBehind};
+ghost use Rattle.normalizer_iterators.specs.inner.ReadingOn.{Adds, KeepsClasses, ReadsOnAfter, DidNotFitAfter};
 ghost use Rattle.normalizer_iterators.specs.Reads.{character_of, HasOwnWord, HasOwnWords};
 
-use crate::read::{ReadCharacter, read_from};
+use crate::pending::{PendingChar, read_from};
 use crate::waiting::WaitingList;
 use normalizer_tables::characters::{CharacterData, IgnoredCharacters};
 use normalizer_tables::members::Members;
@@ -21,23 +21,23 @@ use std::alloc::AllocError;
 pub(crate) fn read_on<I: Iterator<Item = char> + Drop>(
     characters: &CharacterData<'_>,
     ignored: IgnoredCharacters,
-    first: Option<ReadCharacter>,
+    first: Option<PendingChar>,
     delegate: &mut I,
     waiting: &mut WaitingList,
-) -> Result<Option<ReadCharacter>, AllocError>
-    requires ready { IsReadyBehind I.can_next I.remaining (character_of first) delegate.old }
+) -> Result<Option<PendingChar>, AllocError>
+    requires ready { IsReadyAfter I.can_next I.remaining (character_of first) delegate.old }
     requires words { HasOwnWords characters.now first }
     requires classes { AgreesWith (reading_by characters.now ignored []) waiting.old }
-    ensures ok { IfOk result (λ pending. ReadsOnBehind I.Iterator characters.now ignored
+    ensures ok { IfOk result (λ pending. ReadsOnAfter I.Iterator characters.now ignored
         (character_of first) delegate.old waiting.old (character_of pending) delegate.new waiting.new) }
     ensures words { IfOk result (HasOwnWords characters.now) }
     ensures classes { OnOk result (AgreesWith (reading_by characters.now ignored []) waiting.new) }
-    ensures err { OnErr result (DidNotFitBehind I.next_gives I.remaining characters.now ignored (character_of first)
+    ensures err { OnErr result (DidNotFitAfter I.next_gives I.remaining characters.now ignored (character_of first)
         delegate.old waiting.old) }
 {
     let mut next = first;
     while let Some(read) = next {
-        if read.begins_anew(characters, ignored) {
+        if read.has_boundary_before(characters, ignored) {
             waiting.put_in_order()?;
             return Ok(Some(read));
         }
@@ -53,7 +53,7 @@ pub(crate) fn read_on<I: Iterator<Item = char> + Drop>(
 fn push_list(
     characters: &CharacterData<'_>,
     ignored: IgnoredCharacters,
-    read: ReadCharacter,
+    read: PendingChar,
     waiting: &mut WaitingList,
 ) -> Result<(), AllocError>
     requires { HasOwnWord characters.now read }
@@ -62,7 +62,7 @@ fn push_list(
     ensures classes { OnOk result (KeepsClasses characters.now waiting.old waiting.new) }
     ensures held { OnOk result (held waiting.new ≡
         held waiting.old + length (list_of characters.now (ignored_list ignored) read.character)) }
-    ensures succeeds { held waiting.old + length (list_of characters.now (ignored_list ignored) read.character) ≤ places
+    ensures succeeds { held waiting.old + length (list_of characters.now (ignored_list ignored) read.character) ≤ buffer_limit
         → IsOk result }
 {
     match read.class_of_itself(characters) {
@@ -86,7 +86,7 @@ pub(crate) fn push_from(
     ensures text { OnOk result (Adds characters.now (drop first members.now) waiting.old waiting.new) }
     ensures classes { OnOk result (KeepsClasses characters.now waiting.old waiting.new) }
     ensures held { OnOk result (held waiting.new + first ≡ held waiting.old + length members.now) }
-    ensures succeeds { held waiting.old + length members.now ≤ places + first → IsOk result }
+    ensures succeeds { held waiting.old + length members.now ≤ buffer_limit + first → IsOk result }
 {
     for place in first..members.len() {
         if let Some(member) = members.get(place) {

@@ -4,7 +4,7 @@ ghost use Rattle.normal_forms.specs.CompositionByStarters.{compose_by_starters};
 ghost use Rattle.normal_forms.specs.Decomposition.{expand};
 ghost use Rattle.normal_forms.specs.Forms.{nfd, nfc};
 ghost use Rattle.normal_forms.specs.Hypotheses.{HasStarterResults};
-ghost use Rattle.normal_forms.specs.ShortRuns.{places};
+ghost use Rattle.normal_forms.specs.ShortRuns.{buffer_limit};
 ghost use Rattle.normal_forms.specs.Reading.{Reading};
 ghost use Rattle.normalizer_tables.specs.Characters.{list_of};
 ghost use Rattle.normalizer_tables.specs.Ignored.{ignored_list};
@@ -17,10 +17,10 @@ ghost use Rattle.normalizer_iterators.specs.WaitingList.{held, ordered, AgreesWi
 ghost use Rattle.normalizer_iterators.specs.inner.ReadingOn.{Adds, KeepsClasses};
 ghost use Rattle.normalizer_iterators.specs.inner.Segments.{composed_nfd, HasPairsOf};
 
-use crate::read::ReadCharacter;
+use crate::pending::PendingChar;
 use crate::reading::push_from;
 use crate::segment::short_text::ShortText;
-use crate::waiting::{Classed, WaitingList};
+use crate::waiting::{ClassedChar, WaitingList};
 use normalizer_tables::CanonicalCompositions;
 use normalizer_tables::characters::{CharacterData, IgnoredCharacters};
 use normalizer_text::Units;
@@ -66,7 +66,7 @@ impl SegmentBuffers {
         ensures text { IsTrue result → text self.new ≡
             nfd (reading_by characters.now ignored []) (decoded_in U.encoding (U.units units)) }
         ensures fits { length (expand (reading_by characters.now ignored []) (decoded_in U.encoding (U.units units)))
-            ≤ places → IsTrue result }
+            ≤ buffer_limit → IsTrue result }
     {
         if !read_all(characters, ignored, units, &mut self.waiting) {
             return false;
@@ -86,7 +86,7 @@ impl SegmentBuffers {
         ensures text { IsTrue result → text self.new ≡
             nfc (reading_by characters.now ignored pairs.now) (decoded_in U.encoding (U.units units)) }
         ensures fits { length (expand (reading_by characters.now ignored []) (decoded_in U.encoding (U.units units)))
-            ≤ places → IsTrue result }
+            ≤ buffer_limit → IsTrue result }
     {
         if compose_in_order(characters, pairs, units, &mut self.text) {
             return true;
@@ -114,14 +114,14 @@ fn compose_in_order<U: Units>(
     let mut last = 0;
     while position < units.len() {
         let step = units.step_at(position);
-        let read = ReadCharacter::new(characters, 0, step.character);
+        let read = PendingChar::new(characters, 0, step.character);
         let Some(class) = read.class_of_itself(characters) else {
             return false;
         };
         if 0 < class && class < last {
             return false;
         }
-        let next = Classed {
+        let next = ClassedChar {
             character: step.character,
             class,
         };
@@ -144,15 +144,15 @@ fn read_all<U: Units>(
     ensures text { IsTrue result → ordered waiting.new ≡
         nfd (reading_by characters.now ignored []) (decoded_in U.encoding (U.units units)) }
     ensures classes { IsTrue result → AgreesWith (reading_by characters.now ignored []) waiting.new }
-    ensures short { IsTrue result → length (ordered waiting.new) ≤ places }
+    ensures short { IsTrue result → length (ordered waiting.new) ≤ buffer_limit }
     ensures fits { length (expand (reading_by characters.now ignored []) (decoded_in U.encoding (U.units units)))
-        ≤ places → IsTrue result }
+        ≤ buffer_limit → IsTrue result }
 {
     waiting.clear();
     let mut position = 0;
     while position < units.len() {
         let step = units.step_at(position);
-        let read = ReadCharacter::new(characters, 0, step.character);
+        let read = PendingChar::new(characters, 0, step.character);
         if !push_list(characters, ignored, read, waiting) {
             return false;
         }
@@ -166,7 +166,7 @@ fn read_all<U: Units>(
 fn push_list(
     characters: &CharacterData<'_>,
     ignored: IgnoredCharacters,
-    read: ReadCharacter,
+    read: PendingChar,
     waiting: &mut WaitingList,
 ) -> bool
     requires { HasOwnWord characters.now read }
@@ -175,8 +175,8 @@ fn push_list(
     ensures classes { IsTrue result → KeepsClasses characters.now waiting.old waiting.new }
     ensures held { IsTrue result → held waiting.new ≡
         held waiting.old + length (list_of characters.now (ignored_list ignored) read.character) }
-    ensures short { IsTrue result → held waiting.new ≤ places }
-    ensures fits { held waiting.old + length (list_of characters.now (ignored_list ignored) read.character) ≤ places
+    ensures short { IsTrue result → held waiting.new ≤ buffer_limit }
+    ensures fits { held waiting.old + length (list_of characters.now (ignored_list ignored) read.character) ≤ buffer_limit
         → IsTrue result }
 {
     match read.class_of_itself(characters) {
@@ -192,7 +192,7 @@ fn push_list(
 #[inline(always)]
 fn copy_all(waiting: &mut WaitingList, text: &mut ShortText) -> bool
     ensures text { IsTrue result → so_far text.new ≡ ordered waiting.old }
-    ensures fits { length (ordered waiting.old) ≤ places → IsTrue result }
+    ensures fits { length (ordered waiting.old) ≤ buffer_limit → IsTrue result }
 {
     text.clear();
     while let Some(given) = waiting.pop_front() {
@@ -212,7 +212,7 @@ fn compose_all(
 ) -> bool
     ensures text { IsTrue result → (d : Reading) → AgreesWith d waiting.old → HasPairsOf pairs.now d →
         so_far text.new ≡ compose_by_starters d (ordered waiting.old) }
-    ensures fits { length (ordered waiting.old) ≤ places → IsTrue result }
+    ensures fits { length (ordered waiting.old) ≤ buffer_limit → IsTrue result }
 {
     text.clear();
     while let Some(given) = waiting.pop_front() {

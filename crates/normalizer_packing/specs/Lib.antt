@@ -3,7 +3,7 @@ pub mod Flags
 pub mod Packing
 pub mod ReadBack
 pub mod Spelling
-pub mod Steps
+pub mod StepWords
 pub mod Stored
-pub mod Words
+pub mod TableWords
 pub mod inner

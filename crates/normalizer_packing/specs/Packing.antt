@@ -13,10 +13,10 @@ use Rattle.normalizer_tables.specs.Entries.{CharacterEntry, AreRising, class_in,
 use Rattle.normalizer_tables.specs.Entries.{reading_of_entries}
 use Rattle.normalizer_packing.specs.Flags.{IsFlagged, without_flags}
 use Rattle.normalizer_packing.specs.Spelling.{spelling}
-use Rattle.normalizer_packing.specs.Steps.{PacksSteps}
+use Rattle.normalizer_packing.specs.StepWords.{PacksSteps}
 use Rattle.normalizer_packing.specs.Stored.{HasLengthOfWord, canonical_lists, item_of, listed_in, needed_items}
 use Rattle.normalizer_packing.specs.Stored.{pointing_word, supplementary_lists, tables_of}
-use Rattle.normalizer_packing.specs.Words.{HasWords}
+use Rattle.normalizer_packing.specs.TableWords.{HasWords}
 
 -- w without its flags, by the spelling of the list x
 abbrev pub IsSpelled : List CharacterEntry → List ℕ → Spelling → ℕ → Type 0

@@ -17,7 +17,7 @@ use Rattle.normalizer_tables.specs.declared.entry.Kind.{Kind}
 use Rattle.normalizer_tables.specs.declared.entry.Kind.TheVariants.{Canonical, Compatibility, Mapper}
 use Rattle.normalizer_tables.specs.Entries.{CharacterEntry, class_in, reading_of_entries, kept_list, list_in}
 use Rattle.normalizer_packing.specs.Spelling.{has_fixed_list, list_eq}
-use Rattle.normalizer_packing.specs.Stored.{has_marks_behind}
+use Rattle.normalizer_packing.specs.Stored.{has_marks_after_first}
 
 -- the decomposition data of one kind
 abbrev pub decompositions_of : Packed → Kind → Decompositions
@@ -81,18 +81,18 @@ pub record AreReadable (kind : Kind) (entries : List CharacterEntry) : Type 0 wh
       BeginsWithStarter (reading_of_entries entries []) (kept_list kind entries n)
 
 -- what the reading of n's word says is so
-unfoldable pub IsTold : Kind → List CharacterEntry → ℕ → WordReading → Type 0
-IsTold kind entries n Ignored = list_in kind entries n ≡ None
-IsTold kind entries n Itself = (kept_list kind entries n ≡ n ∷ []) × (class_in entries n ≡ 0)
-IsTold kind entries n (ClassForm k) = (kept_list kind entries n ≡ n ∷ []) × (class_in entries n ≡ k) × (0 < k)
-IsTold kind entries n (SpecialForm k) =
+unfoldable pub IsTrueReading : Kind → List CharacterEntry → ℕ → WordReading → Type 0
+IsTrueReading kind entries n Ignored = list_in kind entries n ≡ None
+IsTrueReading kind entries n Itself = (kept_list kind entries n ≡ n ∷ []) × (class_in entries n ≡ 0)
+IsTrueReading kind entries n (ClassForm k) = (kept_list kind entries n ≡ n ∷ []) × (class_in entries n ≡ k) × (0 < k)
+IsTrueReading kind entries n (SpecialForm k) =
     (has_fixed_list (class_in entries) n (kept_list kind entries n) ≡ true) × (class_in entries n ≡ k)
-IsTold kind entries n (TwoCharacters a b) = (kept_list kind entries n ≡ a ∷ b ∷ []) × (0 < class_in entries b)
-IsTold kind entries n HangulSyllable = is_hangul_syllable n ≡ true
-IsTold kind entries n Fdfa = kept_list kind entries n ≡ fdfa_list
-IsTold kind entries n (OneCharacter a) = kept_list kind entries n ≡ a ∷ []
-IsTold kind entries n (Listed item low rest_are_marks) =
-    rest_are_marks ≡ has_marks_behind (class_in entries) (kept_list kind entries n)
+IsTrueReading kind entries n (TwoCharacters a b) = (kept_list kind entries n ≡ a ∷ b ∷ []) × (0 < class_in entries b)
+IsTrueReading kind entries n HangulSyllable = is_hangul_syllable n ≡ true
+IsTrueReading kind entries n Fdfa = kept_list kind entries n ≡ fdfa_list
+IsTrueReading kind entries n (OneCharacter a) = kept_list kind entries n ≡ a ∷ []
+IsTrueReading kind entries n (Listed item low rest_are_marks) =
+    rest_are_marks ≡ has_marks_after_first (class_in entries) (kept_list kind entries n)
 
 -- what packed data read to
 pub record ReadsBack (kind : Kind) (entries : List CharacterEntry) (s : Characters) : Type 0 where
@@ -103,4 +103,4 @@ pub record ReadsBack (kind : Kind) (entries : List CharacterEntry) (s : Characte
   pub classes : (n : ℕ) → IsScalar n → class_of s n ≡ class_by kind entries n
   pub class_forms : (n : ℕ) → IsScalar n → has_class_form s n ≡ has_class_word kind entries n
   -- what its word says besides: the very members, and promises of classes
-  pub words : (n : ℕ) → IsScalar n → IsTold kind entries n (reading_of_word s n)
+  pub words : (n : ℕ) → IsScalar n → IsTrueReading kind entries n (reading_of_word s n)

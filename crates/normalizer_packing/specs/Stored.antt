@@ -91,8 +91,8 @@ item_of entries x =
     else item_count (tables_of (canonical_lists entries)) + item_in (supplementary_lists entries) x
 
 -- all members after the first are marks, and there are some
-unfoldable pub has_marks_behind : (ℕ → ℕ) → List ℕ → Bool
-has_marks_behind class x = nat_le 2 (length x) && list_all (λ c. nat_lt 0 (class c)) (drop 1 x)
+unfoldable pub has_marks_after_first : (ℕ → ℕ) → List ℕ → Bool
+has_marks_after_first class x = nat_le 2 (length x) && list_all (λ c. nat_lt 0 (class c)) (drop 1 x)
 
 -- the low bits of the list's length: beyond the least that its table has
 unfoldable pub low_length : List ℕ → ℕ
@@ -100,4 +100,4 @@ low_length x = if is_narrow x then length x - 2 else length x - 1
 
 -- the word, without flags, that points to the list x at an item
 unfoldable pub pointing_word : (ℕ → ℕ) → List ℕ → ℕ → ℕ
-pointing_word class x item = (item + 1) * 0x10000 + ((if has_marks_behind class x then 0x10 else 0) + low_length x)
+pointing_word class x item = (item + 1) * 0x10000 + ((if has_marks_after_first class x then 0x10 else 0) + low_length x)

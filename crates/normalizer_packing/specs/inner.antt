@@ -3,4 +3,4 @@ pub mod Kinds
 pub mod Packable
 pub mod PackedWords
 pub mod Stores
-pub mod Stretches
+pub mod Breakpoints

@@ -1,6 +1,6 @@
 //! The characters at which the word may change: all numbers between two of them have one word.
 ghost use Rattle.std.specs.Prelude.{◌≡◌, IfOk, map};
-ghost use Rattle.normalizer_packing.specs.inner.Stretches.{AreBreakpoints, breakpoint_numbers};
+ghost use Rattle.normalizer_packing.specs.inner.Breakpoints.{AreBreakpoints, breakpoint_numbers};
 
 use crate::entries::entry_characters;
 use normalizer_tables::entry::Entry;

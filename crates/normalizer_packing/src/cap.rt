@@ -1,6 +1,6 @@
 //! The number below which a composing loop may pass every character without looking up its word.
 ghost use Rattle.std.specs.Prelude.{◌↔◌, ◌<◌, IsTrue};
-ghost use Rattle.normalizer_packing.specs.Caps.{BeginsPassed, IsCap, MayPass, MayPassWith};
+ghost use Rattle.normalizer_packing.specs.Caps.{ListHasBoundary, IsCap, IsBelowCap, IsBelowCapWith};
 
 use crate::entries::Entries;
 use crate::flags::composes_to;
@@ -13,7 +13,7 @@ pub fn cap_of(entries: &Entries<'_>, compositions: &CanonicalCompositions, kind:
     ensures { IsCap kind entries.now compositions.now result }
 {
     for number in 0..CAP_LIMIT {
-        if !may_pass(entries, compositions, kind, number) {
+        if !is_below_cap(entries, compositions, kind, number) {
             return number;
         }
     }
@@ -21,42 +21,42 @@ pub fn cap_of(entries: &Entries<'_>, compositions: &CanonicalCompositions, kind:
 }
 
 /// Whether a composing loop may pass a number so.
-#[tactic(auto, unfolding(crate::specs::Caps::MayPass))]
-fn may_pass(
+#[tactic(auto, unfolding(crate::specs::Caps::IsBelowCap))]
+fn is_below_cap(
     entries: &Entries<'_>,
     compositions: &CanonicalCompositions,
     kind: Kind,
     number: u16,
 ) -> bool
     requires { number < 0xD800 }
-    ensures { IsTrue result ↔ MayPass kind entries.now compositions.now number }
+    ensures { IsTrue result ↔ IsBelowCap kind entries.now compositions.now number }
 {
     let character = char::from_u32(number as u32).unwrap();
     let alone = [character];
     match entries.list_of(kind, character, &alone) {
-        Some(list) => list_may_pass(entries, compositions, character, list),
+        Some(list) => list_is_below_cap(entries, compositions, character, list),
         None => false,
     }
 }
 
 /// Whether a composing loop may pass a character with this list so.
-fn list_may_pass(
+fn list_is_below_cap(
     entries: &Entries<'_>,
     compositions: &CanonicalCompositions,
     character: char,
     list: &[char],
 ) -> bool
-    ensures { IsTrue result ↔ MayPassWith entries.now compositions.now character list.now }
+    ensures { IsTrue result ↔ IsBelowCapWith entries.now compositions.now character list.now }
 {
     let is_itself = list == [character].as_slice() && entries.class_of(character) == 0;
     (is_itself || character >= '\u{C0}')
         && composes_to(entries, compositions, list, character)
-        && begins_passed(entries, compositions, list)
+        && list_has_boundary(entries, compositions, list)
 }
 
 /// Whether a list begins with a starter that is second in no pair.
-fn begins_passed(entries: &Entries<'_>, compositions: &CanonicalCompositions, list: &[char]) -> bool
-    ensures { IsTrue result ↔ BeginsPassed entries.now compositions.now list.now }
+fn list_has_boundary(entries: &Entries<'_>, compositions: &CanonicalCompositions, list: &[char]) -> bool
+    ensures { IsTrue result ↔ ListHasBoundary entries.now compositions.now list.now }
 {
     match list.first() {
         Some(&first) => entries.class_of(first) == 0 && is_never_second(compositions, first),

@@ -34,7 +34,7 @@ pub fn flagged(
 }
 
 /// A word with these flags.
-#[tactic(auto, using(crate::proofs::FlagLemmas::without_flags_low, crate::proofs::FlagLemmas::round_trip_bit, crate::proofs::FlagLemmas::backward_bit))]
+#[tactic(auto, using(crate::proofs::words_of_lists::FlagLemmas::without_flags_low, crate::proofs::words_of_lists::FlagLemmas::round_trip_bit, crate::proofs::words_of_lists::FlagLemmas::backward_bit))]
 fn with_flags(word: u32, changes: bool, combines: bool) -> u32
     requires { word < 2 ^ 30 }
     ensures word { without_flags result ≡ word }
@@ -55,7 +55,7 @@ pub fn begins_unpaired(compositions: &CanonicalCompositions, list: &[char]) -> b
 }
 
 /// Whether a list composes to this character alone: all after the first join.
-#[tactic(auto, using(normalizer_tables::proofs::CompositionLemmas::compositions, std::proofs::lemmas::Option::slice_get_read))]
+#[tactic(auto, using(normalizer_tables::proofs::composites::SingleComposites::compositions, std::proofs::lemmas::Option::slice_get_read))]
 pub fn composes_to(
     entries: &Entries<'_>,
     compositions: &CanonicalCompositions,

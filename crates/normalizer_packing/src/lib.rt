@@ -12,7 +12,7 @@ mod pointing;
 mod ranges;
 mod spelling;
 mod steps;
-mod stored;
+mod store;
 mod stores;
 mod words;
 

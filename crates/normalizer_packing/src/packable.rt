@@ -9,7 +9,7 @@ ghost use Rattle.normalizer_packing.specs.Packing.{ArePackable};
 ghost use Rattle.normalizer_packing.specs.Stored.{HasLengthOfWord, listed_in, listed_of};
 
 use crate::entries::Entries;
-use crate::stored::{is_narrow, listed_of};
+use crate::store::{is_narrow, listed_of};
 use normalizer_tables::entry::{Entry, Kind};
 
 /// Returns whether entries rise, and a word can encode the length of each list that needs a table.

@@ -4,9 +4,9 @@ ghost use Rattle.normalizer_tables.specs.Conditions.{item_limit};
 ghost use Rattle.normalizer_packing.specs.inner.Kinds.{PackKinds};
 ghost use Rattle.normalizer_packing.specs.inner.PackedWords.{CanPoint};
 ghost use Rattle.normalizer_packing.specs.Packing.{ArePackable, Packs, PacksKind};
-ghost use Rattle.normalizer_packing.specs.Steps.{PacksSteps};
+ghost use Rattle.normalizer_packing.specs.StepWords.{PacksSteps};
 ghost use Rattle.normalizer_packing.specs.Stored.{needed_items};
-ghost use Rattle.normalizer_packing.specs.inner.Stretches.{AreBreakpoints};
+ghost use Rattle.normalizer_packing.specs.inner.Breakpoints.{AreBreakpoints};
 
 use crate::Packed;
 use crate::breakpoints::breakpoints_of;
@@ -166,7 +166,7 @@ fn compositions_of(pairs: Vec<(char, char, char)>) -> Result<CanonicalCompositio
 }
 
 /// One kind of data.
-#[tactic(auto, using(crate::proofs::AlikeWords::packed_alike))]
+#[tactic(auto, using(crate::proofs::constant_words::ConstantWords::packed_alike))]
 fn data_of<'a, 'e>(
     alloc: Global,
     entries: &'a Entries<'e>,

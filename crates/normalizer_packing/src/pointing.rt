@@ -1,14 +1,14 @@
 //! Words that point to a list in a table.
-#![tactic(auto, using(crate::proofs::StoreLemmas::narrow_length), unfolding(crate::specs::Stored::pointing_word, crate::specs::Stored::low_length, crate::specs::Stored::HasLengthOfWord, crate::specs::Stored::has_marks_behind))]
+#![tactic(auto, using(crate::proofs::lists::StoreLemmas::narrow_length), unfolding(crate::specs::Stored::pointing_word, crate::specs::Stored::low_length, crate::specs::Stored::HasLengthOfWord, crate::specs::Stored::has_marks_after_first))]
 
 ghost use Rattle.std.specs.Prelude.{◌≡◌, ◌<◌, ◌^◌, nat_lt};
 ghost use Rattle.std.specs.List.{list_all};
 ghost use Rattle.normalizer_tables.specs.Conditions.{item_limit};
 ghost use Rattle.normalizer_tables.specs.Entries.{class_in};
-ghost use Rattle.normalizer_packing.specs.Stored.{HasLengthOfWord, has_marks_behind, low_length, pointing_word};
+ghost use Rattle.normalizer_packing.specs.Stored.{HasLengthOfWord, has_marks_after_first, low_length, pointing_word};
 
 use crate::entries::Entries;
-use crate::stored::is_narrow;
+use crate::store::is_narrow;
 
 /// The word, without its flags, that points to a list at an item.
 pub fn pointing_word(entries: &Entries<'_>, list: &[char], item: u32) -> u32
@@ -18,7 +18,7 @@ pub fn pointing_word(entries: &Entries<'_>, list: &[char], item: u32) -> u32
     ensures room { result < 2 ^ 30 }
 {
     let length = low_length(list);
-    if has_marks_behind(entries, list) {
+    if has_marks_after_first(entries, list) {
         (item + 1) * 0x10000 + (0x10 + length)
     } else {
         (item + 1) * 0x10000 + length
@@ -39,8 +39,8 @@ fn low_length(list: &[char]) -> u32
 }
 
 /// Whether all members after the first are marks, and there are some.
-fn has_marks_behind(entries: &Entries<'_>, list: &[char]) -> bool
-    ensures { result ≡ has_marks_behind (class_in entries.now) list.now }
+fn has_marks_after_first(entries: &Entries<'_>, list: &[char]) -> bool
+    ensures { result ≡ has_marks_after_first (class_in entries.now) list.now }
 {
     2 <= list.len() && are_marks(entries, &list[1..])
 }

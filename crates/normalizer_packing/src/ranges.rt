@@ -1,7 +1,7 @@
 //! Tables of words that are computed stretch by stretch.
 ghost use Rattle.std.specs.Prelude.{IfOk, ◌+◌, ◌<◌, ◌≤◌};
-ghost use Rattle.normalizer_packing.specs.inner.Stretches.{AreAlike, CoverUpTo, IsStretch};
-ghost use Rattle.normalizer_packing.specs.Words.{CoverWords, HasWords};
+ghost use Rattle.normalizer_packing.specs.inner.Breakpoints.{IsConstantBetween, CoverUpTo, IsConstant};
+ghost use Rattle.normalizer_packing.specs.TableWords.{CoverWords, HasWords};
 ghost use Rattle.normalizer_tables.specs.Table.{code_points};
 ghost use Rattle.std.specs.List.Sorted.{IsStrictlyIncreasing};
 
@@ -38,7 +38,7 @@ pub fn table_of<W: Words>(
 ) -> Result<CodePointTable, AllocError>
     requires ready { W.is_ready words.now }
     requires rising { IsStrictlyIncreasing breakpoints.now }
-    requires alike { AreAlike (W.is_word words.now) breakpoints.now }
+    requires alike { IsConstantBetween (W.is_word words.now) breakpoints.now }
     ensures { IfOk result (HasWords (W.is_word words.now)) }
 {
     let ranges = ranges_of(alloc, words, breakpoints)?;
@@ -51,7 +51,7 @@ pub fn table_of<W: Words>(
 
 /// Ranges of one word each, one after another, that have all code points with a word other than 0: each listed
 /// character, and all between two.
-#[tactic(auto, using(crate::proofs::Tilings::IsStretch_one), unfolding(normalizer_tables::specs::Table::code_points))]
+#[tactic(auto, using(crate::proofs::constant_words::ConsecutiveRanges::IsConstant_one), unfolding(normalizer_tables::specs::Table::code_points))]
 fn ranges_of<W: Words>(
     alloc: Global,
     words: &W,
@@ -59,23 +59,23 @@ fn ranges_of<W: Words>(
 ) -> Result<Vec<(u32, u32, u32)>, AllocError>
     requires ready { W.is_ready words.now }
     requires rising { IsStrictlyIncreasing breakpoints.now }
-    requires alike { AreAlike (W.is_word words.now) breakpoints.now }
+    requires alike { IsConstantBetween (W.is_word words.now) breakpoints.now }
     ensures { IfOk result (λ v. CoverWords (W.is_word words.now) v.items) }
 {
     let mut ranges = Vec::new(alloc);
     let mut from = 0;
     for &character in breakpoints {
         let number = character as u32;
-        push_stretch(&mut ranges, words, from, number)?;
-        push_stretch(&mut ranges, words, number, number + 1)?;
+        push_range(&mut ranges, words, from, number)?;
+        push_range(&mut ranges, words, number, number + 1)?;
         from = number + 1;
     }
-    push_stretch(&mut ranges, words, from, CODE_POINTS)?;
+    push_range(&mut ranges, words, from, CODE_POINTS)?;
     Ok(ranges)
 }
 
 /// Adds the numbers from one up to before another, which have the word of the first, unless it is 0.
-fn push_stretch<W: Words>(
+fn push_range<W: Words>(
     ranges: &mut Vec<(u32, u32, u32)>,
     words: &W,
     from: u32,
@@ -84,7 +84,7 @@ fn push_stretch<W: Words>(
     requires ready { W.is_ready words.now }
     requires within { end ≤ code_points }
     requires ordered { from ≤ end }
-    requires alike { IsStretch (W.is_word words.now) from end }
+    requires alike { IsConstant (W.is_word words.now) from end }
     ensures { IfOk result (λ _. CoverUpTo (W.is_word words.now) ranges.old.items from →
         CoverUpTo (W.is_word words.now) ranges.new.items end) }
 {

@@ -1,19 +1,19 @@
 //! The supplement: one step of decomposition, if the word of canonical data doesn't determine it.
-#![tactic(auto, using(crate::proofs::StepLemmas::no_step, crate::proofs::StepLemmas::step_among), unfolding(crate::specs::Steps::asked_step, crate::specs::Steps::asks_supplement, crate::specs::Steps::are_narrow, crate::specs::Steps::stored_step, crate::specs::Steps::stored_steps, crate::specs::Stored::first_come, crate::specs::Steps::step_in, crate::specs::Steps::word_of_step, crate::specs::Steps::step_lists))]
+#![tactic(auto, using(crate::proofs::words_of_lists::StepWords::no_step, crate::proofs::words_of_lists::StepWords::step_among), unfolding(crate::specs::StepWords::asked_step, crate::specs::StepWords::asks_supplement, crate::specs::StepWords::are_narrow, crate::specs::StepWords::stored_step, crate::specs::StepWords::stored_steps, crate::specs::Stored::first_come, crate::specs::StepWords::step_in, crate::specs::StepWords::word_of_step, crate::specs::StepWords::step_lists))]
 
 ghost use Rattle.std.specs.Prelude.{◌≡◌, true, false, [], ◌∷◌, List, Some, IfOk};
 ghost use Rattle.normalizer_tables.specs.Entries.{class_in, entry_of};
 ghost use Rattle.normalizer_tables.specs.Pairs.{Pair};
 ghost use Rattle.normalizer_packing.specs.Stored.{first_come, is_among, place_of};
 ghost use Rattle.normalizer_packing.specs.inner.Stores.{Holds};
-ghost use Rattle.normalizer_packing.specs.Steps.{are_narrow, asked_step, asks_supplement, step_in, step_lists};
-ghost use Rattle.normalizer_packing.specs.inner.Stretches.{AreBreakpoints};
-ghost use Rattle.normalizer_packing.specs.Steps.{stored_step, stored_steps, word_of_place, word_of_step, PacksSteps};
+ghost use Rattle.normalizer_packing.specs.StepWords.{are_narrow, asked_step, asks_supplement, step_in, step_lists};
+ghost use Rattle.normalizer_packing.specs.inner.Breakpoints.{AreBreakpoints};
+ghost use Rattle.normalizer_packing.specs.StepWords.{stored_step, stored_steps, word_of_place, word_of_step, PacksSteps};
 
 use crate::entries::Entries;
 use crate::ranges::{Words, table_of};
 use crate::spelling::{Spelling, spell};
-use crate::stored::Store;
+use crate::store::Store;
 use normalizer_tables::NonRecursiveDecompositionSupplement;
 use normalizer_tables::entry::Entry;
 use normalizer_tables::step::Step;

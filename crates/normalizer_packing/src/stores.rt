@@ -5,7 +5,7 @@ ghost use Rattle.normalizer_packing.specs.Stored.{needed_items};
 ghost use Rattle.normalizer_packing.specs.inner.Stores.{tables_in, AreStored};
 
 use crate::entries::Entries;
-use crate::stored::{Store, put_lists};
+use crate::store::{Store, put_lists};
 use normalizer_tables::condition::ITEM_LIMIT;
 use normalizer_tables::entry::Kind;
 use std::alloc::{AllocError, Global};
@@ -35,7 +35,7 @@ pub struct Stores<'a> {
 ///
 /// # Errors
 /// `TableFull` if the lists have more items than the limit, `Memory` if an allocation was refused.
-#[tactic(auto, using(crate::proofs::StoreLemmas::needed_items_stored))]
+#[tactic(auto, using(crate::proofs::lists::StoreLemmas::needed_items_stored))]
 pub fn stores_of<'a>(alloc: Global, entries: &Entries<'a>) -> Result<Stores<'a>, PackError>
     ensures stored { IfOk result (λ s. AreStored entries.now s.canonical s.supplementary) }
     ensures within { OnOk result (needed_items entries.now ≤ item_limit) }

@@ -1,5 +1,5 @@
 //! The words of one kind of data.
-#![tactic(auto, using(crate::proofs::WordLemmas::packed_words, crate::proofs::PlaceLemmas::listed_places), unfolding(normalizer_tables::specs::Entries::kept_list))]
+#![tactic(auto, using(crate::proofs::words_of_lists::SpelledWords::packed_words, crate::proofs::lists::ListPlaces::listed_places), unfolding(normalizer_tables::specs::Entries::kept_list))]
 
 ghost use Rattle.std.specs.Prelude.{◌≡◌, ◌<◌, true};
 ghost use Rattle.normalizer_tables.specs.Conditions.{item_limit};

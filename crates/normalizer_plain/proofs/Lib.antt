@@ -1,3 +1,1 @@
-pub mod PlainExample
-pub mod PlainLemmas
-pub mod UnfaithfulExample
+pub mod examples

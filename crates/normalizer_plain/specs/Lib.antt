@@ -1,2 +1,2 @@
 pub mod Example
-pub mod Rows
+pub mod PlainRows

@@ -8,5 +8,5 @@ pub mod RecordSets
 pub mod Replies
 pub mod SetOutcome
 pub mod Tasks
-pub mod Words
+pub mod Arguments
 pub mod Workers

@@ -4,7 +4,7 @@ use Rattle.std.specs.Io.KnownBytes.{Appends}
 use Rattle.normalizer_io.specs.declared.outcome.Answer.{Answer}
 use Rattle.normalizer_program.specs.declared.ending.ToolFault.{ToolFault}
 use Rattle.normalizer_program.specs.declared.ending.ToolFault.TheVariants.{Read, Write, Memory, Data}
-use Rattle.normalizer_program.specs.declared.words.Command.{Command}
+use Rattle.normalizer_program.specs.declared.arguments.Command.{Command}
 use Rattle.normalizer_program.specs.Needs.{Held, Work, IsServed, LacksData}
 use Rattle.normalizer_program.specs.Replies.{IsReply}
 use Rattle.normalizer_program.specs.Tasks.{task_of}

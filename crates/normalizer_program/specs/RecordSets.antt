@@ -6,8 +6,8 @@ use Rattle.normalizer_records.specs.Entry.{Entry, MapperEntry}
 use Rattle.normalizer_builder.specs.Building.{IsSmallest}
 use Rattle.normalizer_rows.specs.declared.table.TheConstants.{ROWS, MAPPER_ROWS}
 use Rattle.normalizer_rows.specs.Rows.{entry_of, mapper_entry_of}
-use Rattle.normalizer_program.specs.declared.words.RecordSet.{RecordSet}
-use Rattle.normalizer_program.specs.declared.words.RecordSet.TheVariants.{Rows, Nothing}
+use Rattle.normalizer_program.specs.declared.arguments.RecordSet.{RecordSet}
+use Rattle.normalizer_program.specs.declared.arguments.RecordSet.TheVariants.{Rows, Nothing}
 
 -- the rows of the table, or none
 abbrev pub records_of : RecordSet → List Entry

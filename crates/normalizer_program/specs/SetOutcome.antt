@@ -5,8 +5,8 @@ use Rattle.normalizer_packing.specs.declared.Packed.{Packed}
 use Rattle.normalizer_io.specs.declared.outcome.Answer.{Answer}
 use Rattle.normalizer_program.specs.declared.ending.ToolFault.{ToolFault}
 use Rattle.normalizer_program.specs.declared.ending.ToolFault.TheVariants.{Read, Write, Memory, Data}
-use Rattle.normalizer_program.specs.declared.words.Command.{Command}
-use Rattle.normalizer_program.specs.declared.words.RecordSet.{RecordSet}
+use Rattle.normalizer_program.specs.declared.arguments.Command.{Command}
+use Rattle.normalizer_program.specs.declared.arguments.RecordSet.{RecordSet}
 use Rattle.normalizer_program.specs.Needs.{Held, held_for_all}
 use Rattle.normalizer_program.specs.Outcome.{IsOutcome}
 use Rattle.normalizer_program.specs.RecordSets.{AreRefused, mapper_records_of, records_of}

@@ -1,6 +1,6 @@
 -- The task of each command.
-use Rattle.normalizer_program.specs.declared.words.Command.{Command}
-use Rattle.normalizer_program.specs.declared.words.Command.TheVariants as command
+use Rattle.normalizer_program.specs.declared.arguments.Command.{Command}
+use Rattle.normalizer_program.specs.declared.arguments.Command.TheVariants as command
 use Rattle.normalizer_built.specs.declared.NormalForm.TheVariants.{Nfd, Nfc, Nfkd, Nfkc}
 use Rattle.normalizer_program.specs.declared.task.FormTask.TheVariants.{Write, Check, Locate}
 use Rattle.normalizer_program.specs.declared.task.MapperTask.TheVariants.{Map, Validate, Label}

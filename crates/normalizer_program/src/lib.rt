@@ -11,7 +11,7 @@ mod reply;
 pub mod run;
 mod set_run;
 mod task;
-pub mod words;
+pub mod arguments;
 mod worker;
 
 pub use building::built;

@@ -79,7 +79,7 @@ fn fields(alloc: Global, text: &[char]) -> Result<Vec<&[char]>, AllocError>
     text.split(|c| *c == '.').collect(alloc)
 }
 
-// Whether a field has no U+FFFD, and validation leaves it as it is.
+/// Whether a field has no U+FFFD, and validation leaves it as it is.
 fn is_kept(
     alloc: Global,
     mapper: &Uts46MapperBorrowed<'_>,
@@ -95,7 +95,7 @@ fn is_kept(
     Ok(valid.as_slice() == field)
 }
 
-// Whether a field holds U+FFFD.
+/// Whether a field holds U+FFFD.
 fn holds_replacement(field: &[char]) -> bool
     ensures { result ≡ list_any (λ c. c == 0xFFFD) field.now }
 {

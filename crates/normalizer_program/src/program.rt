@@ -2,15 +2,15 @@
 ghost use Rattle.std.specs.Prelude.{◌≡◌, ◌≢◌, Result, map, string_bytes, IfErr, IsErrOf};
 ghost use Rattle.normalizer_program.specs.Endings.{EndsWith, IsUsage};
 ghost use Rattle.normalizer_program.specs.SetOutcome.{IsOutcomeOver};
-ghost use Rattle.normalizer_program.specs.Words.{AskForNothing, AsksFor};
+ghost use Rattle.normalizer_program.specs.Arguments.{AskForNothing, AsksFor};
 ghost use Rattle.normalizer_io.specs.declared.outcome.Answer.{Answer};
 ghost use Rattle.normalizer_program.specs.declared.ending.ToolFault.{ToolFault};
-ghost use Rattle.normalizer_program.specs.declared.words.Command.{Command};
-ghost use Rattle.normalizer_program.specs.declared.words.RecordSet.{RecordSet};
+ghost use Rattle.normalizer_program.specs.declared.arguments.Command.{Command};
+ghost use Rattle.normalizer_program.specs.declared.arguments.RecordSet.{RecordSet};
 
 use crate::ending::ending;
 use crate::set_run::run_over;
-use crate::words::{USAGE, words};
+use crate::arguments::{USAGE, words};
 use normalizer_io::{Source, Target};
 use std::alloc::Global;
 

@@ -53,7 +53,7 @@ impl FormTask {
     }
 }
 
-// No, with the line of the mismatch; yes, with nothing, if there is none.
+/// No, with the line of the mismatch; yes, with nothing, if there is none.
 fn offence_told(alloc: Global, offence: Option<Offence>) -> Result<Reply, AllocError>
     ensures { IfOk result (λ r. TellsOffence offence r.answer (string_bytes r.output)) }
 {
@@ -69,7 +69,7 @@ fn offence_told(alloc: Global, offence: Option<Offence>) -> Result<Reply, AllocE
     }
 }
 
-// The place, the character found and the one wanted, on one line.
+/// The place, the character found and the one wanted, on one line.
 fn offence_line(alloc: Global, offence: Offence) -> Result<String, AllocError>
     ensures { IfOk result (λ line. string_bytes line ≡ offence_line offence) }
 {
@@ -79,7 +79,7 @@ fn offence_line(alloc: Global, offence: Offence) -> Result<String, AllocError>
     format!(in alloc; "{place} {found} {wanted}\n")
 }
 
-// Lower-case hexadecimal digits, at least four.
+/// Lower-case hexadecimal digits, at least four.
 fn code_point_digits(alloc: Global, character: char) -> Result<String, AllocError>
     ensures { IfOk result (λ digits. string_bytes digits ≡ code_point_digits character) }
 {

@@ -4,10 +4,10 @@ ghost use Rattle.normalizer_program.specs.Needs.{Held, IsServed};
 ghost use Rattle.normalizer_program.specs.Workers.{work_by};
 ghost use Rattle.normalizer_program.specs.Outcome.{IsOutcome};
 ghost use Rattle.normalizer_program.specs.Tasks.{task_of};
-ghost use Rattle.normalizer_program.specs.declared.words.Command.{Command};
+ghost use Rattle.normalizer_program.specs.declared.arguments.Command.{Command};
 
 use crate::ending::ToolFault;
-use crate::words::Command;
+use crate::arguments::Command;
 use crate::worker::{CommandData, Worker};
 use normalizer_io::{Answer, Source, Target, read_all, write_all};
 use std::alloc::Global;
@@ -36,8 +36,8 @@ pub fn run<P: CommandData, R: Source, W: Target>(
     answer(alloc, &worker, reader, writer)
 }
 
-// Reads the input to its end, computes the reply, and only then writes it. (It borrows the worker, so that the worker
-// is dropped in one place.)
+/// Reads the input to its end, computes the reply, and only then writes it. (It borrows the worker, so that the worker
+/// is dropped in one place.)
 fn answer<R: Source, W: Target>(
     alloc: Global,
     worker: &Worker,

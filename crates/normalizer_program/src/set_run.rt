@@ -5,7 +5,7 @@ ghost use Rattle.normalizer_program.specs.SetOutcome.{IsOutcomeOver};
 use crate::building::built;
 use crate::ending::ToolFault;
 use crate::run::run;
-use crate::words::{Command, RecordSet};
+use crate::arguments::{Command, RecordSet};
 use normalizer_io::{Answer, Source, Target};
 use std::alloc::Global;
 

@@ -2,7 +2,7 @@
 ghost use Rattle.std.specs.Prelude.{◌≡◌};
 ghost use Rattle.normalizer_program.specs.Tasks.{task_of};
 
-use crate::words::Command;
+use crate::arguments::Command;
 use normalizer_built::NormalForm;
 
 /// What to do with a normal form of the input.

@@ -1,12 +1,3 @@
-pub mod ChainLemmas
-pub mod CutLemmas
-pub mod ExpansionLemmas
-pub mod LookupLemmas
-pub mod MadeLists
-pub mod OrLemmas
-pub mod PairFaultLemmas
-pub mod RefusalLemmas
-pub mod ReplacedLemmas
-pub mod RoomLemmas
-pub mod SyllableLemmas
-pub mod UnrecordedLemmas
+pub mod replacing
+pub mod checked_lists
+pub mod record_faults

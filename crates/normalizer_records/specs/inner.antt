@@ -1,5 +1,5 @@
 -- What the contracts of private functions alone cite.
 pub mod Chains
-pub mod Cut
+pub mod CutLists
 pub mod Lookup
 pub mod SortedPairs

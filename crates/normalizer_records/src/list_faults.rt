@@ -4,7 +4,7 @@ ghost use Rattle.std.specs.Prelude.{IfOk, IsSomeAnd, IsTrue};
 ghost use Rattle.std.specs.List.{list_any};
 ghost use Rattle.std.specs.Option.{option_map};
 ghost use Rattle.normalizer_tables.specs.SpecialLists.{fixed_list_of};
-ghost use Rattle.normalizer_records.specs.inner.Cut.{HasRoom};
+ghost use Rattle.normalizer_records.specs.inner.CutLists.{HasRoom};
 ghost use Rattle.normalizer_records.specs.Faults.{
   AreMapperRising,
   AreRising,

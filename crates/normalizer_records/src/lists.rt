@@ -2,7 +2,7 @@
 ghost use Rattle.std.specs.Prelude.{IfOk, IfSome};
 ghost use Rattle.std.specs.Option.{option_map};
 ghost use Rattle.normal_forms.specs.Reading.{IsText};
-ghost use Rattle.normalizer_records.specs.inner.Cut.{MayStandFor, StandsFor};
+ghost use Rattle.normalizer_records.specs.inner.CutLists.{MayStandFor, StandsFor};
 ghost use Rattle.normalizer_records.specs.Faults.{AreMapperRising, AreRising};
 ghost use Rattle.normalizer_records.specs.Meaning.{canonical_list, full_list, list_of_status, mapper_list};
 ghost use Rattle.normalizer_records.specs.Statuses.{status_of as status_value};

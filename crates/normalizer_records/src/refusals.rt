@@ -4,7 +4,7 @@ ghost use Rattle.std.specs.BTreeSet.{contains};
 ghost use Rattle.std.specs.List.{list_any};
 ghost use Rattle.std.specs.Ordering.{nat_cmp};
 ghost use Rattle.normalizer_records.specs.inner.Chains.{IsSetOf};
-ghost use Rattle.normalizer_records.specs.inner.Cut.{HasRoom, IsOfSome};
+ghost use Rattle.normalizer_records.specs.inner.CutLists.{HasRoom, IsOfSome};
 ghost use Rattle.normalizer_records.specs.Faults.{
   AreMapperRising,
   AreRising,

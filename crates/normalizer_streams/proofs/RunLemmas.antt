@@ -7,7 +7,7 @@ use Rattle.std.proofs.lemmas.List.{drop-drop, drop-take}
 use Rattle.normalizer_tables.specs.declared.condition.Bounds.{Bounds}
 use Rattle.normalizer_tables.specs.Characters.{Characters, word_of}
 use Rattle.normalizer_tables.specs.Words.{is_backward_combining}
-use Rattle.normalizer_tables.specs.PairConditions.{is_taken_to_begin_safely}
+use Rattle.normalizer_tables.specs.PairConditions.{is_taken_as_boundary}
 use Rattle.normalizer_streams.specs.declared.scheme.EncodingScheme.{EncodingScheme}
 use Rattle.normalizer_streams.specs.Schemes.{first_by, is_aligned}
 use Rattle.normalizer_streams.specs.Streams.{IsDivision, IsRun}
@@ -17,9 +17,9 @@ either-false : (a b : Bool) → (not a || b) ≡ false → a ≡ true
 either-false true b h = refl
 either-false false b h = absurd (true≢false h)
 
--- a character that isn't taken to begin safely may continue what comes before it
-pub continues_unless_safe : (s : Characters) (b : Bounds) (c : ℕ) → is_taken_to_begin_safely s b c ≡ false → is_backward_combining (word_of s c) ≡ true
-unfolding is_taken_to_begin_safely
+-- a character that isn't taken to begin at a boundary may continue what comes before it
+pub continues_unless_safe : (s : Characters) (b : Bounds) (c : ℕ) → is_taken_as_boundary s b c ≡ false → is_backward_combining (word_of s c) ≡ true
+unfolding is_taken_as_boundary
 continues_unless_safe s b c h = either-false (is_backward_combining (word_of s c)) _ h
 
 module _ (scheme : EncodingScheme) (continues : ℕ → Bool) (bytes : List ℕ) where

@@ -7,22 +7,22 @@ use Rattle.normal_forms.specs.Forms.{normal_form}
 use Rattle.normal_forms.specs.Reading.{Reading}
 use Rattle.normal_forms.specs.declared.Form.{Form}
 use Rattle.normalizer_text.specs.Encodings.{Encoding, first_in, decoded_in, encoded_in, trails_in}
-use Rattle.normalizer_text.proofs.EncodingRules.{HasTrails-first}
-use Rattle.normalizer_text.proofs.EncodingLemmas.{encoded_in-append}
-use Rattle.normalizer_text.proofs.BackLemmas.{boundary-at}
-use Rattle.normalizer_text.proofs.BoundaryLemmas.{decoded-take-drop}
-use Rattle.normalizer_text.proofs.StepLemmas.{decoded-some}
+use Rattle.normalizer_text.proofs.rules.EncodingRules.{HasTrails-first}
+use Rattle.normalizer_text.proofs.rules.EncodingLemmas.{encoded_in-append}
+use Rattle.normalizer_text.proofs.steps.BackLemmas.{boundary-at}
+use Rattle.normalizer_text.proofs.steps.StepBoundaries.{decoded-take-drop}
+use Rattle.normalizer_text.proofs.steps.StepLemmas.{decoded-some}
 use Rattle.normalizer_text.specs.EncodedForm.{encoded_form}
-use Rattle.icu_normalizer.specs.BeginsApart.{BeginsApart}
+use Rattle.icu_normalizer.specs.BoundaryBefore.{HasBoundaryBefore}
 use Rattle.normalizer_streams.specs.declared.scheme.EncodingScheme.{EncodingScheme}
 use Rattle.normalizer_streams.specs.Schemes.{bytes_of, encoding_of, first_by, is_aligned, units_of}
 use Rattle.normalizer_streams.specs.inner.Moves.{IsSettled}
 use Rattle.normalizer_streams.proofs.SchemeLemmas.{bytes-append, first-extends, units-append, units-some}
 
 module _ (e : Encoding) (d : Reading) (form : Form) where
-  -- the form of units is divided before a character that begins apart
+  -- the form of units is divided before a character that begins a new part
   pub encoded_form-parts : (units : List ℕ) (place : ℕ) → place < length units → (first_in e (drop place units)).is_error ≡ false
-      → BeginsApart d form (first_in e (drop place units)).character
+      → HasBoundaryBefore d form (first_in e (drop place units)).character
       → encoded_form e d form units ≡ encoded_form e d form (take place units) ++ encoded_form e d form (drop place units)
   encoded_form-parts units place within right apart =
       let first = first_in e in
@@ -42,15 +42,15 @@ module _ (e : Encoding) (d : Reading) (form : Form) where
       ∙ ap (encoded_in e) (apart front x) ∙ encoded_in-append e (normal_form d form front) (normal_form d form (c ∷ x))
       ∙ ap (λ z. encoded_in e (normal_form d form front) ++ encoded_in e (normal_form d form z)) (sym begins)
 
-  -- a front, and a rest that begins with a character that begins apart
-  encoded_form-append : (front rest : List ℕ) → 0 < length rest → (first_in e rest).is_error ≡ false → BeginsApart d form (first_in e rest).character
+  -- a front, and a rest that begins with a character that begins a new part
+  encoded_form-append : (front rest : List ℕ) → 0 < length rest → (first_in e rest).is_error ≡ false → HasBoundaryBefore d form (first_in e rest).character
       → encoded_form e d form (front ++ rest) ≡ encoded_form e d form front ++ encoded_form e d form rest
   encoded_form-append front rest some right apart =
       let place = length front in
       let after : drop place (front ++ rest) ≡ rest = drop-append_seam front rest in
       let before : take place (front ++ rest) ≡ front = take-append_seam front rest in
       let within : place < length (front ++ rest) = omega (arith, length-append front rest) in
-      encoded_form-parts (front ++ rest) place within (ap (λ x. (first_in e x).is_error) after ∙ right) (subst (λ x. BeginsApart d form (first_in e x).character) (sym after) apart)
+      encoded_form-parts (front ++ rest) place within (ap (λ x. (first_in e x).is_error) after ∙ right) (subst (λ x. HasBoundaryBefore d form (first_in e x).character) (sym after) apart)
       ∙ ap (λ x. encoded_form e d form x ++ encoded_form e d form (drop place (front ++ rest))) before ∙ ap (λ x. encoded_form e d form front ++ encoded_form e d form x) after
 
 -- the bytes of the form of what bytes spell
@@ -58,7 +58,7 @@ abbrev pub form_in : EncodingScheme → Reading → Form → List ℕ → List �
 form_in scheme d form bytes = bytes_of scheme (encoded_form (encoding_of scheme) d form (units_of scheme bytes))
 
 pub IsSettled-character : (scheme : EncodingScheme) (d : Reading) (form : Form) (bytes : List ℕ) (place : ℕ) → place < length bytes → is_aligned scheme place ≡ true
-    → (first_by scheme (drop place bytes)).is_error ≡ false → BeginsApart d form (first_by scheme (drop place bytes)).character → IsSettled (form_in scheme d form) bytes place
+    → (first_by scheme (drop place bytes)).is_error ≡ false → HasBoundaryBefore d form (first_by scheme (drop place bytes)).character → IsSettled (form_in scheme d form) bytes place
 IsSettled-character scheme d form bytes place within aligned right apart = record {
   within = omega arith;
   apart = λ next.
@@ -73,7 +73,7 @@ IsSettled-character scheme d form bytes place within aligned right apart = recor
       ap (units_of scheme) whole ∙ units-append scheme front (rest ++ next) (ap (is_aligned scheme) size ∙ aligned) in
       let same = first-extends scheme rest next some right in
       let parts = encoded_form-append e d form (units_of scheme front) (units_of scheme (rest ++ next)) (units-some scheme (rest ++ next) more)
-      (ap (λ s. s.is_error) same ∙ right) (subst (λ s. BeginsApart d form s.character) (sym same) apart) in
+      (ap (λ s. s.is_error) same ∙ right) (subst (λ s. HasBoundaryBefore d form s.character) (sym same) apart) in
       ap (λ x. bytes_of scheme (encoded_form e d form x)) units ∙ ap (bytes_of scheme) parts
       ∙ bytes-append scheme (encoded_form e d form (units_of scheme front)) (encoded_form e d form (units_of scheme (rest ++ next)));
 }

@@ -25,7 +25,7 @@ use normalizer_io::{DeviceError, Source, TransferError};
 use std::alloc::{AllocError, Global};
 use std::marker::Model;
 
-// The most bytes that one read returns.
+/// The most bytes that one read returns.
 const BLOCK: usize = 32768;
 
 /// Bytes that were read, at the beginning of a buffer.
@@ -86,7 +86,7 @@ impl Carried {
     }
 }
 
-// Makes a buffer as long as this, if it is shorter.
+/// Makes a buffer as long as this, if it is shorter.
 fn lengthen(buffer: &mut Vec<u8>, len: usize) -> Result<(), AllocError>
     ensures front { take (vec_len buffer.old) buffer.new.items ≡ buffer.old.items }
     ensures grown { vec_len buffer.old ≤ vec_len buffer.new }
@@ -98,7 +98,7 @@ fn lengthen(buffer: &mut Vec<u8>, len: usize) -> Result<(), AllocError>
     Ok(())
 }
 
-// Reads into a buffer from a place on, up to an end.
+/// Reads into a buffer from a place on, up to an end.
 fn read_behind<R: Source>(
     reader: &mut R,
     buffer: &mut [u8],

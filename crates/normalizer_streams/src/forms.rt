@@ -78,7 +78,7 @@ impl FormBuffers {
     }
 }
 
-// Appends the form of 16-bit units.
+/// Appends the form of 16-bit units.
 fn append_form_of_units(
     normalizer: &Normalizer,
     units: &[u16],

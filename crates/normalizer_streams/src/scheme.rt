@@ -17,7 +17,7 @@ ghost use Rattle.normalizer_streams.specs.Schemes.{
 use normalizer_text::{Chars, Step, Units};
 use std::alloc::{AllocError, Global};
 
-// What a byte that is left at the end reads as: a high surrogate, which is ill-formed there.
+/// What a byte that is left at the end reads as: a high surrogate, which is ill-formed there.
 const CUT_OFF: u16 = 0xD800;
 
 /// The order of the two bytes of a 16-bit unit.
@@ -39,7 +39,7 @@ pub enum EncodingScheme {
 }
 
 impl ByteOrder {
-    // The unit of two bytes.
+    /// The unit of two bytes.
     fn unit(self, first: u8, second: u8) -> u16
         ensures { result ≡ unit_of self first second }
     {
@@ -49,7 +49,7 @@ impl ByteOrder {
         }
     }
 
-    // The bytes of a unit.
+    /// The bytes of a unit.
     fn bytes(self, unit: u16) -> [u8; 2]
         ensures { result ≡ bytes_of_unit self unit }
     {
@@ -59,7 +59,7 @@ impl ByteOrder {
         }
     }
 
-    // The first unit of the bytes from a place on.
+    /// The first unit of the bytes from a place on.
     fn unit_at(self, bytes: &[u8], place: usize) -> u16
         requires { place < length bytes.now }
         ensures { units_of_pairs self (drop place bytes.now) ≡ result ∷ units_of_pairs self (drop (place + 2) bytes.now) }
@@ -71,7 +71,7 @@ impl ByteOrder {
         }
     }
 
-    // The first step of the bytes from a place on.
+    /// The first step of the bytes from a place on.
     fn step_at(self, bytes: &[u8], place: usize) -> Step
         requires { place < length bytes.now }
         ensures { result ≡ first_of_utf16 (units_of_pairs self (drop place bytes.now)) }
@@ -85,7 +85,7 @@ impl ByteOrder {
         }
     }
 
-    // The units that bytes spell.
+    /// The units that bytes spell.
     pub(crate) fn units(self, alloc: Global, bytes: &[u8]) -> Result<Vec<u16>, AllocError>
         ensures { IfOk result (λ units. units.items ≡ units_of_pairs self bytes.now) }
     {
@@ -98,7 +98,7 @@ impl ByteOrder {
         Ok(units)
     }
 
-    // The bytes of units.
+    /// The bytes of units.
     pub(crate) fn spelled(self, alloc: Global, units: &[u16]) -> Result<Vec<u8>, AllocError>
         ensures { IfOk result (λ bytes. bytes.items ≡ flat_map (bytes_of_unit self) units.now) }
     {
@@ -113,7 +113,7 @@ impl ByteOrder {
 }
 
 impl EncodingScheme {
-    // Whether so many bytes are whole units.
+    /// Whether so many bytes are whole units.
     pub(crate) fn is_aligned(self, count: usize) -> bool
         ensures { result ≡ is_aligned self count }
     {
@@ -123,7 +123,7 @@ impl EncodingScheme {
         }
     }
 
-    // The first step of the bytes from a place on.
+    /// The first step of the bytes from a place on.
     pub(crate) fn step_at(self, bytes: &[u8], place: usize) -> Step
         requires { place < length bytes.now }
         ensures { result ≡ first_by self (drop place bytes.now) }
@@ -187,14 +187,14 @@ impl EncodingScheme {
     }
 }
 
-// So many of the first bytes, or all.
+/// So many of the first bytes, or all.
 fn front(bytes: &[u8], count: usize) -> &[u8]
     ensures { result.now ≡ take (min count (length bytes.now)) bytes.now }
 {
     &bytes[..count.min(bytes.len())]
 }
 
-// The first step of units.
+/// The first step of units.
 fn first_step(units: &[u16]) -> Step
     requires { 0 < length units.now }
     ensures { result ≡ first_of_utf16 units.now }
@@ -202,7 +202,7 @@ fn first_step(units: &[u16]) -> Step
     units.step_at(0)
 }
 
-// Bytes as wider units.
+/// Bytes as wider units.
 fn widened(alloc: Global, bytes: &[u8]) -> Result<Vec<u16>, AllocError>
     ensures { IfOk result (λ units. units.items ≡ bytes.now) }
 {
@@ -213,7 +213,7 @@ fn widened(alloc: Global, bytes: &[u8]) -> Result<Vec<u16>, AllocError>
     Ok(units)
 }
 
-// The characters that units decode to.
+/// The characters that units decode to.
 fn characters<U: Units>(alloc: Global, units: U) -> Result<Vec<char>, AllocError>
     ensures { IfOk result (λ text. text.items ≡ decoded_in U.encoding (U.units units)) }
 {

@@ -1,6 +1,6 @@
 //! Places at which the form of bytes may be divided, whatever comes after them.
 ghost use Rattle.std.specs.Prelude.{◌≡◌, ℕ, ◌<◌, ◌≤◌, true, false, length, IfNone, IfSome};
-ghost use Rattle.icu_normalizer.specs.BeginsApart.{BeginsApart};
+ghost use Rattle.icu_normalizer.specs.BoundaryBefore.{HasBoundaryBefore};
 ghost use Rattle.normalizer_built.specs.Normalizers.{kind_by, reading_of};
 ghost use Rattle.normalizer_streams.specs.Schemes.{is_aligned};
 ghost use Rattle.normalizer_streams.specs.Streams.{form_by, may_continue, IsDivision};
@@ -33,7 +33,7 @@ pub(crate) fn last_settled(
     None
 }
 
-// Whether a whole character is at the place, with a boundary before it.
+/// Whether a whole character is at the place, with a boundary before it.
 fn is_settled(scheme: EncodingScheme, normalizer: &Normalizer, bytes: &[u8], place: usize) -> bool
     requires { place < length bytes.now }
     ensures settled { result ≡ true → IsSettled (form_by scheme normalizer.now) bytes.now place }
@@ -47,9 +47,9 @@ fn is_settled(scheme: EncodingScheme, normalizer: &Normalizer, bytes: &[u8], pla
     !step.is_error && has_boundary_before(normalizer, step.character)
 }
 
-// Whether a text may be divided before the character.
+/// Whether a text may be divided before the character.
 fn has_boundary_before(normalizer: &Normalizer, character: char) -> bool
-    ensures apart { result ≡ true → BeginsApart (reading_of normalizer.now) (kind_by normalizer.now) character }
+    ensures apart { result ≡ true → HasBoundaryBefore (reading_of normalizer.now) (kind_by normalizer.now) character }
     ensures continues { result ≡ false → may_continue normalizer.now character ≡ true }
 {
     match normalizer {

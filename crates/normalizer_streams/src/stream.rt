@@ -42,7 +42,7 @@ use normalizer_built::Normalizer;
 use normalizer_io::{Source, Target, TransferError, write_all};
 use std::alloc::Global;
 
-// What is cut short of a character has fewer bytes.
+/// What is cut short of a character has fewer bytes.
 const LONGEST_SEQUENCE: usize = 4;
 
 /// Reads to the end, and writes the form of the text that all the bytes decode to, in the same scheme. Each maximal
@@ -94,8 +94,8 @@ pub fn write_form<R: Source, W: Target>(
     Err(TransferError::Read)
 }
 
-// Writes the form of what is settled of the bytes that are carried, and keeps the rest. All places up to `searched` but
-// for the last few have been searched.
+/// Writes the form of what is settled of the bytes that are carried, and keeps the rest. All places up to `searched` but
+/// for the last few have been searched.
 fn write_settled<W: Target>(
     scheme: EncodingScheme,
     normalizer: &Normalizer,
@@ -124,7 +124,7 @@ fn write_settled<W: Target>(
     Ok(())
 }
 
-// Writes the form of some bytes.
+/// Writes the form of some bytes.
 fn write_form_of<W: Target>(
     scheme: EncodingScheme,
     normalizer: &Normalizer,

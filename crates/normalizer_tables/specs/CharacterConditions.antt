@@ -64,13 +64,13 @@ pub record IsSoundWord (s : Characters) (n : ℕ) : Type 0 where
   pub marker : s.is_mapper ≡ false → word_of s n ≢ ignored_marker
 
 -- all members after the first are marks
-abbrev pub HasMarksBehind : Characters → List ℕ → Type 0
-HasMarksBehind s x = All (IsMark (reading_by s Dropped [])) (drop 1 x)
+abbrev pub HasMarksAfterFirst : Characters → List ℕ → Type 0
+HasMarksAfterFirst s x = All (IsMark (reading_by s Dropped [])) (drop 1 x)
 
 -- what the word of n promises of the classes of the list's members
 unfoldable pub KeepsPromise : Characters → ℕ → WordReading → Type 0
-KeepsPromise s n (TwoCharacters a b) = HasMarksBehind s (list_of s [] n)
-KeepsPromise s n (Listed item low rest_are_marks) = rest_are_marks ≡ true → HasMarksBehind s (list_of s [] n)
+KeepsPromise s n (TwoCharacters a b) = HasMarksAfterFirst s (list_of s [] n)
+KeepsPromise s n (Listed item low rest_are_marks) = rest_are_marks ≡ true → HasMarksAfterFirst s (list_of s [] n)
 KeepsPromise s n (SpecialForm k) =
     option_map (λ f. f.member_classes) (fixed_list_of n) ≡ Some (map (class_of s) (list_of s [] n))
 KeepsPromise s n Fdfa = All (IsStarter (reading_by s Dropped [])) (list_of s [] n)

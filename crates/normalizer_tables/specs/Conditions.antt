@@ -17,7 +17,7 @@ pub use Rattle.normalizer_tables.specs.CharacterConditions.{IsSoundHangul, IsSou
 pub use Rattle.normalizer_tables.specs.CharacterConditions.{item_count}
 use Rattle.normalizer_tables.specs.Loaded.{Loaded}
 use Rattle.normalizer_tables.specs.PairConditions.{AreSoundPairs, HasOrderedLists, IsComposablePair}
-use Rattle.normalizer_tables.specs.PairConditions.{KeepsBeginning, KeepsRoundTrip}
+use Rattle.normalizer_tables.specs.PairConditions.{KeepsBoundary, KeepsRoundTrip}
 use Rattle.normalizer_tables.specs.StepConditions.{AvoidsFdfa, HasSoundStep}
 use Rattle.normalizer_tables.specs.Words.{is_class_form}
 
@@ -66,7 +66,7 @@ IsMet d Order = (n : ℕ) → IsScalar n → IsOrderedList d.characters n
 IsMet d Passthrough = (n : ℕ) → IsScalar n → n < d.bounds.decomposition → IsPlainStarter d.characters n
 IsMet d Pairs = IfSome d.pairs (λ pairs. AreSoundPairs pairs × All (IsComposablePair d.characters) pairs)
 IsMet d RoundTrip = IfSome d.pairs (λ pairs. (n : ℕ) → KeepsRoundTrip d.characters d.bounds pairs n)
-IsMet d SafeBeginning = IfSome d.pairs (λ pairs. (n : ℕ) → KeepsBeginning d.characters d.bounds pairs n)
+IsMet d SafeBeginning = IfSome d.pairs (λ pairs. (n : ℕ) → KeepsBoundary d.characters d.bounds pairs n)
 IsMet d Results = IfSome d.pairs (λ pairs. All (HasOrderedLists d.characters []) pairs)
 IsMet d FdfaForms = (n : ℕ) → AvoidsFdfa d.characters n
 IsMet d Steps = IfSome d.supplement (λ t. (n : ℕ) → HasSoundStep d.characters t n)

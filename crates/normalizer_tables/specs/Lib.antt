@@ -21,6 +21,6 @@ pub mod SpecialLists
 pub mod StepConditions
 pub mod Steps
 pub mod Table
-pub mod Unseen
+pub mod Passthrough
 pub mod Words
 pub mod inner

@@ -6,7 +6,7 @@ use Rattle.normalizer_tables.specs.Data.{Decompositions, Supplement, lists_or_no
 use Rattle.normalizer_tables.specs.Pairs.{Pair}
 
 -- the words with their tables, the pairs and the supplement as far as they were loaded, and below which numbers
--- characters pass unseen
+-- characters are passthrough
 pub record Loaded : Type 0 where
   pub characters : Characters
   pub bounds : Bounds

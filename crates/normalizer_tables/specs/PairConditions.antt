@@ -3,7 +3,7 @@ use Rattle.std.specs.Prelude.{◌≡◌, ◌≢◌, ℕ, ◌||◌, ◌&&◌, Boo
 use Rattle.std.specs.Char.{IsScalar}
 use Rattle.normal_forms.specs.Order.{order}
 use Rattle.normal_forms.specs.Composition.{compose}
-use Rattle.normal_forms.specs.Boundary.{BeginsSafely}
+use Rattle.normal_forms.specs.Boundary.{BeginsAtBoundary}
 use Rattle.normalizer_tables.specs.declared.condition.Bounds.{Bounds}
 use Rattle.normalizer_tables.specs.Words.{ignored_marker, is_non_round_trip, is_backward_combining}
 use Rattle.normalizer_tables.specs.Characters.{Characters, word_of, list_of, has_class_form}
@@ -31,12 +31,12 @@ is_taken_to_round_trip s b n = not (is_non_round_trip (word_of s n)) || nat_lt n
 
 -- a composing loop relies on it that nothing composes across the beginning of n: it has no BACKWARD_COMBINING, or lies
 -- below the bound
-unfoldable pub is_taken_to_begin_safely : Characters → Bounds → ℕ → Bool
-is_taken_to_begin_safely s b n = not (is_backward_combining (word_of s n)) || nat_lt n b.composition
+unfoldable pub is_taken_as_boundary : Characters → Bounds → ℕ → Bool
+is_taken_as_boundary s b n = not (is_backward_combining (word_of s n)) || nat_lt n b.composition
 
 -- a composing loop passes n as it is: it lies below the bound, or has neither flag
-unfoldable pub is_passed : Characters → Bounds → ℕ → Bool
-is_passed s b n =
+unfoldable pub is_composing_passthrough : Characters → Bounds → ℕ → Bool
+is_composing_passthrough s b n =
     nat_lt n b.composition || (not (is_non_round_trip (word_of s n)) && not (is_backward_combining (word_of s n)))
 
 -- the list of n composes to n alone
@@ -44,17 +44,17 @@ unfoldable pub RoundTrips : Characters → List Pair → ℕ → Type 0
 RoundTrips s pairs n = let d = reading_by s Dropped pairs in compose d (d.list n) ≡ n ∷ []
 
 -- the list of n begins with a starter that is second in no pair
-pub record HasSafeBeginning (s : Characters) (pairs : List Pair) (n : ℕ) : Type 0 where
+pub record ListBeginsAtBoundary (s : Characters) (pairs : List Pair) (n : ℕ) : Type 0 where
   pub begins : (reading_by s Dropped pairs).list n ≢ []
-  pub safely : BeginsSafely (reading_by s Dropped pairs) ((reading_by s Dropped pairs).list n)
+  pub safely : BeginsAtBoundary (reading_by s Dropped pairs) ((reading_by s Dropped pairs).list n)
 
 -- if a composing loop relies on it, the list of n composes to n
 unfoldable pub KeepsRoundTrip : Characters → Bounds → List Pair → ℕ → Type 0
 KeepsRoundTrip s b pairs n = IsScalar n → is_taken_to_round_trip s b n ≡ true → RoundTrips s pairs n
 
--- if a composing loop relies on the beginning of n, the list of n begins safely
-unfoldable pub KeepsBeginning : Characters → Bounds → List Pair → ℕ → Type 0
-KeepsBeginning s b pairs n = IsScalar n → is_taken_to_begin_safely s b n ≡ true → HasSafeBeginning s pairs n
+-- if a composing loop relies on the beginning of n, the list of n begins at a boundary
+unfoldable pub KeepsBoundary : Characters → Bounds → List Pair → ℕ → Type 0
+KeepsBoundary s b pairs n = IsScalar n → is_taken_as_boundary s b n ≡ true → ListBeginsAtBoundary s pairs n
 
 -- a result has the ordered lists of first and second; `ignored` is the list of an ignored character
 unfoldable pub HasOrderedLists : Characters → List ℕ → Pair → Type 0

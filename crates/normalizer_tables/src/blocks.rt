@@ -126,7 +126,7 @@ impl PartialEq for Blocks {
 
     ghost laws = { partial_equiv_from_equiv nat_list_eq_equiv };
 
-    #[tactic(auto, using(crate::proofs::BlockEquality::stored_alike))]
+    #[tactic(auto, using(crate::proofs::code_points::BlockEquality::stored_alike))]
     fn eq(&self, other: &Self) -> bool {
         self.numbers == other.numbers && self.blocks == other.blocks
     }

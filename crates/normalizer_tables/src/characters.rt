@@ -20,7 +20,7 @@ ghost use Rattle.normalizer_tables.specs.Characters.{
 };
 ghost use Rattle.normalizer_tables.specs.Ranges.{IsComplete};
 ghost use Rattle.normalizer_tables.specs.Table.{code_points};
-ghost use Rattle.normalizer_tables.specs.Unseen.{PassUnseenBelow, PassesUnseen};
+ghost use Rattle.normalizer_tables.specs.Passthrough.{IsPassthroughBelow, IsPassthrough};
 ghost use Rattle.normalizer_tables.specs.Characters.{IsNextWord};
 ghost use Rattle.normalizer_tables.specs.Readings.{reading_by};
 
@@ -64,7 +64,7 @@ impl<'a> Model for CharacterData<'a> {
       is_mapper = s.is_mapper;
     } };
 
-    ghost invariant = { λ s. PassUnseenBelow (record {
+    ghost invariant = { λ s. IsPassthroughBelow (record {
       decompositions = s.decompositions.now;
       tables = s.tables.now;
       supplementary = lists_or_none (option_copied s.supplementary);
@@ -99,8 +99,8 @@ impl<'a> CharacterData<'a> {
 
     /// Returns the same data; no word is looked up below `bound`. The caller must establish that each character below
     /// is its own list, with class 0 and no class form.
-    pub fn passing_unseen_below(self, bound: u32) -> Self
-        requires { PassUnseenBelow self bound }
+    pub fn with_passthrough_bound(self, bound: u32) -> Self
+        requires { IsPassthroughBelow self bound }
         ensures { result ≡ self.entry }
     {
         CharacterData {
@@ -119,8 +119,8 @@ impl<'a> CharacterData<'a> {
     /// Returns whether a character is below the bound: it is its own list, with class 0 and no class form. Its word
     /// isn't looked up.
     #[inline(always)]
-    pub fn passes_unseen(&self, character: char) -> bool
-        ensures { IsTrue result → PassesUnseen self.now character }
+    pub fn is_passthrough(&self, character: char) -> bool
+        ensures { IsTrue result → IsPassthrough self.now character }
     {
         (character as u32) < self.unseen_below
     }
@@ -204,12 +204,12 @@ impl<'a> CharacterData<'a> {
     }
 
     /// Returns the canonical combining class of a character.
-    #[tactic(auto, using(crate::proofs::CharacterLemmas::of_scalars), unfolding(crate::specs::Words::class_of_word, crate::specs::Characters::class_of))]
+    #[tactic(auto, using(crate::proofs::words::CharacterLemmas::of_scalars), unfolding(crate::specs::Words::class_of_word, crate::specs::Characters::class_of))]
     #[inline(always)]
     pub fn class_of(&self, character: char) -> u8
         ensures { result ≡ class_of self.now character }
     {
-        if self.passes_unseen(character) {
+        if self.is_passthrough(character) {
             return 0;
         }
         class_of_word(self.word_of(character))
@@ -245,7 +245,7 @@ impl<'a> CharacterData<'a> {
 
     /// Returns whether the list of a character has members, from its word: all have but ignored characters that are
     /// dropped.
-    #[tactic(auto, using(crate::proofs::WordLemmas::readings), unfolding(crate::specs::Characters::list_read, crate::specs::Characters::named_list))]
+    #[tactic(auto, using(crate::proofs::words::WordLemmas::readings), unfolding(crate::specs::Characters::list_read, crate::specs::Characters::named_list))]
     #[inline(always)]
     pub fn has_members(&self, character: char, word: u32, ignored: IgnoredCharacters) -> bool
         requires { word ≡ word_of self.now character }
@@ -258,7 +258,7 @@ impl<'a> CharacterData<'a> {
     }
 
     /// Returns the class of a character, if its word says that it is its own list.
-    #[tactic(auto, using(crate::proofs::WordLemmas::readings), unfolding(crate::specs::Characters::class_of_itself, crate::specs::Characters::list_read, crate::specs::Characters::named_list, crate::specs::Characters::reading_of_word))]
+    #[tactic(auto, using(crate::proofs::words::WordLemmas::readings), unfolding(crate::specs::Characters::class_of_itself, crate::specs::Characters::list_read, crate::specs::Characters::named_list, crate::specs::Characters::reading_of_word))]
     #[inline(always)]
     pub fn class_of_itself(&self, character: char, word: u32) -> Option<u8>
         requires { word ≡ word_of self.now character }
@@ -277,7 +277,7 @@ impl<'a> CharacterData<'a> {
         }
     }
 
-    #[tactic(auto, using(crate::proofs::WordLemmas::readings), unfolding(crate::specs::Characters::list_read, crate::specs::Characters::named_list))]
+    #[tactic(auto, using(crate::proofs::words::WordLemmas::readings), unfolding(crate::specs::Characters::list_read, crate::specs::Characters::named_list))]
     #[inline(always)]
     pub(crate) fn members_of(
         &self,
@@ -314,7 +314,7 @@ impl<'a> CharacterData<'a> {
     }
 
     /// The list from an item of the tables on.
-    #[tactic(auto, using(crate::proofs::ListedLemmas::listed_lists), unfolding(crate::specs::Characters::listed_at))]
+    #[tactic(auto, using(crate::proofs::lists::ListedLemmas::listed_lists), unfolding(crate::specs::Characters::listed_at))]
     fn listed_at(&self, item: u32, low: u8) -> Option<Members<'a>>
         ensures { result ≡ listed_at self.now item low }
     {
@@ -346,7 +346,7 @@ fn listed_in<'a>(
     }
 }
 
-#[tactic(auto, using(crate::proofs::ListedLemmas::listed_lists), unfolding(crate::specs::Characters::narrow_at, crate::specs::Characters::as_text))]
+#[tactic(auto, using(crate::proofs::lists::ListedLemmas::listed_lists), unfolding(crate::specs::Characters::narrow_at, crate::specs::Characters::as_text))]
 fn narrow_at(units: &Scalars16, low: u8, place: usize) -> Option<Members<'_>>
     ensures { result ≡ narrow_at units.now low place }
 {

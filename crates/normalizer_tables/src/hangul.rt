@@ -26,7 +26,7 @@ pub(crate) const T_COUNT: u32 = 28;
 pub const N_COUNT: u32 = 588;
 
 /// Returns the syllable of a leading consonant and a vowel, or of such a syllable and a trailing consonant.
-#[tactic(auto, using(crate::proofs::HangulLemmas::compositions), unfolding(crate::specs::HangulComposition::compose_hangul, crate::specs::HangulComposition::is_lv_syllable))]
+#[tactic(auto, using(crate::proofs::syllables::HangulLemmas::compositions), unfolding(crate::specs::HangulComposition::compose_hangul, crate::specs::HangulComposition::is_lv_syllable))]
 pub fn compose_hangul(first: char, second: char) -> Option<char>
     ensures { result ≡ compose_hangul first second }
 {
@@ -45,7 +45,7 @@ pub fn compose_hangul(first: char, second: char) -> Option<char>
 }
 
 /// Returns whether a character makes a syllable with none before it.
-#[tactic(auto, using(crate::proofs::HangulLemmas::never_hangul_second))]
+#[tactic(auto, using(crate::proofs::syllables::HangulLemmas::never_hangul_second))]
 pub fn is_never_hangul_second(second: char) -> bool
     ensures { IsTrue result ↔ ((first : ℕ) → compose_hangul first second ≡ None) }
 {

@@ -80,7 +80,7 @@ const TWO_MARKS: [Option<char>; 5] = [
     Some('c'),
 ];
 
-// Up to the first starter at first, then up to the next one, and not again after the end.
+/// Up to the first starter at first, then up to the next one, and not again after the end.
 const TWO_MARKS_DECOMPOSED: [Step; 8] = [
     (None, 1),
     (Some('a'), 4),

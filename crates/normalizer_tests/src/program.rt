@@ -6,7 +6,7 @@ use normalizer_io::{Answer, Input, Output};
 use normalizer_program::CommandData;
 use normalizer_program::ending::ToolFault;
 use normalizer_program::run::run;
-use normalizer_program::words::Command;
+use normalizer_program::arguments::Command;
 use std::alloc::Global;
 
 /// Whether a run over data ends so, with this much of the input left and nothing written.
@@ -100,7 +100,7 @@ fn mapper_records(alloc: Global) -> Option<Vec<Uts46Record>> {
     Some(records)
 }
 
-// Validation does not always leave what mapping yields as it is.
+/// Validation does not always leave what mapping yields as it is.
 fn is_changed_field_dropped(alloc: Global) -> Option<bool> {
     let data = Records::build(alloc, &records(alloc)?, &mapper_records(alloc)?).ok()?;
     Some(writes_nothing(

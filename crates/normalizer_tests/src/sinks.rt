@@ -7,7 +7,7 @@ use icu_normalizer::NormalizeError;
 use icu_normalizer::sink::{SinkError, Write, Write16};
 use std::alloc::Global;
 
-// Takes this many bytes, and refuses the whole of a text that would exceed them. It counts the writes.
+/// Takes this many bytes, and refuses the whole of a text that would exceed them. It counts the writes.
 #[derive(Drop)]
 struct Narrow {
     text: String,
@@ -55,7 +55,7 @@ fn narrow_sink(alloc: Global, room: usize) -> Narrow {
     }
 }
 
-// Notes each hint beside the number of units that were taken before it, and counts the writes.
+/// Notes each hint beside the number of units that were taken before it, and counts the writes.
 #[derive(Drop)]
 struct Noting {
     units: Vec<u16>,

@@ -27,7 +27,7 @@ pub trait Expected: Units {
         ensures { IsEndOfPiece (Self.units self) position (encoded_in Self.encoding (c ∷ [])) result };
 }
 
-// Returns the end of a piece that begins at the position, if it is there.
+/// Returns the end of a piece that begins at the position, if it is there.
 fn end_of<T: Copy + Eq>(expected: &[T], position: usize, piece: &[T]) -> Option<usize>
     requires within { position ≤ length expected.now }
     requires decides { (a b : T) → Decides (T.eq a b) (a ≡ b) }

@@ -6,28 +6,28 @@ ghost use Rattle.normalizer_text.specs.Scans.{leading_below};
 
 use std::simd::prelude::*;
 
-// How many units a vector holds.
+/// How many units a vector holds.
 const LANES: usize = 16;
 
-// Units that are compared with a bound by a vector, or one alone.
+/// Units that are compared with a bound by a vector, or one alone.
 pub(crate) trait Lanes: Copy {
     ghost units: { Self → List ℕ };
 
     fn len(self) -> usize
         ensures { result ≡ length (units self) };
 
-    // Whether the unit at a position is below the bound.
+    /// Whether the unit at a position is below the bound.
     fn is_below(self, position: usize, bound: u32) -> bool
         requires { position < length (units self) }
         ensures { result ≡ nat_lt (slice_index (units self) position) bound };
 
-    // Returns how many units of the vector at a position come before the first one that is not below the bound.
+    /// Returns how many units of the vector at a position come before the first one that is not below the bound.
     fn lanes_below(self, position: usize, bound: u32) -> usize
         requires { position + LANES ≤ length (units self) }
         ensures { result ≡ leading_below bound (take LANES (drop position (units self))) };
 }
 
-// Returns the end of the units from a position on that are all below the bound.
+/// Returns the end of the units from a position on that are all below the bound.
 #[inline(always)]
 pub(crate) fn end_of_below<L: Lanes>(units: L, position: usize, bound: u32) -> usize
     requires { position ≤ length (L.units units) }
@@ -51,7 +51,7 @@ pub(crate) fn end_of_below<L: Lanes>(units: L, position: usize, bound: u32) -> u
     end
 }
 
-// Returns how many lanes come before the first one whose bit is set.
+/// Returns how many lanes come before the first one whose bit is set.
 #[inline(always)]
 fn lanes_before_set(mask: u64) -> usize
     ensures { result ≡ (if mask == 0 then LANES else trailing_zeros w64 mask) }

@@ -15,7 +15,7 @@ pub struct Step {
 impl Step {
     ghost use Rattle.normalizer_text.specs.Steps.{read, replaced};
 
-    // The step of a character that takes this many units.
+    /// The step of a character that takes this many units.
     #[inline(always)]
     pub(crate) fn read(character: char, width: usize) -> Step
         ensures { result ≡ read character width }
@@ -27,7 +27,7 @@ impl Step {
         }
     }
 
-    // The step of U+FFFD for this many ill-formed units.
+    /// The step of U+FFFD for this many ill-formed units.
     #[inline(always)]
     pub(crate) fn replaced(width: usize) -> Step
         ensures { result ≡ replaced width }

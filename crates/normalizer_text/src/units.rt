@@ -9,13 +9,13 @@ ghost use Rattle.normalizer_text.specs.Scans.{leading_below, low_byte, EndsLowCh
 use crate::step::Step;
 use crate::{scan, utf8, utf16};
 
-// No step takes more units.
+/// No step takes more units.
 const LONGEST_STEP: usize = 4;
 
-// Bytes below this are characters by themselves.
+/// Bytes below this are characters by themselves.
 const ASCII: u32 = 0x80;
 
-// And so are 16-bit units below this.
+/// And so are 16-bit units below this.
 const SURROGATES: u32 = 0xD800;
 
 /// Text in an encoding: a `str`, bytes that may not be UTF-8, or 16-bit units that may not be UTF-16. A position counts
@@ -76,7 +76,7 @@ pub trait Units: Copy {
         self.len() == 0
     }
 
-    // The step in front, if there are units.
+    /// The step in front, if there are units.
     #[inline(always)]
     final fn first_step(self) -> Option<Step>
         ensures { MatchOption result (units self ≡ []) (IsFirstStep (first_in encoding) (units self)) }
@@ -87,7 +87,7 @@ pub trait Units: Copy {
         Some(self.step_at(0))
     }
 
-    // The step at the back, if there are units.
+    /// The step at the back, if there are units.
     final fn last_step(self) -> Option<Step>
         ensures { MatchOption result (units self ≡ []) (IsLastStep (first_in encoding) (units self)) }
     {
@@ -105,7 +105,7 @@ pub trait Units: Copy {
     }
 }
 
-// Returns the beginning of the last step, if it takes more than one unit.
+/// Returns the beginning of the last step, if it takes more than one unit.
 fn last_start<U: Units>(units: U) -> usize
     requires { 0 < length (U.units units) }
     ensures { IsLastStart (trails_in U.encoding) (U.units units) result }

@@ -5,21 +5,21 @@ ghost use Rattle.normalizer_text.specs.Utf16.{is_high, is_low, pair_value, first
 
 use crate::step::Step;
 
-// The first unit of a pair (D72).
+/// The first unit of a pair (D72).
 fn is_high_surrogate(unit: u16) -> bool
     ensures { result ≡ is_high unit }
 {
     0xD800 <= unit && unit <= 0xDBFF
 }
 
-// The second unit of a pair (D74).
+/// The second unit of a pair (D74).
 pub(crate) fn is_low_surrogate(unit: u16) -> bool
     ensures { result ≡ is_low unit }
 {
     0xDC00 <= unit && unit <= 0xDFFF
 }
 
-// The character of a pair (table 3-5).
+/// The character of a pair (table 3-5).
 fn character_of_pair(high: u16, low: u16) -> char
     requires high { IsTrue (is_high high) }
     requires low { IsTrue (is_low low) }
@@ -29,7 +29,7 @@ fn character_of_pair(high: u16, low: u16) -> char
     char::from_u32(code).unwrap()
 }
 
-// The first step of units that aren't empty.
+/// The first step of units that aren't empty.
 #[inline(always)]
 pub(crate) fn first_step(units: &[u16]) -> Step
     requires { 0 < length units.now }

@@ -9,7 +9,7 @@ ghost use Rattle.normalizer_text.specs.inner.Trails.{BeginsWithSequence, LeadsFo
 
 use crate::step::Step;
 
-// A byte that may come after the first one of a character.
+/// A byte that may come after the first one of a character.
 #[inline(always)]
 pub(crate) fn is_continuation(byte: u8) -> bool
     ensures { result ≡ allows continuation byte }
@@ -17,7 +17,7 @@ pub(crate) fn is_continuation(byte: u8) -> bool
     0x80 <= byte && byte <= 0xBF
 }
 
-// The bytes that may follow a first byte: how many, and the range of the first of them; the others are of 80 to BF.
+/// The bytes that may follow a first byte: how many, and the range of the first of them; the others are of 80 to BF.
 #[derive(Clone, Copy)]
 struct Trail {
     length: usize,
@@ -26,13 +26,13 @@ struct Trail {
 }
 
 impl Trail {
-    ghost use Rattle.normalizer_text.specs.inner.Trails.{places};
+    ghost use Rattle.normalizer_text.specs.inner.Trails.{trail_ranges};
 
-    // Whether the byte may be at place n.
+    /// Whether the byte may be at place n.
     #[inline(always)]
     fn allows(self, n: usize, byte: u8) -> bool
         requires { n < self.length }
-        ensures { result ≡ allows (slice_index_or (places self) n continuation) byte }
+        ensures { result ≡ allows (slice_index_or (trail_ranges self) n continuation) byte }
     {
         if n == 0 {
             self.least <= byte && byte <= self.greatest
@@ -41,10 +41,10 @@ impl Trail {
         }
     }
 
-    // Returns the number of leading places that have a byte that may be there.
+    /// Returns the number of leading places that have a byte that may be there.
     #[inline(always)]
     fn matched(self, bytes: &[u8]) -> usize
-        ensures { result ≡ matched (places self) bytes.now }
+        ensures { result ≡ matched (trail_ranges self) bytes.now }
     {
         let mut n = 0;
         while n < self.length && n < bytes.len() && self.allows(n, bytes[n]) {
@@ -53,11 +53,11 @@ impl Trail {
         n
     }
 
-    // The bytes that may follow this one, if a character may begin with it: the rows of table 3-7.
+    /// The bytes that may follow this one, if a character may begin with it: the rows of table 3-7.
     #[inline(always)]
     #[tactic(auto, unfolding(crate::specs::Utf8::row_of))]
     fn of(lead: u8) -> Option<Trail>
-        ensures { option_map places result ≡ option_map (λ r. r.trail) (row_of lead) }
+        ensures { option_map trail_ranges result ≡ option_map (λ r. r.trail) (row_of lead) }
     {
         let (length, least, greatest) = match lead {
             0x00..=0x7F => (0, 0x80, 0xBF),
@@ -79,9 +79,9 @@ impl Trail {
     }
 }
 
-// The character of a well-formed sequence (table 3-6).
+/// The character of a well-formed sequence (table 3-6).
 #[inline(always)]
-#[tactic(auto, using(crate::proofs::SubpartLemmas::bounds_of_sequence))]
+#[tactic(auto, using(crate::proofs::sequences::SubpartLemmas::bounds_of_sequence))]
 fn character_of(sequence: &[u8]) -> char
     requires { IsWellFormedSequence sequence.now }
     ensures { result ≡ scalar_value sequence.now }
@@ -100,7 +100,7 @@ fn character_of(sequence: &[u8]) -> char
     unsafe { char::from_u32_unchecked(code) }
 }
 
-// How many bytes a well-formed sequence has that begins with this one.
+/// How many bytes a well-formed sequence has that begins with this one.
 #[inline(always)]
 fn length_of_sequence(lead: u8) -> usize
     ensures { result ≡ 1 + continuation_len lead }
@@ -113,7 +113,7 @@ fn length_of_sequence(lead: u8) -> usize
     }
 }
 
-// A byte below which the bytes of well-formed UTF-8 are of characters below the bound.
+/// A byte below which the bytes of well-formed UTF-8 are of characters below the bound.
 #[inline(always)]
 pub(crate) fn low_byte_bound(bound: u32) -> u32
     ensures { result ≡ low_byte bound }
@@ -125,7 +125,7 @@ pub(crate) fn low_byte_bound(bound: u32) -> u32
     }
 }
 
-// The first step of well-formed bytes that aren't empty: the first byte says how many it takes.
+/// The first step of well-formed bytes that aren't empty: the first byte says how many it takes.
 #[inline(always)]
 pub(crate) fn first_step_of_well_formed(bytes: &[u8]) -> Step
     requires some { 0 < length bytes.now }
@@ -136,7 +136,7 @@ pub(crate) fn first_step_of_well_formed(bytes: &[u8]) -> Step
     Step::read(character_of(&bytes[..width]), width)
 }
 
-// Whether bytes begin with a sequence of two.
+/// Whether bytes begin with a sequence of two.
 #[inline(always)]
 fn begins_with_two(bytes: &[u8]) -> bool
     ensures { IsTrue result → BeginsWithSequence bytes.now 2 }
@@ -150,7 +150,7 @@ fn begins_with_two(bytes: &[u8]) -> bool
     is_continuation(bytes[1])
 }
 
-// Whether bytes begin with a sequence of three.
+/// Whether bytes begin with a sequence of three.
 #[inline(always)]
 fn begins_with_three(bytes: &[u8]) -> bool
     ensures { IsTrue result → BeginsWithSequence bytes.now 3 }
@@ -164,7 +164,7 @@ fn begins_with_three(bytes: &[u8]) -> bool
     is_continuation(bytes[2])
 }
 
-// Whether bytes begin with a sequence of four.
+/// Whether bytes begin with a sequence of four.
 #[inline(always)]
 fn begins_with_four(bytes: &[u8]) -> bool
     ensures { IsTrue result → BeginsWithSequence bytes.now 4 }
@@ -181,7 +181,7 @@ fn begins_with_four(bytes: &[u8]) -> bool
     is_continuation(bytes[3])
 }
 
-// Whether a byte begins a sequence of two.
+/// Whether a byte begins a sequence of two.
 #[inline(always)]
 fn leads_two(lead: u8) -> bool
     ensures { IsTrue result → (0xC2 ≤ lead) × (lead ≤ 0xDF) }
@@ -189,7 +189,7 @@ fn leads_two(lead: u8) -> bool
     0xC2 <= lead && lead <= 0xDF
 }
 
-// Whether two bytes begin a sequence of three.
+/// Whether two bytes begin a sequence of three.
 #[inline(always)]
 fn leads_three(lead: u8, second: u8) -> bool
     ensures { IsTrue result → LeadsThree lead second }
@@ -203,7 +203,7 @@ fn leads_three(lead: u8, second: u8) -> bool
     }
 }
 
-// Whether two bytes begin a sequence of four.
+/// Whether two bytes begin a sequence of four.
 #[inline(always)]
 fn leads_four(lead: u8, second: u8) -> bool
     ensures { IsTrue result → LeadsFour lead second }
@@ -216,7 +216,7 @@ fn leads_four(lead: u8, second: u8) -> bool
     }
 }
 
-// The first step of bytes that aren't empty.
+/// The first step of bytes that aren't empty.
 #[inline(always)]
 pub(crate) fn first_step(bytes: &[u8]) -> Step
     requires { 0 < length bytes.now }
@@ -234,7 +234,7 @@ pub(crate) fn first_step(bytes: &[u8]) -> Step
     }
 }
 
-// Returns the first step, at once if it is a sequence of two.
+/// Returns the first step, at once if it is a sequence of two.
 #[inline(always)]
 fn first_step_of_two(bytes: &[u8]) -> Step
     requires { 0 < length bytes.now }
@@ -247,7 +247,7 @@ fn first_step_of_two(bytes: &[u8]) -> Step
     }
 }
 
-// Returns the first step, at once if it is a sequence of three.
+/// Returns the first step, at once if it is a sequence of three.
 #[inline(always)]
 fn first_step_of_three(bytes: &[u8]) -> Step
     requires { 0 < length bytes.now }
@@ -260,7 +260,7 @@ fn first_step_of_three(bytes: &[u8]) -> Step
     }
 }
 
-// Returns the first step, at once if it is a sequence of four.
+/// Returns the first step, at once if it is a sequence of four.
 #[inline(always)]
 fn first_step_of_four(bytes: &[u8]) -> Step
     requires { 0 < length bytes.now }
@@ -273,8 +273,8 @@ fn first_step_of_four(bytes: &[u8]) -> Step
     }
 }
 
-// Returns the first step if the first byte is no character by itself. It is inlined, though it is long: a step that a
-// call returns goes through memory.
+/// Returns the first step if the first byte is no character by itself. It is inlined, though it is long: a step that a
+/// call returns goes through memory.
 #[inline(always)]
 fn first_step_of_more(bytes: &[u8]) -> Step
     requires { 0 < length bytes.now }

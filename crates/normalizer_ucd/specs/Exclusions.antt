@@ -7,7 +7,7 @@ use Rattle.normalizer_ucd.specs.declared.error.LineFault.{LineFault}
 use Rattle.normalizer_ucd.specs.declared.error.Place.{Place}
 use Rattle.normalizer_ucd.specs.declared.error.Problem.TheVariants.{CodePoint, Unmapped}
 use Rattle.normalizer_ucd.specs.declared.error.UcdFile.TheVariants.{CompositionExclusions}
-use Rattle.normalizer_ucd.specs.Reading.{◌>>=◌, fault, read_each}
+use Rattle.normalizer_ucd.specs.FallibleReads.{◌>>=◌, fault, read_each}
 use Rattle.normalizer_ucd.specs.declared.exclusions.Exclusion.{Exclusion}
 use Rattle.normalizer_ucd.specs.Fields.{whole_lines, data_of, field, code_point}
 

@@ -8,7 +8,7 @@ use Rattle.std.specs.Char.{is_ascii_whitespace, is_digit, digit_value}
 use Rattle.normalizer_ucd.specs.declared.error.LineFault.{LineFault}
 use Rattle.normalizer_ucd.specs.declared.error.Problem.TheVariants.{CutOff}
 use Rattle.normalizer_ucd.specs.declared.error.UcdFile.{UcdFile}
-use Rattle.normalizer_ucd.specs.Reading.{◌>>=◌, fault, read_each}
+use Rattle.normalizer_ucd.specs.FallibleReads.{◌>>=◌, fault, read_each}
 
 -- what lies between line feeds
 abbrev pub lines : List ℕ → List (List ℕ)

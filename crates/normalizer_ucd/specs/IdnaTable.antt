@@ -13,7 +13,7 @@ use Rattle.normalizer_ucd.specs.declared.idna_table.Disallowed.{Disallowed}
 use Rattle.normalizer_ucd.specs.declared.idna_table.Disallowed.TheVariants as choices
 use Rattle.normalizer_ucd.specs.declared.idna_table.StatusName.{StatusName}
 use Rattle.normalizer_ucd.specs.declared.idna_table.StatusName.TheVariants as names
-use Rattle.normalizer_ucd.specs.Reading.{◌>>=◌, fault, read_each}
+use Rattle.normalizer_ucd.specs.FallibleReads.{◌>>=◌, fault, read_each}
 use Rattle.normalizer_ucd.specs.Fields.{whole_lines, data_of, code_point, is_scalar_value, characters}
 use Rattle.normalizer_ucd.specs.UnicodeData.{field_of}
 

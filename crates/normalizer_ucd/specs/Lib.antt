@@ -1,5 +1,5 @@
 pub mod Exclusions
 pub mod Fields
 pub mod IdnaTable
-pub mod Reading
+pub mod FallibleReads
 pub mod UnicodeData

@@ -12,7 +12,7 @@ use Rattle.normalizer_ucd.specs.declared.error.UcdFile.TheVariants as files
 use Rattle.normalizer_ucd.specs.declared.unicode_data.Part.{Part}
 use Rattle.normalizer_ucd.specs.declared.unicode_data.Part.TheVariants.{Whole, First, Last}
 use Rattle.normalizer_ucd.specs.declared.unicode_data.Position.{Position}
-use Rattle.normalizer_ucd.specs.Reading.{◌>>=◌, fault, read_each}
+use Rattle.normalizer_ucd.specs.FallibleReads.{◌>>=◌, fault, read_each}
 use Rattle.normalizer_ucd.specs.Fields.{whole_lines, data_of, trim, field, number, code_point, is_scalar_value, characters}
 use Rattle.normalizer_ucd.specs.declared.exclusions.Exclusion.{Exclusion}
 use Rattle.normalizer_ucd.specs.Exclusions.{all_mapped, exclusions_of}

@@ -1,6 +1,6 @@
 //! Why a file was refused.
 ghost use Rattle.std.specs.Prelude.{◌≡◌};
-ghost use Rattle.normalizer_ucd.specs.Reading.{fault};
+ghost use Rattle.normalizer_ucd.specs.FallibleReads.{fault};
 
 use std::alloc::{AllocError, AllocFailed};
 use std::fmt;

@@ -8,7 +8,7 @@ ghost use Rattle.normalizer_ucd.specs.Exclusions.{
   is_mapped,
   place,
 };
-ghost use Rattle.normalizer_ucd.specs.Reading.{Gives};
+ghost use Rattle.normalizer_ucd.specs.FallibleReads.{Gives};
 
 use crate::error::{Place, Problem, UcdError, UcdFile};
 use crate::text::{code_point, data_of, field, push_found, whole_lines};

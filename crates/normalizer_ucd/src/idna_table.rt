@@ -24,7 +24,7 @@ ghost use Rattle.normalizer_ucd.specs.IdnaTable.{
   status_of,
   uts46_records_of,
 };
-ghost use Rattle.normalizer_ucd.specs.Reading.{Gives};
+ghost use Rattle.normalizer_ucd.specs.FallibleReads.{Gives};
 
 use crate::error::{Place, Problem, UcdError, UcdFile};
 use crate::text::{

@@ -16,7 +16,7 @@ ghost use Rattle.normalizer_ucd.specs.Fields.{
   whole_lines,
   with_digit,
 };
-ghost use Rattle.normalizer_ucd.specs.Reading.{Gives};
+ghost use Rattle.normalizer_ucd.specs.FallibleReads.{Gives};
 
 use crate::error::{LineFault, Place, Problem, UcdError, UcdFile};
 use std::alloc::{AllocError, Global};

@@ -26,7 +26,7 @@ ghost use Rattle.normalizer_ucd.specs.UnicodeData.{
   step,
   untagged,
 };
-ghost use Rattle.normalizer_ucd.specs.Reading.{Gives};
+ghost use Rattle.normalizer_ucd.specs.FallibleReads.{Gives};
 
 use crate::error::{LineFault, Place, Problem, UcdError, UcdFile};
 use crate::exclusions::{Exclusion, all_mapped, exclusions_of};

@@ -52,7 +52,7 @@ impl Inputs for Named<'_> {
     }
 }
 
-// An open file that is no directory.
+/// An open file that is no directory.
 fn opened(rt: &HostRuntime, name: &str) -> io::Result<File> {
     let file = fs::open(rt, name)?;
     if file.metadata()?.is_dir() {

@@ -3,7 +3,7 @@ use Rattle.std.specs.Prelude.{◌≡◌, ℕ, List, ◌<◌, ◌≤◌, ◌⊎�
 use Rattle.normal_forms.specs.Reading.{Reading, ReadsAsItself}
 use Rattle.normalizer_text.specs.declared.step.Step.{Step}
 use Rattle.icu_normalizer.specs.declared.kept.KeptStarter.{KeptStarter}
-use Rattle.icu_normalizer.specs.inner.Passing.{IsStableStarter}
+use Rattle.icu_normalizer.specs.inner.PassthroughRuns.{IsStableStarter}
 
 -- x has two members, and begins with a
 abbrev pub IsFirstOfTwo : List ℕ → ℕ → Type 0

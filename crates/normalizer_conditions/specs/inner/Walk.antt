@@ -12,28 +12,28 @@ use Rattle.normalizer_tables.specs.CharacterConditions.{ReadsToItself}
 use Rattle.normalizer_tables.specs.Conditions.{IsMet}
 use Rattle.normalizer_tables.specs.Hangul.{is_hangul_syllable, n_count, s_base}
 use Rattle.normalizer_tables.specs.Loaded.{Loaded}
-use Rattle.normalizer_tables.specs.PairConditions.{KeepsBeginning, KeepsRoundTrip}
+use Rattle.normalizer_tables.specs.PairConditions.{KeepsBoundary, KeepsRoundTrip}
 use Rattle.normalizer_tables.specs.Pairs.{Pair}
 use Rattle.normalizer_tables.specs.StepConditions.{AvoidsFdfa, HasSoundStep}
 use Rattle.normalizer_tables.specs.Table.{code_points}
 use Rattle.normalizer_tables.specs.Words.{is_plain}
 
 -- two syllables, the second not before the first, with the same leading consonant
-pub record IsSyllableBehind (m n : ℕ) : Type 0 where
+pub record IsSyllableAfter (m n : ℕ) : Type 0 where
   pub first : is_hangul_syllable m ≡ true
   pub second : is_hangul_syllable n ≡ true
   pub behind : m ≤ n
   pub leading : (m - s_base) / n_count ≡ (n - s_base) / n_count
 
 -- the numbers after n and before `end`, of which there are some only if Hangul is sound, are syllables after it
-pub record IsEndOfAlike (hangul_is_sound : Bool) (n end : ℕ) : Type 0 where
+pub record IsEndOfEqualWords (hangul_is_sound : Bool) (n end : ℕ) : Type 0 where
   pub above : n < end
   pub within : n ≤ code_points → end ≤ code_points + 1
-  pub alike : (m : ℕ) → n < m → m < end → (hangul_is_sound ≡ true) × IsSyllableBehind n m
+  pub alike : (m : ℕ) → n < m → m < end → (hangul_is_sound ≡ true) × IsSyllableAfter n m
 
 -- n has another word, or nothing composes across its beginning if a composing loop relies on it
-unfoldable pub KeepsPlainBeginning : Characters → Bounds → List Pair → ℕ → Type 0
-KeepsPlainBeginning s b pairs n = is_plain (word_of s n) ≡ true → KeepsBeginning s b pairs n
+unfoldable pub KeepsPlainBoundary : Characters → Bounds → List Pair → ℕ → Type 0
+KeepsPlainBoundary s b pairs n = is_plain (word_of s n) ≡ true → KeepsBoundary s b pairs n
 
 -- what is checked of a condition apart from that walk: all of it if it says nothing of single words, of beginnings those
 -- of characters whose word is 0, flags aside, and of the form of U+FDFA that numbers without a character don't have it
@@ -43,7 +43,7 @@ IsMetApart d Members = Unit {0}
 IsMetApart d Order = Unit {0}
 IsMetApart d Passthrough = Unit {0}
 IsMetApart d RoundTrip = Unit {0}
-IsMetApart d SafeBeginning = IfSome d.pairs (λ pairs. (n : ℕ) → KeepsPlainBeginning d.characters d.bounds pairs n)
+IsMetApart d SafeBeginning = IfSome d.pairs (λ pairs. (n : ℕ) → KeepsPlainBoundary d.characters d.bounds pairs n)
 IsMetApart d FdfaForms = (n : ℕ) → (IsScalar n → ⊥) → AvoidsFdfa d.characters n
 IsMetApart d Steps = Unit {0}
 IsMetApart d WordClasses = Unit {0}
@@ -56,7 +56,7 @@ IsMetAt d Members n = All (ReadsToItself d.characters) (list_of d.characters [] 
 IsMetAt d Order n = IsOrderedList d.characters n
 IsMetAt d Passthrough n = n < d.bounds.decomposition → IsPlainStarter d.characters n
 IsMetAt d RoundTrip n = IfSome d.pairs (λ pairs. KeepsRoundTrip d.characters d.bounds pairs n)
-IsMetAt d SafeBeginning n = IfSome d.pairs (λ pairs. KeepsBeginning d.characters d.bounds pairs n)
+IsMetAt d SafeBeginning n = IfSome d.pairs (λ pairs. KeepsBoundary d.characters d.bounds pairs n)
 IsMetAt d FdfaForms n = AvoidsFdfa d.characters n
 IsMetAt d Steps n = IfSome d.supplement (λ t. HasSoundStep d.characters t n)
 IsMetAt d WordClasses n = IsSoundClass n (word_of d.characters n)

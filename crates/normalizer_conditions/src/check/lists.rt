@@ -6,7 +6,7 @@ ghost use Rattle.normal_forms.specs.Order.{order};
 ghost use Rattle.normal_forms.specs.Reading.{IsStarter};
 ghost use Rattle.normalizer_tables.specs.Characters.{class_of, reading_of_word};
 ghost use Rattle.normalizer_tables.specs.CharacterConditions.{
-  HasMarksBehind,
+  HasMarksAfterFirst,
   IsOrderedList,
   KeepsPromise,
 };
@@ -70,9 +70,9 @@ fn keeps_promise(data: &CharacterData<'_>, read: &ReadCharacter<'_>) -> bool
         KeepsPromise data.now read.now.character (reading_of_word data.now read.now.character) }
 {
     match read.reading {
-        WordReading::TwoCharacters(_, _) => has_marks_behind(data, &read.list),
+        WordReading::TwoCharacters(_, _) => has_marks_after_first(data, &read.list),
         WordReading::Listed(_, _, rest_are_marks) => {
-            !rest_are_marks || has_marks_behind(data, &read.list)
+            !rest_are_marks || has_marks_after_first(data, &read.list)
         }
         WordReading::SpecialForm(_) => has_fixed_classes(data, read.character, &read.list),
         WordReading::Fdfa => are_starters(data, &read.list),
@@ -81,8 +81,8 @@ fn keeps_promise(data: &CharacterData<'_>, read: &ReadCharacter<'_>) -> bool
 }
 
 /// Whether all members after the first are marks.
-fn has_marks_behind(data: &CharacterData<'_>, list: &Members<'_>) -> bool
-    ensures { IsTrue result ↔ HasMarksBehind data.now list.now }
+fn has_marks_after_first(data: &CharacterData<'_>, list: &Members<'_>) -> bool
+    ensures { IsTrue result ↔ HasMarksAfterFirst data.now list.now }
 {
     for place in 1..list.len() {
         if data.class_of(list.at(place)) == 0 {

@@ -11,7 +11,7 @@ use crate::check::numbers::{
 };
 use crate::check::overall::{avoid_fdfa_elsewhere, is_flagged_replacement, items_fit};
 use crate::loaded::LoadedData;
-use crate::pair_check::beginnings::{keep_plain_beginnings, keeps_beginning, keeps_round_trip};
+use crate::pair_check::round_trips::{keep_plain_boundaries, keeps_boundary, keeps_round_trip};
 use crate::pair_check::{are_sound_pairs, have_composable_members, have_ordered_lists};
 use crate::step_check::{avoids_fdfa, has_sound_step};
 use normalizer_tables::condition::{CAP_LIMIT, Condition};
@@ -36,7 +36,7 @@ pub fn is_met_apart(data: &LoadedData<'_>, condition: Condition) -> bool
             None => true,
         },
         Condition::SafeBeginning => match data.pairs {
-            Some(pairs) => keep_plain_beginnings(characters, data.bounds, pairs),
+            Some(pairs) => keep_plain_boundaries(characters, data.bounds, pairs),
             None => true,
         },
         Condition::Results => match data.pairs {
@@ -72,7 +72,7 @@ pub fn is_met_at(data: &LoadedData<'_>, condition: Condition, read: &ReadCharact
             None => true,
         },
         Condition::SafeBeginning => match data.pairs {
-            Some(pairs) => keeps_beginning(characters, data.bounds, pairs, read),
+            Some(pairs) => keeps_boundary(characters, data.bounds, pairs, read),
             None => true,
         },
         Condition::FdfaForms => avoids_fdfa(read.character as u32, read.word),

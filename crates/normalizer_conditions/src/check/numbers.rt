@@ -92,7 +92,7 @@ fn is_composing_jamo(character: char) -> bool
 }
 
 /// Whether a character reads to itself with class 0.
-#[tactic(auto, using(normalizer_tables::proofs::ReadLemmas::readings), unfolding(normalizer_tables::specs::CharacterConditions::IsPlainStarter, normalizer_tables::specs::CharacterConditions::ReadsToItself))]
+#[tactic(auto, using(normalizer_tables::proofs::words::ReadLemmas::readings), unfolding(normalizer_tables::specs::CharacterConditions::IsPlainStarter, normalizer_tables::specs::CharacterConditions::ReadsToItself))]
 pub fn is_plain_starter(read: &ReadCharacter<'_>) -> bool
     ensures { (s : Characters) → IsRead s read.now → IsTrue result ↔ IsPlainStarter s read.now.character }
 {
@@ -100,7 +100,7 @@ pub fn is_plain_starter(read: &ReadCharacter<'_>) -> bool
 }
 
 /// Whether the word of a character reads, and to the character alone.
-#[tactic(auto, using(normalizer_tables::proofs::ReadLemmas::readings), unfolding(normalizer_tables::specs::CharacterConditions::ReadsToItself))]
+#[tactic(auto, using(normalizer_tables::proofs::words::ReadLemmas::readings), unfolding(normalizer_tables::specs::CharacterConditions::ReadsToItself))]
 fn reads_to_itself(read: &ReadCharacter<'_>) -> bool
     ensures { (s : Characters) → IsRead s read.now → IsTrue result ↔ ReadsToItself s read.now.character }
 {
@@ -119,7 +119,7 @@ pub fn is_sound_word(data: &CharacterData<'_>, read: &ReadCharacter<'_>) -> bool
 }
 
 /// Whether a word is no class form, or has a class that its character may have.
-#[tactic(auto, using(normalizer_tables::proofs::ConditionLemmas::one_class_form))]
+#[tactic(auto, using(normalizer_tables::proofs::conditions::ConditionLemmas::one_class_form))]
 pub fn is_sound_class(character: char, word: u32) -> bool
     ensures { IsTrue result ↔ IsSoundClass character word }
 {
@@ -133,7 +133,7 @@ pub fn is_sound_class(character: char, word: u32) -> bool
 }
 
 /// Whether every member of the list of a character reads to itself.
-#[tactic(auto, using(normalizer_tables::proofs::ConditionLemmas::itself_reads_in_full))]
+#[tactic(auto, using(normalizer_tables::proofs::conditions::ConditionLemmas::itself_reads_in_full))]
 pub fn reads_in_full(data: &CharacterData<'_>, read: &ReadCharacter<'_>) -> bool
     requires { IsRead data.now read.now }
     ensures { IsTrue result ↔ All (ReadsToItself data.now) (list_of data.now [] read.now.character) }
@@ -151,7 +151,7 @@ pub fn reads_in_full(data: &CharacterData<'_>, read: &ReadCharacter<'_>) -> bool
 }
 
 /// Whether a member of a list reads to itself. Most have a word that is 0, flags aside.
-#[tactic(auto, using(normalizer_tables::proofs::ConditionLemmas::plain_words), unfolding(normalizer_tables::specs::CharacterConditions::ReadsToItself))]
+#[tactic(auto, using(normalizer_tables::proofs::conditions::ConditionLemmas::plain_words), unfolding(normalizer_tables::specs::CharacterConditions::ReadsToItself))]
 fn member_reads_to_itself(data: &CharacterData<'_>, member: char) -> bool
     ensures { IsTrue result ↔ ReadsToItself data.now member }
 {

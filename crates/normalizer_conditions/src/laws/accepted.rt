@@ -23,7 +23,7 @@ ghost use Rattle.normalizer_tables.specs.Pairs.{Pair, pair_of};
 ghost use Rattle.normalizer_tables.specs.declared.condition.Bounds.{Bounds};
 ghost use Rattle.normalizer_tables.specs.SoundData.{IsSoundData};
 ghost use Rattle.normalizer_tables.specs.Readings.{reading_by, reading_of};
-ghost use Rattle.normalizer_tables.specs.Unseen.{PassUnseenBelow};
+ghost use Rattle.normalizer_tables.specs.Passthrough.{IsPassthroughBelow};
 ghost use Rattle.normalizer_tables.specs.declared.condition.Condition.TheVariants as condition;
 
 /// Accepted data that are no mapper's satisfy the hypotheses of the decomposing form, and with accepted pairs those of
@@ -51,14 +51,14 @@ pub fn accepted_data_are_sound()
 {}
 
 /// A loop may pass on the characters of accepted data below the bound of decomposing unread: conditions 7 and 10.
-pub fn low_characters_pass_unseen()
-    ensures accepted { (s : Characters) (b : Bounds) → IsAccepted s b → PassUnseenBelow s b.decomposition }
+pub fn low_characters_are_passthrough()
+    ensures accepted { (s : Characters) (b : Bounds) → IsAccepted s b → IsPassthroughBelow s b.decomposition }
     ensures handed_in { (decompositions : Decompositions) (tables : Lists) → IsSoundNfdData decompositions tables →
-        PassUnseenBelow (characters_from decompositions tables None) nfd_bounds.decomposition }
+        IsPassthroughBelow (characters_from decompositions tables None) nfd_bounds.decomposition }
 {}
 
 /// What characters compose to are characters if the pairs hold characters alone; Hangul syllables are characters.
-#[tactic(auto, using(crate::proofs::AcceptedLaws::scalar_results))]
+#[tactic(auto, using(crate::proofs::conditions::AcceptedLaws::scalar_results))]
 pub fn results_are_characters()
     ensures { (s : Characters) (ignored : List ℕ) (pairs : List Pair) → All (λ p. IsScalar p.2) pairs →
         HasScalarResults (reading_of s ignored (pair_of pairs)) }

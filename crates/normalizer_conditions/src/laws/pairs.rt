@@ -1,9 +1,9 @@
 //! What holds of data and pairs that meet the written conditions.
-#![tactic(auto, using(crate::proofs::PairLaws::pair_laws))]
+#![tactic(auto, using(crate::proofs::composites::PairLaws::pair_laws))]
 
 ghost use Rattle.std.specs.Prelude.{◌≡◌, ◌≢◌, ℕ, List, [], ◌∷◌, true, All};
 ghost use Rattle.std.specs.Char.{IsScalar};
-ghost use Rattle.normal_forms.specs.Boundary.{BeginsSafely};
+ghost use Rattle.normal_forms.specs.Boundary.{BeginsAtBoundary};
 ghost use Rattle.normal_forms.specs.Forms.{IsNormalized, nfd};
 ghost use Rattle.normal_forms.specs.declared.Form.TheVariants as form;
 ghost use Rattle.normal_forms.specs.Hypotheses.{HasFaithfulResults, HasStarterResults};
@@ -13,7 +13,7 @@ ghost use Rattle.normalizer_tables.specs.Loaded.{characters_loaded, pairs_loaded
 ghost use Rattle.normalizer_tables.specs.Ignored.{ignored_list};
 ghost use Rattle.normalizer_tables.specs.declared.characters.IgnoredCharacters.{IgnoredCharacters};
 ghost use Rattle.normalizer_tables.specs.declared.characters.IgnoredCharacters.TheVariants.{Dropped};
-ghost use Rattle.normalizer_tables.specs.PairConditions.{HasOrderedLists, is_passed};
+ghost use Rattle.normalizer_tables.specs.PairConditions.{HasOrderedLists, is_composing_passthrough};
 ghost use Rattle.normalizer_tables.specs.Pairs.{Pair};
 ghost use Rattle.normalizer_tables.specs.declared.condition.Bounds.{Bounds};
 ghost use Rattle.normalizer_tables.specs.Readings.{reading_by};
@@ -39,18 +39,18 @@ pub fn results_are_faithful()
 
 /// A character that a composing loop passes is normalized, and nothing is reordered or composed across its beginning:
 /// conditions 9, 12 and 13.
-pub fn passed_characters_stand_apart()
+pub fn passthrough_is_normalized_apart()
     ensures form { (s : Characters) (b : Bounds) (pairs : List Pair) →
         IsMet (characters_loaded s b) condition.Order → IsMet (pairs_loaded s b pairs) condition.RoundTrip →
-        (i : IgnoredCharacters) (c : ℕ) → IsScalar c → is_passed s b c ≡ true →
+        (i : IgnoredCharacters) (c : ℕ) → IsScalar c → is_composing_passthrough s b c ≡ true →
         IsNormalized (reading_by s i pairs) form.Composing (c ∷ []) }
     ensures beginning { (s : Characters) (b : Bounds) (pairs : List Pair) →
         IsMet (pairs_loaded s b pairs) condition.SafeBeginning →
-        (i : IgnoredCharacters) (c : ℕ) → IsScalar c → is_passed s b c ≡ true →
-        BeginsSafely (reading_by s i pairs) (list_of s (ignored_list i) c) }
-    ensures inhabited { (s : Characters) (b : Bounds) (pairs : List Pair) →
+        (i : IgnoredCharacters) (c : ℕ) → IsScalar c → is_composing_passthrough s b c ≡ true →
+        BeginsAtBoundary (reading_by s i pairs) (list_of s (ignored_list i) c) }
+    ensures are_nonempty { (s : Characters) (b : Bounds) (pairs : List Pair) →
         IsMet (pairs_loaded s b pairs) condition.SafeBeginning →
-        (i : IgnoredCharacters) (c : ℕ) → IsScalar c → is_passed s b c ≡ true →
+        (i : IgnoredCharacters) (c : ℕ) → IsScalar c → is_composing_passthrough s b c ≡ true →
         list_of s (ignored_list i) c ≢ [] }
 {}
 

@@ -13,7 +13,7 @@ use normalizer_tables::members::Members;
 const ROOM: usize = 36;
 
 /// Whether a list is the ordered lists of two characters.
-#[tactic(auto, using(crate::proofs::PairConditionLemmas::ordered_lists))]
+#[tactic(auto, using(crate::proofs::composites::PairConditionLemmas::ordered_lists))]
 pub(crate) fn is_ordered_lists(
     data: &CharacterData<'_>,
     list: &Members<'_>,
@@ -56,7 +56,7 @@ pub(crate) fn is_spelled(list: &Members<'_>, characters: &[char]) -> bool
 }
 
 /// Puts characters in canonical order: from the last on, each is inserted into those after it.
-#[tactic(auto, using(crate::proofs::PairConditionLemmas::ordered_lists))]
+#[tactic(auto, using(crate::proofs::composites::PairConditionLemmas::ordered_lists))]
 pub(crate) fn put_in_order(data: &CharacterData<'_>, characters: &mut [char])
     ensures { characters.new ≡ order (reading_by data.now Dropped []) characters.old }
 {
@@ -67,7 +67,7 @@ pub(crate) fn put_in_order(data: &CharacterData<'_>, characters: &mut [char])
 }
 
 /// The first character passes its neighbour as long as the two are a reorderable pair.
-#[tactic(auto, using(crate::proofs::PairConditionLemmas::ordered_lists), unfolding(normal_forms::specs::Order::is_reorderable))]
+#[tactic(auto, using(crate::proofs::composites::PairConditionLemmas::ordered_lists), unfolding(normal_forms::specs::Order::is_reorderable))]
 fn insert_first(data: &CharacterData<'_>, first: &mut char, rest: &mut [char])
     ensures { (first.new ∷ rest.new) ≡ insert (reading_by data.now Dropped []) first.old rest.old }
 {

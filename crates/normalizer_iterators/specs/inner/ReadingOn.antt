@@ -6,14 +6,14 @@ use Rattle.std.specs.List.{AllPass}
 use Rattle.normal_forms.specs.Reading.{Reading}
 use Rattle.normal_forms.specs.Decomposition.{expand}
 use Rattle.normal_forms.specs.Order.{order}
-use Rattle.normal_forms.specs.ShortRuns.{places, continues, HasShortRuns}
+use Rattle.normal_forms.specs.ShortRuns.{buffer_limit, continues, HasShortRuns}
 use Rattle.normalizer_tables.specs.declared.characters.IgnoredCharacters.{IgnoredCharacters}
 use Rattle.normalizer_tables.specs.Characters.{Characters, has_class_form}
 use Rattle.normalizer_tables.specs.Readings.{reading_by}
 use Rattle.normalizer_text.specs.Steps.{Spells}
 use Rattle.normalizer_iterators.specs.declared.waiting.WaitingList.{WaitingList}
 use Rattle.normalizer_iterators.specs.WaitingList.{ordered, unordered, held, reordered, AgreesWith}
-use Rattle.normalizer_iterators.specs.Delegate.{HasRead, IsReadyBehind, Source}
+use Rattle.normalizer_iterators.specs.Delegate.{HasRead, IsReadyAfter, Source}
 use Rattle.normalizer_iterators.specs.LazyReading.{HasClassesFrom}
 
 -- by each reading that has the classes of the data: these characters were added, and classes are still right
@@ -37,10 +37,10 @@ pub record ReadsOn {I : Type 0} (from : Source I)
   pub read : List ℕ
   pub run : YieldsThen from.next_gives delegate read pending delegate_after
   pub continuing : AllPass (continues has_class_form d) read
-  pub anew : IfSome pending (λ c. continues has_class_form d c ≡ false)
+  pub at_boundary : IfSome pending (λ c. continues has_class_form d c ≡ false)
   pub text : ordered waiting_after ≡ reordered d waiting (expand d read)
   pub settled : unordered waiting_after ≡ []
-  pub ready : IsReadyBehind from.can_next from.remaining pending delegate_after
+  pub ready : IsReadyAfter from.can_next from.remaining pending delegate_after
   pub fewer : MatchOption pending (length read ≤ size (from.remaining delegate))
       (λ _. size (from.remaining delegate_after) + length read < size (from.remaining delegate))
 
@@ -51,7 +51,7 @@ pub record DidNotFit {I : Type 0} (gives : I → Option ℕ → I → Type 0) (h
   pub delegate_after : I
   pub run : Yields gives delegate read delegate_after
   pub continuing : AllPass (continues has_class_form d) read
-  pub too_long : places < held waiting + length (expand d read)
+  pub too_long : buffer_limit < held waiting + length (expand d read)
 
 -- the first member of the list of a character came; the others and the lists of the characters that continue it are
 -- buffered in order; then one after a boundary was read, or None
@@ -63,17 +63,17 @@ pub record ReadsChunk {I : Type 0} (from : Source I)
   pub read : List ℕ
   pub run : YieldsThen from.next_gives delegate read pending delegate_after
   pub continuing : AllPass (continues has_class_form d) read
-  pub anew : IfSome pending (λ c. continues has_class_form d c ≡ false)
+  pub at_boundary : IfSome pending (λ c. continues has_class_form d c ≡ false)
   pub text : ordered waiting_after ≡ order d (others ++ expand d read)
   pub settled : unordered waiting_after ≡ []
-  pub ready : IsReadyBehind from.can_next from.remaining pending delegate_after
+  pub ready : IsReadyAfter from.can_next from.remaining pending delegate_after
   pub fewer : MatchOption pending (length read ≤ size (from.remaining delegate))
       (λ _. size (from.remaining delegate_after) + length read < size (from.remaining delegate))
 
 -- a character is its own list, and what was read after it does not continue it
-pub record StandsAlone (has_class_form : ℕ → Bool) (d : Reading) (character : ℕ) (following : Option ℕ) : Type 0 where
+pub record IsWholeChunk (has_class_form : ℕ → Bool) (d : Reading) (character : ℕ) (following : Option ℕ) : Type 0 where
   pub own : d.list character ≡ character ∷ []
-  pub anew : IfSome following (λ c. continues has_class_form d c ≡ false)
+  pub at_boundary : IfSome following (λ c. continues has_class_form d c ≡ false)
 
 -- the others and the lists of the characters that continue did not fit
 pub record ChunkDidNotFit {I : Type 0} (gives : I → Option ℕ → I → Type 0) (has_class_form : ℕ → Bool) (d : Reading)
@@ -82,29 +82,29 @@ pub record ChunkDidNotFit {I : Type 0} (gives : I → Option ℕ → I → Type 
   pub delegate_after : I
   pub run : Yields gives delegate read delegate_after
   pub continuing : AllPass (continues has_class_form d) read
-  pub too_long : places < length (d.list character) - 1 + length (expand d read)
+  pub too_long : buffer_limit < length (d.list character) - 1 + length (expand d read)
 
 -- the same using data, from the delegate as it was before `last` was read from it
-abbrev pub ReadsOnBehind : {I : Type 0} → Source I → Characters
+abbrev pub ReadsOnAfter : {I : Type 0} → Source I → Characters
     → IgnoredCharacters → Option ℕ → I → WaitingList → Option ℕ → I → WaitingList → Type 0
-ReadsOnBehind {I = I} from s ignored last delegate waiting pending delegate_after waiting_after =
+ReadsOnAfter {I = I} from s ignored last delegate waiting pending delegate_after waiting_after =
     (before : I) → HasRead from.next_gives from.remaining before last delegate → ReadsOn from (has_class_form s)
     (reading_by s ignored []) before waiting pending delegate_after waiting_after
 
-abbrev pub DidNotFitBehind : {I : Type 0} → (I → Option ℕ → I → Type 0) → (I → Count) → Characters
+abbrev pub DidNotFitAfter : {I : Type 0} → (I → Option ℕ → I → Type 0) → (I → Count) → Characters
     → IgnoredCharacters → Option ℕ → I → WaitingList → Type 0
-DidNotFitBehind {I = I} gives left s ignored last delegate waiting =
+DidNotFitAfter {I = I} gives left s ignored last delegate waiting =
     (before : I) → HasRead gives left before last delegate → DidNotFit gives (has_class_form s)
     (reading_by s ignored []) before waiting
 
-abbrev pub ReadsChunkBehind : {I : Type 0} → Source I → Characters
+abbrev pub ReadsChunkAfter : {I : Type 0} → Source I → Characters
     → IgnoredCharacters → ℕ → Option ℕ → I → ℕ → Option ℕ → I → WaitingList → Type 0
-ReadsChunkBehind {I = I} from s ignored c last delegate first pending delegate_after waiting_after =
+ReadsChunkAfter {I = I} from s ignored c last delegate first pending delegate_after waiting_after =
     (before : I) → HasRead from.next_gives from.remaining before last delegate → ReadsChunk from (has_class_form s)
     (reading_by s ignored []) c before first pending delegate_after waiting_after
 
-abbrev pub ChunkDidNotFitBehind : {I : Type 0} → (I → Option ℕ → I → Type 0) → (I → Count) → Characters
+abbrev pub ChunkDidNotFitAfter : {I : Type 0} → (I → Option ℕ → I → Type 0) → (I → Count) → Characters
     → IgnoredCharacters → ℕ → Option ℕ → I → Type 0
-ChunkDidNotFitBehind {I = I} gives left s ignored c last delegate =
+ChunkDidNotFitAfter {I = I} gives left s ignored c last delegate =
     (before : I) → HasRead gives left before last delegate → ChunkDidNotFit gives (has_class_form s)
     (reading_by s ignored []) c before

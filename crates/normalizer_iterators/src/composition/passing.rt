@@ -1,14 +1,14 @@
 //! Yielding characters as they are, if a composing loop passes them.
 ghost use Rattle.std.specs.Prelude.{◌≡◌, ◌↔◌, [], IsTrue};
-ghost use Rattle.normalizer_iterators.specs.LazyComposing.{IsPassed, PassedBeginAnew};
-ghost use Rattle.normalizer_iterators.specs.inner.Passing.{PassesBy, StandsAtPassed, AllPassed};
-ghost use Rattle.normalizer_iterators.specs.Decomposition.{CanDecompose};
+ghost use Rattle.normalizer_iterators.specs.LazyComposing.{IsComposingPassthrough, PassthroughHasBoundaries};
+ghost use Rattle.normalizer_iterators.specs.inner.PassthroughItems.{YieldsPassthroughBy, PassthroughIsNext, IfComposingPassthrough};
+ghost use Rattle.normalizer_iterators.specs.DecompositionItems.{CanDecompose};
 ghost use Rattle.normalizer_iterators.specs.Reads.{character_of, HasOwnWord, HasOwnWords};
 ghost use Rattle.normalizer_iterators.specs.WaitingList.{ordered};
 
 use crate::decomposition::Decomposition;
 use crate::error::NormalizeError;
-use crate::read::{ReadCharacter, read_from};
+use crate::pending::{PendingChar, read_from};
 use normalizer_tables::characters::CharacterData;
 use normalizer_tables::condition::Bounds;
 use normalizer_tables::word::{is_backward_combining, is_non_round_trip};
@@ -24,15 +24,15 @@ pub(crate) enum Given {
 
 /// Whether nothing is buffered, and a composing loop passes the character that is read next.
 #[inline(always)]
-pub(crate) fn is_at_passed<I: Iterator<Item = char> + Drop>(
+pub(crate) fn is_at_passthrough<I: Iterator<Item = char> + Drop>(
     decomposed: &Decomposition<'_, I>,
     bounds: Bounds,
 ) -> bool
-    ensures { IsTrue result ↔ StandsAtPassed bounds decomposed.now }
+    ensures { IsTrue result ↔ PassthroughIsNext bounds decomposed.now }
 {
     match decomposed.pending {
         Some(read) => {
-            decomposed.waiting.is_empty() && is_passed(&decomposed.characters, bounds, read)
+            decomposed.waiting.is_empty() && is_composing_passthrough(&decomposed.characters, bounds, read)
         }
         None => false,
     }
@@ -40,14 +40,14 @@ pub(crate) fn is_at_passed<I: Iterator<Item = char> + Drop>(
 
 /// The next character: as it is if the one after it is passed too, or none is; else the first member of its list.
 #[inline(always)]
-pub(crate) fn pass_next<I: Iterator<Item = char> + Drop>(
+pub(crate) fn next_passthrough<I: Iterator<Item = char> + Drop>(
     decomposed: &mut Decomposition<'_, I>,
     bounds: Bounds,
 ) -> Option<Result<Given, NormalizeError>>
     requires can { CanDecompose I.can_next I.remaining decomposed.old }
-    requires anew { PassedBeginAnew decomposed.old.characters bounds decomposed.old.ignored }
+    requires at_boundary { PassthroughHasBoundaries decomposed.old.characters bounds decomposed.old.ignored }
     requires empty { ordered decomposed.old.waiting ≡ [] }
-    ensures { PassesBy I.Iterator bounds decomposed.old result decomposed.new }
+    ensures { YieldsPassthroughBy I.Iterator bounds decomposed.old result decomposed.new }
 {
     let read = decomposed.pending.take()?;
     let following = read_from(
@@ -55,7 +55,7 @@ pub(crate) fn pass_next<I: Iterator<Item = char> + Drop>(
         bounds.composition,
         decomposed.delegate.next(),
     );
-    if are_passed(&decomposed.characters, bounds, following) {
+    if are_passthrough(&decomposed.characters, bounds, following) {
         decomposed.pending = following;
         return Some(Ok(Given::Itself(read.character)));
     }
@@ -67,22 +67,22 @@ pub(crate) fn pass_next<I: Iterator<Item = char> + Drop>(
 
 /// Whether a composing loop passes a character, or there is none.
 #[inline(always)]
-fn are_passed(characters: &CharacterData<'_>, bounds: Bounds, read: Option<ReadCharacter>) -> bool
+fn are_passthrough(characters: &CharacterData<'_>, bounds: Bounds, read: Option<PendingChar>) -> bool
     requires { HasOwnWords characters.now read }
-    ensures { IsTrue result ↔ AllPassed characters.now bounds (character_of read) }
+    ensures { IsTrue result ↔ IfComposingPassthrough characters.now bounds (character_of read) }
 {
     match read {
-        Some(read) => is_passed(characters, bounds, read),
+        Some(read) => is_composing_passthrough(characters, bounds, read),
         None => true,
     }
 }
 
 /// Whether a composing loop passes a character: it lies below the bound, or its word has neither flag.
-#[tactic(auto, unfolding(normalizer_tables::specs::PairConditions::is_passed))]
+#[tactic(auto, unfolding(normalizer_tables::specs::PairConditions::is_composing_passthrough))]
 #[inline(always)]
-fn is_passed(characters: &CharacterData<'_>, bounds: Bounds, read: ReadCharacter) -> bool
+fn is_composing_passthrough(characters: &CharacterData<'_>, bounds: Bounds, read: PendingChar) -> bool
     requires { HasOwnWord characters.now read }
-    ensures { IsTrue result ↔ IsPassed characters.now bounds read.character }
+    ensures { IsTrue result ↔ IsComposingPassthrough characters.now bounds read.character }
 {
     if (read.character as u32) < bounds.composition {
         return true;

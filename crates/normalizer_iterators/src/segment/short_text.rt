@@ -5,42 +5,42 @@ ghost use Rattle.std.specs.Prelude.{IfSome, IsTrue, None, Some};
 ghost use Rattle.std.specs.Option.{ForSome};
 ghost use Rattle.normal_forms.specs.Reading.{Reading};
 ghost use Rattle.normal_forms.specs.CompositionByStarters.{compose_by_starters};
-ghost use Rattle.normal_forms.specs.ShortRuns.{places};
+ghost use Rattle.normal_forms.specs.ShortRuns.{buffer_limit};
 
-use crate::waiting::{Classed, PLACES};
+use crate::waiting::{ClassedChar, BUFFER_LIMIT};
 use normalizer_tables::{CanonicalCompositions, compose};
 
-/// A text of at most `PLACES` characters.
+/// A text of at most `BUFFER_LIMIT` characters.
 #[derive(Drop)]
 pub(crate) struct ShortText {
-    characters: [char; PLACES],
+    characters: [char; BUFFER_LIMIT],
     len: usize,
     /// The place of the last starter, if one was added.
     starter: Option<usize>,
     /// The lowest class that no mark after that starter blocks (D115).
     unblocked: u16,
-    ghost whole: { length characters ≡ places },
-    ghost within: { len ≤ places },
+    ghost whole: { length characters ≡ buffer_limit },
+    ghost within: { len ≤ buffer_limit },
     ghost starter_within: { ForSome starter (λ place. place < len) },
 }
 
 impl ShortText {
     ghost use Rattle.normalizer_iterators.specs.ShortText.{so_far};
-    ghost use Rattle.normalizer_iterators.specs.inner.ShortText.{composing, join_last, Adds, BlocksBelow};
-    ghost use Rattle.normalizer_iterators.specs.inner.ShortText.{HasPairsWith, IsJoined};
+    ghost use Rattle.normalizer_iterators.specs.inner.ShortTextSteps.{composing, join_last, Adds, BlocksBelow};
+    ghost use Rattle.normalizer_iterators.specs.inner.ShortTextSteps.{HasPairsWith, IsJoined};
 
     pub(crate) fn new() -> Self
         ensures { so_far result ≡ [] }
     {
         ShortText {
-            characters: ['\0'; PLACES],
+            characters: ['\0'; BUFFER_LIMIT],
             len: 0,
             starter: None,
             unblocked: 0,
         }
     }
 
-    #[tactic(auto, unfolding(crate::specs::inner::ShortText::composing, crate::specs::inner::ShortText::BlocksBelow))]
+    #[tactic(auto, unfolding(crate::specs::inner::ShortTextSteps::composing, crate::specs::inner::ShortTextSteps::BlocksBelow))]
     #[inline(always)]
     pub(crate) fn clear(&mut self)
         ensures text { so_far self.new ≡ [] }
@@ -67,10 +67,10 @@ impl ShortText {
         ensures text { IsTrue result → so_far self.new ≡ so_far self.old ++ character ∷ [] }
         ensures starter { self.new.starter ≡ self.old.starter }
         ensures unblocked { self.new.unblocked ≡ self.old.unblocked }
-        ensures room { self.old.len < places → IsTrue result }
+        ensures room { self.old.len < buffer_limit → IsTrue result }
         ensures len { IsTrue result → self.new.len ≡ self.old.len + 1 }
     {
-        if self.len >= PLACES {
+        if self.len >= BUFFER_LIMIT {
             return false;
         }
         self.characters[self.len] = character;
@@ -81,12 +81,12 @@ impl ShortText {
     /// Composes the last starter with a character in canonical order, if it isn't blocked and the two compose; else
     /// adds the character, if there is room.
     #[inline(always)]
-    pub(crate) fn compose(&mut self, pairs: &CanonicalCompositions, given: Classed) -> bool
+    pub(crate) fn compose(&mut self, pairs: &CanonicalCompositions, given: ClassedChar) -> bool
         ensures text { IsTrue result → (d : Reading) → given.class ≡ d.class given.character → HasPairsWith pairs.now
             given.character d → BlocksBelow d self.old → Adds d given.character self.old self.new }
         ensures blocking { IsTrue result → (d : Reading) → given.class ≡ d.class given.character →
             BlocksBelow d self.old → BlocksBelow d self.new }
-        ensures room { self.old.len < places → IsTrue result }
+        ensures room { self.old.len < buffer_limit → IsTrue result }
         ensures len { IsTrue result → self.new.len ≤ self.old.len + 1 }
     {
         match self.joined(pairs, given) {
@@ -100,7 +100,7 @@ impl ShortText {
 
     /// The place of the last starter, and what it and a character compose to, if it isn't blocked and they do.
     #[inline(always)]
-    fn joined(&self, pairs: &CanonicalCompositions, given: Classed) -> Option<(usize, char)>
+    fn joined(&self, pairs: &CanonicalCompositions, given: ClassedChar) -> Option<(usize, char)>
         ensures place { IfSome result (λ r. self.now.starter ≡ Some r.0) }
         ensures joins { (d : Reading) → given.class ≡ d.class given.character → HasPairsWith pairs.now given.character d
             → BlocksBelow d self.now → IsJoined (join_last d self.now given.character) result }
@@ -115,12 +115,12 @@ impl ShortText {
 
     /// Adds a character that doesn't compose, if there is room.
     #[inline(always)]
-    fn add(&mut self, given: Classed) -> bool
+    fn add(&mut self, given: ClassedChar) -> bool
         ensures text { IsTrue result → (d : Reading) → given.class ≡ d.class given.character →
             join_last d self.old given.character ≡ None → Adds d given.character self.old self.new }
         ensures blocking { IsTrue result → (d : Reading) → given.class ≡ d.class given.character →
             BlocksBelow d self.old → BlocksBelow d self.new }
-        ensures room { self.old.len < places → IsTrue result }
+        ensures room { self.old.len < buffer_limit → IsTrue result }
         ensures len { IsTrue result → self.new.len ≤ self.old.len + 1 }
     {
         let place = self.len;

@@ -5,7 +5,7 @@ use Rattle.std.specs.Cmp.Lexicographic.{slice_cmp}
 use Rattle.std.specs.Ordering.{nat_cmp}
 use Rattle.normalizer_tables.specs.Characters.{items_at}
 use Rattle.normalizer_tables.specs.Data.{Lists}
-use Rattle.normalizer_packing.specs.declared.stored.Store.{Store}
+use Rattle.normalizer_packing.specs.declared.store.Store.{Store}
 use Rattle.normalizer_tables.specs.Entries.{CharacterEntry}
 use Rattle.normalizer_packing.specs.Stored.{apart_from, canonical_lists, first_come, is_among, is_narrow, place_of}
 use Rattle.normalizer_packing.specs.Stored.{supplementary_lists, tables_of}

@@ -1,5 +1,5 @@
 //! What a word that is 0, flags aside, says of its character.
-#![tactic(auto, using(crate::proofs::PlainCharacters::plain_characters), unfolding(normal_forms::specs::ShortRuns::continues, crate::specs::Characters::has_class_form))]
+#![tactic(auto, using(crate::proofs::words::PlainCharacters::plain_characters), unfolding(normal_forms::specs::ShortRuns::continues, crate::specs::Characters::has_class_form))]
 
 ghost use Rattle.std.specs.Prelude.{◌≡◌, ℕ, List, [], ◌∷◌, Option, false, true};
 ghost use Rattle.std.specs.Char.{IsScalar};
@@ -20,7 +20,7 @@ pub fn plain_characters_are_their_forms()
         IsScalar c → is_plain (word_of s c) ≡ true → IsStarter (reading_of s ignored pairing) c }
     ensures form { (s : Characters) (ignored : List ℕ) (pairing : ℕ → ℕ → Option ℕ) (form : Form) (c : ℕ) →
         IsScalar c → is_plain (word_of s c) ≡ true → IsNormalized (reading_of s ignored pairing) form (c ∷ []) }
-    ensures anew { (s : Characters) (ignored : List ℕ) (pairing : ℕ → ℕ → Option ℕ) (c : ℕ) →
+    ensures at_boundary { (s : Characters) (ignored : List ℕ) (pairing : ℕ → ℕ → Option ℕ) (c : ℕ) →
         IsScalar c → is_plain (word_of s c) ≡ true →
         continues (has_class_form s) (reading_of s ignored pairing) c ≡ false }
 {}

@@ -5,8 +5,8 @@ use Rattle.normalizer_text.specs.Utf8.{ByteRange, range, continuation}
 use Rattle.normalizer_text.specs.MaximalSubparts.{IsWellFormedSequence}
 
 -- the places of the bytes after the first one
-abbrev pub places : Trail → List ByteRange
-places t = if t.length == 0 then [] else range t.least t.greatest ∷ replicate (t.length - 1) continuation
+abbrev pub trail_ranges : Trail → List ByteRange
+trail_ranges t = if t.length == 0 then [] else range t.least t.greatest ∷ replicate (t.length - 1) continuation
 
 -- the first n bytes are a well-formed sequence
 abbrev pub BeginsWithSequence : List ℕ → ℕ → Type 0

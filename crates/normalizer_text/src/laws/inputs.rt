@@ -10,7 +10,7 @@ ghost use Rattle.normal_forms.specs.declared.Form.{Form};
 ghost use Rattle.normal_forms.specs.Forms.{normal_form, IsNormalized};
 ghost use Rattle.normal_forms.specs.Cut.{QualifiesForCut, IsCut, IsCommonFront, IsFront};
 ghost use Rattle.normal_forms.specs.Offence.{IsFirstOffence};
-ghost use Rattle.normal_forms.specs.Hypotheses.{HasInhabitedLists, HasScalarResults, HasTextLists, SuitsForm};
+ghost use Rattle.normal_forms.specs.Hypotheses.{HasNonemptyLists, HasScalarResults, HasTextLists, SuitsForm};
 ghost use Rattle.normalizer_text.specs.Steps.{IsWellFormed, IsBoundary};
 ghost use Rattle.normalizer_text.specs.Encodings.{Encoding, first_in, encoded_in, decoded_in};
 ghost use Rattle.normalizer_text.specs.InputCut.{IsInputNormalized, QualifiesForInputCut, IsInputCut};
@@ -84,7 +84,7 @@ pub fn parts_of_normalized_input()
 /// An input that is not well-formed and normalized has exactly one first mismatch. The character found there is not
 /// the one expected, or an error is there.
 pub fn first_input_offence()
-    ensures exists { (e : Encoding) (d : Reading) (form : Form) → HasInhabitedLists d → (units : List ℕ) →
+    ensures exists { (e : Encoding) (d : Reading) (form : Form) → HasNonemptyLists d → (units : List ℕ) →
         (IsInputNormalized e d form units → ⊥) →
         (place : ℕ) × (found : ℕ) × (wanted : ℕ) × IsInputOffence e d form units place found wanted }
     ensures unique { (e : Encoding) (d : Reading) (form : Form) (units : List ℕ) (n found wanted m found' wanted' : ℕ) →
@@ -98,7 +98,7 @@ pub fn first_input_offence()
 /// A search for the first mismatch of an input has exactly one result. The character found is the one of the decoded
 /// text, and the one expected that of its form, after as many characters as come before the place.
 pub fn offence_of_input()
-    ensures exists { (e : Encoding) (d : Reading) (form : Form) → HasInhabitedLists d → (units : List ℕ) →
+    ensures exists { (e : Encoding) (d : Reading) (form : Form) → HasNonemptyLists d → (units : List ℕ) →
         (answer : Option Offence) × IsInputOffenceOf e d form units answer }
     ensures unique { (e : Encoding) (d : Reading) (form : Form) (units : List ℕ) (one other : Option Offence) →
         IsInputOffenceOf e d form units one → IsInputOffenceOf e d form units other → one ≡ other }
@@ -121,7 +121,7 @@ pub fn input_offence_under_continuation()
     ensures differs { (e : Encoding) (d : Reading) (form : Form) → SuitsForm d form → (units more : List ℕ) →
         IsWellFormed (first_in e) units → (IsInputNormalized e d form units → ⊥) →
         IsInputNormalized e d form (units ++ more) → ⊥ }
-    ensures offence { (e : Encoding) (d : Reading) (form : Form) → SuitsForm d form → HasInhabitedLists d →
+    ensures offence { (e : Encoding) (d : Reading) (form : Form) → SuitsForm d form → HasNonemptyLists d →
         (units more : List ℕ) (n found wanted : ℕ) → IsWellFormed (first_in e) units →
         IsInputOffence e d form units n found wanted →
         (m : ℕ) × (found' : ℕ) × (wanted' : ℕ) × IsInputOffence e d form (units ++ more) m found' wanted' × (m ≤ n) }
@@ -190,10 +190,10 @@ pub fn encoded_front_ends_at_boundary()
 /// If the encoded form of a front up to a boundary is at the front of the input, that front is well-formed and
 /// normalized. So no input is a proper extension of its encoded form.
 pub fn offered_input()
-    ensures front { (e : Encoding) (d : Reading) (form : Form) → SuitsForm d form → HasInhabitedLists d →
+    ensures front { (e : Encoding) (d : Reading) (form : Form) → SuitsForm d form → HasNonemptyLists d →
         HasTextLists d → HasScalarResults d → (units : List ℕ) (n : ℕ) → IsBoundary (first_in e) units n →
         IsFront (encoded_form e d form (take n units)) units → IsInputNormalized e d form (take n units) }
-    ensures whole { (e : Encoding) (d : Reading) (form : Form) → SuitsForm d form → HasInhabitedLists d →
+    ensures whole { (e : Encoding) (d : Reading) (form : Form) → SuitsForm d form → HasNonemptyLists d →
         HasTextLists d → HasScalarResults d → (units : List ℕ) →
         IsFront (encoded_form e d form units) units → encoded_form e d form units ≡ units }
 {}

@@ -1,5 +1,5 @@
 use Rattle.std.proofs.Common.{refl}
-use Rattle.icu_normalizer.proofs.CheckLemmas.{is_none_iff_normalized}
+use Rattle.icu_normalizer.proofs.results.CheckLemmas.{is_none_iff_normalized}
 use Rattle.icu_normalizer.proofs.checks.is_own_form.Goals as goal
 
 pub returns : goal.returns

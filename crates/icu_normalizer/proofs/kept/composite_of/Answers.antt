@@ -1,5 +1,5 @@
 use Rattle.std.proofs.Common.{[], sym, ◌∙◌}
-use Rattle.icu_normalizer.proofs.StableLemmas.{if_pair}
+use Rattle.icu_normalizer.proofs.segments.StableLemmas.{if_pair}
 use Rattle.icu_normalizer.proofs.kept.composite_of.Goals as goal
 
 pub returns : goal.returns

@@ -1,5 +1,5 @@
 use Rattle.std.proofs.Common.{sym, ◌∙◌}
-use Rattle.icu_normalizer.proofs.StableLemmas.{two_members}
+use Rattle.icu_normalizer.proofs.segments.StableLemmas.{two_members}
 use Rattle.icu_normalizer.proofs.kept.first_of_two.Goals as goal
 
 pub returns : goal.returns

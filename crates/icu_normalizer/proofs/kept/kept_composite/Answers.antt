@@ -2,9 +2,9 @@ use Rattle.std.proofs.Common.{◌-◌, arith, length, refl, sym, ap, subst, take
 use Rattle.std.specs.Prelude.{IfSome}
 use Rattle.normalizer_tables.specs.declared.characters.IgnoredCharacters.TheVariants.{Dropped}
 use Rattle.normalizer_tables.specs.Readings.{reading_by}
-use Rattle.icu_normalizer.proofs.PassingLemmas.{first_begins}
+use Rattle.icu_normalizer.proofs.passthrough.PassthroughLemmas.{first_begins}
 use Rattle.icu_normalizer.specs.inner.Kept.{IsFirstOfTwo}
-use Rattle.icu_normalizer.proofs.StableLemmas.{base_of_two, last_member}
+use Rattle.icu_normalizer.proofs.segments.StableLemmas.{base_of_two, last_member}
 use Rattle.icu_normalizer.proofs.kept.kept_composite.Goals as goal
 
 pub returns : goal.returns

@@ -1,7 +1,7 @@
 use Rattle.std.proofs.Common.{◌-◌, ◌<◌, length}
 use Rattle.normalizer_tables.specs.Readings.{reading_by}
 use Rattle.normalizer_tables.specs.declared.characters.IgnoredCharacters.TheVariants.{Dropped}
-use Rattle.icu_normalizer.proofs.KeptLemmas.{KeptMarks}
+use Rattle.icu_normalizer.proofs.segments.KeptLemmas.{KeptMarks}
 use Rattle.icu_normalizer.proofs.kept.kept_segment.Given as goal
 
 abbrev pub invariant-loop-end : goal.invariant-loop-end

@@ -1,5 +1,5 @@
 use Rattle.std.proofs.Common.{[], refl, sym, ◌∙◌}
-use Rattle.icu_normalizer.proofs.StableLemmas.{stable_itself}
+use Rattle.icu_normalizer.proofs.segments.StableLemmas.{stable_itself}
 use Rattle.icu_normalizer.proofs.kept.kept_starter.Goals as goal
 
 pub returns-in-Some-eq0 : goal.returns-in-Some-eq0

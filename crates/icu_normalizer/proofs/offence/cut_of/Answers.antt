@@ -1,4 +1,4 @@
-use Rattle.icu_normalizer.proofs.CheckLemmas.{normalized_where_expected, differs_where_refused, cut_where_refused}
+use Rattle.icu_normalizer.proofs.results.CheckLemmas.{normalized_where_expected, differs_where_refused, cut_where_refused}
 use Rattle.icu_normalizer.proofs.offence.cut_of.Goals as goal
 
 pub returns-in-Ok-clause-cut : goal.returns-in-Ok-clause-cut

@@ -1,5 +1,5 @@
 use Rattle.std.proofs.Common.{None, Some}
-use Rattle.icu_normalizer.proofs.CheckLemmas.{IsLastingOffence-found, boundary_at_cut, short_behind_cut, some_behind_cut, wanted_behind_cut, offence_at_cut, found_at}
+use Rattle.icu_normalizer.proofs.results.CheckLemmas.{IsLastingOffence-found, boundary_at_cut, short_behind_cut, some_behind_cut, wanted_behind_cut, offence_at_cut, found_at}
 use Rattle.icu_normalizer.proofs.offence.offence_of.Goals as goal
 
 pub after-rest-requires : goal.after-rest-requires

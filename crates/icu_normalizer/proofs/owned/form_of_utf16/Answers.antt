@@ -1,5 +1,5 @@
 use Rattle.std.proofs.Common.{refl}
-use Rattle.icu_normalizer.proofs.OwnedLemmas.{ReturnsForm-borrowed, ReturnsForm-owned}
+use Rattle.icu_normalizer.proofs.results.OwnedLemmas.{ReturnsForm-borrowed, ReturnsForm-owned}
 use Rattle.icu_normalizer.proofs.owned.form_of_utf16.Goals as goal
 
 pub returns-then-branch : goal.returns-then-branch

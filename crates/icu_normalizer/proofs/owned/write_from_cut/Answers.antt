@@ -1,6 +1,6 @@
 use Rattle.std.proofs.Common.{ap, ◌++◌, ◌∙◌}
-use Rattle.icu_normalizer.proofs.CheckLemmas.{boundary_at_cut}
-use Rattle.icu_normalizer.proofs.OwnedLemmas.{written_from_cut}
+use Rattle.icu_normalizer.proofs.results.CheckLemmas.{boundary_at_cut}
+use Rattle.icu_normalizer.proofs.results.OwnedLemmas.{written_from_cut}
 use Rattle.icu_normalizer.proofs.owned.write_from_cut.Goals as goal
 
 pub before-requires : goal.before-requires

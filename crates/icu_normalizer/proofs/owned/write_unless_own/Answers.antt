@@ -1,4 +1,4 @@
-use Rattle.icu_normalizer.proofs.OwnedLemmas.{WroteUnlessOwn-kept, WroteUnlessOwn-wrote}
+use Rattle.icu_normalizer.proofs.results.OwnedLemmas.{WroteUnlessOwn-kept, WroteUnlessOwn-wrote}
 use Rattle.icu_normalizer.proofs.owned.write_unless_own.Goals as goal
 
 pub returns-in_default-clause-wrote : goal.returns-in_default-clause-wrote

@@ -1,7 +1,7 @@
 use Rattle.std.proofs.Common.{◌≡◌, ◌-◌, drop, length}
 use Rattle.std.specs.Prelude.{IfSome}
 use Rattle.normalizer_text.specs.Encodings.{first_in}
-use Rattle.icu_normalizer.specs.inner.Passing.{IsKeptTo}
+use Rattle.icu_normalizer.specs.inner.PassthroughRuns.{IsKeptTo}
 use Rattle.icu_normalizer.proofs.runs.kept_end.Given as goal
 
 abbrev pub invariant-loop-end : goal.invariant-loop-end

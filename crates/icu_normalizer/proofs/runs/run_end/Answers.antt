@@ -1,40 +1,40 @@
 use Rattle.std.proofs.Common.{Some, arith, sym, subst, ap, ◌∙◌}
 use Rattle.std.specs.Prelude.{min}
-use Rattle.icu_normalizer.specs.inner.Passing.{IsRun, replacement}
-use Rattle.icu_normalizer.proofs.RunLemmas.{IsRun-mark, IsRun-starters, PassesTo-below, PassesTo-none, PassesTo-more, some_step, within_step}
+use Rattle.icu_normalizer.specs.inner.PassthroughRuns.{IsRun, replacement}
+use Rattle.icu_normalizer.proofs.passthrough.RunSteps.{IsRun-mark, IsRun-starters, IsPassthroughTo-below, IsPassthroughTo-none, IsPassthroughTo-more, some_step, within_step}
 use Rattle.icu_normalizer.proofs.runs.run_end.Goals as goal
 
 pub loop-end-init : goal.loop-end-init
 loop-end-init g c =
     IsRun-starters _ _ _ _
-    (PassesTo-below _ _ _ _ _ (c.min.ensures ∙ ap (λ b. min b replacement) c.passing_bound.ensures) c.passed_characters_stand_apart.ensures.below
-    _ c.low_units_are_of_low_characters.ensures _ _ _ c.low_unit-limit.ensures c.end_of_below-end.ensures (PassesTo-none _ _ _))
+    (IsPassthroughTo-below _ _ _ _ _ (c.min.ensures ∙ ap (λ b. min b replacement) c.passthrough_bound.ensures) c.passthrough_is_normalized_apart.ensures.below
+    _ c.low_units_are_of_low_characters.ensures _ _ _ c.low_unit-limit.ensures c.end_of_below-end.ensures (IsPassthroughTo-none _ _ _))
 
 pub overflow_add-end : goal.overflow_add-end
 overflow_add-end g c =
-    let most = within_step (g.N.Forming.passed_class c.args.normalizer.now) g.U.Units.encoding (g.U.Units.units c.args.units) c.loop-end.end c.step_at-step.result c.step_at-step.ensures
+    let most = within_step (g.N.Forming.passthrough_class c.args.normalizer.now) g.U.Units.encoding (g.U.Units.units c.args.units) c.loop-end.end c.step_at-step.result c.step_at-step.ensures
     (omega (arith, c.len.ensures)) c.loop-end.invariant.to_end.boundary in
     omega (arith, c.len.ensures)
 
 pub overflow_add-end-else-class-eq0 : goal.overflow_add-end-else-class-eq0
 overflow_add-end-else-class-eq0 g c =
-    let most = within_step (g.N.Forming.passed_class c.args.normalizer.now) g.U.Units.encoding (g.U.Units.units c.args.units) c.loop-end.end c.step_at-step.result c.step_at-step.ensures
+    let most = within_step (g.N.Forming.passthrough_class c.args.normalizer.now) g.U.Units.encoding (g.U.Units.units c.args.units) c.loop-end.end c.step_at-step.result c.step_at-step.ensures
     (omega (arith, c.len.ensures)) c.loop-end.invariant.to_end.boundary in
     omega (arith, c.len.ensures)
 
 pub end_of_below-end-requires-then-class-eq0 : goal.end_of_below-end-requires-then-class-eq0
 end_of_below-end-requires-then-class-eq0 g c =
-    within_step (g.N.Forming.passed_class c.args.normalizer.now) _ _ _ _ c.step_at-step.ensures (omega (arith, c.len.ensures)) c.loop-end.invariant.to_end.boundary
+    within_step (g.N.Forming.passthrough_class c.args.normalizer.now) _ _ _ _ c.step_at-step.ensures (omega (arith, c.len.ensures)) c.loop-end.invariant.to_end.boundary
 
 pub loop-end-preserved-then-class-eq0 : goal.loop-end-preserved-then-class-eq0
 loop-end-preserved-then-class-eq0 g c =
-    let passed = g.N.Forming.passed_class c.args.normalizer.now in
+    let passed = g.N.Forming.passthrough_class c.args.normalizer.now in
     let units = g.U.Units.units c.args.units in
     let starter = sym c.in-Some.ensures ∙ ap (λ k. Some k) c.if-class-eq0.true in
     let run = IsRun-starters _ _ _ _
-    (PassesTo-below _ _ _ _ _ (c.min.ensures ∙ ap (λ b. min b replacement) c.passing_bound.ensures) c.passed_characters_stand_apart.ensures.below
+    (IsPassthroughTo-below _ _ _ _ _ (c.min.ensures ∙ ap (λ b. min b replacement) c.passthrough_bound.ensures) c.passthrough_is_normalized_apart.ensures.below
     _ c.low_units_are_of_low_characters.ensures _ _ _ c.low_unit-limit.ensures c.end_of_below-end-then-class-eq0.ensures
-    (PassesTo-more passed _ _ _ _ c.step_at-step.ensures (omega (arith, c.len.ensures)) _ _ c.loop-end.invariant.to_end starter)) in
+    (IsPassthroughTo-more passed _ _ _ _ c.step_at-step.ensures (omega (arith, c.len.ensures)) _ _ c.loop-end.invariant.to_end starter)) in
     subst (λ k. IsRun passed g.U.Units.encoding units c.end_of_below-end-then-class-eq0.result c.end_of_below-end-then-class-eq0.result k) (sym c.if-class-eq0.true) run
 
 pub loop-end-preserved : goal.loop-end-preserved
@@ -44,11 +44,11 @@ loop-end-preserved g c =
 pub loop-end-smaller-then-class-eq0 : goal.loop-end-smaller-then-class-eq0
 loop-end-smaller-then-class-eq0 g c =
     let units = g.U.Units.units c.args.units in
-    let some = some_step (g.N.Forming.passed_class c.args.normalizer.now) g.U.Units.encoding units c.loop-end.end c.step_at-step.result c.step_at-step.ensures (omega (arith, c.len.ensures)) in
+    let some = some_step (g.N.Forming.passthrough_class c.args.normalizer.now) g.U.Units.encoding units c.loop-end.end c.step_at-step.result c.step_at-step.ensures (omega (arith, c.len.ensures)) in
     omega (arith, c.len.ensures, c.end_of_below-end-then-class-eq0.ensures)
 
 pub loop-end-smaller : goal.loop-end-smaller
 loop-end-smaller g c =
     let units = g.U.Units.units c.args.units in
-    let some = some_step (g.N.Forming.passed_class c.args.normalizer.now) g.U.Units.encoding units c.loop-end.end c.step_at-step.result c.step_at-step.ensures (omega (arith, c.len.ensures)) in
+    let some = some_step (g.N.Forming.passthrough_class c.args.normalizer.now) g.U.Units.encoding units c.loop-end.end c.step_at-step.result c.step_at-step.ensures (omega (arith, c.len.ensures)) in
     omega (arith, c.len.ensures)

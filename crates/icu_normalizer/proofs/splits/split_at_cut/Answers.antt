@@ -1,5 +1,5 @@
 use Rattle.std.proofs.Common.{refl}
-use Rattle.icu_normalizer.proofs.CheckLemmas.{boundary_at_cut, IsSplitAtCut-parts}
+use Rattle.icu_normalizer.proofs.results.CheckLemmas.{boundary_at_cut, IsSplitAtCut-parts}
 use Rattle.icu_normalizer.proofs.splits.split_at_cut.Goals as goal
 
 pub before-requires : goal.before-requires

@@ -1,5 +1,5 @@
 use Rattle.normalizer_iterators.specs.declared.error.NormalizeError.TheVariants.{Memory}
-use Rattle.normalizer_iterators.proofs.ItemLemmas.{SpellsUnless-next, SpellsUnless-end, SpellsUnless-fault, SpellsOk-no_fault}
+use Rattle.normalizer_iterators.proofs.items.ItemLemmas.{SpellsUnless-next, SpellsUnless-end, SpellsUnless-fault, SpellsOk-no_fault}
 use Rattle.icu_normalizer.proofs.writing.first_item.Goals as goal
 
 pub returns-in-Some-Ok-clause-first : goal.returns-in-Some-Ok-clause-first

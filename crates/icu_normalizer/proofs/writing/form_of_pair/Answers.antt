@@ -1,7 +1,7 @@
 use Rattle.std.proofs.Common.{[], ◌∷◌, ◌≡◌, ◌-◌, arith, ap, subst, sym, ◌∙◌}
 use Rattle.std.specs.Prelude.{IfSome}
 use Rattle.normal_forms.specs.Forms.{normal_form}
-use Rattle.icu_normalizer.proofs.MemberLemmas.{decoded-two}
+use Rattle.icu_normalizer.proofs.written_forms.MemberLemmas.{decoded-two}
 use Rattle.icu_normalizer.proofs.writing.form_of_pair.Goals as goal
 
 pub returns : goal.returns

@@ -1,6 +1,6 @@
 use Rattle.std.proofs.Common.{◌≡◌, rules, Err}
 use Rattle.normalizer_iterators.specs.declared.error.NormalizeError.TheVariants.{Sink}
-use Rattle.icu_normalizer.proofs.WritingLemmas.{TellsLengthFirst-told, TellsLengthFirst-untold, WritesText-told, WritesText-untold}
+use Rattle.icu_normalizer.proofs.written_forms.WritingLemmas.{TellsLengthFirst-told, TellsLengthFirst-untold, WritesText-told, WritesText-untold}
 use Rattle.icu_normalizer.proofs.writing.form_to.Goals as goal
 
 pub returns-in_err-begin-clause-text : goal.returns-in_err-begin-clause-text

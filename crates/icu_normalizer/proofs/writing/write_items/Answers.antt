@@ -1,6 +1,6 @@
 use Rattle.std.proofs.Common.{◌≡◌, rules, Err}
 use Rattle.normalizer_iterators.specs.declared.error.NormalizeError.TheVariants.{Sink}
-use Rattle.icu_normalizer.proofs.WritingLemmas.{WroteSoFar-none, WroteSoFar-more, WroteSoFar-room, WritesText-all, WritesText-fault, WritesText-refused}
+use Rattle.icu_normalizer.proofs.written_forms.WritingLemmas.{WroteSoFar-none, WroteSoFar-more, WroteSoFar-room, WritesText-all, WritesText-fault, WritesText-refused}
 use Rattle.icu_normalizer.proofs.writing.write_items.Goals as goal
 
 pub loop-item-init : goal.loop-item-init

@@ -1,4 +1,4 @@
-use Rattle.icu_normalizer.proofs.WritingLemmas.{WroteSoFar}
+use Rattle.icu_normalizer.proofs.written_forms.WritingLemmas.{WroteSoFar}
 use Rattle.icu_normalizer.proofs.writing.write_items.Given as goal
 
 abbrev pub invariant-loop-item : goal.invariant-loop-item

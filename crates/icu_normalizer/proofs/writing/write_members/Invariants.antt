@@ -1,6 +1,6 @@
 use Rattle.std.proofs.Common.{◌-◌, drop, length}
-use Rattle.icu_normalizer.proofs.MemberLemmas.{list_gives}
-use Rattle.icu_normalizer.proofs.WritingLemmas.{WroteSoFar}
+use Rattle.icu_normalizer.proofs.written_forms.MemberLemmas.{list_gives}
+use Rattle.icu_normalizer.proofs.written_forms.WritingLemmas.{WroteSoFar}
 use Rattle.icu_normalizer.proofs.writing.write_members.Given as goal
 
 abbrev pub invariant-loop-place : goal.invariant-loop-place

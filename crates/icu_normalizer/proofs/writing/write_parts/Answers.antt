@@ -1,6 +1,6 @@
 use Rattle.std.proofs.Common.{◌≡◌, rules, Err, arith}
-use Rattle.icu_normalizer.proofs.MemberLemmas.{first-drop}
-use Rattle.icu_normalizer.proofs.PartLemmas.{HasShortRuns-behind, WritesText-behind, WritesText-parts, WroteUpTo-first, WroteUpTo-le, WroteUpTo-maybe, WroteUpTo-more, not_handed_on}
+use Rattle.icu_normalizer.proofs.written_forms.MemberLemmas.{first-drop}
+use Rattle.icu_normalizer.proofs.written_forms.PartLemmas.{HasShortRuns-behind, WritesText-behind, WritesText-parts, WroteUpTo-first, WroteUpTo-le, WroteUpTo-maybe, WroteUpTo-more, not_handed_on}
 use Rattle.icu_normalizer.proofs.writing.write_parts.Goals as goal
 
 pub loop-position-init : goal.loop-position-init

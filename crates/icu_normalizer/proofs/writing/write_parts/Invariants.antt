@@ -1,7 +1,7 @@
 use Rattle.std.proofs.Common.{◌≡◌, ◌-◌, drop, length}
 use Rattle.std.specs.Prelude.{IfSome}
 use Rattle.normalizer_text.specs.Encodings.{first_in}
-use Rattle.icu_normalizer.proofs.PartLemmas.{WroteUpTo}
+use Rattle.icu_normalizer.proofs.written_forms.PartLemmas.{WroteUpTo}
 use Rattle.icu_normalizer.proofs.writing.write_parts.Given as goal
 
 abbrev pub invariant-loop-position : goal.invariant-loop-position

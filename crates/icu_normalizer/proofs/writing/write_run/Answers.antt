@@ -1,6 +1,6 @@
 use Rattle.std.proofs.Common.{◌≡◌, rules, Err}
 use Rattle.normalizer_iterators.specs.declared.error.NormalizeError.TheVariants.{Sink}
-use Rattle.icu_normalizer.proofs.PartLemmas.{WritesText-run_refused, WrotePart-run}
+use Rattle.icu_normalizer.proofs.written_forms.PartLemmas.{WritesText-run_refused, WrotePart-run}
 use Rattle.icu_normalizer.proofs.writing.write_run.Goals as goal
 
 pub returns-in_err-write_piece-clause-refused : goal.returns-in_err-write_piece-clause-refused

@@ -1,7 +1,7 @@
 use Rattle.std.proofs.Common.{ap, sym, ◌∙◌}
 use Rattle.normal_forms.specs.Forms.{normal_form}
-use Rattle.icu_normalizer.proofs.MemberLemmas.{decoded-one}
-use Rattle.icu_normalizer.proofs.WritingLemmas.{WritesText-same}
+use Rattle.icu_normalizer.proofs.written_forms.MemberLemmas.{decoded-one}
+use Rattle.icu_normalizer.proofs.written_forms.WritingLemmas.{WritesText-same}
 use Rattle.icu_normalizer.proofs.writing.write_segment.Goals as goal
 
 pub returns-in-Some-clause-text : goal.returns-in-Some-clause-text

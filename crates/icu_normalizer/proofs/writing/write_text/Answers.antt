@@ -1,8 +1,8 @@
 use Rattle.std.proofs.Common.{◌≡◌, ◌≤◌, length, rules, Some, Err, arith, ap, sym, ◌∙◌}
 use Rattle.std.proofs.lemmas.Option.{slice_get-get_or}
 use Rattle.normalizer_iterators.specs.declared.error.NormalizeError.TheVariants.{Sink}
-use Rattle.icu_normalizer.proofs.MemberLemmas.{SpellsUnless-list, list_gives-at, list_gives-end}
-use Rattle.icu_normalizer.proofs.WritingLemmas.{WroteSoFar-none, WroteSoFar-more, WritesText-all, WritesText-refused}
+use Rattle.icu_normalizer.proofs.written_forms.MemberLemmas.{SpellsUnless-list, list_gives-at, list_gives-end}
+use Rattle.icu_normalizer.proofs.written_forms.WritingLemmas.{WroteSoFar-none, WroteSoFar-more, WritesText-all, WritesText-refused}
 use Rattle.icu_normalizer.proofs.writing.write_text.Goals as goal
 
 pub loop-place-init : goal.loop-place-init

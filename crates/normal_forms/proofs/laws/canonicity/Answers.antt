@@ -1,4 +1,4 @@
-use Rattle.normal_forms.proofs.EquivalenceLemmas.{equivalent_lists, equivalent_texts}
+use Rattle.normal_forms.proofs.forms.EquivalenceLemmas.{equivalent_lists, equivalent_texts}
 use Rattle.normal_forms.proofs.laws.canonicity.Goals as goal
 
 pub returns-clause-lists : goal.returns-clause-lists

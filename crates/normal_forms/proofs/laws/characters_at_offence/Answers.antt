@@ -1,4 +1,4 @@
-use Rattle.normal_forms.proofs.PlaceLemmas.{found_at_place, wanted_at_place}
+use Rattle.normal_forms.proofs.cuts.PlaceLemmas.{found_at_place, wanted_at_place}
 use Rattle.normal_forms.proofs.laws.characters_at_offence.Goals as goal
 
 pub returns-clause-found : goal.returns-clause-found

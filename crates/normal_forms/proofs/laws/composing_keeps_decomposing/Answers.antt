@@ -1,4 +1,4 @@
-use Rattle.normal_forms.proofs.LawLemmas.{nfd-nfc, nfc-nfd, nfc_equal_iff}
+use Rattle.normal_forms.proofs.forms.LawLemmas.{nfd-nfc, nfc-nfd, nfc_equal_iff}
 use Rattle.normal_forms.proofs.laws.composing_keeps_decomposing.Goals as goal
 
 pub returns-clause-decomposed : goal.returns-clause-decomposed

@@ -1,4 +1,4 @@
-use Rattle.normal_forms.proofs.VisitLemmas.{compose_is_by_starters}
+use Rattle.normal_forms.proofs.composing.VisitLemmas.{compose_is_by_starters}
 use Rattle.normal_forms.proofs.laws.composition_by_starters.Goals as goal
 
 pub returns : goal.returns

@@ -1,4 +1,4 @@
-use Rattle.normal_forms.proofs.LawLemmas.{compose_over_marks, last_decides}
+use Rattle.normal_forms.proofs.forms.LawLemmas.{compose_over_marks, last_decides}
 use Rattle.normal_forms.proofs.laws.composition_over_marks.Goals as goal
 
 pub returns-clause-pass : goal.returns-clause-pass

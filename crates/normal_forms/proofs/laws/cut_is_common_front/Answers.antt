@@ -1,4 +1,4 @@
-use Rattle.normal_forms.proofs.OffenceLemmas.{cut_iff, zero_qualifies, smaller_qualifies}
+use Rattle.normal_forms.proofs.cuts.OffenceLemmas.{cut_iff, zero_qualifies, smaller_qualifies}
 use Rattle.normal_forms.proofs.laws.cut_is_common_front.Goals as goal
 
 pub returns-clause-exactly : goal.returns-clause-exactly

@@ -1,5 +1,5 @@
-use Rattle.normal_forms.proofs.OffenceLemmas.{found_differs}
-use Rattle.normal_forms.proofs.PlaceLemmas.{offence_of, offence_unique}
+use Rattle.normal_forms.proofs.cuts.OffenceLemmas.{found_differs}
+use Rattle.normal_forms.proofs.cuts.PlaceLemmas.{offence_of, offence_unique}
 use Rattle.normal_forms.proofs.laws.first_offence.Goals as goal
 
 pub returns-clause-exists : goal.returns-clause-exists

@@ -1,4 +1,4 @@
-use Rattle.normal_forms.proofs.TextLemmas.{IsText-nfd, IsText-normal_form}
+use Rattle.normal_forms.proofs.forms.TextLemmas.{IsText-nfd, IsText-normal_form}
 use Rattle.normal_forms.proofs.laws.forms_are_texts.Goals as goal
 
 pub returns-clause-decomposing : goal.returns-clause-decomposing

@@ -1,4 +1,4 @@
-use Rattle.normal_forms.proofs.ChunkLemmas.{nfd-before_chunk, nfd-chunk}
+use Rattle.normal_forms.proofs.boundaries.ChunkLemmas.{nfd-before_chunk, nfd-chunk}
 use Rattle.normal_forms.proofs.laws.lazy_reading.Goals as goal
 
 pub returns-clause-leading : goal.returns-clause-leading

@@ -1,4 +1,4 @@
-use Rattle.normal_forms.proofs.OrderLemmas.{order-append_cancel}
+use Rattle.normal_forms.proofs.ordering.OrderLemmas.{order-append_cancel}
 use Rattle.normal_forms.proofs.laws.left_cancellation.Goals as goal
 
 pub returns : goal.returns

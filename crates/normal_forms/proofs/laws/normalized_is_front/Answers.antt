@@ -1,5 +1,5 @@
-use Rattle.normal_forms.proofs.OffenceLemmas.{is_normalized_iff_front}
-use Rattle.normal_forms.proofs.PlaceLemmas.{normalized_iff_cut}
+use Rattle.normal_forms.proofs.cuts.OffenceLemmas.{is_normalized_iff_front}
+use Rattle.normal_forms.proofs.cuts.PlaceLemmas.{normalized_iff_cut}
 use Rattle.normal_forms.proofs.laws.normalized_is_front.Goals as goal
 
 pub returns-clause-front : goal.returns-clause-front

@@ -1,4 +1,4 @@
-use Rattle.normal_forms.proofs.PlaceLemmas.{answer_of, answer_unique, none_iff_normalized}
+use Rattle.normal_forms.proofs.cuts.PlaceLemmas.{answer_of, answer_unique, none_iff_normalized}
 use Rattle.normal_forms.proofs.laws.offence_of_text.Goals as goal
 
 pub returns-clause-exists : goal.returns-clause-exists

@@ -1,4 +1,4 @@
-use Rattle.normal_forms.proofs.OffenceLemmas.{continued_cut, continued_differs, continued_offence}
+use Rattle.normal_forms.proofs.cuts.OffenceLemmas.{continued_cut, continued_differs, continued_offence}
 use Rattle.normal_forms.proofs.laws.offence_under_continuation.Goals as goal
 
 pub returns-clause-cut : goal.returns-clause-cut

@@ -1,4 +1,4 @@
-use Rattle.normal_forms.proofs.OffenceLemmas.{offered_front_is_normalized, form_ends_with_text}
+use Rattle.normal_forms.proofs.cuts.OffenceLemmas.{offered_front_is_normalized, form_ends_with_text}
 use Rattle.normal_forms.proofs.laws.offered_front.Goals as goal
 
 pub returns-clause-piece : goal.returns-clause-piece

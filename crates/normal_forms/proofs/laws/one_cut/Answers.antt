@@ -1,5 +1,5 @@
-use Rattle.normal_forms.proofs.OffenceLemmas.{cut_iff_longest}
-use Rattle.normal_forms.proofs.PlaceLemmas.{cut_of, cut_unique}
+use Rattle.normal_forms.proofs.cuts.OffenceLemmas.{cut_iff_longest}
+use Rattle.normal_forms.proofs.cuts.PlaceLemmas.{cut_of, cut_unique}
 use Rattle.normal_forms.proofs.laws.one_cut.Goals as goal
 
 pub returns-clause-exists : goal.returns-clause-exists

@@ -1,5 +1,5 @@
-use Rattle.normal_forms.proofs.OffenceLemmas.{front_at_cut}
-use Rattle.normal_forms.proofs.PlaceLemmas.{rest_is_nothing}
+use Rattle.normal_forms.proofs.cuts.OffenceLemmas.{front_at_cut}
+use Rattle.normal_forms.proofs.cuts.PlaceLemmas.{rest_is_nothing}
 use Rattle.normal_forms.proofs.laws.parts_at_cut.Goals as goal
 
 pub returns-clause-prefix : goal.returns-clause-prefix

@@ -1,4 +1,4 @@
-use Rattle.normal_forms.proofs.OffenceLemmas.{parts_of_form}
+use Rattle.normal_forms.proofs.cuts.OffenceLemmas.{parts_of_form}
 use Rattle.normal_forms.proofs.laws.parts_of_normal_form.Goals as goal
 
 pub returns-clause-front : goal.returns-clause-front

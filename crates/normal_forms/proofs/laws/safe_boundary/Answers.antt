@@ -1,5 +1,5 @@
-use Rattle.normal_forms.proofs.BoundaryLemmas.{nfd-boundary}
-use Rattle.normal_forms.proofs.LawLemmas.{nfc-boundary}
+use Rattle.normal_forms.proofs.boundaries.BoundaryLemmas.{nfd-boundary}
+use Rattle.normal_forms.proofs.forms.LawLemmas.{nfc-boundary}
 use Rattle.normal_forms.proofs.laws.safe_boundary.Goals as goal
 
 pub returns-clause-decomposing : goal.returns-clause-decomposing

@@ -1,4 +1,4 @@
-use Rattle.normal_forms.proofs.ChunkLemmas.{HasShortRuns-rest, leading_fits, chunk_fits}
+use Rattle.normal_forms.proofs.boundaries.ChunkLemmas.{HasShortRuns-rest, leading_fits, chunk_fits}
 use Rattle.normal_forms.proofs.laws.short_runs.Goals as goal
 
 pub returns-clause-rest : goal.returns-clause-rest

@@ -1,6 +1,6 @@
 use Rattle.std.proofs.Common.{refl}
 use Rattle.normalizer_tables.specs.Conditions.{IsFirstFailing, IsMet}
-use Rattle.normalizer_conditions.proofs.FailingLemmas.{IsFirstFailing-not_all}
+use Rattle.normalizer_conditions.proofs.conditions.FailingLemmas.{IsFirstFailing-not_all}
 use Rattle.normalizer_conditions.proofs.check.check.Goals as goal
 
 pub returns-in-Some-clause-ok : goal.returns-in-Some-clause-ok

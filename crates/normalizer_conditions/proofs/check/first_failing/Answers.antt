@@ -1,10 +1,10 @@
 use Rattle.std.proofs.Common.{◌∙◌, sym, subst, arith}
 use Rattle.normalizer_tables.specs.Characters.{IsNextWord}
 use Rattle.normalizer_tables.specs.Table.{code_points}
-use Rattle.normalizer_conditions.proofs.FirstFailing.{FailsFirst-all, copied_slice_get, FailsFirst-step, has_sound_hangul, unasked}
-use Rattle.normalizer_conditions.proofs.LoadedLemmas.{IsMet-parts}
-use Rattle.normalizer_conditions.proofs.PairConditionLemmas.{scalar_below}
-use Rattle.normalizer_conditions.proofs.WalkLemmas.{IsMetAt-answered}
+use Rattle.normalizer_conditions.proofs.conditions.FirstFailing.{FailsFirst-all, copied_slice_get, FailsFirst-step, has_sound_hangul, unasked}
+use Rattle.normalizer_conditions.proofs.conditions.LoadedLemmas.{IsMet-parts}
+use Rattle.normalizer_conditions.proofs.composites.PairConditionLemmas.{scalar_below}
+use Rattle.normalizer_conditions.proofs.conditions.WalkLemmas.{IsMetAt-answered}
 use Rattle.normalizer_conditions.proofs.check.first_failing.Goals as goal
 use Rattle.normalizer_conditions.proofs.check.first_failing.Goals.{then-loop-from-test+else-are_asked_of_words, else-loop-from-test}
 
@@ -26,13 +26,13 @@ loop-from-preserved c =
     let apart = c.first_failing_apart-failing.ensures in
     let next = subst (λ d. IsNextWord d.characters c.loop-from.from c.next_with_word-number.result) c.data.view_is c.next_with_word-number.ensures in
     record {
-      within = c.end_of_alike-from.ensures.within next.within;
+      within = c.end_of_equal_words-from.ensures.within next.within;
       first =
-          FailsFirst-step c.args.data.now c.args.conditions.now c.loop-from.from c.next_with_word-number.result c.end_of_alike-from.result c.loop-from.failing c.first_failing_at-failing.result
+          FailsFirst-step c.args.data.now c.args.conditions.now c.loop-from.from c.next_with_word-number.result c.end_of_equal_words-from.result c.loop-from.failing c.first_failing_at-failing.result
           c.loop-from.invariant.first
           (IsMetAt-answered c.args.data.now c.asks_hangul-hangul_is_sound.result
           (λ asked. has_sound_hangul c.args.data.now c.args.conditions.now c.first_failing_apart-failing.result apart (c.asks_hangul-hangul_is_sound.ensures.0 asked)) c.loop-from.from
-          c.next_with_word-number.result c.end_of_alike-from.result next c.end_of_alike-from.ensures)
+          c.next_with_word-number.result c.end_of_equal_words-from.result next c.end_of_equal_words-from.ensures)
           c.first_failing_at-failing.ensures;
     }
 

@@ -1,5 +1,5 @@
 use Rattle.std.proofs.Common.{◌-◌, ◌≤◌}
-use Rattle.normalizer_conditions.proofs.FirstFailing.{FailsFirst}
+use Rattle.normalizer_conditions.proofs.conditions.FirstFailing.{FailsFirst}
 use Rattle.normalizer_conditions.proofs.check.first_failing.Given as goal
 
 abbrev pub invariant-loop-from : goal.invariant-loop-from

@@ -1,5 +1,5 @@
 use Rattle.std.proofs.Common.{rules, ◌++◌, append_assoc, append-nil, sym, ap, ◌∙◌}
-use Rattle.normalizer_iterators.proofs.RunLemmas.{Yields-more}
+use Rattle.normalizer_iterators.proofs.items.FallibleRuns.{Yields-more}
 use Rattle.normalizer_iterators.specs.declared.error.NormalizeError.TheVariants.{Memory}
 use Rattle.normalizer_iterators.proofs.collecting.collected.Goals as goal
 

@@ -3,15 +3,15 @@ use Rattle.normal_forms.specs.Reading.{IsMark}
 use Rattle.normalizer_tables.specs.Characters.{Characters, class_of}
 use Rattle.normalizer_tables.specs.Readings.{reading_by}
 use Rattle.normalizer_tables.specs.declared.characters.IgnoredCharacters.TheVariants.{Dropped}
-use Rattle.normalizer_iterators.specs.declared.waiting.Classed.{Classed}
-use Rattle.normal_forms.specs.Boundary.{BeginsSafely}
+use Rattle.normalizer_iterators.specs.declared.waiting.ClassedChar.{ClassedChar}
+use Rattle.normal_forms.specs.Boundary.{BeginsAtBoundary}
 use Rattle.normalizer_iterators.specs.LazyComposing.{SuitsLazyComposing}
-use Rattle.normalizer_iterators.proofs.PassingLemmas.{IsAtPassed-stands, BeginsSafely-to_come}
-use Rattle.normalizer_iterators.proofs.StarterLemmas.{GivesShort-no_fault, ComposedSoFar-none, ComposedSoFar-joined, ComposedSoFar-stays, ComposedSoFar-no_room, ComposesStarter-starts}
-use Rattle.normalizer_iterators.proofs.StarterLemmas.{ComposesStarter-ends, ComposesStarter-passes}
+use Rattle.normalizer_iterators.proofs.passthrough.PassthroughItems.{IsAtPassthrough-stands, BeginsAtBoundary-to_come}
+use Rattle.normalizer_iterators.proofs.composing.StarterLemmas.{YieldsShort-no_fault, ComposedSoFar-none, ComposedSoFar-joined, ComposedSoFar-stays, ComposedSoFar-no_room, ComposesStarter-starts}
+use Rattle.normalizer_iterators.proofs.composing.StarterLemmas.{ComposesStarter-ends, ComposesStarter-passes}
 use Rattle.normalizer_iterators.proofs.composition.compose_starter.Goals as goal
 
-known_class : (s old : Characters) → old ≡ s → (given : Classed) → given.class ≡ class_of old given.character → given.class ≡ class_of s given.character
+known_class : (s old : Characters) → old ≡ s → (given : ClassedChar) → given.class ≡ class_of old given.character → given.class ≡ class_of s given.character
 known_class s old same given is = is ∙ ap (λ k. class_of k given.character) same
 
 pub loop-bounds-init : goal.loop-bounds-init
@@ -21,7 +21,7 @@ loop-bounds-init g c =
 pub returns-in-Err-clause-err : goal.returns-in-Err-clause-err
 returns-in-Err-clause-err g c =
     let step = rw c.in-Err.is at c.in-Some.ensures.steps in
-    (step.item.fault, λ h. GivesShort-no_fault g.I.Iterator _ _ _ _ step (c.loop-bounds.invariant.short h).0)
+    (step.item.fault, λ h. YieldsShort-no_fault g.I.Iterator _ _ _ _ step (c.loop-bounds.invariant.short h).0)
 
 pub loop-bounds-preserved-in-Ok-Joined : goal.loop-bounds-preserved-in-Ok-Joined
 loop-bounds-preserved-in-Ok-Joined g c =
@@ -32,11 +32,11 @@ loop-bounds-preserved-in-Ok-Joined g c =
     ComposedSoFar-joined g.I.Iterator _ _ _ _ _ _ c.in-Ok.given.character _ _ _ c.loop-bounds.invariant step visited.0
     visited.1
 
-pub returns-in-Ok-StartsAnew-clause-ok : goal.returns-in-Ok-StartsAnew-clause-ok
-returns-in-Ok-StartsAnew-clause-ok g c =
+pub returns-in-Ok-BecomesStarter-clause-ok : goal.returns-in-Ok-BecomesStarter-clause-ok
+returns-in-Ok-BecomesStarter-clause-ok g c =
     let step = rw c.in-Ok.is at c.in-Some.ensures.steps in
     let class = known_class c.args.decomposed.now.characters _ c.loop-bounds.invariant.kept c.in-Ok.given (rw c.in-Ok.is at c.in-Some.ensures.class) in
-    let visiting = rw c.in-Ok-StartsAnew.field-0-is at c.in-Ok-StartsAnew.ensures.ok in
+    let visiting = rw c.in-Ok-BecomesStarter.field-0-is at c.in-Ok-BecomesStarter.ensures.ok in
     let visited = visiting c.args.decomposed.now.characters class c.loop-bounds.invariant.blocking in
     ComposesStarter-starts g.I.Iterator _ _ _ _ _ _ c.in-Ok.given.character _ _ c.loop-bounds.invariant step visited.0
     visited.1 visited.2
@@ -67,7 +67,7 @@ returns-clause-ok g c =
     let before = c.loop-bounds.invariant in
     let same = before.kept in
     let suits = subst (λ k. SuitsLazyComposing k c.args.bounds c.args.pairs.now) (sym same) c.requires.suits in
-    let here = IsAtPassed-stands c.args.bounds c.args.pairs.now c.loop-bounds.decomposed suits (c.is_at_passed.ensures.0 c.loop-bounds-test.false) in
+    let here = IsAtPassthrough-stands c.args.bounds c.args.pairs.now c.loop-bounds.decomposed suits (c.is_at_passthrough.ensures.0 c.loop-bounds-test.false) in
     ComposesStarter-passes g.I.Iterator _ _ _ _ c.loop-bounds.decomposed _ before
-    (λ Comes y h. subst (λ k. BeginsSafely (reading_by k Dropped c.args.pairs.now) y) same
-    (BeginsSafely-to_come g.I.Iterator c.args.pairs.now c.loop-bounds.decomposed here Comes y h))
+    (λ Comes y h. subst (λ k. BeginsAtBoundary (reading_by k Dropped c.args.pairs.now) y) same
+    (BeginsAtBoundary-to_come g.I.Iterator c.args.pairs.now c.loop-bounds.decomposed here Comes y h))

@@ -1,5 +1,5 @@
-use Rattle.normalizer_iterators.specs.Decomposition as decomposition
-use Rattle.normalizer_iterators.proofs.StarterLemmas.{ComposedSoFar}
+use Rattle.normalizer_iterators.specs.DecompositionItems as decomposition
+use Rattle.normalizer_iterators.proofs.composing.StarterLemmas.{ComposedSoFar}
 use Rattle.normalizer_tables.specs.Readings.{reading_by}
 use Rattle.normalizer_tables.specs.declared.characters.IgnoredCharacters.TheVariants.{Dropped}
 use Rattle.normalizer_iterators.proofs.composition.compose_starter.Given as goal

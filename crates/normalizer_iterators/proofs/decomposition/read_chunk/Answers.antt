@@ -1,17 +1,17 @@
 use Rattle.std.proofs.Common.{length, ◌+◌, sym, ap, ◌∙◌, arith, []}
 use Rattle.std.proofs.lemmas.Result.{err_from_is_err_and}
-use Rattle.normal_forms.specs.ShortRuns.{places}
+use Rattle.normal_forms.specs.ShortRuns.{buffer_limit}
 use Rattle.normalizer_tables.specs.Characters.{has_class_form}
 use Rattle.normalizer_tables.specs.Readings.{reading_by}
-use Rattle.normalizer_iterators.proofs.LazyLemmas.{anew-parts, too_many, class-reading_by, list-reading_by}
-use Rattle.normalizer_iterators.proofs.ReadingLemmas.{no_member, ReadsChunk-from, ChunkDidNotFit-members, ChunkDidNotFit-behind}
+use Rattle.normalizer_iterators.proofs.reads.LazyLemmas.{at_boundary-parts, too_many, class-reading_by, list-reading_by}
+use Rattle.normalizer_iterators.proofs.reads.ReadingLemmas.{no_member, ReadsChunk-from, ChunkDidNotFit-members, ChunkDidNotFit-behind}
 use Rattle.normalizer_iterators.proofs.decomposition.read_chunk.Goals as goal
 
 pub unreachable-requires : goal.unreachable-requires
 unreachable-requires g c =
     let f = has_class_form c.args.characters.now in
     let d = reading_by c.args.characters.now c.args.ignored [] in
-    let some = anew-parts f d c.args.read.character c.requires.anew in
+    let some = at_boundary-parts f d c.args.read.character c.requires.at_boundary in
     let is = c.members-members.ensures ∙ sym (list-reading_by c.args.characters.now c.args.ignored [] c.args.read.character) ∙ some.3 in
     no_member _ 0 (omega (arith, ap length is)) (sym c.in_default.is ∙ c.get.ensures)
 
@@ -19,7 +19,7 @@ pub push_from-requires : goal.push_from-requires
 push_from-requires g c =
     let f = has_class_form c.args.characters.now in
     let d = reading_by c.args.characters.now c.args.ignored [] in
-    let some = anew-parts f d c.args.read.character c.requires.anew in
+    let some = at_boundary-parts f d c.args.read.character c.requires.at_boundary in
     let is = c.members-members.ensures ∙ sym (list-reading_by c.args.characters.now c.args.ignored [] c.args.read.character) ∙ some.3 in
     omega (arith, ap length is)
 
@@ -34,7 +34,7 @@ returns-in_err-push_from-clause-err g c =
     let f = has_class_form c.args.characters.now in
     let d = reading_by c.args.characters.now c.args.ignored [] in
     let is = c.members-members.ensures ∙ sym (list-reading_by c.args.characters.now c.args.ignored [] c.args.read.character) in
-    let long = too_many _ (places + 1) c.in_err-push_from.ensures.succeeds in
+    let long = too_many _ (buffer_limit + 1) c.in_err-push_from.ensures.succeeds in
     let exit = err_from_is_err_and c.from_residual.result c.from_residual.ensures.1 in
     rw exit.1 (λ before read. ChunkDidNotFit-members g.I.Iterator.next_gives f d c.args.read.character _ before is (omega (arith, long, c.clear.ensures.held)))
 

@@ -1,4 +1,4 @@
-use Rattle.normalizer_iterators.proofs.ItemLemmas.{SpellsUnless-next, SpellsUnless-end, SpellsUnless-fault}
+use Rattle.normalizer_iterators.proofs.items.ItemLemmas.{SpellsUnless-next, SpellsUnless-end, SpellsUnless-fault}
 use Rattle.normalizer_iterators.proofs.laws.text_comes_unless_a_fault_does.Goals as goal
 
 pub returns-clause-next : goal.returns-clause-next

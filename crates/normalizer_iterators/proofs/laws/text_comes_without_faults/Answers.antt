@@ -1,4 +1,4 @@
-use Rattle.normalizer_iterators.proofs.ItemLemmas.{SpellsOk-next, SpellsOk-end, SpellsOk-no_fault, SpellsUnless-ok}
+use Rattle.normalizer_iterators.proofs.items.ItemLemmas.{SpellsOk-next, SpellsOk-end, SpellsOk-no_fault, SpellsUnless-ok}
 use Rattle.normalizer_iterators.proofs.laws.text_comes_without_faults.Goals as goal
 
 pub returns-clause-next : goal.returns-clause-next

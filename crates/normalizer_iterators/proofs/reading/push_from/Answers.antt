@@ -1,5 +1,5 @@
 use Rattle.std.proofs.Common.{arith, sym, ◌∙◌}
-use Rattle.normalizer_iterators.proofs.ReadingLemmas.{pushed_none, pushed_member, pushed_all, no_member}
+use Rattle.normalizer_iterators.proofs.reads.ReadingLemmas.{pushed_none, pushed_member, pushed_all, no_member}
 use Rattle.normalizer_iterators.proofs.reading.push_from.Goals as goal
 use Rattle.normalizer_iterators.proofs.reading.push_from.Goals.{in-Some+in_ok-push, in_default}
 

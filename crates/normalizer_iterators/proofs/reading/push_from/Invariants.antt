@@ -1,4 +1,4 @@
-use Rattle.normalizer_iterators.proofs.ReadingLemmas.{PushedSoFar}
+use Rattle.normalizer_iterators.proofs.reads.ReadingLemmas.{PushedSoFar}
 use Rattle.normalizer_iterators.proofs.reading.push_from.Given as goal
 
 abbrev pub invariant-loop-place : goal.invariant-loop-place

@@ -4,7 +4,7 @@ use Rattle.normalizer_tables.specs.Characters.{has_class_form}
 use Rattle.normalizer_tables.specs.Readings.{reading_by}
 use Rattle.normalizer_iterators.specs.Reads.{character_of, HasOwnWords}
 use Rattle.normalizer_iterators.specs.ToCome.{reads_left}
-use Rattle.normalizer_iterators.proofs.ReadingLemmas.{ReadsAhead}
+use Rattle.normalizer_iterators.proofs.reads.ReadingLemmas.{ReadsAhead}
 use Rattle.normalizer_iterators.proofs.reading.read_on.Given as goal
 
 abbrev pub invariant-loop-next : goal.invariant-loop-next

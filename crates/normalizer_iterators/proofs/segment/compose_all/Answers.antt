@@ -1,6 +1,6 @@
 use Rattle.std.proofs.Common.{sym, ap, ◌∙◌}
-use Rattle.normalizer_iterators.specs.inner.ShortText.{composing}
-use Rattle.normalizer_iterators.proofs.ShortTextLemmas.{composing-nil}
+use Rattle.normalizer_iterators.specs.inner.ShortTextSteps.{composing}
+use Rattle.normalizer_iterators.proofs.segments.ShortTextLemmas.{composing-nil}
 use Rattle.normalizer_iterators.proofs.segment.compose_all.Goals as goal
 
 pub returns-clause-text : goal.returns-clause-text

@@ -1,6 +1,6 @@
 use Rattle.std.proofs.Common.{length}
 use Rattle.normalizer_iterators.specs.WaitingList.{ordered}
-use Rattle.normalizer_iterators.proofs.SegmentLemmas.{ComposedTo}
+use Rattle.normalizer_iterators.proofs.segments.SegmentLemmas.{ComposedTo}
 use Rattle.normalizer_iterators.proofs.segment.compose_all.Given as goal
 
 abbrev pub invariant-loop-given : goal.invariant-loop-given

@@ -1,5 +1,5 @@
 use Rattle.std.proofs.Common.{◌-◌, length}
-use Rattle.normalizer_iterators.proofs.InOrderLemmas.{ComposedInOrder}
+use Rattle.normalizer_iterators.proofs.segments.InOrderLemmas.{ComposedInOrder}
 use Rattle.normalizer_iterators.proofs.segment.compose_in_order.Given as goal
 
 abbrev pub invariant-loop-position : goal.invariant-loop-position

@@ -1,6 +1,6 @@
 use Rattle.std.proofs.Common.{◌-◌, [], length}
 use Rattle.normalizer_tables.specs.Readings.{reading_by}
-use Rattle.normalizer_iterators.proofs.SegmentLemmas.{BufferedTo}
+use Rattle.normalizer_iterators.proofs.segments.SegmentLemmas.{BufferedTo}
 use Rattle.normalizer_iterators.proofs.segment.read_all.Given as goal
 
 abbrev pub invariant-loop-position : goal.invariant-loop-position

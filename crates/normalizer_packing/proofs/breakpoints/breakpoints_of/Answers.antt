@@ -4,7 +4,7 @@ use Rattle.std.proofs.lemmas.List.Filters.{dedup_is}
 use Rattle.std.proofs.lemmas.List.Kept.{Contains-dedup_nat}
 use Rattle.std.proofs.lemmas.List.Sorted.{Contains-permutation}
 use Rattle.std.proofs.lemmas.Map.Keys.{IsStrictlyIncreasing-dedup}
-use Rattle.normalizer_packing.specs.inner.Stretches.{breakpoint_numbers}
+use Rattle.normalizer_packing.specs.inner.Breakpoints.{breakpoint_numbers}
 use Rattle.normalizer_packing.proofs.breakpoints.breakpoints_of.Goals as goal
 
 -- the sort only moves the characters, and one of each is kept

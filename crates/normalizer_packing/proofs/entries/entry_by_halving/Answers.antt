@@ -1,7 +1,7 @@
 use Rattle.std.proofs.Common.{arith, rules, nat_lt, sym, ap, ◌∙◌}
 use Rattle.std.proofs.lemmas.List.{get_or_read}
 use Rattle.std.proofs.lemmas.List.Sorted.{IsPartitionPoint-from_clause}
-use Rattle.normalizer_packing.proofs.EntryLemmas.{IsPartitionedBy-character, entry_of-found, entry_of-none}
+use Rattle.normalizer_packing.proofs.entry_data.EntryLemmas.{IsPartitionedBy-character, entry_of-found, entry_of-none}
 use Rattle.normalizer_packing.proofs.entries.entry_by_halving.Goals as goal
 use Rattle.normalizer_packing.proofs.entries.entry_by_halving.Goals.{in_default-via-in-Some+else-entry-character, in_default-via-in_default}
 

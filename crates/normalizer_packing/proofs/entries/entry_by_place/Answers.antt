@@ -1,7 +1,7 @@
 use Rattle.std.proofs.Common.{◌<◌, arith, length, refl, sym, ◌∙◌}
 use Rattle.std.proofs.lemmas.Option.{slice_get_read}
 use Rattle.normalizer_tables.specs.Table.{code_points}
-use Rattle.normalizer_tables.proofs.PlaceTables.{found_at_place, missing_in_places}
+use Rattle.normalizer_tables.proofs.lists.PlaceTables.{found_at_place, missing_in_places}
 use Rattle.normalizer_tables.specs.Entries.{CharacterEntry, entry_of}
 use Rattle.normalizer_packing.proofs.entries.entry_by_place.Goals as goal
 

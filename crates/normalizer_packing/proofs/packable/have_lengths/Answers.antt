@@ -1,4 +1,4 @@
-use Rattle.normalizer_packing.proofs.PackableLemmas.{lengths_decide}
+use Rattle.normalizer_packing.proofs.entry_data.PackableLemmas.{lengths_decide}
 use Rattle.normalizer_packing.proofs.packable.have_lengths.Goals as goal
 
 pub returns : goal.returns

@@ -1,7 +1,7 @@
 use Rattle.std.proofs.Common.{◌≤◌}
 use Rattle.normalizer_tables.specs.Table.{code_points}
-use Rattle.normalizer_packing.specs.inner.Stretches.{CoverUpTo}
-use Rattle.normalizer_packing.proofs.Tilings.{HasPassed}
+use Rattle.normalizer_packing.specs.inner.Breakpoints.{CoverUpTo}
+use Rattle.normalizer_packing.proofs.constant_words.ConsecutiveRanges.{HasPassed}
 use Rattle.normalizer_packing.proofs.ranges.ranges_of.Given as goal
 
 -- the numbers before `from` have their words, and no listed one after it was passed

@@ -1,4 +1,4 @@
-use Rattle.normalizer_packing.proofs.StepLemmas.{Holds-more}
+use Rattle.normalizer_packing.proofs.words_of_lists.StepWords.{Holds-more}
 use Rattle.normalizer_packing.proofs.steps.store_of.Goals as goal
 
 pub loop-step-preserved : goal.loop-step-preserved

@@ -1,5 +1,5 @@
 use Rattle.std.proofs.Common.{◌≡◌, take, filter_map}
-use Rattle.normalizer_packing.specs.Steps.{asked_step, stored_step}
+use Rattle.normalizer_packing.specs.StepWords.{asked_step, stored_step}
 use Rattle.normalizer_packing.proofs.steps.stored_steps.Given as goal
 
 -- the steps of the entries so far

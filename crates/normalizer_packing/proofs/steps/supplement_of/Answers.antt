@@ -1,4 +1,4 @@
-use Rattle.normalizer_packing.proofs.AlikeWords.{steps_alike}
+use Rattle.normalizer_packing.proofs.constant_words.ConstantWords.{steps_alike}
 use Rattle.normalizer_packing.proofs.steps.supplement_of.Goals as goal
 
 pub table_of-requires-clause-alike : goal.table_of-requires-clause-alike

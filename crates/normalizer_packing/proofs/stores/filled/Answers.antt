@@ -2,7 +2,7 @@ use Rattle.std.proofs.Common.{ℕ, List, [], subst}
 use Rattle.normalizer_tables.specs.declared.entry.Kind.TheVariants.{Canonical, Compatibility}
 use Rattle.normalizer_packing.specs.Stored.{apart_from, canonical_lists, first_come, listed_in, supplementary_lists}
 use Rattle.normalizer_packing.specs.inner.Stores.{Holds}
-use Rattle.normalizer_packing.proofs.TableLemmas.{apart_from-none}
+use Rattle.normalizer_packing.proofs.lists.TableLemmas.{apart_from-none}
 use Rattle.normalizer_packing.proofs.stores.filled.Goals as goal
 
 pub returns : goal.returns

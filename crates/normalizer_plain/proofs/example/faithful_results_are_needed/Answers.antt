@@ -1,12 +1,12 @@
-use Rattle.normalizer_plain.proofs.UnfaithfulExample.{HasFullLists-unfaithful, HasStarterResults-unfaithful, HasInhabitedLists-unfaithful}
-use Rattle.normalizer_plain.proofs.UnfaithfulExample.{IsFront-unfaithful, apart-unfaithful, whole-unfaithful, first-unfaithful}
+use Rattle.normalizer_plain.proofs.examples.UnfaithfulExample.{HasFullLists-unfaithful, HasStarterResults-unfaithful, HasNonemptyLists-unfaithful}
+use Rattle.normalizer_plain.proofs.examples.UnfaithfulExample.{IsFront-unfaithful, apart-unfaithful, whole-unfaithful, first-unfaithful}
 use Rattle.normalizer_plain.proofs.example.faithful_results_are_needed.Goals as goal
 
 pub returns : goal.returns
 returns c = record {
   full = HasFullLists-unfaithful;
   starters = HasStarterResults-unfaithful;
-  inhabited = HasInhabitedLists-unfaithful;
+  are_nonempty = HasNonemptyLists-unfaithful;
   front = IsFront-unfaithful;
   apart = apart-unfaithful;
   whole = whole-unfaithful;

@@ -2,7 +2,7 @@ use Rattle.std.proofs.Common.{◌≡◌, ◌-◌, ℕ, suc, subst, IsTrue, ◌�
 use Rattle.std.specs.BTreeSet.{contains}
 use Rattle.std.specs.Ordering.{nat_cmp}
 use Rattle.normalizer_records.specs.inner.Chains.{IsBetween, IsSetOf, LeadsOn}
-use Rattle.normalizer_records.proofs.ChainLemmas.{IsSetOf-recorded, IsBetween-zero, IsBetween-more, LeadsOn-more, IsLedTo-more}
+use Rattle.normalizer_records.proofs.replacing.ChainLemmas.{IsSetOf-recorded, IsBetween-zero, IsBetween-more, LeadsOn-more, IsLedTo-more}
 use Rattle.normalizer_records.proofs.chains.+leading_on.Goals as goal
 
 pub returns-then-count-eq0-clause-leading : goal.returns-then-count-eq0-clause-leading

@@ -1,6 +1,6 @@
 use Rattle.std.proofs.Common.{add-one, arith, subst, sym}
 use Rattle.normalizer_records.specs.inner.Chains.{IsLedTo, IsSetOf}
-use Rattle.normalizer_records.proofs.ChainLemmas.{IsLedTo-more, IsSetOf-recorded, no_long_chain}
+use Rattle.normalizer_records.proofs.replacing.ChainLemmas.{IsLedTo-more, IsSetOf-recorded, no_long_chain}
 use Rattle.normalizer_records.proofs.chains.are_chains_short.Goals as goal
 
 pub loop-count-init : goal.loop-count-init

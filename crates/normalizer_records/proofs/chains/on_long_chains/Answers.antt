@@ -1,8 +1,8 @@
 use Rattle.std.proofs.Common.{sym}
 use Rattle.std.proofs.lemmas.Bool.{true≢false}
 use Rattle.normalizer_records.specs.inner.Chains.{IsLedTo}
-use Rattle.normalizer_records.proofs.OrLemmas.{iff_trans}
-use Rattle.normalizer_records.proofs.ChainLemmas.{IsSetOf-recorded, IsBetween-iff_on_long_chain}
+use Rattle.normalizer_records.proofs.checked_lists.OrLemmas.{iff_trans}
+use Rattle.normalizer_records.proofs.replacing.ChainLemmas.{IsSetOf-recorded, IsBetween-iff_on_long_chain}
 use Rattle.normalizer_records.proofs.chains.on_long_chains.Goals as goal
 
 pub returns : goal.returns

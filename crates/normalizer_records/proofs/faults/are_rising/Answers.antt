@@ -1,6 +1,6 @@
 use Rattle.std.proofs.Common.{rules, nat_lt}
 use Rattle.std.proofs.lemmas.List.Sorted.{answers_always}
-use Rattle.normalizer_tables.proofs.RisingLists.{rising-decides}
+use Rattle.normalizer_tables.proofs.lists.RisingLists.{rising-decides}
 use Rattle.normalizer_records.proofs.faults.are_rising.Goals as goal
 
 pub returns : goal.returns

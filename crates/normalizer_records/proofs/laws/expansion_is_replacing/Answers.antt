@@ -1,4 +1,4 @@
-use Rattle.normalizer_records.proofs.ReplacedLemmas.{ExpandsTo-expand_all, ExpandsTo-expansion}
+use Rattle.normalizer_records.proofs.replacing.ReplacedLemmas.{ExpandsTo-expand_all, ExpandsTo-expansion}
 use Rattle.normalizer_records.proofs.laws.expansion_is_replacing.Goals as goal
 
 pub returns : goal.returns

@@ -1,5 +1,5 @@
 use Rattle.normalizer_records.specs.Meaning.{list_of_status}
-use Rattle.normalizer_records.proofs.CutLemmas.{StandsFor-itself}
+use Rattle.normalizer_records.proofs.checked_lists.CutLists.{StandsFor-itself}
 use Rattle.normalizer_records.proofs.lists.cut_mapped_list.Goals as goal
 
 pub returns-in-Ignored-clause-list : goal.returns-in-Ignored-clause-list

@@ -1,7 +1,7 @@
 use Rattle.std.proofs.Common.{rules}
 use Rattle.std.proofs.lemmas.List.Sorted.{answers_always}
 use Rattle.normalizer_records.specs.Meaning.{entry_of}
-use Rattle.normalizer_records.proofs.LookupLemmas.{found, missing}
+use Rattle.normalizer_records.proofs.record_faults.LookupLemmas.{found, missing}
 use Rattle.normalizer_records.proofs.lookup.record_of.Goals as goal
 
 pub returns-in-Ok : goal.returns-in-Ok

@@ -2,7 +2,7 @@ use Rattle.std.proofs.Common.{rules, ap}
 use Rattle.std.proofs.lemmas.List.Sorted.{answers_always}
 use Rattle.std.specs.Option.{option_map}
 use Rattle.normalizer_records.specs.Meaning.{status_of}
-use Rattle.normalizer_records.proofs.LookupLemmas.{found, missing}
+use Rattle.normalizer_records.proofs.record_faults.LookupLemmas.{found, missing}
 use Rattle.normalizer_records.proofs.lookup.uts46_record_of.Goals as goal
 
 pub returns-in-Ok : goal.returns-in-Ok

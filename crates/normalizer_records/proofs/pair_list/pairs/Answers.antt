@@ -1,7 +1,7 @@
 use Rattle.std.proofs.Common.{List, rules, subst, IsPermutation}
 use Rattle.std.proofs.lemmas.List.Sorted.{answers_always}
 use Rattle.normalizer_tables.specs.Pairs.{Pair}
-use Rattle.normalizer_records.proofs.PairFaultLemmas.{rising_unless}
+use Rattle.normalizer_records.proofs.record_faults.PairFaultLemmas.{rising_unless}
 use Rattle.normalizer_records.proofs.pair_list.pairs.Goals as goal
 
 pub returns : goal.returns

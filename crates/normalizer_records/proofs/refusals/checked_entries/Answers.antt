@@ -3,8 +3,8 @@ use Rattle.std.proofs.lemmas.List.{get_or_read, map-append, take_more}
 use Rattle.std.proofs.lemmas.List.Elements.{All-push}
 use Rattle.normalizer_records.specs.Faults.{IsAsked, HasWrongClass, HasLongList}
 use Rattle.normalizer_records.specs.Recorded.{IsOfCharacters, entry_for}
-use Rattle.normalizer_records.proofs.OrLemmas.{IsOfSome-more}
-use Rattle.normalizer_records.proofs.RefusalLemmas.{asked, not_asked}
+use Rattle.normalizer_records.proofs.checked_lists.OrLemmas.{IsOfSome-more}
+use Rattle.normalizer_records.proofs.record_faults.RefusalLemmas.{asked, not_asked}
 use Rattle.normalizer_records.proofs.refusals.checked_entries.Goals as goal
 use Rattle.normalizer_records.proofs.refusals.checked_entries.Goals.{then-not-is_among, else-not-is_among}
 

@@ -1,5 +1,5 @@
 use Rattle.std.proofs.Common.{◌≡◌, ℕ, All, IsTrue, ◌↔◌, map, take}
-use Rattle.normalizer_records.specs.inner.Cut.{HasRoom, IsOfSome}
+use Rattle.normalizer_records.specs.inner.CutLists.{HasRoom, IsOfSome}
 use Rattle.normalizer_records.specs.Faults.{IsAsked, HasWrongClass, HasLongList}
 use Rattle.normalizer_records.specs.Recorded.{IsOfCharacters, entry_for}
 use Rattle.normalizer_records.proofs.refusals.checked_entries.Given as goal

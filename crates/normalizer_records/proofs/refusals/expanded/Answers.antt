@@ -1,7 +1,7 @@
 use Rattle.std.proofs.Common.{inr, sym, ◌∙◌}
 use Rattle.std.proofs.lemmas.Bool.{true≢false}
 use Rattle.normalizer_records.specs.Faults.{HasOrderFault}
-use Rattle.normalizer_records.proofs.RefusalLemmas.{order_first, fixed_first}
+use Rattle.normalizer_records.proofs.record_faults.RefusalLemmas.{order_first, fixed_first}
 use Rattle.normalizer_records.proofs.refusals.expanded.Goals as goal
 use Rattle.normalizer_records.proofs.refusals.expanded.Goals.{then-not-are_rising-via-then-not-are_rising, then-not-are_rising-via-else-not-are_rising+then-not-are_mapper_rising}
 

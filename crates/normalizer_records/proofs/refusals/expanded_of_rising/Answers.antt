@@ -4,13 +4,13 @@ use Rattle.normalizer_records.specs.Entry.{Entry, MapperEntry}
 use Rattle.normalizer_records.specs.Faults.{AreRising, AreMapperRising, first_among, has_fixed_fault, has_mapping_fault, HasChainFault, HasFault, HasLongList, HasPairFault, HasWrongClass, IsAsked}
 use Rattle.normalizer_records.specs.Faults.{IsFirstRefusal}
 use Rattle.normalizer_records.specs.Recorded.{recorded_characters}
-use Rattle.normalizer_records.specs.inner.Cut.{IsOfSome}
-use Rattle.normalizer_records.proofs.OrLemmas.{iff_trans}
-use Rattle.normalizer_records.proofs.PairFaultLemmas.{decides}
-use Rattle.normalizer_records.proofs.RefusalLemmas.{first_among-is}
-use Rattle.normalizer_records.proofs.RoomLemmas.{room}
-use Rattle.normalizer_records.proofs.UnrecordedLemmas.{HasClassFault-recorded, HasLengthFault-recorded}
-use Rattle.normalizer_records.proofs.ChainLemmas.{HasChainFault-some}
+use Rattle.normalizer_records.specs.inner.CutLists.{IsOfSome}
+use Rattle.normalizer_records.proofs.checked_lists.OrLemmas.{iff_trans}
+use Rattle.normalizer_records.proofs.record_faults.PairFaultLemmas.{decides}
+use Rattle.normalizer_records.proofs.record_faults.RefusalLemmas.{first_among-is}
+use Rattle.normalizer_records.proofs.checked_lists.RoomLemmas.{room}
+use Rattle.normalizer_records.proofs.checked_lists.UnrecordedLemmas.{HasClassFault-recorded, HasLengthFault-recorded}
+use Rattle.normalizer_records.proofs.replacing.ChainLemmas.{HasChainFault-some}
 use Rattle.normalizer_records.proofs.refusals.expanded_of_rising.Goals as goal
 
 -- the first refusal, by what the listed characters show

@@ -1,7 +1,7 @@
 use Rattle.std.proofs.Common.{sym, subst, ap, ◌∙◌}
 use Rattle.std.proofs.lemmas.Bool.{not-true}
 use Rattle.normalizer_built.specs.Normalizers.{kind_by, reading_of}
-use Rattle.icu_normalizer.specs.BeginsApart.{BeginsApart}
+use Rattle.icu_normalizer.specs.BoundaryBefore.{HasBoundaryBefore}
 use Rattle.normalizer_streams.proofs.SettledLemmas.{IsSettled-character}
 use Rattle.normalizer_streams.proofs.settled.is_settled.Goals as goal
 
@@ -11,4 +11,4 @@ returns-then-not-step-clause-settled c = λ yes.
     let form = kind_by c.args.normalizer.now in
     IsSettled-character c.args.scheme d form c.args.bytes.now c.args.place c.requires (sym c.is_aligned.ensures ∙ c.if-not-is_aligned.false)
     (sym (ap (λ s. s.is_error) c.step_at-step.ensures) ∙ not-true _ c.if-not-step.true)
-    (subst (λ s. BeginsApart d form s.character) c.step_at-step.ensures (c.has_boundary_before.ensures.apart yes))
+    (subst (λ s. HasBoundaryBefore d form s.character) c.step_at-step.ensures (c.has_boundary_before.ensures.apart yes))

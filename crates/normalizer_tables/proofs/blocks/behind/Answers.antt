@@ -1,5 +1,5 @@
 use Rattle.std.proofs.Common.{arith}
-use Rattle.normalizer_tables.proofs.WordsInRanges.{AreLeft-tail, AreLeft-all}
+use Rattle.normalizer_tables.proofs.code_points.WordsInRanges.{AreLeft-tail, AreLeft-all}
 use Rattle.normalizer_tables.proofs.blocks.behind.Goals as goal
 
 pub returns-in-len1-up : goal.returns-in-len1-up

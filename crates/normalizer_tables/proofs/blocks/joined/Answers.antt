@@ -2,7 +2,7 @@ use Rattle.std.proofs.Common.{arith, refl, sym, nat_eq}
 use Rattle.std.specs.Cmp.Lexicographic.{pointwise}
 use Rattle.std.proofs.lemmas.Bool.{le-ltb}
 use Rattle.std.proofs.lemmas.Option.{cond_some}
-use Rattle.normalizer_tables.proofs.BlockLemmas.{number_in-le, position-None}
+use Rattle.normalizer_tables.proofs.code_points.BlockLemmas.{number_in-le, position-None}
 use Rattle.normalizer_tables.proofs.blocks.joined.Goals as goal
 
 pub returns-in-Some : goal.returns-in-Some

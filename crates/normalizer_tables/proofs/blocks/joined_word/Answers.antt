@@ -1,5 +1,5 @@
 use Rattle.normalizer_tables.specs.inner.Blocks.{block_with}
-use Rattle.normalizer_tables.proofs.BlockLemmas.{number_in-joined}
+use Rattle.normalizer_tables.proofs.code_points.BlockLemmas.{number_in-joined}
 use Rattle.normalizer_tables.proofs.blocks.joined_word.Goals as goal
 
 pub returns-in_ok-number-in_default-clause-known : goal.returns-in_ok-number-in_default-clause-known

@@ -1,5 +1,5 @@
 use Rattle.std.proofs.Common.{arith}
-use Rattle.normalizer_tables.proofs.WordsInRanges.{IsRun-none, IsRun-gap, IsRun-held}
+use Rattle.normalizer_tables.proofs.code_points.WordsInRanges.{IsRun-none, IsRun-gap, IsRun-held}
 use Rattle.normalizer_tables.proofs.blocks.run_from.Goals as goal
 
 pub returns-in-empty : goal.returns-in-empty

@@ -1,6 +1,6 @@
 use Rattle.std.proofs.Common.{rules}
 use Rattle.std.proofs.lemmas.List.Sorted.{answers_always}
-use Rattle.normalizer_tables.proofs.PairLemmas.{AreRising-decides}
+use Rattle.normalizer_tables.proofs.composites.PairLemmas.{AreRising-decides}
 use Rattle.normalizer_tables.specs.Pairs.{is_before}
 use Rattle.normalizer_tables.proofs.pairs.are_rising.Goals as goal
 

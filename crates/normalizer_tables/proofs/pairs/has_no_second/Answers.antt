@@ -1,5 +1,5 @@
 use Rattle.std.proofs.Common.{arith, refl}
-use Rattle.normalizer_tables.proofs.PairLemmas.{is_of_other, is_of_from, listed_result-first, listed_result-none}
+use Rattle.normalizer_tables.proofs.composites.PairLemmas.{is_of_other, is_of_from, listed_result-first, listed_result-none}
 use Rattle.normalizer_tables.proofs.pairs.has_no_second.Goals as goal
 
 pub returns-then-at-second : goal.returns-then-at-second

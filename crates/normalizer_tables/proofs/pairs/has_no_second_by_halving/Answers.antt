@@ -1,7 +1,7 @@
 use Rattle.std.proofs.Common.{arith, ap, nat_lt, refl, rules, ◌∙◌}
 use Rattle.std.proofs.lemmas.List.{get_or_read}
 use Rattle.std.proofs.lemmas.List.Sorted.{IsPartitionPoint-from_clause}
-use Rattle.normalizer_tables.proofs.PairLemmas.{IsPartitionedBy-second, second-found, second-missing}
+use Rattle.normalizer_tables.proofs.composites.PairLemmas.{IsPartitionedBy-second, second-found, second-missing}
 use Rattle.normalizer_tables.proofs.pairs.has_no_second_by_halving.Goals as goal
 
 pub returns-in-Some : goal.returns-in-Some

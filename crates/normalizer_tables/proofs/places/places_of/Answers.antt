@@ -2,7 +2,7 @@ use Rattle.std.proofs.Common.{◌≡◌, arith, length, get_or, Err, sym, ◌∙
 use Rattle.std.proofs.lemmas.List.{get_or_read}
 use Rattle.std.proofs.lemmas.List.FromFn.{map-range_with_len_more}
 use Rattle.normalizer_tables.specs.Table.{code_points}
-use Rattle.normalizer_tables.proofs.PlaceTables.{place_range, place_ranges, place-le, IsRangeList-places, ArePlaces-table}
+use Rattle.normalizer_tables.proofs.lists.PlaceTables.{place_range, place_ranges, place-le, IsRangeList-places, ArePlaces-table}
 use Rattle.normalizer_tables.proofs.places.places_of.Goals as goal
 
 pub overflow_add-place : goal.overflow_add-place

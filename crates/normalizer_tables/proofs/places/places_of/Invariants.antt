@@ -1,6 +1,6 @@
 use Rattle.std.proofs.Common.{◌≡◌, ◌<◌, ℕ, get_or}
 use Rattle.normalizer_tables.specs.Table.{code_points}
-use Rattle.normalizer_tables.proofs.PlaceTables.{place_ranges}
+use Rattle.normalizer_tables.proofs.lists.PlaceTables.{place_ranges}
 use Rattle.normalizer_tables.proofs.places.places_of.Given as goal
 
 abbrev pub invariant-loop-character : goal.invariant-loop-character

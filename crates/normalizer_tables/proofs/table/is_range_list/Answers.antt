@@ -1,6 +1,6 @@
 use Rattle.std.proofs.Common.{nat_lt, rules, sym, ◌∙◌}
 use Rattle.std.proofs.lemmas.List.Sorted.{answers_always}
-use Rattle.normalizer_tables.proofs.RangeLists.{ranges_tested, IsRangeList-decides}
+use Rattle.normalizer_tables.proofs.code_points.RangeLists.{ranges_tested, IsRangeList-decides}
 use Rattle.normalizer_tables.proofs.table.is_range_list.Goals as goal
 
 pub returns-then-are_ranges : goal.returns-then-are_ranges

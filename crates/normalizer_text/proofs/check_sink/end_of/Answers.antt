@@ -1,5 +1,5 @@
 use Rattle.std.proofs.Common.{◌≡◌, true, false, refl, sym, ◌∙◌}
-use Rattle.normalizer_text.proofs.CheckSinkLemmas.{starts_at}
+use Rattle.normalizer_text.proofs.sinks.CheckSinkLemmas.{starts_at}
 use Rattle.normalizer_text.proofs.check_sink.end_of.Goals as goal
 
 pub returns-then-starts_with : goal.returns-then-starts_with

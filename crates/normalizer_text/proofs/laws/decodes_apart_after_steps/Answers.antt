@@ -1,5 +1,5 @@
-use Rattle.normalizer_text.proofs.StepLemmas.{steps-apart}
-use Rattle.normalizer_text.proofs.BoundaryLemmas.{decoded-take-drop, decoded-between}
+use Rattle.normalizer_text.proofs.steps.StepLemmas.{steps-apart}
+use Rattle.normalizer_text.proofs.steps.StepBoundaries.{decoded-take-drop, decoded-between}
 use Rattle.normalizer_text.proofs.laws.decodes_apart_after_steps.Goals as goal
 
 pub returns-clause-steps : goal.returns-clause-steps

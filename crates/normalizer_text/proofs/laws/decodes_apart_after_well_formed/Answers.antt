@@ -1,5 +1,5 @@
-use Rattle.normalizer_text.proofs.StepLemmas.{steps-append, decoded-append}
-use Rattle.normalizer_text.proofs.BoundaryLemmas.{boundary-well_formed}
+use Rattle.normalizer_text.proofs.steps.StepLemmas.{steps-append, decoded-append}
+use Rattle.normalizer_text.proofs.steps.StepBoundaries.{boundary-well_formed}
 use Rattle.normalizer_text.proofs.laws.decodes_apart_after_well_formed.Goals as goal
 
 pub returns-clause-text : goal.returns-clause-text

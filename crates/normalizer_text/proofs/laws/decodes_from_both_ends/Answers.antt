@@ -1,4 +1,4 @@
-use Rattle.normalizer_text.proofs.BackLemmas.{decoded-TakenFrom}
+use Rattle.normalizer_text.proofs.steps.BackLemmas.{decoded-TakenFrom}
 use Rattle.normalizer_text.proofs.laws.decodes_from_both_ends.Goals as goal
 
 pub returns : goal.returns

@@ -1,5 +1,5 @@
-use Rattle.normalizer_text.proofs.StepLemmas.{Decodes-iff, decoded-IsText}
-use Rattle.normalizer_text.proofs.BoundaryLemmas.{width_of-steps}
+use Rattle.normalizer_text.proofs.steps.StepLemmas.{Decodes-iff, decoded-IsText}
+use Rattle.normalizer_text.proofs.steps.StepBoundaries.{width_of-steps}
 use Rattle.normalizer_text.proofs.laws.decodes_to_one_text.Goals as goal
 
 pub returns-clause-one : goal.returns-clause-one

@@ -1,4 +1,4 @@
-use Rattle.normalizer_text.proofs.ScanLemmas.{steps-ascii, steps-low_units}
+use Rattle.normalizer_text.proofs.scans.ScanLemmas.{steps-ascii, steps-low_units}
 use Rattle.normalizer_text.proofs.laws.low_units_are_single_characters.Goals as goal
 
 pub returns-clause-ascii : goal.returns-clause-ascii

@@ -1,5 +1,5 @@
 use Rattle.std.proofs.Common.{lit≤}
-use Rattle.normalizer_text.proofs.LowLemmas.{first-ascii, first-low_unit, character-low, decoded-low}
+use Rattle.normalizer_text.proofs.scans.LowLemmas.{first-ascii, first-low_unit, character-low, decoded-low}
 use Rattle.normalizer_text.proofs.laws.low_units_begin_low_characters.Goals as goal
 
 pub returns-clause-ascii : goal.returns-clause-ascii

@@ -1,5 +1,5 @@
 use Rattle.std.proofs.Common.{lit≤}
-use Rattle.normalizer_text.proofs.ScanLemmas.{All-leading_below, boundary-ascii, boundary-low_units, boundary-low_bytes, text-low_bytes}
+use Rattle.normalizer_text.proofs.scans.ScanLemmas.{All-leading_below, boundary-ascii, boundary-low_units, boundary-low_bytes, text-low_bytes}
 use Rattle.normalizer_text.proofs.laws.step_ends_with_low_units.Goals as goal
 
 pub returns-clause-below : goal.returns-clause-below

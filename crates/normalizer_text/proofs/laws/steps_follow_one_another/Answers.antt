@@ -1,4 +1,4 @@
-use Rattle.normalizer_text.proofs.StepLemmas.{steps-nil, steps-some}
+use Rattle.normalizer_text.proofs.steps.StepLemmas.{steps-nil, steps-some}
 use Rattle.normalizer_text.proofs.laws.steps_follow_one_another.Goals as goal
 
 pub returns-clause-none : goal.returns-clause-none

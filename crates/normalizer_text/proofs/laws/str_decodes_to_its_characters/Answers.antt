@@ -1,4 +1,4 @@
-use Rattle.normalizer_text.proofs.StrLemmas.{IsCharBoundary-boundary, boundary-IsCharBoundary, decoded-chars, IsWellFormed-IsUtf8}
+use Rattle.normalizer_text.proofs.rules.StrLemmas.{IsCharBoundary-boundary, boundary-IsCharBoundary, decoded-chars, IsWellFormed-IsUtf8}
 use Rattle.normalizer_text.proofs.laws.str_decodes_to_its_characters.Goals as goal
 
 pub returns-clause-well_formed : goal.returns-clause-well_formed

@@ -1,4 +1,4 @@
-use Rattle.normalizer_text.proofs.SubpartLemmas.{IsStepOfUtf8-first, IsStepOfUtf8-only}
+use Rattle.normalizer_text.proofs.sequences.SubpartLemmas.{IsStepOfUtf8-first, IsStepOfUtf8-only}
 use Rattle.normalizer_text.proofs.laws.utf8_steps_are_the_standards.Goals as goal
 
 pub returns-clause-is : goal.returns-clause-is

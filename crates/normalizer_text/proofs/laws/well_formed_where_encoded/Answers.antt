@@ -1,4 +1,4 @@
-use Rattle.normalizer_text.proofs.EncodingLemmas.{DecodesBack-in, encoded-decoded, encoded_in-append}
+use Rattle.normalizer_text.proofs.rules.EncodingLemmas.{DecodesBack-in, encoded-decoded, encoded_in-append}
 use Rattle.normalizer_text.proofs.laws.well_formed_where_encoded.Goals as goal
 
 pub returns-clause-encoded : goal.returns-clause-encoded

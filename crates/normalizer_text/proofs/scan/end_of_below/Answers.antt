@@ -1,5 +1,5 @@
 use Rattle.std.proofs.Common.{◌+◌, ◌≤◌, length, arith}
-use Rattle.normalizer_text.proofs.ScanLemmas.{leading_below-past, leading_below-within}
+use Rattle.normalizer_text.proofs.scans.ScanLemmas.{leading_below-past, leading_below-within}
 use Rattle.normalizer_text.proofs.scan.end_of_below.Goals as goal
 
 pub loop-end-preserved : goal.loop-end-preserved

@@ -1,5 +1,5 @@
 use Rattle.std.proofs.Common.{arith, sym, ◌∙◌}
-use Rattle.normalizer_text.proofs.SubpartLemmas.{BeginsWithSequence-two}
+use Rattle.normalizer_text.proofs.sequences.SubpartLemmas.{BeginsWithSequence-two}
 use Rattle.normalizer_text.proofs.utf8.begins_with_two.Goals as goal
 
 pub returns : goal.returns

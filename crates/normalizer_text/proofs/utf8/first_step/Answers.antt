@@ -1,6 +1,6 @@
 use Rattle.std.proofs.Common.{◌∙◌, sym, ap}
 use Rattle.normalizer_text.specs.Steps.{read}
-use Rattle.normalizer_text.proofs.LowLemmas.{first-ascii_byte}
+use Rattle.normalizer_text.proofs.scans.LowLemmas.{first-ascii_byte}
 use Rattle.normalizer_text.proofs.utf8.first_step.Goals as goal
 
 pub returns-then-lead-lt128 : goal.returns-then-lead-lt128

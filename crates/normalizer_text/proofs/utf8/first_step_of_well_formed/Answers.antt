@@ -2,8 +2,8 @@ use Rattle.std.proofs.Common.{length-take-le, sym, subst, ap, ◌∙◌, ◌≡�
 use Rattle.normalizer_text.specs.Steps.{read}
 use Rattle.normalizer_text.specs.MaximalSubparts.{IsWellFormedSequence}
 use Rattle.normalizer_text.specs.Utf8.{scalar_value, first_of_utf8}
-use Rattle.normalizer_text.proofs.SequenceLemmas.{whole-well_formed}
-use Rattle.normalizer_text.proofs.SubpartLemmas.{sequence_of_bounds}
+use Rattle.normalizer_text.proofs.sequences.SequenceLemmas.{whole-well_formed}
+use Rattle.normalizer_text.proofs.sequences.SubpartLemmas.{sequence_of_bounds}
 use Rattle.normalizer_text.proofs.utf8.first_step_of_well_formed.Goals as goal
 
 pub slice_bounds-character_of-end : goal.slice_bounds-character_of-end

@@ -1,4 +1,4 @@
-use Rattle.normalizer_text.proofs.StrLemmas.{IsUtf8-IsWellFormed}
+use Rattle.normalizer_text.proofs.rules.StrLemmas.{IsUtf8-IsWellFormed}
 use Rattle.normalizer_text.proofs.utf8.text_of.Goals as goal
 
 pub from_utf8_unchecked-requires : goal.from_utf8_unchecked-requires

@@ -2,7 +2,7 @@ use Rattle.std.proofs.Common.{◌≡◌, ◌+◌, ◌++◌, length, Ok, refl}
 use Rattle.std.specs.Option.{option_to_list}
 use Rattle.std.proofs.lemmas.Result.{err_from_is_err_and}
 use Rattle.std.proofs.lemmas.List.{length-map}
-use Rattle.normalizer_ucd.specs.Reading.{Fails}
+use Rattle.normalizer_ucd.specs.FallibleReads.{Fails}
 use Rattle.normalizer_ucd.specs.UnicodeData.{records_in, read_line, closed, place}
 use Rattle.normalizer_ucd.proofs.Loop.{goes_on, ends, is_done, fails_on, fails_after, texts}
 use Rattle.normalizer_ucd.proofs.unicode_data.records_in.Goals as goal

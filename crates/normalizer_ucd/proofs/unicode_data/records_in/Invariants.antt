@@ -1,5 +1,5 @@
 use Rattle.std.proofs.Common.{◌≡◌, ◌+◌, drop, map}
-use Rattle.normalizer_ucd.specs.Reading.{read_each}
+use Rattle.normalizer_ucd.specs.FallibleReads.{read_each}
 use Rattle.normalizer_ucd.specs.UnicodeData.{read_line, start}
 use Rattle.normalizer_ucd.proofs.Loop.{with_front}
 use Rattle.normalizer_ucd.proofs.unicode_data.records_in.Given as goal

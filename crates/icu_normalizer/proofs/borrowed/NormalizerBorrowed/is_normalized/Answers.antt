@@ -1,4 +1,4 @@
-use Rattle.icu_normalizer.proofs.TextAnswers.{ChecksText-bytes}
+use Rattle.icu_normalizer.proofs.results.TextAnswers.{ChecksText-bytes}
 use Rattle.icu_normalizer.proofs.borrowed.NormalizerBorrowed.is_normalized.Goals as goal
 
 pub returns : goal.returns

@@ -1,4 +1,4 @@
-use Rattle.icu_normalizer.proofs.TextAnswers.{ReturnsFormOfText-bytes}
+use Rattle.icu_normalizer.proofs.results.TextAnswers.{ReturnsFormOfText-bytes}
 use Rattle.icu_normalizer.proofs.borrowed.NormalizerBorrowed.normalize.Goals as goal
 
 pub returns : goal.returns

@@ -1,5 +1,5 @@
-use Rattle.normalizer_text.proofs.StrLemmas.{decoded-chars}
-use Rattle.icu_normalizer.proofs.WritingLemmas.{WritesForm-text}
+use Rattle.normalizer_text.proofs.rules.StrLemmas.{decoded-chars}
+use Rattle.icu_normalizer.proofs.written_forms.WritingLemmas.{WritesForm-text}
 use Rattle.icu_normalizer.proofs.borrowed.NormalizerBorrowed.normalize_to.Goals as goal
 
 pub returns : goal.returns

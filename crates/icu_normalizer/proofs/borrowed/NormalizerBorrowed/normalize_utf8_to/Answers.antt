@@ -1,5 +1,5 @@
 use Rattle.std.proofs.Common.{refl}
-use Rattle.icu_normalizer.proofs.WritingLemmas.{WritesForm-text}
+use Rattle.icu_normalizer.proofs.written_forms.WritingLemmas.{WritesForm-text}
 use Rattle.icu_normalizer.proofs.borrowed.NormalizerBorrowed.normalize_utf8_to.Goals as goal
 
 pub returns : goal.returns

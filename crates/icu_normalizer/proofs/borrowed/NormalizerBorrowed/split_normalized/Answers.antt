@@ -1,6 +1,6 @@
 use Rattle.std.proofs.lemmas.Result.{IfOk-weaker}
-use Rattle.normalizer_text.proofs.StrLemmas.{decoded-chars}
-use Rattle.icu_normalizer.proofs.TextAnswers.{IsTextSplitAtCut-bytes}
+use Rattle.normalizer_text.proofs.rules.StrLemmas.{decoded-chars}
+use Rattle.icu_normalizer.proofs.results.TextAnswers.{IsTextSplitAtCut-bytes}
 use Rattle.icu_normalizer.proofs.borrowed.NormalizerBorrowed.split_normalized.Goals as goal
 
 pub returns : goal.returns

@@ -1,6 +1,6 @@
 use Rattle.std.proofs.Common.{refl}
 use Rattle.icu_normalizer.specs.ClassData.{SuitsClasses}
-use Rattle.icu_normalizer.proofs.ClassWords.{HasNoClassesElsewhere-met}
+use Rattle.icu_normalizer.proofs.property_data.ClassWords.{HasNoClassesElsewhere-met}
 use Rattle.icu_normalizer.proofs.combining_class.CanonicalCombiningClassMap.over.Goals as goal
 use Rattle.icu_normalizer.proofs.combining_class.CanonicalCombiningClassMap.over.Goals.{In_ok-check}
 

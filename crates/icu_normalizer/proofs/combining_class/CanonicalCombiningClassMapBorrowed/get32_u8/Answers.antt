@@ -1,6 +1,6 @@
 use Rattle.std.proofs.Common.{ap, ◌∙◌}
 use Rattle.normalizer_tables.specs.Table.{word_at}
-use Rattle.icu_normalizer.proofs.ClassWords.{combining_class-word}
+use Rattle.icu_normalizer.proofs.property_data.ClassWords.{combining_class-word}
 use Rattle.icu_normalizer.proofs.combining_class.CanonicalCombiningClassMapBorrowed.get32_u8.Goals as goal
 
 pub returns : goal.returns

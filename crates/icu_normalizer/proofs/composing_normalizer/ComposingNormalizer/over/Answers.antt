@@ -2,7 +2,7 @@ use Rattle.std.proofs.Common.{refl}
 use Rattle.std.specs.Prelude.{false}
 use Rattle.normalizer_tables.specs.Owned.{characters_owned}
 use Rattle.icu_normalizer.specs.ComposingAcceptance.{SuitsComposing}
-use Rattle.icu_normalizer.proofs.AcceptedData.{ServesComposing-met}
+use Rattle.icu_normalizer.proofs.acceptance.NormalizerData.{ServesComposing-met}
 use Rattle.icu_normalizer.proofs.composing_normalizer.ComposingNormalizer.over.Goals as goal
 use Rattle.icu_normalizer.proofs.composing_normalizer.ComposingNormalizer.over.Goals.{In_ok-check}
 

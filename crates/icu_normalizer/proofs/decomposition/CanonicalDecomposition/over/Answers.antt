@@ -1,6 +1,6 @@
 use Rattle.std.proofs.Common.{refl}
 use Rattle.icu_normalizer.specs.StepData.{steps_from, SuitsSteps}
-use Rattle.icu_normalizer.proofs.SoundSteps.{HasSteps-met}
+use Rattle.icu_normalizer.proofs.property_data.SoundSteps.{HasSteps-met}
 use Rattle.icu_normalizer.proofs.decomposition.CanonicalDecomposition.over.Goals as goal
 use Rattle.icu_normalizer.proofs.decomposition.CanonicalDecomposition.over.Goals.{In_ok-check}
 

@@ -1,5 +1,5 @@
 use Rattle.std.proofs.Common.{sym, ◌∙◌}
-use Rattle.icu_normalizer.proofs.PassingLemmas.{form_of_one}
+use Rattle.icu_normalizer.proofs.passthrough.PassthroughLemmas.{form_of_one}
 use Rattle.icu_normalizer.proofs.forming.DecomposingFormForming.form_of_one.Goals as goal
 
 pub returns : goal.returns

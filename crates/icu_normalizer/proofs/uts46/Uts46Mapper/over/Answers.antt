@@ -2,7 +2,7 @@ use Rattle.std.proofs.Common.{refl}
 use Rattle.std.specs.Prelude.{true}
 use Rattle.normalizer_tables.specs.Owned.{characters_owned}
 use Rattle.icu_normalizer.specs.ComposingAcceptance.{SuitsComposing}
-use Rattle.icu_normalizer.proofs.MapperLemmas.{ServesMapper-met}
+use Rattle.icu_normalizer.proofs.acceptance.MapperData.{ServesMapper-met}
 use Rattle.icu_normalizer.proofs.uts46.Uts46Mapper.over.Goals as goal
 use Rattle.icu_normalizer.proofs.uts46.Uts46Mapper.over.Goals.{In_ok-check}
 

@@ -2,7 +2,7 @@ use Rattle.std.proofs.Common.{◌≡◌, refl, false, sym, ◌∙◌, arith, ◌
 use Rattle.normalizer_tables.specs.Characters.{class_of}
 use Rattle.normalizer_tables.specs.Readings.{reading_by}
 use Rattle.normalizer_tables.specs.declared.characters.IgnoredCharacters.TheVariants.{Dropped}
-use Rattle.normalizer_tables.proofs.OrderedLists.{rises_from, rises_from-member, rises_from-fall, rises_from-end, order-rising, order-short, rising-order}
+use Rattle.normalizer_tables.proofs.lists.OrderedLists.{rises_from, rises_from-member, rises_from-fall, rises_from-end, order-rising, order-short, rising-order}
 use Rattle.normalizer_conditions.proofs.check.lists.is_in_order.Goals as goal
 
 pub returns-then-len-le1 : goal.returns-then-len-le1

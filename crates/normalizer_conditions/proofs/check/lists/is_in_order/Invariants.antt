@@ -1,6 +1,6 @@
 use Rattle.std.proofs.Common.{◌≡◌, drop}
 use Rattle.normalizer_tables.specs.Characters.{class_of}
-use Rattle.normalizer_tables.proofs.OrderedLists.{rises_from}
+use Rattle.normalizer_tables.proofs.lists.OrderedLists.{rises_from}
 use Rattle.normalizer_conditions.proofs.check.lists.is_in_order.Given as goal
 
 abbrev pub invariant-loop-place : goal.invariant-loop-place

@@ -1,5 +1,5 @@
 use Rattle.normalizer_conditions.specs.inner.Walk.{IsMetAt}
-use Rattle.normalizer_conditions.proofs.FdfaWords.{AvoidsFdfa-word}
+use Rattle.normalizer_conditions.proofs.words.FdfaWords.{AvoidsFdfa-word}
 use Rattle.normalizer_conditions.proofs.check.met.is_met_at.Goals as goal
 
 pub returns-in-FdfaForms : goal.returns-in-FdfaForms

@@ -1,6 +1,6 @@
 use Rattle.std.proofs.Common.{inl, inr, arith}
 use Rattle.std.proofs.lemmas.Bool.{cases_order}
-use Rattle.normalizer_conditions.proofs.FdfaWords.{AvoidsFdfa-elsewhere, AvoidsFdfa-word, past_elsewhere, surrogate_elsewhere}
+use Rattle.normalizer_conditions.proofs.words.FdfaWords.{AvoidsFdfa-elsewhere, AvoidsFdfa-word, past_elsewhere, surrogate_elsewhere}
 use Rattle.normalizer_conditions.proofs.check.overall.avoid_fdfa_elsewhere.Goals as goal
 
 pub returns-then-not-avoids_fdfa : goal.returns-then-not-avoids_fdfa

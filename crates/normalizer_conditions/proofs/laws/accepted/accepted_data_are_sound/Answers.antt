@@ -1,4 +1,4 @@
-use Rattle.normalizer_conditions.proofs.AcceptedLaws.{IsSoundData-accepted, IsSoundData-handed_in}
+use Rattle.normalizer_conditions.proofs.conditions.AcceptedLaws.{IsSoundData-accepted, IsSoundData-handed_in}
 use Rattle.normalizer_conditions.proofs.laws.accepted.accepted_data_are_sound.Goals as goal
 
 pub returns : goal.returns

@@ -1,4 +1,4 @@
-use Rattle.normalizer_conditions.proofs.AcceptedLaws.{class_conditions-met}
+use Rattle.normalizer_conditions.proofs.conditions.AcceptedLaws.{class_conditions-met}
 use Rattle.normalizer_conditions.proofs.laws.accepted.accepted_data_have_sound_classes.Goals as goal
 
 pub returns : goal.returns

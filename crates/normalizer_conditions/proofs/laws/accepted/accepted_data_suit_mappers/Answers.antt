@@ -1,4 +1,4 @@
-use Rattle.normalizer_conditions.proofs.AcceptedLaws.{SuitsMapper-accepted}
+use Rattle.normalizer_conditions.proofs.conditions.AcceptedLaws.{SuitsMapper-accepted}
 use Rattle.normalizer_conditions.proofs.laws.accepted.accepted_data_suit_mappers.Goals as goal
 
 pub returns : goal.returns

@@ -1,4 +1,4 @@
-use Rattle.normalizer_conditions.proofs.AcceptedLaws.{SuitsTexts-accepted, SuitsTexts-accepted_pairs, SuitsTexts-handed_in}
+use Rattle.normalizer_conditions.proofs.conditions.AcceptedLaws.{SuitsTexts-accepted, SuitsTexts-accepted_pairs, SuitsTexts-handed_in}
 use Rattle.normalizer_conditions.proofs.laws.accepted.accepted_data_suit_texts.Goals as goal
 
 pub returns : goal.returns

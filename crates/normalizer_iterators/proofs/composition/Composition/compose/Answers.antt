@@ -1,4 +1,4 @@
-use Rattle.normalizer_iterators.proofs.ComposingLemmas.{lists-compose}
+use Rattle.normalizer_iterators.proofs.composing.ComposingLemmas.{lists-compose}
 use Rattle.normalizer_iterators.proofs.composition.Composition.compose.Goals as goal
 
 pub returns-clause-lists : goal.returns-clause-lists

@@ -1,5 +1,5 @@
 use Rattle.std.proofs.Common.{refl, ◌∙◌}
-use Rattle.normalizer_iterators.proofs.CompositionLemmas.{ComposesOn-given, ComposesOn-fault}
+use Rattle.normalizer_iterators.proofs.composing.CompositionLemmas.{ComposesOn-given, ComposesOn-fault}
 use Rattle.normalizer_iterators.proofs.composition.Composition.compose_on.Goals as goal
 
 pub returns-in-Ok : goal.returns-in-Ok

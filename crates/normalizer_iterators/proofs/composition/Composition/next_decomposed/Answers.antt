@@ -1,6 +1,6 @@
 use Rattle.std.proofs.Common.{refl, sym, ◌∙◌, arith}
-use Rattle.normalizer_iterators.proofs.BeforeStarterLemmas.{Steps-first_starter, Steps-leading_mark, Steps-end, Steps-fault}
-use Rattle.normalizer_iterators.proofs.LazyLemmas.{class-reading_by}
+use Rattle.normalizer_iterators.proofs.composing.BeforeStarterLemmas.{Steps-first_starter, Steps-leading_mark, Steps-end, Steps-fault}
+use Rattle.normalizer_iterators.proofs.reads.LazyLemmas.{class-reading_by}
 use Rattle.normalizer_tables.specs.declared.characters.IgnoredCharacters.TheVariants.{Dropped}
 use Rattle.normalizer_iterators.proofs.composition.Composition.next_decomposed.Goals as goal
 

@@ -1,6 +1,6 @@
 use Rattle.std.proofs.Common.{refl}
-use Rattle.normalizer_iterators.proofs.CompositionLemmas.{Steps-mark, Steps-starter, Steps-marks}
-use Rattle.normalizer_iterators.proofs.PassingLemmas.{IsAtPassed-stands}
+use Rattle.normalizer_iterators.proofs.composing.CompositionLemmas.{Steps-mark, Steps-starter, Steps-marks}
+use Rattle.normalizer_iterators.proofs.passthrough.PassthroughItems.{IsAtPassthrough-stands}
 use Rattle.normalizer_iterators.proofs.composition.Composition.next_item.Goals as goal
 
 -- ---- a mark is given
@@ -26,11 +26,11 @@ pass-requires g c =
       can = c.requires;
       marks = c.in_default.ensures.none.1;
       ahead = c.in_default-ahead.is;
-      at_passed = IsAtPassed-stands s.bounds s.pairs.now s.decomposed s.suits (c.is_at_passed.ensures.0 c.if-is_at_passed.true);
+      at_passed = IsAtPassthrough-stands s.bounds s.pairs.now s.decomposed s.suits (c.is_at_passthrough.ensures.0 c.if-is_at_passthrough.true);
     }
 
-pub returns-then-is_at_passed : goal.returns-then-is_at_passed
-returns-then-is_at_passed g c =
+pub returns-then-is_at_passthrough : goal.returns-then-is_at_passthrough
+returns-then-is_at_passthrough g c =
     Steps-marks g.I.Iterator c.args.self.now _
     (record { decomposed = refl; pairs = refl; ahead = refl }) c.in_default.ensures.none.0 c.in_default.ensures.none.1 _ _ c.pass.ensures
 

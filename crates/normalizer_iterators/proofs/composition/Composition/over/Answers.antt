@@ -4,9 +4,9 @@ use Rattle.normal_forms.specs.CompositionByStarters.{compose_by_starters}
 use Rattle.normalizer_tables.specs.Characters.{has_class_form}
 use Rattle.normalizer_tables.specs.Readings.{reading_by}
 use Rattle.normalizer_tables.specs.declared.characters.IgnoredCharacters.TheVariants.{Dropped}
-use Rattle.normalizer_iterators.proofs.ComposingLemmas.{nfc-reading_by, HasShortMarkRuns-reading_by}
-use Rattle.normalizer_iterators.proofs.ShortChunkLemmas.{HasShortMarkRuns-nfd}
-use Rattle.normalizer_iterators.proofs.CompositionLemmas.{behind_by, short_by}
+use Rattle.normalizer_iterators.proofs.composing.ComposingLemmas.{nfc-reading_by, HasShortMarkRuns-reading_by}
+use Rattle.normalizer_iterators.proofs.reads.ShortChunkLemmas.{HasShortMarkRuns-nfd}
+use Rattle.normalizer_iterators.proofs.composing.CompositionLemmas.{behind_by, short_by}
 use Rattle.normalizer_iterators.proofs.composition.Composition.over.Goals as goal
 
 pub returns-clause-text : goal.returns-clause-text

@@ -1,14 +1,14 @@
 use Rattle.std.proofs.Common.{refl}
-use Rattle.normalizer_iterators.proofs.BeforeStarterLemmas.{Steps-fault, Steps-end, Steps-first_starter, Steps-passed}
-use Rattle.normalizer_iterators.proofs.PassingLemmas.{begins_anew, Passes-kept}
+use Rattle.normalizer_iterators.proofs.composing.BeforeStarterLemmas.{Steps-fault, Steps-end, Steps-first_starter, Steps-passed}
+use Rattle.normalizer_iterators.proofs.passthrough.PassthroughItems.{has_boundary_before, YieldsPassthrough-kept}
 use Rattle.normalizer_iterators.proofs.composition.Composition.pass.Goals as goal
 
-pub pass_next-requires : goal.pass_next-requires
-pass_next-requires g c =
+pub next_passthrough-requires : goal.next_passthrough-requires
+next_passthrough-requires g c =
     let s = c.args.self.now in
     record {
       can = c.requires.can;
-      anew = begins_anew s.decomposed.characters s.bounds s.pairs.now s.suits s.decomposed.ignored;
+      at_boundary = has_boundary_before s.decomposed.characters s.bounds s.pairs.now s.suits s.decomposed.ignored;
       empty = c.requires.at_passed.waiting;
     }
 
@@ -25,7 +25,7 @@ returns-in-Some-Ok-Itself g c =
 pub invariant_of-self : goal.invariant_of-self
 invariant_of-self g c =
     let s = c.args.self.now in
-    record { suits = rw (Passes-kept g.I.Iterator s.pairs.now s.decomposed _ _ (c.pass_next.ensures s.pairs.now s.suits c.requires.at_passed)) s.suits }
+    record { suits = rw (YieldsPassthrough-kept g.I.Iterator s.pairs.now s.decomposed _ _ (c.next_passthrough.ensures s.pairs.now s.suits c.requires.at_passed)) s.suits }
 
 -- ---- the first member of its list is composed
 
@@ -41,7 +41,7 @@ returns-in-Some-Ok-FirstMember g c =
     let s = c.args.self.now in
     let reached = rw c.in-Some-Ok-FirstMember.field-0-is at c.in-Some-Ok-FirstMember.ensures s.pairs.now s.suits c.requires.at_passed in
     let given = rw c.in-Some-Ok-FirstMember.field-0-0-is at reached in
-    Steps-first_starter g.I.Iterator s c.requires.ahead c.requires.marks c.in-Some-Ok-FirstMember.starter c.pass_next.new.decomposed _ _
+    Steps-first_starter g.I.Iterator s c.requires.ahead c.requires.marks c.in-Some-Ok-FirstMember.starter c.next_passthrough.new.decomposed _ _
     given.steps (given.starter s.pairs.now) c.compose_on.ensures
 
 -- ---- a fault, or the end

@@ -1,4 +1,4 @@
-use Rattle.normalizer_iterators.proofs.CompositionLemmas.{Goes}
+use Rattle.normalizer_iterators.proofs.composing.CompositionLemmas.{Goes}
 use Rattle.normalizer_iterators.proofs.composition.CompositionIterator.next.Goals as goal
 
 pub returns-clause-goes : goal.returns-clause-goes

@@ -4,11 +4,11 @@ use Rattle.normal_forms.specs.ShortRuns.{HasShortRuns}
 use Rattle.normalizer_tables.specs.Characters.{has_class_form}
 use Rattle.normalizer_tables.specs.Readings.{reading_by}
 use Rattle.normalizer_text.specs.Steps.{Spells}
-use Rattle.normalizer_iterators.specs.Delegate.{MayGive}
+use Rattle.normalizer_iterators.specs.Delegate.{MayYield}
 use Rattle.normalizer_iterators.specs.NextItem.{IsFormOfSource}
-use Rattle.normalizer_iterators.specs.Composition.{WillGive, StaysShort, CompositionSteps}
-use Rattle.normalizer_iterators.proofs.ComposingLemmas.{HasShortRuns-reading_by}
-use Rattle.normalizer_iterators.proofs.ItemLemmas.{YieldsForm-made, YieldsFormOfRun-composition, SpellsOk-composition, SpellsUnless-composition}
+use Rattle.normalizer_iterators.specs.CompositionItems.{WillYield, StaysShort, CompositionSteps}
+use Rattle.normalizer_iterators.proofs.composing.ComposingLemmas.{HasShortRuns-reading_by}
+use Rattle.normalizer_iterators.proofs.items.ItemLemmas.{YieldsForm-made, YieldsFormOfRun-composition, SpellsOk-composition, SpellsUnless-composition}
 use Rattle.normalizer_iterators.proofs.composition.making.composed.Goals as goal
 
 pub returns-clause-form : goal.returns-clause-form
@@ -16,8 +16,8 @@ returns-clause-form g c =
     let gives = g.I.Iterator.next_gives in
     let s = c.args.characters in
     let made = c.over.ensures in
-    YieldsForm-made gives (WillGive (Spells gives)) (StaysShort gives) (CompositionSteps g.I.Iterator) (SpellsUnless-composition g.I.Iterator) (SpellsOk-composition g.I.Iterator)
+    YieldsForm-made gives (WillYield (Spells gives)) (StaysShort gives) (CompositionSteps g.I.Iterator) (SpellsUnless-composition g.I.Iterator) (SpellsOk-composition g.I.Iterator)
     (has_class_form s) (reading_by s c.args.ignored c.args.pairs.now) nfc c.args.delegate
-    (IsFormOfSource gives (λ e. WillGive (MayGive gives e)) (nfc (reading_by s c.args.ignored c.args.pairs.now)) c.args.delegate)
+    (IsFormOfSource gives (λ e. WillYield (MayYield gives e)) (nfc (reading_by s c.args.ignored c.args.pairs.now)) c.args.delegate)
     (YieldsFormOfRun-composition g.I.Iterator (nfc (reading_by s c.args.ignored c.args.pairs.now)) c.args.delegate) (HasShortRuns (has_class_form s) (reading_by s c.args.ignored []))
     (HasShortRuns-reading_by (has_class_form s) s c.args.ignored c.args.pairs.now) c.over.result made.text made.short made.succeeds made.came made.refused

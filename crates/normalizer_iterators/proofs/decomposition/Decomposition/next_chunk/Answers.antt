@@ -4,23 +4,23 @@ use Rattle.normalizer_tables.specs.Characters.{has_class_form}
 use Rattle.normalizer_tables.specs.Readings.{reading_by}
 use Rattle.normalizer_iterators.specs.Reads.{character_of}
 use Rattle.normalizer_iterators.specs.WaitingList.{AgreesWith}
-use Rattle.normalizer_iterators.proofs.DecompositionLemmas.{at_some}
-use Rattle.normalizer_iterators.proofs.ReadingLemmas.{ReadsChunk-alone}
+use Rattle.normalizer_iterators.proofs.items.DecompositionLemmas.{at_some}
+use Rattle.normalizer_iterators.proofs.reads.ReadingLemmas.{ReadsChunk-alone}
 use Rattle.normalizer_iterators.proofs.decomposition.Decomposition.next_chunk.Goals as goal
 
-pub returns-then-stands_alone-clause-ok : goal.returns-then-stands_alone-clause-ok
-returns-then-stands_alone-clause-ok g c = λ before read.
+pub returns-then-is_whole_chunk-clause-ok : goal.returns-then-is_whole_chunk-clause-ok
+returns-then-is_whole_chunk-clause-ok g c = λ before read.
     let s = c.args.self.now in
     ReadsChunk-alone g.I.Iterator (has_class_form s.characters) (reading_by s.characters s.ignored []) c.args.read.character before
-    s.delegate (character_of c.args.following) s.waiting (c.stands_alone.ensures c.if-stands_alone.true) read c.requires.ready c.requires.empty s.settled
+    s.delegate (character_of c.args.following) s.waiting (c.is_whole_chunk.ensures c.if-is_whole_chunk.true) read c.requires.ready c.requires.empty s.settled
 
 pub invariant_of-self : goal.invariant_of-self
 invariant_of-self g c =
     let s = c.args.self.now in
-    let alone = c.stands_alone.ensures c.if-stands_alone.true in
+    let alone = c.is_whole_chunk.ensures c.if-is_whole_chunk.true in
     record {
       suits = s.suits;
-      anew = at_some (character_of c.args.following) (λ b. continues (has_class_form s.characters) (reading_by s.characters s.ignored []) b ≡ false) alone.anew;
+      at_boundary = at_some (character_of c.args.following) (λ b. continues (has_class_form s.characters) (reading_by s.characters s.ignored []) b ≡ false) alone.at_boundary;
       word = c.requires.words;
       settled = s.settled;
       classes = s.classes;
@@ -36,7 +36,7 @@ invariant_of-self-in-Ok g c =
     let chunk = c.in-Ok.ensures.ok c.requires.read.0 c.requires.read.1 in
     record {
       suits = s.suits;
-      anew = at_some (character_of c.in-Ok.pending) (λ b. continues (has_class_form s.characters) (reading_by s.characters s.ignored []) b ≡ false) chunk.anew;
+      at_boundary = at_some (character_of c.in-Ok.pending) (λ b. continues (has_class_form s.characters) (reading_by s.characters s.ignored []) b ≡ false) chunk.at_boundary;
       word = c.in-Ok.ensures.words;
       settled = chunk.settled;
       classes = c.in-Ok.ensures.classes;
@@ -48,7 +48,7 @@ invariant_of-self-in-Err g c =
     let s = c.args.self.now in
     record {
       suits = s.suits;
-      anew = s.anew;
+      at_boundary = s.at_boundary;
       word = s.word;
       settled = c.clear.ensures.unordered;
       classes = c.clear.ensures.classes (reading_by s.characters s.ignored []);

@@ -1,8 +1,8 @@
 use Rattle.std.proofs.Common.{refl, sym, ap, ◌∙◌, Ok, Err, []}
 use Rattle.normalizer_iterators.specs.Reads.{character_of}
 use Rattle.normalizer_iterators.specs.WaitingList.{AgreesWith}
-use Rattle.normalizer_iterators.proofs.DecompositionLemmas.{Steps-ended, Steps-front, Steps-read, class-first, nothing_read, ready_behind}
-use Rattle.normalizer_iterators.proofs.ReadingLemmas.{HasRead-as}
+use Rattle.normalizer_iterators.proofs.items.DecompositionLemmas.{Steps-ended, Steps-front, Steps-read, class-first, nothing_read, ready_behind}
+use Rattle.normalizer_iterators.proofs.reads.ReadingLemmas.{HasRead-as}
 use Rattle.normalizer_tables.specs.Readings.{reading_by}
 use Rattle.normalizer_iterators.proofs.decomposition.Decomposition.next_with_class.Goals as goal
 
@@ -12,7 +12,7 @@ invariant_of-self g c =
     let s = c.args.self.now in
     record {
       suits = s.suits;
-      anew = s.anew;
+      at_boundary = s.at_boundary;
       word = s.word;
       settled = c.pop_front.ensures.unordered ∙ s.settled;
       classes = c.pop_front.ensures.classes (reading_by s.characters s.ignored []) s.classes;
@@ -32,7 +32,7 @@ invariant_of-self-in-Break-1 g c =
     let s = c.args.self.now in
     record {
       suits = s.suits;
-      anew = λ x e. nothing_read _ c.take.ensures.after x e;
+      at_boundary = λ x e. nothing_read _ c.take.ensures.after x e;
       word = λ r e. cc (e, c.take.ensures.after);
       settled = c.pop_front.ensures.unordered ∙ s.settled;
       classes = c.pop_front.ensures.classes (reading_by s.characters s.ignored []) s.classes;
@@ -44,7 +44,7 @@ invariant_of-self-2 g c =
     let s = c.args.self.now in
     record {
       suits = s.suits;
-      anew = λ x e. nothing_read _ c.take.ensures.after x e;
+      at_boundary = λ x e. nothing_read _ c.take.ensures.after x e;
       word = λ r e. cc (e, c.take.ensures.after);
       settled = c.pop_front.ensures.unordered ∙ s.settled;
       classes = c.pop_front.ensures.classes (reading_by s.characters s.ignored []) s.classes;

@@ -4,14 +4,14 @@ use Rattle.normalizer_tables.specs.Characters.{has_class_form}
 use Rattle.normalizer_tables.specs.Readings.{reading_by}
 use Rattle.normalizer_iterators.specs.Reads.{character_of}
 use Rattle.normalizer_iterators.specs.WaitingList.{AgreesWith}
-use Rattle.normalizer_iterators.proofs.DecompositionLemmas.{at_some}
-use Rattle.normalizer_iterators.proofs.ReadingLemmas.{HasRead-as, IsReadyBehind-next}
-use Rattle.normalizer_iterators.proofs.ToComeLemmas.{IsToCome-start, came_start, AreShortToCome-start, short_start_fits}
+use Rattle.normalizer_iterators.proofs.items.DecompositionLemmas.{at_some}
+use Rattle.normalizer_iterators.proofs.reads.ReadingLemmas.{HasRead-as, IsReadyAfter-next}
+use Rattle.normalizer_iterators.proofs.items.ToComeLemmas.{IsToCome-start, came_start, AreShortToCome-start, short_start_fits}
 use Rattle.normalizer_iterators.proofs.decomposition.Decomposition.over.Goals as goal
 
 pub read_on-requires-clause-ready : goal.read_on-requires-clause-ready
 read_on-requires-clause-ready g c =
-    rw c.read_from-first.ensures.character (IsReadyBehind-next g.I.Iterator _ _ _ (c.next.ensures.goes.on c.requires.ends))
+    rw c.read_from-first.ensures.character (IsReadyAfter-next g.I.Iterator _ _ _ (c.next.ensures.goes.on c.requires.ends))
 
 pub returns-in-Ok-clause-text : goal.returns-in-Ok-clause-text
 returns-in-Ok-clause-text g c = λ x spells.
@@ -62,7 +62,7 @@ invariant_of-result g c =
     let on = c.in-Ok.ensures.ok _ read in
     record {
       suits = c.requires.suits;
-      anew = at_some (character_of c.in-Ok.pending) (λ b. continues (has_class_form c.args.characters) (reading_by c.args.characters c.args.ignored []) b ≡ false) on.anew;
+      at_boundary = at_some (character_of c.in-Ok.pending) (λ b. continues (has_class_form c.args.characters) (reading_by c.args.characters c.args.ignored []) b ≡ false) on.at_boundary;
       word = c.in-Ok.ensures.words;
       settled = on.settled;
       classes = c.in-Ok.ensures.classes;

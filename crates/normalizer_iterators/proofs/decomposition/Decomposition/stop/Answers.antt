@@ -9,7 +9,7 @@ invariant_of-self g c =
     let s = c.args.self.now in
     record {
       suits = s.suits;
-      anew = λ x e. cc e;
+      at_boundary = λ x e. cc e;
       word = λ r e. cc e;
       settled = c.clear.ensures.unordered;
       classes = c.clear.ensures.classes (reading_by s.characters s.ignored []);

@@ -1,6 +1,6 @@
 use Rattle.std.proofs.Common.{drop, ap}
 use Rattle.normalizer_iterators.specs.StayingMarks.{staying, BlocksBelow}
-use Rattle.normalizer_iterators.proofs.MarkLemmas.{is_above-none}
+use Rattle.normalizer_iterators.proofs.composing.MarkLemmas.{is_above-none}
 use Rattle.normalizer_iterators.proofs.marks.StayingMarks.new.Goals as goal
 
 pub returns-clause-blocking : goal.returns-clause-blocking

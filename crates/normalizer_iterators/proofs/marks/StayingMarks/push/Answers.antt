@@ -1,6 +1,6 @@
 use Rattle.std.proofs.Common.{ap, ◌∙◌, ◌+◌, max, arith}
 use Rattle.normalizer_iterators.specs.StayingMarks.{staying, used, BlocksBelow}
-use Rattle.normalizer_iterators.proofs.MarkLemmas.{drop-one_more, is_above-one_more}
+use Rattle.normalizer_iterators.proofs.composing.MarkLemmas.{drop-one_more, is_above-one_more}
 use Rattle.normalizer_iterators.proofs.marks.StayingMarks.push.Goals as goal
 
 pub returns-in_err-push-clause-succeeds : goal.returns-in_err-push-clause-succeeds

@@ -3,8 +3,8 @@ use Rattle.normal_forms.specs.CompositionByStarters.{compose_by_starters}
 use Rattle.normalizer_tables.specs.Readings.{reading_by}
 use Rattle.normalizer_tables.specs.declared.characters.IgnoredCharacters.TheVariants.{Dropped}
 use Rattle.normalizer_text.specs.Encodings.{decoded_in}
-use Rattle.normalizer_iterators.proofs.ComposingLemmas.{nfc-reading_by, pair-reading_by}
-use Rattle.normalizer_iterators.proofs.SegmentLemmas.{AgreesWith-reading_by}
+use Rattle.normalizer_iterators.proofs.composing.ComposingLemmas.{nfc-reading_by, pair-reading_by}
+use Rattle.normalizer_iterators.proofs.segments.SegmentLemmas.{AgreesWith-reading_by}
 use Rattle.normalizer_iterators.proofs.segment.SegmentBuffers.compose.Goals as goal
 
 pub returns-then-compose_in_order-clause-text : goal.returns-then-compose_in_order-clause-text

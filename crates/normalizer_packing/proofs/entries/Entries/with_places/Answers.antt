@@ -1,5 +1,5 @@
 use Rattle.std.proofs.Common.{◌≡◌, ◌<◌, AllPairs, map, subst, sym, ◌∙◌}
-use Rattle.normalizer_tables.proofs.PlaceTables.{rising_keys}
+use Rattle.normalizer_tables.proofs.lists.PlaceTables.{rising_keys}
 use Rattle.normalizer_tables.specs.Entries.{CharacterEntry}
 use Rattle.normalizer_packing.proofs.entries.Entries.with_places.Goals as goal
 

@@ -1,6 +1,6 @@
 use Rattle.std.proofs.Common.{refl}
-use Rattle.normalizer_packing.proofs.PlaceLemmas.{length_of_listed}
-use Rattle.normalizer_packing.proofs.WordLemmas.{listed_lent}
+use Rattle.normalizer_packing.proofs.lists.ListPlaces.{length_of_listed}
+use Rattle.normalizer_packing.proofs.words_of_lists.SpelledWords.{listed_lent}
 use Rattle.normalizer_packing.proofs.words.PackedWords.word_of_character.Goals as goal
 
 pub item_of-requires-clause-listed : goal.item_of-requires-clause-listed

@@ -1,4 +1,4 @@
-use Rattle.normalizer_packing.proofs.WordLemmas.{surrogate_packs}
+use Rattle.normalizer_packing.proofs.words_of_lists.SpelledWords.{surrogate_packs}
 use Rattle.normalizer_packing.proofs.words.PackedWordsWords.word_of.Goals as goal
 
 pub returns-in-None : goal.returns-in-None

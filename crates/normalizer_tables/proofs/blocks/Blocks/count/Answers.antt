@@ -1,5 +1,5 @@
 use Rattle.std.proofs.Common.{◌∙◌}
-use Rattle.normalizer_tables.proofs.BlockCounts.{block_count-stored}
+use Rattle.normalizer_tables.proofs.code_points.BlockCounts.{block_count-stored}
 use Rattle.normalizer_tables.proofs.blocks.Blocks.count.Goals as goal
 
 pub returns : goal.returns

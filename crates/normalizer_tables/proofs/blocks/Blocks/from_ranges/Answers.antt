@@ -1,7 +1,7 @@
 use Rattle.std.proofs.Common.{◌≡◌, ◌+◌, ◌*◌, arith, refl, sym, ◌∙◌}
 use Rattle.normalizer_tables.specs.inner.Blocks.{blocks_to, numbers_to, IsNumbered}
 use Rattle.normalizer_tables.specs.Ranges.{words_of}
-use Rattle.normalizer_tables.proofs.BlockLemmas.{number_in-le, blocks_to-more, numbers_to-more, length-blocks_to, block_of-words_of, IsStored-words_of}
+use Rattle.normalizer_tables.proofs.code_points.BlockLemmas.{number_in-le, blocks_to-more, numbers_to-more, length-blocks_to, block_of-words_of, IsStored-words_of}
 use Rattle.normalizer_tables.proofs.blocks.Blocks.from_ranges.Goals as goal
 
 pub overflow_cast-number : goal.overflow_cast-number

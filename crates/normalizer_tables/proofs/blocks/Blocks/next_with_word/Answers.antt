@@ -1,8 +1,8 @@
 use Rattle.std.proofs.Common.{[], get_or, arith, rules}
 use Rattle.std.proofs.lemmas.List.{get_or_read}
 use Rattle.normalizer_tables.specs.Table.{HaveNoWord, IsNextWithWord, code_points, without_flags}
-use Rattle.normalizer_tables.proofs.BlockLemmas.{block_at-number, block_at-looked_up, length-numbers, stored_number-within}
-use Rattle.normalizer_tables.proofs.NextInBlocks.{HasNoWord, passed-at, HaveNoWord-to, next-found}
+use Rattle.normalizer_tables.proofs.code_points.BlockLemmas.{block_at-number, block_at-looked_up, length-numbers, stored_number-within}
+use Rattle.normalizer_tables.proofs.code_points.NextInBlocks.{HasNoWord, passed-at, HaveNoWord-to, next-found}
 use Rattle.normalizer_tables.proofs.blocks.Blocks.next_with_word.Goals as goal
 use Rattle.normalizer_tables.proofs.blocks.Blocks.next_with_word.Goals.{then-from-start, else-from-start}
 

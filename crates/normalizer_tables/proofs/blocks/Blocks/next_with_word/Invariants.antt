@@ -1,7 +1,7 @@
 use Rattle.std.proofs.Common.{◌≡◌, ◌≤◌, ◌<◌, ◌*◌, ◌+◌, ℕ, [], get_or}
 use Rattle.std.specs.Option.{IfSome}
 use Rattle.normalizer_tables.specs.Table.{HaveNoWord, without_flags}
-use Rattle.normalizer_tables.proofs.NextInBlocks.{HasNoWord}
+use Rattle.normalizer_tables.proofs.code_points.NextInBlocks.{HasNoWord}
 use Rattle.normalizer_tables.proofs.blocks.Blocks.next_with_word.Given as goal
 
 abbrev pub invariant-loop-place : goal.invariant-loop-place

@@ -1,5 +1,5 @@
 use Rattle.std.proofs.Common.{◌%◌, ◌∙◌, get_or, ap, sym, arith}
-use Rattle.normalizer_tables.proofs.BlockLemmas.{length-numbers, place-within, block_at-looked_up, get_or-stored_words, stored_number-within}
+use Rattle.normalizer_tables.proofs.code_points.BlockLemmas.{length-numbers, place-within, block_at-looked_up, get_or-stored_words, stored_number-within}
 use Rattle.normalizer_tables.proofs.blocks.Blocks.word.Goals as goal
 
 pub index-block-requires : goal.index-block-requires

@@ -1,8 +1,8 @@
 use Rattle.std.proofs.Common.{◌≡◌, true, refl, sym, subst, ◌∙◌}
 use Rattle.normalizer_tables.specs.Characters.{class_of_itself, word_of}
 use Rattle.normalizer_tables.specs.Words.{is_plain}
-use Rattle.normalizer_tables.proofs.ConditionLemmas.{class_of-plain, reading-plain}
-use Rattle.normalizer_tables.proofs.PlainCharacters.{list_of-plain_word}
+use Rattle.normalizer_tables.proofs.conditions.ConditionLemmas.{class_of-plain, reading-plain}
+use Rattle.normalizer_tables.proofs.words.PlainCharacters.{list_of-plain_word}
 use Rattle.normalizer_tables.proofs.characters.CharacterData.class_of_itself.Goals as goal
 
 pub returns-then-is_plain-clause-reading : goal.returns-then-is_plain-clause-reading

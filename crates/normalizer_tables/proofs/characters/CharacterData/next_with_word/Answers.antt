@@ -1,5 +1,5 @@
 use Rattle.normalizer_tables.specs.Table.{code_points}
-use Rattle.normalizer_tables.proofs.NextWords.{IsNextWord-some, IsNextWord-none}
+use Rattle.normalizer_tables.proofs.code_points.NextWords.{IsNextWord-some, IsNextWord-none}
 use Rattle.normalizer_tables.proofs.characters.CharacterData.next_with_word.Goals as goal
 
 pub returns-in-Some : goal.returns-in-Some

@@ -1,6 +1,6 @@
 use Rattle.std.proofs.Common.{ap, sym, ◌∙◌}
 use Rattle.normalizer_tables.specs.Table.{word_at}
-use Rattle.normalizer_tables.proofs.Tables.{same_from_word_at, same_table-decides}
+use Rattle.normalizer_tables.proofs.code_points.Tables.{same_from_word_at, same_table-decides}
 use Rattle.normalizer_tables.proofs.laws.tables.equal_tables_agree.Goals as goal
 
 pub returns : goal.returns

@@ -2,7 +2,7 @@ use Rattle.std.proofs.Common.{◌≡◌, ◌<◌, ◌+◌, ◌-◌, length, arit
 use Rattle.std.proofs.Math.Nat.{mod-lt}
 use Rattle.normalizer_tables.specs.Pairs.{pair_at}
 use Rattle.normalizer_tables.specs.inner.Buckets.{bucket_count, bucket_at}
-use Rattle.normalizer_tables.proofs.BucketLemmas.{chained_more}
+use Rattle.normalizer_tables.proofs.composites.BucketLemmas.{chained_more}
 use Rattle.normalizer_tables.proofs.pairs.buckets.chain.Goals as goal
 
 pub loop-chained-preserved : goal.loop-chained-preserved

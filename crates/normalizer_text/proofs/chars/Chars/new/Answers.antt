@@ -1,5 +1,5 @@
-use Rattle.normalizer_text.proofs.StepLemmas.{Spells-TakesFirst}
-use Rattle.normalizer_text.proofs.BackLemmas.{Spells-TakesLast}
+use Rattle.normalizer_text.proofs.steps.StepLemmas.{Spells-TakesFirst}
+use Rattle.normalizer_text.proofs.steps.BackLemmas.{Spells-TakesLast}
 use Rattle.normalizer_text.proofs.chars.Chars.new.Goals as goal
 
 pub returns-clause-spells : goal.returns-clause-spells

@@ -1,4 +1,4 @@
-use Rattle.normalizer_text.proofs.BoundaryLemmas.{boundary-first}
+use Rattle.normalizer_text.proofs.steps.StepBoundaries.{boundary-first}
 use Rattle.normalizer_text.proofs.chars.CharsIterator.next.Goals as goal
 
 pub after-self-inside-requires : goal.after-self-inside-requires

@@ -1,4 +1,4 @@
-use Rattle.normalizer_text.proofs.CheckSinkLemmas.{AnswersUnits-expected, end_is_within}
+use Rattle.normalizer_text.proofs.sinks.CheckSinkLemmas.{AnswersUnits-expected, end_is_within}
 use Rattle.normalizer_text.proofs.check_sink.IsNormalizedSinkOutput.write_piece.Goals as goal
 
 pub invariant_of-self : goal.invariant_of-self

@@ -1,7 +1,7 @@
 use Rattle.std.proofs.Common.{refl}
-use Rattle.normal_forms.proofs.TextLemmas.{IsText-normal_form}
-use Rattle.normalizer_text.proofs.EncodedFormLemmas.{boundary_of_encoded, encoded_of_boundary, encoded_iff_front, encoded-fewer, longest_encoded_is_cut}
-use Rattle.normalizer_text.proofs.InputCutLemmas.{qualifies_iff_front}
+use Rattle.normal_forms.proofs.forms.TextLemmas.{IsText-normal_form}
+use Rattle.normalizer_text.proofs.inputs.EncodedFormLemmas.{boundary_of_encoded, encoded_of_boundary, encoded_iff_front, encoded-fewer, longest_encoded_is_cut}
+use Rattle.normalizer_text.proofs.inputs.InputCutLemmas.{qualifies_iff_front}
 use Rattle.normalizer_text.proofs.laws.inputs.encoded_front_ends_at_boundary.Goals as goal
 
 pub returns : goal.returns

@@ -1,4 +1,4 @@
-use Rattle.normalizer_text.proofs.InputOffenceLemmas.{input_offence_exists, input_offence_unique, input_found_differs}
+use Rattle.normalizer_text.proofs.inputs.InputOffenceLemmas.{input_offence_exists, input_offence_unique, input_found_differs}
 use Rattle.normalizer_text.proofs.laws.inputs.first_input_offence.Goals as goal
 
 pub returns : goal.returns

@@ -1,4 +1,4 @@
-use Rattle.normalizer_text.proofs.InputCutLemmas.{qualifies_iff_front, qualifies_iff_characters, zero_input_qualifies, smaller_input_qualifies}
+use Rattle.normalizer_text.proofs.inputs.InputCutLemmas.{qualifies_iff_front, qualifies_iff_characters, zero_input_qualifies, smaller_input_qualifies}
 use Rattle.normalizer_text.proofs.laws.inputs.input_cut_is_common_front.Goals as goal
 
 pub returns : goal.returns

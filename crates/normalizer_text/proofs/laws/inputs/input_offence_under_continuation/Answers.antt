@@ -1,4 +1,4 @@
-use Rattle.normalizer_text.proofs.InputOffenceLemmas.{continued_input_cut, continued_input_differs, continued_input_offence}
+use Rattle.normalizer_text.proofs.inputs.InputOffenceLemmas.{continued_input_cut, continued_input_differs, continued_input_offence}
 use Rattle.normalizer_text.proofs.laws.inputs.input_offence_under_continuation.Goals as goal
 
 pub returns : goal.returns

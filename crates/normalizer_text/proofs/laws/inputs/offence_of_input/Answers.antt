@@ -1,4 +1,4 @@
-use Rattle.normalizer_text.proofs.InputOffenceLemmas.{offence_of_exists, offence_of_unique, none_iff_normalized, found_in_text, wanted_in_form}
+use Rattle.normalizer_text.proofs.inputs.InputOffenceLemmas.{offence_of_exists, offence_of_unique, none_iff_normalized, found_in_text, wanted_in_form}
 use Rattle.normalizer_text.proofs.laws.inputs.offence_of_input.Goals as goal
 
 pub returns : goal.returns

@@ -1,4 +1,4 @@
-use Rattle.normalizer_text.proofs.InputCutLemmas.{input_cut_exists, input_cut_unique, qualifies_iff_front, cut_ends}
+use Rattle.normalizer_text.proofs.inputs.InputCutLemmas.{input_cut_exists, input_cut_unique, qualifies_iff_front, cut_ends}
 use Rattle.normalizer_text.proofs.laws.inputs.one_input_cut.Goals as goal
 
 pub returns : goal.returns

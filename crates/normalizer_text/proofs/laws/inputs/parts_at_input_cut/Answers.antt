@@ -1,4 +1,4 @@
-use Rattle.normalizer_text.proofs.InputCutLemmas.{front_at_input_cut, rest_at_input_cut}
+use Rattle.normalizer_text.proofs.inputs.InputCutLemmas.{front_at_input_cut, rest_at_input_cut}
 use Rattle.normalizer_text.proofs.laws.inputs.parts_at_input_cut.Goals as goal
 
 pub returns : goal.returns

@@ -1,4 +1,4 @@
-use Rattle.normalizer_text.proofs.InputOffenceLemmas.{parts_of_normalized}
+use Rattle.normalizer_text.proofs.inputs.InputOffenceLemmas.{parts_of_normalized}
 use Rattle.normalizer_text.proofs.laws.inputs.parts_of_normalized_input.Goals as goal
 
 pub returns : goal.returns

@@ -1,6 +1,6 @@
 use Rattle.normalizer_text.specs.Encodings.{Encoding}
-use Rattle.normalizer_text.proofs.StrLemmas.{decoded-chars, IsWellFormed-IsUtf8}
-use Rattle.normalizer_text.proofs.InputEncodingLemmas.{is_normalized_iff_text, input_cut_iff_text, input_offence_iff_text}
+use Rattle.normalizer_text.proofs.rules.StrLemmas.{decoded-chars, IsWellFormed-IsUtf8}
+use Rattle.normalizer_text.proofs.inputs.InputEncodingLemmas.{is_normalized_iff_text, input_cut_iff_text, input_offence_iff_text}
 use Rattle.normalizer_text.proofs.laws.inputs.str_goes_by_its_characters.Goals as goal
 
 pub returns : goal.returns

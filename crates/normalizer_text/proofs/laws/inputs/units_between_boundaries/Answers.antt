@@ -1,5 +1,5 @@
-use Rattle.normalizer_text.proofs.BoundaryLemmas.{decoded-between}
-use Rattle.normalizer_text.proofs.InputBoundaryLemmas.{well_formed-between}
+use Rattle.normalizer_text.proofs.steps.StepBoundaries.{decoded-between}
+use Rattle.normalizer_text.proofs.inputs.InputBoundaryLemmas.{well_formed-between}
 use Rattle.normalizer_text.proofs.laws.inputs.units_between_boundaries.Goals as goal
 
 pub returns : goal.returns

@@ -1,4 +1,4 @@
-use Rattle.normalizer_text.proofs.InputBoundaryLemmas.{boundary_of_front, front_of_boundary}
+use Rattle.normalizer_text.proofs.inputs.InputBoundaryLemmas.{boundary_of_front, front_of_boundary}
 use Rattle.normalizer_text.proofs.laws.inputs.well_formed_front_ends_at_boundary.Goals as goal
 
 pub returns : goal.returns

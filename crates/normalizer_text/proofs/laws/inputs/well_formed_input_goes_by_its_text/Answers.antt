@@ -1,6 +1,6 @@
-use Rattle.normalizer_text.proofs.InputCutLemmas.{cut_of_well_formed}
-use Rattle.normalizer_text.proofs.InputOffenceLemmas.{offence_of_well_formed}
-use Rattle.normalizer_text.proofs.InputEncodingLemmas.{is_normalized_iff_text, input_cut_iff_text, input_offence_iff_text}
+use Rattle.normalizer_text.proofs.inputs.InputCutLemmas.{cut_of_well_formed}
+use Rattle.normalizer_text.proofs.inputs.InputOffenceLemmas.{offence_of_well_formed}
+use Rattle.normalizer_text.proofs.inputs.InputEncodingLemmas.{is_normalized_iff_text, input_cut_iff_text, input_offence_iff_text}
 use Rattle.normalizer_text.proofs.laws.inputs.well_formed_input_goes_by_its_text.Goals as goal
 
 pub returns : goal.returns

@@ -2,7 +2,7 @@ use Rattle.std.proofs.Common.{◌<◌, ◌∙◌, ap, drop, take, arith, refl}
 use Rattle.std.proofs.lemmas.Simd.{length-chunk}
 use mir.Syntax.{w8}
 use Rattle.normalizer_text.specs.Scans.{leading_below}
-use Rattle.normalizer_text.proofs.ScanLemmas.{lanes-below, lanes-below_all}
+use Rattle.normalizer_text.proofs.scans.ScanLemmas.{lanes-below, lanes-below_all}
 use Rattle.normalizer_text.proofs.scan.RefSliceU8Lanes.lanes_below.Goals as goal
 
 pub returns-in_default : goal.returns-in_default

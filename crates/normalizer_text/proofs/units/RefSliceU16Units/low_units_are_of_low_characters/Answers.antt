@@ -2,8 +2,8 @@ use Rattle.std.proofs.Common.{arith, refl}
 use Rattle.std.proofs.Math.Nat.{min-le_left, min-le_right}
 use Rattle.std.specs.Prelude.{min}
 use Rattle.normalizer_text.specs.Encodings.{Encoding}
-use Rattle.normalizer_text.proofs.LowLemmas.{first-low_unit}
-use Rattle.normalizer_text.proofs.ScanLemmas.{EndsLowCharacters-single}
+use Rattle.normalizer_text.proofs.scans.LowLemmas.{first-low_unit}
+use Rattle.normalizer_text.proofs.scans.ScanLemmas.{EndsLowCharacters-single}
 use Rattle.normalizer_text.proofs.units.RefSliceU16Units.low_units_are_of_low_characters.Goals as goal
 
 pub returns : goal.returns

@@ -1,6 +1,6 @@
 use Rattle.std.proofs.Common.{arith}
 use Rattle.normalizer_text.specs.Encodings.{Encoding}
-use Rattle.normalizer_text.proofs.BoundaryLemmas.{boundary-le}
+use Rattle.normalizer_text.proofs.steps.StepBoundaries.{boundary-le}
 use Rattle.normalizer_text.proofs.units.RefSliceU8Units.after.Goals as goal
 
 pub slice_bounds-result-count : goal.slice_bounds-result-count

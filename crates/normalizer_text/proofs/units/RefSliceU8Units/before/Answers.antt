@@ -1,6 +1,6 @@
 use Rattle.std.proofs.Common.{length-take-le, sym}
 use Rattle.normalizer_text.specs.Encodings.{Encoding}
-use Rattle.normalizer_text.proofs.BoundaryLemmas.{boundary-le}
+use Rattle.normalizer_text.proofs.steps.StepBoundaries.{boundary-le}
 use Rattle.normalizer_text.proofs.units.RefSliceU8Units.before.Goals as goal
 
 pub slice_bounds-result-end : goal.slice_bounds-result-end

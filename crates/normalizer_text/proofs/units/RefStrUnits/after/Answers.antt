@@ -1,4 +1,4 @@
-use Rattle.normalizer_text.proofs.StrLemmas.{IsCharBoundary-boundary}
+use Rattle.normalizer_text.proofs.rules.StrLemmas.{IsCharBoundary-boundary}
 use Rattle.normalizer_text.proofs.units.RefStrUnits.after.Goals as goal
 
 pub range_from-requires : goal.range_from-requires

@@ -1,4 +1,4 @@
-use Rattle.normalizer_text.proofs.StrLemmas.{IsCharBoundary-boundary}
+use Rattle.normalizer_text.proofs.rules.StrLemmas.{IsCharBoundary-boundary}
 use Rattle.normalizer_text.proofs.units.RefStrUnits.before.Goals as goal
 
 pub range-requires-clause-end_boundary : goal.range-requires-clause-end_boundary

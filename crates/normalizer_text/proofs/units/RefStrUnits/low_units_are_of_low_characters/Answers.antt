@@ -1,5 +1,5 @@
-use Rattle.normalizer_text.proofs.ScanLemmas.{EndsLowCharacters-text}
-use Rattle.normalizer_text.proofs.StrLemmas.{IsWellFormed-IsUtf8}
+use Rattle.normalizer_text.proofs.scans.ScanLemmas.{EndsLowCharacters-text}
+use Rattle.normalizer_text.proofs.rules.StrLemmas.{IsWellFormed-IsUtf8}
 use Rattle.normalizer_text.proofs.units.RefStrUnits.low_units_are_of_low_characters.Goals as goal
 
 pub returns : goal.returns

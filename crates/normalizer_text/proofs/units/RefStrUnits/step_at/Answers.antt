@@ -2,8 +2,8 @@ use Rattle.std.proofs.Common.{◌<◌, length, length-drop, get_or, drop, arith,
 use Rattle.std.proofs.lemmas.List.{take_rest}
 use Rattle.normalizer_text.specs.Steps.{IsWellFormed}
 use Rattle.normalizer_text.specs.Utf8.{allows, continuation, first_of_utf8}
-use Rattle.normalizer_text.proofs.Utf8Lemmas.{HasTrails-utf8}
-use Rattle.normalizer_text.proofs.StrLemmas.{well_formed-at}
+use Rattle.normalizer_text.proofs.rules.Utf8Lemmas.{HasTrails-utf8}
+use Rattle.normalizer_text.proofs.rules.StrLemmas.{well_formed-at}
 use Rattle.normalizer_text.proofs.units.RefStrUnits.step_at.Goals as goal
 
 pub first_step_of_well_formed-requires-clause-well_formed : goal.first_step_of_well_formed-requires-clause-well_formed

@@ -1,4 +1,4 @@
-use Rattle.normalizer_text.proofs.BackLemmas.{IsLastStep-found, IsLastStep-other}
+use Rattle.normalizer_text.proofs.steps.BackLemmas.{IsLastStep-found, IsLastStep-other}
 use Rattle.normalizer_text.proofs.units.Units.last_step.Goals as goal
 
 pub returns-then-step-len : goal.returns-then-step-len

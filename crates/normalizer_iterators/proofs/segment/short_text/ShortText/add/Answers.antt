@@ -1,8 +1,8 @@
 use Rattle.std.proofs.Common.{◌+◌, arith, sym, ap, ◌∙◌, max}
 use Rattle.normal_forms.specs.Reading.{IsMark}
 use Rattle.normalizer_iterators.specs.ShortText.{so_far}
-use Rattle.normalizer_iterators.specs.inner.ShortText.{composing, join_last, BlocksBelow, composed_with}
-use Rattle.normalizer_iterators.proofs.ShortTextLemmas.{composed_with-starter, composed_with-mark, BlocksAfter-starter, BlocksAfter-mark, length-so_far, within-so_far}
+use Rattle.normalizer_iterators.specs.inner.ShortTextSteps.{composing, join_last, BlocksBelow, composed_with}
+use Rattle.normalizer_iterators.proofs.segments.ShortTextLemmas.{composed_with-starter, composed_with-mark, BlocksAfter-starter, BlocksAfter-mark, length-so_far, within-so_far}
 use Rattle.normalizer_iterators.proofs.segment.short_text.ShortText.add.Goals as goal
 
 pub returns-then-given-eq0-clause-text : goal.returns-then-given-eq0-clause-text

@@ -1,6 +1,6 @@
 use Rattle.normalizer_iterators.specs.ShortText.{so_far}
-use Rattle.normalizer_iterators.specs.inner.ShortText.{composing, join_last, BlocksBelow}
-use Rattle.normalizer_iterators.proofs.ShortTextLemmas.{composed_with-joined, BlocksAfter-joined, take_set, within-so_far}
+use Rattle.normalizer_iterators.specs.inner.ShortTextSteps.{composing, join_last, BlocksBelow}
+use Rattle.normalizer_iterators.proofs.segments.ShortTextLemmas.{composed_with-joined, BlocksAfter-joined, take_set, within-so_far}
 use Rattle.normalizer_iterators.proofs.segment.short_text.ShortText.compose.Goals as goal
 
 pub returns-in-Some-clause-text : goal.returns-in-Some-clause-text

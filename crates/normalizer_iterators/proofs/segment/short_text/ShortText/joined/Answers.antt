@@ -1,8 +1,8 @@
 use Rattle.std.proofs.Common.{arith, sym, ◌∙◌}
 use Rattle.std.proofs.lemmas.List.{get_or-take}
 use Rattle.normalizer_iterators.specs.ShortText.{so_far}
-use Rattle.normalizer_iterators.specs.inner.ShortText.{join_last, BlocksBelow}
-use Rattle.normalizer_iterators.proofs.ShortTextLemmas.{join_at-none, join_at-above, join_at-blocked}
+use Rattle.normalizer_iterators.specs.inner.ShortTextSteps.{join_last, BlocksBelow}
+use Rattle.normalizer_iterators.proofs.segments.ShortTextLemmas.{join_at-none, join_at-above, join_at-blocked}
 use Rattle.normalizer_iterators.proofs.segment.short_text.ShortText.joined.Goals as goal
 
 pub returns-in_err-place-clause-joins : goal.returns-in_err-place-clause-joins

@@ -1,5 +1,5 @@
 use Rattle.std.proofs.Common.{◌∙◌}
-use Rattle.normalizer_tables.proofs.BucketLemmas.{chained_none}
+use Rattle.normalizer_tables.proofs.composites.BucketLemmas.{chained_none}
 use Rattle.normalizer_tables.proofs.pairs.buckets.PairBuckets.from_pairs.Goals as goal
 
 pub chain-requires : goal.chain-requires

@@ -1,5 +1,5 @@
 use Rattle.std.proofs.Common.{◌∙◌, ◌<◌, ◌≤◌, length, arith, sym}
-use Rattle.normalizer_tables.proofs.BucketLemmas.{passed_first, passed_more, listed-passed, listed-none}
+use Rattle.normalizer_tables.proofs.composites.BucketLemmas.{passed_first, passed_more, listed-passed, listed-none}
 use Rattle.normalizer_tables.proofs.pairs.buckets.PairBuckets.result_of.Goals as goal
 
 pub loop-place-init : goal.loop-place-init

@@ -1,5 +1,5 @@
 use Rattle.std.proofs.Common.{◌-◌, length}
-use Rattle.normalizer_tables.proofs.BucketLemmas.{HasPassed}
+use Rattle.normalizer_tables.proofs.composites.BucketLemmas.{HasPassed}
 use Rattle.normalizer_tables.proofs.pairs.buckets.PairBuckets.result_of.Given as goal
 
 abbrev pub invariant-loop-place : goal.invariant-loop-place

@@ -1,0 +1,4 @@
+-- Data that constructors accept.
+pub mod MapperData
+pub mod NormalizerData
+pub mod SoundPairs

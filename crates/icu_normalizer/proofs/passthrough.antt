@@ -1,0 +1,4 @@
+-- Runs of passthrough characters.
+pub mod PassthroughLemmas
+pub mod RunParts
+pub mod RunSteps

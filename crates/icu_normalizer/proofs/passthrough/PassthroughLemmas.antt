@@ -1,0 +1,254 @@
+-- Characters that are passed on as they are, and runs of them.
+use Rattle.std.proofs.Common.{◌≡◌, ℕ, ◌<◌, inl, inr, Bool, true, false, List, [], ◌∷◌, ◌++◌, refl, sym, ap, subst, ◌∙◌, append_assoc, append-nil, arith}
+use Rattle.std.specs.Char.{IsScalar}
+use Rattle.std.specs.Prelude.{All, nat_lt, ◌||◌, ◌&&◌, ◌≤◌, not, Option, Some, None, if◌then◌else◌}
+use lib.Utf8.{scalar}
+use Rattle.std.proofs.lemmas.Bool.{cases_lt, cond-false, cond-true, le-ltb, lt-ltb}
+use Rattle.std.proofs.lemmas.List.Elements.{All-head, All-tail}
+use Rattle.normal_forms.specs.Reading.{Reading, ReadsAsItself, IsStarter}
+use Rattle.normal_forms.specs.Boundary.{BeginsWithStarter}
+use Rattle.normal_forms.specs.Hypotheses.{HasStarterResults}
+use Rattle.normal_forms.specs.Decomposition.{expand}
+use Rattle.normal_forms.specs.Order.{order, insert}
+use Rattle.normal_forms.specs.Composition.{compose, compose_from}
+use Rattle.normal_forms.specs.declared.Form.{Form}
+use Rattle.normal_forms.specs.declared.Form.TheVariants.{Decomposing, Composing}
+use Rattle.normal_forms.specs.Forms.{normal_form, nfd, nfc, IsNormalized}
+use Rattle.normal_forms.proofs.boundaries.BoundaryLemmas.{nfd-boundary, BeginsWithStarter-expand, BeginsAtBoundary-expand}
+use Rattle.normal_forms.proofs.forms.LawLemmas.{nfc-boundary}
+use Rattle.normal_forms.proofs.ordering.OrderLemmas.{insert-nil, insert-stays, is_reorderable-rising, order-at_starter, order-cons}
+use Rattle.normalizer_tables.specs.declared.characters.IgnoredCharacters.TheVariants.{Dropped}
+use Rattle.normalizer_tables.specs.declared.condition.Bounds.{Bounds}
+use Rattle.normalizer_tables.specs.declared.condition.Condition.TheVariants.{SafeBeginning}
+use Rattle.normalizer_conditions.specs.AcceptedData.{AreAcceptedPairs}
+use Rattle.normalizer_tables.specs.Conditions.{IsMet}
+use Rattle.normalizer_tables.specs.PairConditions.{is_composing_passthrough, is_taken_as_boundary, KeepsBoundary}
+use Rattle.normalizer_tables.specs.Characters.{Characters, class_of, class_of_itself, has_class_form, list_of, list_read, named_list, reading_of_word, word_of}
+use Rattle.normalizer_tables.specs.declared.word.WordReading.{WordReading}
+use Rattle.normalizer_tables.specs.declared.word.WordReading.TheVariants.{Ignored, Itself, ClassForm, SpecialForm}
+use Rattle.normalizer_tables.specs.declared.word.WordReading.TheVariants.{TwoCharacters, HangulSyllable, Fdfa, OneCharacter, Listed}
+use Rattle.normalizer_tables.specs.Pairs.{Pair}
+use Rattle.normalizer_tables.specs.Words.{is_backward_combining, is_non_round_trip}
+use Rattle.normalizer_tables.specs.Readings.{reading_by}
+use Rattle.normalizer_tables.specs.Passthrough.{IsPassthroughBelow}
+use Rattle.normalizer_tables.proofs.words.CharacterLemmas.{list_of-reads}
+use Rattle.normalizer_tables.proofs.words.WordLemmas.{class_of-class_form, class_of-itself}
+use Rattle.icu_normalizer.specs.Serving.{ServesDecomposing}
+use Rattle.normalizer_iterators.specs.LazyComposing.{SuitsLazyComposing}
+use Rattle.normalizer_iterators.proofs.passthrough.PassthroughItems.{BeginsAtBoundary-apart}
+use Rattle.icu_normalizer.specs.BoundaryBefore.{HasBoundaryBefore}
+use Rattle.icu_normalizer.specs.inner.PassthroughRuns.{Divides, CanFollowMark, CanPassThrough}
+
+-- a starter that reads as itself is normalized apart from what comes after it too
+CanPassThrough-itself : (d : Reading) (c : ℕ) → ReadsAsItself d c → IsStarter d c → CanPassThrough d Decomposing false c
+unfolding normal_form nfd expand order insert
+CanPassThrough-itself d c itself starter = record {
+  own = ap (λ l. order d (l ++ [])) itself;
+  begins = λ front x. nfd-boundary d front (c ∷ x)
+      (BeginsWithStarter-expand d c x (λ none. let no : [] ≡ c ∷ [] = sym none ∙ itself in cc) (subst (BeginsWithStarter d) (sym itself) starter));
+  ends = λ _ x. ap (λ l. order d (l ++ expand d x)) itself ∙ order-at_starter d [] c (expand d x) starter;
+}
+
+module _ (s : Characters) (bound : ℕ) (c : ℕ) where
+  -- with which class a character passes when text is decomposed: 0 below the bound, and else if its word says that it is its own list
+  abbrev decomposed_class : Option ℕ
+  decomposed_class = if nat_lt c bound then Some 0 else class_of_itself (reading_of_word s c)
+
+  pub low_class : c < bound → decomposed_class ≡ Some 0
+  low_class low = cond-true (nat_lt c bound) (Some 0) (class_of_itself (reading_of_word s c)) (lt-ltb c bound low)
+
+  high_class : (k : ℕ) → bound ≤ c → decomposed_class ≡ Some k → class_of_itself (reading_of_word s c) ≡ Some k
+  high_class k high is = sym (cond-false (nat_lt c bound) (Some 0) (class_of_itself (reading_of_word s c)) (le-ltb c bound high)) ∙ is
+
+  -- a word that says that its character is its own list says its class
+  module _ (is_scalar : IsScalar c) where
+    list_of_reading : (r : WordReading) → reading_of_word s c ≡ r → named_list s [] c r ≡ Some (c ∷ []) → list_of s [] c ≡ c ∷ []
+    unfolding list_read
+    list_of_reading r read named =
+        list_of-reads s [] c (c ∷ []) (cond-true (scalar c) (named_list s [] c (reading_of_word s c)) None is_scalar ∙ ap (named_list s [] c) read ∙ named)
+
+    of_reading : (r : WordReading) → reading_of_word s c ≡ r → (k : ℕ) → class_of_itself r ≡ Some k → (list_of s [] c ≡ c ∷ []) × (class_of s c ≡ k)
+    unfolding class_of_itself named_list
+    of_reading Itself read k is = (list_of_reading Itself read refl, sym (class_of-itself s c read is_scalar) ∙ (let same : 0 ≡ k = cc in same))
+    of_reading (ClassForm j) read k is = (list_of_reading (ClassForm j) read refl, sym (class_of-class_form s c j read is_scalar) ∙ (let same : j ≡ k = cc in same))
+    of_reading Ignored read k is = absurd (cc)
+    of_reading (SpecialForm j) read k is = absurd (cc)
+    of_reading (TwoCharacters a b) read k is = absurd (cc)
+    of_reading HangulSyllable read k is = absurd (cc)
+    of_reading Fdfa read k is = absurd (cc)
+    of_reading (OneCharacter a) read k is = absurd (cc)
+    of_reading (Listed item low rest) read k is = absurd (cc)
+
+    of_itself : (k : ℕ) → class_of_itself (reading_of_word s c) ≡ Some k → (list_of s [] c ≡ c ∷ []) × (class_of s c ≡ k)
+    of_itself k is = of_reading (reading_of_word s c) refl k is
+
+    -- one that passes with class 0
+    pub CanPassThrough-decomposed : IsPassthroughBelow s bound → decomposed_class ≡ Some 0 → CanPassThrough (reading_by s Dropped []) Decomposing false c
+    CanPassThrough-decomposed passthrough is = elim (cases_lt c bound) [
+      | inl low ↦ let low_starter = passthrough c is_scalar low in CanPassThrough-itself (reading_by s Dropped []) c (low_starter.itself []) low_starter.starter
+      | inr high ↦ let known = of_itself 0 (high_class 0 high is) in CanPassThrough-itself (reading_by s Dropped []) c known.0 known.1
+    ]
+
+    -- and one with another class
+    pub CanFollowMark-decomposed : (k : ℕ) → decomposed_class ≡ Some k → 0 < k → CanFollowMark (reading_by s Dropped []) Decomposing false c k
+    CanFollowMark-decomposed k is mark = elim (cases_lt c bound) [
+      | inl low ↦ let none : Some 0 ≡ Some k = sym (low_class low) ∙ is in let same : 0 ≡ k = cc in absurd (omega arith)
+      | inr high ↦ let known = of_itself k (high_class k high is) in record { free = refl; decomposing = refl; itself = known.0; class = known.1 }
+    ]
+
+not-true : (b : Bool) → not b ≡ true → b ≡ false
+not-true true h = absurd (cc)
+not-true false h = refl
+
+or-true : (b : Bool) → (b || true) ≡ true
+or-true true = refl
+or-true false = refl
+
+pub first_begins : (d : Reading) (list : List ℕ) → ((first : ℕ) (others : List ℕ) → list ≡ first ∷ others → IsStarter d first) → BeginsWithStarter d list
+first_begins d [] starters = tt
+first_begins d (first ∷ others) starters = starters first others refl
+
+-- a character below the bound, or without class form, is normalized apart when text is decomposed
+pub HasBoundaryBefore-decomposed : (s : Characters) (b : Bounds) → ServesDecomposing s b → (c : ℕ) → IsScalar c
+    → (nat_lt c b.decomposition || not (has_class_form s c)) ≡ true → HasBoundaryBefore (reading_by s Dropped []) Decomposing c
+unfolding normal_form
+HasBoundaryBefore-decomposed s b serves c scalar begins = elim (cases_lt c b.decomposition) [
+  | inl low ↦ let low_starter = serves.passthrough c scalar low in (CanPassThrough-itself (reading_by s Dropped []) c (low_starter.itself []) low_starter.starter).begins
+  | inr high ↦
+      let d = reading_by s Dropped [] in
+      let other : not (has_class_form s c) ≡ true = sym (ap (λ l. l || not (has_class_form s c)) (le-ltb c b.decomposition high)) ∙ begins in
+      let at_boundary : has_class_form s c ≡ false = not-true (has_class_form s c) other in
+      λ front x. nfd-boundary d front (c ∷ x)
+      (BeginsWithStarter-expand d c x (serves.laws.are_nonempty.are_nonempty c) (first_begins d (d.list c) (λ first others is. serves.reading.starters c first others at_boundary is)))
+]
+
+-- a character without class form begins a new part where text is decomposed
+pub HasBoundaryBefore-boundary : (s : Characters) (b : Bounds) → ServesDecomposing s b → (c : ℕ) → IsScalar c
+    → not (has_class_form s c) ≡ true → HasBoundaryBefore (reading_by s Dropped []) Decomposing c
+HasBoundaryBefore-boundary s b serves c scalar at_boundary = HasBoundaryBefore-decomposed s b serves c scalar (ap (λ k. nat_lt c b.decomposition || k) at_boundary ∙ or-true (nat_lt c b.decomposition))
+
+-- a character that is taken to begin at a boundary begins a new part where text is composed: condition 13
+pub HasBoundaryBefore-taken : (s : Characters) (b : Bounds) (pairs : List Pair) → HasStarterResults (reading_by s Dropped pairs) → AreAcceptedPairs s b pairs
+    → (c : ℕ) → IsScalar c → is_taken_as_boundary s b c ≡ true → HasBoundaryBefore (reading_by s Dropped pairs) Composing c
+unfolding IsMet KeepsBoundary normal_form
+HasBoundaryBefore-taken s b pairs starters accepted c scalar taken =
+    let d = reading_by s Dropped pairs in
+    let safe = accepted 2 SafeBeginning (omega arith) c scalar taken in
+    λ front x. nfc-boundary d starters front (c ∷ x) (BeginsAtBoundary-expand d c x safe.begins safe.safely)
+
+-- the form of a character alone is its list
+pub form_of_one : (s : Characters) (b : Bounds) → ServesDecomposing s b → (c : ℕ) → IsScalar c → normal_form (reading_by s Dropped []) Decomposing (c ∷ []) ≡ list_of s [] c
+unfolding normal_form nfd expand
+form_of_one s b serves c scalar = ap (order (reading_by s Dropped [])) (append-nil (list_of s [] c)) ∙ serves.ordered c scalar
+
+pub below_is_passed : (s : Characters) (b : Bounds) (c : ℕ) → c < b.composition → is_composing_passthrough s b c ≡ true
+unfolding is_composing_passthrough
+below_is_passed s b c below =
+    ap (λ l. l || (not (is_non_round_trip (word_of s c)) && not (is_backward_combining (word_of s c)))) (lt-ltb c b.composition below)
+
+-- a character that a composing loop passes
+pub CanPassThrough-passed : (s : Characters) (b : Bounds) (pairs : List Pair) → SuitsLazyComposing s b pairs → (c : ℕ) → IsScalar c → is_composing_passthrough s b c ≡ true
+    → CanPassThrough (reading_by s Dropped pairs) Composing true c
+unfolding normal_form
+CanPassThrough-passed s b pairs suits c scalar passed =
+    let d = reading_by s Dropped pairs in
+    let apart = suits.apart Dropped c (record { scalar = scalar; passed = passed }) in
+    record {
+      own = apart.form;
+      begins = λ front x. nfc-boundary d suits.starters front (c ∷ x) (BeginsAtBoundary-expand d c x apart.are_nonempty (BeginsAtBoundary-apart (has_class_form s) d c apart));
+      ends = λ no. absurd (cc);
+    }
+
+module _ (s : Characters) (b : Bounds) (c : ℕ) where
+  -- with which class a character passes when text is composed: never as a mark
+  abbrev composed_class : Option ℕ
+  composed_class = if is_composing_passthrough s b c then Some 0 else None
+
+  class_when : (passed : Bool) (k : ℕ) → (if passed then Some 0 else None) ≡ Some k → (passed ≡ true) × (k ≡ 0)
+  class_when true k is = (refl, (let same : 0 ≡ k = cc in sym same))
+  class_when false k is = absurd (cc)
+
+  pub composed_low_class : c < b.composition → composed_class ≡ Some 0
+  composed_low_class low = cond-true (is_composing_passthrough s b c) (Some 0) None (below_is_passed s b c low)
+
+  pub CanPassThrough-composed : (pairs : List Pair) → SuitsLazyComposing s b pairs → IsScalar c → composed_class ≡ Some 0 → CanPassThrough (reading_by s Dropped pairs) Composing true c
+  CanPassThrough-composed pairs suits scalar is = CanPassThrough-passed s b pairs suits c scalar (class_when (is_composing_passthrough s b c) 0 is).0
+
+  pub CanFollowMark-composed : (pairs : List Pair) (k : ℕ) → composed_class ≡ Some k → 0 < k → CanFollowMark (reading_by s Dropped pairs) Composing true c k
+  CanFollowMark-composed pairs k is mark = let none = (class_when (is_composing_passthrough s b c) k is).1 in absurd (omega arith)
+
+module _ (d : Reading) (form : Form) where
+  pub normal_form-nil : (form : Form) → normal_form d form [] ≡ []
+  unfolding normal_form nfc nfd expand order compose compose_from
+  normal_form-nil Decomposing = refl
+  normal_form-nil Composing = refl
+
+  -- nothing comes before, or after
+  pub Divides-start : (rest : List ℕ) → Divides d form [] rest
+  Divides-start rest read unread is = ap (λ l. l ++ normal_form d form read) (sym (normal_form-nil form))
+
+  pub Divides-end : (front : List ℕ) → Divides d form front []
+  Divides-end front [] unread is = ap (normal_form d form) (append-nil front) ∙ sym (append-nil (normal_form d form front)) ∙ ap (λ l. normal_form d form front ++ l) (sym (normal_form-nil form))
+  Divides-end front (c ∷ read) unread is = absurd (cc)
+
+  -- a character that begins a new part comes next
+  pub Divides-next : (c : ℕ) → HasBoundaryBefore d form c → (front x : List ℕ) → Divides d form front (c ∷ x)
+  Divides-next c begins front x [] unread is = Divides-end front [] [] refl
+  Divides-next c begins front x (e ∷ read) unread is =
+      let same : c ≡ e = cc in
+      subst (λ k. normal_form d form (front ++ k ∷ read) ≡ normal_form d form front ++ normal_form d form (k ∷ read)) same (begins front read)
+
+  module _ (held_back : Bool) where
+    -- a run, and what is normalized apart from what comes before it
+    run_then : (run y : List ℕ) → All (CanPassThrough d form held_back) run → ((front : List ℕ) → normal_form d form (front ++ y) ≡ normal_form d form front ++ normal_form d form y)
+        → normal_form d form (run ++ y) ≡ run ++ normal_form d form y
+    run_then [] y all apart = refl
+    run_then (c ∷ []) y all apart = apart (c ∷ []) ∙ ap (λ l. l ++ normal_form d form y) (All-head (CanPassThrough d form held_back) c [] all).own
+    run_then (c ∷ e ∷ run) y all apart =
+        let rest = All-tail (CanPassThrough d form held_back) c (e ∷ run) all in
+        (All-head (CanPassThrough d form held_back) e run rest).begins (c ∷ []) (run ++ y)
+        ∙ ap (λ l. l ++ normal_form d form (e ∷ run ++ y)) (All-head (CanPassThrough d form held_back) c (e ∷ run) all).own
+        ∙ ap (λ l. c ∷ l) (run_then (e ∷ run) y rest apart)
+
+    -- a run is normalized
+    pub IsNormalized-run : (run : List ℕ) → All (CanPassThrough d form held_back) run → IsNormalized d form run
+    IsNormalized-run run all =
+        ap (normal_form d form) (sym (append-nil run)) ∙ run_then run [] all (λ front. Divides-end front [] [] refl)
+        ∙ ap (λ l. run ++ l) (normal_form-nil form) ∙ append-nil run
+
+    -- what comes after a character of which nothing is held back is normalized apart
+    pub Divides-after : held_back ≡ false → (c : ℕ) → CanPassThrough d form held_back c → (front x rest : List ℕ) → Divides d form (front ++ (x ++ c ∷ [])) rest
+    Divides-after free c may front x rest read unread is =
+        let f = normal_form d form in
+        ap f (append_assoc front (x ++ c ∷ []) read ∙ ap (λ l. front ++ l) (append_assoc x (c ∷ []) read) ∙ sym (append_assoc front x (c ∷ read)))
+        ∙ may.begins (front ++ x) read
+        ∙ ap (λ l. f (front ++ x) ++ l) (may.ends free read)
+        ∙ sym (append_assoc (f (front ++ x)) (c ∷ []) (f read))
+        ∙ ap (λ l. l ++ f read)
+        (ap (λ l. f (front ++ x) ++ l) (sym may.own) ∙ sym (may.begins (front ++ x) []) ∙ ap f (append_assoc front x (c ∷ [])))
+
+-- a mark that may follow stays before a text in form that begins with a mark of no lower class, or that is normalized apart
+module _ (d : Reading) (form : Form) (held_back : Bool) (c k : ℕ) (may : CanFollowMark d form held_back c k) where
+  form_of_mark : (y : List ℕ) → nfd d (c ∷ y) ≡ insert d c (nfd d y)
+  unfolding nfd expand
+  form_of_mark y = ap (λ l. order d (l ++ expand d y)) may.itself ∙ order-cons d c (expand d y)
+
+  as_nfd : (y : List ℕ) → normal_form d form y ≡ nfd d y
+  unfolding normal_form
+  as_nfd y = ap (λ f. normal_form d f y) may.decomposing
+
+  mark_before : (y : List ℕ) → IsNormalized d form y → insert d c y ≡ c ∷ y → IsNormalized d form (c ∷ y)
+  mark_before y own stays = as_nfd (c ∷ y) ∙ form_of_mark y ∙ ap (insert d c) (sym (as_nfd y) ∙ own) ∙ stays
+
+  pub IsNormalized-mark : IsNormalized d form (c ∷ [])
+  IsNormalized-mark = mark_before [] (normal_form-nil d form form) (insert-nil d c)
+
+  pub IsNormalized-mark_before : (e m : ℕ) (y : List ℕ) → CanFollowMark d form held_back e m → k ≤ m → IsNormalized d form (e ∷ y) → IsNormalized d form (c ∷ e ∷ y)
+  IsNormalized-mark_before e m y next rising own =
+      let mine = may.class in
+      let its = next.class in
+      mark_before (e ∷ y) own (insert-stays d c e y (is_reorderable-rising d c e (omega (arith, mine, its))))
+
+  pub IsNormalized-before_starter : (e : ℕ) (y : List ℕ) → CanPassThrough d form held_back e → IsNormalized d form (e ∷ y) → IsNormalized d form (c ∷ e ∷ y)
+  IsNormalized-before_starter e y next own =
+      next.begins (c ∷ []) y ∙ ap (λ l. l ++ normal_form d form (e ∷ y)) IsNormalized-mark ∙ ap (λ l. c ∷ l) own

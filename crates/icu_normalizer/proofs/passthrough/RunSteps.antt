@@ -1,0 +1,240 @@
+-- Runs of characters that are passed on as they are, step by step.
+use Rattle.std.proofs.Common.{◌≡◌, ℕ, ◌+◌, ◌-◌, ◌<◌, ◌≤◌, false, List, [], ◌∷◌, ◌++◌, length, take, drop, map, refl, sym, ap, subst, ◌∙◌}
+use Rattle.std.proofs.Common.{append_assoc, append-nil, arith, length-drop, length-take-le, inl, inr}
+use Rattle.std.specs.Prelude.{All, ◌⊎◌, ◌≢◌, ◌==◌, ◌||◌, min, nat_le, Option, Some, None, option_and_then}
+use Rattle.std.proofs.lemmas.Bool.Decides.{eqb_tells}
+use Rattle.std.proofs.lemmas.Bool.{cases_Bool, cond-true, cond-false, eqb-true, leb-true, or_cases}
+use Rattle.std.proofs.lemmas.Option.{option_and_then_some}
+use Rattle.std.proofs.lemmas.List.{append_cancel_left, drop_at, take_at}
+use Rattle.std.proofs.lemmas.List.Elements.{All-nil, All-cons, All-append, All-head, All-tail, All-same, All-drop, All-take}
+use Rattle.normalizer_text.specs.declared.step.Step.{Step}
+use Rattle.normalizer_text.specs.Encodings.{Encoding, first_in}
+use Rattle.normalizer_text.specs.Steps.{steps, width_of, IsBoundary, IsLastStep}
+use Rattle.normalizer_text.specs.Scans.{leading_below, EndsLowCharacters}
+use Rattle.normalizer_text.proofs.steps.StepBoundaries.{boundary-between, boundary-le, boundary-more, steps-parts, steps-take-drop, width_of-append, width_of-steps}
+use Rattle.normalizer_text.proofs.rules.EncodingRules.{IsDecoding-first}
+use Rattle.normalizer_text.proofs.steps.StepLemmas.{steps-some}
+use Rattle.icu_normalizer.specs.inner.PassthroughRuns.{IsRun, IsPassthroughTo, replacement}
+use Rattle.icu_normalizer.specs.inner.PassthroughRuns.{class_after, class_of_step, following, next_class}
+
+-- ---- the classes of steps that pass
+
+module _ (passed : ℕ → Option ℕ) where
+  pub class_of_step-passed : (s : Step) (k : ℕ) → class_of_step passed s ≡ Some k → ((s.character == replacement) ≡ false) × (passed s.character ≡ Some k)
+  unfolding class_of_step
+  class_of_step-passed s k is = elim (cases_Bool (s.character == replacement)) [
+    | inl error ↦ absurd (let none : None ≡ Some k = sym (cond-true (s.character == replacement) None (passed s.character) error) ∙ is in cc)
+    | inr right ↦ (right, sym (cond-false (s.character == replacement) None (passed s.character) right) ∙ is)
+  ]
+
+  -- what a class says of the step that has it: it is a starter, or the class isn't less than the last
+  pub next_class-passed : (last : ℕ) (s : Step) (k : ℕ) → next_class passed last s ≡ Some k → (class_of_step passed s ≡ Some k) × ((k ≡ 0) ⊎ (last ≤ k))
+  unfolding next_class following
+  next_class-passed last s k is = option_and_then_some (following last) (class_of_step passed s) k is (λ j own follows. elim (cases_Bool ((j == 0) || nat_le last j)) [
+    | inl goes_on ↦
+        let same : Some j ≡ Some k = sym (cond-true ((j == 0) || nat_le last j) (Some j) None goes_on) ∙ follows in
+        let equal : j ≡ k = cc in
+        (own ∙ same, elim (or_cases (j == 0) (nat_le last j) goes_on) [ inl least ↦ inl (sym equal ∙ eqb-true j 0 least) | inr rising ↦ inr (subst (λ n. last ≤ n) equal (leb-true last j rising)) ])
+    | inr stops ↦ absurd (let none : None ≡ Some k = sym (cond-false ((j == 0) || nat_le last j) (Some j) None stops) ∙ follows in cc)
+  ])
+
+  next_class-starter : (last : ℕ) (s : Step) → class_of_step passed s ≡ Some 0 → next_class passed last s ≡ Some 0
+  unfolding next_class following
+  next_class-starter last s is = ap (option_and_then (following last)) is
+
+  class_after-append : (a b : List Step) (last k : ℕ) → class_after passed last a ≡ Some k → class_after passed last (a ++ b) ≡ class_after passed k b
+  unfolding class_after
+  class_after-append [] b last k is = ap (λ j. class_after passed j b) (let same : last ≡ k = cc in same)
+  class_after-append (s ∷ a) b last k is = option_and_then_some (λ j. class_after passed j a) (next_class passed last s) k is
+      (λ j next rest. ap (option_and_then (λ i. class_after passed i (a ++ b))) next ∙ class_after-append a b j k rest)
+
+  class_after-one : (s : Step) (last k : ℕ) → next_class passed last s ≡ Some k → class_after passed last (s ∷ []) ≡ Some k
+  unfolding class_after
+  class_after-one s last k is = ap (option_and_then (λ i. Some i)) is
+
+  -- starters, after a starter
+  class_after-starters : (ss : List Step) → All (λ s. class_of_step passed s ≡ Some 0) ss → class_after passed 0 ss ≡ Some 0
+  unfolding class_after
+  class_after-starters [] all = refl
+  class_after-starters (s ∷ ss) all =
+      ap (option_and_then (λ i. class_after passed i ss)) (next_class-starter 0 s (All-head (λ t. class_of_step passed t ≡ Some 0) s ss all))
+      ∙ class_after-starters ss (All-tail (λ t. class_of_step passed t ≡ Some 0) s ss all)
+
+  -- if the last class is 0, the last step is a starter
+  pub record EndsWithStarter (ss : List Step) : Type 0 where
+    pub front : List Step
+    pub step : Step
+    pub parts : ss ≡ front ++ step ∷ []
+    pub starter : class_of_step passed step ≡ Some 0
+
+  pub class_after-ends : (ss : List Step) (s : Step) (last : ℕ) → class_after passed last (s ∷ ss) ≡ Some 0 → EndsWithStarter (s ∷ ss)
+  unfolding class_after
+  class_after-ends [] s last is = option_and_then_some (λ i. Some i) (next_class passed last s) 0 is
+      (λ j next same. record { front = []; step = s; parts = refl; starter = (next_class-passed last s 0 (next ∙ same)).0 })
+  class_after-ends (t ∷ ss) s last is = option_and_then_some (λ i. class_after passed i (t ∷ ss)) (next_class passed last s) 0 is
+      (λ j next rest. let behind = class_after-ends ss t j rest in
+      record { front = s ∷ behind.front; step = behind.step; parts = ap (λ l. s ∷ l) behind.parts; starter = behind.starter })
+
+-- ---- runs
+
+module _ (passed : ℕ → Option ℕ) (e : Encoding) (units : List ℕ) where
+  pub IsPassthroughTo-none : IsPassthroughTo passed e units 0 0
+  unfolding class_after
+  IsPassthroughTo-none = record {
+    boundary = record { before = []; after = steps (first_in e) units; apart = refl; taken = refl };
+    pass = refl;
+  }
+
+  -- characters below a bound pass
+  module _ (bound of_characters : ℕ) (least : bound ≡ min of_characters replacement) (pass : (c : ℕ) → c < of_characters → passed c ≡ Some 0) where
+    low_passes : (s : Step) → s.character < bound → class_of_step passed s ≡ Some 0
+    unfolding class_of_step
+    low_passes s below = elim (eqb_tells s.character replacement) [
+      | inl same ↦ absurd (omega (arith, same.1, least))
+      | inr other ↦ cond-false (s.character == replacement) None (passed s.character) other.0 ∙ pass s.character (omega (arith, least))
+    ]
+
+    all_low_pass : (ss : List Step) → All (λ c. c < bound) (map (λ s. s.character) ss) → All (λ s. class_of_step passed s ≡ Some 0) ss
+    all_low_pass [] all = All-nil (λ s. class_of_step passed s ≡ Some 0)
+    all_low_pass (s ∷ ss) all = All-cons (λ t. class_of_step passed t ≡ Some 0) s ss
+        (low_passes s (All-head (λ c. c < bound) s.character (map (λ t. t.character) ss) all))
+        (all_low_pass ss (All-tail (λ c. c < bound) s.character (map (λ t. t.character) ss) all))
+
+    IsPassthroughTo-low : (end new : ℕ) → EndsLowCharacters e units end bound new → IsPassthroughTo passed e units end 0 → IsPassthroughTo passed e units new 0
+    IsPassthroughTo-low end new low so_far =
+        let b = so_far.boundary in
+        let rest = drop end units in
+        let n = new - end in
+        let behind = low.behind in
+        let more = steps (first_in e) (take n rest) in
+        let most = boundary-le e units new low.boundary in
+        record {
+          boundary = record {
+            before = b.before ++ more;
+            after = steps (first_in e) (drop n rest);
+            apart = b.apart
+                ∙ ap (λ l. b.before ++ l)
+                (sym (steps-parts e units end b).1
+                ∙ steps-take-drop e rest n (boundary-between e units end new b low.boundary behind))
+                ∙ sym (append_assoc b.before more (steps (first_in e) (drop n rest)));
+            taken = (let k = b.taken in
+                omega (arith, width_of-append b.before more, width_of-steps e (take n rest), length-take-le n rest (omega (arith, length-drop end units))));
+          };
+          pass = class_after-append passed b.before more 0 0 so_far.pass ∙ class_after-starters passed more (all_low_pass more low.low);
+        }
+
+    -- so a run goes on with the units below that of the bound
+    module _ (low_unit : ℕ → ℕ) (low_end : (from below : ℕ) → IsBoundary (first_in e) units from → EndsLowCharacters e units from below (from + leading_below (low_unit below) (drop from units))) where
+      pub IsPassthroughTo-below : (limit end new : ℕ) → limit ≡ low_unit bound → new ≡ end + leading_below limit (drop end units) → IsPassthroughTo passed e units end 0 → IsPassthroughTo passed e units new 0
+      IsPassthroughTo-below limit end new unit is so_far =
+          let ends = is ∙ ap (λ l. end + leading_below l (drop end units)) unit in
+          IsPassthroughTo-low end new (subst (EndsLowCharacters e units end bound) (sym ends) (low_end end bound so_far.boundary)) so_far
+
+  pub IsPassthroughTo-le : (end last : ℕ) → IsPassthroughTo passed e units end last → end ≤ length units
+  IsPassthroughTo-le end last so_far = boundary-le e units end so_far.boundary
+
+  -- a run that ends with a starter, or is empty
+  pub IsRun-starters : (end : ℕ) → IsPassthroughTo passed e units end 0 → IsRun passed e units end end 0
+  IsRun-starters end to = record {
+    to_marks = to;
+    to_end = to;
+    run_of_marks = [];
+    parts = sym (append-nil to.boundary.before);
+    no_starter = All-nil (λ s. class_of_step passed s ≢ Some 0);
+  }
+
+  pub IsRun-le : (marks end last : ℕ) → IsRun passed e units marks end last → (marks ≤ end) × (end ≤ length units)
+  IsRun-le marks end last run =
+      let to_marks = run.to_marks.boundary.taken in
+      let to_end = run.to_end.boundary.taken in
+      (omega (arith, width_of-append run.to_marks.boundary.before run.run_of_marks, ap width_of run.parts), IsPassthroughTo-le end last run.to_end)
+
+  module _ (end : ℕ) (s : Step) (is : s ≡ first_in e (drop end units)) (more : end < length units) where
+    pub IsPassthroughTo-more : (last k : ℕ) → IsPassthroughTo passed e units end last → next_class passed last s ≡ Some k → IsPassthroughTo passed e units (end + s.width) k
+    IsPassthroughTo-more last k so_far passes =
+        let b = so_far.boundary in
+        let rest = drop end units in
+        let some : 0 < length rest = omega (arith, length-drop end units) in
+        record {
+          boundary = record {
+            before = b.before ++ s ∷ [];
+            after = steps (first_in e) (drop (first_in e rest).width rest);
+            apart = b.apart
+                ∙ ap (λ l. b.before ++ l) (sym (steps-parts e units end b).1 ∙ steps-some e rest some)
+                ∙ ap (λ t. b.before ++ t ∷ steps (first_in e) (drop (first_in e rest).width rest)) (sym is)
+                ∙ sym (append_assoc b.before (s ∷ []) (steps (first_in e) (drop (first_in e rest).width rest)));
+            taken = (let k = b.taken in omega (arith, width_of-append b.before (s ∷ [])));
+          };
+          pass = class_after-append passed b.before (s ∷ []) 0 last so_far.pass ∙ class_after-one passed s last k passes;
+        }
+
+    -- a run goes on with a mark
+    pub IsRun-mark : (marks last k : ℕ) → IsRun passed e units marks end last → next_class passed last s ≡ Some k → k ≢ 0 → IsRun passed e units marks (end + s.width) k
+    unfolding IsPassthroughTo-more
+    IsRun-mark marks last k run passes mark = record {
+      to_marks = run.to_marks;
+      to_end = IsPassthroughTo-more last k run.to_end passes;
+      run_of_marks = run.run_of_marks ++ s ∷ [];
+      parts = ap (λ l. l ++ s ∷ []) run.parts ∙ append_assoc run.to_marks.boundary.before run.run_of_marks (s ∷ []);
+      no_starter = All-append (λ t. class_of_step passed t ≢ Some 0) run.run_of_marks (s ∷ []) run.no_starter
+          (All-cons (λ t. class_of_step passed t ≢ Some 0) s []
+          (λ starter. let two : Some 0 ≡ Some k = sym starter ∙ (next_class-passed passed last s k passes).0 in let same : 0 ≡ k = cc in mark (sym same))
+          (All-nil (λ t. class_of_step passed t ≢ Some 0)));
+    }
+
+    pub boundary-step : IsBoundary (first_in e) units end → IsBoundary (first_in e) units (end + s.width)
+    boundary-step b = subst (λ t. IsBoundary (first_in e) units (end + t.width)) (sym is) (boundary-more e units end b more)
+
+    -- a step takes some units, and ends within them
+    pub within_step : IsBoundary (first_in e) units end → end + s.width ≤ length units
+    within_step b = boundary-le e units (end + s.width) (boundary-step b)
+
+    pub some_step : 0 < s.width
+    some_step = subst (λ t. 0 < t.width) (sym is) ((IsDecoding-first e).some (drop end units) (omega (arith, length-drop end units)))
+
+  -- without the last of the characters
+  module _ (end class : ℕ) (to : IsPassthroughTo passed e units end class) (starters : All (λ t. class_of_step passed t ≡ Some 0) to.boundary.before) (s : Step)
+      (last : IsLastStep (first_in e) (take end units) s) where
+    size : length (take end units) ≡ end
+    size = length-take-le end units (boundary-le e units end to.boundary)
+
+    all_pass : All (λ t. class_of_step passed t ≡ Some 0) (steps (first_in e) (take (length (take end units) - s.width) (take end units)) ++ s ∷ [])
+    all_pass = All-same (λ t. class_of_step passed t ≡ Some 0) _ _ (sym last.last ∙ (steps-parts e units end to.boundary).0) starters
+
+    pub IsPassthroughTo-held : IsPassthroughTo passed e units (end - s.width) 0
+    IsPassthroughTo-held =
+        let front : List ℕ = take (length (take end units) - s.width) (take end units) in
+        let before : List Step = steps (first_in e) front in
+        record {
+          boundary = record {
+            before = before;
+            after = s ∷ steps (first_in e) (drop end units);
+            apart = steps-take-drop e units end to.boundary
+                ∙ ap (λ l. l ++ steps (first_in e) (drop end units)) last.last
+                ∙ append_assoc before (s ∷ []) (steps (first_in e) (drop end units));
+            taken = width_of-steps e front
+                ∙ length-take-le (length (take end units) - s.width) (take end units) (omega arith) ∙ ap (λ n. n - s.width) size;
+          };
+          pass = class_after-starters passed before (All-same (λ t. class_of_step passed t ≡ Some 0) _ _ (sym (take_at before (s ∷ []) (length before) refl))
+              (All-take (λ t. class_of_step passed t ≡ Some 0) (length before) (before ++ s ∷ []) all_pass));
+        }
+
+    -- the last one passes, and comes next
+    pub next_held : end - s.width < length units → class_of_step passed (first_in e (drop (end - s.width) units)) ≡ Some 0
+    unfolding IsPassthroughTo-held
+    next_held more =
+        let before : List Step = steps (first_in e) (take (length (take end units) - s.width) (take end units)) in
+        let rest = drop (end - s.width) units in
+        let behind : steps (first_in e) rest ≡ s ∷ steps (first_in e) (drop end units) =
+        append_cancel_left before _ _
+        (ap (λ l. l ++ steps (first_in e) rest) (sym (steps-parts e units (end - s.width) IsPassthroughTo-held.boundary).0)
+        ∙ sym (steps-take-drop e units (end - s.width) IsPassthroughTo-held.boundary)
+        ∙ IsPassthroughTo-held.boundary.apart) in
+        let first : steps (first_in e) rest ≡ first_in e rest ∷ steps (first_in e) (drop (first_in e rest).width rest) =
+        steps-some e rest (omega (arith, length-drop (end - s.width) units)) in
+        let same : first_in e rest ∷ steps (first_in e) (drop (first_in e rest).width rest) ≡ s ∷ steps (first_in e) (drop end units) = sym first ∙ behind in
+        let is : first_in e rest ≡ s = cc in
+        let of_last : All (λ t. class_of_step passed t ≡ Some 0) (s ∷ []) =
+        All-same (λ t. class_of_step passed t ≡ Some 0) _ _ (sym (drop_at before (s ∷ []) (length before) refl))
+        (All-drop (λ t. class_of_step passed t ≡ Some 0) (length before) (before ++ s ∷ []) all_pass) in
+        ap (class_of_step passed) is ∙ All-head (λ t. class_of_step passed t ≡ Some 0) s [] of_last

@@ -1,0 +1,4 @@
+-- Data of classes, pairs and steps.
+pub mod ClassWords
+pub mod HangulSteps
+pub mod SoundSteps

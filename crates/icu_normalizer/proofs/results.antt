@@ -1,0 +1,4 @@
+-- Results of checks and owned forms.
+pub mod CheckLemmas
+pub mod OwnedLemmas
+pub mod TextAnswers

@@ -1,0 +1,3 @@
+-- Segments that stay as they are.
+pub mod KeptLemmas
+pub mod StableLemmas

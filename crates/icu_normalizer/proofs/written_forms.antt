@@ -1,0 +1,4 @@
+-- Forms that are written.
+pub mod MemberLemmas
+pub mod PartLemmas
+pub mod WritingLemmas

@@ -1,0 +1,83 @@
+-- Writing the members of a list, as if from an iterator.
+use Rattle.std.proofs.Common.{◌≡◌, ℕ, zero, suc, ◌+◌, ◌-◌, ◌<◌, ◌≤◌, List, [], ◌∷◌, ◌++◌, length, length-drop, length-take, drop, take, Option, Some, None, Result, Ok, arith, refl, ap, sym, subst, ◌∙◌}
+use Rattle.std.specs.Prelude.{All, IfSome, false, slice_get}
+use Rattle.std.specs.Option.{is_some}
+use Rattle.std.proofs.lemmas.List.{drop_all, drop-drop}
+use Rattle.std.proofs.lemmas.List.Elements.{All-nil, All-cons}
+use Rattle.normalizer_text.specs.declared.step.Step.{Step}
+use Rattle.normalizer_text.specs.Encodings.{Encoding, first_in, decoded_in}
+use Rattle.normalizer_text.specs.Steps.{steps, IsBoundary}
+use Rattle.normalizer_text.proofs.steps.StepBoundaries.{boundary-le, steps-take-drop}
+use Rattle.normalizer_text.proofs.steps.StepLemmas.{decoded-nil, decoded-some, steps-some}
+use Rattle.normalizer_iterators.specs.declared.error.NormalizeError.{NormalizeError}
+use Rattle.normalizer_iterators.specs.declared.error.NormalizeError.TheVariants.{Memory}
+use Rattle.normalizer_iterators.specs.Items.{Answers, HasEnded, SpellsUnless}
+
+-- the members, one by one
+abbrev pub list_gives : List ℕ → Option (Result ℕ NormalizeError) → List ℕ → Type 0
+list_gives [] answer rest = (answer ≡ None) × (rest ≡ [])
+list_gives (c ∷ x) answer rest = (answer ≡ Some (Ok c)) × (rest ≡ x)
+
+list_ended : HasEnded list_gives []
+list_ended = record { at = by }
+  where
+    by : (rs : List (Option (Result ℕ NormalizeError))) (t : List ℕ) → Answers list_gives [] rs t → All (λ r. r ≡ None) rs
+    by [] t h = All-nil (λ r. r ≡ None)
+    by (r ∷ rs) t (u, step, rest) = All-cons (λ r. r ≡ None) r rs step.0 (by rs t (subst (λ v. Answers list_gives v rs t) step.1 rest))
+
+pub SpellsUnless-list : (x : List ℕ) → SpellsUnless list_gives Memory x x
+SpellsUnless-list [] = λ r t step. rw step.0 (rw step.1 list_ended)
+SpellsUnless-list (c ∷ x) = λ r t step. rw step.0 (refl, rw step.1 (SpellsUnless-list x))
+
+-- the member at a place comes next, and none after the last
+pub list_gives-at : (x : List ℕ) (place c : ℕ) → slice_get x place ≡ Some c → list_gives (drop place x) (Some (Ok c)) (drop (place + 1) x)
+list_gives-at [] place c is = absurd (cc)
+list_gives-at (d ∷ x) zero c is = let same : d ≡ c = cc in (ap (λ e. Some (Ok e)) (sym same), refl)
+list_gives-at (d ∷ x) (suc place) c is =
+    let next : suc place + 1 ≡ suc (place + 1) = omega arith in
+    subst (λ n. list_gives (drop place x) (Some (Ok c)) (drop n (d ∷ x))) (sym next) (list_gives-at x place c is)
+
+pub list_gives-end : (x : List ℕ) (place : ℕ) → length x ≤ place → list_gives (drop place x) None []
+list_gives-end x place past = let is = drop_all place x past in rw is (refl, refl)
+
+-- one step alone
+pub decoded-one : (e : Encoding) (units : List ℕ) (s : Step) → 0 < length units → s ≡ first_in e units → s.width ≡ length units → decoded_in e units ≡ s.character ∷ []
+decoded-one e units s some is whole =
+    decoded-some e units some
+    ∙ ap (λ t. t.character ∷ decoded_in e (drop t.width units)) (sym is)
+    ∙ ap (λ rest. s.character ∷ decoded_in e rest) (drop_all s.width units (omega arith))
+    ∙ ap (λ x. s.character ∷ x) (decoded-nil e)
+
+-- two steps alone
+pub decoded-two : (e : Encoding) (units : List ℕ) (s t : Step) → 0 < length units → s ≡ first_in e units → t ≡ first_in e (drop s.width units) → s.width < length units
+    → t.width ≡ length units - s.width → decoded_in e units ≡ s.character ∷ t.character ∷ []
+decoded-two e units s t some is next more whole =
+    decoded-some e units some
+    ∙ ap (λ r. r.character ∷ decoded_in e (drop r.width units)) (sym is)
+    ∙ ap (λ x. s.character ∷ x) (decoded-one e (drop s.width units) t (omega (arith, length-drop s.width units)) next (whole ∙ sym (length-drop s.width units)))
+
+-- units that end where a step does begin with the same step
+pub first-take : (e : Encoding) (units : List ℕ) (n : ℕ) → 0 < n → IsBoundary (first_in e) units n → first_in e (take n units) ≡ first_in e units
+first-take e units n some b =
+    let long : n ≤ length units = boundary-le e units n b in
+    let front : 0 < length (take n units) = omega (arith, length-take n units) in
+    let whole : 0 < length units = omega arith in
+    let parts : steps (first_in e) units ≡ steps (first_in e) (take n units) ++ steps (first_in e) (drop n units) = steps-take-drop e units n b in
+    let of_front = steps-some e (take n units) front in
+    let of_whole = steps-some e units whole in
+    same_head _ _ _ _ (sym (ap (λ l. l ++ steps (first_in e) (drop n units)) of_front) ∙ sym parts ∙ of_whole)
+  where
+    same_head : (s t : Step) (x y : List Step) → s ∷ x ≡ t ∷ y → s ≡ t
+    same_head s t x y same = cc
+
+-- the step after some units, which is the first one of the rest
+pub first-drop : (e : Encoding) (units rest : List ℕ) (position end : ℕ) (next : Option Step) → rest ≡ drop position units → IfSome next (λ s. s ≡ first_in e (drop end rest))
+    → IfSome next (λ s. s ≡ first_in e (drop (position + end) units))
+first-drop e units rest position end None is next = tt
+first-drop e units rest position end (Some s) is next =
+    next ∙ ap (λ l. first_in e (drop end l)) is ∙ ap (first_in e) (drop-drop end position units ∙ ap (λ n. drop n units) (omega arith))
+
+-- of no step everything holds
+pub holds_of_none : (P : Step → Type 0) (s : Option Step) → is_some s ≡ false → IfSome s P
+holds_of_none P None is = tt
+holds_of_none P (Some s) is = absurd (cc)

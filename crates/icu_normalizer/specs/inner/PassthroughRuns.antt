@@ -1,0 +1,137 @@
+-- Text whose form is made in parts: runs of characters that are passed on as they are, and what is between them.
+use Rattle.std.specs.Prelude.{◌≡◌, ◌≢◌, ℕ, ◌+◌, ◌<◌, ◌⊎◌, Bool, true, false, ◌||◌, ◌==◌, nat_le, if◌then◌else◌}
+use Rattle.std.specs.Prelude.{List, [], ◌∷◌, ◌++◌, length, take, drop, All, Option, Some, None, option_and_then}
+use Rattle.normal_forms.specs.Reading.{Reading, ReadsAsItself}
+use Rattle.normal_forms.specs.declared.Form.{Form}
+use Rattle.normal_forms.specs.declared.Form.TheVariants.{Composing, Decomposing}
+use Rattle.normal_forms.specs.Forms.{normal_form, IsNormalized}
+use Rattle.normal_forms.specs.Boundary.{BeginsWithStarter}
+use Rattle.normal_forms.specs.Cut.{IsFront}
+use Rattle.normalizer_text.specs.declared.step.Step.{Step}
+use Rattle.normalizer_text.specs.Encodings.{Encoding, first_in, encoded_in, decoded_in}
+use Rattle.normalizer_text.specs.Steps.{IsBoundary, IsLastStep}
+use Rattle.normalizer_text.specs.InputCut.{IsInputNormalized}
+use Rattle.icu_normalizer.specs.BoundaryBefore.{HasBoundaryBefore}
+
+-- however much of the rest is read after the front, both are normalized apart
+abbrev pub Divides : Reading → Form → List ℕ → List ℕ → Type 0
+Divides d form front rest = (read unread : List ℕ) → rest ≡ read ++ unread
+    → normal_form d form (front ++ read) ≡ normal_form d form front ++ normal_form d form read
+
+-- c may be passed on as it is: it is already normalized, and a text that begins with it is normalized apart from what
+-- comes before. What comes after it is so too, unless it is held back.
+pub record CanPassThrough (d : Reading) (form : Form) (held_back : Bool) (c : ℕ) : Type 0 where
+  pub own : IsNormalized d form (c ∷ [])
+  pub begins : HasBoundaryBefore d form c
+  pub ends : held_back ≡ false → (x : List ℕ) → normal_form d form (c ∷ x) ≡ c ∷ normal_form d form x
+
+-- c, a mark of class k, may be passed on as it is after a mark of a class up to k, and after a starter: text is
+-- decomposed, and c reads as itself
+pub record CanFollowMark (d : Reading) (form : Form) (held_back : Bool) (c k : ℕ) : Type 0 where
+  pub free : held_back ≡ false
+  pub decomposing : form ≡ Decomposing
+  pub itself : ReadsAsItself d c
+  pub class : d.class c ≡ k
+
+-- U+FFFD, as which errors read, never passes
+abbrev pub replacement : ℕ
+replacement = 0xFFFD
+
+-- the class with which a step passes; none if it never does
+unfoldable pub class_of_step : (ℕ → Option ℕ) → Step → Option ℕ
+class_of_step passed s = if s.character == replacement then None else passed s.character
+
+-- after a character of class `last`, one of class 0 passes, and one whose class isn't less than the last
+unfoldable pub following : ℕ → ℕ → Option ℕ
+following last k = if (k == 0) || nat_le last k then Some k else None
+
+-- the class of a step that passes after a character of class `last`
+unfoldable pub next_class : (ℕ → Option ℕ) → ℕ → Step → Option ℕ
+next_class passed last s = option_and_then (following last) (class_of_step passed s)
+
+-- the class of the last of some steps after a character of class `last`, if each passes
+unfoldable pub class_after : (ℕ → Option ℕ) → ℕ → List Step → Option ℕ
+class_after passed last [] = Some last
+class_after passed last (s ∷ ss) = option_and_then (λ k. class_after passed k ss) (next_class passed last s)
+
+-- all characters before the place pass, and the last one has this class
+pub record IsPassthroughTo (passed : ℕ → Option ℕ) (e : Encoding) (units : List ℕ) (end last : ℕ) : Type 0 where
+  pub boundary : IsBoundary (first_in e) units end
+  pub pass : class_after passed 0 boundary.before ≡ Some last
+
+-- they do, and those from the place `marks` on are marks
+pub record IsRun (passed : ℕ → Option ℕ) (e : Encoding) (units : List ℕ) (marks end last : ℕ) : Type 0 where
+  pub to_marks : IsPassthroughTo passed e units marks 0
+  pub to_end : IsPassthroughTo passed e units end last
+  pub run_of_marks : List Step
+  pub parts : to_end.boundary.before ≡ to_marks.boundary.before ++ run_of_marks
+  pub no_starter : All (λ s. class_of_step passed s ≢ Some 0) run_of_marks
+
+-- a run that the next character doesn't continue, or at whose end the units end
+pub record IsRunEnd (passed : ℕ → Option ℕ) (e : Encoding) (units : List ℕ) (marks end : ℕ) : Type 0 where
+  pub last : ℕ
+  pub run : IsRun passed e units marks end last
+  pub stops : end < length units → next_class passed last (first_in e (drop end units)) ≡ None
+
+-- the run is empty, or only its last character comes after the place
+abbrev pub HasHeldBack : Encoding → List ℕ → ℕ → ℕ → Type 0
+HasHeldBack e units run end =
+    ((run ≡ 0) × (end ≡ 0)) ⊎ ((s : Step) × IsLastStep (first_in e) (take run units) s × (end + s.width ≡ run))
+
+-- the part of a run that is passed on: all of it if the units end; all but the last character if that is held back; all
+-- but the marks at its end, unless the next character begins a new part
+pub record IsPassthroughEnd (passed : ℕ → Option ℕ) (beginning : ℕ → Bool) (held_back : Bool) (e : Encoding)
+    (units : List ℕ) (end : ℕ) : Type 0 where
+  pub marks : ℕ
+  pub run : ℕ
+  pub is_run : IsRunEnd passed e units marks run
+  pub all : run ≡ length units → end ≡ run
+  pub held : run < length units → held_back ≡ true → HasHeldBack e units run end
+  pub apart : run < length units → held_back ≡ false → beginning (first_in e (drop run units)).character ≡ true
+      → end ≡ run
+  pub with_marks : run < length units → held_back ≡ false
+      → beginning (first_in e (drop run units)).character ≡ false → end ≡ marks
+
+-- a character ends at the place, and the next one begins a segment of its own, or the units end
+pub record IsSegmentEnd (beginning : ℕ → Bool) (e : Encoding) (units : List ℕ) (end : ℕ) : Type 0 where
+  pub some : 0 < end
+  pub boundary : IsBoundary (first_in e) units end
+  pub next : end < length units → beginning (first_in e (drop end units)).character ≡ true
+
+-- the units up to a place, which are normalized apart from the others, whatever comes before them
+pub record IsPart (e : Encoding) (d : Reading) (form : Form) (units : List ℕ) (end : ℕ) : Type 0 where
+  pub some : 0 < end
+  pub boundary : IsBoundary (first_in e) units end
+  pub divides : (front : List ℕ)
+      → Divides d form (front ++ decoded_in e (take end units)) (decoded_in e (drop end units))
+
+-- a character ends at the place, and the units up to it, if there are some, are a part, well-formed and normalized
+pub record IsKeptTo (e : Encoding) (d : Reading) (form : Form) (units : List ℕ) (end : ℕ) : Type 0 where
+  pub boundary : IsBoundary (first_in e) units end
+  pub part : 0 < end → IsPart e d form units end × IsInputNormalized e d form (take end units)
+
+-- a segment ends at the place, and is well-formed and normalized
+pub record IsKeptSegment (beginning : ℕ → Bool) (e : Encoding) (d : Reading) (form : Form) (units : List ℕ) (end : ℕ)
+    : Type 0 where
+  pub segment : IsSegmentEnd beginning e units end
+  pub own : IsInputNormalized e d form (take end units)
+
+-- c composes to itself, and its list begins with a starter and ends with a character of class `last`
+pub record IsStableStarter (d : Reading) (c last : ℕ) : Type 0 where
+  pub own : IsNormalized d Composing (c ∷ [])
+  pub begins : BeginsWithStarter d (d.list c)
+  pub front : List ℕ
+  pub end : ℕ
+  pub list : d.list c ≡ front ++ end ∷ []
+  pub class : d.class end ≡ last
+
+-- the composed form of a and c is the one character r
+abbrev pub ComposesTo : Reading → ℕ → ℕ → ℕ → Type 0
+ComposesTo d a c r = normal_form d Composing (a ∷ c ∷ []) ≡ r ∷ []
+
+-- a piece of the units, after units whose form is the front
+pub record StandsInInput (e : Encoding) (d : Reading) (form : Form) (units front piece : List ℕ) : Type 0 where
+  pub place : ℕ
+  pub boundary : IsBoundary (first_in e) units place
+  pub form_before : front ≡ normal_form d form (decoded_in e (take place units))
+  pub next : IsFront (encoded_in e piece) (drop place units)

@@ -1,0 +1,3 @@
+-- Where a text may be divided or read in parts.
+pub mod BoundaryLemmas
+pub mod ChunkLemmas

@@ -1,0 +1,5 @@
+-- Canonical composition.
+pub mod BlockedLemmas
+pub mod ComposeLemmas
+pub mod MarkRunLemmas
+pub mod VisitLemmas

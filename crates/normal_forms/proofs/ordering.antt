@@ -1,0 +1,4 @@
+-- Full decomposition and canonical order.
+pub mod ExpandLemmas
+pub mod OrderLemmas
+pub mod SortedRuns

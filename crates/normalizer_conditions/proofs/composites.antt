@@ -1,0 +1,3 @@
+-- Pairs and what they compose to.
+pub mod PairConditionLemmas
+pub mod PairLaws

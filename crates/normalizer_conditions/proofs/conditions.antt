@@ -1,0 +1,6 @@
+-- The written conditions and accepted data.
+pub mod AcceptedLaws
+pub mod FailingLemmas
+pub mod FirstFailing
+pub mod LoadedLemmas
+pub mod WalkLemmas

@@ -1,0 +1,97 @@
+-- The first condition that fails, found number by number.
+use Rattle.std.proofs.Common.{◌≡◌, ℕ, min, ◌+◌, ◌<◌, ◌≤◌, inl, inr, false, List, ◌++◌, length, take, drop, All, Bor, IfSome, MatchOption}
+use Rattle.std.proofs.Common.{Option, Some, None, slice_get, slice_index_or, get_or, refl, ap, sym, ◌∙◌, subst, length-take, arith}
+use Rattle.std.specs.List.{AllWithin, Contains, HoldsAt as HoldsAtPlace, list_any}
+use Rattle.std.specs.Option.{option_copied}
+use Rattle.std.proofs.lemmas.Bool.{cases_lt, false_from_ne_true}
+use Rattle.std.proofs.lemmas.List.{get_or-take, take-append-drop}
+use Rattle.std.proofs.lemmas.List.Elements.{All-contains}
+use Rattle.std.proofs.lemmas.List.Folds.{list_any_at}
+use Rattle.std.proofs.lemmas.Option.{slice_get_within, slice_get-get_or, slice_get_cases, slice_get_past, slice_get_read, get_or_from_slice_get}
+use Rattle.std.specs.Char.{IsScalar}
+use Rattle.normalizer_tables.specs.declared.condition.Condition.{Condition}
+use Rattle.normalizer_tables.specs.declared.condition.Condition.TheVariants.{Hangul}
+use Rattle.normalizer_tables.specs.CharacterConditions.{IsSoundHangul}
+use Rattle.normalizer_tables.specs.Conditions.{IsFirstFailing, IsMet, IsPlaceOfFirstFailing}
+use Rattle.normalizer_tables.specs.Loaded.{Loaded}
+use Rattle.normalizer_conditions.specs.inner.Walk.{is_asked_of_words, IsMetApart, IsMetAt}
+use Rattle.normalizer_tables.proofs.lists.ListedLemmas.{drop_member}
+use Rattle.normalizer_conditions.proofs.conditions.LoadedLemmas.{IsMet-parts, IsMetAt-unasked}
+
+-- what is checked apart is met, and what is checked of the characters below `number`
+abbrev pub IsMetBelow : Loaded → ℕ → Condition → Type 0
+IsMetBelow loaded number c = IsMetApart loaded c × ((n : ℕ) → n < number → IsScalar n → IsMetAt loaded c n)
+
+-- so much is met of the conditions before this place, and the condition at it fails
+pub record FailsFirst (loaded : Loaded) (conditions : List Condition) (number place : ℕ) : Type 0 where
+  pub within : place ≤ length conditions
+  pub before : AllWithin (IsMetBelow loaded number) conditions 0 place
+  pub fails : (c : Condition) → slice_get conditions place ≡ Some c → ¬ IsMet loaded c
+
+slice_get-take : (conditions : List Condition) (n k : ℕ) (c : Condition) → k < n → slice_get conditions k ≡ Some c → slice_get (take n conditions) k ≡ Some c
+slice_get-take conditions n k c h e =
+    let within = slice_get_within conditions k c e in
+    slice_get-get_or (take n conditions) k c (simp length-take (omega arith)) ∙ ap Some (get_or-take n conditions k c h ∙ get_or_from_slice_get conditions k c c e)
+
+-- checking a number suffices for those from `from` on and below `next`, by the first condition that fails for it
+pub FailsFirst-step : (loaded : Loaded) (conditions : List Condition) (from number next place nearer : ℕ) → FailsFirst loaded conditions from place →
+    ((c : Condition) → IsMetApart loaded c → (IsScalar number → IsMetAt loaded c number) → (n : ℕ) → from ≤ n → n < next → IsScalar n → IsMetAt loaded c n) →
+    IsPlaceOfFirstFailing (λ c. IsScalar number → IsMetAt loaded c number) (take place conditions) nearer → FailsFirst loaded conditions next nearer
+FailsFirst-step loaded conditions from number next place nearer old settles new =
+    let short : nearer ≤ min place (length conditions) = simp length-take at new.within in
+    record {
+      within = omega arith;
+      before = λ k d low h.
+          (let met = old.before k d low (omega arith) in (
+            met.0,
+            λ n nh. elim (cases_lt n from) [
+              | inl less ↦ met.1 n less
+              | inr behind ↦ settles (slice_index_or conditions k d) met.0 (subst (λ c. IsScalar number → IsMetAt loaded c number) (get_or-take place conditions k d (omega arith)) (new.before k d low h)) n behind nh
+            ],
+          ));
+      fails = λ c e q. elim (cases_lt nearer place) [
+        | inl less ↦ new.fails c (slice_get-take conditions place nearer c less e) (((IsMet-parts loaded c).0 q).1 number)
+        | inr past ↦ old.fails c (let same : nearer ≡ place = omega arith in rw same at e) q
+      ];
+    }
+
+All-front : (P : Condition → Type 0) (conditions : List Condition) (place : ℕ) → AllWithin P conditions 0 place → All P (take place conditions)
+All-front P conditions place h k d kh =
+    let short : k < min place (length conditions) = simp length-take at kh in
+    subst P (sym (get_or-take place conditions k d (omega arith))) (h k d (omega arith) (omega arith))
+
+-- if Hangul is among the conditions that are met apart, it is sound
+pub has_sound_hangul : (loaded : Loaded) (conditions : List Condition) (place : ℕ) → IsPlaceOfFirstFailing (IsMetApart loaded) conditions place →
+    Contains (take place conditions) Hangul → (n : ℕ) → IsSoundHangul loaded.characters n
+unfolding IsMetApart IsMet
+has_sound_hangul loaded conditions place h asked = All-contains (IsMetApart loaded) (take place conditions) Hangul (All-front (IsMetApart loaded) conditions place h.before) asked
+
+-- if these are all numbers, it is the first that fails
+pub FailsFirst-all : (loaded : Loaded) (conditions : List Condition) (number place : ℕ) (r : Option Condition) → FailsFirst loaded conditions number place →
+    AllWithin (λ c. IsMetBelow loaded number c → IsMet loaded c) conditions 0 place → r ≡ slice_get conditions place → IsFirstFailing (IsMet loaded) conditions r
+unfolding IsFirstFailing
+FailsFirst-all loaded conditions number place None h all e =
+    let past : length conditions ≤ place = elim (slice_get_cases conditions place).1 [ inl some ↦ (let found = some.2 in cc) | inr none ↦ none.0 ] in
+    λ k d kh. let less : k < place = omega (arith, past, kh) in all k d (omega arith) less (h.before k d (omega arith) less)
+FailsFirst-all loaded conditions number place (Some c) h all e = (
+  take place conditions,
+  drop (place + 1) conditions,
+  sym (take-append-drop place conditions) ∙ ap (λ x. take place conditions ++ x) (drop_member conditions place c (sym e)),
+  All-front (IsMet loaded) conditions place (λ k d low kh. all k d low kh (h.before k d low kh)),
+  h.fails c (sym e),
+)
+
+-- no condition before the place depends on words
+pub unasked : (loaded : Loaded) (conditions : List Condition) (number place : ℕ) → place ≤ length conditions → list_any is_asked_of_words (take place conditions) ≡ false →
+    AllWithin (λ c. IsMetBelow loaded number c → IsMet loaded c) conditions 0 place
+unasked loaded conditions number place within none k d low h met =
+    let c = slice_index_or conditions k d in
+    let other : is_asked_of_words c ≡ false = false_from_ne_true _ (λ asked.
+    (let some = list_any_at is_asked_of_words (take place conditions) k d (simp length-take (omega arith)) (ap is_asked_of_words (get_or-take place conditions k d h) ∙ asked) in cc)) in
+    (IsMet-parts loaded c).1 (met.0, λ n is. IsMetAt-unasked loaded c other n)
+
+-- the result of `get` and `copied` on a slice
+pub copied_slice_get : (conditions : List Condition) (place : ℕ) (o : Option (Bor Condition)) → IfSome o (λ x. x.now ≡ get_or conditions place x.now) →
+    MatchOption o (length conditions ≤ place) (λ x. (place < length conditions) × HoldsAtPlace (λ y. x.now ≡ y) conditions place) → option_copied o ≡ slice_get conditions place
+copied_slice_get conditions place None same found = sym (slice_get_past conditions place found)
+copied_slice_get conditions place (Some x) same found = sym (slice_get_read conditions (length conditions) place x.now refl found.0 same)

@@ -1,0 +1,2 @@
+-- Words and what they say.
+pub mod FdfaWords

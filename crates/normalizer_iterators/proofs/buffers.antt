@@ -1,0 +1,5 @@
+-- Buffered characters.
+pub mod ByClassLemmas
+pub mod SortedByClassLemmas
+pub mod SortedMarkLemmas
+pub mod WaitingLemmas

@@ -1,0 +1,6 @@
+-- What iterators yield.
+pub mod DecompositionLemmas
+pub mod FallibleRuns
+pub mod ItemLemmas
+pub mod ProgressLemmas
+pub mod ToComeLemmas

@@ -1,5 +1,0 @@
-use Rattle.normalizer_iterators.proofs.ItemLemmas.{HasEnded-next}
-use Rattle.normalizer_iterators.proofs.laws.nothing_comes_behind_the_end.Goals as goal
-
-pub returns : goal.returns
-returns g c = HasEnded-next g.I.Iterator.next_gives

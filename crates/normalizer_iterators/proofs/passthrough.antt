@@ -1,0 +1,3 @@
+-- Passthrough characters.
+pub mod PassthroughClasses
+pub mod PassthroughItems

@@ -1,6 +1,0 @@
-use Rattle.normalizer_tables.specs.Words.{is_plain}
-use Rattle.normalizer_iterators.proofs.read.ReadCharacter.is_plain.Goals as goal
-
-pub returns : goal.returns
-unfolding is_plain
-returns c = λ s own plain. own.plain plain

@@ -1,0 +1,6 @@
+-- Reading up to a boundary.
+pub mod LazyLemmas
+pub mod PlainWords
+pub mod ReadingLemmas
+pub mod ShortChunkLemmas
+pub mod SoundData

@@ -1,0 +1,4 @@
+-- Segments in buffers.
+pub mod InOrderLemmas
+pub mod SegmentLemmas
+pub mod ShortTextLemmas

@@ -1,0 +1,146 @@
+-- Short texts in buffers: what is buffered, and what is left to read.
+use Rattle.std.proofs.Common.{◌≡◌, Bool, Result, Ok, Err, OnOk, ℕ, ◌+◌, ◌<◌, ◌≤◌, List, [], ◌∷◌, ◌++◌, length, drop, sym, ap, ◌∙◌, arith}
+use Rattle.std.specs.Prelude.{is_ok, true}
+use Rattle.std.proofs.lemmas.List.{drop_all, drop-drop, length-append, length-drop}
+use Rattle.normal_forms.specs.Reading.{Reading}
+use Rattle.normal_forms.specs.CompositionByStarters.{compose_by_starters}
+use Rattle.normal_forms.specs.Decomposition.{expand}
+use Rattle.normal_forms.specs.Forms.{nfd}
+use Rattle.normal_forms.specs.Order.{order}
+use Rattle.normal_forms.specs.ShortRuns.{buffer_limit}
+use Rattle.normal_forms.proofs.ordering.OrderLemmas.{length-order}
+use Rattle.normalizer_tables.specs.Characters.{Characters}
+use Rattle.normalizer_tables.specs.Pairs.{Pair}
+use Rattle.normalizer_tables.specs.Readings.{reading_by}
+use Rattle.normalizer_tables.specs.declared.characters.IgnoredCharacters.{IgnoredCharacters}
+use Rattle.normalizer_tables.specs.declared.characters.IgnoredCharacters.TheVariants.{Dropped}
+use Rattle.normalizer_text.specs.declared.step.Step.{Step}
+use Rattle.normalizer_text.specs.Encodings.{Encoding, first_in, decoded_in}
+use Rattle.normalizer_text.proofs.rules.EncodingRules.{IsDecoding-first}
+use Rattle.normalizer_text.proofs.steps.StepLemmas.{decoded-nil, decoded-some}
+use Rattle.normalizer_iterators.specs.declared.segment.short_text.ShortText.{ShortText}
+use Rattle.normalizer_iterators.specs.declared.waiting.WaitingList.{WaitingList}
+use Rattle.normalizer_iterators.specs.inner.Segments.{HasPairsOf}
+use Rattle.normalizer_iterators.specs.inner.ShortTextSteps.{composing, BlocksBelow}
+use Rattle.normalizer_iterators.specs.WaitingList.{ordered, held, reordered, unordered, AgreesWith}
+use Rattle.normalizer_iterators.proofs.reads.ReadingLemmas.{reordered-nothing}
+
+-- the lists of what the units before a position decode to are buffered
+pub record BufferedTo (d : Reading) (e : Encoding) (units : List ℕ) (position : ℕ) (waiting : WaitingList) : Type 0 where
+  pub agrees : AgreesWith d waiting
+  pub text : reordered d waiting (expand d (decoded_in e (drop position units))) ≡ order d (expand d (decoded_in e units))
+  pub fits : held waiting ≤ buffer_limit
+  pub held : held waiting + length (expand d (decoded_in e (drop position units))) ≡ length (expand d (decoded_in e units))
+
+pub BufferedTo-none : (d : Reading) (e : Encoding) (units : List ℕ) (waiting : WaitingList) → AgreesWith d waiting → ordered waiting ≡ [] → unordered waiting ≡ [] → held waiting ≡ 0
+    → BufferedTo d e units 0 waiting
+BufferedTo-none d e units waiting agrees front open_marks none = record {
+  agrees = agrees;
+  text = reordered-nothing d waiting (expand d (decoded_in e units)) front open_marks;
+  held = omega arith;
+  fits = omega arith;
+}
+
+-- what is left to read begins with the character of the step
+pub decoded-left : (e : Encoding) (units : List ℕ) (position : ℕ) (s : Step) → position < length units → s ≡ first_in e (drop position units)
+    → decoded_in e (drop position units) ≡ s.character ∷ decoded_in e (drop (position + s.width) units)
+decoded-left e units position s inside is =
+    let some : 0 < length (drop position units) = omega (arith, length-drop position units) in
+    decoded-some e (drop position units) some
+    ∙ ap (λ t. t.character ∷ decoded_in e (drop t.width (drop position units))) (sym is)
+    ∙ ap (λ us. s.character ∷ decoded_in e us) (drop-drop s.width position units)
+
+-- at the end nothing is left
+pub decoded-all : (e : Encoding) (units : List ℕ) (position : ℕ) → length units ≤ position → decoded_in e (drop position units) ≡ []
+decoded-all e units position past = ap (decoded_in e) (drop_all position units past) ∙ decoded-nil e
+
+expand-left : (d : Reading) (e : Encoding) (units : List ℕ) (position : ℕ) (s : Step) → position < length units → s ≡ first_in e (drop position units)
+    → expand d (decoded_in e (drop position units)) ≡ d.list s.character ++ expand d (decoded_in e (drop (position + s.width) units))
+unfolding expand
+expand-left d e units position s inside is = ap (expand d) (decoded-left e units position s inside is)
+
+-- a step takes some of the units that are left
+pub step-some : (e : Encoding) (units : List ℕ) (position : ℕ) (s : Step) → position < length units → s ≡ first_in e (drop position units)
+    → (0 < s.width) × (position + s.width ≤ length units)
+step-some e units position s inside is =
+    let some : 0 < length (drop position units) = omega (arith, length-drop position units) in
+    let takes = (IsDecoding-first e).some (drop position units) some in
+    let fits = (IsDecoding-first e).fits (drop position units) some in
+    (omega (arith, ap (λ t. t.width) is), omega (arith, ap (λ t. t.width) is, length-drop position units))
+
+module _ (d : Reading) (e : Encoding) (units : List ℕ) (position : ℕ) (s : Step) (old : WaitingList) where
+  pub BufferedTo-more : (new : WaitingList) → BufferedTo d e units position old → position < length units → s ≡ first_in e (drop position units)
+      → ((rest : List ℕ) → reordered d old (d.list s.character ++ rest) ≡ reordered d new rest) → AgreesWith d new
+      → held new ≡ held old + length (d.list s.character) → held new ≤ buffer_limit → BufferedTo d e units (position + s.width) new
+  BufferedTo-more new before inside is text agrees more fits =
+      let left = expand-left d e units position s inside is in
+      let rest = expand d (decoded_in e (drop (position + s.width) units)) in
+      record {
+        agrees = agrees;
+        text = sym (text rest) ∙ ap (reordered d old) (sym left) ∙ before.text;
+        held = omega (arith, before.held, ap length left, length-append (d.list s.character) rest);
+        fits = fits;
+      }
+
+  -- a list that doesn't fit is part of what doesn't
+  pub BufferedTo-full : BufferedTo d e units position old → position < length units → s ≡ first_in e (drop position units)
+      → length (expand d (decoded_in e units)) ≤ buffer_limit → held old + length (d.list s.character) ≤ buffer_limit
+  BufferedTo-full before inside is short =
+      let left = expand-left d e units position s inside is in
+      let rest = expand d (decoded_in e (drop (position + s.width) units)) in
+      omega (arith, before.held, ap length left, length-append (d.list s.character) rest)
+
+-- the end was reached
+pub BufferedTo-end : (d : Reading) (e : Encoding) (units : List ℕ) (position : ℕ) (waiting : WaitingList) → BufferedTo d e units position waiting → length units ≤ position
+    → reordered d waiting [] ≡ nfd d (decoded_in e units)
+unfolding nfd expand
+BufferedTo-end d e units position waiting before past =
+    ap (λ us. reordered d waiting (expand d us)) (sym (decoded-all e units position past)) ∙ before.text
+
+length-nfd : (d : Reading) (x : List ℕ) → length (nfd d x) ≡ length (expand d x)
+unfolding nfd
+length-nfd d x = length-order d (expand d x)
+
+pub BufferedTo-short : (d : Reading) (e : Encoding) (units : List ℕ) (position : ℕ) (waiting : WaitingList) → BufferedTo d e units position waiting → length units ≤ position
+    → length (nfd d (decoded_in e units)) ≤ buffer_limit
+unfolding expand
+BufferedTo-short d e units position waiting before past =
+    let none : expand d (decoded_in e (drop position units)) ≡ [] = ap (expand d) (decoded-all e units position past) in
+    omega (arith, before.held, before.fits, ap length none, length-nfd d (decoded_in e units))
+
+-- what holds on success holds if the test says so
+pub on_ok : {A E : Type 0} (r : Result A E) (b : Bool) (P : Type 0) → OnOk r P → b ≡ is_ok r → b ≡ true → P
+on_ok (Ok a) b P h is true_ = h
+on_ok (Err e) b P h is true_ = cc
+
+-- ---- what is in order is composed
+
+-- what is in order is composed, but for those that are left
+pub record ComposedTo (pairs : List Pair) (first left : WaitingList) (text : ShortText) : Type 0 where
+  pub agrees : (d : Reading) → AgreesWith d first → AgreesWith d left
+  pub blocking : (d : Reading) → AgreesWith d first → BlocksBelow d text
+  pub composed : (d : Reading) → AgreesWith d first → HasPairsOf pairs d → composing d text (ordered left) ≡ compose_by_starters d (ordered first)
+  pub room : text.len + length (ordered left) ≤ length (ordered first)
+
+pub ComposedTo-none : (pairs : List Pair) (first : WaitingList) (text : ShortText) → ((d : Reading) (rest : List ℕ) → composing d text rest ≡ compose_by_starters d rest)
+    → ((d : Reading) → BlocksBelow d text) → text.len ≡ 0 → ComposedTo pairs first first text
+ComposedTo-none pairs first text composed blocking none =
+    record { agrees = λ d agrees. agrees; blocking = λ d agrees. blocking d; composed = λ d agrees by. composed d (ordered first); room = omega arith }
+
+pub ComposedTo-more : (pairs : List Pair) (first old new : WaitingList) (text next : ShortText) (c : ℕ) → ComposedTo pairs first old text → ordered old ≡ c ∷ ordered new
+    → ((d : Reading) → AgreesWith d old → AgreesWith d new)
+    → ((d : Reading) → AgreesWith d old → BlocksBelow d text → BlocksBelow d next)
+    → ((d : Reading) → AgreesWith d old → HasPairsOf pairs d → BlocksBelow d text → (rest : List ℕ) → composing d text (c ∷ rest) ≡ composing d next rest)
+    → next.len ≤ text.len + 1 → ComposedTo pairs first new next
+ComposedTo-more pairs first old new text next c before is agrees blocking composed room = record {
+  agrees = λ d known. agrees d (before.agrees d known);
+  blocking = λ d known. blocking d (before.agrees d known) (before.blocking d known);
+  composed = λ d known by.
+      sym (composed d (before.agrees d known) by (before.blocking d known) (ordered new)) ∙ ap (composing d text) (sym is) ∙ before.composed d known by;
+  room = omega (arith, before.room, ap length is);
+}
+
+-- neither ignored characters nor pairs change a class
+pub AgreesWith-reading_by : (s : Characters) (ignored : IgnoredCharacters) (pairs : List Pair) (b : WaitingList) → AgreesWith (reading_by s ignored []) b → AgreesWith (reading_by s Dropped pairs) b
+unfolding AgreesWith
+AgreesWith-reading_by s ignored pairs b agrees = agrees

@@ -1,0 +1,129 @@
+//! Characters that were read from a delegate, with their words.
+ghost use Rattle.std.specs.Prelude.{◌≡◌, ◌↔◌, ◌∷◌, [], ℕ, List, false, IfSome, IsTrue};
+ghost use Rattle.normal_forms.specs.ShortRuns.{continues};
+ghost use Rattle.normalizer_tables.specs.Characters.{Characters, class_of, has_class_form, list_of, word_of};
+ghost use Rattle.normalizer_tables.specs.Ignored.{ignored_list};
+ghost use Rattle.normalizer_tables.specs.Readings.{reading_by};
+ghost use Rattle.normalizer_tables.specs.Passthrough.{IsPassthrough};
+ghost use Rattle.normalizer_iterators.specs.Reads.{character_of, HasOwnWord, HasOwnWords};
+
+use normalizer_tables::characters::{CharacterData, IgnoredCharacters};
+use normalizer_tables::members::Members;
+use normalizer_tables::word::is_class_form;
+
+/// The bits of a word that are all 0 if the character is its own list, a starter.
+const PLAIN: u32 = 0x3FFF_FFFF;
+
+/// In place of the word of a character that is passthrough: it is plain, as that of such a character.
+const PASSTHROUGH: u32 = 0xC000_0000;
+
+/// In place of any other word that wasn't looked up.
+const NOT_LOOKED_UP: u32 = 0xFFFF_FFFF;
+
+/// A character that was read, with its word. A word that is in place of another is looked up when it is needed.
+#[derive(Clone, Copy)]
+pub(crate) struct PendingChar {
+    pub(crate) character: char,
+    word: u32,
+}
+
+impl PendingChar {
+    /// A character that was read. Its word is looked up from this number on, unless it is passthrough.
+    #[inline(always)]
+    pub(crate) fn new(characters: &CharacterData<'_>, bound: u32, character: char) -> Self
+        ensures character { result.character ≡ character }
+        ensures word { HasOwnWord characters.now result }
+    {
+        let word = if characters.is_passthrough(character) {
+            PASSTHROUGH
+        } else if (character as u32) < bound {
+            NOT_LOOKED_UP
+        } else {
+            characters.word_of(character)
+        };
+        PendingChar { character, word }
+    }
+
+    /// The word of the character. It is looked up if it wasn't before.
+    #[inline(always)]
+    pub(crate) fn word_by(self, characters: &CharacterData<'_>) -> u32
+        requires { HasOwnWord characters.now self }
+        ensures { result ≡ word_of characters.now self.character }
+    {
+        if self.word == PASSTHROUGH || self.word == NOT_LOOKED_UP {
+            characters.word_of(self.character)
+        } else {
+            self.word
+        }
+    }
+
+    /// Whether its word says, or it is known unseen, that the character is its own list, a starter without class form.
+    #[inline(always)]
+    pub(crate) fn is_plain(self) -> bool
+        ensures { (s : Characters) → HasOwnWord s self → IsTrue result → IsPassthrough s self.character }
+    {
+        self.word & PLAIN == 0
+    }
+
+    /// Whether a boundary precedes the character: it has no class form, and its list has members.
+    #[tactic(auto, unfolding(normalizer_tables::specs::Characters::has_class_form))]
+    #[inline(always)]
+    pub(crate) fn has_boundary_before(
+        self,
+        characters: &CharacterData<'_>,
+        ignored: IgnoredCharacters,
+    ) -> bool
+        requires { HasOwnWord characters.now self }
+        ensures { IsTrue result ↔ (continues (has_class_form characters.now)
+            (reading_by characters.now ignored []) self.character ≡ false) }
+    {
+        if self.is_plain() {
+            return true;
+        }
+        let word = self.word_by(characters);
+        !is_class_form(word) && characters.has_members(self.character, word, ignored)
+    }
+
+    /// The class of the character if it is its own list.
+    #[inline(always)]
+    pub(crate) fn class_of_itself(self, characters: &CharacterData<'_>) -> Option<u8>
+        requires { HasOwnWord characters.now self }
+        ensures itself { (ignored : List ℕ) →
+            IfSome result (λ _. list_of characters.now ignored self.character ≡ self.character ∷ []) }
+        ensures class { IfSome result (λ class. class ≡ class_of characters.now self.character) }
+    {
+        if self.is_plain() {
+            return Some(0);
+        }
+        characters.class_of_itself(self.character, self.word_by(characters))
+    }
+
+    /// The list of the character.
+    #[inline(always)]
+    pub(crate) fn members<'a>(
+        self,
+        characters: &CharacterData<'a>,
+        ignored: IgnoredCharacters,
+    ) -> Members<'a>
+        requires { HasOwnWord characters.now self }
+        ensures { result ≡ list_of characters.now (ignored_list ignored) self.character }
+    {
+        if self.is_plain() {
+            return Members::one(self.character);
+        }
+        characters.members_by(self.character, self.word_by(characters), ignored)
+    }
+}
+
+/// A character that was read, if one was. Its word is looked up from this number on, unless it is passthrough.
+#[inline(always)]
+pub(crate) fn read_from(
+    characters: &CharacterData<'_>,
+    bound: u32,
+    character: Option<char>,
+) -> Option<PendingChar>
+    ensures character { character_of result ≡ character }
+    ensures word { HasOwnWords characters.now result }
+{
+    Some(PendingChar::new(characters, bound, character?))
+}

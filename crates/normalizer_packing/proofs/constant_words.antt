@@ -1,0 +1,3 @@
+-- Ranges of numbers with one word.
+pub mod ConsecutiveRanges
+pub mod ConstantWords

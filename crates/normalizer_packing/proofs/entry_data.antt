@@ -1,0 +1,4 @@
+-- Entries, and the data that they are packed into.
+pub mod EntryLemmas
+pub mod PackableLemmas
+pub mod PackingLemmas

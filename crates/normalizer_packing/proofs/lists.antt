@@ -1,0 +1,5 @@
+-- Lists that no word spells.
+pub mod ListPlaces
+pub mod MadeLists
+pub mod StoreLemmas
+pub mod TableLemmas

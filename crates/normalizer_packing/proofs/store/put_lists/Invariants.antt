@@ -1,0 +1,7 @@
+use Rattle.normalizer_packing.specs.inner.Stores.{HoldsLists}
+use Rattle.normalizer_packing.proofs.lists.StoreLemmas.{listed_so_far}
+use Rattle.normalizer_packing.proofs.store.put_lists.Given as goal
+
+-- the lists of the entries so far are held
+abbrev pub invariant-loop-entry : goal.invariant-loop-entry
+invariant-loop-entry l = HoldsLists l.before l.initial.store (listed_so_far l.kind l.entries l.entry-index) l.store

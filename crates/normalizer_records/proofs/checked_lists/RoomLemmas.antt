@@ -1,0 +1,37 @@
+-- Records of which no refusal holds give no list that is too long.
+use Rattle.std.proofs.Common.{ℕ, ◌≤◌, List, ◌∷◌, ◌++◌, length, get_or, Option, Some, None, IfSome, IsSomeAnd, inl, inr, ap, arith}
+use Rattle.std.proofs.lemmas.Bool.{cases_lt}
+use Rattle.std.proofs.lemmas.Bool.Decides.{nat_tests}
+use Rattle.normalizer_tables.specs.SpecialLists.{fdfa_list}
+use Rattle.normalizer_records.specs.declared.records.BuildError.TheVariants as error
+use Rattle.normalizer_records.specs.Entry.{Entry, MapperEntry}
+use Rattle.normalizer_records.specs.Faults.{HasFault, HasChainFault, HasLengthFault, HasLongList, IsAsked, IsFirstRefusal, IsOnLongChain, IsTooLong, mapped_to}
+use Rattle.normalizer_records.specs.Meaning.{mapper_list, status_of}
+use Rattle.normalizer_records.specs.inner.CutLists.{HasRoom}
+
+pub short : (list : List ℕ) → ¬ IsTooLong list → length list ≤ 18
+unfolding fdfa_list
+short list h = elim (cases_lt 18 (length list)) [
+  | inl over ↦ absurd (h (grind (arith, nat_tests), λ e. omega (arith, ap length e)))
+  | inr within ↦ within
+]
+
+short_if_some : (o : Option (List ℕ)) → ¬ IsSomeAnd o IsTooLong → IfSome o (λ x. length x ≤ 18)
+short_if_some None h = tt
+short_if_some (Some x) h = short x h
+
+module _ (records : List Entry) (uts46 : List MapperEntry) (none : IsFirstRefusal records uts46 None) where
+  off_chain : (c : ℕ) → ¬ IsOnLongChain records c
+  unfolding IsFirstRefusal HasFault HasChainFault IsOnLongChain
+  off_chain c h = none error.Chain (h.0 ++ c ∷ h.1, h.2, h.3)
+
+  pub asked : (c : ℕ) → IsAsked records uts46 c
+  asked c = record { off_chain = off_chain c; mapped_off_chain = λ k d within. off_chain (get_or (mapped_to (status_of uts46 c)) k d) }
+
+  pub room : (c : ℕ) → HasRoom records uts46 c
+  unfolding IsFirstRefusal HasFault HasLengthFault HasLongList
+  room c = record {
+    canonical = short _ (λ h. none error.Length (c, asked c, inl h));
+    compatibility = short _ (λ h. none error.Length (c, asked c, inr (inl h)));
+    mapper = short_if_some (mapper_list records uts46 c) (λ h. none error.Length (c, asked c, inr (inr h)));
+  }

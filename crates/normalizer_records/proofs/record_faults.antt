@@ -1,0 +1,4 @@
+-- Faults of records.
+pub mod LookupLemmas
+pub mod PairFaultLemmas
+pub mod RefusalLemmas

@@ -1,0 +1,47 @@
+-- The next word besides flags, in blocks.
+use Rattle.std.proofs.Common.{ap₂, ◌/◌, ◌%◌, ◌≡◌, ◌≢◌, ℕ, ◌+◌, ◌-◌, ◌*◌, ◌<◌, ◌≤◌, List, get_or, Option, Some, None, true, nat_eq, inl, inr, arith, refl, ap, sym, subst, ◌∙◌}
+use Rattle.std.proofs.lemmas.Bool.{cases_lt, eqb-true}
+use Rattle.std.specs.Option.{option_eq, IfSome}
+use Rattle.normalizer_tables.specs.Table.{Table, Block, block_places}
+use Rattle.normalizer_tables.specs.inner.Blocks.{block_at, stored_words}
+use Rattle.normalizer_tables.specs.Table.{word_at, code_points, without_flags, HaveNoWord, IsNextWithWord}
+use Rattle.normalizer_tables.proofs.code_points.BlockLemmas.{get_or-stored_words}
+
+-- no word of the block has more than flags
+abbrev pub HasNoWord : ℕ → Block → Type 0
+HasNoWord flags block = (j : ℕ) → j < 64 → without_flags flags (get_or block j 0) ≡ 0
+
+-- what holds of a passed number holds of one that is equal to it
+pub passed-at : (P : ℕ → Type 0) (passed : Option ℕ) (number : ℕ) → true ≡ option_eq nat_eq passed (Some number) → IfSome passed P → P number
+passed-at P None number h p = cc
+passed-at P (Some k) number h p = subst P (eqb-true k number (sym h)) p
+
+module _ (blocks : List Block) (numbers words : List ℕ) (are : stored_words blocks numbers ≡ words) (flags from place : ℕ) (low : place < block_places)
+    (block : Block) (is : block ≡ block_at blocks numbers place) (above : ℕ) where
+  abbrev table : Table
+  table = record { words = words; past = above }
+
+  word_in_place : (j : ℕ) → j < 64 → word_at table (place * 64 + j) ≡ get_or block j 0
+  unfolding word_at code_points
+  word_in_place j below =
+      let at : (place * 64 + j) / 64 ≡ place = omega arith in
+      let offset : (place * 64 + j) % 64 ≡ j = omega arith in
+      ap (λ ws. get_or ws (place * 64 + j) above) (sym are) ∙ get_or-stored_words blocks numbers (place * 64 + j) above (omega arith)
+      ∙ ap₂ (λ p o. get_or (block_at blocks numbers p) o 0) at offset ∙ ap (λ b. get_or b j 0) (sym is)
+
+  -- if no word of the block up to a place is one, that place is reached
+  pub HaveNoWord-to : (to end : ℕ) → to ≤ 64 → end ≡ place * 64 + to → HaveNoWord table flags from (place * 64)
+      → ((j : ℕ) → j < to → from ≤ place * 64 + j → without_flags flags (get_or block j 0) ≡ 0) → HaveNoWord table flags from end
+  unfolding HaveNoWord
+  HaveNoWord-to to end within ends none here n on below = elim (cases_lt n (place * 64)) [
+    | inl before ↦ none n on before
+    | inr after ↦
+        let there : place * 64 + (n - place * 64) ≡ n = omega arith in
+        ap (λ m. without_flags flags (word_at table m)) (sym there) ∙ ap (without_flags flags) (word_in_place (n - place * 64) (omega arith)) ∙ here (n - place * 64) (omega arith) (omega arith)
+  ]
+
+  -- the first place of its block that has one is the next
+  pub next-found : (j : ℕ) → j < 64 → from ≤ place * 64 + j → HaveNoWord table flags from (place * 64) → ((i : ℕ) → i < j → from ≤ place * 64 + i → without_flags flags (get_or block i 0) ≡ 0)
+      → without_flags flags (get_or block j 0) ≢ 0 → IsNextWithWord table flags from (Some (place * 64 + j))
+  unfolding IsNextWithWord code_points
+  next-found j below on none here some = (on, omega arith, λ zero. some (ap (without_flags flags) (sym (word_in_place j below)) ∙ zero), HaveNoWord-to j _ (omega arith) refl none here)

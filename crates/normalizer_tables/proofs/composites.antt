@@ -1,0 +1,4 @@
+-- Pairs and what they compose to.
+pub mod BucketLemmas
+pub mod PairLemmas
+pub mod SingleComposites

@@ -1,0 +1,2 @@
+-- The written conditions and accepted data.
+pub mod ConditionLemmas

@@ -1,0 +1,8 @@
+-- The lists of characters.
+pub mod ListLengths
+pub mod ListedLemmas
+pub mod NonemptyLists
+pub mod OrderedLists
+pub mod PlaceTables
+pub mod RisingLists
+pub mod SoundLists

@@ -1,0 +1,2 @@
+-- Hangul.
+pub mod HangulLemmas

@@ -1,0 +1,6 @@
+-- Words and what they say.
+pub mod CharacterLemmas
+pub mod PassthroughBound
+pub mod PlainCharacters
+pub mod ReadLemmas
+pub mod WordLemmas

@@ -1,0 +1,3 @@
+-- Units below a bound.
+pub mod LowLemmas
+pub mod ScanLemmas

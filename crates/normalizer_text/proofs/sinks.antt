@@ -1,0 +1,2 @@
+-- Sinks and outputs.
+pub mod CheckSinkLemmas
