@@ -15,8 +15,8 @@ use Rattle.normalizer_iterators.specs.LazyComposing.{SuitsLazyComposing}
 use Rattle.normalizer_iterators.specs.LazyReading.{SuitsLazyReading}
 use Rattle.icu_normalizer.specs.BoundaryBefore.{HasBoundaryBefore}
 
--- text may be decomposed by them character by character, characters below the bound are passthrough, lists are in canonical
--- order, and the laws of the decomposing form hold
+-- text may be decomposed by them character by character, characters below the bound are passthrough, lists are in
+-- canonical order, and the laws of the decomposing form hold
 pub record ServesDecomposing (s : Characters) (b : Bounds) : Type 0 where
   pub reading : SuitsLazyReading (has_class_form s) (reading_by s Dropped [])
   pub passthrough : IsPassthroughBelow s b.decomposition
@@ -24,9 +24,9 @@ pub record ServesDecomposing (s : Characters) (b : Bounds) : Type 0 where
       ≡ (reading_by s Dropped []).list c
   pub laws : SuitsTexts (reading_by s Dropped []) Decomposing
 
--- text may be decomposed and composed by them character by character, characters below the bound of decomposing pass
--- unseen, characters that are taken as boundaries have one before them (condition 13), what pairs compose to has their lists
--- (condition 14), and the laws of both forms hold
+-- text may be decomposed and composed by them character by character, characters below the bound of decomposing are
+-- passthrough, characters that are taken as boundaries have one before them (condition 13), what pairs compose to has
+-- their lists (condition 14), and the laws of both forms hold
 pub record ServesComposing (s : Characters) (b : Bounds) (pairs : List Pair) : Type 0 where
   pub reading : SuitsLazyReading (has_class_form s) (reading_by s Dropped [])
   pub composing : SuitsLazyComposing s b pairs

@@ -73,7 +73,8 @@ pub(crate) fn kept_segment<U: Units>(
 ) -> Option<KeptSegment>
     requires some { 0 < length (U.units units) }
     requires first { first ≡ first_in U.encoding (U.units units) }
-    ensures kept { let f = form.now in IfSome result (λ kept. IsKeptSegment (is_composing_passthrough f.characters f.bounds) U.encoding
+    ensures kept { let f = form.now in IfSome result (λ kept.
+        IsKeptSegment (is_composing_passthrough f.characters f.bounds) U.encoding
         (reading_by f.characters Dropped f.pairs.now) Composing (U.units units) kept.end) }
     ensures next { IfSome result (λ kept.
         IfSome kept.next (λ next. next ≡ first_in U.encoding (drop kept.end (U.units units)))) }

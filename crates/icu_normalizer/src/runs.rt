@@ -2,8 +2,8 @@
 ghost use Rattle.std.specs.Prelude.{◌≡◌, ◌<◌, ◌≤◌, drop, length, take, IfSome};
 ghost use Rattle.normalizer_text.specs.Encodings.{first_in};
 ghost use Rattle.normalizer_text.specs.InputCut.{IsInputNormalized};
-ghost use Rattle.icu_normalizer.specs.inner.PassthroughRuns.{IsKeptTo, IsPassthroughEnd, IsPart, IsRunEnd, IsSegmentEnd};
-ghost use Rattle.icu_normalizer.specs.inner.PassthroughRuns.{next_class};
+ghost use Rattle.icu_normalizer.specs.inner.PassthroughRuns.{next_class, IsKeptTo, IsPart, IsPassthroughEnd};
+ghost use Rattle.icu_normalizer.specs.inner.PassthroughRuns.{IsRunEnd, IsSegmentEnd};
 
 use crate::forming::Forming;
 use normalizer_text::{Chars, Step, Units};

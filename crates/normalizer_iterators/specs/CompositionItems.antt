@@ -70,8 +70,8 @@ module _ {I : Type 0} where
         (YieldedFirst (WillYield (Spells from.next_gives))
         (compose_after (reading_by old.characters Dropped pairs) starter [] y) t)
         (λ _. WillYield (Spells from.next_gives) t [])
-    pub came : (e : Extent) → IfOk r (λ c. (rest : List ℕ) → WillYield (MayYield from.next_gives e) t rest → (y : List ℕ)
-        × decomposition.WillYield (MayYield from.next_gives e) old y
+    pub came : (e : Extent) → IfOk r (λ c. (rest : List ℕ) → WillYield (MayYield from.next_gives e) t rest →
+        (y : List ℕ) × decomposition.WillYield (MayYield from.next_gives e) old y
         × (compose_after (reading_by old.characters Dropped pairs) starter [] y ≡ c ∷ rest))
     pub fault : IfErr r (λ e. e ≡ Memory)
     pub room : YieldsShort from.next_gives (reading_by old.characters Dropped pairs) old

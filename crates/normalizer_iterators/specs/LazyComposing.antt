@@ -34,11 +34,13 @@ IsNormalizedApartIn s pairs ignored = IsNormalizedApart (has_class_form s) (read
 
 -- no character that is passed continues what comes before it
 pub record PassthroughHasBoundaries (s : Characters) (b : Bounds) (ignored : IgnoredCharacters) : Type 0 where
-  pub at_boundary : (c : ℕ) → IsComposingPassthrough s b c → continues (has_class_form s) (reading_by s ignored []) c ≡ false
+  pub at_boundary : (c : ℕ) → IsComposingPassthrough s b c →
+      continues (has_class_form s) (reading_by s ignored []) c ≡ false
 
 -- what pairs compose to are starters, what Hangul composes to has the lists of its parts, and each character that is
 -- passed is normalized apart
 pub record SuitsLazyComposing (s : Characters) (b : Bounds) (pairs : List Pair) : Type 0 where
   pub starters : HasStarterResults (reading_by s Dropped pairs)
   pub hangul : (ignored : IgnoredCharacters) → HasFaithfulResults (reading_by s ignored [])
-  pub apart : (ignored : IgnoredCharacters) (c : ℕ) → IsComposingPassthrough s b c → IsNormalizedApartIn s pairs ignored c
+  pub apart : (ignored : IgnoredCharacters) (c : ℕ) → IsComposingPassthrough s b c →
+      IsNormalizedApartIn s pairs ignored c

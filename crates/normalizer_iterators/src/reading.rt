@@ -62,8 +62,8 @@ fn push_list(
     ensures classes { OnOk result (KeepsClasses characters.now waiting.old waiting.new) }
     ensures held { OnOk result (held waiting.new ≡
         held waiting.old + length (list_of characters.now (ignored_list ignored) read.character)) }
-    ensures succeeds { held waiting.old + length (list_of characters.now (ignored_list ignored) read.character) ≤ buffer_limit
-        → IsOk result }
+    ensures succeeds { held waiting.old + length (list_of characters.now (ignored_list ignored) read.character)
+        ≤ buffer_limit → IsOk result }
 {
     match read.class_of_itself(characters) {
         Some(class) => waiting.push(read.character, class),

@@ -176,8 +176,8 @@ fn push_list(
     ensures held { IsTrue result → held waiting.new ≡
         held waiting.old + length (list_of characters.now (ignored_list ignored) read.character) }
     ensures short { IsTrue result → held waiting.new ≤ buffer_limit }
-    ensures fits { held waiting.old + length (list_of characters.now (ignored_list ignored) read.character) ≤ buffer_limit
-        → IsTrue result }
+    ensures fits { held waiting.old + length (list_of characters.now (ignored_list ignored) read.character)
+        ≤ buffer_limit → IsTrue result }
 {
     match read.class_of_itself(characters) {
         Some(class) => waiting.has_room(1) && waiting.push(read.character, class).is_ok(),

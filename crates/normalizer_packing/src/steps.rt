@@ -7,8 +7,9 @@ ghost use Rattle.normalizer_tables.specs.Pairs.{Pair};
 ghost use Rattle.normalizer_packing.specs.Stored.{first_come, is_among, place_of};
 ghost use Rattle.normalizer_packing.specs.inner.Stores.{Holds};
 ghost use Rattle.normalizer_packing.specs.StepWords.{are_narrow, asked_step, asks_supplement, step_in, step_lists};
+ghost use Rattle.normalizer_packing.specs.StepWords.{stored_step, stored_steps, word_of_place, word_of_step};
+ghost use Rattle.normalizer_packing.specs.StepWords.{PacksSteps};
 ghost use Rattle.normalizer_packing.specs.inner.Breakpoints.{AreBreakpoints};
-ghost use Rattle.normalizer_packing.specs.StepWords.{stored_step, stored_steps, word_of_place, word_of_step, PacksSteps};
 
 use crate::entries::Entries;
 use crate::ranges::{Words, table_of};

@@ -6,7 +6,8 @@ ghost use Rattle.std.specs.List.{list_all};
 ghost use Rattle.normalizer_tables.specs.Conditions.{item_count};
 ghost use Rattle.normalizer_tables.specs.Entries.{class_in};
 ghost use Rattle.normalizer_packing.specs.Stored.{is_narrow, item_at, listed_in, listed_of};
-ghost use Rattle.normalizer_packing.specs.inner.Stores.{stored_place, tables_in, Holds, HoldsLists, HoldsMore, StandsAt};
+ghost use Rattle.normalizer_packing.specs.inner.Stores.{stored_place, tables_in, Holds, HoldsLists, HoldsMore};
+ghost use Rattle.normalizer_packing.specs.inner.Stores.{StandsAt};
 
 use crate::entries::Entries;
 use crate::spelling::{Spelling, spell};

@@ -27,7 +27,8 @@ IfComposingPassthrough s b c = IfSome c (IsComposingPassthrough s b)
 module _ {I : Type 0} where
   -- nothing is buffered, and a composing loop passes the character that is read next
   abbrev pub PassthroughIsNext : Bounds → Decomposition I → Type 0
-  PassthroughIsNext b s = (ordered s.waiting ≡ []) × MatchOption (pending_of s) ⊥ (IsComposingPassthrough s.characters b)
+  PassthroughIsNext b s =
+      (ordered s.waiting ≡ []) × MatchOption (pending_of s) ⊥ (IsComposingPassthrough s.characters b)
 
   -- nothing is buffered, and the character that is read next, if there is one, is normalized apart
   pub record IsAtPassthrough (pairs : List Pair) (s : Decomposition I) : Type 0 where
@@ -55,15 +56,15 @@ module _ {I : Type 0} where
     pub steps : DecompositionSteps from s (Some (Ok c)) t
     pub starter : (pairs : List Pair) → IsStarter (reading_by s.characters Dropped pairs) c
 
-  abbrev pub YieldsPassthrough : Source I → List Pair → Decomposition I → Option (Result Given NormalizeError) → Decomposition I
-      → Type 0
+  abbrev pub YieldsPassthrough : Source I → List Pair → Decomposition I → Option (Result Given NormalizeError)
+      → Decomposition I → Type 0
   YieldsPassthrough from pairs s None t = DecompositionSteps from s None t
   YieldsPassthrough from pairs s (Some (Err e)) t = DecompositionSteps from s (Some (Err e)) t
   YieldsPassthrough from pairs s (Some (Ok (Itself c))) t = YieldsItself from pairs s c t
   YieldsPassthrough from pairs s (Some (Ok (FirstMember c))) t = YieldsStarter from s c t
 
   -- the same by all pairs that may be composed lazily
-  abbrev pub YieldsPassthroughBy : Source I → Bounds → Decomposition I → Option (Result Given NormalizeError) → Decomposition I
-      → Type 0
+  abbrev pub YieldsPassthroughBy : Source I → Bounds → Decomposition I → Option (Result Given NormalizeError)
+      → Decomposition I → Type 0
   YieldsPassthroughBy from b s r t = (pairs : List Pair) → SuitsLazyComposing s.characters b pairs
       → IsAtPassthrough pairs s → YieldsPassthrough from pairs s r t

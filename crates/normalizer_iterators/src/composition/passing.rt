@@ -1,7 +1,8 @@
 //! Yielding characters as they are, if a composing loop passes them.
 ghost use Rattle.std.specs.Prelude.{◌≡◌, ◌↔◌, [], IsTrue};
 ghost use Rattle.normalizer_iterators.specs.LazyComposing.{IsComposingPassthrough, PassthroughHasBoundaries};
-ghost use Rattle.normalizer_iterators.specs.inner.PassthroughItems.{YieldsPassthroughBy, PassthroughIsNext, IfComposingPassthrough};
+ghost use Rattle.normalizer_iterators.specs.inner.PassthroughItems.{PassthroughIsNext, IfComposingPassthrough};
+ghost use Rattle.normalizer_iterators.specs.inner.PassthroughItems.{YieldsPassthroughBy};
 ghost use Rattle.normalizer_iterators.specs.DecompositionItems.{CanDecompose};
 ghost use Rattle.normalizer_iterators.specs.Reads.{character_of, HasOwnWord, HasOwnWords};
 ghost use Rattle.normalizer_iterators.specs.WaitingList.{ordered};
