@@ -11,8 +11,8 @@ ghost use Rattle.icu_normalizer.specs.Checks.{
 use crate::borrowed::NormalizerBorrowed;
 use crate::forming::Forming;
 use crate::offence::{cut_of, offence_of};
-use normalizer_text::Offence;
 use normalizer_iterators::NormalizeError;
+use normalizer_text::Offence;
 use normalizer_text::check_sink::Expected;
 
 /// Whether the units are well-formed and normalized.

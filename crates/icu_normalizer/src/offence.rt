@@ -6,8 +6,8 @@ ghost use Rattle.icu_normalizer.specs.inner.Offences.{IsCutUnlessNormalized};
 
 use crate::forming::Forming;
 use crate::writing::form_to;
-use normalizer_text::Offence;
 use normalizer_iterators::NormalizeError;
+use normalizer_text::Offence;
 use normalizer_text::check_sink::{Expected, IsNormalizedSink};
 
 /// The cut of the units, or nothing if they are well-formed and normalized.

@@ -3,11 +3,11 @@ ghost use Rattle.std.specs.Prelude.{◌≡◌};
 ghost use Rattle.normalizer_builder.specs.Demands.{error_of, marker_of_kind, reported_marker, reported_number};
 ghost use Rattle.normalizer_builder.specs.inner.Earlier.{earlier};
 
+use normalizer_conditions::refusal::marker_of;
 use normalizer_records::BuildError;
 use normalizer_tables::DataMarkerInfo;
 use normalizer_tables::condition::Condition;
 use normalizer_tables::entry::Kind;
-use normalizer_conditions::refusal::marker_of;
 
 /// A requirement on data that pack records.
 #[derive(Clone, Copy, Debug, PartialEq, Eq)]

@@ -17,13 +17,13 @@ ghost use Rattle.normalizer_builder.specs.declared.demand.Demand.TheVariants.{As
 ghost use Rattle.normalizer_builder.specs.inner.Earlier.{asked_of, conditions_of};
 
 use crate::demand::{Demand, earlier};
+use normalizer_conditions::check::first_failing;
+use normalizer_conditions::loaded::LoadedData;
 use normalizer_packing::Packed;
 use normalizer_records::{Record, recorded_step};
 use normalizer_tables::characters::CharacterData;
-use normalizer_conditions::check::first_failing;
 use normalizer_tables::condition::{Bounds, COMPOSING, Condition, EVERY, MAPPING};
 use normalizer_tables::entry::Kind;
-use normalizer_conditions::loaded::LoadedData;
 use normalizer_tables::step::step_of;
 
 /// The first requirement that data that pack records don't meet, if there is one. It takes no memory.

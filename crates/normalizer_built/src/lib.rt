@@ -9,10 +9,10 @@ ghost use Rattle.icu_normalizer.specs.Mappers.{mapper_data_of};
 ghost use Rattle.icu_normalizer.specs.Normalizers.{data_of};
 ghost use Rattle.normalizer_builder.specs.Built.{AreBuilt, data_in};
 
-use normalizer_builder::Built;
-use normalizer_builder::laws::{data_that_meet_conditions_are_accepted, what_is_built_is_accepted};
 use icu_normalizer::uts46::Uts46Mapper;
 use icu_normalizer::{ComposingNormalizer, DecomposingNormalizer};
+use normalizer_builder::Built;
+use normalizer_builder::laws::{data_that_meet_conditions_are_accepted, what_is_built_is_accepted};
 use normalizer_iterators::NormalizeError;
 use normalizer_tables::DataError;
 

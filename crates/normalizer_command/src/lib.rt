@@ -1,6 +1,7 @@
 //! The program `uninorm` but for its files and standard streams.
 #![tactic(auto)]
 
+pub mod arguments;
 mod data;
 pub mod fault;
 mod files;
@@ -11,5 +12,4 @@ mod normalizers;
 pub mod reply;
 pub mod run;
 pub mod version;
-pub mod arguments;
 pub mod worker;

@@ -9,8 +9,8 @@ ghost use Rattle.normalizer_command.specs.inner.EachLine.{feed_unless, replies_t
 
 use crate::fault::Fault;
 use crate::reply::Reply;
-use normalizer_built::mapped;
 use icu_normalizer::uts46::{Uts46Mapper, Uts46MapperBorrowed};
+use normalizer_built::mapped;
 use normalizer_io::Answer;
 use normalizer_streams::EncodingScheme;
 use normalizer_tables::characters::IgnoredCharacters::{Dropped, Replaced};

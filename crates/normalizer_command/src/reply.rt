@@ -7,8 +7,8 @@ ghost use Rattle.normalizer_command.specs.Replies.{IsReplyOfForm};
 
 use crate::fault::Fault;
 use crate::mismatch::mismatch_line;
-use normalizer_built::Normalizer;
 use icu_normalizer::Offence;
+use normalizer_built::Normalizer;
 use normalizer_io::Answer;
 use normalizer_streams::{EncodingScheme, first_offence, is_normalized};
 use std::alloc::{AllocError, Global};

@@ -14,8 +14,8 @@ use normalizer_tables::{
     CanonicalCompositions, has_no_jamo_second, is_rising, pair_at, pair_count,
 };
 
-pub(crate) mod round_trips;
 pub(crate) mod results;
+pub(crate) mod round_trips;
 
 /// Whether pairs strictly rise, and none has a vowel or a trailing consonant of Hangul as its second.
 pub fn are_sound_pairs(compositions: &CanonicalCompositions) -> bool

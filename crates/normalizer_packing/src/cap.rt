@@ -55,7 +55,11 @@ fn list_is_below_cap(
 }
 
 /// Whether a list begins with a starter that is second in no pair.
-fn list_has_boundary(entries: &Entries<'_>, compositions: &CanonicalCompositions, list: &[char]) -> bool
+fn list_has_boundary(
+    entries: &Entries<'_>,
+    compositions: &CanonicalCompositions,
+    list: &[char],
+) -> bool
     ensures { IsTrue result ↔ ListHasBoundary entries.now compositions.now list.now }
 {
     match list.first() {

@@ -4,8 +4,8 @@ ghost use Rattle.normalizer_builder.specs.Building.{Builds};
 ghost use Rattle.normalizer_builder.specs.Built.{data_in};
 ghost use Rattle.normalizer_program.specs.RecordSets.{AreRefused, mapper_records_of, records_of};
 
-use crate::ending::ToolFault;
 use crate::arguments::RecordSet;
+use crate::ending::ToolFault;
 use normalizer_builder::{Built, Records};
 use normalizer_records::{BuildError, Record, Uts46Record};
 use normalizer_rows::{mapper_records, records};

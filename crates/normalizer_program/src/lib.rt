@@ -2,6 +2,7 @@
 //! and how it ends.
 #![tactic(auto)]
 
+pub mod arguments;
 mod building;
 pub mod ending;
 mod mapping;
@@ -11,7 +12,6 @@ mod reply;
 pub mod run;
 mod set_run;
 mod task;
-pub mod arguments;
 mod worker;
 
 pub use building::built;

@@ -4,8 +4,8 @@ ghost use Rattle.normalizer_built.specs.Normalizers.{kind_by, reading_of};
 ghost use Rattle.normalizer_program.specs.Needs.{held_for_forms, kind_of, FormLacksData, HeldForForms, IsReadBy};
 
 use crate::ending::ToolFault;
-use normalizer_built::{NormalForm, Normalizer};
 use icu_normalizer::{ComposingNormalizer, DecomposingNormalizer};
+use normalizer_built::{NormalForm, Normalizer};
 use normalizer_tables::{
     DataProvider, NormalizerNfcV1, NormalizerNfdDataV1, NormalizerNfdTablesV1,
     NormalizerNfkdDataV1, NormalizerNfkdTablesV1,

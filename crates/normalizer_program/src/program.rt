@@ -8,9 +8,9 @@ ghost use Rattle.normalizer_program.specs.declared.ending.ToolFault.{ToolFault};
 ghost use Rattle.normalizer_program.specs.declared.arguments.Command.{Command};
 ghost use Rattle.normalizer_program.specs.declared.arguments.RecordSet.{RecordSet};
 
+use crate::arguments::{USAGE, words};
 use crate::ending::ending;
 use crate::set_run::run_over;
-use crate::arguments::{USAGE, words};
 use normalizer_io::{Source, Target};
 use std::alloc::Global;
 

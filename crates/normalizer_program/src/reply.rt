@@ -6,8 +6,8 @@ ghost use Rattle.normalizer_built.specs.Normalizers.{kind_by, reading_of};
 
 use crate::ending::ToolFault;
 use crate::task::FormTask;
-use normalizer_built::Normalizer;
 use icu_normalizer::Offence;
+use normalizer_built::Normalizer;
 use normalizer_io::Answer;
 use std::alloc::{AllocError, Global};
 

@@ -6,8 +6,8 @@ ghost use Rattle.normalizer_program.specs.Outcome.{IsOutcome};
 ghost use Rattle.normalizer_program.specs.Tasks.{task_of};
 ghost use Rattle.normalizer_program.specs.declared.arguments.Command.{Command};
 
-use crate::ending::ToolFault;
 use crate::arguments::Command;
+use crate::ending::ToolFault;
 use crate::worker::{CommandData, Worker};
 use normalizer_io::{Answer, Source, Target, read_all, write_all};
 use std::alloc::Global;

@@ -2,10 +2,10 @@
 ghost use Rattle.std.specs.Prelude.{◌≡◌, ◌≢◌, IfErr, IsErrOf};
 ghost use Rattle.normalizer_program.specs.SetOutcome.{IsOutcomeOver};
 
+use crate::arguments::{Command, RecordSet};
 use crate::building::built;
 use crate::ending::ToolFault;
 use crate::run::run;
-use crate::arguments::{Command, RecordSet};
 use normalizer_io::{Answer, Source, Target};
 use std::alloc::Global;
 

@@ -8,8 +8,8 @@ use crate::ending::ToolFault;
 use crate::normalizer::FormData;
 use crate::reply::Reply;
 use crate::task::{FormTask, MapperTask, Task};
-use normalizer_built::Normalizer;
 use icu_normalizer::uts46::Uts46Mapper;
+use normalizer_built::Normalizer;
 use normalizer_tables::{
     DataProvider, NormalizerNfcV1, NormalizerNfdDataV1, NormalizerNfdTablesV1,
     NormalizerNfkdDataV1, NormalizerNfkdTablesV1, NormalizerUts46DataV1,

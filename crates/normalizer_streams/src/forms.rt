@@ -9,8 +9,8 @@ ghost use Rattle.normalizer_streams.specs.Schemes.{encoding_of, units_of};
 ghost use Rattle.normalizer_streams.specs.Streams.{form_by};
 
 use crate::scheme::{ByteOrder, EncodingScheme};
-use normalizer_built::Normalizer;
 use icu_normalizer::Offence;
+use normalizer_built::Normalizer;
 use normalizer_iterators::NormalizeError;
 use std::alloc::Global;
 

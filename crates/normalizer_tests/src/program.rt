@@ -4,9 +4,9 @@ use icu_normalizer::{
 };
 use normalizer_io::{Answer, Input, Output};
 use normalizer_program::CommandData;
+use normalizer_program::arguments::Command;
 use normalizer_program::ending::ToolFault;
 use normalizer_program::run::run;
-use normalizer_program::arguments::Command;
 use std::alloc::Global;
 
 /// Whether a run over data ends so, with this much of the input left and nothing written.

@@ -4,9 +4,9 @@
 
 mod standard;
 
+use normalizer_command::arguments::{FileRequest, Request, parsed};
 use normalizer_command::run::run;
 use normalizer_command::version::write_version;
-use normalizer_command::arguments::{FileRequest, Request, parsed};
 use normalizer_io::Output;
 use standard::{ErrorStream, Named};
 use std::alloc::{AllocError, Global};

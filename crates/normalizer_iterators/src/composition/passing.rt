@@ -33,7 +33,8 @@ pub(crate) fn is_at_passthrough<I: Iterator<Item = char> + Drop>(
 {
     match decomposed.pending {
         Some(read) => {
-            decomposed.waiting.is_empty() && is_composing_passthrough(&decomposed.characters, bounds, read)
+            decomposed.waiting.is_empty()
+                && is_composing_passthrough(&decomposed.characters, bounds, read)
         }
         None => false,
     }
@@ -68,7 +69,11 @@ pub(crate) fn next_passthrough<I: Iterator<Item = char> + Drop>(
 
 /// Whether a composing loop passes a character, or there is none.
 #[inline(always)]
-fn are_passthrough(characters: &CharacterData<'_>, bounds: Bounds, read: Option<PendingChar>) -> bool
+fn are_passthrough(
+    characters: &CharacterData<'_>,
+    bounds: Bounds,
+    read: Option<PendingChar>,
+) -> bool
     requires { HasOwnWords characters.now read }
     ensures { IsTrue result ↔ IfComposingPassthrough characters.now bounds (character_of read) }
 {
@@ -81,7 +86,11 @@ fn are_passthrough(characters: &CharacterData<'_>, bounds: Bounds, read: Option<
 /// Whether a composing loop passes a character: it lies below the bound, or its word has neither flag.
 #[tactic(auto, unfolding(normalizer_tables::specs::PairConditions::is_composing_passthrough))]
 #[inline(always)]
-fn is_composing_passthrough(characters: &CharacterData<'_>, bounds: Bounds, read: PendingChar) -> bool
+fn is_composing_passthrough(
+    characters: &CharacterData<'_>,
+    bounds: Bounds,
+    read: PendingChar,
+) -> bool
     requires { HasOwnWord characters.now read }
     ensures { IsTrue result ↔ IsComposingPassthrough characters.now bounds read.character }
 {

@@ -7,7 +7,7 @@ ghost use Rattle.normal_forms.specs.Reading.{Reading};
 ghost use Rattle.normal_forms.specs.CompositionByStarters.{compose_by_starters};
 ghost use Rattle.normal_forms.specs.ShortRuns.{buffer_limit};
 
-use crate::waiting::{ClassedChar, BUFFER_LIMIT};
+use crate::waiting::{BUFFER_LIMIT, ClassedChar};
 use normalizer_tables::{CanonicalCompositions, compose};
 
 /// A text of at most `BUFFER_LIMIT` characters.
