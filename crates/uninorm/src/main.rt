@@ -7,6 +7,7 @@ mod standard;
 use normalizer_command::arguments::{FileRequest, Request, parsed};
 use normalizer_command::run::run;
 use normalizer_command::version::write_version;
+use normalizer_command::worker::Command;
 use normalizer_io::Output;
 use standard::{ErrorStream, Named};
 use std::alloc::{AllocError, Global};
@@ -58,11 +59,15 @@ fn over_files(rt: &HostRuntime, words: &[String], request: &FileRequest<'_>) -> 
     let Ok(directory) = data_directory(rt.alloc(), words, request.directory) else {
         return failed(rt, "out of memory");
     };
+    over_names(rt, request.command, directory.as_str(), &request.names)
+}
+
+fn over_names(rt: &HostRuntime, command: Command, directory: &str, names: &[&str]) -> u8 {
     run(
         rt.alloc(),
-        request.command,
-        directory.as_str(),
-        &request.names,
+        command,
+        directory,
+        names,
         &Named(rt),
         &mut Output(rt.stdout()),
         &mut ErrorStream(rt),
