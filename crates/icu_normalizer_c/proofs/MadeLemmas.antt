@@ -5,7 +5,7 @@ use Rattle.normal_forms.specs.Forms.{normal_form}
 use Rattle.normalizer_packing.specs.declared.Packed.{Packed}
 use Rattle.normalizer_tables.specs.declared.entry.Kind.TheVariants.{Canonical, Compatibility}
 use Rattle.normalizer_packing.specs.ReadBack.{characters_of}
-use Rattle.normalizer_records.specs.Entry.{Entry, MapperEntry}
+use Rattle.normalizer_records.specs.RecordValue.{RecordValue, Uts46RecordValue}
 use Rattle.normalizer_builder.specs.Building.{Builds}
 use Rattle.normalizer_built.specs.declared.NormalForm.TheVariants.{Nfd, Nfc, Nfkd, Nfkc}
 use Rattle.normalizer_built.specs.RecordedForms.{recorded_form}
@@ -18,7 +18,7 @@ use Rattle.icu_normalizer.specs.Forms.{form_by, form_of}
 use Rattle.icu_normalizer_c.specs.declared.normalizers.Normalizers.{Normalizers}
 use Rattle.icu_normalizer_c.specs.Made.{MakeBy}
 
-module _ (records : List Entry) (mapper : List MapperEntry) (p : Packed) (builds : Builds records mapper p) where
+module _ (records : List RecordValue) (mapper : List Uts46RecordValue) (p : Packed) (builds : Builds records mapper p) where
   pub makes-nfd : (held : Characters) → held ≡ characters_of p Canonical → (x : List ℕ)
       → form_of (form_by held [] Decomposing) x ≡ recorded_form records Nfd x
   unfolding normal_form

@@ -1,12 +1,12 @@
 -- What two readings open, once both have succeeded.
 use Rattle.std.specs.Prelude.{⊤}
 use Rattle.std.proofs.Common.{◌≡◌, List, Option, Result, Ok, subst, sym}
-use Rattle.normalizer_records.specs.Entry.{Entry, MapperEntry}
+use Rattle.normalizer_records.specs.RecordValue.{RecordValue, Uts46RecordValue}
 use Rattle.icu_normalizer_c.specs.declared.fault.Fault.{Fault}
 use Rattle.icu_normalizer_c.specs.declared.normalizers.Normalizers.{Normalizers}
 use Rattle.icu_normalizer_c.specs.Opening.{both, Opens}
 
-pub opens-both : (r : Result (List Entry) Fault) (m : Result (List MapperEntry) Fault) (x : List Entry) (y : List MapperEntry)
+pub opens-both : (r : Result (List RecordValue) Fault) (m : Result (List Uts46RecordValue) Fault) (x : List RecordValue) (y : List Uts46RecordValue)
     → r ≡ Ok x → m ≡ Ok y → (before after : Option Normalizers) (outcome : Result ⊤ Fault)
     → Opens (Ok (x, y)) before after outcome → Opens (both r m) before after outcome
 opens-both r m x y is_r is_m before after outcome h =

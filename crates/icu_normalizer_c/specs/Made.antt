@@ -2,7 +2,7 @@
 use Rattle.std.specs.Prelude.{◌≡◌, ◌≢◌, ℕ, List, [], Option, Some, None}
 use Rattle.normal_forms.specs.declared.Form.TheVariants.{Decomposing, Composing}
 use Rattle.normal_forms.specs.Forms.{nfc}
-use Rattle.normalizer_records.specs.Entry.{Entry, MapperEntry}
+use Rattle.normalizer_records.specs.RecordValue.{RecordValue, Uts46RecordValue}
 use Rattle.normalizer_built.specs.declared.NormalForm.{NormalForm}
 use Rattle.normalizer_built.specs.declared.NormalForm.TheVariants.{Nfd, Nfc, Nfkd, Nfkc}
 use Rattle.normalizer_built.specs.Mapping.{mapped_in, mapper_reading}
@@ -31,15 +31,15 @@ made_in n Nfkd = form_by (data_of n.nfkd) [] Decomposing
 made_in n Nfkc = form_by (composing_data_of n.nfkc) (pairs_of n.nfkc) Composing
 
 -- every text has all four forms by what the records mean (D118 to D121)
-abbrev pub MakeBy : Normalizers → List Entry → Type 0
+abbrev pub MakeBy : Normalizers → List RecordValue → Type 0
 MakeBy n records = (form : NormalForm) (x : List ℕ) → form_of (made_in n form) x ≡ recorded_form records form x
 
 -- every text is mapped, in either way, by what the records mean
-abbrev pub MapsBy : MapperData → List Entry → List MapperEntry → Type 0
+abbrev pub MapsBy : MapperData → List RecordValue → List Uts46RecordValue → Type 0
 MapsBy h records mapper =
     (i : IgnoredCharacters) (x : List ℕ) → mapped_in h i x ≡ nfc (mapper_reading records mapper i) x
 
 -- there is a mapper exactly if it has records
-abbrev pub MapBy : Option Uts46Mapper → List Entry → List MapperEntry → Type 0
+abbrev pub MapBy : Option Uts46Mapper → List RecordValue → List Uts46RecordValue → Type 0
 MapBy None records mapper = mapper ≡ []
 MapBy (Some m) records mapper = (mapper ≢ []) × MapsBy (mapper_data_of m) records mapper

@@ -1,7 +1,7 @@
 -- What a handle is opened by, and why it isn't.
 use Rattle.std.specs.Prelude.{◌≡◌, ◌⊎◌, ℕ, List, ⊤, Option, Some, Result, Ok, Err}
 use Rattle.normalizer_builder.specs.Building.{IsSmallest}
-use Rattle.normalizer_records.specs.Entry.{Entry, MapperEntry}
+use Rattle.normalizer_records.specs.RecordValue.{RecordValue, Uts46RecordValue}
 use Rattle.normalizer_ucd.specs.declared.error.LineFault.{LineFault}
 use Rattle.normalizer_ucd.specs.declared.idna_table.Disallowed.TheVariants.{RangesUpTo}
 use Rattle.normalizer_ucd.specs.IdnaTable.{uts46_records_of}
@@ -18,7 +18,7 @@ Reads view (Err fault) read = (fault ≡ Memory) ⊎ (read ≡ Err fault)
 
 -- the records of characters and those of the mapper, or why the data have none
 abbrev pub Source : Type 0
-Source = Result (List Entry × List MapperEntry) Fault
+Source = Result (List RecordValue × List Uts46RecordValue) Fault
 
 -- what lines say, or the first that is wrong
 abbrev pub of_lines : {X : Type 0} → Result X LineFault → Result X Fault
@@ -26,21 +26,21 @@ of_lines (Ok x) = Ok x
 of_lines (Err fault) = Err (Line fault)
 
 -- both, or why there isn't the first, or else the second
-abbrev pub both : Result (List Entry) Fault → Result (List MapperEntry) Fault → Source
+abbrev pub both : Result (List RecordValue) Fault → Result (List Uts46RecordValue) Fault → Source
 both (Err fault) mapper = Err fault
 both (Ok records) (Err fault) = Err fault
 both (Ok records) (Ok mapper) = Ok (records, mapper)
 
 -- what the bytes of UnicodeData.txt and CompositionExclusions.txt say
-abbrev pub of_unicode_data : (unicode_data exclusions : List ℕ) → Result (List Entry) Fault
+abbrev pub of_unicode_data : (unicode_data exclusions : List ℕ) → Result (List RecordValue) Fault
 of_unicode_data unicode_data exclusions = of_lines (records_of unicode_data exclusions)
 
 -- what the bytes of IdnaMappingTable.txt say, without disallowed ranges of more than so many code points
-abbrev pub of_idna_table : (table : List ℕ) → (limit : ℕ) → Result (List MapperEntry) Fault
+abbrev pub of_idna_table : (table : List ℕ) → (limit : ℕ) → Result (List Uts46RecordValue) Fault
 of_idna_table table limit = of_lines (uts46_records_of (RangesUpTo limit) table)
 
 -- why records aren't built
-abbrev pub IsBuildFault : List Entry → List MapperEntry → Fault → Type 0
+abbrev pub IsBuildFault : List RecordValue → List Uts46RecordValue → Fault → Type 0
 IsBuildFault records mapper Memory = ⊤
 IsBuildFault records mapper (Records error) = IsSmallest records mapper error
 IsBuildFault records mapper fault = ⊥

@@ -2,7 +2,7 @@
 use Rattle.std.specs.Prelude.{ℕ, ◌-◌, ◌==◌, nat_lt, Bool, true, not, ◌||◌, List, [], length, take, drop, map}
 use Rattle.std.specs.Prelude.{position, Option, Some, None, Result, Ok, Err, unwrap_or, if◌then◌else◌}
 use Rattle.std.specs.List.{list_all}
-use Rattle.normalizer_records.specs.Entry.{Entry, MapperEntry, Status, MapsTo, IsIgnored, IsDisallowed}
+use Rattle.normalizer_records.specs.RecordValue.{RecordValue, Uts46RecordValue, Status, MapsTo, IsIgnored, IsDisallowed}
 use Rattle.normalizer_ucd.specs.Fields.{is_scalar_value}
 use Rattle.icu_normalizer_c.specs.declared.fault.Fault.{Fault}
 use Rattle.icu_normalizer_c.specs.declared.fault.Fault.TheVariants.{Record, MapperRecord}
@@ -43,7 +43,7 @@ abbrev pub part_in : List ℕ → (start count : ℕ) → List ℕ
 part_in codes start count = map character (unwrap_or (part_of codes start count) [])
 
 -- what a record says
-abbrev pub entry_in : List ℕ → PlainRecord → Entry
+abbrev pub entry_in : List ℕ → PlainRecord → RecordValue
 entry_in codes r =
     record {
       c = character r.character;
@@ -59,7 +59,7 @@ status_in number mapping =
     if number == 0 then MapsTo mapping else if number == 1 then IsIgnored else IsDisallowed
 
 -- what a record of the mapper says
-abbrev pub mapper_entry_in : List ℕ → PlainMapperRecord → MapperEntry
+abbrev pub mapper_entry_in : List ℕ → PlainMapperRecord → Uts46RecordValue
 mapper_entry_in codes r =
     record { c = character r.character; status = status_in r.status (part_in codes r.mapping_start r.mapping_length) }
 
@@ -72,10 +72,10 @@ abbrev pub read_unless_wrong : {X Y : Type 0} → (X → Bool) → (X → Y) →
 read_unless_wrong is_wrong said fault records = unless_at (position is_wrong records) fault (map said records)
 
 -- what all records of characters say, or the first that is wrong
-abbrev pub entries_of : List ℕ → List PlainRecord → Result (List Entry) Fault
+abbrev pub entries_of : List ℕ → List PlainRecord → Result (List RecordValue) Fault
 entries_of codes records = read_unless_wrong (is_wrong codes) (entry_in codes) Record records
 
 -- what all records of the mapper say, or the first that is wrong
-abbrev pub mapper_entries_of : List ℕ → List PlainMapperRecord → Result (List MapperEntry) Fault
+abbrev pub mapper_entries_of : List ℕ → List PlainMapperRecord → Result (List Uts46RecordValue) Fault
 mapper_entries_of codes records =
     read_unless_wrong (is_wrong_for_mapper codes) (mapper_entry_in codes) MapperRecord records

@@ -2,7 +2,7 @@
 ghost use Rattle.std.specs.Prelude.{◌≡◌, ◌<◌, IfOk, IsOkUnless, List, MatchResult};
 ghost use Rattle.normalizer_builder.specs.Building.{Builds};
 ghost use Rattle.normalizer_builder.specs.Built.{AreBuilt, data_in};
-ghost use Rattle.normalizer_records.specs.Entry.{Entry};
+ghost use Rattle.normalizer_records.specs.RecordValue.{RecordValue};
 ghost use Rattle.icu_normalizer_c.specs.Calls.{IsNumbered};
 ghost use Rattle.icu_normalizer_c.specs.Forms.{last_form};
 ghost use Rattle.icu_normalizer_c.specs.declared.fault.Fault.TheVariants.{UnknownForm};
@@ -52,9 +52,9 @@ impl Normalizers {
     /// Returns the normalizers over built data, and their mapper if it has these records.
     pub(crate) fn over(built: &Built, mapper: &[Uts46Record]) -> Result<Normalizers, NormalizeError>
         requires { AreBuilt (data_in built.now) }
-        ensures makes { (records : List Entry) → Builds records mapper.now (data_in built.now) →
+        ensures makes { (records : List RecordValue) → Builds records mapper.now (data_in built.now) →
             IfOk result (λ n. MakeBy n records) }
-        ensures maps { (records : List Entry) → Builds records mapper.now (data_in built.now) →
+        ensures maps { (records : List RecordValue) → Builds records mapper.now (data_in built.now) →
             IfOk result (λ n. MapBy n.mapper records mapper.now) }
         ensures refused { IsOkUnless result NormalizeError.Memory }
     {
@@ -94,7 +94,7 @@ impl Normalizers {
 /// Returns the mapper over built data, if it has these records.
 fn mapper_over(built: &Built, mapper: &[Uts46Record]) -> Result<Option<Uts46Mapper>, NormalizeError>
     requires { AreBuilt (data_in built.now) }
-    ensures maps { (records : List Entry) → Builds records mapper.now (data_in built.now) →
+    ensures maps { (records : List RecordValue) → Builds records mapper.now (data_in built.now) →
         IfOk result (λ m. MapBy m records mapper.now) }
     ensures refused { IsOkUnless result NormalizeError.Memory }
 {

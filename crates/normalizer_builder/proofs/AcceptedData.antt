@@ -19,7 +19,7 @@ use Rattle.normalizer_packing.specs.declared.Packed.{Packed}
 use Rattle.normalizer_tables.specs.declared.entry.Kind.TheVariants.{Canonical, Compatibility, Mapper}
 use Rattle.normalizer_packing.specs.ReadBack.{characters_of}
 use Rattle.normalizer_builder.specs.Accepted.{steps_loaded}
-use Rattle.normalizer_records.specs.Entry.{Entry}
+use Rattle.normalizer_records.specs.RecordValue.{RecordValue}
 use Rattle.normalizer_builder.specs.Demands.{IsFirstUnmet, loaded_of}
 use Rattle.normalizer_builder.proofs.FirstUnmet.{fit_kind}
 
@@ -33,7 +33,7 @@ module _ (s : Characters) (pairs : List Pair) (met : All (IsMet (characters_and_
   pub accepted_pairs : AreAcceptedPairs s (bounds_of_cap s.decompositions.cap) pairs
   accepted_pairs = (parts_met s pairs met).1
 
-module _ (records : List Entry) (p : Packed) (fit : IsFirstUnmet records p None) where
+module _ (records : List RecordValue) (p : Packed) (fit : IsFirstUnmet records p None) where
   -- of the conditions of canonical data those on texts are first, and none of them speaks of the supplement
   pub nfc_met : All (IsMet (characters_and_pairs (characters_of p Canonical) p.compositions)) (composing_conditions false)
   nfc_met = λ k c h. IsMet-unsupplemented (loaded_of p Canonical) _ (All-front (IsMet (loaded_of p Canonical)) (composing_conditions false) (FdfaForms ∷ Steps ∷ []) (fit_kind records p fit Canonical) k c h)

@@ -11,7 +11,7 @@ use Rattle.normalizer_tables.specs.declared.entry.Kind.{Kind}
 use Rattle.normalizer_tables.specs.declared.entry.Kind.TheVariants as kind
 use Rattle.normalizer_packing.specs.ReadBack.{ReadsBack, characters_of, class_by, list_by}
 use Rattle.normalizer_packing.proofs.reading_back.ReadBack.{packs_reads_back}
-use Rattle.normalizer_records.specs.Entry.{Entry, MapperEntry}
+use Rattle.normalizer_records.specs.RecordValue.{RecordValue, Uts46RecordValue}
 use Rattle.normalizer_records.specs.Faults.{IsFirstRefusal}
 use Rattle.normalizer_builder.specs.Building.{Builds, PacksRecords}
 use Rattle.normalizer_builder.specs.Demands.{IsFirstUnmet}
@@ -28,7 +28,7 @@ no_syllable-beyond : (n : ℕ) → scalar n ≡ false → is_hangul_syllable n �
 unfolding is_hangul_syllable
 no_syllable-beyond n e = grind (arith, nat_tests)
 
-module _ (records : List Entry) (uts46 : List MapperEntry) (none : IsFirstRefusal records uts46 None) (p : Packed) (packs : PacksRecords records uts46 p)
+module _ (records : List RecordValue) (uts46 : List Uts46RecordValue) (none : IsFirstRefusal records uts46 None) (p : Packed) (packs : PacksRecords records uts46 p)
     (characters : All IsOfCharacters packs.entries) where
   reads : (k : Kind) → ReadsBack k packs.entries (characters_of p k)
   reads k =

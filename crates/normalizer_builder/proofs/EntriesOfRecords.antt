@@ -9,17 +9,17 @@ use Rattle.std.proofs.lemmas.List.Kept.{AllPairs-from_increasing}
 use Rattle.normalizer_tables.specs.Hangul.{is_hangul_syllable}
 use Rattle.normalizer_tables.specs.declared.entry.Kind.{Kind}
 use Rattle.normalizer_tables.specs.declared.entry.Kind.TheVariants as kind
-use Rattle.normalizer_tables.specs.Entries.{CharacterEntry, AreRising, own_list, class_in, list_in, entry_of as packed_entry_of}
+use Rattle.normalizer_tables.specs.Entries.{EntryValue, AreRising, own_list, class_in, list_in, entry_of as packed_entry_of}
 use Rattle.normalizer_packing.specs.ReadBack.{list_by}
 use Rattle.normalizer_packing.proofs.entry_data.EntryLemmas.{Contains-map, find-missing, find-tells}
-use Rattle.normalizer_records.specs.Entry.{Entry, MapperEntry}
+use Rattle.normalizer_records.specs.RecordValue.{RecordValue, Uts46RecordValue}
 use Rattle.normalizer_records.specs.Faults.{IsFirstRefusal}
 use Rattle.normalizer_records.specs.Meaning.{class_of, entry_of, status_of}
 use Rattle.normalizer_records.specs.Recorded.{IsOfCharacters}
 use Rattle.normalizer_records.specs.Recorded.{AreMadeOf, entry_for, recorded_characters}
 use Rattle.normalizer_builder.proofs.NoRefusal.{class_of-unrecorded, no_syllables, recorded_list, recorded_list-unrecorded}
 
-pub own_recorded : (records : List Entry) (uts46 : List MapperEntry) (k : Kind) (n : ℕ) → own_list k (entry_for records uts46 n) ≡ recorded_list records uts46 k n
+pub own_recorded : (records : List RecordValue) (uts46 : List Uts46RecordValue) (k : Kind) (n : ℕ) → own_list k (entry_for records uts46 n) ≡ recorded_list records uts46 k n
 unfolding entry_for
 own_recorded records uts46 kind.Canonical n = refl
 own_recorded records uts46 _ n = refl
@@ -29,20 +29,20 @@ find-map f p [] = refl
 find-map {X} f p (x ∷ xs) = elim (p (f x)) as (λ b. cond b (Some (f x)) (find p (map f xs)) ≡ option_map f (cond b (Some x) (find (λ y. p (f y)) xs))) [ true ↦ refl | false ↦ find-map f p xs ]
 
 -- n isn't recorded, and has no entry
-pub record IsAlone (records : List Entry) (uts46 : List MapperEntry) (entries : List CharacterEntry) (n : ℕ) : Type 0 where
+pub record IsAlone (records : List RecordValue) (uts46 : List Uts46RecordValue) (entries : List EntryValue) (n : ℕ) : Type 0 where
   pub entry : entry_of records n ≡ None
   pub status : status_of uts46 n ≡ None
   pub class : class_in entries n ≡ 0
   pub lists : (k : Kind) → list_in k entries n ≡ Some (n ∷ [])
 
 -- n is recorded, and its entry says what is recorded
-pub record IsTold (records : List Entry) (uts46 : List MapperEntry) (entries : List CharacterEntry) (n : ℕ) : Type 0 where
+pub record IsTold (records : List RecordValue) (uts46 : List Uts46RecordValue) (entries : List EntryValue) (n : ℕ) : Type 0 where
   pub other : is_hangul_syllable n ≡ false
   pub characters : IsOfCharacters (entry_for records uts46 n)
   pub class : class_in entries n ≡ class_of records n
   pub lists : (k : Kind) → list_in k entries n ≡ recorded_list records uts46 k n
 
-module _ (records : List Entry) (uts46 : List MapperEntry) (none : IsFirstRefusal records uts46 None) (entries : List CharacterEntry) (made : AreMadeOf records uts46 entries)
+module _ (records : List RecordValue) (uts46 : List Uts46RecordValue) (none : IsFirstRefusal records uts46 None) (entries : List EntryValue) (made : AreMadeOf records uts46 entries)
     (characters : All IsOfCharacters entries) where
   pub AreRising-made : AreRising entries
   unfolding entry_for
@@ -63,8 +63,8 @@ module _ (records : List Entry) (uts46 : List MapperEntry) (none : IsFirstRefusa
         true≢false (sym (eq-eqb n n refl) ∙ All-contains (λ c. (c == n) ≡ false) made.characters n missing.1 (All-contains (Contains made.characters) _ n made.listed.all there)) in
         let none_packed : packed_entry_of entries n ≡ None = found n ∙ ap (option_map (entry_for records uts46)) missing.0 in
         inl (record {
-          entry = find-missing (λ (r : Entry). r.c) records n (λ h. nowhere (Contains-append_left _ _ n h));
-          status = ap (option_map (λ (r : MapperEntry). r.status)) (find-missing (λ (r : MapperEntry). r.c) uts46 n (λ h. nowhere (Contains-append_right _ _ n h)));
+          entry = find-missing (λ (r : RecordValue). r.c) records n (λ h. nowhere (Contains-append_left _ _ n h));
+          status = ap (option_map (λ (r : Uts46RecordValue). r.status)) (find-missing (λ (r : Uts46RecordValue). r.c) uts46 n (λ h. nowhere (Contains-append_right _ _ n h)));
           class = rw (none_packed, class_in) refl;
           lists = λ k. rw (none_packed, list_in) refl;
         })

@@ -15,7 +15,7 @@ use Rattle.normalizer_conditions.proofs.conditions.FailingLemmas.{IsFirstFailing
 use Rattle.normalizer_conditions.proofs.conditions.LoadedLemmas.{All-behind, All-front}
 use Rattle.normalizer_packing.specs.declared.Packed.{Packed}
 use Rattle.normalizer_packing.proofs.entry_data.EntryLemmas.{find-tells}
-use Rattle.normalizer_records.specs.Entry.{Entry}
+use Rattle.normalizer_records.specs.RecordValue.{RecordValue}
 use Rattle.normalizer_records.specs.Meaning.{entry_of, canonical_mapping_of}
 use Rattle.normalizer_records.specs.Recorded.{recorded_step}
 use Rattle.normalizer_builder.specs.declared.demand.Demand.{Demand}
@@ -164,18 +164,18 @@ by_condition = refl
 
 module _ (p : Packed) where
   pub of_kind : (kind : Kind) (r : Option Condition) → IsFirstFailing (IsMet (loaded_of p kind)) (conditions_of kind) r →
-      (records : List Entry) → IsFirstFailing (Meets records p) (asked_of kind) (option_map (λ c. Asks c kind) r)
+      (records : List RecordValue) → IsFirstFailing (Meets records p) (asked_of kind) (option_map (λ c. Asks c kind) r)
   unfolding Meets
   of_kind kind r h records = first_of_map (Meets records p) (λ c. Asks c kind) (conditions_of kind) r h
 
-  pub of_all_kinds : (a b m : Option Demand) → ((records : List Entry) → IsFirstFailing (Meets records p) (asked_of Canonical) a) →
-      ((records : List Entry) → IsFirstFailing (Meets records p) (asked_of Compatibility) b) → ((records : List Entry) → IsFirstFailing (Meets records p) (asked_of Mapper) m) →
-      (records : List Entry) → IsFirstFailing (Meets records p) asked (earlier a (earlier b m))
+  pub of_all_kinds : (a b m : Option Demand) → ((records : List RecordValue) → IsFirstFailing (Meets records p) (asked_of Canonical) a) →
+      ((records : List RecordValue) → IsFirstFailing (Meets records p) (asked_of Compatibility) b) → ((records : List RecordValue) → IsFirstFailing (Meets records p) (asked_of Mapper) m) →
+      (records : List RecordValue) → IsFirstFailing (Meets records p) asked (earlier a (earlier b m))
   of_all_kinds a b m canonical compatibility mapper records =
       let others = first_of_both (Meets records p) (on Compatibility) (on Mapper) (of_on Compatibility) (of_on Mapper) every 1 numbered b m (compatibility records) (mapper records) in
       first_of_both (Meets records p) (on Canonical) on_others (of_on Canonical) of_others every 1 numbered a (earlier b m) (canonical records) others
 
-module _ (records : List Entry) (p : Packed) where
+module _ (records : List RecordValue) (p : Packed) where
   unrecorded_keeps : (n : ℕ) → entry_of records n ≡ None → KeepsMapping records p n
   unfolding KeepsMapping recorded_step canonical_mapping_of step_to
   unrecorded_keeps n missing = rw missing tt
@@ -183,9 +183,9 @@ module _ (records : List Entry) (p : Packed) where
   -- what holds of the recorded characters holds of all
   keeps_all : All (λ r. KeepsMapping records p r.c) records → (n : ℕ) → KeepsMapping records p n
   unfolding entry_of
-  keeps_all kept n = elim (find-tells (λ (r : Entry). r.c == n) records) [
+  keeps_all kept n = elim (find-tells (λ (r : RecordValue). r.c == n) records) [
     | inl missing ↦ unrecorded_keeps n missing.0
-    | inr there ↦ subst (KeepsMapping records p) (eqb-true _ _ there.3) (All-contains (λ (r : Entry). KeepsMapping records p r.c) records there.0 kept there.2)
+    | inr there ↦ subst (KeepsMapping records p) (eqb-true _ _ there.3) (All-contains (λ (r : RecordValue). KeepsMapping records p r.c) records there.0 kept there.2)
   ]
 
   pub asked_unmet : (d : Demand) → IsFirstFailing (Meets records p) asked (Some d) → IsFirstUnmet records p (Some d)

@@ -20,7 +20,7 @@ use Rattle.normalizer_packing.proofs.entry_data.EntryLemmas.{find-tells}
 use Rattle.normalizer_records.specs.declared.records.Mappings.{Mappings}
 use Rattle.normalizer_records.specs.declared.records.Mappings.TheVariants.{Canonical, All as AllMappings}
 use Rattle.normalizer_records.specs.declared.records.BuildError.TheVariants as error
-use Rattle.normalizer_records.specs.Entry.{Entry, MapperEntry, Status, MapsTo, IsIgnored, IsDisallowed}
+use Rattle.normalizer_records.specs.RecordValue.{RecordValue, Uts46RecordValue, Status, MapsTo, IsIgnored, IsDisallowed}
 use Rattle.normalizer_records.specs.Faults.{AreRising, HasFault, HasOrderFault, HasClassFault, HasWrongClass, has_fixed_fault, HasLengthFault, HasLongList}
 use Rattle.normalizer_records.specs.Faults.{IsFirstRefusal, IsTooLong, IsWrong, has_mapping_fault, has_zero, is_bad_mapping, is_bad_status, is_disallowed, is_fixed}
 use Rattle.normalizer_records.specs.Faults.{is_fixed_for_mapper, is_mark}
@@ -33,7 +33,7 @@ use Rattle.normalizer_records.proofs.checked_lists.UnrecordedLemmas.{jamo_alone,
 use Rattle.normalizer_records.specs.Recorded.{recorded_characters}
 
 -- the list of n in one kind of data, if records don't ignore n
-abbrev pub recorded_list : List Entry → List MapperEntry → Kind → ℕ → Option (List ℕ)
+abbrev pub recorded_list : List RecordValue → List Uts46RecordValue → Kind → ℕ → Option (List ℕ)
 recorded_list records uts46 kind.Canonical n = Some (canonical_list records n)
 recorded_list records uts46 kind.Compatibility n = Some (compatibility_list records n)
 recorded_list records uts46 kind.Mapper n = mapper_list records uts46 n
@@ -59,12 +59,12 @@ pub record IsSound (Q : ℕ → Type 0) (x : List ℕ) : Type 0 where
   pub all : AllByRecursion Q x
 
 -- nothing is required of the character itself for the mapper
-abbrev pub asked_mark : List Entry → Kind → ℕ → Bool
+abbrev pub asked_mark : List RecordValue → Kind → ℕ → Bool
 asked_mark records kind.Mapper n = false
 asked_mark records _ n = is_mark records n
 
 -- a list of records: none of its members is U+0000, but in that of U+0000 itself
-pub record IsGiven (records : List Entry) (k : Kind) (n : ℕ) (x : List ℕ) : Type 0 where
+pub record IsGiven (records : List RecordValue) (k : Kind) (n : ℕ) (x : List ℕ) : Type 0 where
   pub sound : IsSound (λ m. 0 < n → 0 < m) x
   pub short : ¬ IsTooLong x
   pub right : ¬ IsWrong records n (asked_mark records k n) x
@@ -75,7 +75,7 @@ module _ (Q : ℕ → Type 0) (given : (m : ℕ) → 0 < m → Q m) where
   no_zero [] h = tt
   no_zero (m ∷ x) h = let parts = or_parts (m == 0) (has_zero x) h in let first = parts.0 in (given m (grind (arith, nat_tests)), no_zero x parts.1)
 
-  among : (mappings : Mappings) (r : Entry) → is_bad_mapping r ≡ false → AllByRecursion Q (mapping_among mappings r)
+  among : (mappings : Mappings) (r : RecordValue) → is_bad_mapping r ≡ false → AllByRecursion Q (mapping_among mappings r)
   unfolding is_bad_mapping
   among AllMappings r h = no_zero r.mapping (or_parts (has_zero r.mapping) _ h).0
   among Canonical r h = cond_both r.compatibility [] r.mapping (AllByRecursion Q) (λ _. tt) (λ _. no_zero r.mapping (or_parts (has_zero r.mapping) _ h).0)
@@ -112,11 +112,11 @@ no_filler : (c : ℕ) → is_hangul_syllable c ≡ true → is_in_range 0x115F 0
 unfolding is_hangul_syllable
 no_filler c h = grind (arith, nat_tests)
 
-fixed_mapper_syllable : (r : MapperEntry) → is_hangul_syllable r.c ≡ true → is_fixed_for_mapper r ≡ true
+fixed_mapper_syllable : (r : Uts46RecordValue) → is_hangul_syllable r.c ≡ true → is_fixed_for_mapper r ≡ true
 unfolding is_fixed_for_mapper is_fixed
 fixed_mapper_syllable r h = rw (h, no_replacement_character r.c h, no_jamo r.c h, no_filler r.c h) refl
 
-unfixed_mapper_syllable : (r : MapperEntry) → is_fixed_for_mapper r ≡ false → is_hangul_syllable r.c ≡ false
+unfixed_mapper_syllable : (r : Uts46RecordValue) → is_fixed_for_mapper r ≡ false → is_hangul_syllable r.c ≡ false
 unfixed_mapper_syllable r h = false_from_ne_true _ (λ syllable. true≢false (sym (fixed_mapper_syllable r syllable) ∙ h))
 
 disallowed : (s : Status) → not (is_disallowed s) ≡ false → s ≡ IsDisallowed
@@ -124,11 +124,11 @@ disallowed IsDisallowed h = refl
 disallowed IsIgnored h = absurd (true≢false h)
 disallowed (MapsTo x) h = absurd (true≢false h)
 
-disallowed_replacement : (r : MapperEntry) → r.c ≡ 0xFFFD → is_fixed_for_mapper r ≡ false → r.status ≡ IsDisallowed
+disallowed_replacement : (r : Uts46RecordValue) → r.c ≡ 0xFFFD → is_fixed_for_mapper r ≡ false → r.status ≡ IsDisallowed
 unfolding is_fixed_for_mapper is_fixed
 disallowed_replacement r here h = disallowed r.status (rw here at h)
 
-module _ (records : List Entry) (uts46 : List MapperEntry) (none : IsFirstRefusal records uts46 None) where
+module _ (records : List RecordValue) (uts46 : List Uts46RecordValue) (none : IsFirstRefusal records uts46 None) where
   pub rising : AreRising records
   unfolding IsFirstRefusal HasFault HasOrderFault
   rising i j d below within = stable _ _ (λ falls. none error.Order (λ both. falls (both.0 i j d below within)))
@@ -147,18 +147,18 @@ module _ (records : List Entry) (uts46 : List MapperEntry) (none : IsFirstRefusa
 
   unfixed_statuses : All (λ r. is_fixed_for_mapper r ≡ false) uts46
   unfolding has_fixed_fault
-  unfixed_statuses = none_passes is_fixed_for_mapper uts46 (or_parts (list_any (λ (r : Entry). is_fixed r.c) records) _ no_fixed_fault).1
+  unfixed_statuses = none_passes is_fixed_for_mapper uts46 (or_parts (list_any (λ (r : RecordValue). is_fixed r.c) records) _ no_fixed_fault).1
 
   pub no_syllables : All (λ c. is_hangul_syllable c ≡ false) (recorded_characters records uts46)
   no_syllables =
       let other : ℕ → Type 0 = λ c. is_hangul_syllable c ≡ false in
-      All-append other (map (λ (r : Entry). r.c) records) (map (λ (r : MapperEntry). r.c) uts46)
-      (All-map other (λ (r : Entry). r.c) records (λ k d within. unfixed_syllable _ (unfixed_records k d within)))
-      (All-map other (λ (r : MapperEntry). r.c) uts46 (λ k d within. unfixed_mapper_syllable (get_or uts46 k d) (unfixed_statuses k d within)))
+      All-append other (map (λ (r : RecordValue). r.c) records) (map (λ (r : Uts46RecordValue). r.c) uts46)
+      (All-map other (λ (r : RecordValue). r.c) records (λ k d within. unfixed_syllable _ (unfixed_records k d within)))
+      (All-map other (λ (r : Uts46RecordValue). r.c) uts46 (λ k d within. unfixed_mapper_syllable (get_or uts46 k d) (unfixed_statuses k d within)))
 
   unrecorded_fixed : (n : ℕ) → is_fixed n ≡ true → entry_of records n ≡ None
   unfolding entry_of
-  unrecorded_fixed n h = elim (find-cases (λ (r : Entry). r.c) (λ r. is_fixed r.c ≡ false) records n unfixed_records) as (λ _. find (λ (r : Entry). r.c == n) records ≡ None) [
+  unrecorded_fixed n h = elim (find-cases (λ (r : RecordValue). r.c) (λ r. is_fixed r.c ≡ false) records n unfixed_records) as (λ _. find (λ (r : RecordValue). r.c == n) records ≡ None) [
     | inl missing ↦ missing
     | inr found ↦ absurd (true≢false (sym h ∙ ap is_fixed (sym found.2) ∙ found.3))
   ]
@@ -174,10 +174,10 @@ module _ (records : List Entry) (uts46 : List MapperEntry) (none : IsFirstRefusa
   good_status : (n : ℕ) (s : Status) → status_of uts46 n ≡ Some s → is_bad_status s ≡ false
   unfolding status_of has_mapping_fault
   good_status n s e =
-      let good = none_passes (λ (r : MapperEntry). is_bad_status r.status) uts46 (or_parts (list_any is_bad_mapping records) _ no_mapping_fault).1 in
-      elim (find-cases (λ (r : MapperEntry). r.c) (λ r. is_bad_status r.status ≡ false) uts46 n good) as (λ _. is_bad_status s ≡ false) [
-        | inl missing ↦ absurd (let never : None ≡ Some s = sym (ap (option_map (λ (r : MapperEntry). r.status)) missing) ∙ e in cc)
-        | inr found ↦ rw (same_Some _ _ (sym e ∙ ap (option_map (λ (r : MapperEntry). r.status)) found.1)) found.3
+      let good = none_passes (λ (r : Uts46RecordValue). is_bad_status r.status) uts46 (or_parts (list_any is_bad_mapping records) _ no_mapping_fault).1 in
+      elim (find-cases (λ (r : Uts46RecordValue). r.c) (λ r. is_bad_status r.status ≡ false) uts46 n good) as (λ _. is_bad_status s ≡ false) [
+        | inl missing ↦ absurd (let never : None ≡ Some s = sym (ap (option_map (λ (r : Uts46RecordValue). r.status)) missing) ∙ e in cc)
+        | inr found ↦ rw (same_Some _ _ (sym e ∙ ap (option_map (λ (r : Uts46RecordValue). r.status)) found.1)) found.3
       ]
 
   no_replacement : (mappings : Mappings) (n : ℕ) → is_hangul_syllable n ≡ false → entry_of records n ≡ None → replacement records mappings n ≡ []
@@ -215,9 +215,9 @@ module _ (records : List Entry) (uts46 : List MapperEntry) (none : IsFirstRefusa
   unfolding is_hangul_syllable mapper_list mapped_list list_of_status status_of
   recorded_list-replacement kind.Canonical = ap Some (full_list-unrecorded Canonical 0xFFFD unrecorded_replacement)
   recorded_list-replacement kind.Compatibility = ap Some (full_list-unrecorded AllMappings 0xFFFD unrecorded_replacement)
-  recorded_list-replacement kind.Mapper = elim (find-cases (λ (r : MapperEntry). r.c) (λ r. is_fixed_for_mapper r ≡ false) uts46 0xFFFD unfixed_statuses) [
-    | inl missing ↦ recorded_list-unrecorded kind.Mapper 0xFFFD unrecorded_replacement (ap (option_map (λ (r : MapperEntry). r.status)) missing)
-    | inr found ↦ ap (mapped_list records 0xFFFD) (ap (option_map (λ (r : MapperEntry). r.status)) found.1 ∙ ap Some (disallowed_replacement found.0 found.2 found.3))
+  recorded_list-replacement kind.Mapper = elim (find-cases (λ (r : Uts46RecordValue). r.c) (λ r. is_fixed_for_mapper r ≡ false) uts46 0xFFFD unfixed_statuses) [
+    | inl missing ↦ recorded_list-unrecorded kind.Mapper 0xFFFD unrecorded_replacement (ap (option_map (λ (r : Uts46RecordValue). r.status)) missing)
+    | inr found ↦ ap (mapped_list records 0xFFFD) (ap (option_map (λ (r : Uts46RecordValue). r.status)) found.1 ∙ ap Some (disallowed_replacement found.0 found.2 found.3))
   ]
 
   module _ (Q : ℕ → Type 0) (given : (m : ℕ) → 0 < m → Q m) where
@@ -226,7 +226,7 @@ module _ (records : List Entry) (uts46 : List MapperEntry) (none : IsFirstRefusa
     all_replacement mappings n = cond_both (is_hangul_syllable n) _ _ (AllByRecursion Q)
         (λ h. by_jamo (AllByRecursion Q) n h (λ l v first second. (given l (omega arith), (given v (omega arith), tt)))
         (λ l v t first second third. (given l (omega arith), (given v (omega arith), (given t (omega arith), tt)))))
-        (λ _. elim (find-cases (λ (r : Entry). r.c) (λ r. is_bad_mapping r ≡ false) records n (none_passes _ records (or_parts _ _ no_mapping_fault).0)) [
+        (λ _. elim (find-cases (λ (r : RecordValue). r.c) (λ r. is_bad_mapping r ≡ false) records n (none_passes _ records (or_parts _ _ no_mapping_fault).0)) [
           | inl missing ↦ rw missing tt
           | inr found ↦ rw found.1 (among Q given mappings found.0 found.3)
         ])

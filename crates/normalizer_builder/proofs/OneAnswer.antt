@@ -3,11 +3,11 @@ use Rattle.std.proofs.Common.{◌≡◌, ◌≢◌, inl, inr, ◌≤◌, List, O
 use Rattle.std.proofs.lemmas.Bool.{cases_order}
 use Rattle.normalizer_tables.specs.Conditions.{item_limit}
 use Rattle.normalizer_packing.specs.declared.Packed.{Packed}
-use Rattle.normalizer_tables.specs.Entries.{CharacterEntry}
+use Rattle.normalizer_tables.specs.Entries.{EntryValue}
 use Rattle.normalizer_packing.specs.Stored.{needed_items}
 use Rattle.normalizer_records.specs.declared.records.BuildError.{BuildError}
 use Rattle.normalizer_records.specs.declared.records.BuildError.TheVariants as error
-use Rattle.normalizer_records.specs.Entry.{Entry, MapperEntry}
+use Rattle.normalizer_records.specs.RecordValue.{RecordValue, Uts46RecordValue}
 use Rattle.normalizer_records.specs.Faults.{HasFault, IsFirstRefusal, IsRefusal, rank_of}
 use Rattle.normalizer_records.proofs.record_faults.RefusalLemmas.{one_fault}
 use Rattle.normalizer_builder.specs.declared.demand.Demand.{Demand}
@@ -16,7 +16,7 @@ use Rattle.normalizer_builder.specs.Demands.{demands, error_of, IsFirstUnmet, Me
 use Rattle.normalizer_builder.proofs.FirstUnmet.{one_first}
 use Rattle.normalizer_builder.proofs.SameParts.{one_packing_of_records, same_entries}
 
-module _ (records : List Entry) (uts46 : List MapperEntry) where
+module _ (records : List RecordValue) (uts46 : List Uts46RecordValue) where
   one_refusal : (o p : Option BuildError) → IsFirstRefusal records uts46 o → IsFirstRefusal records uts46 p → o ≡ p
   unfolding IsFirstRefusal
   one_refusal None None h k = refl
@@ -44,7 +44,7 @@ module _ (records : List Entry) (uts46 : List MapperEntry) where
 
   too_many : (p : Packed) → PacksRecords records uts46 p → ¬ HasTooManyItems records uts46
   too_many p packs h =
-      let few = subst (λ (es : List CharacterEntry). needed_items es ≤ item_limit) (same_entries records uts46 packs.entries h.entries packs.made h.made) packs.packs.within in
+      let few = subst (λ (es : List EntryValue). needed_items es ≤ item_limit) (same_entries records uts46 packs.entries h.entries packs.made h.made) packs.packs.within in
       omega (arith, few, h.full)
 
   one_outcome : (v w : Option (Option Demand)) → Becomes v → Becomes w → v ≡ w

@@ -9,11 +9,11 @@ use Rattle.normalizer_tables.specs.SpecialLists.{fdfa_list}
 use Rattle.normalizer_tables.specs.declared.entry.Kind.{Kind}
 use Rattle.normalizer_packing.specs.declared.spelling.Spelling.{Spelling}
 use Rattle.normalizer_packing.specs.declared.spelling.Spelling.TheVariants.{Final, Short, Listed}
-use Rattle.normalizer_tables.specs.Entries.{CharacterEntry, class_in, own_list}
+use Rattle.normalizer_tables.specs.Entries.{EntryValue, class_in, own_list}
 use Rattle.normalizer_packing.specs.Packing.{ArePackable}
 use Rattle.normalizer_packing.specs.Spelling.{spelling, spelling_or_ignored, spelling_by_list, spelling_of_list}
 use Rattle.normalizer_packing.specs.Stored.{HasLengthOfWord, is_narrow, listed_of, listed_in}
-use Rattle.normalizer_records.specs.Entry.{Entry, MapperEntry}
+use Rattle.normalizer_records.specs.RecordValue.{RecordValue, Uts46RecordValue}
 use Rattle.normalizer_records.specs.Faults.{IsFirstRefusal, is_long}
 use Rattle.normalizer_records.specs.Recorded.{IsOfCharacters}
 use Rattle.normalizer_records.specs.Recorded.{AreMadeOf, entry_for}
@@ -42,7 +42,7 @@ unfolding spelling spelling_or_ignored spelling_by_list spelling_of_list fdfa_li
 fdfa_spelled class n e = absurd (grind arith)
 
 -- the list of an entry made of records has a length for which a word has room, if it is in a table
-listed_given : (records : List Entry) (m : ℕ) (class : ℕ → ℕ) (k : Kind) (e : CharacterEntry) → IfSome (own_list k e) (IsGiven records k m) → IfSome (listed_of class k e) HasLengthOfWord
+listed_given : (records : List RecordValue) (m : ℕ) (class : ℕ → ℕ) (k : Kind) (e : EntryValue) → IfSome (own_list k e) (IsGiven records k m) → IfSome (listed_of class k e) HasLengthOfWord
 unfolding listed_of
 listed_given records m class k e given = of_list (own_list k e) given (spelling class e.character (own_list k e)) refl
   where
@@ -61,12 +61,12 @@ All-made P make h each (c ∷ cs) = elim (h (make c)) as (λ o. IfSome o P → A
   | None ↦ λ _. All-made P make h each cs
 ] (each c)
 
-pub ArePackable-made : (records : List Entry) (uts46 : List MapperEntry) → IsFirstRefusal records uts46 None → (entries : List CharacterEntry) → AreMadeOf records uts46 entries →
+pub ArePackable-made : (records : List RecordValue) (uts46 : List Uts46RecordValue) → IsFirstRefusal records uts46 None → (entries : List EntryValue) → AreMadeOf records uts46 entries →
     All IsOfCharacters entries → ArePackable entries
 unfolding listed_in
 ArePackable-made records uts46 none entries made characters = record {
   rising = AreRising-made records uts46 none entries made characters;
-  lengths = λ k. subst (λ (es : List CharacterEntry). All HasLengthOfWord (filter_map (listed_of (class_in entries) k) es)) (sym made.made)
+  lengths = λ k. subst (λ (es : List EntryValue). All HasLengthOfWord (filter_map (listed_of (class_in entries) k) es)) (sym made.made)
       (All-made HasLengthOfWord (entry_for records uts46) (listed_of (class_in entries) k)
       (λ c. listed_given records c (class_in entries) k (entry_for records uts46 c) (rw (own_recorded records uts46 k c) (IsGiven-recorded records uts46 none k c))) made.characters);
 }

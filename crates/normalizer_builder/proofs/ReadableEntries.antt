@@ -10,11 +10,11 @@ use Rattle.normal_forms.specs.Boundary.{BeginsWithStarter}
 use Rattle.normal_forms.specs.Reading.{IsText}
 use Rattle.normalizer_tables.specs.declared.entry.Kind.{Kind}
 use Rattle.normalizer_tables.specs.declared.entry.Kind.TheVariants as kind
-use Rattle.normalizer_tables.specs.Entries.{CharacterEntry, class_in, reading_of_entries, kept_list, list_in, own_list}
+use Rattle.normalizer_tables.specs.Entries.{EntryValue, class_in, reading_of_entries, kept_list, list_in, own_list}
 use Rattle.normalizer_packing.specs.ReadBack.{AreReadable, class_by, tells_class}
 use Rattle.normalizer_packing.specs.Spelling.{has_fixed_list, have_classes, list_eq}
 use Rattle.normalizer_packing.proofs.lists.TableLemmas.{eq_list}
-use Rattle.normalizer_records.specs.Entry.{Entry, MapperEntry}
+use Rattle.normalizer_records.specs.RecordValue.{RecordValue, Uts46RecordValue}
 use Rattle.normalizer_records.specs.Faults.{IsFirstRefusal, IsFixedForm, IsFreeForm, begins_with_mark}
 use Rattle.normalizer_records.specs.Meaning.{class_of}
 use Rattle.normalizer_records.specs.Recorded.{IsOfCharacters}
@@ -27,24 +27,24 @@ have_classes-own : (f : ℕ → ℕ) (x : List ℕ) → have_classes f (map f x)
 have_classes-own f [] = refl
 have_classes-own f (c ∷ x) = ap₂ (λ a b. a && b) (eq-eqb (f c) (f c) refl) (have_classes-own f x)
 
-fixed_form-has : (records : List Entry) (n : ℕ) (x : List ℕ) → IsFixedForm records n x → has_fixed_list (class_of records) n x ≡ true
+fixed_form-has : (records : List RecordValue) (n : ℕ) (x : List ℕ) → IsFixedForm records n x → has_fixed_list (class_of records) n x ≡ true
 unfolding has_fixed_list
 fixed_form-has records n x form = rw (form, has_fixed_list) (rw (eq_list x x refl, eq-eqb (class_of records n) (class_of records n) refl, have_classes-own (class_of records) x) refl)
 
 no_mark : (k : ℕ) → nat_lt 0 k ≡ false → k ≡ 0
 no_mark k e = grind (arith, nat_tests)
 
-own_text : (k : Kind) (e : CharacterEntry) → IsOfCharacters e → IsText (unwrap_or (own_list k e) [])
+own_text : (k : Kind) (e : EntryValue) → IsOfCharacters e → IsText (unwrap_or (own_list k e) [])
 own_text kind.Canonical e h = h.canonical
 own_text kind.Compatibility e h = h.compatibility
 own_text kind.Mapper e h = elim e.mapper as (λ o. IfSome o IsText → IsText (unwrap_or o [])) [ None ↦ λ _. All-nil IsScalar | Some x ↦ λ text. text ] h.mapper
 
 -- no list of another character is that of U+0000
-zero_only : (records : List Entry) (k : Kind) (n : ℕ) (o : Option (List ℕ)) → IfSome o (IsGiven records k n) → unwrap_or o [] ≡ 0 ∷ [] → n ≡ 0
+zero_only : (records : List RecordValue) (k : Kind) (n : ℕ) (o : Option (List ℕ)) → IfSome o (IsGiven records k n) → unwrap_or o [] ≡ 0 ∷ [] → n ≡ 0
 zero_only records k n None given e = absurd cc
 zero_only records k n (Some x) given e = let first : 0 < n → 0 < 0 = (subst (AllByRecursion (λ m. 0 < n → 0 < m)) e given.sound.all).0 in grind arith
 
-module _ (records : List Entry) (uts46 : List MapperEntry) (none : IsFirstRefusal records uts46 None) (entries : List CharacterEntry) (made : AreMadeOf records uts46 entries)
+module _ (records : List RecordValue) (uts46 : List Uts46RecordValue) (none : IsFirstRefusal records uts46 None) (entries : List EntryValue) (made : AreMadeOf records uts46 entries)
     (characters : All IsOfCharacters entries) where
   tells : (n : ℕ) → IsAlone records uts46 entries n ⊎ IsTold records uts46 entries n
   tells = told records uts46 none entries made characters

@@ -7,11 +7,11 @@ use Rattle.normalizer_packing.specs.declared.Packed.{Packed}
 use Rattle.normalizer_tables.specs.declared.entry.Kind.TheVariants as kind
 use Rattle.normalizer_packing.specs.ReadBack.{characters_of}
 use Rattle.normalizer_records.specs.declared.records.Mappings.TheVariants as mappings
-use Rattle.normalizer_records.specs.Entry.{Entry, MapperEntry}
+use Rattle.normalizer_records.specs.RecordValue.{RecordValue, Uts46RecordValue}
 use Rattle.normalizer_builder.specs.Building.{MeansRecords}
 use Rattle.normalizer_builder.specs.RecordedReading.{recorded_reading}
 
-module _ (records : List Entry) (uts46 : List MapperEntry) (p : Packed) (means : MeansRecords records uts46 p) where
+module _ (records : List RecordValue) (uts46 : List Uts46RecordValue) (p : Packed) (means : MeansRecords records uts46 p) where
   pub alike_canonical : AreAlike (reading_by (characters_of p kind.Canonical) Dropped p.compositions) (recorded_reading records mappings.Canonical)
   alike_canonical = record { lists = means.canonical; classes = means.canonical_classes; pairs = means.pairs }
 

@@ -12,11 +12,11 @@ use Rattle.std.proofs.lemmas.List.Sorted.{All-permutation, Contains-permutation,
 use Rattle.normalizer_tables.specs.HangulComposition.{compose_hangul}
 use Rattle.normalizer_tables.specs.Pairs.{Pair, AreRising as ArePairsRising, is_before, is_of, is_vowel_or_trailing_jamo, listed_result, pair_of}
 use Rattle.normalizer_packing.specs.declared.Packed.{Packed}
-use Rattle.normalizer_tables.specs.Entries.{CharacterEntry}
+use Rattle.normalizer_tables.specs.Entries.{EntryValue}
 use Rattle.normalizer_packing.specs.Packing.{Packs}
 use Rattle.normalizer_packing.proofs.entry_data.EntryLemmas.{find-none, find-tells}
 use Rattle.normalizer_packing.proofs.entry_data.PackingLemmas.{one_packing}
-use Rattle.normalizer_records.specs.Entry.{Entry, MapperEntry}
+use Rattle.normalizer_records.specs.RecordValue.{RecordValue, Uts46RecordValue}
 use Rattle.normalizer_builder.specs.Building.{PacksRecords}
 use Rattle.normalizer_records.specs.Recorded.{AreMadeOf, ListsCharacters, entry_for, recorded_characters}
 
@@ -54,12 +54,12 @@ module _ {X : Type 0} (R : X → X → Type 0) (one_way : (x y : X) → R x y �
       ] in
       rw (first, same_members xs ys left.1 right.1 (tail_members x xs y ys first left.0 to) (tail_members y ys x xs (sym first) right.0 from)) refl
 
-module _ (records : List Entry) (uts46 : List MapperEntry) where
+module _ (records : List RecordValue) (uts46 : List Uts46RecordValue) where
   listed_in_both : (xs ys : List ℕ) → ListsCharacters records uts46 xs → ListsCharacters records uts46 ys → (n : ℕ) → Contains xs n → Contains ys n
   listed_in_both xs ys h k n there = All-contains (Contains ys) (recorded_characters records uts46) n k.all (All-contains (Contains (recorded_characters records uts46)) xs n h.recorded there)
 
   -- the entries of records
-  pub same_entries : (es fs : List CharacterEntry) → AreMadeOf records uts46 es → AreMadeOf records uts46 fs → es ≡ fs
+  pub same_entries : (es fs : List EntryValue) → AreMadeOf records uts46 es → AreMadeOf records uts46 fs → es ≡ fs
   same_entries es fs h k =
       h.made
       ∙ ap (map (entry_for records uts46)) (same_members {X = ℕ} (λ a b. a < b) (λ a b below above. omega arith) h.characters k.characters
@@ -72,13 +72,13 @@ unfolding is_before
 not_both_before p q h k = absurd (grind (arith, nat_tests))
 
 -- data that pack the same records are equal
-pub one_packing_of_records : (records : List Entry) (uts46 : List MapperEntry) (p q : Packed) → PacksRecords records uts46 p → PacksRecords records uts46 q → p ≡ q
+pub one_packing_of_records : (records : List RecordValue) (uts46 : List Uts46RecordValue) (p q : Packed) → PacksRecords records uts46 p → PacksRecords records uts46 q → p ≡ q
 one_packing_of_records records uts46 p q h k =
     let moved : IsPermutation k.pairs h.pairs = IsPermutation-trans k.pairs _ h.pairs (IsPermutation-sym _ k.pairs k.same_pairs) h.same_pairs in
     let pairs : k.pairs ≡ h.pairs = same_members (λ p q. is_before p q.0 q.1 ≡ true) not_both_before k.pairs h.pairs k.rising_pairs h.rising_pairs
     (λ p. Contains-permutation k.pairs h.pairs p moved) (λ p. Contains-permutation h.pairs k.pairs p (IsPermutation-sym k.pairs h.pairs moved)) in
     let packs : Packs h.entries h.pairs q = subst (λ (l : List Pair). Packs h.entries l q) pairs
-    (subst (λ (es : List CharacterEntry). Packs es k.pairs q) (same_entries records uts46 k.entries h.entries k.made h.made) k.packs) in
+    (subst (λ (es : List EntryValue). Packs es k.pairs q) (same_entries records uts46 k.entries h.entries k.made h.made) k.packs) in
     one_packing h.entries h.pairs p q h.packs packs
 
 -- the one that passes is found

@@ -1,7 +1,7 @@
 -- The data that were built.
 use Rattle.std.specs.Prelude.{List}
 use Rattle.normalizer_packing.specs.declared.Packed.{Packed}
-use Rattle.normalizer_records.specs.Entry.{Entry, MapperEntry}
+use Rattle.normalizer_records.specs.RecordValue.{RecordValue, Uts46RecordValue}
 use Rattle.normalizer_builder.specs.Building.{Builds}
 use Rattle.normalizer_builder.specs.declared.built.Built.{Built}
 
@@ -11,4 +11,4 @@ data_in b = b.packed
 
 -- some records build these data
 abbrev pub AreBuilt : Packed → Type 0
-AreBuilt p = (records : List Entry) × (uts46 : List MapperEntry) × Builds records uts46 p
+AreBuilt p = (records : List RecordValue) × (uts46 : List Uts46RecordValue) × Builds records uts46 p

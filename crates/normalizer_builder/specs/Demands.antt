@@ -16,7 +16,7 @@ use Rattle.normalizer_packing.specs.declared.Packed.{Packed}
 pub use Rattle.normalizer_packing.specs.ReadBack.{characters_of, decompositions_of}
 use Rattle.normalizer_records.specs.declared.records.BuildError.{BuildError}
 use Rattle.normalizer_records.specs.declared.records.BuildError.TheVariants as error
-use Rattle.normalizer_records.specs.Entry.{Entry}
+use Rattle.normalizer_records.specs.RecordValue.{RecordValue}
 use Rattle.normalizer_records.specs.Recorded.{recorded_step}
 use Rattle.normalizer_builder.specs.declared.demand.Demand.{Demand}
 use Rattle.normalizer_builder.specs.declared.demand.Demand.TheVariants.{Asks, KeepsMappings}
@@ -36,12 +36,12 @@ loaded_of p kind = record {
 }
 
 -- one step of n is the canonical mapping that is recorded of it
-unfoldable pub KeepsMapping : List Entry → Packed → ℕ → Type 0
+unfoldable pub KeepsMapping : List RecordValue → Packed → ℕ → Type 0
 KeepsMapping records p n =
     IfSome (recorded_step records n) (λ s. step_of (characters_of p Canonical) p.supplement n ≡ Some s)
 
 -- the data meet the requirement
-unfoldable pub Meets : List Entry → Packed → Demand → Type 0
+unfoldable pub Meets : List RecordValue → Packed → Demand → Type 0
 Meets records p (Asks c kind) = IsMet (loaded_of p kind) c
 Meets records p KeepsMappings = (n : ℕ) → KeepsMapping records p n
 
@@ -66,7 +66,7 @@ abbrev pub demands : List Demand
 demands = asked ++ KeepsMappings ∷ []
 
 -- all requirements are met, or this is the first that isn't
-abbrev pub IsFirstUnmet : List Entry → Packed → Option Demand → Type 0
+abbrev pub IsFirstUnmet : List RecordValue → Packed → Option Demand → Type 0
 IsFirstUnmet records p r = IsFirstFailing (Meets records p) demands r
 
 -- the marker of the decomposition data of one kind

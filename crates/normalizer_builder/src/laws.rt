@@ -32,7 +32,7 @@ ghost use Rattle.normalizer_packing.specs.ReadBack.{characters_of};
 ghost use Rattle.normalizer_records.specs.declared.records.BuildError.{BuildError};
 ghost use Rattle.normalizer_records.specs.declared.records.BuildError.TheVariants.{Memory};
 ghost use Rattle.normalizer_records.specs.declared.records.Mappings.{Mappings};
-ghost use Rattle.normalizer_records.specs.Entry.{Entry, MapperEntry};
+ghost use Rattle.normalizer_records.specs.RecordValue.{RecordValue, Uts46RecordValue};
 ghost use Rattle.normalizer_builder.specs.Accepted.{steps_loaded};
 ghost use Rattle.normalizer_builder.specs.Building.{Builds, IsSmallest, PacksRecords};
 ghost use Rattle.normalizer_builder.specs.RecordedReading.{recorded_reading};
@@ -45,37 +45,38 @@ use normalizer_conditions::laws::lists_are_nonempty;
 
 /// All data that pack the same records are equal, so that the records alone decide which condition fails.
 pub fn packed_records_are_one()
-    ensures { (records : List Entry) (uts46 : List MapperEntry) (p q : Packed) →
+    ensures { (records : List RecordValue) (uts46 : List Uts46RecordValue) (p q : Packed) →
         PacksRecords records uts46 p → PacksRecords records uts46 q → p ≡ q }
 {}
 
 /// The records alone decide the result, unless memory is refused: they have one smallest fault at most, and none if
 /// they build data.
 pub fn records_have_one_answer()
-    ensures refusal { (records : List Entry) (uts46 : List MapperEntry) (e f : BuildError) →
+    ensures refusal { (records : List RecordValue) (uts46 : List Uts46RecordValue) (e f : BuildError) →
         IsSmallest records uts46 e → IsSmallest records uts46 f → e ≢ Memory → f ≢ Memory → e ≡ f }
-    ensures built { (records : List Entry) (uts46 : List MapperEntry) (p : Packed) (e : BuildError) →
+    ensures built { (records : List RecordValue) (uts46 : List Uts46RecordValue) (p : Packed) (e : BuildError) →
         Builds records uts46 p → IsSmallest records uts46 e → e ≡ Memory }
 {}
 
 /// Each constructor accepts what is built: those of the four forms, of the mapper, and of classes, pairs and single
 /// decomposition steps. (What classes alone and pairs alone require follows from the laws that are called.)
 pub fn what_is_built_is_accepted()
-    ensures nfd { (records : List Entry) (uts46 : List MapperEntry) (p : Packed) → Builds records uts46 p →
+    ensures nfd { (records : List RecordValue) (uts46 : List Uts46RecordValue) (p : Packed) → Builds records uts46 p →
         All (IsMet (characters_alone (characters_of p Canonical))) decomposing_conditions }
-    ensures nfkd { (records : List Entry) (uts46 : List MapperEntry) (p : Packed) → Builds records uts46 p →
+    ensures nfkd { (records : List RecordValue) (uts46 : List Uts46RecordValue) (p : Packed) → Builds records uts46 p →
         All (IsMet (characters_alone (characters_of p Compatibility))) decomposing_conditions }
-    ensures nfc { (records : List Entry) (uts46 : List MapperEntry) (p : Packed) → Builds records uts46 p →
+    ensures nfc { (records : List RecordValue) (uts46 : List Uts46RecordValue) (p : Packed) → Builds records uts46 p →
         All (IsMet (characters_and_pairs (characters_of p Canonical) p.compositions)) (composing_conditions false) }
-    ensures nfkc { (records : List Entry) (uts46 : List MapperEntry) (p : Packed) → Builds records uts46 p →
+    ensures nfkc { (records : List RecordValue) (uts46 : List Uts46RecordValue) (p : Packed) → Builds records uts46 p →
         All (IsMet (characters_and_pairs (characters_of p Compatibility) p.compositions)) (composing_conditions false) }
-    ensures mapper { (records : List Entry) (uts46 : List MapperEntry) (p : Packed) → Builds records uts46 p →
+    ensures mapper { (records : List RecordValue) (uts46 : List Uts46RecordValue) (p : Packed) →
+        Builds records uts46 p →
         All (IsMet (characters_and_pairs (characters_of p Mapper) p.compositions)) (composing_conditions true) }
-    ensures classes { (records : List Entry) (uts46 : List MapperEntry) (p : Packed) → Builds records uts46 p →
-        All (IsMet (classes_loaded p.canonical)) class_conditions }
-    ensures pairs { (records : List Entry) (uts46 : List MapperEntry) (p : Packed) → Builds records uts46 p →
+    ensures classes { (records : List RecordValue) (uts46 : List Uts46RecordValue) (p : Packed) →
+        Builds records uts46 p → All (IsMet (classes_loaded p.canonical)) class_conditions }
+    ensures pairs { (records : List RecordValue) (uts46 : List Uts46RecordValue) (p : Packed) → Builds records uts46 p →
         AreSoundPairs p.compositions }
-    ensures steps { (records : List Entry) (uts46 : List MapperEntry) (p : Packed) → Builds records uts46 p →
+    ensures steps { (records : List RecordValue) (uts46 : List Uts46RecordValue) (p : Packed) → Builds records uts46 p →
         All (IsMet (steps_loaded p)) step_conditions }
 {
     accepted_data_have_sound_classes();
@@ -98,10 +99,10 @@ pub fn data_that_meet_conditions_are_accepted()
 /// What records that build mean satisfies the hypotheses of the laws of the normal forms. (It follows from the laws on
 /// data and on readings that are called.)
 pub fn what_is_built_suits_the_laws()
-    ensures suits { (records : List Entry) (uts46 : List MapperEntry) (p : Packed) → Builds records uts46 p →
+    ensures suits { (records : List RecordValue) (uts46 : List Uts46RecordValue) (p : Packed) → Builds records uts46 p →
         (mappings : Mappings) (form : Form) → SuitsForm (recorded_reading records mappings) form }
-    ensures are_nonempty { (records : List Entry) (uts46 : List MapperEntry) (p : Packed) → Builds records uts46 p →
-        (mappings : Mappings) → HasNonemptyLists (recorded_reading records mappings) }
+    ensures are_nonempty { (records : List RecordValue) (uts46 : List Uts46RecordValue) (p : Packed) →
+        Builds records uts46 p → (mappings : Mappings) → HasNonemptyLists (recorded_reading records mappings) }
 {
     accepted_data_suit_texts();
     lists_are_nonempty();

@@ -3,7 +3,7 @@
 
 ghost use Rattle.std.specs.Prelude.{◌≡◌, ◌↔◌, All, IsTrue, List, option_map};
 ghost use Rattle.normalizer_tables.specs.Conditions.{IsFirstFailing, IsMet};
-ghost use Rattle.normalizer_records.specs.Entry.{Entry};
+ghost use Rattle.normalizer_records.specs.RecordValue.{RecordValue};
 ghost use Rattle.normalizer_records.specs.Faults.{AreRising};
 ghost use Rattle.normalizer_builder.specs.Demands.{
   asked,
@@ -40,7 +40,7 @@ pub(crate) fn first_unmet(records: &[Record], packed: &Packed) -> Option<Demand>
 
 /// The first requirement of constructors that packed data don't meet.
 fn first_asked(packed: &Packed) -> Option<Demand>
-    ensures { (records : List Entry) → IsFirstFailing (Meets records packed.now) asked result }
+    ensures { (records : List RecordValue) → IsFirstFailing (Meets records packed.now) asked result }
 {
     let mapper = first_of_kind(packed, Kind::Mapper);
     let others = earlier(first_of_kind(packed, Kind::Compatibility), mapper);
@@ -49,7 +49,7 @@ fn first_asked(packed: &Packed) -> Option<Demand>
 
 /// The first requirement of constructors that the data of one kind don't meet.
 fn first_of_kind(packed: &Packed, kind: Kind) -> Option<Demand>
-    ensures { (records : List Entry) → IsFirstFailing (Meets records packed.now) (asked_of kind) result }
+    ensures { (records : List RecordValue) → IsFirstFailing (Meets records packed.now) (asked_of kind) result }
 {
     asked_of(kind, first_failing_of_kind(packed, kind))
 }

@@ -6,7 +6,7 @@ use Rattle.normalizer_packing.specs.declared.Packed.{Packed}
 use Rattle.normalizer_tables.specs.declared.entry.Kind.TheVariants as kind
 use Rattle.normalizer_packing.specs.ReadBack.{characters_of}
 use Rattle.normalizer_records.specs.declared.records.Mappings.TheVariants.{Canonical, All}
-use Rattle.normalizer_records.specs.Entry.{Entry, MapperEntry}
+use Rattle.normalizer_records.specs.RecordValue.{RecordValue, Uts46RecordValue}
 use Rattle.normalizer_builder.specs.Building.{MeansRecords}
 use Rattle.normalizer_built.specs.declared.NormalForm.{NormalForm}
 use Rattle.normalizer_built.specs.declared.NormalForm.TheVariants.{Nfd, Nfc, Nfkd, Nfkc}
@@ -15,7 +15,7 @@ use Rattle.normalizer_built.specs.RecordedForms.{form_of_data, recorded_form}
 use Rattle.normalizer_tables.specs.Readings.{reading_by}
 use Rattle.normalizer_tables.specs.declared.characters.IgnoredCharacters.TheVariants.{Dropped}
 
-pub form_of_data-recorded : (records : List Entry) (uts46 : List MapperEntry) (p : Packed) → MeansRecords records uts46 p → (form : NormalForm) (x : List ℕ)
+pub form_of_data-recorded : (records : List RecordValue) (uts46 : List Uts46RecordValue) (p : Packed) → MeansRecords records uts46 p → (form : NormalForm) (x : List ℕ)
     → form_of_data p form x ≡ recorded_form records form x
 unfolding normal_form
 form_of_data-recorded records uts46 p means Nfd x =

@@ -6,7 +6,7 @@ use Rattle.normalizer_tables.specs.declared.characters.IgnoredCharacters.{Ignore
 use Rattle.normalizer_tables.specs.Ignored.{ignored_list}
 use Rattle.normalizer_tables.specs.Pairs.{pair_of}
 use Rattle.normalizer_tables.specs.Readings.{reading_by}
-use Rattle.normalizer_records.specs.Entry.{Entry, MapperEntry}
+use Rattle.normalizer_records.specs.RecordValue.{RecordValue, Uts46RecordValue}
 use Rattle.normalizer_records.specs.Meaning.{mapper_list, pairs_of}
 use Rattle.normalizer_builder.specs.RecordedClasses.{mapper_class_of}
 use Rattle.icu_normalizer.specs.Uts46.{MapperData}
@@ -16,7 +16,7 @@ abbrev pub mapped_in : MapperData → IgnoredCharacters → List ℕ → List �
 mapped_in h ignored x = nfc (reading_by h.0 ignored h.1) x
 
 -- what records mean to a mapper: the lists, the classes and the pairs
-abbrev pub mapper_reading : List Entry → List MapperEntry → IgnoredCharacters → Reading
+abbrev pub mapper_reading : List RecordValue → List Uts46RecordValue → IgnoredCharacters → Reading
 mapper_reading records uts46 ignored = record {
   list = λ c. unwrap_or (mapper_list records uts46 c) (ignored_list ignored);
   class = mapper_class_of records uts46;

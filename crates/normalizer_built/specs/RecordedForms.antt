@@ -8,13 +8,13 @@ use Rattle.normalizer_packing.specs.declared.Packed.{Packed}
 use Rattle.normalizer_tables.specs.declared.entry.Kind.TheVariants as kind
 use Rattle.normalizer_packing.specs.ReadBack.{characters_of}
 use Rattle.normalizer_records.specs.declared.records.Mappings.TheVariants.{Canonical, All}
-use Rattle.normalizer_records.specs.Entry.{Entry}
+use Rattle.normalizer_records.specs.RecordValue.{RecordValue}
 use Rattle.normalizer_builder.specs.RecordedReading.{recorded_reading}
 use Rattle.normalizer_built.specs.declared.NormalForm.{NormalForm}
 use Rattle.normalizer_built.specs.declared.NormalForm.TheVariants.{Nfd, Nfc, Nfkd, Nfkc}
 
 -- D118 to D121
-abbrev pub recorded_form : List Entry → NormalForm → List ℕ → List ℕ
+abbrev pub recorded_form : List RecordValue → NormalForm → List ℕ → List ℕ
 recorded_form records Nfd x = normal_form (recorded_reading records Canonical) Decomposing x
 recorded_form records Nfc x = normal_form (recorded_reading records Canonical) Composing x
 recorded_form records Nfkd x = normal_form (recorded_reading records All) Decomposing x

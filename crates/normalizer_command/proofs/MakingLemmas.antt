@@ -8,7 +8,7 @@ use Rattle.icu_normalizer.specs.Uts46.{MapperData}
 use Rattle.normalizer_packing.specs.declared.Packed.{Packed}
 use Rattle.normalizer_tables.specs.declared.entry.Kind.TheVariants as kind
 use Rattle.normalizer_packing.specs.ReadBack.{characters_of}
-use Rattle.normalizer_records.specs.Entry.{Entry, MapperEntry}
+use Rattle.normalizer_records.specs.RecordValue.{RecordValue, Uts46RecordValue}
 use Rattle.normalizer_builder.specs.Building.{Builds}
 use Rattle.normalizer_built.specs.declared.NormalForm.TheVariants.{Nfd, Nfc, Nfkd, Nfkc}
 use Rattle.normalizer_built.specs.Mapping.{mapper_reading}
@@ -20,7 +20,7 @@ use Rattle.icu_normalizer.specs.ComposingNormalizers.{composing_data_of, pairs_o
 use Rattle.normalizer_built.specs.declared.normalizer.Normalizer.TheVariants as normalizer
 use Rattle.normalizer_command.specs.Making.{making_by, mapping_by, Makes, Maps}
 
-module _ (n : DecomposingNormalizer) (records : List Entry) (mapper : List MapperEntry) (p : Packed) (builds : Builds records mapper p) where
+module _ (n : DecomposingNormalizer) (records : List RecordValue) (mapper : List Uts46RecordValue) (p : Packed) (builds : Builds records mapper p) where
   pub makes-nfd : data_of n ≡ characters_of p kind.Canonical → Makes (normalizer.Decomposing n) (making_by records Nfd)
   unfolding normal_form
   makes-nfd held = record { kind = refl; same = λ x. rw held (form_of_data-recorded records mapper p builds.means Nfd x) }
@@ -29,7 +29,7 @@ module _ (n : DecomposingNormalizer) (records : List Entry) (mapper : List Mappe
   unfolding normal_form
   makes-nfkd held = record { kind = refl; same = λ x. rw held (form_of_data-recorded records mapper p builds.means Nfkd x) }
 
-module _ (n : ComposingNormalizer) (records : List Entry) (mapper : List MapperEntry) (p : Packed) (builds : Builds records mapper p) where
+module _ (n : ComposingNormalizer) (records : List RecordValue) (mapper : List Uts46RecordValue) (p : Packed) (builds : Builds records mapper p) where
   pub makes-nfc : composing_data_of n ≡ characters_of p kind.Canonical → pairs_of n ≡ p.compositions → Makes (normalizer.Composing n) (making_by records Nfc)
   unfolding normal_form
   makes-nfc held pairs = record { kind = refl; same = λ x. rw (held, pairs) (form_of_data-recorded records mapper p builds.means Nfc x) }
@@ -39,7 +39,7 @@ module _ (n : ComposingNormalizer) (records : List Entry) (mapper : List MapperE
   makes-nfkc held pairs = record { kind = refl; same = λ x. rw (held, pairs) (form_of_data-recorded records mapper p builds.means Nfkc x) }
 
 -- a mapper over built data maps by the records
-pub maps-recorded : (h : MapperData) (records : List Entry) (uts46 : List MapperEntry) (p : Packed) → Builds records uts46 p
+pub maps-recorded : (h : MapperData) (records : List RecordValue) (uts46 : List Uts46RecordValue) (p : Packed) → Builds records uts46 p
     → h ≡ (characters_of p kind.Mapper, p.compositions) → Maps h (mapping_by records uts46)
 maps-recorded h records uts46 p builds held =
     let means = builds.means in

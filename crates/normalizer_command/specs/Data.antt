@@ -2,7 +2,7 @@
 use Rattle.std.specs.Prelude.{◌≡◌, ℕ, List, [], ◌∷◌, ◌++◌, codes, Option, IfSome, Ok, Err, ⊤, ◌⊎◌}
 use Rattle.normalizer_builder.specs.Building.{Builds, IsSmallest}
 use Rattle.normalizer_packing.specs.declared.Packed.{Packed}
-use Rattle.normalizer_records.specs.Entry.{Entry, MapperEntry}
+use Rattle.normalizer_records.specs.RecordValue.{RecordValue, Uts46RecordValue}
 use Rattle.normalizer_ucd.specs.declared.error.UcdFile.{UcdFile}
 use Rattle.normalizer_ucd.specs.declared.error.UcdFile.TheVariants.{UnicodeData, CompositionExclusions, IdnaMappingTable}
 use Rattle.normalizer_ucd.specs.declared.idna_table.Disallowed.TheVariants.{All}
@@ -41,12 +41,13 @@ AreFiles bytes_of directory command unicode_data exclusions table =
     × IsTable bytes_of directory command table
 
 -- the records that the lines of the files say
-abbrev pub AreRecorded : (unicode_data exclusions table : List ℕ) → List Entry → List MapperEntry → Type 0
+abbrev pub AreRecorded : (unicode_data exclusions table : List ℕ) → List RecordValue → List Uts46RecordValue → Type 0
 AreRecorded unicode_data exclusions table records uts46 =
     (records_of unicode_data exclusions ≡ Ok records) × (uts46_records_of All table ≡ Ok uts46)
 
 -- these data are built from them
-abbrev pub AreBuiltOf : (unicode_data exclusions table : List ℕ) → List Entry → List MapperEntry → Packed → Type 0
+abbrev pub AreBuiltOf : (unicode_data exclusions table : List ℕ) → List RecordValue → List Uts46RecordValue → Packed →
+  Type 0
 AreBuiltOf unicode_data exclusions table records uts46 p =
     AreRecorded unicode_data exclusions table records uts46 × Builds records uts46 p
 
@@ -54,8 +55,8 @@ AreBuiltOf unicode_data exclusions table records uts46 p =
 abbrev pub IsFaultOf : (unicode_data exclusions table : List ℕ) → UcdFile → Fault → Type 0
 IsFaultOf unicode_data exclusions table file (Line fault) = (file ≡ fault.place.file)
     × ((records_of unicode_data exclusions ≡ Err fault) ⊎ (uts46_records_of All table ≡ Err fault))
-IsFaultOf unicode_data exclusions table file (Records error) = (file ≡ UnicodeData) × ((records : List Entry)
-    × (uts46 : List MapperEntry) × AreRecorded unicode_data exclusions table records uts46
+IsFaultOf unicode_data exclusions table file (Records error) = (file ≡ UnicodeData) × ((records : List RecordValue)
+    × (uts46 : List Uts46RecordValue) × AreRecorded unicode_data exclusions table records uts46
     × IsSmallest records uts46 error)
 IsFaultOf unicode_data exclusions table file Memory = ⊤
 IsFaultOf unicode_data exclusions table file (Open kind) = ⊥

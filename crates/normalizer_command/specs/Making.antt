@@ -7,7 +7,7 @@ use Rattle.normal_forms.specs.Reading.{Reading}
 use Rattle.normalizer_tables.specs.declared.characters.IgnoredCharacters.TheVariants.{Dropped, Replaced}
 use Rattle.normalizer_records.specs.declared.records.Mappings.{Mappings}
 use Rattle.normalizer_records.specs.declared.records.Mappings.TheVariants.{Canonical, All}
-use Rattle.normalizer_records.specs.Entry.{Entry, MapperEntry}
+use Rattle.normalizer_records.specs.RecordValue.{RecordValue, Uts46RecordValue}
 use Rattle.normalizer_builder.specs.RecordedReading.{recorded_reading}
 use Rattle.normalizer_built.specs.declared.NormalForm.{NormalForm}
 use Rattle.normalizer_built.specs.declared.NormalForm.TheVariants.{Nfd, Nfc, Nfkd, Nfkc}
@@ -34,7 +34,7 @@ kind_of Nfkd = Decomposing
 kind_of Nfkc = Composing
 
 -- D118 to D121 by what records mean
-abbrev pub making_by : List Entry → NormalForm → Making
+abbrev pub making_by : List RecordValue → NormalForm → Making
 making_by records form = record { reading = recorded_reading records (mappings_of form); form = kind_of form }
 
 -- the normalizer makes this form of every text
@@ -49,7 +49,7 @@ pub record Mapping : Type 0 where
 
 -- Map and Normalize (UTS #46, section 4) by what records mean: ignored characters are dropped, or if the text is
 -- validated, each becomes U+FFFD
-abbrev pub mapping_by : List Entry → List MapperEntry → Mapping
+abbrev pub mapping_by : List RecordValue → List Uts46RecordValue → Mapping
 mapping_by records uts46 = record {
   map = nfc (mapper_reading records uts46 Dropped);
   validate = nfc (mapper_reading records uts46 Replaced);

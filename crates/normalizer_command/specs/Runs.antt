@@ -1,6 +1,6 @@
 -- A run over files, by the data of a directory.
 use Rattle.std.specs.Prelude.{◌≡◌, ◌⊎◌, ℕ, List}
-use Rattle.normalizer_records.specs.Entry.{Entry, MapperEntry}
+use Rattle.normalizer_records.specs.RecordValue.{RecordValue, Uts46RecordValue}
 use Rattle.normalizer_ucd.specs.declared.error.UcdFile.{UcdFile}
 use Rattle.normalizer_command.specs.declared.fault.Fault.{Fault}
 use Rattle.normalizer_command.specs.declared.worker.Command.{Command}
@@ -17,8 +17,8 @@ pub record RunsByFiles {W : Type 0} (d : Devices W) (command : Command) (directo
   pub exclusions : List ℕ
   pub table : List ℕ
   pub files : AreFiles d.bytes_of directory command unicode_data exclusions table
-  pub records : List Entry
-  pub uts46 : List MapperEntry
+  pub records : List RecordValue
+  pub uts46 : List Uts46RecordValue
   pub recorded : AreRecorded unicode_data exclusions table records uts46
   pub done : AreDone d (work_by records uts46 command) names s t
 

@@ -1,6 +1,6 @@
 -- What is done with files.
 use Rattle.std.specs.Prelude.{◌≡◌, List, ⊤}
-use Rattle.normalizer_records.specs.Entry.{Entry, MapperEntry}
+use Rattle.normalizer_records.specs.RecordValue.{RecordValue, Uts46RecordValue}
 use Rattle.icu_normalizer.specs.Mappers.{mapper_data_of}
 use Rattle.normalizer_streams.specs.declared.scheme.EncodingScheme.{EncodingScheme}
 use Rattle.normalizer_command.specs.declared.mapping.MapperTask.{MapperTask}
@@ -18,7 +18,7 @@ pub data Work : Type 0 where
   OfMapper : MapperTask → EncodingScheme → Mapping → Work
 
 -- the work of a command, by what records mean
-abbrev pub work_by : List Entry → List MapperEntry → Command → Work
+abbrev pub work_by : List RecordValue → List Uts46RecordValue → Command → Work
 work_by records uts46 (command.OfForm task scheme form) = OfForm task scheme (making_by records form)
 work_by records uts46 (command.OfMapper task scheme) = OfMapper task scheme (mapping_by records uts46)
 

@@ -12,7 +12,7 @@ ghost use Rattle.normalizer_command.specs.Data.{
   path_of,
 };
 ghost use Rattle.normalizer_command.specs.Faults.{fault_of_file, IsFileFault};
-ghost use Rattle.normalizer_records.specs.Entry.{Entry, MapperEntry};
+ghost use Rattle.normalizer_records.specs.RecordValue.{RecordValue, Uts46RecordValue};
 ghost use Rattle.normalizer_ucd.specs.declared.error.LineFault.{LineFault};
 
 use crate::fault::Fault;
@@ -132,7 +132,7 @@ fn read<I: Inputs>(
 
 /// The data that the records of the files build.
 pub(crate) fn built(alloc: Global, files: &DataFiles) -> Result<Built, DataFault>
-    ensures built { IfOk result (λ b. (records : List Entry) × (uts46 : List MapperEntry) × AreBuiltOf
+    ensures built { IfOk result (λ b. (records : List RecordValue) × (uts46 : List Uts46RecordValue) × AreBuiltOf
         files.now.unicode_data.items files.now.exclusions.items files.now.table.items records uts46 (data_in b)) }
     ensures fault { IfErr result (λ e. IsFaultOf
         files.now.unicode_data.items files.now.exclusions.items files.now.table.items e.file e.fault) }

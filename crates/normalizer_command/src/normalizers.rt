@@ -2,7 +2,7 @@
 ghost use Rattle.std.specs.Prelude.{IfOk, IsOkUnless, List};
 ghost use Rattle.normalizer_builder.specs.Building.{Builds};
 ghost use Rattle.normalizer_builder.specs.Built.{AreBuilt, data_in};
-ghost use Rattle.normalizer_records.specs.Entry.{Entry, MapperEntry};
+ghost use Rattle.normalizer_records.specs.RecordValue.{RecordValue, Uts46RecordValue};
 ghost use Rattle.normalizer_command.specs.Making.{making_by, Makes};
 
 use normalizer_builder::Built;
@@ -14,8 +14,8 @@ use normalizer_iterators::NormalizeError;
 /// Returns the normalizer to a form, which makes it by what the records mean.
 pub(crate) fn normalizer_to(built: &Built, form: NormalForm) -> Result<Normalizer, NormalizeError>
     requires { AreBuilt (data_in built.now) }
-    ensures makes { (records : List Entry) (mapper : List MapperEntry) → Builds records mapper (data_in built.now) →
-        IfOk result (λ n. Makes n (making_by records form)) }
+    ensures makes { (records : List RecordValue) (mapper : List Uts46RecordValue) →
+        Builds records mapper (data_in built.now) → IfOk result (λ n. Makes n (making_by records form)) }
     ensures refused { IsOkUnless result NormalizeError.Memory }
 {
     match form {

@@ -2,7 +2,7 @@
 ghost use Rattle.std.specs.Prelude.{◌≡◌, ◌⊎◌, map, List, ℕ, IfOk, IfErr, OnErr};
 ghost use Rattle.normalizer_builder.specs.Built.{AreBuilt, data_in};
 ghost use Rattle.normalizer_builder.specs.Building.{Builds};
-ghost use Rattle.normalizer_records.specs.Entry.{Entry, MapperEntry};
+ghost use Rattle.normalizer_records.specs.RecordValue.{RecordValue, Uts46RecordValue};
 ghost use Rattle.normalizer_command.specs.Data.{IsDataFault, path_of};
 ghost use Rattle.normalizer_command.specs.Devices.{devices};
 ghost use Rattle.normalizer_command.specs.Outcomes.{AreDone, state};
@@ -89,8 +89,8 @@ fn over_data<I: Inputs, W: Target, R: Reports>(
     reports: &mut R,
 ) -> Result<u8, NormalizeError>
     requires { AreBuilt (data_in «data».now) }
-    ensures done { (records : List Entry) (uts46 : List MapperEntry) → Builds records uts46 (data_in «data».now) →
-        IfOk result (λ status. AreDone
+    ensures done { (records : List RecordValue) (uts46 : List Uts46RecordValue) →
+        Builds records uts46 (data_in «data».now) → IfOk result (λ status. AreDone
         (devices (I.bytes_of inputs.now) (I.cannot_open inputs.now) (I.read_refused inputs.now) W.taken W.refused)
         (work_by records uts46 command) (map (λ name. name.now) names.now)
         (state writer.old (R.told reports.old) 0) (state writer.new (R.told reports.new) status)) }

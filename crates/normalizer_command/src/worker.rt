@@ -3,7 +3,7 @@ ghost use Rattle.std.specs.Prelude.{◌≡◌, IfOk, IsOkUnless, List};
 ghost use Rattle.normalizer_builder.specs.Building.{Builds};
 ghost use Rattle.normalizer_builder.specs.Built.{AreBuilt, data_in};
 ghost use Rattle.icu_normalizer.specs.Mappers.{mapper_data_of};
-ghost use Rattle.normalizer_records.specs.Entry.{Entry, MapperEntry};
+ghost use Rattle.normalizer_records.specs.RecordValue.{RecordValue, Uts46RecordValue};
 ghost use Rattle.normalizer_command.specs.Making.{mapping_by, Maps};
 ghost use Rattle.normalizer_command.specs.Replies.{IsReply};
 ghost use Rattle.normalizer_command.specs.Works.{work_by, Does, RepliesAtEnd, Work};
@@ -40,8 +40,8 @@ pub(crate) enum Worker {
 /// Returns what works for a command, by what the records mean.
 pub(crate) fn worker_for(built: &Built, command: Command) -> Result<Worker, NormalizeError>
     requires { AreBuilt (data_in built.now) }
-    ensures does { (records : List Entry) (uts46 : List MapperEntry) → Builds records uts46 (data_in built.now) →
-        IfOk result (λ worker. Does worker (work_by records uts46 command)) }
+    ensures does { (records : List RecordValue) (uts46 : List Uts46RecordValue) →
+        Builds records uts46 (data_in built.now) → IfOk result (λ worker. Does worker (work_by records uts46 command)) }
     ensures refused { IsOkUnless result NormalizeError.Memory }
 {
     match command {
@@ -57,8 +57,8 @@ pub(crate) fn worker_for(built: &Built, command: Command) -> Result<Worker, Norm
 /// The mapper, which maps by what the records mean.
 fn mapper_over(built: &Built) -> Result<Uts46Mapper, NormalizeError>
     requires { AreBuilt (data_in built.now) }
-    ensures maps { (records : List Entry) (uts46 : List MapperEntry) → Builds records uts46 (data_in built.now) →
-        IfOk result (λ mapper. Maps (mapper_data_of mapper) (mapping_by records uts46)) }
+    ensures maps { (records : List RecordValue) (uts46 : List Uts46RecordValue) →
+        Builds records uts46 (data_in built.now) → IfOk result (λ mapper. Maps (mapper_data_of mapper) (mapping_by records uts46)) }
     ensures refused { IsOkUnless result NormalizeError.Memory }
 {
     match built_mapper(built) {

@@ -15,7 +15,7 @@ use Rattle.normalizer_tables.specs.SpecialLists.{fdfa_list}
 use Rattle.normalizer_packing.specs.declared.Packed.{Packed}
 use Rattle.normalizer_tables.specs.declared.entry.Kind.{Kind}
 use Rattle.normalizer_tables.specs.declared.entry.Kind.TheVariants.{Canonical, Compatibility, Mapper}
-use Rattle.normalizer_tables.specs.Entries.{CharacterEntry, class_in, reading_of_entries, kept_list, list_in}
+use Rattle.normalizer_tables.specs.Entries.{EntryValue, class_in, reading_of_entries, kept_list, list_in}
 use Rattle.normalizer_packing.specs.Spelling.{has_fixed_list, list_eq}
 use Rattle.normalizer_packing.specs.Stored.{has_marks_after_first}
 
@@ -48,26 +48,26 @@ characters_of p kind = record {
 
 -- the list that data of one kind have of a character: that of a Hangul syllable by arithmetic, else what the entries
 -- say; none if the character is ignored
-unfoldable pub list_by : Kind → List CharacterEntry → ℕ → Option (List ℕ)
+unfoldable pub list_by : Kind → List EntryValue → ℕ → Option (List ℕ)
 list_by kind entries n = if is_hangul_syllable n then Some (hangul_decomposition n) else list_in kind entries n
 
 -- the list of the character is its fixed one, or itself alone: then its word has room for its class
-unfoldable pub tells_class : Kind → List CharacterEntry → ℕ → Bool
+unfoldable pub tells_class : Kind → List EntryValue → ℕ → Bool
 tells_class kind entries n =
     has_fixed_list (class_in entries) n (kept_list kind entries n) || list_eq (kept_list kind entries n) (n ∷ [])
 
 -- the class that data of one kind have of a character: 0 if its word has no room for it
-unfoldable pub class_by : Kind → List CharacterEntry → ℕ → ℕ
+unfoldable pub class_by : Kind → List EntryValue → ℕ → ℕ
 class_by kind entries n = if tells_class kind entries n then class_in entries n else 0
 
 -- the word has room for a class: that of a fixed list, or of a mark that decomposes to itself
-unfoldable pub has_class_word : Kind → List CharacterEntry → ℕ → Bool
+unfoldable pub has_class_word : Kind → List EntryValue → ℕ → Bool
 has_class_word kind entries n =
     has_fixed_list (class_in entries) n (kept_list kind entries n)
     || (list_eq (kept_list kind entries n) (n ∷ []) && nat_lt 0 (class_in entries n))
 
 -- entries whose words can be read again
-pub record AreReadable (kind : Kind) (entries : List CharacterEntry) : Type 0 where
+pub record AreReadable (kind : Kind) (entries : List EntryValue) : Type 0 where
   -- a class has 8 bits
   pub classes : (n : ℕ) → class_in entries n < 0x100
   -- Hangul syllables are starters, and U+FFFD is one that decomposes to itself
@@ -81,7 +81,7 @@ pub record AreReadable (kind : Kind) (entries : List CharacterEntry) : Type 0 wh
       BeginsWithStarter (reading_of_entries entries []) (kept_list kind entries n)
 
 -- what the reading of n's word says is so
-unfoldable pub IsTrueReading : Kind → List CharacterEntry → ℕ → WordReading → Type 0
+unfoldable pub IsTrueReading : Kind → List EntryValue → ℕ → WordReading → Type 0
 IsTrueReading kind entries n Ignored = list_in kind entries n ≡ None
 IsTrueReading kind entries n Itself = (kept_list kind entries n ≡ n ∷ []) × (class_in entries n ≡ 0)
 IsTrueReading kind entries n (ClassForm k) = (kept_list kind entries n ≡ n ∷ []) × (class_in entries n ≡ k) × (0 < k)
@@ -95,7 +95,7 @@ IsTrueReading kind entries n (Listed item low rest_are_marks) =
     rest_are_marks ≡ has_marks_after_first (class_in entries) (kept_list kind entries n)
 
 -- what packed data read to
-pub record ReadsBack (kind : Kind) (entries : List CharacterEntry) (s : Characters) : Type 0 where
+pub record ReadsBack (kind : Kind) (entries : List EntryValue) (s : Characters) : Type 0 where
   -- the list of each character, `ignored` if the mapper ignores it
   pub lists : (ignored : List ℕ) (n : ℕ) → IsScalar n →
       list_read s ignored n ≡ Some (unwrap_or (list_by kind entries n) ignored)

@@ -7,7 +7,7 @@ use Rattle.normalizer_tables.specs.Words.{is_class_form}
 use Rattle.normalizer_tables.specs.declared.step.Step.{Step}
 use Rattle.normalizer_tables.specs.declared.step.Step.TheVariants.{Default, Singleton, Expansion}
 use Rattle.normalizer_packing.specs.declared.spelling.Spelling.TheVariants.{Final, Short, Listed}
-use Rattle.normalizer_tables.specs.Entries.{CharacterEntry, class_in, entry_of}
+use Rattle.normalizer_tables.specs.Entries.{EntryValue, class_in, entry_of}
 use Rattle.normalizer_packing.specs.Spelling.{spelling}
 use Rattle.normalizer_packing.specs.Stored.{first_come, items_of, place_of}
 use Rattle.normalizer_packing.specs.TableWords.{HasWords}
@@ -18,7 +18,7 @@ step_limit = 0xFFFE
 
 -- one step needs the supplement: for a word that spells two characters in a part of the Greek block, and for a longer
 -- list in the tables than one step may have. One step of U+212B is known without it, whatever its list.
-unfoldable pub asks_supplement : (ℕ → ℕ) → CharacterEntry → Bool
+unfoldable pub asks_supplement : (ℕ → ℕ) → EntryValue → Bool
 asks_supplement class e = elim (spelling class e.character (Some e.canonical)) [
   | Final w ↦ false
   | Short w ↦ not (is_class_form w) && ((length e.canonical == 2) && is_in_range 0x1F71 0x1FFB e.character)
@@ -26,7 +26,7 @@ asks_supplement class e = elim (spelling class e.character (Some e.canonical)) [
 ]
 
 -- the step that needs the supplement
-unfoldable pub asked_step : List CharacterEntry → CharacterEntry → Step
+unfoldable pub asked_step : List EntryValue → EntryValue → Step
 asked_step entries e = if asks_supplement (class_in entries) e then e.mapping else Default
 
 -- two characters that a word of the supplement spells
@@ -40,11 +40,11 @@ stored_step (Singleton a) = None
 stored_step (Expansion a b) = if are_narrow a b then None else Some (a ∷ b ∷ [])
 
 -- those that characters need, by rising character
-unfoldable pub stored_steps : List CharacterEntry → List (List ℕ)
+unfoldable pub stored_steps : List EntryValue → List (List ℕ)
 stored_steps entries = filter_map (λ e. stored_step (asked_step entries e)) entries
 
 -- the same, equal ones once, in the order in which characters first need them
-unfoldable pub step_lists : List CharacterEntry → List (List ℕ)
+unfoldable pub step_lists : List EntryValue → List (List ℕ)
 step_lists entries = first_come (stored_steps entries)
 
 -- the word that points to a place, or none if two characters there are past what the supplement's table may have
@@ -59,10 +59,10 @@ word_of_step lists (Expansion a b) =
     if are_narrow a b then a + b * 0x10000 else word_of_place (place_of lists (a ∷ b ∷ []))
 
 -- the step that the supplement has of a number
-unfoldable pub step_in : List CharacterEntry → ℕ → Step
+unfoldable pub step_in : List EntryValue → ℕ → Step
 step_in entries n = elim (entry_of entries n) [ Some e ↦ asked_step entries e | None ↦ Default ]
 
 -- a word for each step that is needed, and the table as far as it may have items: a step past it has no word
-pub record PacksSteps (entries : List CharacterEntry) (s : Supplement) : Type 0 where
+pub record PacksSteps (entries : List EntryValue) (s : Supplement) : Type 0 where
   pub words : HasWords (λ n w. w ≡ word_of_step (step_lists entries) (step_in entries n)) s.table
   pub items : s.scalars24 ≡ take step_limit (items_of false (step_lists entries))

@@ -7,7 +7,7 @@ use Rattle.normalizer_tables.specs.Data.{Lists}
 use Rattle.normalizer_tables.specs.declared.entry.Kind.{Kind}
 use Rattle.normalizer_tables.specs.declared.entry.Kind.TheVariants.{Canonical, Compatibility, Mapper}
 use Rattle.normalizer_packing.specs.declared.spelling.Spelling.TheVariants.{Final, Short, Listed}
-use Rattle.normalizer_tables.specs.Entries.{CharacterEntry, class_in, own_list}
+use Rattle.normalizer_tables.specs.Entries.{EntryValue, class_in, own_list}
 use Rattle.normalizer_packing.specs.Spelling.{list_eq, spelling}
 
 -- the list goes into a table of 16-bit numbers
@@ -20,7 +20,7 @@ HasLengthOfWord x =
     elim (is_narrow x) as (λ _. Type 0) [ true ↦ length x ≤ 17 | false ↦ (0 < length x) × (length x ≤ 16) ]
 
 -- the list of an entry, if its word doesn't spell it
-unfoldable pub listed_of : (ℕ → ℕ) → Kind → CharacterEntry → Option (List ℕ)
+unfoldable pub listed_of : (ℕ → ℕ) → Kind → EntryValue → Option (List ℕ)
 listed_of class kind e = elim (spelling class e.character (own_list kind e)) [
   | Final w ↦ None
   | Short w ↦ None
@@ -28,7 +28,7 @@ listed_of class kind e = elim (spelling class e.character (own_list kind e)) [
 ]
 
 -- the lists of one kind of data that no word spells
-unfoldable pub listed_in : List CharacterEntry → Kind → List (List ℕ)
+unfoldable pub listed_in : List EntryValue → Kind → List (List ℕ)
 listed_in entries kind = filter_map (listed_of (class_in entries) kind) entries
 
 -- the list is one of the lists
@@ -46,11 +46,11 @@ apart_from before lists = filter (λ x. not (is_among x before)) lists
 
 -- the lists of canonical data, and those that only the other kinds need, of compatibility data before the mapper's: in
 -- the order in which characters, as they rise, first need them
-unfoldable pub canonical_lists : List CharacterEntry → List (List ℕ)
+unfoldable pub canonical_lists : List EntryValue → List (List ℕ)
 canonical_lists entries = first_come (listed_in entries Canonical)
 
 -- the lists that compatibility data and the mapper's need besides those of canonical data, equal ones once
-unfoldable pub supplementary_lists : List CharacterEntry → List (List ℕ)
+unfoldable pub supplementary_lists : List EntryValue → List (List ℕ)
 supplementary_lists entries =
     apart_from (listed_in entries Canonical) (first_come (listed_in entries Compatibility ++ listed_in entries Mapper))
 
@@ -72,7 +72,7 @@ unfoldable pub place_of : List (List ℕ) → List ℕ → ℕ
 place_of lists x = length (items_of (is_narrow x) (before_first (list_eq x) lists))
 
 -- how many items the tables have together
-abbrev pub needed_items : List CharacterEntry → ℕ
+abbrev pub needed_items : List EntryValue → ℕ
 needed_items entries =
     item_count (tables_of (canonical_lists entries)) + item_count (tables_of (supplementary_lists entries))
 
@@ -85,7 +85,7 @@ abbrev pub item_in : List (List ℕ) → List ℕ → ℕ
 item_in lists x = item_at (tables_of lists) x (place_of lists x)
 
 -- the first item of a list in the four tables, put one after another
-unfoldable pub item_of : List CharacterEntry → List ℕ → ℕ
+unfoldable pub item_of : List EntryValue → List ℕ → ℕ
 item_of entries x =
     if is_among x (canonical_lists entries) then item_in (canonical_lists entries) x
     else item_count (tables_of (canonical_lists entries)) + item_in (supplementary_lists entries) x

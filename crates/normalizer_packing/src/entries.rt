@@ -21,10 +21,10 @@ pub struct Entries<'a> {
 
 impl<'a> Model for Entries<'a> {
     ghost use Rattle.std.specs.Prelude.{List, IfSome, map};
-    ghost use Rattle.normalizer_tables.specs.Entries.{CharacterEntry, AreRising};
+    ghost use Rattle.normalizer_tables.specs.Entries.{EntryValue, AreRising};
     ghost use Rattle.normalizer_tables.specs.Places.{ArePlaces};
 
-    ghost Value = { List CharacterEntry };
+    ghost Value = { List EntryValue };
 
     ghost view = { λ e. e.entries.now };
 

@@ -4,14 +4,14 @@ use Rattle.std.proofs.lemmas.Bool.Decides.{Decides-and}
 use Rattle.std.specs.Bool.{Decides}
 use Rattle.std.specs.Cmp.{IsEquivalence, unsigned_Decides, booleans_Decides, decided}
 use Rattle.std.specs.Cmp.Lexicographic.{bytes_decides}
-use Rattle.normalizer_records.specs.Entry.{Entry, Status, MapsTo, IsIgnored, IsDisallowed, MapperEntry}
+use Rattle.normalizer_records.specs.RecordValue.{RecordValue, Status, MapsTo, IsIgnored, IsDisallowed, Uts46RecordValue}
 use Rattle.normalizer_records.specs.Equal.{entry_eq, status_eq, mapper_entry_eq}
 
 -- a test that decides some facts decides what they are together
 Decides-by : {P Q : Type 0} → (r : Bool) → Decides r P → (P → Q) → (Q → P) → Decides r Q
 Decides-by r d there back = (λ e. there (d.0 e), λ q. d.1 (back q))
 
-pub entry_decides : (r s : Entry) → Decides (entry_eq r s) (r ≡ s)
+pub entry_decides : (r s : RecordValue) → Decides (entry_eq r s) (r ≡ s)
 entry_decides r s =
     Decides-by (entry_eq r s)
     (Decides-and _ _ (unsigned_Decides r.c s.c)
@@ -34,7 +34,7 @@ status_decides IsDisallowed (MapsTo y) = (λ e. cc, λ e. cc)
 status_decides IsDisallowed IsIgnored = (λ e. cc, λ e. cc)
 status_decides IsDisallowed IsDisallowed = (λ e. refl, λ e. refl)
 
-pub mapper_entry_decides : (r s : MapperEntry) → Decides (mapper_entry_eq r s) (r ≡ s)
+pub mapper_entry_decides : (r s : Uts46RecordValue) → Decides (mapper_entry_eq r s) (r ≡ s)
 mapper_entry_decides r s =
     Decides-by (mapper_entry_eq r s)
     (Decides-and _ _ (unsigned_Decides r.c s.c) (status_decides r.status s.status))

@@ -9,22 +9,22 @@ use Rattle.normalizer_tables.specs.SpecialLists.{fixed_list_of, fdfa_list}
 use Rattle.normalizer_records.specs.declared.records.BuildError.{BuildError}
 use Rattle.normalizer_records.specs.declared.records.BuildError.TheVariants.{Order, Fixed, Class, Mapping, Chain}
 use Rattle.normalizer_records.specs.declared.records.BuildError.TheVariants.{Length, Pair, Unfit, TableFull, Memory}
-use Rattle.normalizer_records.specs.Entry.{Entry, Status, MapsTo, IsIgnored, IsDisallowed, MapperEntry}
+use Rattle.normalizer_records.specs.RecordValue.{RecordValue, Status, MapsTo, IsIgnored, IsDisallowed, Uts46RecordValue}
 use Rattle.normalizer_records.specs.Meaning.{canonical_list, chain_limit, class_of, compatibility_list, entry_of}
 use Rattle.normalizer_records.specs.Meaning.{mapper_list, mapping_of, pairs_of, status_of}
 
 -- Order
 
 -- the records strictly rise by character
-abbrev pub AreRising : List Entry → Type 0
+abbrev pub AreRising : List RecordValue → Type 0
 AreRising records = AllPairs (λ r s. r.c < s.c) records
 
 -- the records of the mapper strictly rise by character
-abbrev pub AreMapperRising : List MapperEntry → Type 0
+abbrev pub AreMapperRising : List Uts46RecordValue → Type 0
 AreMapperRising uts46 = AllPairs (λ r s. r.c < s.c) uts46
 
 -- the records, or those of the mapper, don't strictly rise
-unfoldable pub HasOrderFault : List Entry → List MapperEntry → Type 0
+unfoldable pub HasOrderFault : List RecordValue → List Uts46RecordValue → Type 0
 HasOrderFault records uts46 = ¬ (AreRising records × AreMapperRising uts46)
 
 -- Fixed
@@ -40,12 +40,12 @@ is_disallowed IsIgnored = false
 is_disallowed (MapsTo mapping) = false
 
 -- the mapper may have records of the two Hangul fillers, and disallow U+FFFD
-unfoldable pub is_fixed_for_mapper : MapperEntry → Bool
+unfoldable pub is_fixed_for_mapper : Uts46RecordValue → Bool
 is_fixed_for_mapper r =
     is_fixed r.c && not (is_in_range 0x115F 0x1160 r.c) && not ((r.c == 0xFFFD) && is_disallowed r.status)
 
 -- some record is of a fixed character
-unfoldable pub has_fixed_fault : List Entry → List MapperEntry → Bool
+unfoldable pub has_fixed_fault : List RecordValue → List Uts46RecordValue → Bool
 has_fixed_fault records uts46 = list_any (λ r. is_fixed r.c) records || list_any is_fixed_for_mapper uts46
 
 -- Mapping
@@ -66,7 +66,7 @@ is_bad_canonical (first ∷ second ∷ []) = is_never_second second
 is_bad_canonical (first ∷ second ∷ third ∷ rest) = true
 
 -- a compatibility mapping of at most 18, and neither has U+0000
-unfoldable pub is_bad_mapping : Entry → Bool
+unfoldable pub is_bad_mapping : RecordValue → Bool
 is_bad_mapping r =
     has_zero r.mapping || (if r.compatibility then nat_lt 18 (length r.mapping) else is_bad_canonical r.mapping)
 
@@ -78,31 +78,31 @@ is_bad_status IsIgnored = false
 is_bad_status IsDisallowed = false
 
 -- some record has a bad mapping
-unfoldable pub has_mapping_fault : List Entry → List MapperEntry → Bool
+unfoldable pub has_mapping_fault : List RecordValue → List Uts46RecordValue → Bool
 has_mapping_fault records uts46 = list_any is_bad_mapping records || list_any (λ r. is_bad_status r.status) uts46
 
 -- Chain
 
 -- some record is of the character
-abbrev pub IsRecorded : List Entry → ℕ → Type 0
+abbrev pub IsRecorded : List RecordValue → ℕ → Type 0
 IsRecorded records c = is_some (entry_of records c) ≡ true
 
 -- the next character, if there is one, is in the mapping of c
-abbrev pub LeadsTo : List Entry → ℕ → List ℕ → Type 0
+abbrev pub LeadsTo : List RecordValue → ℕ → List ℕ → Type 0
 LeadsTo records c [] = Unit {0}
 LeadsTo records c (next ∷ rest) = Contains (mapping_of records c) next
 
 -- the characters of records, each with the next one's character in its mapping
-unfoldable pub IsChain : List Entry → List ℕ → Type 0
+unfoldable pub IsChain : List RecordValue → List ℕ → Type 0
 IsChain records [] = Unit {0}
 IsChain records (c ∷ rest) = IsRecorded records c × LeadsTo records c rest × IsChain records rest
 
 -- a chain of more than 16 records
-unfoldable pub HasChainFault : List Entry → Type 0
+unfoldable pub HasChainFault : List RecordValue → Type 0
 HasChainFault records = (chain : List ℕ) × IsChain records chain × (chain_limit < length chain)
 
 -- c is on such a chain
-unfoldable pub IsOnLongChain : List Entry → ℕ → Type 0
+unfoldable pub IsOnLongChain : List RecordValue → ℕ → Type 0
 IsOnLongChain records c =
     (before after : List ℕ) × IsChain records (before ++ c ∷ after) × (chain_limit < length (before ++ c ∷ after))
 
@@ -114,38 +114,38 @@ mapped_to (Some IsDisallowed) = []
 mapped_to (Some (MapsTo mapping)) = mapping
 
 -- the class and the lists of c are checked: neither it nor what the mapper maps it to is on such a chain
-pub record IsAsked (records : List Entry) (uts46 : List MapperEntry) (c : ℕ) : Type 0 where
+pub record IsAsked (records : List RecordValue) (uts46 : List Uts46RecordValue) (c : ℕ) : Type 0 where
   pub off_chain : ¬ IsOnLongChain records c
   pub mapped_off_chain : All (λ m. ¬ IsOnLongChain records m) (mapped_to (status_of uts46 c))
 
 -- Class
 
 -- the list is the fixed one of c, and the classes of c and of the members are its
-abbrev pub IsFixedForm : List Entry → ℕ → List ℕ → Type 0
+abbrev pub IsFixedForm : List RecordValue → ℕ → List ℕ → Type 0
 IsFixedForm records c list =
     fixed_list_of c
     ≡ Some (record { list = list; class = class_of records c; member_classes = map (class_of records) list })
 
 -- the list begins with a mark, by the recorded classes
-abbrev pub begins_with_mark : List Entry → List ℕ → Bool
+abbrev pub begins_with_mark : List RecordValue → List ℕ → Bool
 begins_with_mark records [] = false
 begins_with_mark records (c ∷ list) = nat_lt 0 (class_of records c)
 
 -- a list other than the character alone, and not its fixed one
-abbrev pub IsFreeForm : List Entry → ℕ → List ℕ → Type 0
+abbrev pub IsFreeForm : List RecordValue → ℕ → List ℕ → Type 0
 IsFreeForm records c list = (list ≢ c ∷ []) × (¬ IsFixedForm records c list)
 
 -- such a list begins with a mark, or is of a character that is one itself
-abbrev pub IsWrong : List Entry → ℕ → Bool → List ℕ → Type 0
+abbrev pub IsWrong : List RecordValue → ℕ → Bool → List ℕ → Type 0
 IsWrong records c is_mark list = ((is_mark ≡ true) ⊎ (begins_with_mark records list ≡ true)) × IsFreeForm records c list
 
 -- the character is a mark by its recorded class (D107)
-abbrev pub is_mark : List Entry → ℕ → Bool
+abbrev pub is_mark : List RecordValue → ℕ → Bool
 is_mark records c = nat_lt 0 (class_of records c)
 
 -- class 255; or a class above 0 and a mapping; or a list that begins with a mark: the canonical list, the compatibility
 -- list, or the mapper's if it doesn't ignore the character
-unfoldable pub HasWrongClass : List Entry → List MapperEntry → ℕ → Type 0
+unfoldable pub HasWrongClass : List RecordValue → List Uts46RecordValue → ℕ → Type 0
 HasWrongClass records uts46 c =
     (class_of records c ≡ 255)
     ⊎ (IsWrong records c (is_mark records c) (canonical_list records c)
@@ -153,7 +153,7 @@ HasWrongClass records uts46 c =
     ⊎ IsSomeAnd (mapper_list records uts46 c) (IsWrong records c false)))
 
 -- some character has such a class or such a list
-unfoldable pub HasClassFault : List Entry → List MapperEntry → Type 0
+unfoldable pub HasClassFault : List RecordValue → List Uts46RecordValue → Type 0
 HasClassFault records uts46 = (c : ℕ) × IsAsked records uts46 c × HasWrongClass records uts46 c
 
 -- Length
@@ -167,26 +167,26 @@ abbrev pub IsTooLong : List ℕ → Type 0
 IsTooLong list = (is_long list ≡ true) × (list ≢ fdfa_list)
 
 -- one of the lists is
-unfoldable pub HasLongList : List Entry → List MapperEntry → ℕ → Type 0
+unfoldable pub HasLongList : List RecordValue → List Uts46RecordValue → ℕ → Type 0
 HasLongList records uts46 c =
     IsTooLong (canonical_list records c)
     ⊎ (IsTooLong (compatibility_list records c) ⊎ IsSomeAnd (mapper_list records uts46 c) IsTooLong)
 
 -- some character has such a list
-unfoldable pub HasLengthFault : List Entry → List MapperEntry → Type 0
+unfoldable pub HasLengthFault : List RecordValue → List Uts46RecordValue → Type 0
 HasLengthFault records uts46 = (c : ℕ) × IsAsked records uts46 c × HasLongList records uts46 c
 
 -- Pair
 
 -- two records have a pair of the same two characters
-unfoldable pub HasPairFault : List Entry → Type 0
+unfoldable pub HasPairFault : List RecordValue → Type 0
 HasPairFault records = (first second : ℕ) × (1 < count_by (λ p. (p.0 == second) && (p.1 == first)) (pairs_of records))
 
 -- All
 
 -- what each error says of the records by themselves. The last three say nothing of them: `Unfit` and `TableFull` speak
 -- of the data that are packed, `Memory` of allocations.
-unfoldable pub HasFault : List Entry → List MapperEntry → BuildError → Type 0
+unfoldable pub HasFault : List RecordValue → List Uts46RecordValue → BuildError → Type 0
 HasFault records uts46 Order = HasOrderFault records uts46
 HasFault records uts46 Fixed = has_fixed_fault records uts46 ≡ true
 HasFault records uts46 Class = HasClassFault records uts46
@@ -212,13 +212,13 @@ rank_of TableFull = 9
 rank_of Memory = 10
 
 -- none if nothing is wrong, else the smallest error whose fault the records have: none of the last three
-unfoldable pub IsFirstRefusal : List Entry → List MapperEntry → Option BuildError → Type 0
+unfoldable pub IsFirstRefusal : List RecordValue → List Uts46RecordValue → Option BuildError → Type 0
 IsFirstRefusal records uts46 None = (e : BuildError) → ¬ HasFault records uts46 e
 IsFirstRefusal records uts46 (Some e) =
     HasFault records uts46 e × ((f : BuildError) → rank_of f < rank_of e → ¬ HasFault records uts46 f)
 
 -- the first refusal, unless memory was refused
-abbrev pub IsRefusal : List Entry → List MapperEntry → BuildError → Type 0
+abbrev pub IsRefusal : List RecordValue → List Uts46RecordValue → BuildError → Type 0
 IsRefusal records uts46 e = (e ≡ Memory) ⊎ IsFirstRefusal records uts46 (Some e)
 
 -- the smallest of those past the second that are so

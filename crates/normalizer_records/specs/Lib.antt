@@ -1,4 +1,4 @@
-pub mod Entry
+pub mod RecordValue
 pub mod Equal
 pub mod EqualLaws
 pub mod Faults

@@ -7,28 +7,29 @@ use Rattle.normalizer_tables.specs.Pairs.{Pair, AreRising as ArePairsRising}
 use Rattle.normalizer_tables.specs.declared.step.Step.{Step}
 use Rattle.normalizer_tables.specs.declared.step.Step.TheVariants.{Default}
 use Rattle.normalizer_tables.specs.Steps.{step_to}
-use Rattle.normalizer_tables.specs.Entries.{CharacterEntry}
-use Rattle.normalizer_records.specs.Entry.{Entry, MapperEntry}
+use Rattle.normalizer_tables.specs.Entries.{EntryValue}
+use Rattle.normalizer_records.specs.RecordValue.{RecordValue, Uts46RecordValue}
 use Rattle.normalizer_records.specs.Faults.{IsFirstRefusal}
 use Rattle.normalizer_records.specs.Meaning.{class_of, canonical_list, canonical_mapping_of, compatibility_list}
 use Rattle.normalizer_records.specs.Meaning.{mapper_list, pairs_of}
 
 -- the characters of all records of either kind
-abbrev pub recorded_characters : List Entry → List MapperEntry → List ℕ
+abbrev pub recorded_characters : List RecordValue → List Uts46RecordValue → List ℕ
 recorded_characters records uts46 = map (λ r. r.c) records ++ map (λ r. r.c) uts46
 
 -- each character that has a record of either kind once, in order
-pub record ListsCharacters (records : List Entry) (uts46 : List MapperEntry) (characters : List ℕ) : Type 0 where
+pub record ListsCharacters (records : List RecordValue) (uts46 : List Uts46RecordValue) (characters : List ℕ)
+    : Type 0 where
   pub all : All (Contains characters) (recorded_characters records uts46)
   pub recorded : All (Contains (recorded_characters records uts46)) characters
   pub rising : IsStrictlyIncreasing characters
 
 -- the recorded canonical mapping, if it is of one character or two
-unfoldable pub recorded_step : List Entry → ℕ → Option Step
+unfoldable pub recorded_step : List RecordValue → ℕ → Option Step
 recorded_step records c = step_to (canonical_mapping_of records c)
 
 -- what records say of a character, as it is packed
-unfoldable pub entry_for : List Entry → List MapperEntry → ℕ → CharacterEntry
+unfoldable pub entry_for : List RecordValue → List Uts46RecordValue → ℕ → EntryValue
 entry_for records uts46 c = record {
   character = c;
   class = class_of records c;
@@ -39,7 +40,7 @@ entry_for records uts46 c = record {
 }
 
 -- an entry of scalar values (D76), whose class has 8 bits
-pub record IsOfCharacters (e : CharacterEntry) : Type 0 where
+pub record IsOfCharacters (e : EntryValue) : Type 0 where
   pub character : IsScalar e.character
   pub class : e.class < 0x100
   pub canonical : IsText e.canonical
@@ -47,13 +48,14 @@ pub record IsOfCharacters (e : CharacterEntry) : Type 0 where
   pub mapper : IfSome e.mapper IsText
 
 -- an entry for each character that has a record of either kind, in their order
-pub record AreMadeOf (records : List Entry) (uts46 : List MapperEntry) (entries : List CharacterEntry) : Type 0 where
+pub record AreMadeOf (records : List RecordValue) (uts46 : List Uts46RecordValue) (entries : List EntryValue)
+    : Type 0 where
   pub characters : List ℕ
   pub listed : ListsCharacters records uts46 characters
   pub made : entries ≡ map (entry_for records uts46) characters
 
 -- what is packed of records of which no refusal holds: their entries, and their pairs in order
-pub record AreExpanded (records : List Entry) (uts46 : List MapperEntry) (entries : List CharacterEntry)
+pub record AreExpanded (records : List RecordValue) (uts46 : List Uts46RecordValue) (entries : List EntryValue)
     (pairs : List Pair) : Type 0 where
   pub unrefused : IsFirstRefusal records uts46 None
   pub made : AreMadeOf records uts46 entries

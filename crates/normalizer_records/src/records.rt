@@ -25,9 +25,9 @@ pub struct Record {
 }
 
 impl Model for Record {
-    ghost use Rattle.normalizer_records.specs.Entry.{Entry};
+    ghost use Rattle.normalizer_records.specs.RecordValue.{RecordValue};
 
-    ghost Value = { Entry };
+    ghost Value = { RecordValue };
 
     ghost view = { λ r. record {
       c = r.c;
@@ -81,9 +81,9 @@ pub struct Uts46Record {
 }
 
 impl Model for Uts46Record {
-    ghost use Rattle.normalizer_records.specs.Entry.{MapperEntry};
+    ghost use Rattle.normalizer_records.specs.RecordValue.{Uts46RecordValue};
 
-    ghost Value = { MapperEntry };
+    ghost Value = { Uts46RecordValue };
 
     ghost use Rattle.normalizer_records.specs.Statuses.{status_of};
 

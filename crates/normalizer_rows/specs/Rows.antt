@@ -1,6 +1,6 @@
 -- What the rows of the tables record.
 use Rattle.std.specs.Prelude.{ℕ, Bool, true, false, List}
-use Rattle.normalizer_records.specs.Entry.{Entry, Status, MapperEntry, MapsTo, IsIgnored, IsDisallowed}
+use Rattle.normalizer_records.specs.RecordValue.{RecordValue, Status, Uts46RecordValue, MapsTo, IsIgnored, IsDisallowed}
 use Rattle.normalizer_rows.specs.declared.row.Kind.{Kind}
 use Rattle.normalizer_rows.specs.declared.row.Kind.TheVariants.{Unmapped, Canonical, Excluded, Compatibility}
 use Rattle.normalizer_rows.specs.declared.row.Treatment.{Treatment}
@@ -21,7 +21,7 @@ is_excluded Excluded = true
 is_excluded Compatibility = false
 
 -- the record of a character with its class and mapping; an empty mapping is none
-abbrev pub entry_of : ℕ → ℕ → List ℕ → Kind → Entry
+abbrev pub entry_of : ℕ → ℕ → List ℕ → Kind → RecordValue
 entry_of c class mapping kind = record {
   c = c;
   class = class;
@@ -37,5 +37,5 @@ status_of mapping Ignored = IsIgnored
 status_of mapping Disallowed = IsDisallowed
 
 -- the mapper's record of a character
-abbrev pub mapper_entry_of : ℕ → List ℕ → Treatment → MapperEntry
+abbrev pub mapper_entry_of : ℕ → List ℕ → Treatment → Uts46RecordValue
 mapper_entry_of c mapping treatment = record { c = c; status = status_of mapping treatment }

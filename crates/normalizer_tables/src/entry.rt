@@ -36,9 +36,9 @@ pub struct Entry {
 
 impl Model for Entry {
     ghost use Rattle.std.specs.Option.{option_map};
-    ghost use Rattle.normalizer_tables.specs.Entries.{CharacterEntry};
+    ghost use Rattle.normalizer_tables.specs.Entries.{EntryValue};
 
-    ghost Value = { CharacterEntry };
+    ghost Value = { EntryValue };
 
     ghost view = { λ e. record {
       character = e.character;

@@ -2,7 +2,7 @@
 use Rattle.std.specs.Prelude.{ℕ, List, [], ◌∷◌, length, Option, Some, None, Result, Ok, Err, ◌==◌, ◌&&◌, not, Bool, if◌then◌else◌}
 use Rattle.std.specs.Option.{ok_or, option_and_then}
 use Rattle.std.specs.List.{list_any}
-use Rattle.normalizer_records.specs.Entry.{Entry}
+use Rattle.normalizer_records.specs.RecordValue.{RecordValue}
 use Rattle.normalizer_ucd.specs.declared.error.LineFault.{LineFault}
 use Rattle.normalizer_ucd.specs.declared.error.Place.{Place}
 use Rattle.normalizer_ucd.specs.declared.error.Problem.TheVariants.{CodePoint, Unmapped}
@@ -33,11 +33,11 @@ exclusions_of file = do
   exclusions_in parts
 
 -- the character has a canonical mapping
-abbrev pub is_mapped : List Entry → ℕ → Bool
+abbrev pub is_mapped : List RecordValue → ℕ → Bool
 is_mapped records code = list_any (λ r. (r.c == code) && (not r.compatibility && not (length r.mapping == 0))) records
 
 -- each of the characters has one; else the line of the first that has none is wrong
-unfoldable pub all_mapped : List Exclusion → List Entry → Result (Unit {0}) LineFault
+unfoldable pub all_mapped : List Exclusion → List RecordValue → Result (Unit {0}) LineFault
 all_mapped [] records = Ok tt
 all_mapped (e ∷ exclusions) records =
     if is_mapped records e.code then all_mapped exclusions records else Err (fault (place e.line) Unmapped)

@@ -4,7 +4,7 @@ use Rattle.std.specs.Prelude.{Option, Some, None, Result, Ok, Err, if◌then◌e
 use Rattle.std.specs.Str.{bytes_eq}
 use Rattle.std.specs.Option.{ok_or, option_map}
 use Rattle.std.specs.List.{flat_map, list_any, before_first, after_first, range_with_len}
-use Rattle.normalizer_records.specs.Entry.{MapperEntry, Status, MapsTo, IsIgnored, IsDisallowed}
+use Rattle.normalizer_records.specs.RecordValue.{Uts46RecordValue, Status, MapsTo, IsIgnored, IsDisallowed}
 use Rattle.normalizer_ucd.specs.declared.error.LineFault.{LineFault}
 use Rattle.normalizer_ucd.specs.declared.error.Place.{Place}
 use Rattle.normalizer_ucd.specs.declared.error.Problem.TheVariants as problems
@@ -124,15 +124,15 @@ ranges_in choice parts = do
   Ok read.1
 
 -- a surrogate is no character
-abbrev pub entries_at : Status → ℕ → List MapperEntry
+abbrev pub entries_at : Status → ℕ → List Uts46RecordValue
 entries_at status c = if is_scalar_value c then record { c = c; status = status } ∷ [] else []
 
 -- a record for each character of a range
-unfoldable pub entries_of : RangeStatus → List MapperEntry
+unfoldable pub entries_of : RangeStatus → List Uts46RecordValue
 entries_of r = flat_map (entries_at r.status) (range_with_len r.first (r.end - r.first))
 
 -- the records that the table says
-unfoldable pub uts46_records_of : Disallowed → List ℕ → Result (List MapperEntry) LineFault
+unfoldable pub uts46_records_of : Disallowed → List ℕ → Result (List Uts46RecordValue) LineFault
 uts46_records_of choice table = do
   parts ← whole_lines files.IdnaMappingTable table
   ranges ← ranges_in choice parts

@@ -4,7 +4,7 @@ use Rattle.std.specs.Prelude.{Option, Some, None, Result, Ok, Err, if◌then◌e
 use Rattle.std.specs.Bool.{beq}
 use Rattle.std.specs.Option.{ok_or, option_and_then}
 use Rattle.std.specs.List.{list_any, starts_with, ends_with, after_first}
-use Rattle.normalizer_records.specs.Entry.{Entry}
+use Rattle.normalizer_records.specs.RecordValue.{RecordValue}
 use Rattle.normalizer_ucd.specs.declared.error.LineFault.{LineFault}
 use Rattle.normalizer_ucd.specs.declared.error.Place.{Place}
 use Rattle.normalizer_ucd.specs.declared.error.Problem.TheVariants as problems
@@ -111,7 +111,7 @@ abbrev pub is_listed : List Exclusion → ℕ → Bool
 is_listed exclusions code = list_any (λ e. e.code == code) exclusions
 
 -- what is recorded of a code point, if anything is
-unfoldable pub entry_of : List Exclusion → Place → ℕ → Part → ℕ → Bool × List ℕ → Result (Option Entry) LineFault
+unfoldable pub entry_of : List Exclusion → Place → ℕ → Part → ℕ → Bool × List ℕ → Result (Option RecordValue) LineFault
 entry_of exclusions at code part class mapping =
     if is_blank class mapping.1 then Ok None
     else do
@@ -125,7 +125,8 @@ entry_of exclusions at code part class mapping =
       }))
 
 -- the fields of a line
-unfoldable pub read_fields : List Exclusion → Place → Position → List ℕ → Result (Position × Option Entry) LineFault
+unfoldable pub read_fields : List Exclusion → Place → Position → List ℕ →
+  Result (Position × Option RecordValue) LineFault
 read_fields exclusions at position line = do
   code ← code_of at line
   part ← part_of at line
@@ -136,7 +137,7 @@ read_fields exclusions at position line = do
   Ok (next, entry)
 
 -- a line without data says nothing
-unfoldable pub read_line : List Exclusion → ℕ → Position → List ℕ → Result (Position × Option Entry) LineFault
+unfoldable pub read_line : List Exclusion → ℕ → Position → List ℕ → Result (Position × Option RecordValue) LineFault
 read_line exclusions n position line =
     if length (data_of line) == 0 then Ok (position, None)
     else read_fields exclusions (place n) position (data_of line)
@@ -146,19 +147,19 @@ abbrev pub closed : Place → Position → Result (Unit {0}) LineFault
 closed at position = if position.is_open then Err (fault at problems.Range) else Ok tt
 
 -- the records of all lines
-unfoldable pub records_in : List Exclusion → List (List ℕ) → Result (List Entry) LineFault
+unfoldable pub records_in : List Exclusion → List (List ℕ) → Result (List RecordValue) LineFault
 records_in exclusions parts = do
   read ← read_each (read_line exclusions) 1 start parts
   end ← closed (place (length parts)) read.0
   Ok read.1
 
-unfoldable pub records_by : List Exclusion → List ℕ → Result (List Entry) LineFault
+unfoldable pub records_by : List Exclusion → List ℕ → Result (List RecordValue) LineFault
 records_by exclusions file = do
   parts ← whole_lines files.UnicodeData file
   records_in exclusions parts
 
 -- the records that the two files yield
-unfoldable pub records_of : List ℕ → List ℕ → Result (List Entry) LineFault
+unfoldable pub records_of : List ℕ → List ℕ → Result (List RecordValue) LineFault
 records_of unicode_data composition_exclusions = do
   exclusions ← exclusions_of composition_exclusions
   records ← records_by exclusions unicode_data

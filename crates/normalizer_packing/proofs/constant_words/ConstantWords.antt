@@ -14,7 +14,7 @@ use Rattle.normalizer_tables.specs.Pairs.{Pair, IsNeverSecond, is_of, is_vowel_o
 use Rattle.normalizer_tables.specs.declared.entry.Kind.{Kind}
 use Rattle.normalizer_packing.specs.declared.spelling.Spelling.{Spelling}
 use Rattle.normalizer_packing.specs.declared.spelling.Spelling.TheVariants.{Final, Short}
-use Rattle.normalizer_tables.specs.Entries.{CharacterEntry, class_in, reading_of_entries, entry_of, kept_list, list_in}
+use Rattle.normalizer_tables.specs.Entries.{EntryValue, class_in, reading_of_entries, entry_of, kept_list, list_in}
 use Rattle.normalizer_packing.specs.Flags.{IsFlagged}
 use Rattle.normalizer_packing.specs.Packing.{HasFlags, IsPackedWord, IsSpelled}
 use Rattle.normalizer_packing.specs.Spelling.{final_word, spelling, spelling_by_list, spelling_or_ignored}
@@ -44,16 +44,16 @@ plain (Some w) = Final w
 plain None = Short 0
 
 -- what is known of n if data say nothing of it
-record IsUnlisted (entries : List CharacterEntry) (pairs : List Pair) (n : ℕ) : Type 0 where
+record IsUnlisted (entries : List EntryValue) (pairs : List Pair) (n : ℕ) : Type 0 where
   entry : entry_of entries n ≡ None
   listed : (first : ℕ) → listed_result pairs first n ≡ None
   apart : AllByRecursion (λ e. e ≢ n) edges
 
-module _ (entries : List CharacterEntry) (pairs : List Pair) (breakpoints : List ℕ) (lists : AreBreakpoints entries pairs breakpoints) where
+module _ (entries : List EntryValue) (pairs : List Pair) (breakpoints : List ℕ) (lists : AreBreakpoints entries pairs breakpoints) where
   IsUnlisted-missing : (n : ℕ) → (Contains breakpoints n → ⊥) → IsUnlisted entries pairs n
   unfolding entry_of
   IsUnlisted-missing n unlisted = record {
-    entry = find-missing {X = CharacterEntry} (λ e. e.character) entries n (λ k. unlisted (lists.all n (Contains-append_left _ edges n (Contains-append_left _ _ n k))));
+    entry = find-missing {X = EntryValue} (λ e. e.character) entries n (λ k. unlisted (lists.all n (Contains-append_left _ edges n (Contains-append_left _ _ n k))));
     listed = λ first. listed-missing pairs first n (λ k. unlisted (lists.all n (Contains-append_left _ edges n (Contains-append_right _ _ n k))));
     apart = recursion_from_All (λ e. e ≢ n) edges (λ k d within same. unlisted (lists.all n (Contains-append_right _ edges n (k, within, get_or_default edges k n d within ∙ same))));
   }
@@ -68,7 +68,7 @@ unfolding IsNeverSecond pair_of compose_hangul
 never_alike pairs a b same listed never first =
     let vowel = ap (λ j. j.0) same in let trailing = ap (λ j. j.1) same in let any = ap (λ j. j.2) same in let before = never first in let unlisted = listed first in grind (arith, nat_tests)
 
-module _ (entries : List CharacterEntry) (pairs : List Pair) (n : ℕ) (one : IsUnlisted entries pairs n) (next : IsUnlisted entries pairs (n + 1)) where
+module _ (entries : List EntryValue) (pairs : List Pair) (n : ℕ) (one : IsUnlisted entries pairs n) (next : IsUnlisted entries pairs (n + 1)) where
   same_jamo : jamo n ≡ jamo (n + 1)
   unfolding is_vowel is_trailing_consonant is_vowel_or_trailing_jamo
   same_jamo =
@@ -91,7 +91,7 @@ module _ (entries : List CharacterEntry) (pairs : List Pair) (n : ℕ) (one : Is
         );
       }
 
-module _ (entries : List CharacterEntry) (kind : Kind) (n : ℕ) (none : entry_of entries n ≡ None) where
+module _ (entries : List EntryValue) (kind : Kind) (n : ℕ) (none : entry_of entries n ≡ None) where
   kept-none : kept_list kind entries n ≡ n ∷ []
   unfolding kept_list list_in
   kept-none = rw (none, list_in) refl
@@ -100,7 +100,7 @@ module _ (entries : List CharacterEntry) (kind : Kind) (n : ℕ) (none : entry_o
   unfolding spelling spelling_or_ignored spelling_by_list list_in class_in
   spelled-none = let free = no_fixed-alone (class_in entries) n in let alone = eq_list (n ∷ []) (n ∷ []) refl in grind arith
 
-module _ (entries : List CharacterEntry) (pairs : List Pair) (breakpoints : List ℕ) (lists : AreBreakpoints entries pairs breakpoints) where
+module _ (entries : List EntryValue) (pairs : List Pair) (breakpoints : List ℕ) (lists : AreBreakpoints entries pairs breakpoints) where
   pub packed_alike : (kind : Kind) → IsConstantBetween (IsPackedWord kind entries pairs) breakpoints
   unfolding IsConstantBetween
   packed_alike kind n w unlisted next h =

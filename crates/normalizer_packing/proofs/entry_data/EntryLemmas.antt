@@ -10,38 +10,38 @@ use Rattle.std.proofs.lemmas.List.Sums.{position_or_len_is}
 use Rattle.std.proofs.lemmas.Option.{slice_get_read}
 use Rattle.std.specs.List.{slice_get}
 use Rattle.std.specs.List.Sorted.{IsPartitionedBy, IsPartitionPoint, IsStrictlyIncreasing}
-use Rattle.normalizer_tables.specs.Entries.{CharacterEntry, AreRising, entry_of}
+use Rattle.normalizer_tables.specs.Entries.{EntryValue, AreRising, entry_of}
 
 -- none passes
 pub find-none : {A : Type 0} (p : A → Bool) (xs : List A) → All (λ x. p x ≡ false) xs → find p xs ≡ None
 find-none p [] h = refl
 find-none p (x ∷ xs) h = rw (All-head (λ y. p y ≡ false) x xs h) (find-none p xs (All-tail (λ y. p y ≡ false) x xs h))
 
-pub character_at : (entries : List CharacterEntry) (k : ℕ) (d : CharacterEntry) → k < length entries → get_or (map (λ e. e.character) entries) k 0 ≡ (get_or entries k d).character
-character_at entries k d within = get_or-map (λ (e : CharacterEntry). e.character) entries k d 0 within
+pub character_at : (entries : List EntryValue) (k : ℕ) (d : EntryValue) → k < length entries → get_or (map (λ e. e.character) entries) k 0 ≡ (get_or entries k d).character
+character_at entries k d within = get_or-map (λ (e : EntryValue). e.character) entries k d 0 within
 
 -- entries rise if their characters do
-pub rising_characters : (entries : List CharacterEntry) → IsStrictlyIncreasing (map (λ e. e.character) entries) → AreRising entries
+pub rising_characters : (entries : List EntryValue) → IsStrictlyIncreasing (map (λ e. e.character) entries) → AreRising entries
 rising_characters entries rising i j d below within =
-    let inside : j < length (map (λ e. e.character) entries) = omega (arith, length-map entries (λ (e : CharacterEntry). e.character)) in
+    let inside : j < length (map (λ e. e.character) entries) = omega (arith, length-map entries (λ (e : EntryValue). e.character)) in
     omega (arith, AllPairs-from_increasing _ rising i j 0 below inside, character_at entries i d (omega arith), character_at entries j d within)
 
 -- entries that rise have those below a character in front
-pub IsPartitionedBy-character : (entries : List CharacterEntry) (n : ℕ) → AreRising entries → IsPartitionedBy (λ e. nat_lt e.character n) entries
+pub IsPartitionedBy-character : (entries : List EntryValue) (n : ℕ) → AreRising entries → IsPartitionedBy (λ e. nat_lt e.character n) entries
 IsPartitionedBy-character entries n rising i j d le within later = let less = rising i j d in grind (arith, nat_tests)
 
-abbrev pub IsPlaceOf : ℕ → List CharacterEntry → ℕ → Type 0
+abbrev pub IsPlaceOf : ℕ → List EntryValue → ℕ → Type 0
 IsPlaceOf n entries at = IsPartitionPoint (λ e. nat_lt e.character n ≡ true) (λ e. nat_lt e.character n ≡ false) entries at
 
-module _ (entries : List CharacterEntry) (n at : ℕ) (rising : AreRising entries) (is : IsPlaceOf n entries at) where
-  pub entry_of-found : (e : CharacterEntry) → at < length entries → e ≡ get_or entries at e → e.character ≡ n → entry_of entries n ≡ Some e
+module _ (entries : List EntryValue) (n at : ℕ) (rising : AreRising entries) (is : IsPlaceOf n entries at) where
+  pub entry_of-found : (e : EntryValue) → at < length entries → e ≡ get_or entries at e → e.character ≡ n → entry_of entries n ≡ Some e
   unfolding entry_of
   entry_of-found e within here same =
       let first = position_or_len_is (λ f. f.character == n) entries at e (omega arith) (λ j below. let low = is.0 j e (omega arith) below in grind (arith, nat_tests))
-      (λ _. subst (λ (f : CharacterEntry). (f.character == n) ≡ true) here (grind (arith, nat_tests))) in
+      (λ _. subst (λ (f : EntryValue). (f.character == n) ≡ true) here (grind (arith, nat_tests))) in
       find_at (λ f. f.character == n) entries ∙ ap (slice_get entries) first ∙ slice_get_read entries (length entries) at e refl within here
 
-  pub entry_of-none : ((d : CharacterEntry) → at < length entries → (get_or entries at d).character ≢ n) → entry_of entries n ≡ None
+  pub entry_of-none : ((d : EntryValue) → at < length entries → (get_or entries at d).character ≢ n) → entry_of entries n ≡ None
   unfolding entry_of
   entry_of-none other =
       find-none (λ f. f.character == n) entries (λ k d inside. let before = is.0 k d in let behind = is.1 at d in let after = rising at k d in let differs = other d in grind (arith, nat_tests))
@@ -69,9 +69,9 @@ find-missing number xs n missing = elim (find-tells (λ x. number x == n) xs) [
 ]
 
 -- what is found by its character is of it, and one of the entries
-pub entry_of-own : (entries : List CharacterEntry) (n : ℕ) (e : CharacterEntry) → entry_of entries n ≡ Some e → (e.character ≡ n) × Contains entries e
+pub entry_of-own : (entries : List EntryValue) (n : ℕ) (e : EntryValue) → entry_of entries n ≡ Some e → (e.character ≡ n) × Contains entries e
 unfolding entry_of
-entry_of-own entries n e found = elim (find-tells {X = CharacterEntry} (λ f. f.character == n) entries) as (λ _. (e.character ≡ n) × Contains entries e) [
+entry_of-own entries n e found = elim (find-tells {X = EntryValue} (λ f. f.character == n) entries) as (λ _. (e.character ≡ n) × Contains entries e) [
   | inl none ↦ absurd (let missing = none.0 in cc)
-  | inr some ↦ (let same : some.0 ≡ e = (let here = some.1 in cc) in subst (λ (f : CharacterEntry). (f.character ≡ n) × Contains entries f) same (eqb-true _ _ some.3, some.2))
+  | inr some ↦ (let same : some.0 ≡ e = (let here = some.1 in cc) in subst (λ (f : EntryValue). (f.character ≡ n) × Contains entries f) same (eqb-true _ _ some.3, some.2))
 ]

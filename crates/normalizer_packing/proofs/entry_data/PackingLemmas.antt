@@ -14,7 +14,7 @@ use Rattle.normalizer_tables.specs.declared.entry.Kind.TheVariants.{Canonical, C
 use Rattle.normalizer_packing.specs.declared.spelling.Spelling.{Spelling}
 use Rattle.normalizer_packing.specs.declared.spelling.Spelling.TheVariants.{Final, Short, Listed}
 use Rattle.normalizer_packing.specs.Caps.{IsCap}
-use Rattle.normalizer_tables.specs.Entries.{CharacterEntry, class_in, reading_of_entries, kept_list, list_in}
+use Rattle.normalizer_tables.specs.Entries.{EntryValue, class_in, reading_of_entries, kept_list, list_in}
 use Rattle.normalizer_packing.specs.Flags.{BeginsUnpaired, IsFlagged, without_flags}
 use Rattle.normalizer_packing.specs.Packing.{HasFlags, IsPackedWord, IsSpelled, Packs, PacksKind}
 use Rattle.normalizer_packing.specs.Spelling.{spelling}
@@ -36,7 +36,7 @@ same_flagged d pairs n x w v rest h k =
     (same_flag ((is_class_form (without_flags v) ≡ false) × BeginsUnpaired pairs x) (is_backward_combining w) (is_backward_combining v)
     (subst (λ (r : ℕ). (is_backward_combining w ≡ false) ↔ ((is_class_form r ≡ false) × BeginsUnpaired pairs x)) rest h.backward) k.backward)
 
-module _ (entries : List CharacterEntry) (pairs : List Pair) where
+module _ (entries : List EntryValue) (pairs : List Pair) where
   one_word : (kind : Kind) (n w v : ℕ) → IsPackedWord kind entries pairs n w → IsPackedWord kind entries pairs n v → w ≡ v
   one_word kind n w v h k = by (spelling (class_in entries) n (list_in kind entries n)) h.spelled k.spelled h.flags k.flags
     where

@@ -10,7 +10,7 @@ use Rattle.normalizer_tables.specs.Data.{Lists}
 use Rattle.normalizer_tables.specs.declared.entry.Kind.{Kind}
 use Rattle.normalizer_tables.specs.declared.entry.Kind.TheVariants.{Canonical, Compatibility, Mapper}
 use Rattle.normalizer_packing.specs.declared.stores.Stores.{Stores}
-use Rattle.normalizer_tables.specs.Entries.{CharacterEntry}
+use Rattle.normalizer_tables.specs.Entries.{EntryValue}
 use Rattle.normalizer_packing.specs.inner.PackedWords.{CanPoint}
 use Rattle.normalizer_packing.specs.Spelling.{list_eq}
 use Rattle.normalizer_packing.specs.Stored.{HasLengthOfWord, canonical_lists, is_among, is_narrow, item_at, item_in, item_of, listed_in, low_length, needed_items, place_of}
@@ -48,7 +48,7 @@ among_all P x (y ∷ lists) h is = elim (or_cases (list_eq x y) (is_among x list
   | inr later ↦ among_all P x lists (All-tail P y lists h) later
 ]
 
-module _ (entries : List CharacterEntry) (x : List ℕ) where
+module _ (entries : List EntryValue) (x : List ℕ) where
   among_canonical : is_among x (canonical_lists entries) ≡ is_among x (listed_in entries Canonical)
   unfolding canonical_lists
   among_canonical = is_among-first_come x (listed_in entries Canonical)
@@ -95,7 +95,7 @@ unfolding listed_from placed_in StandsAt item_at low_length narrow_at wide_at
 given t x place after some text stands = let within = place_within t x place stands in let long = narrow_length x in grind (arith, nat_tests)
 
 -- a list of one kind of data is in the tables from its item on
-pub given_from : (entries : List CharacterEntry) (s : Characters) (x : List ℕ) (kind : Kind) → s.tables ≡ tables_of (canonical_lists entries) → 0 < length x → as_text x ≡ Some x →
+pub given_from : (entries : List EntryValue) (s : Characters) (x : List ℕ) (kind : Kind) → s.tables ≡ tables_of (canonical_lists entries) → 0 < length x → as_text x ≡ Some x →
     is_among x (listed_in entries kind) ≡ true → (is_among x (canonical_lists entries) ≡ false → s.supplementary ≡ tables_of (supplementary_lists entries)) →
     listed_at s (item_of entries x) (low_length x) ≡ Some x
 unfolding listed_at
@@ -106,7 +106,7 @@ given_from entries s x kind first some text among second = elim (cases_Bool (is_
       rw (item_of-supplementary entries x other, first, second other) (past_both _ (low_length x) (listed_from _ (low_length x) (λ past. None)) _ ∙ given _ x _ (λ past. None) some text there)
 ]
 
-module _ (entries : List CharacterEntry) (s : Stores) (h : CanPoint entries s) (kind : Kind) (x : List ℕ) (listed : is_among x (listed_in entries kind) ≡ true) where
+module _ (entries : List EntryValue) (s : Stores) (h : CanPoint entries s) (kind : Kind) (x : List ℕ) (listed : is_among x (listed_in entries kind) ≡ true) where
   -- a word has room for the length of each list in a table
   pub length_of_listed : HasLengthOfWord x
   length_of_listed = among_all HasLengthOfWord x (listed_in entries kind) (h.packable.lengths kind) listed

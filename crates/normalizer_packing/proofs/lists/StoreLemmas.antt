@@ -8,7 +8,7 @@ use Rattle.std.proofs.lemmas.List.Sums.{AllPass-from_list_all}
 use Rattle.normalizer_tables.specs.Conditions.{item_count}
 use Rattle.normalizer_tables.specs.Data.{Lists}
 use Rattle.normalizer_tables.specs.declared.entry.Kind.{Kind}
-use Rattle.normalizer_tables.specs.Entries.{CharacterEntry, class_in}
+use Rattle.normalizer_tables.specs.Entries.{EntryValue, class_in}
 use Rattle.normalizer_packing.specs.Spelling.{list_eq}
 use Rattle.normalizer_packing.specs.Stored.{apart_from, canonical_lists, first_come, listed_in, listed_of, is_among, is_narrow, items_of, needed_items, place_of, supplementary_lists, tables_of}
 use Rattle.normalizer_packing.specs.inner.Stores.{AreStored, Holds, HoldsMore, stored_place, tables_in, with_list}
@@ -66,7 +66,7 @@ module _ (lists : List (List ℕ)) (s : Store) (x : List ℕ) (h : Holds lists s
         rw fresh (record { tables = λ i. record { scalars16 = narrow_table i; scalars24 = wide_table i }; places = place_put })
 
 -- the lists of the first entries
-unfoldable pub listed_so_far : Kind → List CharacterEntry → ℕ → List (List ℕ)
+unfoldable pub listed_so_far : Kind → List EntryValue → ℕ → List (List ℕ)
 listed_so_far kind entries n = filter_map (listed_of (class_in entries) kind) (take n entries)
 
 -- a member of a list in a table of 16-bit numbers is one
@@ -74,24 +74,24 @@ pub narrow_member : (x : List ℕ) (k d : ℕ) → is_narrow x ≡ true → k < 
 unfolding is_narrow
 narrow_member x k d narrow within = leb-true _ _ (AllPass-from_list_all (λ c. nat_le c 0xFFFF) x (and_parts _ _ narrow).1 k d within)
 
-pub listed_so_far-none : (kind : Kind) (entries : List CharacterEntry) → listed_so_far kind entries 0 ≡ []
+pub listed_so_far-none : (kind : Kind) (entries : List EntryValue) → listed_so_far kind entries 0 ≡ []
 unfolding listed_so_far
 listed_so_far-none kind [] = refl
 listed_so_far-none kind (e ∷ entries) = refl
 
-module _ (kind : Kind) (entries items : List CharacterEntry) (i : ℕ) (same : items ≡ entries) where
-  pub listed_so_far-more : (e : CharacterEntry) → i < length items → e ≡ get_or items i e →
+module _ (kind : Kind) (entries items : List EntryValue) (i : ℕ) (same : items ≡ entries) where
+  pub listed_so_far-more : (e : EntryValue) → i < length items → e ≡ get_or items i e →
       listed_so_far kind entries (i + 1) ≡ listed_so_far kind entries i ++ filter_map (listed_of (class_in entries) kind) (e ∷ [])
   unfolding listed_so_far
   listed_so_far-more e within is =
       let f = listed_of (class_in entries) kind in
-      let inside : i < length entries = subst (λ (l : List CharacterEntry). i < length l) same within in
+      let inside : i < length entries = subst (λ (l : List EntryValue). i < length l) same within in
       let here : get_or entries i e ≡ e = sym (is ∙ ap (λ l. get_or l i e) same) in
       ap (filter_map f) (take_more entries i e inside) ∙ filter_map-append f (take i entries) (get_or entries i e ∷ []) ∙ ap (λ m. filter_map f (take i entries) ++ filter_map f (m ∷ [])) here
 
   pub listed_so_far-all : length items ≤ i → listed_so_far kind entries i ≡ listed_in entries kind
   unfolding listed_so_far listed_in
-  listed_so_far-all past = ap (filter_map (listed_of (class_in entries) kind)) (take_all i entries (subst (λ (l : List CharacterEntry). length l ≤ i) same past))
+  listed_so_far-all past = ap (filter_map (listed_of (class_in entries) kind)) (take_all i entries (subst (λ (l : List EntryValue). length l ≤ i) same past))
 
 -- the places of lists after one is put into the map of places
 pub place_updated : (old mid new : Store) (x : List ℕ) (n : ℕ) → mid.places ≡ old.places →
@@ -116,7 +116,7 @@ unfolding is_narrow
 narrow_length x narrow = leb-true _ _ (and_parts _ _ narrow).0
 
 -- the items of both stores are those that the lists need
-pub needed_items_stored : (entries : List CharacterEntry) (a b : Store) → AreStored entries a b → item_count (tables_in a) + item_count (tables_in b) ≡ needed_items entries
+pub needed_items_stored : (entries : List EntryValue) (a b : Store) → AreStored entries a b → item_count (tables_in a) + item_count (tables_in b) ≡ needed_items entries
 needed_items_stored entries a b h =
     let first : item_count (tables_in a) ≡ item_count (tables_of (canonical_lists entries)) = ap item_count h.canonical.tables in
     let second : item_count (tables_in b) ≡ item_count (tables_of (supplementary_lists entries)) = ap item_count h.supplementary.tables in

@@ -21,7 +21,7 @@ use Rattle.normalizer_tables.specs.declared.entry.Kind.{Kind}
 use Rattle.normalizer_tables.specs.declared.entry.Kind.TheVariants.{Canonical, Compatibility, Mapper}
 use Rattle.normalizer_packing.specs.declared.spelling.Spelling.{Spelling}
 use Rattle.normalizer_packing.specs.declared.spelling.Spelling.TheVariants.{Final, Short, Listed}
-use Rattle.normalizer_tables.specs.Entries.{CharacterEntry, class_in, entry_of, kept_list, list_in, reading_of_entries}
+use Rattle.normalizer_tables.specs.Entries.{EntryValue, class_in, entry_of, kept_list, list_in, reading_of_entries}
 use Rattle.normalizer_packing.specs.Flags.{without_flags}
 use Rattle.normalizer_packing.specs.Packing.{ArePackable, IsPackedWord, IsSpelled, Packs, PacksKind}
 use Rattle.normalizer_packing.specs.ReadBack.{AreReadable, IsTrueReading, ReadsBack, characters_of, class_by, decompositions_of, has_class_word, list_by, tells_class}
@@ -46,13 +46,13 @@ unfolding code_points
 scalar_below n is = elim (scalar_cases n is) as (λ _. n < code_points) [ inl low ↦ omega arith | inr high ↦ omega (arith, high.1) ]
 
 -- what packed data read to of one character
-record IsReadBack (kind : Kind) (entries : List CharacterEntry) (s : Characters) (n : ℕ) : Type 0 where
+record IsReadBack (kind : Kind) (entries : List EntryValue) (s : Characters) (n : ℕ) : Type 0 where
   lists : (ignored : List ℕ) → list_read s ignored n ≡ Some (unwrap_or (list_by kind entries n) ignored)
   class : class_of s n ≡ class_by kind entries n
   form : has_class_form s n ≡ has_class_word kind entries n
   told : IsTrueReading kind entries n (reading_of_word s n)
 
-module _ (entries : List CharacterEntry) (pairs : List Pair) (p : Packed) (packs : Packs entries pairs p) where
+module _ (entries : List EntryValue) (pairs : List Pair) (p : Packed) (packs : Packs entries pairs p) where
   of_kind : (kind : Kind) → PacksKind kind entries pairs (decompositions_of p kind)
   of_kind Canonical = packs.canonical
   of_kind Compatibility = packs.compatibility
@@ -69,7 +69,7 @@ module _ (entries : List CharacterEntry) (pairs : List Pair) (p : Packed) (packs
   second_tables Canonical x among other = let here = canonical_kind entries x among in absurd cc
   second_tables _ x among other = packs.supplementary_tables
 
-module _ (kind : Kind) (entries : List CharacterEntry) (pairs : List Pair) (p : Packed) (packable : ArePackable entries) (readable : AreReadable kind entries) (packs : Packs entries pairs p) (n : ℕ)
+module _ (kind : Kind) (entries : List EntryValue) (pairs : List Pair) (p : Packed) (packable : ArePackable entries) (readable : AreReadable kind entries) (packs : Packs entries pairs p) (n : ℕ)
     (is : IsScalar n) where
   abbrev s : Characters
   s = characters_of p kind
@@ -239,7 +239,7 @@ module _ (kind : Kind) (entries : List CharacterEntry) (pairs : List Pair) (p : 
       final_back _ _ _ refl refl refl (record { line = refl; word = (packed_word entries pairs p packs kind n (scalar_below n is)).spelled })
 
 -- packed data read back
-pub packs_reads_back : (kind : Kind) (entries : List CharacterEntry) (pairs : List Pair) (p : Packed) → ArePackable entries → AreReadable kind entries → Packs entries pairs p →
+pub packs_reads_back : (kind : Kind) (entries : List EntryValue) (pairs : List Pair) (p : Packed) → ArePackable entries → AreReadable kind entries → Packs entries pairs p →
     ReadsBack kind entries (characters_of p kind)
 packs_reads_back kind entries pairs p packable readable packs = record {
   lists = λ ignored n is. (character_back kind entries pairs p packable readable packs n is).lists ignored;

@@ -20,7 +20,7 @@ use Rattle.normalizer_tables.specs.Words.{read_low, two_characters}
 use Rattle.normalizer_packing.specs.Flags.{without_flags}
 use Rattle.normalizer_tables.specs.declared.entry.Kind.{Kind}
 use Rattle.normalizer_tables.specs.declared.entry.Kind.TheVariants.{Mapper}
-use Rattle.normalizer_tables.specs.Entries.{CharacterEntry, own_list}
+use Rattle.normalizer_tables.specs.Entries.{EntryValue, own_list}
 use Rattle.normalizer_packing.specs.ReadBack.{is_mappers}
 use Rattle.normalizer_packing.specs.Spelling.{has_fixed_list, have_classes, list_eq, spells_two}
 use Rattle.normalizer_packing.specs.Stored.{HasLengthOfWord, low_length}
@@ -138,7 +138,7 @@ unfolding HasLengthOfWord low_length
 low_length-small x h = grind arith
 
 -- a list is missing in the mapper's data alone
-pub mapper_ignores : (kind : Kind) (n : ℕ) (o : Option CharacterEntry) → elim o as (λ _. Option (List ℕ)) [ Some e ↦ own_list kind e | None ↦ Some (n ∷ []) ] ≡ None → is_mappers kind ≡ true
+pub mapper_ignores : (kind : Kind) (n : ℕ) (o : Option EntryValue) → elim o as (λ _. Option (List ℕ)) [ Some e ↦ own_list kind e | None ↦ Some (n ∷ []) ] ≡ None → is_mappers kind ≡ true
 mapper_ignores Mapper n o none = refl
 mapper_ignores _ n None none = cc
 mapper_ignores _ n (Some e) none = cc

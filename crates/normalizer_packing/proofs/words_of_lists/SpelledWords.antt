@@ -11,7 +11,7 @@ use Rattle.normalizer_tables.specs.CharacterConditions.{is_surrogate}
 use Rattle.normalizer_tables.specs.Table.{code_points}
 use Rattle.normalizer_tables.specs.declared.entry.Kind.{Kind}
 use Rattle.normalizer_packing.specs.declared.spelling.Spelling.TheVariants.{Final, Short, Listed}
-use Rattle.normalizer_tables.specs.Entries.{CharacterEntry, class_in, reading_of_entries, entry_of, kept_list, list_in, own_list}
+use Rattle.normalizer_tables.specs.Entries.{EntryValue, class_in, reading_of_entries, entry_of, kept_list, list_in, own_list}
 use Rattle.normalizer_packing.specs.Flags.{IsFlagged, without_flags}
 use Rattle.normalizer_packing.specs.Packing.{IsPackedWord}
 use Rattle.normalizer_packing.specs.Spelling.{final_word, list_eq, spelling, spelling_by_list, spelling_or_ignored}
@@ -19,7 +19,7 @@ use Rattle.normalizer_packing.specs.Stored.{is_among, item_of, listed_in, listed
 use Rattle.normalizer_packing.proofs.lists.TableLemmas.{eq_list}
 use Rattle.normalizer_packing.proofs.entry_data.EntryLemmas.{entry_of-own}
 
-module _ (kind : Kind) (entries : List CharacterEntry) (pairs : List Pair) (n : ℕ) where
+module _ (kind : Kind) (entries : List EntryValue) (pairs : List Pair) (n : ℕ) where
   pub final_packs : (w : ℕ) → spelling (class_in entries) n (list_in kind entries n) ≡ Final w → IsPackedWord kind entries pairs n w
   final_packs w is = record { spelled = rw is refl; flags = rw is tt }
 
@@ -36,7 +36,7 @@ module _ (kind : Kind) (entries : List CharacterEntry) (pairs : List Pair) (n : 
 pub ruleset packed_words = (final_packs, short_packs, listed_packs)
 
 -- the result of an element is among those of all
-pub given_among : (f : CharacterEntry → Option (List ℕ)) (entries : List CharacterEntry) (e : CharacterEntry) (x : List ℕ) → Contains entries e → f e ≡ Some x →
+pub given_among : (f : EntryValue → Option (List ℕ)) (entries : List EntryValue) (e : EntryValue) (x : List ℕ) → Contains entries e → f e ≡ Some x →
     is_among x (filter_map f entries) ≡ true
 unfolding is_among
 given_among f [] e x there some = absurd (omega (arith, there.1))
@@ -56,24 +56,24 @@ ignored_spelled : (class : ℕ → ℕ) (n : ℕ) → spelling class n None ≡ 
 unfolding spelling spelling_or_ignored
 ignored_spelled class n is = absurd (grind arith)
 
-listed_own : (class : ℕ → ℕ) (kind : Kind) (e : CharacterEntry) (x : List ℕ) → own_list kind e ≡ Some x → spelling class e.character (Some x) ≡ Listed → listed_of class kind e ≡ Some x
+listed_own : (class : ℕ → ℕ) (kind : Kind) (e : EntryValue) (x : List ℕ) → own_list kind e ≡ Some x → spelling class e.character (Some x) ≡ Listed → listed_of class kind e ≡ Some x
 unfolding listed_of
 listed_own class kind e x own is = grind arith
 
 -- a list that no word spells is one of those of its kind
-pub listed_among : (kind : Kind) (entries : List CharacterEntry) (n : ℕ) → spelling (class_in entries) n (list_in kind entries n) ≡ Listed →
+pub listed_among : (kind : Kind) (entries : List EntryValue) (n : ℕ) → spelling (class_in entries) n (list_in kind entries n) ≡ Listed →
     is_among (kept_list kind entries n) (listed_in entries kind) ≡ true
 unfolding list_in kept_list listed_in
 listed_among kind entries n is = by (entry_of entries n) refl is
   where
-    own : (e : CharacterEntry) → entry_of entries n ≡ Some e → (o : Option (List ℕ)) → own_list kind e ≡ o → spelling (class_in entries) n o ≡ Listed →
+    own : (e : EntryValue) → entry_of entries n ≡ Some e → (o : Option (List ℕ)) → own_list kind e ≡ o → spelling (class_in entries) n o ≡ Listed →
         is_among (unwrap_or o []) (filter_map (listed_of (class_in entries) kind) entries) ≡ true
     own e found None some is = absurd (ignored_spelled (class_in entries) n is)
     own e found (Some x) some is =
         let one = entry_of-own entries n e found in
         given_among (listed_of (class_in entries) kind) entries e x one.1 (listed_own (class_in entries) kind e x some (rw one.0 is))
 
-    by : (o : Option CharacterEntry) → entry_of entries n ≡ o → spelling (class_in entries) n (elim o [ Some e ↦ own_list kind e | None ↦ Some (n ∷ []) ]) ≡ Listed →
+    by : (o : Option EntryValue) → entry_of entries n ≡ o → spelling (class_in entries) n (elim o [ Some e ↦ own_list kind e | None ↦ Some (n ∷ []) ]) ≡ Listed →
         is_among (unwrap_or (elim o as (λ _. Option (List ℕ)) [ Some e ↦ own_list kind e | None ↦ Some (n ∷ []) ]) []) (filter_map (listed_of (class_in entries) kind) entries) ≡ true
     by None none is = absurd (alone_spelled (class_in entries) n is)
     by (Some e) found is = own e found (own_list kind e) refl is
@@ -83,11 +83,11 @@ unfolding spelling final_word is_hangul_syllable is_surrogate code_points
 surrogate_spelled class n list within out = grind (arith, nat_tests)
 
 -- the word of a number that is no character
-pub surrogate_packs : (kind : Kind) (entries : List CharacterEntry) (pairs : List Pair) (n : ℕ) → n < code_points → OutOfScalarRange n → IsPackedWord kind entries pairs n 0xC000FFFD
+pub surrogate_packs : (kind : Kind) (entries : List EntryValue) (pairs : List Pair) (n : ℕ) → n < code_points → OutOfScalarRange n → IsPackedWord kind entries pairs n 0xC000FFFD
 surrogate_packs kind entries pairs n within out = final_packs kind entries pairs n _ (surrogate_spelled _ n _ within out)
 
 -- the same of a list that a look-up has lent
-pub listed_lent : (kind : Kind) (entries : List CharacterEntry) (n : ℕ) (o : Option (Bor (List ℕ))) (k d : Bor (List ℕ)) → k ≡ unwrap_or o d → d.now ≡ [] → option_copied o ≡ list_in kind entries n →
+pub listed_lent : (kind : Kind) (entries : List EntryValue) (n : ℕ) (o : Option (Bor (List ℕ))) (k d : Bor (List ℕ)) → k ≡ unwrap_or o d → d.now ≡ [] → option_copied o ≡ list_in kind entries n →
     Listed ≡ spelling (class_in entries) n (option_copied o) → is_among k.now (listed_in entries kind) ≡ true
 unfolding kept_list
 listed_lent kind entries n o k d is empty same spelled =

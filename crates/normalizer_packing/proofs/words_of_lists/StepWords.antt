@@ -6,7 +6,7 @@ use Rattle.normalizer_tables.specs.Table.{code_points}
 use Rattle.normalizer_tables.specs.declared.step.Step.{Step}
 use Rattle.normalizer_tables.specs.declared.step.Step.TheVariants.{Default, Expansion}
 use Rattle.normalizer_packing.specs.declared.store.Store.{Store}
-use Rattle.normalizer_tables.specs.Entries.{CharacterEntry, class_in, entry_of}
+use Rattle.normalizer_tables.specs.Entries.{EntryValue, class_in, entry_of}
 use Rattle.normalizer_packing.specs.StepWords.{are_narrow, asked_step, asks_supplement, step_in, step_lists, stored_step, stored_steps, word_of_step}
 use Rattle.normalizer_packing.specs.Stored.{first_come, is_among}
 use Rattle.normalizer_packing.specs.inner.Stores.{Holds, HoldsMore}
@@ -19,11 +19,11 @@ unfolding stored_step
 not_narrow a b wide = rw (wide, stored_step) refl
 
 -- a step that only the table can hold is one of those in it
-pub step_among : (entries : List CharacterEntry) (n : ℕ) (a b : ℕ) → step_in entries n ≡ Expansion a b → are_narrow a b ≡ false → is_among (a ∷ b ∷ []) (step_lists entries) ≡ true
+pub step_among : (entries : List EntryValue) (n : ℕ) (a b : ℕ) → step_in entries n ≡ Expansion a b → are_narrow a b ≡ false → is_among (a ∷ b ∷ []) (step_lists entries) ≡ true
 unfolding step_in step_lists stored_steps
 step_among entries n a b asked wide = by (entry_of entries n) refl asked
   where
-    by : (o : Option CharacterEntry) → entry_of entries n ≡ o → elim o as (λ _. Step) [ Some e ↦ asked_step entries e | None ↦ Default ] ≡ Expansion a b →
+    by : (o : Option EntryValue) → entry_of entries n ≡ o → elim o as (λ _. Step) [ Some e ↦ asked_step entries e | None ↦ Default ] ≡ Expansion a b →
         is_among (a ∷ b ∷ []) (first_come (filter_map (λ f. stored_step (asked_step entries f)) entries)) ≡ true
     by None found own = cc
     by (Some e) found own =
@@ -31,15 +31,15 @@ step_among entries n a b asked wide = by (entry_of entries n) refl asked
         ∙ given_among (λ f. stored_step (asked_step entries f)) entries e (a ∷ b ∷ []) (entry_of-own entries n e found).1 (ap stored_step own ∙ not_narrow a b wide)
 
 -- a number that is no character has no step
-asked_none : (entries : List CharacterEntry) (e : CharacterEntry) → e.character < code_points → OutOfScalarRange e.character → asked_step entries e ≡ Default
+asked_none : (entries : List EntryValue) (e : EntryValue) → e.character < code_points → OutOfScalarRange e.character → asked_step entries e ≡ Default
 unfolding asked_step asks_supplement
 asked_none entries e within out = let is = surrogate_spelled (class_in entries) e.character (Some e.canonical) within out in grind arith
 
-pub no_step : (entries : List CharacterEntry) (n : ℕ) → n < code_points → OutOfScalarRange n → 0 ≡ word_of_step (step_lists entries) (step_in entries n)
+pub no_step : (entries : List EntryValue) (n : ℕ) → n < code_points → OutOfScalarRange n → 0 ≡ word_of_step (step_lists entries) (step_in entries n)
 unfolding step_in word_of_step
 no_step entries n within out = sym (ap (word_of_step (step_lists entries)) (by (entry_of entries n) refl))
   where
-    by : (o : Option CharacterEntry) → entry_of entries n ≡ o → elim o as (λ _. Step) [ Some e ↦ asked_step entries e | None ↦ Default ] ≡ Default
+    by : (o : Option EntryValue) → entry_of entries n ≡ o → elim o as (λ _. Step) [ Some e ↦ asked_step entries e | None ↦ Default ] ≡ Default
     by None found = refl
     by (Some e) found = let same = (entry_of-own entries n e found).0 in asked_none entries e (rw same within) (rw same out)
 

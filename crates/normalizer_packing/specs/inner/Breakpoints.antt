@@ -3,7 +3,7 @@ use Rattle.std.specs.Prelude.{ℕ, ◌+◌, ◌<◌, ◌≤◌, List, [], ◌∷
 use Rattle.std.specs.List.Sorted.{IsStrictlyIncreasing}
 use Rattle.normalizer_tables.specs.Pairs.{Pair}
 use Rattle.normalizer_tables.specs.Ranges.{IsRangeList, WordRange, word_in}
-use Rattle.normalizer_tables.specs.Entries.{CharacterEntry}
+use Rattle.normalizer_tables.specs.Entries.{EntryValue}
 
 -- ranges before `end`, one after another, with the word of each number there
 pub record CoverUpTo (is_word : ℕ → ℕ → Type 0) (rs : List WordRange) (end : ℕ) : Type 0 where
@@ -27,10 +27,10 @@ abbrev pub edges : List ℕ
 edges = 0x1161 ∷ 0x1176 ∷ 0x11A8 ∷ 0x11C3 ∷ 0x1200 ∷ 0xAC00 ∷ 0xD7A4 ∷ 0xD7FF ∷ 0xE000 ∷ 0xFFFD ∷ []
 
 -- the numbers of which entries, pairs, or the packing of numbers that no entry changes say something
-abbrev pub breakpoint_numbers : List CharacterEntry → List Pair → List ℕ
+abbrev pub breakpoint_numbers : List EntryValue → List Pair → List ℕ
 breakpoint_numbers entries pairs = map (λ e. e.character) entries ++ map (λ p. p.0) pairs ++ edges
 
 -- they all, in their order
-pub record AreBreakpoints (entries : List CharacterEntry) (pairs : List Pair) (breakpoints : List ℕ) : Type 0 where
+pub record AreBreakpoints (entries : List EntryValue) (pairs : List Pair) (breakpoints : List ℕ) : Type 0 where
   pub all : (n : ℕ) → Contains (breakpoint_numbers entries pairs) n → Contains breakpoints n
   pub rising : IsStrictlyIncreasing breakpoints

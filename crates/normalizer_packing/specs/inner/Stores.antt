@@ -6,7 +6,7 @@ use Rattle.std.specs.Ordering.{nat_cmp}
 use Rattle.normalizer_tables.specs.Characters.{items_at}
 use Rattle.normalizer_tables.specs.Data.{Lists}
 use Rattle.normalizer_packing.specs.declared.store.Store.{Store}
-use Rattle.normalizer_tables.specs.Entries.{CharacterEntry}
+use Rattle.normalizer_tables.specs.Entries.{EntryValue}
 use Rattle.normalizer_packing.specs.Stored.{apart_from, canonical_lists, first_come, is_among, is_narrow, place_of}
 use Rattle.normalizer_packing.specs.Stored.{supplementary_lists, tables_of}
 
@@ -41,6 +41,6 @@ HoldsLists first old more new =
     Holds (apart_from before (first_come lists)) old → Holds (apart_from before (first_come (lists ++ more))) new
 
 -- the stores hold the lists that no word spells: those of canonical data, and those that only the other kinds need
-pub record AreStored (entries : List CharacterEntry) (a b : Store) : Type 0 where
+pub record AreStored (entries : List EntryValue) (a b : Store) : Type 0 where
   pub canonical : Holds (canonical_lists entries) a
   pub supplementary : Holds (supplementary_lists entries) b

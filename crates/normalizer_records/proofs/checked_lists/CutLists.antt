@@ -8,12 +8,12 @@ use Rattle.std.proofs.lemmas.List.{take_all, length-take}
 use Rattle.normal_forms.specs.Order.{is_reorderable, insert, order}
 use Rattle.normal_forms.proofs.ordering.OrderLemmas.{length-order}
 use Rattle.normalizer_tables.specs.SpecialLists.{fixed_list_of, fdfa_list}
-use Rattle.normalizer_records.specs.Entry.{Entry}
+use Rattle.normalizer_records.specs.RecordValue.{RecordValue}
 use Rattle.normalizer_records.specs.Meaning.{class_of, recorded_classes}
 use Rattle.normalizer_records.specs.Faults.{begins_with_mark, IsFreeForm, IsTooLong}
 use Rattle.normalizer_records.specs.inner.CutLists.{StandsFor, MayStandFor}
 
-module _ (records : List Entry) where
+module _ (records : List RecordValue) where
   begins-insert : (c : ℕ) (y : List ℕ) → begins_with_mark records (insert (recorded_classes records) c y) ≡ nat_lt 0 (class_of records c)
   unfolding insert is_reorderable
   begins-insert c [] = refl
@@ -33,18 +33,18 @@ unfolding fixed_list_of
 fixed_list_of-short n = grind arith
 
 -- a long list is neither the character alone nor its fixed one
-IsFreeForm-long : (records : List Entry) (c : ℕ) (list : List ℕ) → 18 < length list → IsFreeForm records c list
+IsFreeForm-long : (records : List RecordValue) (c : ℕ) (list : List ℕ) → 18 < length list → IsFreeForm records c list
 IsFreeForm-long records c list h = (λ same. let one = ap length same in omega arith, λ form. let short = rw form at (fixed_list_of-short c) in omega arith)
 
 IsTooLong-long : (list : List ℕ) → 18 < length list → IsTooLong list
 unfolding fdfa_list
 IsTooLong-long list h = (grind (arith, nat_tests), λ same. let fits = ap length same in omega arith)
 
-pub StandsFor-itself : (records : List Entry) (list : List ℕ) → StandsFor records list list
+pub StandsFor-itself : (records : List RecordValue) (list : List ℕ) → StandsFor records list list
 StandsFor-itself records list = record { short = λ h. refl; wrong = λ c m. (λ h. h, λ h. h); long = (λ h. h, λ h. h) }
 
 -- the first 19 of an expansion may be checked in place of all of it
-pub StandsFor-cut : (records : List Entry) (x cut : List ℕ) → cut ≡ order (recorded_classes records) (take 19 x) → StandsFor records (order (recorded_classes records) x) cut
+pub StandsFor-cut : (records : List RecordValue) (x cut : List ℕ) → cut ≡ order (recorded_classes records) (take 19 x) → StandsFor records (order (recorded_classes records) x) cut
 StandsFor-cut records x cut is =
     let d = recorded_classes records in
     elim (cases_lt 19 (length x)) as (λ _. StandsFor records (order d x) cut) [
@@ -67,13 +67,13 @@ StandsFor-cut records x cut is =
     ]
 
 -- the mapper's list is not cut if it is short, and may be checked through a cut
-pub MayStandFor-short : (records : List Entry) (o p : Option (List ℕ)) → IfSome o (λ list. length list ≤ 18) → MayStandFor records o p → p ≡ o
+pub MayStandFor-short : (records : List RecordValue) (o p : Option (List ℕ)) → IfSome o (λ list. length list ≤ 18) → MayStandFor records o p → p ≡ o
 MayStandFor-short records None None short h = refl
 MayStandFor-short records None (Some cut) short h = absurd h
 MayStandFor-short records (Some list) None short h = absurd h
 MayStandFor-short records (Some list) (Some cut) short h = ap (λ y. Some y) (h.short short)
 
-pub MayStandFor-some : (records : List Entry) (P : List ℕ → Type 0) → ((list cut : List ℕ) → StandsFor records list cut → P cut ↔ P list) → (o p : Option (List ℕ)) → MayStandFor records o p →
+pub MayStandFor-some : (records : List RecordValue) (P : List ℕ → Type 0) → ((list cut : List ℕ) → StandsFor records list cut → P cut ↔ P list) → (o p : Option (List ℕ)) → MayStandFor records o p →
     IsSomeAnd p P ↔ IsSomeAnd o P
 MayStandFor-some records P same None None h = (λ x. x, λ x. x)
 MayStandFor-some records P same None (Some cut) h = absurd h

@@ -6,7 +6,7 @@ use Rattle.std.proofs.lemmas.Bool.Decides.{nat_tests}
 use Rattle.normalizer_tables.specs.Characters.{as_text}
 use Rattle.normalizer_tables.specs.Hangul.{is_hangul_syllable, hangul_decomposition, l_base, v_base, t_base, s_base, n_count, t_count}
 use Rattle.normalizer_records.specs.declared.records.Mappings.{Mappings}
-use Rattle.normalizer_records.specs.Entry.{Entry}
+use Rattle.normalizer_records.specs.RecordValue.{RecordValue}
 use Rattle.normalizer_records.specs.Meaning.{replacement}
 
 pub syllable-range : (c : ℕ) → is_hangul_syllable c ≡ true → c ≤ 0xD7A3
@@ -44,6 +44,6 @@ as_text-jamo c h = by_jamo (λ x. as_text x ≡ Some x) c h
     (λ l v first second. rw (low_scalar l (omega arith), low_scalar v (omega arith)) refl)
     (λ l v t first second third. rw (low_scalar l (omega arith), low_scalar v (omega arith), low_scalar t (omega arith)) refl)
 
-pub replacement-syllable : (records : List Entry) (mappings : Mappings) (c : ℕ) → is_hangul_syllable c ≡ true → replacement records mappings c ≡ hangul_decomposition c
+pub replacement-syllable : (records : List RecordValue) (mappings : Mappings) (c : ℕ) → is_hangul_syllable c ≡ true → replacement records mappings c ≡ hangul_decomposition c
 unfolding replacement
 replacement-syllable records mappings c h = rw h refl

@@ -4,7 +4,7 @@ use Rattle.std.proofs.lemmas.Bool.{cases_lt}
 use Rattle.std.proofs.lemmas.Bool.Decides.{nat_tests}
 use Rattle.normalizer_tables.specs.SpecialLists.{fdfa_list}
 use Rattle.normalizer_records.specs.declared.records.BuildError.TheVariants as error
-use Rattle.normalizer_records.specs.Entry.{Entry, MapperEntry}
+use Rattle.normalizer_records.specs.RecordValue.{RecordValue, Uts46RecordValue}
 use Rattle.normalizer_records.specs.Faults.{HasFault, HasChainFault, HasLengthFault, HasLongList, IsAsked, IsFirstRefusal, IsOnLongChain, IsTooLong, mapped_to}
 use Rattle.normalizer_records.specs.Meaning.{mapper_list, status_of}
 use Rattle.normalizer_records.specs.inner.CutLists.{HasRoom}
@@ -20,7 +20,7 @@ short_if_some : (o : Option (List ℕ)) → ¬ IsSomeAnd o IsTooLong → IfSome 
 short_if_some None h = tt
 short_if_some (Some x) h = short x h
 
-module _ (records : List Entry) (uts46 : List MapperEntry) (none : IsFirstRefusal records uts46 None) where
+module _ (records : List RecordValue) (uts46 : List Uts46RecordValue) (none : IsFirstRefusal records uts46 None) where
   off_chain : (c : ℕ) → ¬ IsOnLongChain records c
   unfolding IsFirstRefusal HasFault HasChainFault IsOnLongChain
   off_chain c h = none error.Chain (h.0 ++ c ∷ h.1, h.2, h.3)

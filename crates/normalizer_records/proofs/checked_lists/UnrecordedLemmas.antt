@@ -11,7 +11,7 @@ use Rattle.normal_forms.proofs.ordering.OrderLemmas.{length-order}
 use Rattle.normalizer_tables.specs.Hangul.{is_hangul_syllable, hangul_decomposition}
 use Rattle.normalizer_records.specs.declared.records.Mappings.{Mappings}
 use Rattle.normalizer_records.specs.declared.records.Mappings.TheVariants.{Canonical, All as AllMappings}
-use Rattle.normalizer_records.specs.Entry.{Entry, IsIgnored, MapperEntry}
+use Rattle.normalizer_records.specs.RecordValue.{RecordValue, IsIgnored, Uts46RecordValue}
 use Rattle.normalizer_records.specs.Meaning.{entry_of, class_of, replacement, expansion, full_list, recorded_classes, status_of, mapper_list, mapped_list, levels}
 use Rattle.normalizer_records.specs.inner.Lookup.{no_entry}
 use Rattle.normalizer_records.specs.inner.CutLists.{IsOfSome}
@@ -36,12 +36,12 @@ low_no_syllable : (c : ℕ) → c < 0xAC00 → is_hangul_syllable c ≡ false
 unfolding is_hangul_syllable
 low_no_syllable c low = grind (arith, nat_tests)
 
-module _ (records : List Entry) (uts46 : List MapperEntry) (fixed : has_fixed_fault records uts46 ≡ false) where
+module _ (records : List RecordValue) (uts46 : List Uts46RecordValue) (fixed : has_fixed_fault records uts46 ≡ false) where
   unrecorded_jamo : (c : ℕ) → 0x1100 ≤ c → c ≤ 0x11FF → entry_of records c ≡ None
   unfolding entry_of has_fixed_fault
-  unrecorded_jamo c low high = elim (stands_or_none (λ (r : Entry). r.c) records c) [
+  unrecorded_jamo c low high = elim (stands_or_none (λ (r : RecordValue). r.c) records c) [
     | inl at ↦
-        let bad = list_any_at (λ (r : Entry). is_fixed r.c) records at.0 no_entry at.1.within (ap is_fixed (at.1.there no_entry) ∙ jamo_fixed c low high) in
+        let bad = list_any_at (λ (r : RecordValue). is_fixed r.c) records at.0 no_entry at.1.within (ap is_fixed (at.1.there no_entry) ∙ jamo_fixed c low high) in
         absurd (true≢false (sym bad ∙ (or_parts _ _ fixed).0))
     | inr none ↦ none
   ]
@@ -104,16 +104,16 @@ module _ (records : List Entry) (uts46 : List MapperEntry) (fixed : has_fixed_fa
 
   -- every character is recorded in one way or the other, or in none
   abbrev characters : List ℕ
-  characters = map (λ (r : Entry). r.c) records ++ map (λ (r : MapperEntry). r.c) uts46
+  characters = map (λ (r : RecordValue). r.c) records ++ map (λ (r : Uts46RecordValue). r.c) uts46
 
   recorded_or_not : (c : ℕ) → Contains characters c ⊎ ((entry_of records c ≡ None) × (status_of uts46 c ≡ None))
   unfolding entry_of status_of
-  recorded_or_not c = elim (contains_or_none (λ (r : Entry). r.c) no_entry records c) [
+  recorded_or_not c = elim (contains_or_none (λ (r : RecordValue). r.c) no_entry records c) [
     | inl there ↦ inl (Contains-append_left _ _ c there)
     | inr none ↦
-        elim (contains_or_none (λ (r : MapperEntry). r.c) (record { c = 0; status = IsIgnored }) uts46 c) [
+        elim (contains_or_none (λ (r : Uts46RecordValue). r.c) (record { c = 0; status = IsIgnored }) uts46 c) [
           | inl there ↦ inl (Contains-append_right _ _ c there)
-          | inr gone ↦ inr (none, ap (option_map (λ (r : MapperEntry). r.status)) gone)
+          | inr gone ↦ inr (none, ap (option_map (λ (r : Uts46RecordValue). r.status)) gone)
         ]
   ]
 

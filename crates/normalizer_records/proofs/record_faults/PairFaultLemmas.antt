@@ -11,7 +11,7 @@ use Rattle.std.proofs.lemmas.Grind.{common_steps}
 use Rattle.std.specs.List.{IsAllAdjacentAnswer}
 use Rattle.normalizer_tables.specs.Pairs.{Pair, is_before, AreRising}
 use Rattle.normalizer_tables.proofs.composites.PairLemmas.{AreRising-decides, AreRising_from_adjacent}
-use Rattle.normalizer_records.specs.Entry.{Entry}
+use Rattle.normalizer_records.specs.RecordValue.{RecordValue}
 use Rattle.normalizer_records.specs.Meaning.{pairs_of}
 use Rattle.normalizer_records.specs.Faults.{HasPairFault}
 use Rattle.normalizer_records.specs.inner.SortedPairs.{by_second_and_first}
@@ -47,7 +47,7 @@ is_itself p = grind (arith, nat_tests)
 is_the_other : (p q : Pair) → p.0 ≡ q.0 → p.1 ≡ q.1 → same_as p.1 p.0 q ≡ true
 is_the_other p q second first = grind (arith, nat_tests)
 
-module _ (records : List Entry) (ps : List Pair) (moved : IsPermutation (pairs_of records) ps) where
+module _ (records : List RecordValue) (ps : List Pair) (moved : IsPermutation (pairs_of records) ps) where
   -- of two that are the same pair none comes before the other
   pub HasPairFault-not_rising : HasPairFault records → AreRising ps → ⊥
   unfolding HasPairFault

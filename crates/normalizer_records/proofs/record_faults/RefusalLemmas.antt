@@ -11,7 +11,7 @@ use Rattle.normalizer_records.specs.inner.Chains.{IsSetOf}
 use Rattle.std.proofs.lemmas.Bool.{true≢false}
 use Rattle.normalizer_records.specs.declared.records.BuildError.{BuildError}
 use Rattle.normalizer_records.specs.declared.records.BuildError.TheVariants.{Order, Fixed, Class, Mapping, Chain, Length, Pair, Unfit, TableFull, Memory}
-use Rattle.normalizer_records.specs.Entry.{Entry, MapperEntry}
+use Rattle.normalizer_records.specs.RecordValue.{RecordValue, Uts46RecordValue}
 use Rattle.normalizer_records.specs.Faults.{HasFault, has_fixed_fault, has_mapping_fault, HasClassFault, HasLengthFault, HasPairFault, first_among, rank_of, IsFirstRefusal, HasOrderFault}
 use Rattle.normalizer_records.specs.Faults.{HasChainFault, AreRising, AreMapperRising, IsAsked, IsOnLongChain, mapped_to}
 
@@ -21,7 +21,7 @@ some_rank e = grind arith
 same_rank : (e f : BuildError) → rank_of e < 8 → rank_of e ≡ rank_of f → e ≡ f
 same_rank e f low same = grind arith
 
-module _ (records : List Entry) (uts46 : List MapperEntry) where
+module _ (records : List RecordValue) (uts46 : List Uts46RecordValue) where
   -- no error past the seventh is a fault of the records by themselves
   low_rank : (e : BuildError) → HasFault records uts46 e → rank_of e < 8
   unfolding HasFault
@@ -73,7 +73,7 @@ module _ (records : List Entry) (uts46 : List MapperEntry) where
   fixed_first rising mapper h = (h, no_order_fault rising mapper)
 
 -- whether a character is checked, by the set of those on long chains
-module _ (records : List Entry) (uts46 : List MapperEntry) (long : BTreeSet ℕ) (is : IsSetOf (IsOnLongChain records) long) (c : ℕ) where
+module _ (records : List RecordValue) (uts46 : List Uts46RecordValue) (long : BTreeSet ℕ) (is : IsSetOf (IsOnLongChain records) long) (c : ℕ) where
   abbrev among : Bool
   among = list_any (contains nat_cmp long) (c ∷ mapped_to (status_of uts46 c))
 

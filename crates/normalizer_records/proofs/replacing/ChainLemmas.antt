@@ -14,7 +14,7 @@ use Rattle.std.proofs.lemmas.List.Elements.{Contains-get_or, Contains-append_cas
 use Rattle.std.proofs.lemmas.List.Folds.{Any-from_list_any, list_any-from_Any}
 use Rattle.std.proofs.lemmas.Map.Lookups.{exact_unsigned}
 use Rattle.std.proofs.lemmas.Map.Views.{btree_set_contains_from_list, btree_set_contains_iff}
-use Rattle.normalizer_records.specs.Entry.{Entry}
+use Rattle.normalizer_records.specs.RecordValue.{RecordValue}
 use Rattle.normalizer_records.specs.Meaning.{entry_of, mapping_of}
 use Rattle.normalizer_records.specs.Faults.{AreRising, IsRecorded, IsChain, IsOnLongChain, HasChainFault}
 use Rattle.normalizer_records.specs.inner.Chains.{beginning, IsBetween, IsLedTo, IsSetOf, LeadsOn}
@@ -42,7 +42,7 @@ Contains-flat_map f [] y x inside h = let within = inside.1 in absurd (omega ari
 Contains-flat_map f (z ∷ xs) y x (zero, within, is) h = Contains-append_left (f z) (flat_map f xs) y (subst (λ (e : _). Contains (f e) y) (sym is) h)
 Contains-flat_map f (z ∷ xs) y x (suc k, within, is) h = Contains-append_right (f z) (flat_map f xs) y (Contains-flat_map f xs y x (k, omega arith, is) h)
 
-module _ (records : List Entry) where
+module _ (records : List RecordValue) where
   -- what has a mapping is recorded
   recorded_by : (c d : ℕ) → Contains (mapping_of records c) d → IsRecorded records c
   unfolding mapping_of
@@ -166,9 +166,9 @@ module _ (records : List Entry) where
       ] none
 
   -- a recorded character is that of a record
-  record_of : (c : ℕ) → IsRecorded records c → (r : Entry) × Contains records r × (r.c ≡ c)
+  record_of : (c : ℕ) → IsRecorded records c → (r : RecordValue) × Contains records r × (r.c ≡ c)
   unfolding entry_of
-  record_of c h = elim (stands_or_none (λ (r : Entry). r.c) records c) [
+  record_of c h = elim (stands_or_none (λ (r : RecordValue). r.c) records c) [
     | inl at ↦ (get_or records at.0 no_entry, Contains-get_or records at.0 no_entry at.1.within, at.1.there no_entry)
     | inr none ↦ absurd (true≢false (sym h ∙ ap is_some none))
   ]
@@ -176,20 +176,20 @@ module _ (records : List Entry) where
   pub IsSetOf-recorded : (s : BTreeSet ℕ) → IsFromIterResult nat_cmp (map (λ r. r.c) records) s → IsSetOf (IsRecorded records) s
   unfolding entry_of
   IsSetOf-recorded s is c =
-      let have = btree_set_contains_from_list nat_cmp_total exact_unsigned (map (λ (r : Entry). r.c) records) s is c in (
-        λ h. is_some_find (λ (r : Entry). r.c) records c (have.0 h),
-        λ h. let r = record_of c h in have.1 (subst (Contains (map (λ (e : Entry). e.c) records)) r.2 (Contains-map (λ (e : Entry). e.c) records r.0 r.1)),
+      let have = btree_set_contains_from_list nat_cmp_total exact_unsigned (map (λ (r : RecordValue). r.c) records) s is c in (
+        λ h. is_some_find (λ (r : RecordValue). r.c) records c (have.0 h),
+        λ h. let r = record_of c h in have.1 (subst (Contains (map (λ (e : RecordValue). e.c) records)) r.2 (Contains-map (λ (e : RecordValue). e.c) records r.0 r.1)),
       )
 
   module _ (rising : AreRising records) where
     -- a mapping is that of a record
-    mapping-of_record : (r : Entry) → Contains records r → mapping_of records r.c ≡ r.mapping
+    mapping-of_record : (r : RecordValue) → Contains records r → mapping_of records r.c ≡ r.mapping
     unfolding mapping_of entry_of
     mapping-of_record r (k, within, is) =
-        ap (λ o. option_map_or (λ (e : Entry). e.mapping) o []) (find-found (λ (e : Entry). e.c) records rising r.c k r
-        (record { within = within; there = λ d. ap (λ (e : Entry). e.c) (get_or_default records k d r within ∙ is) }) (sym is))
+        ap (λ o. option_map_or (λ (e : RecordValue). e.mapping) o []) (find-found (λ (e : RecordValue). e.c) records rising r.c k r
+        (record { within = within; there = λ d. ap (λ (e : RecordValue). e.c) (get_or_default records k d r within ∙ is) }) (sym is))
 
-    record_with : (c d : ℕ) → Contains (mapping_of records c) d → (r : Entry) × Contains records r × (r.c ≡ c) × Contains r.mapping d
+    record_with : (c d : ℕ) → Contains (mapping_of records c) d → (r : RecordValue) × Contains records r × (r.c ≡ c) × Contains r.mapping d
     record_with c d h =
         let r = record_of c (recorded_by c d h) in
         (r.0, r.1, r.2, subst (λ (y : List ℕ). Contains y d) (ap (mapping_of records) (sym r.2) ∙ mapping-of_record r.0 r.1) h)
@@ -199,7 +199,7 @@ module _ (records : List Entry) where
       unfolding LeadsOn
       LeadsOn-more on is c = let have = btree_set_contains_from_list nat_cmp_total exact_unsigned (flat_map (beginning set) records) s is c in (λ h. there (have.0 h), λ h. have.1 (back h))
         where
-          in_record : (r : Entry) → Contains records r → (b : Bool) → list_any (contains nat_cmp set) r.mapping ≡ b → Contains (if b then r.c ∷ [] else []) c → LeadsOn records (suc n) c
+          in_record : (r : RecordValue) → Contains records r → (b : Bool) → list_any (contains nat_cmp set) r.mapping ≡ b → Contains (if b then r.c ∷ [] else []) c → LeadsOn records (suc n) c
           in_record r inside false off at = let within = at.1 in absurd (omega arith)
           in_record r inside true holds (suc j, within, is) = absurd (omega arith)
           in_record r inside true holds (zero, within, is) =

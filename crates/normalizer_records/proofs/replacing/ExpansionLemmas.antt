@@ -5,7 +5,7 @@ use Rattle.std.proofs.lemmas.Grind.{flat_map-append}
 use Rattle.std.proofs.lemmas.List.{take_all, take_more, take-append-le, flat_map_more, length-take}
 use Rattle.std.proofs.lemmas.Option.{slice_get_within, get_or_from_slice_get}
 use Rattle.normalizer_records.specs.declared.records.Mappings.{Mappings}
-use Rattle.normalizer_records.specs.Entry.{Entry}
+use Rattle.normalizer_records.specs.RecordValue.{RecordValue}
 use Rattle.normalizer_records.specs.Meaning.{expansion, replace_by, replacement}
 
 -- a cut list may be cut again after an addition
@@ -39,7 +39,7 @@ module _ (f : ℕ → List ℕ) (room : ℕ) (start xs : List ℕ) where
       let whole : start ++ flat_map f xs ≡ so_far ++ flat_map f (drop i xs) = ap (λ y. start ++ y) split ∙ sym (append_assoc start (flat_map f (take i xs)) (flat_map f (drop i xs))) in
       was ∙ sym (take-append-le room so_far (flat_map f (drop i xs)) (omega arith)) ∙ ap (take room) (sym whole)
 
-module _ (records : List Entry) (mappings : Mappings) where
+module _ (records : List RecordValue) (mappings : Mappings) where
   pub expansion-zero : (c : ℕ) → expansion records mappings 0 c ≡ c ∷ []
   unfolding expansion
   expansion-zero c = refl

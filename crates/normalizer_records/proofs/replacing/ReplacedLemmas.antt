@@ -8,7 +8,7 @@ use Rattle.std.proofs.lemmas.List.Elements.{All-nil, All-cons, All-contains}
 use Rattle.normal_forms.proofs.cuts.PlaceLemmas.{same_or_not}
 use Rattle.normalizer_tables.specs.Hangul.{is_hangul_syllable, hangul_decomposition}
 use Rattle.normalizer_records.specs.declared.records.Mappings.{Mappings}
-use Rattle.normalizer_records.specs.Entry.{Entry, MapperEntry}
+use Rattle.normalizer_records.specs.RecordValue.{RecordValue, Uts46RecordValue}
 use Rattle.normalizer_records.specs.Meaning.{expand_all, entry_of, mapping_of, mapping_among, replacement, expansion, ExpandsTo, done, stays, replaced, levels}
 use Rattle.normalizer_records.specs.inner.Chains.{LeadsOn}
 use Rattle.normalizer_records.specs.Faults.{IsRecorded, IsOnLongChain, has_fixed_fault}
@@ -23,12 +23,12 @@ jamo_of_syllable c x h = All-contains IsJamo (hangul_decomposition c) x
     (λ l v t a b d. All-cons IsJamo l (v ∷ t ∷ []) a (All-cons IsJamo v (t ∷ []) b (All-cons IsJamo t [] d (All-nil IsJamo)))))
 
 -- what is taken of a mapping is the whole mapping, or nothing
-whole_mapping : (o : Option Entry) (mappings : Mappings) → option_map_or (mapping_among mappings) o [] ≢ [] →
+whole_mapping : (o : Option RecordValue) (mappings : Mappings) → option_map_or (mapping_among mappings) o [] ≢ [] →
     (is_some o ≡ true) × (option_map_or (mapping_among mappings) o [] ≡ option_map_or (λ r. r.mapping) o [])
 whole_mapping o mappings some = grind (arith, some)
 
 -- one text comes of replacing
-module _ (records : List Entry) (mappings : Mappings) where
+module _ (records : List RecordValue) (mappings : Mappings) where
   Begins : List ℕ → List ℕ → Type 0
   Begins [] y = y ≡ []
   Begins (c ∷ x) y =
@@ -53,7 +53,7 @@ module _ (records : List Entry) (mappings : Mappings) where
     | inr (_, by) ↦ ends_once (replacement records mappings c ++ x) y z rest by
   ]
 
-module _ (records : List Entry) (uts46 : List MapperEntry) (fixed : has_fixed_fault records uts46 ≡ false) (mappings : Mappings) where
+module _ (records : List RecordValue) (uts46 : List Uts46RecordValue) (fixed : has_fixed_fault records uts46 ≡ false) (mappings : Mappings) where
   -- fewer than n records lead on from c
   abbrev EndsWithin : ℕ → ℕ → Type 0
   EndsWithin zero c = ⊥

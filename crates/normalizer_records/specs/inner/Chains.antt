@@ -3,7 +3,7 @@ use Rattle.std.specs.Prelude.{◌↔◌, ℕ, zero, suc, ◌⊎◌, List, [], �
 use Rattle.std.specs.BTreeSet.{BTreeSet, contains}
 use Rattle.std.specs.List.{list_any}
 use Rattle.std.specs.Ordering.{nat_cmp}
-use Rattle.normalizer_records.specs.Entry.{Entry}
+use Rattle.normalizer_records.specs.RecordValue.{RecordValue}
 use Rattle.normalizer_records.specs.Meaning.{mapping_of}
 use Rattle.normalizer_records.specs.Faults.{IsRecorded}
 
@@ -12,20 +12,20 @@ abbrev pub IsSetOf : (ℕ → Type 0) → BTreeSet ℕ → Type 0
 IsSetOf P set = (c : ℕ) → IsTrue (contains nat_cmp set c) ↔ P c
 
 -- this many records lead on from c, each to the next, the last to one that is recorded
-unfoldable pub LeadsOn : List Entry → ℕ → ℕ → Type 0
+unfoldable pub LeadsOn : List RecordValue → ℕ → ℕ → Type 0
 LeadsOn records zero c = IsRecorded records c
 LeadsOn records (suc n) c = (d : ℕ) × Contains (mapping_of records c) d × LeadsOn records n d
 
 -- this many records lead to c, each from the one before
-unfoldable pub IsLedTo : List Entry → ℕ → ℕ → Type 0
+unfoldable pub IsLedTo : List RecordValue → ℕ → ℕ → Type 0
 IsLedTo records zero c = IsRecorded records c
 IsLedTo records (suc n) c = (b : ℕ) × Contains (mapping_of records b) c × IsLedTo records n b
 
 -- P, or n + k records lead to c and on from it, at most n of them on
-unfoldable pub IsBetween : List Entry → Type 0 → ℕ → ℕ → ℕ → Type 0
+unfoldable pub IsBetween : List RecordValue → Type 0 → ℕ → ℕ → ℕ → Type 0
 IsBetween records P zero k c = P ⊎ (LeadsOn records zero c × IsLedTo records k c)
 IsBetween records P (suc n) k c = IsBetween records P n (suc k) c ⊎ (LeadsOn records (suc n) c × IsLedTo records k c)
 
 -- the character of a record that leads to one of the set
-abbrev pub beginning : BTreeSet ℕ → Entry → List ℕ
+abbrev pub beginning : BTreeSet ℕ → RecordValue → List ℕ
 beginning set r = if list_any (contains nat_cmp set) r.mapping then r.c ∷ [] else []

@@ -1,5 +1,5 @@
 use Rattle.std.proofs.Common.{◌≡◌, None, Some, sym, ap, ◌∙◌}
-use Rattle.normalizer_records.specs.Entry.{MapperEntry}
+use Rattle.normalizer_records.specs.RecordValue.{Uts46RecordValue}
 use Rattle.normalizer_records.specs.Statuses.{status_of as status_value}
 use Rattle.normalizer_records.specs.Meaning.{mapper_list, mapped_list, status_of}
 use Rattle.normalizer_records.proofs.lists.cut_mapper_list.Goals as goal
@@ -13,6 +13,6 @@ returns-in_ok-list-in-None-clause-list c =
 pub returns-in-Some-clause-list : goal.returns-in-Some-clause-list
 unfolding mapper_list mapped_list
 returns-in-Some-clause-list c =
-    let seen = ap (λ (e : MapperEntry). e.status) c.record.view_is in
+    let seen = ap (λ (e : Uts46RecordValue). e.status) c.record.view_is in
     let known : status_of c.args.uts46.now c.args.c ≡ Some (status_value c.record.inside.status) = sym c.in-Some.ensures ∙ ap (λ s. Some s) (sym seen) in
     rw known c.cut_mapped_list.ensures.list

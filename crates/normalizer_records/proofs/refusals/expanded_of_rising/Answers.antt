@@ -1,6 +1,6 @@
 use Rattle.std.proofs.Common.{◌≡◌, ◌↔◌, ℕ, Bool, false, List, All, Contains, length, IsTrue, None, inr, sym, subst}
 use Rattle.normalizer_records.specs.declared.records.BuildError.TheVariants.{Pair}
-use Rattle.normalizer_records.specs.Entry.{Entry, MapperEntry}
+use Rattle.normalizer_records.specs.RecordValue.{RecordValue, Uts46RecordValue}
 use Rattle.normalizer_records.specs.Faults.{AreRising, AreMapperRising, first_among, has_fixed_fault, has_mapping_fault, HasChainFault, HasFault, HasLongList, HasPairFault, HasWrongClass, IsAsked}
 use Rattle.normalizer_records.specs.Faults.{IsFirstRefusal}
 use Rattle.normalizer_records.specs.Recorded.{recorded_characters}
@@ -14,7 +14,7 @@ use Rattle.normalizer_records.proofs.replacing.ChainLemmas.{HasChainFault-some}
 use Rattle.normalizer_records.proofs.refusals.expanded_of_rising.Goals as goal
 
 -- the first refusal, by what the listed characters show
-module _ (records : List Entry) (uts46 : List MapperEntry) (rising : AreRising records) (mapper : AreMapperRising uts46) (fixed : has_fixed_fault records uts46 ≡ false) where
+module _ (records : List RecordValue) (uts46 : List Uts46RecordValue) (rising : AreRising records) (mapper : AreMapperRising uts46) (fixed : has_fixed_fault records uts46 ≡ false) where
   by_characters : (xs : List ℕ) → All (Contains xs) (recorded_characters records uts46) → (class mapping chain long pair : Bool) →
       IsTrue class ↔ IsOfSome (λ c. IsAsked records uts46 c × HasWrongClass records uts46 c) (length xs) xs → mapping ≡ has_mapping_fault records uts46 → IsTrue chain ↔ HasChainFault records →
       IsTrue long ↔ IsOfSome (λ c. IsAsked records uts46 c × HasLongList records uts46 c) (length xs) xs → IsTrue pair ↔ HasPairFault records →

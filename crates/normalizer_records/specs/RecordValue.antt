@@ -2,7 +2,7 @@
 use Rattle.std.specs.Prelude.{ℕ, Bool, List}
 
 -- an empty mapping is none
-pub record Entry : Type 0 where
+pub record RecordValue : Type 0 where
   pub c : ℕ
   pub class : ℕ
   pub mapping : List ℕ
@@ -16,6 +16,6 @@ pub data Status : Type 0 where
   IsDisallowed : Status
 
 -- a record of the mapper: a character and what it does with it
-pub record MapperEntry : Type 0 where
+pub record Uts46RecordValue : Type 0 where
   pub c : ℕ
   pub status : Status
