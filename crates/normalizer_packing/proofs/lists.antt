@@ -1,5 +1,4 @@
 -- Lists that no word spells.
 pub mod ListPlaces
-pub mod MadeLists
 pub mod StoreLemmas
 pub mod TableLemmas

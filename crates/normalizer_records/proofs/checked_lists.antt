@@ -1,7 +1,6 @@
 -- What is checked of lists.
 pub mod CutLists
 pub mod JamoOfSyllables
-pub mod MadeLists
 pub mod OrLemmas
 pub mod RoomLemmas
 pub mod UnrecordedLemmas

@@ -3,12 +3,13 @@ use Rattle.std.proofs.Common.{◌≡◌, ℕ, ◌+◌, ◌<◌, ◌≤◌, Bool,
 use Rattle.std.proofs.Common.{sym, subst, ◌∙◌}
 use Rattle.std.specs.List.{filter_map}
 use Rattle.std.proofs.lemmas.Bool.{and_parts, leb-true}
-use Rattle.std.proofs.lemmas.List.{take_all, take_more}
+use Rattle.std.proofs.lemmas.List.{take_all}
 use Rattle.std.proofs.lemmas.List.Sums.{AllPass-from_list_all}
 use Rattle.normalizer_tables.specs.Conditions.{item_count}
 use Rattle.normalizer_tables.specs.Data.{Lists}
 use Rattle.normalizer_tables.specs.declared.entry.Kind.{Kind}
 use Rattle.normalizer_tables.specs.Entries.{EntryValue, class_in}
+use Rattle.normalizer_tables.proofs.lists.MadeLists.{filter_map-take_more}
 use Rattle.normalizer_packing.specs.Spelling.{list_eq}
 use Rattle.normalizer_packing.specs.Stored.{apart_from, canonical_lists, first_come, listed_in, listed_of, is_among, is_narrow, items_of, needed_items, place_of, supplementary_lists, tables_of}
 use Rattle.normalizer_packing.specs.inner.Stores.{AreStored, Holds, HoldsMore, stored_place, tables_in, with_list}
@@ -18,7 +19,6 @@ use Rattle.std.specs.Cmp.Lexicographic.{slice_cmp}
 use Rattle.std.specs.Ordering.{nat_cmp}
 use Rattle.std.specs.Option.{is_some}
 use Rattle.std.proofs.lemmas.Map.Text.{btree_map_updates_str}
-use Rattle.std.proofs.lemmas.List.Elements.{filter_map-append}
 use Rattle.normalizer_packing.proofs.lists.TableLemmas.{apart_from-more, eq_list, is_among-append, is_among-first_come, is_among-one, items_of-more, place_of-end, place_of-kept}
 use Rattle.normalizer_packing.proofs.lists.TableLemmas.{same_list}
 
@@ -86,8 +86,7 @@ module _ (kind : Kind) (entries items : List EntryValue) (i : ℕ) (same : items
   listed_so_far-more e within is =
       let f = listed_of (class_in entries) kind in
       let inside : i < length entries = subst (λ (l : List EntryValue). i < length l) same within in
-      let here : get_or entries i e ≡ e = sym (is ∙ ap (λ l. get_or l i e) same) in
-      ap (filter_map f) (take_more entries i e inside) ∙ filter_map-append f (take i entries) (get_or entries i e ∷ []) ∙ ap (λ m. filter_map f (take i entries) ++ filter_map f (m ∷ [])) here
+      filter_map-take_more entries i e inside (is ∙ ap (λ l. get_or l i e) same) f
 
   pub listed_so_far-all : length items ≤ i → listed_so_far kind entries i ≡ listed_in entries kind
   unfolding listed_so_far listed_in

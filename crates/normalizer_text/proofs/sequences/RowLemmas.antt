@@ -6,7 +6,7 @@ use Rattle.std.proofs.lemmas.List.{length-replicate}
 use Rattle.std.proofs.lemmas.Bool.{cases_Bool, ne_eqb, eq-eqb, cases_eq}
 use Rattle.normalizer_text.specs.declared.utf8.Trail.{Trail}
 use Rattle.normalizer_text.specs.Steps.{read, replaced}
-use Rattle.normalizer_text.specs.Utf8.{ByteRange, Row, well_formed_sequences, row_of, allows, matched, scalar_value, first_by_row, first_of_utf8}
+use Rattle.normalizer_text.specs.Utf8.{ByteRange, Row, row, continuation, well_formed_sequences, row_of, allows, matched, scalar_value, first_by_row, first_of_utf8}
 use Rattle.normalizer_text.specs.MaximalSubparts.{IsWithin, AreWithin}
 use Rattle.normalizer_text.specs.inner.Trails.{trail_ranges}
 use Rattle.normalizer_text.proofs.sequences.Sequences.{IsSequence}
@@ -64,6 +64,43 @@ one : (b : ℕ) → IsSequence (b ∷ []) → (bs : List ℕ) → AreWithin [] b
 one b h [] _ = h
 one b h (c ∷ bs) k = absurd k
 
+-- a row of three bytes, by the bounds on the first byte and on the second one
+IsRow-three : (lead second : ByteRange) → (0xE0 ≤ lead.least) × (lead.greatest ≤ 0xEF) → (0x80 ≤ second.least) × (second.greatest ≤ 0xBF)
+    → ((b : ℕ) → IsWithin lead b → (b ≡ 0xE0 → 0xA0 ≤ second.least) × (b ≡ 0xED → second.greatest ≤ 0x9F)) → IsRow (row lead (second ∷ continuation ∷ []))
+IsRow-three lead second leads seconds bounds = record {
+  sequences = λ b bs h.
+      let most = bounds b h in
+      three b second continuation
+      (λ c d k l. (omega arith, omega arith, (λ e. omega (arith, most.0 e)), (λ e. omega (arith, most.1 e)), omega arith, omega arith, omega arith, omega arith)) bs;
+  lead = inr (omega arith);
+  trail = (seconds, ((lit≤ tt, lit≤ tt), tt));
+  short = lit≤ tt;
+}
+
+-- one of four bytes
+IsRow-four : (lead second : ByteRange) → (0xF0 ≤ lead.least) × (lead.greatest ≤ 0xF4) → (0x80 ≤ second.least) × (second.greatest ≤ 0xBF)
+    → ((b : ℕ) → IsWithin lead b → (b ≡ 0xF0 → 0x90 ≤ second.least) × (b ≡ 0xF4 → second.greatest ≤ 0x8F)) → IsRow (row lead (second ∷ continuation ∷ continuation ∷ []))
+IsRow-four lead second leads seconds bounds = record {
+  sequences = λ b bs h.
+      let most = bounds b h in
+      four b second continuation continuation
+      (λ c d e k l m. (
+        omega arith,
+        omega arith,
+        (λ i. omega (arith, most.0 i)),
+        (λ i. omega (arith, most.1 i)),
+        omega arith,
+        omega arith,
+        omega arith,
+        omega arith,
+        omega arith,
+        omega arith,
+      )) bs;
+  lead = inr (omega arith);
+  trail = (seconds, ((lit≤ tt, lit≤ tt), ((lit≤ tt, lit≤ tt), tt)));
+  short = lit≤ tt;
+}
+
 each-IsRow : Each IsRow well_formed_sequences
 each-IsRow = (
   record {
@@ -79,66 +116,7 @@ each-IsRow = (
       trail = ((lit≤ tt, lit≤ tt), tt);
       short = lit≤ tt;
     },
-    (
-      record {
-        sequences = λ b bs h. three b _ _ (λ c d k l. (omega arith, omega arith, (λ e. omega arith), (λ e. omega arith), omega arith, omega arith, omega arith, omega arith)) bs;
-        lead = inr (lit< tt);
-        trail = ((lit≤ tt, lit≤ tt), ((lit≤ tt, lit≤ tt), tt));
-        short = lit≤ tt;
-      },
-      (
-        record {
-          sequences = λ b bs h. three b _ _ (λ c d k l. (omega arith, omega arith, (λ e. omega arith), (λ e. omega arith), omega arith, omega arith, omega arith, omega arith)) bs;
-          lead = inr (lit< tt);
-          trail = ((lit≤ tt, lit≤ tt), ((lit≤ tt, lit≤ tt), tt));
-          short = lit≤ tt;
-        },
-        (
-          record {
-            sequences = λ b bs h. three b _ _ (λ c d k l. (omega arith, omega arith, (λ e. omega arith), (λ e. omega arith), omega arith, omega arith, omega arith, omega arith)) bs;
-            lead = inr (lit< tt);
-            trail = ((lit≤ tt, lit≤ tt), ((lit≤ tt, lit≤ tt), tt));
-            short = lit≤ tt;
-          },
-          (
-            record {
-              sequences = λ b bs h. three b _ _ (λ c d k l. (omega arith, omega arith, (λ e. omega arith), (λ e. omega arith), omega arith, omega arith, omega arith, omega arith)) bs;
-              lead = inr (lit< tt);
-              trail = ((lit≤ tt, lit≤ tt), ((lit≤ tt, lit≤ tt), tt));
-              short = lit≤ tt;
-            },
-            (
-              record {
-                sequences = λ b bs h. four b _ _ _
-                    (λ c d e k l m. (omega arith, omega arith, (λ e. omega arith), (λ e. omega arith), omega arith, omega arith, omega arith, omega arith, omega arith, omega arith)) bs;
-                lead = inr (lit< tt);
-                trail = ((lit≤ tt, lit≤ tt), ((lit≤ tt, lit≤ tt), ((lit≤ tt, lit≤ tt), tt)));
-                short = lit≤ tt;
-              },
-              (
-                record {
-                  sequences = λ b bs h. four b _ _ _
-                      (λ c d e k l m. (omega arith, omega arith, (λ e. omega arith), (λ e. omega arith), omega arith, omega arith, omega arith, omega arith, omega arith, omega arith)) bs;
-                  lead = inr (lit< tt);
-                  trail = ((lit≤ tt, lit≤ tt), ((lit≤ tt, lit≤ tt), ((lit≤ tt, lit≤ tt), tt)));
-                  short = lit≤ tt;
-                },
-                (
-                  record {
-                    sequences = λ b bs h. four b _ _ _
-                        (λ c d e k l m. (omega arith, omega arith, (λ e. omega arith), (λ e. omega arith), omega arith, omega arith, omega arith, omega arith, omega arith, omega arith)) bs;
-                    lead = inr (lit< tt);
-                    trail = ((lit≤ tt, lit≤ tt), ((lit≤ tt, lit≤ tt), ((lit≤ tt, lit≤ tt), tt)));
-                    short = lit≤ tt;
-                  },
-                  tt,
-                ),
-              ),
-            ),
-          ),
-        ),
-      ),
-    ),
+    (IsRow-three _ _ (lit≤ tt, lit≤ tt) (lit≤ tt, lit≤ tt) (λ b h. ((λ e. omega arith), (λ e. omega arith))), (IsRow-three _ _ (lit≤ tt, lit≤ tt) (lit≤ tt, lit≤ tt) (λ b h. ((λ e. omega arith), (λ e. omega arith))), (IsRow-three _ _ (lit≤ tt, lit≤ tt) (lit≤ tt, lit≤ tt) (λ b h. ((λ e. omega arith), (λ e. omega arith))), (IsRow-three _ _ (lit≤ tt, lit≤ tt) (lit≤ tt, lit≤ tt) (λ b h. ((λ e. omega arith), (λ e. omega arith))), (IsRow-four _ _ (lit≤ tt, lit≤ tt) (lit≤ tt, lit≤ tt) (λ b h. ((λ e. omega arith), (λ e. omega arith))), (IsRow-four _ _ (lit≤ tt, lit≤ tt) (lit≤ tt, lit≤ tt) (λ b h. ((λ e. omega arith), (λ e. omega arith))), (IsRow-four _ _ (lit≤ tt, lit≤ tt) (lit≤ tt, lit≤ tt) (λ b h. ((λ e. omega arith), (λ e. omega arith))), tt))))))),
   ),
 )
 

@@ -15,13 +15,11 @@ loop-position-init g c =
 
 pub overflow_add-position : goal.overflow_add-position
 overflow_add-position g c =
-    let takes = step-some g.U.Units.encoding (g.U.Units.units c.args.units) c.loop-position.position c.step_at-step.result (omega (arith, c.len.ensures)) c.step_at-step.ensures in
-    omega (arith, c.len.ensures)
+    omega (arith, c.len.ensures, step-some g.U.Units.encoding (g.U.Units.units c.args.units) c.loop-position.position c.step_at-step.result (omega (arith, c.len.ensures)) c.step_at-step.ensures)
 
 pub loop-position-smaller : goal.loop-position-smaller
 loop-position-smaller g c =
-    let takes = step-some g.U.Units.encoding (g.U.Units.units c.args.units) c.loop-position.position c.step_at-step.result (omega (arith, c.len.ensures)) c.step_at-step.ensures in
-    omega (arith, c.len.ensures)
+    omega (arith, c.len.ensures, step-some g.U.Units.encoding (g.U.Units.units c.args.units) c.loop-position.position c.step_at-step.result (omega (arith, c.len.ensures)) c.step_at-step.ensures)
 
 pub loop-position-preserved : goal.loop-position-preserved
 loop-position-preserved g c =

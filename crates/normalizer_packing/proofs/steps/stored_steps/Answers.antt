@@ -1,7 +1,7 @@
 use Rattle.std.proofs.Common.{sym}
 use Rattle.std.proofs.lemmas.List.{append-nil}
 use Rattle.normalizer_packing.specs.StepWords.{asked_step, stored_step}
-use Rattle.normalizer_packing.proofs.lists.MadeLists.{filter_map-take_more}
+use Rattle.normalizer_tables.proofs.lists.MadeLists.{filter_map-take_more}
 use Rattle.normalizer_packing.proofs.steps.stored_steps.Goals as goal
 use Rattle.normalizer_packing.proofs.steps.stored_steps.Goals.{in-Some+in_ok-push, in_default}
 

@@ -1,7 +1,7 @@
 use Rattle.std.proofs.Common.{sym}
 use Rattle.std.proofs.lemmas.List.{append-nil}
 use Rattle.normalizer_records.specs.Meaning.{pair_of_record}
-use Rattle.normalizer_records.proofs.checked_lists.MadeLists.{filter_map-take_more}
+use Rattle.normalizer_tables.proofs.lists.MadeLists.{filter_map-take_more}
 use Rattle.normalizer_records.proofs.pair_list.unsorted_pairs.Goals as goal
 use Rattle.normalizer_records.proofs.pair_list.unsorted_pairs.Goals.{in-Some+in_ok-push, in_default}
 
