@@ -11,8 +11,7 @@ use Rattle.normalizer_text.specs.declared.step.Step.{Step}
 use Rattle.normalizer_text.specs.Encodings.{Encoding, first_in}
 use Rattle.normalizer_text.specs.Steps.{steps, width_of, IsBoundary, IsLastStep}
 use Rattle.normalizer_text.specs.Scans.{leading_below, EndsLowCharacters}
-use Rattle.normalizer_text.proofs.steps.StepBoundaries.{boundary-between, boundary-le, boundary-more, steps-parts, steps-take-drop, width_of-append, width_of-steps}
-use Rattle.normalizer_text.proofs.rules.EncodingRules.{IsDecoding-first}
+use Rattle.normalizer_text.proofs.steps.StepBoundaries.{boundary-after, boundary-between, boundary-first, boundary-le, boundary-more, steps-parts, steps-take-drop, width_of-append, width_of-steps}
 use Rattle.normalizer_text.proofs.steps.StepLemmas.{steps-some}
 use Rattle.icu_normalizer.specs.inner.PassthroughRuns.{IsRun, IsPassthroughTo, replacement}
 use Rattle.icu_normalizer.specs.inner.PassthroughRuns.{class_after, class_of_step, following, next_class}
@@ -151,26 +150,15 @@ module _ (passed : ℕ → Option ℕ) (e : Encoding) (units : List ℕ) where
 
   module _ (end : ℕ) (s : Step) (is : s ≡ first_in e (drop end units)) (more : end < length units) where
     pub IsPassthroughTo-more : (last k : ℕ) → IsPassthroughTo passed e units end last → next_class passed last s ≡ Some k → IsPassthroughTo passed e units (end + s.width) k
-    IsPassthroughTo-more last k so_far passes =
-        let b = so_far.boundary in
-        let rest = drop end units in
-        let some : 0 < length rest = omega (arith, length-drop end units) in
-        record {
-          boundary = record {
-            before = b.before ++ s ∷ [];
-            after = steps (first_in e) (drop (first_in e rest).width rest);
-            apart = b.apart
-                ∙ ap (λ l. b.before ++ l) (sym (steps-parts e units end b).1 ∙ steps-some e rest some)
-                ∙ ap (λ t. b.before ++ t ∷ steps (first_in e) (drop (first_in e rest).width rest)) (sym is)
-                ∙ sym (append_assoc b.before (s ∷ []) (steps (first_in e) (drop (first_in e rest).width rest)));
-            taken = (let k = b.taken in omega (arith, width_of-append b.before (s ∷ [])));
-          };
-          pass = class_after-append passed b.before (s ∷ []) 0 last so_far.pass ∙ class_after-one passed s last k passes;
-        }
+    unfolding boundary-more boundary-after boundary-first
+    IsPassthroughTo-more last k so_far passes = record {
+      boundary = boundary-more e units end s so_far.boundary more is;
+      pass = class_after-append passed so_far.boundary.before (s ∷ []) 0 last so_far.pass ∙ class_after-one passed s last k passes;
+    }
 
     -- a run goes on with a mark
     pub IsRun-mark : (marks last k : ℕ) → IsRun passed e units marks end last → next_class passed last s ≡ Some k → k ≢ 0 → IsRun passed e units marks (end + s.width) k
-    unfolding IsPassthroughTo-more
+    unfolding IsPassthroughTo-more boundary-more boundary-after boundary-first
     IsRun-mark marks last k run passes mark = record {
       to_marks = run.to_marks;
       to_end = IsPassthroughTo-more last k run.to_end passes;
@@ -181,16 +169,6 @@ module _ (passed : ℕ → Option ℕ) (e : Encoding) (units : List ℕ) where
           (λ starter. let two : Some 0 ≡ Some k = sym starter ∙ (next_class-passed passed last s k passes).0 in let same : 0 ≡ k = cc in mark (sym same))
           (All-nil (λ t. class_of_step passed t ≢ Some 0)));
     }
-
-    pub boundary-step : IsBoundary (first_in e) units end → IsBoundary (first_in e) units (end + s.width)
-    boundary-step b = subst (λ t. IsBoundary (first_in e) units (end + t.width)) (sym is) (boundary-more e units end b more)
-
-    -- a step takes some units, and ends within them
-    pub within_step : IsBoundary (first_in e) units end → end + s.width ≤ length units
-    within_step b = boundary-le e units (end + s.width) (boundary-step b)
-
-    pub some_step : 0 < s.width
-    some_step = subst (λ t. 0 < t.width) (sym is) ((IsDecoding-first e).some (drop end units) (omega (arith, length-drop end units)))
 
   -- without the last of the characters
   module _ (end class : ℕ) (to : IsPassthroughTo passed e units end class) (starters : All (λ t. class_of_step passed t ≡ Some 0) to.boundary.before) (s : Step)

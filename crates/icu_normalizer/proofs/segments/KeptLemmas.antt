@@ -1,6 +1,6 @@
 -- Fronts of kept parts, and segments that stay as they are.
 use Rattle.std.proofs.Common.{◌≡◌, ℕ, ◌+◌, ◌<◌, ◌≤◌, false, List, [], ◌∷◌, ◌++◌, length, take, drop, map, refl, sym, ap, subst, ◌∙◌}
-use Rattle.std.proofs.Common.{append_assoc, append-nil, arith, length-drop, inl, inr}
+use Rattle.std.proofs.Common.{append_assoc, append-nil, arith, inl, inr}
 use Rattle.std.specs.Prelude.{All, IfSome, None, Some, Option, ◌⊎◌, nat_lt, ◌&&◌, true}
 use Rattle.std.specs.List.{list_all}
 use Rattle.std.proofs.lemmas.Bool.{and_right, cases_lt, lt-ltb}
@@ -26,8 +26,8 @@ use Rattle.normal_forms.proofs.composing.VisitLemmas.{compose_is_by_starters}
 use Rattle.normalizer_text.specs.declared.step.Step.{Step}
 use Rattle.normalizer_text.specs.Encodings.{Encoding, first_in, decoded_in}
 use Rattle.normalizer_text.specs.Steps.{steps, IsBoundary}
-use Rattle.normalizer_text.proofs.steps.StepBoundaries.{boundary-after, boundary-le, boundary-start, decoded-take-drop, steps-parts, width_of-append}
-use Rattle.normalizer_text.proofs.steps.StepLemmas.{decoded-append, steps-some}
+use Rattle.normalizer_text.proofs.steps.StepBoundaries.{boundary-after, boundary-first, boundary-le, boundary-more, boundary-start, decoded-take-drop, steps-parts}
+use Rattle.normalizer_text.proofs.steps.StepLemmas.{decoded-append}
 use Rattle.normalizer_text.specs.InputCut.{IsInputNormalized}
 use Rattle.normalizer_text.proofs.inputs.InputBoundaryLemmas.{IsWellFormed-append}
 use Rattle.normalizer_iterators.proofs.segments.InOrderLemmas.{EndsWith, NeighboursFit, fit-more, order-fit}
@@ -279,14 +279,9 @@ kept_itself d s r first = subst (λ c. IsKeptCharacter d c r) (sym first.kept.ch
 
 module _ (d : Reading) (results : HasStarterResults d) (faithful : HasFaithfulResults d) (e : Encoding) (units : List ℕ) where
   pub KeptMarks-first : (s : Step) → s ≡ first_in e (drop 0 units) → 0 < length units → (r : KeptStarter) → IsKeptStarter d s r → KeptMarks d e units r s.width 0
-  unfolding expand
+  unfolding expand boundary-first
   KeptMarks-first s is some r first = record {
-    boundary = record {
-      before = s ∷ [];
-      after = steps (first_in e) (drop s.width units);
-      apart = steps-some e units some ∙ ap (λ t. t ∷ steps (first_in e) (drop t.width units)) (sym is);
-      taken = omega arith;
-    };
+    boundary = boundary-first e units s (record { some = some; is = is });
     right = All-cons (λ t. t.is_error ≡ false) s [] first.right (All-nil (λ t. t.is_error ≡ false));
     marks = [];
     text = ap (λ c. c ∷ []) (sym first.kept.character);
@@ -297,22 +292,12 @@ module _ (d : Reading) (results : HasStarterResults d) (faithful : HasFaithfulRe
 
   pub KeptMarks-more : (r : KeptStarter) (end last k : ℕ) (s : Step) → IsKeptCharacter d r.character r → s ≡ first_in e (drop end units) → end < length units
       → KeptMarks d e units r end last → StaysMark d r last s k → KeptMarks d e units r (end + s.width) k
-  unfolding expand
+  unfolding expand boundary-more boundary-after boundary-first
   KeptMarks-more r end last k s kept is more so_far stays =
       let b = so_far.boundary in
-      let rest = drop end units in
-      let some : 0 < length rest = omega (arith, length-drop end units) in
       let c = s.character in
       record {
-        boundary = record {
-          before = b.before ++ s ∷ [];
-          after = steps (first_in e) (drop (first_in e rest).width rest);
-          apart = b.apart
-              ∙ ap (λ l. b.before ++ l) (sym (steps-parts e units end b).1 ∙ steps-some e rest some)
-              ∙ ap (λ t. b.before ++ t ∷ steps (first_in e) (drop (first_in e rest).width rest)) (sym is)
-              ∙ sym (append_assoc b.before (s ∷ []) (steps (first_in e) (drop (first_in e rest).width rest)));
-          taken = (let n = b.taken in omega (arith, width_of-append b.before (s ∷ [])));
-        };
+        boundary = boundary-more e units end s b more is;
         right = All-append (λ t. t.is_error ≡ false) b.before (s ∷ []) so_far.right (All-cons (λ t. t.is_error ≡ false) s [] stays.right (All-nil (λ t. t.is_error ≡ false)));
         marks = so_far.marks ++ c ∷ [];
         text = map-append (λ t. t.character) b.before (s ∷ []) ∙ ap (λ l. l ++ c ∷ []) so_far.text;

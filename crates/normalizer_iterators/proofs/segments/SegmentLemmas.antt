@@ -16,7 +16,6 @@ use Rattle.normalizer_tables.specs.declared.characters.IgnoredCharacters.{Ignore
 use Rattle.normalizer_tables.specs.declared.characters.IgnoredCharacters.TheVariants.{Dropped}
 use Rattle.normalizer_text.specs.declared.step.Step.{Step}
 use Rattle.normalizer_text.specs.Encodings.{Encoding, first_in, decoded_in}
-use Rattle.normalizer_text.proofs.rules.EncodingRules.{IsDecoding-first}
 use Rattle.normalizer_text.proofs.steps.StepLemmas.{decoded-nil, decoded-some}
 use Rattle.normalizer_iterators.specs.declared.segment.short_text.ShortText.{ShortText}
 use Rattle.normalizer_iterators.specs.declared.waiting.WaitingList.{WaitingList}
@@ -58,15 +57,6 @@ expand-left : (d : Reading) (e : Encoding) (units : List ℕ) (position : ℕ) (
     → expand d (decoded_in e (drop position units)) ≡ d.list s.character ++ expand d (decoded_in e (drop (position + s.width) units))
 unfolding expand
 expand-left d e units position s inside is = ap (expand d) (decoded-left e units position s inside is)
-
--- a step takes some of the units that are left
-pub step-some : (e : Encoding) (units : List ℕ) (position : ℕ) (s : Step) → position < length units → s ≡ first_in e (drop position units)
-    → (0 < s.width) × (position + s.width ≤ length units)
-step-some e units position s inside is =
-    let some : 0 < length (drop position units) = omega (arith, length-drop position units) in
-    let takes = (IsDecoding-first e).some (drop position units) some in
-    let fits = (IsDecoding-first e).fits (drop position units) some in
-    (omega (arith, ap (λ t. t.width) is), omega (arith, ap (λ t. t.width) is, length-drop position units))
 
 module _ (d : Reading) (e : Encoding) (units : List ℕ) (position : ℕ) (s : Step) (old : WaitingList) where
   pub BufferedTo-more : (new : WaitingList) → BufferedTo d e units position old → position < length units → s ≡ first_in e (drop position units)

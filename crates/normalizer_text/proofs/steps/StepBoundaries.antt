@@ -53,6 +53,14 @@ module _ (e : Encoding) where
           let fits = (IsDecoding-first e).fits us' (omega arith) in
           ap width_of (steps-some e us' (omega arith)) ∙ omega (arith, by n (drop w us') (rest-shorter e us' n (omega arith) h), length-drop w us')
 
+  -- a step takes some of the units that are left
+  pub step-some : (us : List ℕ) (n : ℕ) (s : Step) → n < length us → s ≡ first (drop n us) → (0 < s.width) × (n + s.width ≤ length us)
+  step-some us n s more is =
+      let some : 0 < length (drop n us) = omega (arith, length-drop n us) in
+      let takes = (IsDecoding-first e).some (drop n us) some in
+      let fits = (IsDecoding-first e).fits (drop n us) some in
+      (omega (arith, ap (λ t. t.width) is), omega (arith, ap (λ t. t.width) is, length-drop n us))
+
   pub boundary-le : (us : List ℕ) (n : ℕ) → IsBoundary first us n → n ≤ length us
   boundary-le us n b =
       let all = width_of-steps us in
@@ -65,7 +73,7 @@ module _ (e : Encoding) where
   pub boundary-end : (us : List ℕ) → IsBoundary first us (length us)
   boundary-end us = record { before = steps first us; after = []; apart = sym (append-nil (steps first us)); taken = width_of-steps us }
 
-  pub boundary-first : (us : List ℕ) (s : Step) → IsFirstStep first us s → IsBoundary first us s.width
+  unfoldable pub boundary-first : (us : List ℕ) (s : Step) → IsFirstStep first us s → IsBoundary first us s.width
   boundary-first us s f = record {
     before = s ∷ [];
     after = steps first (drop (first us).width us);
@@ -91,7 +99,7 @@ module _ (e : Encoding) where
       let k = steps-parts us n b in b.apart ∙ ap (λ x. x ++ b.after) (sym k.0) ∙ ap (λ x. steps first (take n us) ++ x) (sym k.1)
 
   -- a position in what follows a position
-  pub boundary-after : (us : List ℕ) (n m : ℕ) → IsBoundary first us n → IsBoundary first (drop n us) m → IsBoundary first us (n + m)
+  unfoldable pub boundary-after : (us : List ℕ) (n m : ℕ) → IsBoundary first us n → IsBoundary first (drop n us) m → IsBoundary first us (n + m)
   boundary-after us n m b c = record {
     before = b.before ++ c.before;
     after = c.after;
@@ -126,8 +134,8 @@ module _ (e : Encoding) where
       ]
 
   -- one step more
-  pub boundary-more : (us : List ℕ) (n : ℕ) → IsBoundary first us n → n < length us → IsBoundary first us (n + (first (drop n us)).width)
-  boundary-more us n b h = boundary-after us n (first (drop n us)).width b (boundary-first (drop n us) (first (drop n us)) (record { some = omega (arith, length-drop n us); is = refl }))
+  unfoldable pub boundary-more : (us : List ℕ) (n : ℕ) (s : Step) → IsBoundary first us n → n < length us → s ≡ first (drop n us) → IsBoundary first us (n + s.width)
+  boundary-more us n s b more is = boundary-after us n s.width b (boundary-first (drop n us) s (record { some = omega (arith, length-drop n us); is = is }))
 
   -- the parts of what is well-formed are
   pub well_formed-parts : (us : List ℕ) (n : ℕ) → IsBoundary first us n → IsWellFormed first us → IsWellFormed first (take n us) × IsWellFormed first (drop n us)

@@ -1,12 +1,12 @@
-use Rattle.std.proofs.Common.{None, arith, sym, ap, ◌∙◌}
+use Rattle.std.proofs.Common.{arith, sym, ap, ◌∙◌}
 use Rattle.normalizer_tables.specs.PairConditions.{is_composing_passthrough}
+use Rattle.normalizer_text.proofs.steps.StepBoundaries.{step-some}
 use Rattle.icu_normalizer.proofs.segments.KeptLemmas.{kept_itself, KeptMarks-first, KeptMarks-more, KeptMarks-own}
-use Rattle.icu_normalizer.proofs.passthrough.RunSteps.{some_step, within_step}
 use Rattle.icu_normalizer.proofs.kept.kept_segment.Goals as goal
 
 pub loop-end-init : goal.loop-end-init
 loop-end-init g c = (
-  some_step (λ _. None) g.U.Units.encoding (g.U.Units.units c.args.units) 0 c.args.first c.requires.first c.requires.some,
+  (step-some g.U.Units.encoding (g.U.Units.units c.args.units) 0 c.args.first c.requires.some c.requires.first).0,
   KeptMarks-first _ c.args.form.now.serves.composing.starters c.args.form.now.serves.laws.laws.2 _ _ _ c.requires.first c.requires.some _
       (rw c.in_ok-starter.was at c.kept_starter.ensures),
 )
@@ -26,15 +26,11 @@ returns-then-begins-clause-kept g c =
 
 pub overflow_add-end : goal.overflow_add-end
 overflow_add-end g c =
-    let most = within_step (λ _. None) g.U.Units.encoding (g.U.Units.units c.args.units) c.loop-end.end c.step_at-step.result
-    c.step_at-step.ensures (omega (arith, c.len.ensures)) c.loop-end.invariant.1.boundary in
-    omega (arith, c.len.ensures)
+    omega (arith, c.len.ensures, step-some g.U.Units.encoding (g.U.Units.units c.args.units) c.loop-end.end c.step_at-step.result (omega (arith, c.len.ensures)) c.step_at-step.ensures)
 
 pub loop-end-smaller : goal.loop-end-smaller
 loop-end-smaller g c =
-    let some = some_step (λ _. None) g.U.Units.encoding (g.U.Units.units c.args.units) c.loop-end.end c.step_at-step.result
-    c.step_at-step.ensures (omega (arith, c.len.ensures)) in
-    omega (arith, c.len.ensures)
+    omega (arith, c.len.ensures, step-some g.U.Units.encoding (g.U.Units.units c.args.units) c.loop-end.end c.step_at-step.result (omega (arith, c.len.ensures)) c.step_at-step.ensures)
 
 pub loop-end-preserved : goal.loop-end-preserved
 loop-end-preserved g c = (

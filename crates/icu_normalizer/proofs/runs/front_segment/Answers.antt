@@ -1,11 +1,10 @@
 use Rattle.std.proofs.Common.{arith, sym, ap, ◌∙◌}
-use Rattle.normalizer_text.proofs.steps.StepBoundaries.{boundary-first}
-use Rattle.icu_normalizer.proofs.passthrough.RunSteps.{boundary-step, some_step, within_step}
+use Rattle.normalizer_text.proofs.steps.StepBoundaries.{boundary-first, boundary-more, step-some}
 use Rattle.icu_normalizer.proofs.runs.front_segment.Goals as goal
 
 pub loop-end-init : goal.loop-end-init
 loop-end-init g c = (
-  some_step (g.N.Forming.passthrough_class c.args.normalizer.now) g.U.Units.encoding (g.U.Units.units c.args.units) 0 c.args.first c.requires.first c.requires.some,
+  (step-some g.U.Units.encoding (g.U.Units.units c.args.units) 0 c.args.first c.requires.some c.requires.first).0,
   boundary-first g.U.Units.encoding (g.U.Units.units c.args.units) c.args.first (record { some = c.requires.some; is = c.requires.first }),
 )
 
@@ -18,21 +17,16 @@ returns-then-begins-clause-end g c = record {
 
 pub overflow_add-end : goal.overflow_add-end
 overflow_add-end g c =
-    let most = within_step (g.N.Forming.passthrough_class c.args.normalizer.now) g.U.Units.encoding (g.U.Units.units c.args.units) c.loop-end.end c.step_at-step.result
-    c.step_at-step.ensures (omega (arith, c.len.ensures)) c.loop-end.invariant.1 in
-    omega (arith, c.len.ensures)
+    omega (arith, c.len.ensures, step-some g.U.Units.encoding (g.U.Units.units c.args.units) c.loop-end.end c.step_at-step.result (omega (arith, c.len.ensures)) c.step_at-step.ensures)
 
 pub loop-end-smaller : goal.loop-end-smaller
 loop-end-smaller g c =
-    let some = some_step (g.N.Forming.passthrough_class c.args.normalizer.now) g.U.Units.encoding (g.U.Units.units c.args.units) c.loop-end.end c.step_at-step.result
-    c.step_at-step.ensures (omega (arith, c.len.ensures)) in
-    omega (arith, c.len.ensures)
+    omega (arith, c.len.ensures, step-some g.U.Units.encoding (g.U.Units.units c.args.units) c.loop-end.end c.step_at-step.result (omega (arith, c.len.ensures)) c.step_at-step.ensures)
 
 pub loop-end-preserved : goal.loop-end-preserved
 loop-end-preserved g c = (
   omega (arith, c.loop-end.invariant.0),
-  boundary-step (g.N.Forming.passthrough_class c.args.normalizer.now) g.U.Units.encoding (g.U.Units.units c.args.units) c.loop-end.end c.step_at-step.result
-      c.step_at-step.ensures (omega (arith, c.len.ensures)) c.loop-end.invariant.1,
+  boundary-more g.U.Units.encoding (g.U.Units.units c.args.units) c.loop-end.end c.step_at-step.result c.loop-end.invariant.1 (omega (arith, c.len.ensures)) c.step_at-step.ensures,
 )
 
 pub returns-clause-end : goal.returns-clause-end

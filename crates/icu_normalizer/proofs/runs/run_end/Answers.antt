@@ -1,7 +1,8 @@
 use Rattle.std.proofs.Common.{Some, arith, sym, subst, ap, ◌∙◌}
 use Rattle.std.specs.Prelude.{min}
+use Rattle.normalizer_text.proofs.steps.StepBoundaries.{step-some}
 use Rattle.icu_normalizer.specs.inner.PassthroughRuns.{IsRun, replacement}
-use Rattle.icu_normalizer.proofs.passthrough.RunSteps.{IsRun-mark, IsRun-starters, IsPassthroughTo-below, IsPassthroughTo-none, IsPassthroughTo-more, some_step, within_step}
+use Rattle.icu_normalizer.proofs.passthrough.RunSteps.{IsRun-mark, IsRun-starters, IsPassthroughTo-below, IsPassthroughTo-none, IsPassthroughTo-more}
 use Rattle.icu_normalizer.proofs.runs.run_end.Goals as goal
 
 pub loop-end-init : goal.loop-end-init
@@ -12,19 +13,15 @@ loop-end-init g c =
 
 pub overflow_add-end : goal.overflow_add-end
 overflow_add-end g c =
-    let most = within_step (g.N.Forming.passthrough_class c.args.normalizer.now) g.U.Units.encoding (g.U.Units.units c.args.units) c.loop-end.end c.step_at-step.result c.step_at-step.ensures
-    (omega (arith, c.len.ensures)) c.loop-end.invariant.to_end.boundary in
-    omega (arith, c.len.ensures)
+    omega (arith, c.len.ensures, step-some g.U.Units.encoding (g.U.Units.units c.args.units) c.loop-end.end c.step_at-step.result (omega (arith, c.len.ensures)) c.step_at-step.ensures)
 
 pub overflow_add-end-else-class-eq0 : goal.overflow_add-end-else-class-eq0
 overflow_add-end-else-class-eq0 g c =
-    let most = within_step (g.N.Forming.passthrough_class c.args.normalizer.now) g.U.Units.encoding (g.U.Units.units c.args.units) c.loop-end.end c.step_at-step.result c.step_at-step.ensures
-    (omega (arith, c.len.ensures)) c.loop-end.invariant.to_end.boundary in
-    omega (arith, c.len.ensures)
+    omega (arith, c.len.ensures, step-some g.U.Units.encoding (g.U.Units.units c.args.units) c.loop-end.end c.step_at-step.result (omega (arith, c.len.ensures)) c.step_at-step.ensures)
 
 pub end_of_below-end-requires-then-class-eq0 : goal.end_of_below-end-requires-then-class-eq0
 end_of_below-end-requires-then-class-eq0 g c =
-    within_step (g.N.Forming.passthrough_class c.args.normalizer.now) _ _ _ _ c.step_at-step.ensures (omega (arith, c.len.ensures)) c.loop-end.invariant.to_end.boundary
+    (step-some g.U.Units.encoding (g.U.Units.units c.args.units) c.loop-end.end c.step_at-step.result (omega (arith, c.len.ensures)) c.step_at-step.ensures).1
 
 pub loop-end-preserved-then-class-eq0 : goal.loop-end-preserved-then-class-eq0
 loop-end-preserved-then-class-eq0 g c =
@@ -43,12 +40,8 @@ loop-end-preserved g c =
 
 pub loop-end-smaller-then-class-eq0 : goal.loop-end-smaller-then-class-eq0
 loop-end-smaller-then-class-eq0 g c =
-    let units = g.U.Units.units c.args.units in
-    let some = some_step (g.N.Forming.passthrough_class c.args.normalizer.now) g.U.Units.encoding units c.loop-end.end c.step_at-step.result c.step_at-step.ensures (omega (arith, c.len.ensures)) in
-    omega (arith, c.len.ensures, c.end_of_below-end-then-class-eq0.ensures)
+    omega (arith, c.len.ensures, c.end_of_below-end-then-class-eq0.ensures, step-some g.U.Units.encoding (g.U.Units.units c.args.units) c.loop-end.end c.step_at-step.result (omega (arith, c.len.ensures)) c.step_at-step.ensures)
 
 pub loop-end-smaller : goal.loop-end-smaller
 loop-end-smaller g c =
-    let units = g.U.Units.units c.args.units in
-    let some = some_step (g.N.Forming.passthrough_class c.args.normalizer.now) g.U.Units.encoding units c.loop-end.end c.step_at-step.result c.step_at-step.ensures (omega (arith, c.len.ensures)) in
-    omega (arith, c.len.ensures)
+    omega (arith, c.len.ensures, step-some g.U.Units.encoding (g.U.Units.units c.args.units) c.loop-end.end c.step_at-step.result (omega (arith, c.len.ensures)) c.step_at-step.ensures)

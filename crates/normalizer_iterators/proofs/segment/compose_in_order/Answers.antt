@@ -1,10 +1,11 @@
 use Rattle.std.proofs.Common.{◌≡◌, ◌<◌, arith, sym, ◌∙◌}
 use Rattle.normalizer_tables.specs.Readings.{reading_by}
 use Rattle.normalizer_tables.specs.declared.characters.IgnoredCharacters.TheVariants.{Dropped}
+use Rattle.normalizer_text.proofs.steps.StepBoundaries.{step-some}
 use Rattle.normalizer_iterators.proofs.composing.ComposingLemmas.{pair-reading_by}
 use Rattle.normalizer_iterators.proofs.reads.LazyLemmas.{class-reading_by}
 use Rattle.normalizer_iterators.proofs.segments.InOrderLemmas.{ComposedInOrder-none, ComposedInOrder-more, ComposedInOrder-end}
-use Rattle.normalizer_iterators.proofs.segments.SegmentLemmas.{decoded-left, decoded-all, step-some}
+use Rattle.normalizer_iterators.proofs.segments.SegmentLemmas.{decoded-left, decoded-all}
 use Rattle.normalizer_iterators.proofs.segment.compose_in_order.Goals as goal
 use Rattle.normalizer_iterators.proofs.segment.compose_in_order.Goals.{else-class-gt0-via-then-class-gt0+else-class-last, else-class-gt0-via-else-class-gt0}
 

@@ -1,7 +1,8 @@
 use Rattle.std.proofs.Common.{◌≡◌, [], length, arith, ap, ◌∙◌}
 use Rattle.normalizer_tables.specs.Readings.{reading_by}
+use Rattle.normalizer_text.proofs.steps.StepBoundaries.{step-some}
 use Rattle.normalizer_iterators.proofs.reads.LazyLemmas.{class-reading_by, list-reading_by}
-use Rattle.normalizer_iterators.proofs.segments.SegmentLemmas.{BufferedTo-none, BufferedTo-more, BufferedTo-full, BufferedTo-end, BufferedTo-short, step-some, on_ok}
+use Rattle.normalizer_iterators.proofs.segments.SegmentLemmas.{BufferedTo-none, BufferedTo-more, BufferedTo-full, BufferedTo-end, BufferedTo-short, on_ok}
 use Rattle.normalizer_iterators.proofs.segment.read_all.Goals as goal
 
 pub loop-position-init : goal.loop-position-init
