@@ -47,7 +47,7 @@ AreRecorded unicode_data exclusions table records uts46 =
 
 -- these data are built from them
 abbrev pub AreBuiltOf : (unicode_data exclusions table : List ℕ) → List RecordValue → List Uts46RecordValue → Packed →
-  Type 0
+    Type 0
 AreBuiltOf unicode_data exclusions table records uts46 p =
     AreRecorded unicode_data exclusions table records uts46 × Builds records uts46 p
 

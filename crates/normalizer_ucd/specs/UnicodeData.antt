@@ -126,7 +126,7 @@ entry_of exclusions at code part class mapping =
 
 -- the fields of a line
 unfoldable pub read_fields : List Exclusion → Place → Position → List ℕ →
-  Result (Position × Option RecordValue) LineFault
+    Result (Position × Option RecordValue) LineFault
 read_fields exclusions at position line = do
   code ← code_of at line
   part ← part_of at line
