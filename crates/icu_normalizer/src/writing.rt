@@ -113,7 +113,7 @@ fn write_marks<U: Units, O: Output<U>>(
     mut run: MarkRun,
     output: &mut O,
 ) -> Result<(), NormalizeError>
-    ensures text { WritesText U.encoding O.Output NothingOffered (left run.entry) output.old result output.new }
+    ensures text { WritesText U.encoding O.Output NothingOffered (left run) output.old result output.new }
     ensures room { ¬ IsErrOf result NormalizeError.Memory }
 {
     while let Some(character) = run.pop_front() {
