@@ -9,6 +9,7 @@ ghost use Rattle.normalizer_conditions.specs.AcceptedData.{SuitsTexts};
 ghost use Rattle.normalizer_tables.specs.Characters.{class_of_itself, has_class_form, reading_of_word};
 ghost use Rattle.normalizer_tables.specs.PairConditions.{is_composing_passthrough};
 ghost use Rattle.normalizer_text.specs.Encodings.{decoded_in, first_in};
+ghost use Rattle.normalizer_iterators.specs.MarkRun.{left};
 ghost use Rattle.normalizer_iterators.specs.Segment.{text};
 ghost use Rattle.icu_normalizer.specs.BoundaryBefore.{HasBoundaryBefore};
 ghost use Rattle.icu_normalizer.specs.Forms.{form_by, form_in, form_of, HasShortUnits, MadeForm};
@@ -20,7 +21,7 @@ use crate::composing_form::ComposingForm;
 use crate::decomposing_form::DecomposingForm;
 use crate::kept::{KeptSegment, composite_of, kept_segment};
 use crate::writing::{first_item, write_items};
-use normalizer_iterators::{NormalizeError, SegmentBuffers};
+use normalizer_iterators::{MarkRun, NormalizeError, SegmentBuffers};
 use normalizer_tables::characters::IgnoredCharacters;
 use normalizer_tables::members::Members;
 use normalizer_tables::word::{is_backward_combining, is_non_round_trip};
@@ -91,6 +92,13 @@ pub trait Forming {
         ensures form { IsTrue result → text buffers.new ≡ form_in (made self.now) U.encoding (U.units units) }
         ensures fits { length (expand (made self.now).reading (decoded_in U.encoding (U.units units))) ≤ buffer_limit →
             IsTrue result };
+
+    /// Makes the form of what the units decode to, of which the first step was read before, if all the others are marks
+    /// and memory suffices.
+    fn mark_run<U: Units>(&self, units: U, first: Step) -> Option<MarkRun>
+        requires some { 0 < length (U.units units) }
+        requires first { first ≡ first_in U.encoding (U.units units) }
+        ensures { IfSome result (λ run. left run ≡ form_in (made self.now) U.encoding (U.units units)) };
 
     /// Writes the form of what the units decode to as an iterator yields it.
     fn write_items<U: Units, O: Output<U>>(
@@ -185,6 +193,10 @@ impl<'a> Forming for DecomposingForm<'a> {
         buffers.decompose(&self.characters, IgnoredCharacters::Dropped, units)
     }
 
+    fn mark_run<U: Units>(&self, units: U, first: Step) -> Option<MarkRun> {
+        MarkRun::decomposed(&self.characters, IgnoredCharacters::Dropped, units, first)
+    }
+
     fn write_items<U: Units, O: Output<U>>(
         &self,
         units: U,
@@ -262,6 +274,11 @@ impl<'a> Forming for ComposingForm<'a> {
     fn short_form<U: Units>(&self, units: U, buffers: &mut SegmentBuffers) -> bool {
         let ignored = IgnoredCharacters::Dropped;
         buffers.compose(&self.characters, ignored, self.pairs, units)
+    }
+
+    fn mark_run<U: Units>(&self, units: U, first: Step) -> Option<MarkRun> {
+        let ignored = IgnoredCharacters::Dropped;
+        MarkRun::composed(&self.characters, ignored, self.pairs, units, first)
     }
 
     fn write_items<U: Units, O: Output<U>>(

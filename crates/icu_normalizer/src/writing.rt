@@ -4,6 +4,7 @@ ghost use Rattle.std.specs.Prelude.{Err, IfErr, IfOk, IfSome, IsErrOf, IsOk, IsO
 ghost use Rattle.std.specs.Iterator.{IsFinite};
 ghost use Rattle.normalizer_text.specs.Encodings.{first_in};
 ghost use Rattle.normalizer_iterators.specs.Items.{SpellsOk, SpellsUnless};
+ghost use Rattle.normalizer_iterators.specs.MarkRun.{left};
 ghost use Rattle.icu_normalizer.specs.Forms.{form_in, HasShortUnits};
 ghost use Rattle.icu_normalizer.specs.inner.Offences.{IsFirstOrNone};
 ghost use Rattle.icu_normalizer.specs.inner.PassthroughRuns.{IsSegmentEnd};
@@ -12,7 +13,7 @@ ghost use Rattle.icu_normalizer.specs.inner.WrittenParts.{NothingOffered, Writes
 
 use crate::forming::Forming;
 use crate::runs::{Segment, first_step, front_segment, kept_end};
-use normalizer_iterators::{NormalizeError, SegmentBuffers};
+use normalizer_iterators::{MarkRun, NormalizeError, SegmentBuffers};
 use normalizer_tables::members::Members;
 use normalizer_text::output::Output;
 use normalizer_text::{Step, Units};
@@ -107,8 +108,44 @@ fn form_of_pair<U: Units, N: Forming>(normalizer: &N, units: U, first: Step) -> 
     normalizer.form_of_two(first.character, second.character)
 }
 
+/// Writes what is left of a run of marks, character by character.
+fn write_marks<U: Units, O: Output<U>>(
+    mut run: MarkRun,
+    output: &mut O,
+) -> Result<(), NormalizeError>
+    ensures text { WritesText U.encoding O.Output NothingOffered (left run) output.old result output.new }
+    ensures room { ¬ IsErrOf result NormalizeError.Memory }
+{
+    while let Some(character) = run.pop_front() {
+        output.write_char(character)?;
+    }
+    Ok(())
+}
+
+/// Writes the form of what the units decode to, character by character, however long it is: from a run of marks, or
+/// from an iterator. The first step was read before.
+#[inline(never)]
+fn write_long<U: Units, N: Forming, O: Output<U>>(
+    normalizer: &N,
+    units: U,
+    first: Step,
+    output: &mut O,
+) -> Result<(), NormalizeError>
+    requires some { 0 < length (U.units units) }
+    requires first { first ≡ first_in U.encoding (U.units units) }
+    ensures text { WritesText U.encoding O.Output NothingOffered
+        (form_in (N.made normalizer.now) U.encoding (U.units units)) output.old result output.new }
+    ensures room { HasShortUnits (N.made normalizer.now) U.encoding (U.units units) →
+        ¬ IsErrOf result NormalizeError.Memory }
+{
+    if let Some(run) = normalizer.mark_run(units, first) {
+        return write_marks::<U, O>(run, output);
+    }
+    normalizer.write_items(units, output)
+}
+
 /// Writes the form of what the units decode to, character by character: from the list of a single character, from what
-/// two compose to, from the buffers if it fits, or from an iterator. The first step was read before.
+/// two compose to, from the buffers if it fits, or from what fits any length. The first step was read before.
 fn write_segment<U: Units, N: Forming, O: Output<U>>(
     normalizer: &N,
     units: U,
@@ -134,7 +171,7 @@ fn write_segment<U: Units, N: Forming, O: Output<U>>(
     if normalizer.short_form(units, buffers) {
         return write_text::<U, O>(buffers.text(), output);
     }
-    normalizer.write_items(units, output)
+    write_long(normalizer, units, first, output)
 }
 
 /// Writes the front of the units that is kept as it is, in one piece, and returns its end: 0 if there is none.

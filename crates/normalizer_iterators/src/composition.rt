@@ -52,7 +52,7 @@ pub struct Composition<'data, I> {
 
 /// What happened to a character after a starter and the marks that stay.
 #[derive(Clone, Copy)]
-enum Visited {
+pub(crate) enum Visited {
     /// It joined: the starter has become this one.
     Joined(char),
     /// It is the next starter.
@@ -239,7 +239,7 @@ fn compose_starter<I: Iterator<Item = char> + Drop>(
 
 /// Joins a character with a starter if none of the marks between them blocks it and the two compose; else a mark stays.
 #[inline(always)]
-fn visit(
+pub(crate) fn visit(
     pairs: &CanonicalCompositions,
     marks: &mut StayingMarks,
     starter: char,

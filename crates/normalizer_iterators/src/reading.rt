@@ -50,7 +50,7 @@ pub(crate) fn read_on<I: Iterator<Item = char> + Drop>(
 
 /// Buffers the list of a character.
 #[inline(always)]
-fn push_list(
+pub(crate) fn push_list(
     characters: &CharacterData<'_>,
     ignored: IgnoredCharacters,
     read: PendingChar,

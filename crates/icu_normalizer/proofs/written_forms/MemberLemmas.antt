@@ -40,6 +40,13 @@ list_gives-at (d ∷ x) (suc place) c is =
 pub list_gives-end : (x : List ℕ) (place : ℕ) → length x ≤ place → list_gives (drop place x) None []
 list_gives-end x place past = let is = drop_all place x past in rw is (refl, refl)
 
+-- the one in front comes next, and none if there is none
+pub list_gives-front : (x rest : List ℕ) (c : ℕ) → x ≡ c ∷ rest → list_gives x (Some (Ok c)) rest
+list_gives-front x rest c is = rw is (refl, refl)
+
+pub list_gives-none : (x : List ℕ) → x ≡ [] → list_gives x None []
+list_gives-none x is = rw is (refl, refl)
+
 -- one step alone
 pub decoded-one : (e : Encoding) (units : List ℕ) (s : Step) → 0 < length units → s ≡ first_in e units → s.width ≡ length units → decoded_in e units ≡ s.character ∷ []
 decoded-one e units s some is whole =

@@ -53,7 +53,7 @@ decoded-left e units position s inside is =
 pub decoded-all : (e : Encoding) (units : List ℕ) (position : ℕ) → length units ≤ position → decoded_in e (drop position units) ≡ []
 decoded-all e units position past = ap (decoded_in e) (drop_all position units past) ∙ decoded-nil e
 
-expand-left : (d : Reading) (e : Encoding) (units : List ℕ) (position : ℕ) (s : Step) → position < length units → s ≡ first_in e (drop position units)
+pub expand-left : (d : Reading) (e : Encoding) (units : List ℕ) (position : ℕ) (s : Step) → position < length units → s ≡ first_in e (drop position units)
     → expand d (decoded_in e (drop position units)) ≡ d.list s.character ++ expand d (decoded_in e (drop (position + s.width) units))
 unfolding expand
 expand-left d e units position s inside is = ap (expand d) (decoded-left e units position s inside is)

@@ -1,0 +1,11 @@
+use Rattle.std.proofs.Common.{◌-◌, [], length}
+use Rattle.normalizer_tables.specs.Readings.{reading_by}
+use Rattle.normalizer_iterators.specs.inner.MarkReads.{IsReadTo}
+use Rattle.normalizer_iterators.proofs.mark_run.read_marks.Given as goal
+
+abbrev pub invariant-loop-place : goal.invariant-loop-place
+invariant-loop-place g l =
+    IsReadTo (reading_by l.characters l.fn.ignored []) g.U.Units.encoding (g.U.Units.units l.units) l.place l.waiting
+
+abbrev pub decreases-loop-place : goal.decreases-loop-place
+decreases-loop-place g l = length (g.U.Units.units l.units) - l.place
