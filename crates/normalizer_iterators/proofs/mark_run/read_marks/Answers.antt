@@ -1,10 +1,10 @@
 use Rattle.std.proofs.Common.{◌∷◌, ◌++◌, [], arith, sym, ap, ◌∙◌}
 use Rattle.normalizer_tables.specs.Readings.{reading_by}
 use Rattle.normalizer_tables.specs.Ignored.{ignored_list}
+use Rattle.normalizer_text.proofs.steps.StepBoundaries.{step-some}
 use Rattle.normalizer_iterators.specs.WaitingList.{reordered}
 use Rattle.normalizer_iterators.proofs.reads.LazyLemmas.{class-reading_by, list-reading_by}
 use Rattle.normalizer_iterators.proofs.segments.MarkRunLemmas.{IsReadTo-all, IsReadTo-more}
-use Rattle.normalizer_iterators.proofs.segments.SegmentLemmas.{step-some}
 use Rattle.normalizer_iterators.proofs.mark_run.read_marks.Goals as goal
 
 pub overflow_add-place : goal.overflow_add-place
