@@ -1,8 +1,8 @@
 //! Uses of `icu_normalizer`, as a caller writes them.
 #![tactic(auto)]
 
-ghost use Rattle.std.specs.Prelude.{◌≡◌, ◌⊎◌, ℕ, List, IfOk, IfErr, IsOk, IsOkUnless, MatchResult, Ok, chars, map, [], None};
-ghost use Rattle.std.specs.Iterator.{Drains, IsFinite};
+ghost use Rattle.std.specs.Prelude.{◌≡◌, ◌⊎◌, ℕ, List, IfOk, IfErr, IsOk, IsOkUnless, chars, [], None};
+ghost use Rattle.std.specs.Iterator.{IsFinite};
 ghost use Rattle.normal_forms.specs.Forms.{nfc, nfd};
 ghost use Rattle.normal_forms.specs.ShortRuns.{HasShortRuns};
 ghost use Rattle.normalizer_tables.specs.declared.provider.DataMarkerInfo.TheVariants as marker;
@@ -22,7 +22,7 @@ ghost use Rattle.icu_normalizer.specs.ComposingNormalizers.{
 ghost use Rattle.icu_normalizer.specs.Normalizers.{data_of_borrowed};
 ghost use Rattle.normalizer_iterators.specs.Items.{SpellsOk, SpellsUnless};
 ghost use Rattle.normalizer_examples.specs.Last.{last_of};
-ghost use Rattle.normalizer_examples.specs.Runs.{GaveFault, IsFormOfDrained};
+ghost use Rattle.normalizer_examples.specs.Runs.{IsFormOfDrained};
 
 mod by_records;
 mod by_unicode_data;
@@ -46,6 +46,7 @@ use icu_normalizer::{
     NormalizerNfkdTablesV1, Utf8Chars, check_nfd_data,
 };
 pub use normalizer_built::{NormalForm, built_mapper};
+use normalizer_iterators::collected;
 use normalizer_iterators::laws::{text_comes_unless_a_fault_does, text_comes_without_faults};
 use std::alloc::Global;
 
@@ -186,36 +187,6 @@ where
         Ok(form) => Ok(form),
         Err(_) => Err(DataError::Memory),
     }
-}
-
-/// Returns the remaining characters of an iterator.
-///
-/// # Errors
-/// The first error of the iterator, or `Memory` if an allocation was refused.
-pub fn collected<I: Iterator<Item = Result<char, NormalizeError>> + Drop>(
-    alloc: Global,
-    items: I,
-) -> Result<Vec<char>, NormalizeError>
-    requires can { I.can_next items }
-    requires ends { IsFinite (I.remaining items) }
-    ensures all { (x : List ℕ) → SpellsUnless I.next_gives NormalizeError.Memory items x →
-        IfOk result (λ v. v.items ≡ x) × IsOkUnless result NormalizeError.Memory }
-    ensures run { MatchResult result (λ v. Drains I.next_gives items (map Ok v.items))
-        (λ e. (e ≡ NormalizeError.Memory) ⊎ GaveFault I.next_gives items e) }
-{
-    text_comes_unless_a_fault_does::<NormalizeError, I>();
-    let mut characters = Vec::new(alloc);
-    for item in items {
-        let character = match item {
-            Ok(character) => character,
-            Err(error) => return Err(error),
-        };
-        match characters.push(character) {
-            Ok(()) => {}
-            Err(_) => return Err(NormalizeError::Memory),
-        }
-    }
-    Ok(characters)
 }
 
 /// Returns the last character of the NFD of the text that bytes decode to.
