@@ -11,7 +11,7 @@ returns-in_err-validated-clause-refused c =
     let listed = YieldsList-from_slice {s = c.iter.result} c.args.mapped.now c.iter.ensures.rest in
     let source = rw (← c.copied.ensures.source) at listed in
     let spells = (YieldsList-from_copied source).runs in
-    let refused = (c.in_err-validated.ensures.all _ (c.in_ok-normalize_validate.ensures.form.text _ spells)).1 in
+    let refused = (c.in_err-validated.ensures.text _ (c.in_ok-normalize_validate.ensures.form.text _ spells)).1 in
     search rules
 
 pub returns-clause-kept : goal.returns-clause-kept
@@ -19,7 +19,7 @@ returns-clause-kept c =
     let listed = YieldsList-from_slice {s = c.iter.result} c.args.mapped.now c.iter.ensures.rest in
     let source = rw (← c.copied.ensures.source) at listed in
     let spells = (YieldsList-from_copied source).runs in
-    let validated = (c.in_ok-validated.ensures.all _ (c.in_ok-normalize_validate.ensures.form.text _ spells)).0 in
+    let validated = (c.in_ok-validated.ensures.text _ (c.in_ok-normalize_validate.ensures.form.text _ spells)).0 in
     let decides = slice_eq-Decides Decides-eqb _ _ _ c.eq.ensures in (
       λ yes. record {
         no_replacement = not_contained _ _ _ c.contains.ensures.cases c.if-contains.false;
