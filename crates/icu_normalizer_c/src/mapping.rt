@@ -151,7 +151,8 @@ pub extern "C" fn icu_normalizer_validate_utf16_nonnull(
 ) -> u32
     ensures status { IsStatus result (OverMapper (held handle.old)
         ((output.new ≡ output.old) × (needed.new ≡ needed.old))
-        (WritesMapped Encoding.Utf16 IgnoredCharacters.Replaced input.now output.old output.new needed.old needed.new)) }
+        (WritesMapped Encoding.Utf16 IgnoredCharacters.Replaced input.now output.old output.new
+        needed.old needed.new)) }
     ensures kept { held handle.new ≡ held handle.old }
 {
     let ignored = IgnoredCharacters::Replaced;

@@ -100,11 +100,12 @@ fn open_files(
     open(alloc, handle, &records, &mapper)
 }
 
-/// Opens normalizers by records of characters, and their mapper by records of the mapper. Mappings are parts of `codes`.
-/// Without records of the mapper there is none. What the handle had is closed.
+/// Opens normalizers by records of characters, and their mapper by records of the mapper. Mappings are parts of
+/// `codes`. Without records of the mapper there is none. What the handle had is closed.
 ///
 /// # Errors
-/// `Record`, `MapperRecord`, `Records` or `Memory`. The handle then has what it had. `defect` says which record is wrong.
+/// `Record`, `MapperRecord`, `Records` or `Memory`. The handle then has what it had. `defect` says which record is
+/// wrong.
 #[unsafe(no_mangle)]
 pub extern "C" fn icu_normalizer_open_records_nonnull(
     alloc: Global,

@@ -15,8 +15,8 @@ use normalizer_io::{Answer, Source, Target, read_all, write_all};
 use normalizer_streams::write_form;
 use std::alloc::Global;
 
-/// Does a worker's work with each file in turn, up to a refused write, and returns the exit status: the greatest of those of
-/// the files.
+/// Does a worker's work with each file in turn, up to a refused write, and returns the exit status: the greatest of
+/// those of the files.
 pub(crate) fn over_files<I: Inputs, W: Target, R: Reports>(
     alloc: Global,
     worker: &Worker,

@@ -21,9 +21,9 @@ use normalizer_iterators::NormalizeError;
 use normalizer_ucd::UcdFile;
 use std::alloc::Global;
 
-/// Does a command with each file in turn, by Unicode's files in a directory, and returns the exit status: 0; 1 if a file
-/// isn't in the form, or has a line that isn't valid; 2 if one failed. If Unicode's files fail, that is reported, and
-/// nothing is written.
+/// Does a command with each file in turn, by Unicode's files in a directory, and returns the exit status: 0; 1 if a
+/// file isn't in the form, or has a line that isn't valid; 2 if one failed. If Unicode's files fail, that is reported,
+/// and nothing is written.
 pub fn run<I: Inputs, W: Target, R: Reports>(
     alloc: Global,
     command: Command,

@@ -58,7 +58,8 @@ pub(crate) fn worker_for(built: &Built, command: Command) -> Result<Worker, Norm
 fn mapper_over(built: &Built) -> Result<Uts46Mapper, NormalizeError>
     requires { AreBuilt (data_in built.now) }
     ensures maps { (records : List RecordValue) (uts46 : List Uts46RecordValue) →
-        Builds records uts46 (data_in built.now) → IfOk result (λ mapper. Maps (mapper_data_of mapper) (mapping_by records uts46)) }
+        Builds records uts46 (data_in built.now) →
+        IfOk result (λ mapper. Maps (mapper_data_of mapper) (mapping_by records uts46)) }
     ensures refused { IsOkUnless result NormalizeError.Memory }
 {
     match built_mapper(built) {

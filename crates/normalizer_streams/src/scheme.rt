@@ -62,7 +62,8 @@ impl ByteOrder {
     /// The first unit of the bytes from a place on.
     fn unit_at(self, bytes: &[u8], place: usize) -> u16
         requires { place < length bytes.now }
-        ensures { units_of_pairs self (drop place bytes.now) ≡ result ∷ units_of_pairs self (drop (place + 2) bytes.now) }
+        ensures { units_of_pairs self (drop place bytes.now) ≡
+            result ∷ units_of_pairs self (drop (place + 2) bytes.now) }
     {
         if place + 1 < bytes.len() {
             self.unit(bytes[place], bytes[place + 1])

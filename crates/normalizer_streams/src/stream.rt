@@ -94,8 +94,8 @@ pub fn write_form<R: Source, W: Target>(
     Err(TransferError::Read)
 }
 
-/// Writes the form of what is settled of the bytes that are carried, and keeps the rest. All places up to `searched` but
-/// for the last few have been searched.
+/// Writes the form of what is settled of the bytes that are carried, and keeps the rest. All places up to `searched`
+/// but for the last few have been searched.
 fn write_settled<W: Target>(
     scheme: EncodingScheme,
     normalizer: &Normalizer,
@@ -132,7 +132,8 @@ fn write_form_of<W: Target>(
     buffers: &mut FormBuffers,
     writer: &mut W,
 ) -> Result<(), TransferError>
-    ensures form { OnOk result (Appends (W.taken writer.old) (W.taken writer.new) (form_by scheme normalizer.now bytes.now)) }
+    ensures form { OnOk result
+        (Appends (W.taken writer.old) (W.taken writer.new) (form_by scheme normalizer.now bytes.now)) }
     ensures front { OnErr result
         (AppendsFront (W.taken writer.old) (W.taken writer.new) (form_by scheme normalizer.now bytes.now)) }
     ensures errors { IfErr result (λ error. (error ≡ TransferError.Write) ⊎ (error ≡ TransferError.Memory)) }
