@@ -4,7 +4,7 @@ use Rattle.normalizer_tables.specs.declared.condition.Bounds.{Bounds}
 use Rattle.normalizer_tables.specs.declared.provider.DataError.{DataError}
 use Rattle.normalizer_tables.specs.declared.provider.DataMarkerInfo.{DataMarkerInfo}
 use Rattle.normalizer_tables.specs.declared.provider.DataMarkerInfo.TheVariants as marker
-use Rattle.normalizer_conditions.specs.AcceptedData.{decomposing_conditions}
+use Rattle.normalizer_conditions.specs.RequiredConditions.{decomposing_conditions}
 use Rattle.normalizer_tables.specs.Conditions.{IsMet}
 use Rattle.normalizer_tables.specs.Loaded.{bounds_of_cap, characters_alone}
 use Rattle.normalizer_tables.specs.Characters.{Characters, characters_from}

@@ -6,7 +6,7 @@ use Rattle.normal_forms.specs.Cut.{IsCut}
 use Rattle.normal_forms.specs.Forms.{IsNormalized}
 use Rattle.normal_forms.specs.Offence.{IsFirstOffence}
 use Rattle.normal_forms.specs.ShortRuns.{HasShortRuns}
-use Rattle.normalizer_text.specs.Steps.{IsWellFormed}
+use Rattle.normalizer_text.specs.DecodingSteps.{IsWellFormed}
 use Rattle.normalizer_text.specs.Encodings.{Encoding, first_in, decoded_in}
 use Rattle.normalizer_text.specs.declared.offence.Offence.{Offence}
 use Rattle.normalizer_text.specs.InputCut.{IsInputNormalized, IsInputCut, IsErrorAt}

@@ -2,7 +2,7 @@
 use Rattle.std.specs.Prelude.{◌≡◌, ℕ, false, true, None, All}
 use Rattle.normalizer_tables.specs.declared.provider.DataError.{DataError}
 use Rattle.normalizer_tables.specs.declared.provider.DataMarkerInfo.{DataMarkerInfo}
-use Rattle.normalizer_conditions.specs.AcceptedData.{class_conditions}
+use Rattle.normalizer_conditions.specs.RequiredConditions.{class_conditions}
 use Rattle.normalizer_tables.specs.CharacterConditions.{is_surrogate}
 use Rattle.normalizer_tables.specs.Characters.{class_of, characters_from}
 use Rattle.normalizer_tables.specs.Conditions.{IsMet}

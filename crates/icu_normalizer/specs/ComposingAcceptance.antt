@@ -3,7 +3,7 @@ use Rattle.std.specs.Prelude.{List, Option, Some, None, Result, Ok, Err, All}
 use Rattle.normalizer_tables.specs.declared.provider.DataError.{DataError}
 use Rattle.normalizer_tables.specs.declared.provider.DataMarkerInfo.{DataMarkerInfo}
 use Rattle.normalizer_tables.specs.declared.provider.DataMarkerInfo.TheVariants as marker
-use Rattle.normalizer_conditions.specs.AcceptedData.{composing_conditions}
+use Rattle.normalizer_conditions.specs.RequiredConditions.{composing_conditions}
 use Rattle.normalizer_tables.specs.Conditions.{IsMet}
 use Rattle.normalizer_tables.specs.Loaded.{characters_and_pairs}
 use Rattle.normalizer_tables.specs.Characters.{Characters}

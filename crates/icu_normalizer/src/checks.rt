@@ -17,7 +17,7 @@ use normalizer_text::check_sink::Expected;
 
 /// Whether the units are well-formed and normalized.
 fn is_own_form<U: Expected, N: Forming>(normalizer: &N, units: U) -> Result<bool, NormalizeError>
-    ensures { ChecksForm (N.made normalizer.now)
+    ensures { ChecksForm (N.made_form normalizer.now)
         U.encoding (U.units units) result }
 {
     Ok(cut_of(normalizer, units)?.is_none())
@@ -34,7 +34,7 @@ impl<F: Forming> NormalizerBorrowed<F> {
     /// normalizer.is_normalized(text)
     /// ```
     pub fn is_normalized(&self, text: &str) -> Result<bool, NormalizeError>
-        ensures { ChecksText (F.made self.now.form) (chars text.now) result }
+        ensures { ChecksText (F.made_form self.now.form) (chars text.now) result }
     {
         is_own_form(&self.form, text)
     }
@@ -44,7 +44,7 @@ impl<F: Forming> NormalizerBorrowed<F> {
     /// # Errors
     /// `Memory` if an allocation was refused. None is made unless more than 17 characters are buffered at a time.
     pub fn is_normalized_utf8(&self, bytes: &[u8]) -> Result<bool, NormalizeError>
-        ensures { ChecksForm (F.made self.now.form) Encoding.Utf8 bytes.now result }
+        ensures { ChecksForm (F.made_form self.now.form) Encoding.Utf8 bytes.now result }
     {
         is_own_form(&self.form, bytes)
     }
@@ -54,7 +54,7 @@ impl<F: Forming> NormalizerBorrowed<F> {
     /// # Errors
     /// `Memory` if an allocation was refused. None is made unless more than 17 characters are buffered at a time.
     pub fn is_normalized_utf16(&self, units: &[u16]) -> Result<bool, NormalizeError>
-        ensures { ChecksForm (F.made self.now.form) Encoding.Utf16 units.now result }
+        ensures { ChecksForm (F.made_form self.now.form) Encoding.Utf16 units.now result }
     {
         is_own_form(&self.form, units)
     }
@@ -76,7 +76,7 @@ impl<F: Forming> NormalizerBorrowed<F> {
     /// }
     /// ```
     pub fn first_offence(&self, text: &str) -> Result<Option<Offence>, NormalizeError>
-        ensures { FindsOffenceOfText (F.made self.now.form) (chars text.now) result }
+        ensures { FindsOffenceOfText (F.made_form self.now.form) (chars text.now) result }
     {
         offence_of(&self.form, text)
     }
@@ -90,7 +90,7 @@ impl<F: Forming> NormalizerBorrowed<F> {
     /// # Errors
     /// `Memory` if an allocation was refused. None is made unless more than 17 characters are buffered at a time.
     pub fn first_offence_utf8(&self, bytes: &[u8]) -> Result<Option<Offence>, NormalizeError>
-        ensures { FindsOffence (F.made self.now.form) Encoding.Utf8 bytes.now result }
+        ensures { FindsOffence (F.made_form self.now.form) Encoding.Utf8 bytes.now result }
     {
         offence_of(&self.form, bytes)
     }
@@ -104,7 +104,7 @@ impl<F: Forming> NormalizerBorrowed<F> {
     /// # Errors
     /// `Memory` if an allocation was refused. None is made unless more than 17 characters are buffered at a time.
     pub fn first_offence_utf16(&self, units: &[u16]) -> Result<Option<Offence>, NormalizeError>
-        ensures { FindsOffence (F.made self.now.form) Encoding.Utf16 units.now result }
+        ensures { FindsOffence (F.made_form self.now.form) Encoding.Utf16 units.now result }
     {
         offence_of(&self.form, units)
     }

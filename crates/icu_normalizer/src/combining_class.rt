@@ -61,7 +61,7 @@ impl CanonicalCombiningClassMap {
         P: DataProvider<NormalizerNfdDataV1>,
         ensures { let first = DataMarkerInfo.NormalizerNfdDataV1 in
             AnswersHeld SuitsClasses RefusesClasses first classes_of
-            (held_or first (⟦<P as DataProvider<NormalizerNfdDataV1>>⟧.held provider.now)) result }
+            (held_or first (⟦<P as DataProvider<NormalizerNfdDataV1>>⟧.payload provider.now)) result }
     {
         let decompositions = <P as DataProvider<NormalizerNfdDataV1>>::load(provider)?;
         Self::over(DataMarkerInfo::NormalizerNfdDataV1, decompositions)

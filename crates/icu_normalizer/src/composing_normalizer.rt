@@ -53,9 +53,9 @@ impl ComposingNormalizer {
             + DataProvider<NormalizerNfdTablesV1>
             + DataProvider<NormalizerNfcV1>,
         ensures { AnswersHeld SuitsComposing RefusesToCompose DataMarkerInfo.NormalizerNfdDataV1 data_and_pairs_of
-            (with_pairs (nfd_data (⟦<P as DataProvider<NormalizerNfdDataV1>>⟧.held provider.now)
-            (⟦<P as DataProvider<NormalizerNfdTablesV1>>⟧.held provider.now))
-            (⟦<P as DataProvider<NormalizerNfcV1>>⟧.held provider.now)) result }
+            (with_pairs (nfd_data (⟦<P as DataProvider<NormalizerNfdDataV1>>⟧.payload provider.now)
+            (⟦<P as DataProvider<NormalizerNfdTablesV1>>⟧.payload provider.now))
+            (⟦<P as DataProvider<NormalizerNfcV1>>⟧.payload provider.now)) result }
     {
         let decompositions = <P as DataProvider<NormalizerNfdDataV1>>::load(provider)?;
         let tables = <P as DataProvider<NormalizerNfdTablesV1>>::load(provider)?;
@@ -88,10 +88,10 @@ impl ComposingNormalizer {
             + DataProvider<NormalizerNfkdTablesV1>
             + DataProvider<NormalizerNfcV1>,
         ensures { AnswersHeld SuitsComposing RefusesToCompose DataMarkerInfo.NormalizerNfkdDataV1 data_and_pairs_of
-            (with_pairs (nfkd_data (⟦<P as DataProvider<NormalizerNfkdDataV1>>⟧.held provider.now)
-            (⟦<P as DataProvider<NormalizerNfdTablesV1>>⟧.held provider.now)
-            (⟦<P as DataProvider<NormalizerNfkdTablesV1>>⟧.held provider.now))
-            (⟦<P as DataProvider<NormalizerNfcV1>>⟧.held provider.now)) result }
+            (with_pairs (nfkd_data (⟦<P as DataProvider<NormalizerNfkdDataV1>>⟧.payload provider.now)
+            (⟦<P as DataProvider<NormalizerNfdTablesV1>>⟧.payload provider.now)
+            (⟦<P as DataProvider<NormalizerNfkdTablesV1>>⟧.payload provider.now))
+            (⟦<P as DataProvider<NormalizerNfcV1>>⟧.payload provider.now)) result }
     {
         let decompositions = <P as DataProvider<NormalizerNfkdDataV1>>::load(provider)?;
         let tables = <P as DataProvider<NormalizerNfdTablesV1>>::load(provider)?;

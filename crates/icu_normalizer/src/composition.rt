@@ -38,7 +38,7 @@ impl CanonicalComposition {
     where
         P: DataProvider<NormalizerNfcV1>,
         ensures { let first = DataMarkerInfo.NormalizerNfcV1 in AnswersHeld AreSoundPairs RefusesPairs first pairs_of
-            (held_or first (⟦<P as DataProvider<NormalizerNfcV1>>⟧.held provider.now)) result }
+            (held_or first (⟦<P as DataProvider<NormalizerNfcV1>>⟧.payload provider.now)) result }
     {
         let pairs = <P as DataProvider<NormalizerNfcV1>>::load(provider)?;
         Self::over(DataMarkerInfo::NormalizerNfcV1, pairs)

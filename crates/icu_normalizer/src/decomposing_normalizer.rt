@@ -46,8 +46,8 @@ impl DecomposingNormalizer {
     where
         P: DataProvider<NormalizerNfdDataV1> + DataProvider<NormalizerNfdTablesV1>,
         ensures { AnswersHeld SuitsDecomposing RefusesToDecompose DataMarkerInfo.NormalizerNfdDataV1 data_of
-            (nfd_data (⟦<P as DataProvider<NormalizerNfdDataV1>>⟧.held provider.now)
-            (⟦<P as DataProvider<NormalizerNfdTablesV1>>⟧.held provider.now)) result }
+            (nfd_data (⟦<P as DataProvider<NormalizerNfdDataV1>>⟧.payload provider.now)
+            (⟦<P as DataProvider<NormalizerNfdTablesV1>>⟧.payload provider.now)) result }
     {
         let decompositions = <P as DataProvider<NormalizerNfdDataV1>>::load(provider)?;
         let tables = <P as DataProvider<NormalizerNfdTablesV1>>::load(provider)?;
@@ -73,9 +73,9 @@ impl DecomposingNormalizer {
             + DataProvider<NormalizerNfdTablesV1>
             + DataProvider<NormalizerNfkdTablesV1>,
         ensures { AnswersHeld SuitsDecomposing RefusesToDecompose DataMarkerInfo.NormalizerNfkdDataV1 data_of
-            (nfkd_data (⟦<P as DataProvider<NormalizerNfkdDataV1>>⟧.held provider.now)
-            (⟦<P as DataProvider<NormalizerNfdTablesV1>>⟧.held provider.now)
-            (⟦<P as DataProvider<NormalizerNfkdTablesV1>>⟧.held provider.now)) result }
+            (nfkd_data (⟦<P as DataProvider<NormalizerNfkdDataV1>>⟧.payload provider.now)
+            (⟦<P as DataProvider<NormalizerNfdTablesV1>>⟧.payload provider.now)
+            (⟦<P as DataProvider<NormalizerNfkdTablesV1>>⟧.payload provider.now)) result }
     {
         let decompositions = <P as DataProvider<NormalizerNfkdDataV1>>::load(provider)?;
         let tables = <P as DataProvider<NormalizerNfdTablesV1>>::load(provider)?;

@@ -52,9 +52,9 @@ impl CanonicalDecomposition {
             + DataProvider<NormalizerNfdTablesV1>
             + DataProvider<NormalizerNfdSupplementV1>,
         ensures { AnswersHeld SuitsSteps RefusesSteps DataMarkerInfo.NormalizerNfdDataV1 steps_of
-            (step_data (⟦<P as DataProvider<NormalizerNfdDataV1>>⟧.held provider.now)
-            (⟦<P as DataProvider<NormalizerNfdTablesV1>>⟧.held provider.now)
-            (⟦<P as DataProvider<NormalizerNfdSupplementV1>>⟧.held provider.now)) result }
+            (step_data (⟦<P as DataProvider<NormalizerNfdDataV1>>⟧.payload provider.now)
+            (⟦<P as DataProvider<NormalizerNfdTablesV1>>⟧.payload provider.now)
+            (⟦<P as DataProvider<NormalizerNfdSupplementV1>>⟧.payload provider.now)) result }
     {
         let decompositions = <P as DataProvider<NormalizerNfdDataV1>>::load(provider)?;
         let tables = <P as DataProvider<NormalizerNfdTablesV1>>::load(provider)?;

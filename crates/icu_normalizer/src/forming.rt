@@ -5,11 +5,11 @@ ghost use Rattle.std.specs.Prelude.{if◌then◌else◌};
 ghost use Rattle.std.specs.Char.{IsScalar};
 ghost use Rattle.normal_forms.specs.Decomposition.{expand};
 ghost use Rattle.normal_forms.specs.ShortRuns.{buffer_limit};
-ghost use Rattle.normalizer_conditions.specs.AcceptedData.{SuitsTexts};
+ghost use Rattle.normalizer_conditions.specs.RequiredConditions.{SuitsTexts};
 ghost use Rattle.normalizer_tables.specs.Characters.{class_of_itself, has_class_form, reading_of_word};
 ghost use Rattle.normalizer_tables.specs.PairConditions.{is_composing_passthrough};
 ghost use Rattle.normalizer_text.specs.Encodings.{decoded_in, first_in};
-ghost use Rattle.normalizer_iterators.specs.MarkRun.{left};
+ghost use Rattle.normalizer_iterators.specs.CharactersLeft.{characters_left};
 ghost use Rattle.normalizer_iterators.specs.Segment.{text};
 ghost use Rattle.icu_normalizer.specs.BoundaryBefore.{HasBoundaryBefore};
 ghost use Rattle.icu_normalizer.specs.Forms.{form_by, form_in, form_of, HasShortUnits, MadeForm};
@@ -32,7 +32,7 @@ use std::alloc::Global;
 /// A form with the data that it is made by.
 pub trait Forming {
     /// The form, and the reading by which it is made.
-    ghost made: { Self → MadeForm };
+    ghost made_form: { Self → MadeForm };
 
     /// Which characters are passed on as they are, and of which class each is: one of class 0 is so wherever it comes,
     /// a mark unless its class is less than the one before.
@@ -69,18 +69,18 @@ pub trait Forming {
     fn kept_segment<U: Units>(&self, units: U, first: Step) -> Option<KeptSegment>
         requires some { 0 < length (U.units units) }
         requires first { first ≡ first_in U.encoding (U.units units) }
-        ensures kept { let m = made self.now in IfSome result (λ kept. IsKeptSegment (beginning self.now) U.encoding
-            m.reading m.form (U.units units) kept.end) }
+        ensures kept { let m = made_form self.now in IfSome result (λ kept. IsKeptSegment (beginning self.now)
+            U.encoding m.reading m.form (U.units units) kept.end) }
         ensures next { IfSome result (λ kept.
             IfSome kept.next (λ next. next ≡ first_in U.encoding (drop kept.end (U.units units)))) };
 
     /// The form of a character alone, if its list is that.
     fn form_of_one(&self, character: char) -> Option<Members<'_>>
-        ensures { IfSome result (λ members. members ≡ form_of (made self.now) (character ∷ [])) };
+        ensures { IfSome result (λ members. members ≡ form_of (made_form self.now) (character ∷ [])) };
 
     /// Returns the form of two characters, if that is seen to be one character.
     fn form_of_two(&self, first: char, second: char) -> Option<char>
-        ensures { IfSome result (λ c. form_of (made self.now) (first ∷ second ∷ []) ≡ c ∷ []) };
+        ensures { IfSome result (λ c. form_of (made_form self.now) (first ∷ second ∷ []) ≡ c ∷ []) };
 
     /// Makes empty buffers for the forms of short texts.
     fn segment_buffers(&self) -> SegmentBuffers
@@ -89,16 +89,17 @@ pub trait Forming {
     /// Makes the form of what the units decode to in the buffers. Returns whether it fits: whether the lists of the
     /// characters have at most `places` members together.
     fn short_form<U: Units>(&self, units: U, buffers: &mut SegmentBuffers) -> bool
-        ensures form { IsTrue result → text buffers.new ≡ form_in (made self.now) U.encoding (U.units units) }
-        ensures fits { length (expand (made self.now).reading (decoded_in U.encoding (U.units units))) ≤ buffer_limit →
-            IsTrue result };
+        ensures form { IsTrue result → text buffers.new ≡ form_in (made_form self.now) U.encoding (U.units units) }
+        ensures fits { length (expand (made_form self.now).reading (decoded_in U.encoding (U.units units)))
+            ≤ buffer_limit → IsTrue result };
 
     /// Makes the form of what the units decode to, of which the first step was read before, if all the others are marks
     /// and memory suffices.
     fn mark_run<U: Units>(&self, units: U, first: Step) -> Option<MarkRun>
         requires some { 0 < length (U.units units) }
         requires first { first ≡ first_in U.encoding (U.units units) }
-        ensures { IfSome result (λ run. left run ≡ form_in (made self.now) U.encoding (U.units units)) };
+        ensures { IfSome result (λ run. characters_left run ≡
+            form_in (made_form self.now) U.encoding (U.units units)) };
 
     /// Writes the form of what the units decode to as an iterator yields it.
     fn write_items<U: Units, O: Output<U>>(
@@ -107,14 +108,14 @@ pub trait Forming {
         output: &mut O,
     ) -> Result<(), NormalizeError>
         ensures text { WritesText U.encoding O.Output NothingOffered
-            (form_in (made self.now) U.encoding (U.units units)) output.old result output.new }
-        ensures room { HasShortUnits (made self.now) U.encoding (U.units units) →
+            (form_in (made_form self.now) U.encoding (U.units units)) output.old result output.new }
+        ensures room { HasShortUnits (made_form self.now) U.encoding (U.units units) →
             ¬ IsErrOf result NormalizeError.Memory };
 
     /// Returns the first character of the form of what the units decode to, if there is one.
     fn first_item<U: Units>(&self, units: U) -> Result<Option<char>, NormalizeError>
-        ensures first { IfOk result (IsFirstOrNone (form_in (made self.now) U.encoding (U.units units))) }
-        ensures room { HasShortUnits (made self.now) U.encoding (U.units units) → IsOk result }
+        ensures first { IfOk result (IsFirstOrNone (form_in (made_form self.now) U.encoding (U.units units))) }
+        ensures room { HasShortUnits (made_form self.now) U.encoding (U.units units) → IsOk result }
         ensures refused { IsOkUnless result NormalizeError.Memory };
 
     /// Returns the allocator of the data.
@@ -124,21 +125,21 @@ pub trait Forming {
     /// classes, and those below the bound pass; what `begins` accepts is normalized apart from what comes before.
     fn passthrough_is_normalized_apart(&self)
         ensures apart { (c : ℕ) → IsScalar c → passthrough_class self.now c ≡ Some 0 →
-            CanPassThrough (made self.now).reading (made self.now).form held_back c }
+            CanPassThrough (made_form self.now).reading (made_form self.now).form held_back c }
         ensures follow { (c k : ℕ) → IsScalar c → passthrough_class self.now c ≡ Some k → 0 < k →
-            CanFollowMark (made self.now).reading (made self.now).form held_back c k }
+            CanFollowMark (made_form self.now).reading (made_form self.now).form held_back c k }
         ensures begins { (c : ℕ) → IsScalar c → beginning self.now c ≡ true →
-            HasBoundaryBefore (made self.now).reading (made self.now).form c }
+            HasBoundaryBefore (made_form self.now).reading (made_form self.now).form c }
         ensures below { (c : ℕ) → c < bound self.now → passthrough_class self.now c ≡ Some 0 };
 
     /// The data satisfy the hypotheses of the laws of the form.
-    ghost suits: { (f : Self) → SuitsTexts (made f).reading (made f).form };
+    ghost suits: { (f : Self) → SuitsTexts (made_form f).reading (made_form f).form };
 }
 
 impl<'a> Forming for DecomposingForm<'a> {
     ghost use Rattle.normal_forms.specs.declared.Form.TheVariants.{Decomposing};
 
-    ghost made = { λ f. form_by f.characters [] Decomposing };
+    ghost made_form = { λ f. form_by f.characters [] Decomposing };
 
     ghost passthrough_class = { λ f c. if nat_lt c f.bounds.decomposition then Some 0
         else class_of_itself (reading_of_word f.characters c) };
@@ -221,7 +222,7 @@ impl<'a> Forming for DecomposingForm<'a> {
 impl<'a> Forming for ComposingForm<'a> {
     ghost use Rattle.normal_forms.specs.declared.Form.TheVariants.{Composing};
 
-    ghost made = { λ f. form_by f.characters f.pairs.now Composing };
+    ghost made_form = { λ f. form_by f.characters f.pairs.now Composing };
 
     ghost passthrough_class = { λ f c. if is_composing_passthrough f.characters f.bounds c then Some 0 else None };
 

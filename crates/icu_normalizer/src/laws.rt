@@ -1,7 +1,7 @@
 //! Laws of normalizers, of records and of the data that they build. Each function does nothing: its contract is the
 //! law.
 ghost use Rattle.normal_forms.specs.declared.Form.TheVariants.{Composing, Decomposing};
-ghost use Rattle.normalizer_conditions.specs.AcceptedData.{SuitsTexts};
+ghost use Rattle.normalizer_conditions.specs.RequiredConditions.{SuitsTexts};
 ghost use Rattle.icu_normalizer.specs.Forms.{composed_by, decomposed_by};
 
 use crate::{ComposingNormalizerBorrowed, DecomposingNormalizerBorrowed};

@@ -16,8 +16,8 @@ pub(crate) fn cut_of<U: Expected, N: Forming>(
     units: U,
 ) -> Result<Option<usize>, NormalizeError>
     ensures cut { IfOk result (IsCutUnlessNormalized
-        U.encoding (N.made normalizer.now).reading (N.made normalizer.now).form (U.units units)) }
-    ensures room { HasShortUnits (N.made normalizer.now) U.encoding (U.units units) → IsOk result }
+        U.encoding (N.made_form normalizer.now).reading (N.made_form normalizer.now).form (U.units units)) }
+    ensures room { HasShortUnits (N.made_form normalizer.now) U.encoding (U.units units) → IsOk result }
     ensures refused { IsOkUnless result NormalizeError.Memory }
 {
     let mut expected = IsNormalizedSink::new(units);
@@ -34,8 +34,8 @@ pub(crate) fn offence_of<U: Expected, N: Forming>(
     normalizer: &N,
     units: U,
 ) -> Result<Option<Offence>, NormalizeError>
-    ensures offence { IfOk result (IsLastingOffence (N.made normalizer.now) U.encoding (U.units units)) }
-    ensures room { HasShortUnits (N.made normalizer.now) U.encoding (U.units units) → IsOk result }
+    ensures offence { IfOk result (IsLastingOffence (N.made_form normalizer.now) U.encoding (U.units units)) }
+    ensures room { HasShortUnits (N.made_form normalizer.now) U.encoding (U.units units) → IsOk result }
     ensures refused { IsOkUnless result NormalizeError.Memory }
 {
     let Some(place) = cut_of(normalizer, units)? else {

@@ -24,7 +24,7 @@ use std::borrow::{CowSlice, CowStr};
 trait Growing<U: Units>: Output<U> {
     /// Makes room for this many more units, or refuses it.
     fn make_room(&mut self, len: usize) -> Result<(), SinkError>
-        ensures { OnOk result (Self.taken self.new ≡ Self.taken self.old) };
+        ensures { OnOk result (Self.text_taken self.new ≡ Self.text_taken self.old) };
 }
 
 impl<'t> Growing<&'t str> for String {
@@ -59,10 +59,10 @@ fn write_from_cut<U: Units, N: Forming, O: Growing<U>>(
     place: usize,
     output: &mut O,
 ) -> Result<(), NormalizeError>
-    requires { IsInputCut U.encoding (N.made normalizer.now).reading (N.made normalizer.now).form
+    requires { IsInputCut U.encoding (N.made_form normalizer.now).reading (N.made_form normalizer.now).form
         (U.units units) place }
-    ensures { let m = N.made normalizer.now in OnOk result (O.taken output.new ≡
-        O.taken output.old ++ encoded_form U.encoding m.reading m.form (U.units units)) }
+    ensures { let m = N.made_form normalizer.now in OnOk result (O.text_taken output.new ≡
+        O.text_taken output.old ++ encoded_form U.encoding m.reading m.form (U.units units)) }
 {
     output.make_room(units.len())?;
     output.write_piece(units.before(place))?;
@@ -75,9 +75,9 @@ fn write_unless_own<U: Expected, N: Forming, O: Growing<U>>(
     units: U,
     output: &mut O,
 ) -> Result<bool, NormalizeError>
-    ensures wrote { IfOk result (λ own. WroteUnlessOwn O.taken (N.made normalizer.now)
+    ensures wrote { IfOk result (λ own. WroteUnlessOwn O.text_taken (N.made_form normalizer.now)
         U.encoding (U.units units) output.old own output.new) }
-    ensures room { let m = N.made normalizer.now in HasShortUnits m U.encoding (U.units units) →
+    ensures room { let m = N.made_form normalizer.now in HasShortUnits m U.encoding (U.units units) →
         IsInputNormalized U.encoding m.reading m.form (U.units units) → IsOk result }
     ensures refused { IsOkUnless result NormalizeError.Memory }
 {
@@ -96,7 +96,7 @@ fn form_of_utf8<'t, N: Forming>(
     text: &'t str,
 ) -> Result<CowStr<'t, Global>, NormalizeError>
     ensures { ReturnsForm cow_str_bytes IsBorrowedStr
-        (N.made normalizer.now) Encoding.Utf8 text.now result }
+        (N.made_form normalizer.now) Encoding.Utf8 text.now result }
 {
     let mut owned = String::new(normalizer.allocator());
     if write_unless_own::<&'t str, N, String>(normalizer, text, &mut owned)? {
@@ -112,7 +112,7 @@ fn form_of_bytes<'t, N: Forming>(
     bytes: &'t [u8],
 ) -> Result<CowStr<'t, Global>, NormalizeError>
     ensures { ReturnsForm cow_str_bytes IsBorrowedStr
-        (N.made normalizer.now) Encoding.Utf8 bytes.now result }
+        (N.made_form normalizer.now) Encoding.Utf8 bytes.now result }
 {
     let mut owned = String::new(normalizer.allocator());
     if write_unless_own::<&'t [u8], N, String>(normalizer, bytes, &mut owned)? {
@@ -128,7 +128,7 @@ fn form_of_utf16<'t, N: Forming>(
     units: &'t [u16],
 ) -> Result<CowSlice<'t, u16, Global>, NormalizeError>
     ensures { ReturnsForm cow_slice_items IsBorrowedSlice
-        (N.made normalizer.now) Encoding.Utf16 units.now result }
+        (N.made_form normalizer.now) Encoding.Utf16 units.now result }
 {
     let mut owned = Vec::new(normalizer.allocator());
     if write_unless_own::<&'t [u16], N, Vec<u16>>(normalizer, units, &mut owned)? {
@@ -151,7 +151,7 @@ impl<F: Forming> NormalizerBorrowed<F> {
     /// let key = normalizer.normalize(text)?;
     /// ```
     pub fn normalize<'t>(&self, text: &'t str) -> Result<CowStr<'t, Global>, NormalizeError>
-        ensures { ReturnsFormOfText (F.made self.now.form) (chars text.now) result }
+        ensures { ReturnsFormOfText (F.made_form self.now.form) (chars text.now) result }
     {
         form_of_utf8(&self.form, text)
     }
@@ -163,7 +163,7 @@ impl<F: Forming> NormalizerBorrowed<F> {
     /// `Memory` if an allocation was refused. If `bytes` are normalized and at most 17 characters are buffered at a
     /// time, none is made.
     pub fn normalize_utf8<'t>(&self, bytes: &'t [u8]) -> Result<CowStr<'t, Global>, NormalizeError>
-        ensures { ReturnsForm cow_str_bytes IsBorrowedStr (F.made self.now.form) Encoding.Utf8 bytes.now result }
+        ensures { ReturnsForm cow_str_bytes IsBorrowedStr (F.made_form self.now.form) Encoding.Utf8 bytes.now result }
     {
         form_of_bytes(&self.form, bytes)
     }
@@ -179,7 +179,7 @@ impl<F: Forming> NormalizerBorrowed<F> {
         units: &'t [u16],
     ) -> Result<CowSlice<'t, u16, Global>, NormalizeError>
         ensures { ReturnsForm cow_slice_items IsBorrowedSlice
-            (F.made self.now.form) Encoding.Utf16 units.now result }
+            (F.made_form self.now.form) Encoding.Utf16 units.now result }
     {
         form_of_utf16(&self.form, units)
     }

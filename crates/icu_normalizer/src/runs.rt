@@ -28,7 +28,7 @@ pub(crate) struct Segment {
 
 /// Returns the class of a step that is passed on as it is after a character of class `last`.
 #[inline(always)]
-#[tactic(auto, unfolding(crate::specs::inner::PassthroughRuns::next_class, crate::specs::inner::PassthroughRuns::class_of_step, crate::specs::inner::PassthroughRuns::following))]
+#[tactic(auto, unfolding(crate::specs::inner::PassthroughRuns::next_class, crate::specs::inner::PassthroughRuns::class_of_step, crate::specs::inner::PassthroughRuns::class_in_order))]
 fn next_class<N: Forming>(normalizer: &N, last: u8, step: Step) -> Option<u8>
     ensures { result ≡ next_class (N.passthrough_class normalizer.now) last step }
 {
@@ -114,7 +114,7 @@ pub(crate) fn front_segment<U: Units, N: Forming>(normalizer: &N, units: U, firs
 pub(crate) fn passthrough_end<U: Units, N: Forming>(normalizer: &N, units: U) -> usize
     ensures handed { IsPassthroughEnd (N.passthrough_class normalizer.now) (N.beginning normalizer.now) N.held_back
         U.encoding (U.units units) result }
-    ensures part { let m = N.made normalizer.now in 0 < result → IsPart U.encoding m.reading m.form (U.units units)
+    ensures part { let m = N.made_form normalizer.now in 0 < result → IsPart U.encoding m.reading m.form (U.units units)
         result × IsInputNormalized U.encoding m.reading m.form (take result (U.units units)) }
 {
     normalizer.passthrough_is_normalized_apart();
@@ -137,7 +137,7 @@ pub(crate) fn passthrough_end<U: Units, N: Forming>(normalizer: &N, units: U) ->
 /// Returns the end of the front of the units that is kept as it is: runs, and segments between them that are seen to
 /// stay.
 pub(crate) fn kept_end<U: Units, N: Forming>(normalizer: &N, units: U) -> usize
-    ensures { let m = N.made normalizer.now in IsKeptTo U.encoding m.reading m.form (U.units units) result }
+    ensures { let m = N.made_form normalizer.now in IsKeptTo U.encoding m.reading m.form (U.units units) result }
 {
     normalizer.passthrough_is_normalized_apart();
     let mut end = passthrough_end(normalizer, units);

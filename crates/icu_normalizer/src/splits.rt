@@ -19,7 +19,7 @@ pub(crate) fn offset_of_cut<U: Expected, N: Forming>(
     normalizer: &N,
     units: U,
 ) -> Result<usize, NormalizeError>
-    ensures { let m = N.made normalizer.now in AnswersOf m (decoded_in U.encoding (U.units units))
+    ensures { let m = N.made_form normalizer.now in AnswersOf m (decoded_in U.encoding (U.units units))
         (IsInputCut U.encoding m.reading m.form (U.units units)) result }
 {
     match cut_of(normalizer, units)? {
@@ -33,8 +33,8 @@ pub(crate) fn split_at_cut<U: Expected, N: Forming>(
     normalizer: &N,
     units: U,
 ) -> Result<(U, U), NormalizeError>
-    ensures { AnswersOf (N.made normalizer.now) (decoded_in U.encoding (U.units units)) (λ parts.
-        IsSplitAtCut (N.made normalizer.now) U.encoding (U.units units) (U.units parts.0) (U.units parts.1)) result }
+    ensures { AnswersOf (N.made_form normalizer.now) (decoded_in U.encoding (U.units units)) (λ parts. IsSplitAtCut
+        (N.made_form normalizer.now) U.encoding (U.units units) (U.units parts.0) (U.units parts.1)) result }
 {
     let place = offset_of_cut(normalizer, units)?;
     Ok((units.before(place), units.after(place)))
@@ -54,8 +54,8 @@ impl<F: Forming> NormalizerBorrowed<F> {
     /// let (kept, rest) = normalizer.split_normalized(&text)?;
     /// ```
     pub fn split_normalized<'t>(&self, text: &'t str) -> Result<(&'t str, &'t str), NormalizeError>
-        ensures { AnswersOf (F.made self.now.form) (chars text.now)
-            (λ parts. IsTextSplitAtCut (F.made self.now.form) text.now parts.0.now parts.1.now) result }
+        ensures { AnswersOf (F.made_form self.now.form) (chars text.now)
+            (λ parts. IsTextSplitAtCut (F.made_form self.now.form) text.now parts.0.now parts.1.now) result }
     {
         split_at_cut(&self.form, text)
     }
@@ -69,8 +69,8 @@ impl<F: Forming> NormalizerBorrowed<F> {
         &self,
         bytes: &'t [u8],
     ) -> Result<(&'t str, &'t [u8]), NormalizeError>
-        ensures { AnswersOf (F.made self.now.form) (decoded_utf8 bytes.now)
-            (λ parts. IsSplitAtCut (F.made self.now.form) Encoding.Utf8 bytes.now parts.0.now parts.1.now) result }
+        ensures { AnswersOf (F.made_form self.now.form) (decoded_utf8 bytes.now)
+            (λ parts. IsSplitAtCut (F.made_form self.now.form) Encoding.Utf8 bytes.now parts.0.now parts.1.now) result }
     {
         let (prefix, rest) = split_at_cut(&self.form, bytes)?;
         Ok((text_of(prefix), rest))
@@ -85,8 +85,8 @@ impl<F: Forming> NormalizerBorrowed<F> {
         &self,
         units: &'t [u16],
     ) -> Result<(&'t [u16], &'t [u16]), NormalizeError>
-        ensures { AnswersOf (F.made self.now.form) (decoded_utf16 units.now)
-            (λ parts. IsSplitAtCut (F.made self.now.form) Encoding.Utf16 units.now parts.0.now parts.1.now) result }
+        ensures { AnswersOf (F.made_form self.now.form) (decoded_utf16 units.now) (λ parts.
+            IsSplitAtCut (F.made_form self.now.form) Encoding.Utf16 units.now parts.0.now parts.1.now) result }
     {
         split_at_cut(&self.form, units)
     }

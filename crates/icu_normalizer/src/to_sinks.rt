@@ -27,8 +27,8 @@ impl<F: Forming> NormalizerBorrowed<F> {
     /// normalizer.normalize_to(text, &mut form)?;
     /// ```
     pub fn normalize_to<W: Write>(&self, text: &str, sink: &mut W) -> Result<(), NormalizeError>
-        ensures { WritesForm Encoding.Utf8 W.taken W.refused W.left (F.made self.now.form) (chars text.now)
-            sink.old result sink.new }
+        ensures { WritesForm Encoding.Utf8 W.text_taken W.refusal W.refusal_effect (F.made_form self.now.form)
+            (chars text.now) sink.old result sink.new }
     {
         form_to(&self.form, text, sink)
     }
@@ -53,8 +53,8 @@ impl<F: Forming> NormalizerBorrowed<F> {
         bytes: &[u8],
         sink: &mut W,
     ) -> Result<(), NormalizeError>
-        ensures { WritesForm Encoding.Utf8 W.taken W.refused W.left (F.made self.now.form) (decoded_utf8 bytes.now)
-            sink.old result sink.new }
+        ensures { WritesForm Encoding.Utf8 W.text_taken W.refusal W.refusal_effect (F.made_form self.now.form)
+            (decoded_utf8 bytes.now) sink.old result sink.new }
     {
         form_to(&self.form, bytes, sink)
     }
@@ -79,9 +79,9 @@ impl<F: Forming> NormalizerBorrowed<F> {
         units: &[u16],
         sink: &mut W,
     ) -> Result<(), NormalizeError>
-        ensures form { WritesForm Encoding.Utf16 W.taken W.refused W.left (F.made self.now.form)
+        ensures form { WritesForm Encoding.Utf16 W.text_taken W.refusal W.refusal_effect (F.made_form self.now.form)
             (decoded_utf16 units.now) sink.old result sink.new }
-        ensures first { TellsLengthFirst W.taken W.hinted (length units.now) sink.old result sink.new }
+        ensures first { TellsLengthFirst W.text_taken W.length_hint (length units.now) sink.old result sink.new }
     {
         form_to(&self.form, units, sink)
     }

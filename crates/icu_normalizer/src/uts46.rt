@@ -54,10 +54,10 @@ impl Uts46Mapper {
             + DataProvider<NormalizerNfkdTablesV1>
             + DataProvider<NormalizerNfcV1>,
         ensures { AnswersHeld SuitsComposing RefusesToCompose DataMarkerInfo.NormalizerUts46DataV1 mapper_data_of
-            (uts46_data (⟦<P as DataProvider<NormalizerUts46DataV1>>⟧.held provider.now)
-            (⟦<P as DataProvider<NormalizerNfdTablesV1>>⟧.held provider.now)
-            (⟦<P as DataProvider<NormalizerNfkdTablesV1>>⟧.held provider.now)
-            (⟦<P as DataProvider<NormalizerNfcV1>>⟧.held provider.now)) result }
+            (uts46_data (⟦<P as DataProvider<NormalizerUts46DataV1>>⟧.payload provider.now)
+            (⟦<P as DataProvider<NormalizerNfdTablesV1>>⟧.payload provider.now)
+            (⟦<P as DataProvider<NormalizerNfkdTablesV1>>⟧.payload provider.now)
+            (⟦<P as DataProvider<NormalizerNfcV1>>⟧.payload provider.now)) result }
     {
         let decompositions = <P as DataProvider<NormalizerUts46DataV1>>::load(provider)?;
         let tables = <P as DataProvider<NormalizerNfdTablesV1>>::load(provider)?;

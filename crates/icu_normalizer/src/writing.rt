@@ -4,7 +4,7 @@ ghost use Rattle.std.specs.Prelude.{Err, IfErr, IfOk, IfSome, IsErrOf, IsOk, IsO
 ghost use Rattle.std.specs.Iterator.{IsFinite};
 ghost use Rattle.normalizer_text.specs.Encodings.{first_in};
 ghost use Rattle.normalizer_iterators.specs.Items.{SpellsOk, SpellsUnless};
-ghost use Rattle.normalizer_iterators.specs.MarkRun.{left};
+ghost use Rattle.normalizer_iterators.specs.CharactersLeft.{characters_left};
 ghost use Rattle.icu_normalizer.specs.Forms.{form_in, HasShortUnits};
 ghost use Rattle.icu_normalizer.specs.inner.Offences.{IsFirstOrNone};
 ghost use Rattle.icu_normalizer.specs.inner.PassthroughRuns.{IsSegmentEnd};
@@ -96,7 +96,7 @@ fn write_text<U: Units, O: Output<U>>(text: &[char], output: &mut O) -> Result<(
 fn form_of_pair<U: Units, N: Forming>(normalizer: &N, units: U, first: Step) -> Option<char>
     requires some { 0 < length (U.units units) }
     requires first { first ≡ first_in U.encoding (U.units units) }
-    ensures { IfSome result (λ c. form_in (N.made normalizer.now) U.encoding (U.units units) ≡ c ∷ []) }
+    ensures { IfSome result (λ c. form_in (N.made_form normalizer.now) U.encoding (U.units units) ≡ c ∷ []) }
 {
     if first.width >= units.len() {
         return None;
@@ -113,7 +113,7 @@ fn write_marks<U: Units, O: Output<U>>(
     mut run: MarkRun,
     output: &mut O,
 ) -> Result<(), NormalizeError>
-    ensures text { WritesText U.encoding O.Output NothingOffered (left run) output.old result output.new }
+    ensures text { WritesText U.encoding O.Output NothingOffered (characters_left run) output.old result output.new }
     ensures room { ¬ IsErrOf result NormalizeError.Memory }
 {
     while let Some(character) = run.pop_front() {
@@ -134,8 +134,8 @@ fn write_long<U: Units, N: Forming, O: Output<U>>(
     requires some { 0 < length (U.units units) }
     requires first { first ≡ first_in U.encoding (U.units units) }
     ensures text { WritesText U.encoding O.Output NothingOffered
-        (form_in (N.made normalizer.now) U.encoding (U.units units)) output.old result output.new }
-    ensures room { HasShortUnits (N.made normalizer.now) U.encoding (U.units units) →
+        (form_in (N.made_form normalizer.now) U.encoding (U.units units)) output.old result output.new }
+    ensures room { HasShortUnits (N.made_form normalizer.now) U.encoding (U.units units) →
         ¬ IsErrOf result NormalizeError.Memory }
 {
     if let Some(run) = normalizer.mark_run(units, first) {
@@ -156,8 +156,8 @@ fn write_segment<U: Units, N: Forming, O: Output<U>>(
     requires some { 0 < length (U.units units) }
     requires first { first ≡ first_in U.encoding (U.units units) }
     ensures text { WritesText U.encoding O.Output NothingOffered
-        (form_in (N.made normalizer.now) U.encoding (U.units units)) output.old result output.new }
-    ensures room { HasShortUnits (N.made normalizer.now) U.encoding (U.units units) →
+        (form_in (N.made_form normalizer.now) U.encoding (U.units units)) output.old result output.new }
+    ensures room { HasShortUnits (N.made_form normalizer.now) U.encoding (U.units units) →
         ¬ IsErrOf result NormalizeError.Memory }
 {
     if first.width == units.len() {
@@ -181,9 +181,9 @@ fn write_run<U: Units, N: Forming, O: Output<U>>(
     output: &mut O,
 ) -> Result<usize, NormalizeError>
     ensures none { IfOk result (λ end. end ≡ 0 → output.new ≡ output.old) }
-    ensures part { IfOk result (λ end. 0 < end → WritesPart U.encoding O.Output (N.made normalizer.now)
+    ensures part { IfOk result (λ end. 0 < end → WritesPart U.encoding O.Output (N.made_form normalizer.now)
         (U.units units) output.old end output.new) }
-    ensures refused { IfErr result (λ fault. WritesUnits U.encoding O.Output (N.made normalizer.now)
+    ensures refused { IfErr result (λ fault. WritesUnits U.encoding O.Output (N.made_form normalizer.now)
         (U.units units) output.old (Err fault) output.new) }
     ensures room { ¬ IsErrOf result NormalizeError.Memory }
 {
@@ -210,11 +210,11 @@ fn write_front_segment<U: Units, N: Forming, O: Output<U>>(
         U.encoding (U.units units) segment.end) }
     ensures next { IfOk result (λ segment. IfSome segment.next
         (λ next. next ≡ first_in U.encoding (drop segment.end (U.units units)))) }
-    ensures part { IfOk result (λ segment. WritesPart U.encoding O.Output (N.made normalizer.now)
+    ensures part { IfOk result (λ segment. WritesPart U.encoding O.Output (N.made_form normalizer.now)
         (U.units units) output.old segment.end output.new) }
-    ensures refused { IfErr result (λ fault. WritesUnits U.encoding O.Output (N.made normalizer.now)
+    ensures refused { IfErr result (λ fault. WritesUnits U.encoding O.Output (N.made_form normalizer.now)
         (U.units units) output.old (Err fault) output.new) }
-    ensures room { HasShortUnits (N.made normalizer.now) U.encoding (U.units units) →
+    ensures room { HasShortUnits (N.made_form normalizer.now) U.encoding (U.units units) →
         ¬ IsErrOf result NormalizeError.Memory }
 {
     normalizer.passthrough_is_normalized_apart();
@@ -230,26 +230,24 @@ fn write_front_segment<U: Units, N: Forming, O: Output<U>>(
     Ok(segment)
 }
 
-/// Writes the form of what the units decode to: runs, and the segments between them.
-fn write_parts<U: Units, N: Forming, O: Output<U>>(
+/// Writes the form of what the units decode to, from a segment at their front on: segments, and the runs between them.
+/// (The buffers are borrowed, so that no way out of the loop drops them.)
+fn write_segments<U: Units, N: Forming, O: Output<U>>(
     normalizer: &N,
     units: U,
+    buffers: &mut SegmentBuffers,
     output: &mut O,
 ) -> Result<(), NormalizeError>
-    ensures text { WritesUnits U.encoding O.Output (N.made normalizer.now) (U.units units)
+    ensures text { WritesUnits U.encoding O.Output (N.made_form normalizer.now) (U.units units)
         output.old result output.new }
-    ensures room { HasShortUnits (N.made normalizer.now) U.encoding (U.units units) →
+    ensures room { HasShortUnits (N.made_form normalizer.now) U.encoding (U.units units) →
         ¬ IsErrOf result NormalizeError.Memory }
 {
-    let mut position = write_run(normalizer, units, output)?;
-    if position == units.len() {
-        return Ok(());
-    }
-    let mut buffers = normalizer.segment_buffers();
+    let mut position = 0;
     let mut first = None;
     while position < units.len() {
         let rest = units.after(position);
-        let segment = write_front_segment(normalizer, rest, first, &mut buffers, output)?;
+        let segment = write_front_segment(normalizer, rest, first, buffers, output)?;
         position += segment.end;
         first = segment.next;
         if segment.is_before_run {
@@ -260,17 +258,36 @@ fn write_parts<U: Units, N: Forming, O: Output<U>>(
     Ok(())
 }
 
+/// Writes the form of what the units decode to: runs, and the segments between them.
+fn write_parts<U: Units, N: Forming, O: Output<U>>(
+    normalizer: &N,
+    units: U,
+    output: &mut O,
+) -> Result<(), NormalizeError>
+    ensures text { WritesUnits U.encoding O.Output (N.made_form normalizer.now) (U.units units)
+        output.old result output.new }
+    ensures room { HasShortUnits (N.made_form normalizer.now) U.encoding (U.units units) →
+        ¬ IsErrOf result NormalizeError.Memory }
+{
+    let position = write_run(normalizer, units, output)?;
+    if position == units.len() {
+        return Ok(());
+    }
+    let mut buffers = normalizer.segment_buffers();
+    write_segments(normalizer, units.after(position), &mut buffers, output)
+}
+
 /// Writes the form of what the units decode to. The output first receives the number of units.
 pub(crate) fn form_to<U: Units, N: Forming, O: Output<U>>(
     normalizer: &N,
     units: U,
     output: &mut O,
 ) -> Result<(), NormalizeError>
-    ensures text { WritesUnits U.encoding O.Output (N.made normalizer.now) (U.units units)
+    ensures text { WritesUnits U.encoding O.Output (N.made_form normalizer.now) (U.units units)
         output.old result output.new }
-    ensures room { HasShortUnits (N.made normalizer.now) U.encoding (U.units units) →
+    ensures room { HasShortUnits (N.made_form normalizer.now) U.encoding (U.units units) →
         ¬ IsErrOf result NormalizeError.Memory }
-    ensures first { TellsLengthFirst O.taken O.hinted (length (U.units units)) output.old result output.new }
+    ensures first { TellsLengthFirst O.text_taken O.length_hint (length (U.units units)) output.old result output.new }
 {
     output.begin(units.len())?;
     write_parts(normalizer, units, output)

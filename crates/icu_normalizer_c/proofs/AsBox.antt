@@ -8,7 +8,7 @@ use Rattle.std_heap.specs.contracts.GlobalAllocator.TheImpl.{ghosts, dict}
 use Rattle.std_heap.proofs.Global.TheLaws as heap
 use Rattle.icu_normalizer_c.specs.contracts.normalizers.Normalizers as Normalizers
 use Rattle.icu_normalizer_c.proofs.normalizers.Normalizers.TheLaws as normalizers
-use Rattle.icu_normalizer_c.specs.contracts.parts.Parts as Parts
+use Rattle.icu_normalizer_c.specs.contracts.box_parts.Parts as Parts
 use Rattle.icu_normalizer_c.specs.contracts.slot.Slot as Slots
 
 abbrev pub E : Bx

@@ -20,7 +20,7 @@ use Rattle.icu_normalizer_c.specs.declared.mismatch.Mismatch.{Mismatch}
 use Rattle.icu_normalizer_c.specs.declared.normalizers.Normalizers.{Normalizers}
 use Rattle.icu_normalizer_c.specs.Buffers.{Fills, Reports}
 use Rattle.icu_normalizer_c.specs.Defects.{defect_after}
-use Rattle.icu_normalizer_c.specs.Forms.{last_form, number_of}
+use Rattle.icu_normalizer_c.specs.FormNumbers.{last_form, number_of}
 use Rattle.icu_normalizer_c.specs.Made.{made_in}
 use Rattle.icu_normalizer_c.specs.Mismatches.{mismatch_of}
 use Rattle.icu_normalizer_c.specs.Status.{status_of}
@@ -35,8 +35,8 @@ IsStatusReporting number before after Is =
     (outcome : Result ⊤ Fault) × (number ≡ status_of outcome) × (after ≡ defect_after outcome before) × Is outcome
 
 -- the normalizers of a handle, or none
-abbrev pub held : Handle → Option Normalizers
-held h = h.slot.value
+abbrev pub held_normalizers : Handle → Option Normalizers
+held_normalizers h = h.slot.value
 
 -- the form that the normalizers make and that has the number
 abbrev pub IsNumbered : Normalizers → (number : ℕ) → MadeForm → Type 0

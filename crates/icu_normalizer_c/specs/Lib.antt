@@ -1,7 +1,7 @@
 pub mod Buffers
 pub mod Calls
 pub mod Defects
-pub mod Forms
+pub mod FormNumbers
 pub mod Made
 pub mod Mismatches
 pub mod Opening

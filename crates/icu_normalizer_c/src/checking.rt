@@ -2,7 +2,7 @@
 ghost use Rattle.std.specs.Prelude.{◌≡◌, ◌↔◌, IsTrue};
 ghost use Rattle.normalizer_text.specs.InputCut.{IsInputCut, IsInputNormalized};
 ghost use Rattle.normalizer_text.specs.Encodings.{Encoding};
-ghost use Rattle.icu_normalizer_c.specs.Calls.{held, IsStatus, Over, ReportsCut, ReportsNormalized};
+ghost use Rattle.icu_normalizer_c.specs.Calls.{held_normalizers, IsStatus, Over, ReportsCut, ReportsNormalized};
 
 use crate::handle::Handle;
 use crate::normalizers::Normalizer;
@@ -100,9 +100,9 @@ pub extern "C" fn icu_normalizer_is_normalized_utf8_nonnull(
     input: &[u8],
     reported: &mut bool,
 ) -> u32
-    ensures status { IsStatus result (Over (held handle.old) form (reported.new ≡ reported.old)
+    ensures status { IsStatus result (Over (held_normalizers handle.old) form (reported.new ≡ reported.old)
         (ReportsNormalized Encoding.Utf8 input.now reported.old reported.new)) }
-    ensures kept { held handle.new ≡ held handle.old }
+    ensures kept { held_normalizers handle.new ≡ held_normalizers handle.old }
 {
     report(alloc, handle, form, &IsNormalized(input), reported)
 }
@@ -119,9 +119,9 @@ pub extern "C" fn icu_normalizer_is_normalized_utf16_nonnull(
     input: &[u16],
     reported: &mut bool,
 ) -> u32
-    ensures status { IsStatus result (Over (held handle.old) form (reported.new ≡ reported.old)
+    ensures status { IsStatus result (Over (held_normalizers handle.old) form (reported.new ≡ reported.old)
         (ReportsNormalized Encoding.Utf16 input.now reported.old reported.new)) }
-    ensures kept { held handle.new ≡ held handle.old }
+    ensures kept { held_normalizers handle.new ≡ held_normalizers handle.old }
 {
     report(alloc, handle, form, &IsNormalized(input), reported)
 }
@@ -139,9 +139,9 @@ pub extern "C" fn icu_normalizer_split_utf8_nonnull(
     input: &[u8],
     reported: &mut usize,
 ) -> u32
-    ensures status { IsStatus result (Over (held handle.old) form (reported.new ≡ reported.old)
+    ensures status { IsStatus result (Over (held_normalizers handle.old) form (reported.new ≡ reported.old)
         (ReportsCut Encoding.Utf8 input.now reported.old reported.new)) }
-    ensures kept { held handle.new ≡ held handle.old }
+    ensures kept { held_normalizers handle.new ≡ held_normalizers handle.old }
 {
     report(alloc, handle, form, &Cut(input), reported)
 }
@@ -159,9 +159,9 @@ pub extern "C" fn icu_normalizer_split_utf16_nonnull(
     input: &[u16],
     reported: &mut usize,
 ) -> u32
-    ensures status { IsStatus result (Over (held handle.old) form (reported.new ≡ reported.old)
+    ensures status { IsStatus result (Over (held_normalizers handle.old) form (reported.new ≡ reported.old)
         (ReportsCut Encoding.Utf16 input.now reported.old reported.new)) }
-    ensures kept { held handle.new ≡ held handle.old }
+    ensures kept { held_normalizers handle.new ≡ held_normalizers handle.old }
 {
     report(alloc, handle, form, &Cut(input), reported)
 }

@@ -1,6 +1,6 @@
 //! The numbers of the forms.
 ghost use Rattle.std.specs.Prelude.{◌≡◌, ◌<◌, MatchOption};
-ghost use Rattle.icu_normalizer_c.specs.Forms.{last_form, number_of};
+ghost use Rattle.icu_normalizer_c.specs.FormNumbers.{last_form, number_of};
 
 use normalizer_built::NormalForm;
 

@@ -1,8 +1,8 @@
 //! What C keeps of normalizers that it opened.
 ghost use Rattle.std.specs.Prelude.{◌≡◌, ◌↔◌, Some, None, IsTrue, IsSome, MatchOption};
 
+use crate::box_parts::Parts;
 use crate::normalizers::Normalizers;
-use crate::parts::Parts;
 use crate::slot::Slot;
 use std::alloc::Global;
 
@@ -16,10 +16,10 @@ pub struct Handle {
 }
 
 impl Handle {
-    ghost use Rattle.icu_normalizer_c.specs.Calls.{held};
+    ghost use Rattle.icu_normalizer_c.specs.Calls.{held_normalizers};
 
     fn of(alloc: Global, value: Option<Box<Normalizers>>) -> Handle
-        ensures { MatchOption value (held result ≡ None) (λ b. held result ≡ Some b.value) }
+        ensures { MatchOption value (held_normalizers result ≡ None) (λ b. held_normalizers result ≡ Some b.value) }
     {
         match value {
             Some(value) => Handle {
@@ -34,7 +34,7 @@ impl Handle {
     }
 
     fn into_box(self) -> Option<Box<Normalizers>>
-        ensures { MatchOption result (held self ≡ None) (λ b. held self ≡ Some b.value) }
+        ensures { MatchOption result (held_normalizers self ≡ None) (λ b. held_normalizers self ≡ Some b.value) }
     {
         let Handle { slot, is_open } = self;
         if is_open {
@@ -50,23 +50,26 @@ impl Handle {
         alloc: Global,
         value: Option<Box<Normalizers>>,
     ) -> Option<Box<Normalizers>>
-        ensures was { MatchOption result (held self.old ≡ None) (λ b. held self.old ≡ Some b.value) }
-        ensures is { MatchOption value (held self.new ≡ None) (λ b. held self.new ≡ Some b.value) }
+        ensures was { MatchOption result (held_normalizers self.old ≡ None)
+            (λ b. held_normalizers self.old ≡ Some b.value) }
+        ensures is { MatchOption value (held_normalizers self.new ≡ None)
+            (λ b. held_normalizers self.new ≡ Some b.value) }
     {
         std::mem::replace(self, Handle::of(alloc, value)).into_box()
     }
 
     /// Takes the normalizers out of the handle.
     pub(crate) fn take(&mut self, alloc: Global) -> Option<Box<Normalizers>>
-        ensures was { MatchOption result (held self.old ≡ None) (λ b. held self.old ≡ Some b.value) }
-        ensures is { held self.new ≡ None }
+        ensures was { MatchOption result (held_normalizers self.old ≡ None)
+            (λ b. held_normalizers self.old ≡ Some b.value) }
+        ensures is { held_normalizers self.new ≡ None }
     {
         self.replace(alloc, None)
     }
 
     /// Puts normalizers into the handle, and drops those that were there.
     pub(crate) fn put(&mut self, alloc: Global, normalizers: Box<Normalizers>)
-        ensures { held self.new ≡ Some normalizers.value }
+        ensures { held_normalizers self.new ≡ Some normalizers.value }
     {
         self.replace(alloc, Some(normalizers));
     }

@@ -1,6 +1,7 @@
 //! The calls of `icu_normalizer` for C: `include/icu_normalizer.h` declares them.
 #![tactic(auto)]
 
+mod box_parts;
 mod buffer;
 mod checking;
 mod defect;
@@ -11,7 +12,6 @@ mod mapping;
 mod mismatch;
 mod normalizers;
 mod opening;
-mod parts;
 mod plain_records;
 mod question;
 mod slot;

@@ -4,7 +4,7 @@ ghost use Rattle.icu_normalizer.specs.Mappers.{mapper_data_of_borrowed};
 ghost use Rattle.normalizer_text.specs.Encodings.{Encoding, decoded_in, encoded_in};
 ghost use Rattle.normalizer_text.specs.Utf16.{encode_utf16_all};
 ghost use Rattle.normalizer_built.specs.Mapping.{mapped_in};
-ghost use Rattle.icu_normalizer_c.specs.Calls.{held, AtMapper, IsStatus, OverMapper, WritesMapped};
+ghost use Rattle.icu_normalizer_c.specs.Calls.{held_normalizers, AtMapper, IsStatus, OverMapper, WritesMapped};
 
 use crate::buffer::fill;
 use crate::fault::Fault;
@@ -80,10 +80,10 @@ pub extern "C" fn icu_normalizer_map_utf8_nonnull(
     output: &mut [u8],
     needed: &mut usize,
 ) -> u32
-    ensures status { IsStatus result (OverMapper (held handle.old)
+    ensures status { IsStatus result (OverMapper (held_normalizers handle.old)
         ((output.new ≡ output.old) × (needed.new ≡ needed.old))
         (WritesMapped Encoding.Utf8 IgnoredCharacters.Dropped input.now output.old output.new needed.old needed.new)) }
-    ensures kept { held handle.new ≡ held handle.old }
+    ensures kept { held_normalizers handle.new ≡ held_normalizers handle.old }
 {
     let ignored = IgnoredCharacters::Dropped;
     write(alloc, handle, &Mapped { ignored, input }, output, needed)
@@ -103,10 +103,10 @@ pub extern "C" fn icu_normalizer_validate_utf8_nonnull(
     output: &mut [u8],
     needed: &mut usize,
 ) -> u32
-    ensures status { IsStatus result (OverMapper (held handle.old)
+    ensures status { IsStatus result (OverMapper (held_normalizers handle.old)
         ((output.new ≡ output.old) × (needed.new ≡ needed.old))
         (WritesMapped Encoding.Utf8 IgnoredCharacters.Replaced input.now output.old output.new needed.old needed.new)) }
-    ensures kept { held handle.new ≡ held handle.old }
+    ensures kept { held_normalizers handle.new ≡ held_normalizers handle.old }
 {
     let ignored = IgnoredCharacters::Replaced;
     write(alloc, handle, &Mapped { ignored, input }, output, needed)
@@ -126,10 +126,10 @@ pub extern "C" fn icu_normalizer_map_utf16_nonnull(
     output: &mut [u16],
     needed: &mut usize,
 ) -> u32
-    ensures status { IsStatus result (OverMapper (held handle.old)
+    ensures status { IsStatus result (OverMapper (held_normalizers handle.old)
         ((output.new ≡ output.old) × (needed.new ≡ needed.old))
         (WritesMapped Encoding.Utf16 IgnoredCharacters.Dropped input.now output.old output.new needed.old needed.new)) }
-    ensures kept { held handle.new ≡ held handle.old }
+    ensures kept { held_normalizers handle.new ≡ held_normalizers handle.old }
 {
     let ignored = IgnoredCharacters::Dropped;
     write(alloc, handle, &Mapped { ignored, input }, output, needed)
@@ -149,11 +149,11 @@ pub extern "C" fn icu_normalizer_validate_utf16_nonnull(
     output: &mut [u16],
     needed: &mut usize,
 ) -> u32
-    ensures status { IsStatus result (OverMapper (held handle.old)
+    ensures status { IsStatus result (OverMapper (held_normalizers handle.old)
         ((output.new ≡ output.old) × (needed.new ≡ needed.old))
         (WritesMapped Encoding.Utf16 IgnoredCharacters.Replaced input.now output.old output.new
         needed.old needed.new)) }
-    ensures kept { held handle.new ≡ held handle.old }
+    ensures kept { held_normalizers handle.new ≡ held_normalizers handle.old }
 {
     let ignored = IgnoredCharacters::Replaced;
     write(alloc, handle, &Mapped { ignored, input }, output, needed)

@@ -1,7 +1,7 @@
 //! The first mismatches of inputs.
 ghost use Rattle.std.specs.Prelude.{◌≡◌, Option};
 ghost use Rattle.normalizer_text.specs.Encodings.{Encoding};
-ghost use Rattle.icu_normalizer_c.specs.Calls.{held, IsStatus, Over, ReportsMismatch};
+ghost use Rattle.icu_normalizer_c.specs.Calls.{held_normalizers, IsStatus, Over, ReportsMismatch};
 ghost use Rattle.icu_normalizer.specs.Checks.{IsLastingOffence};
 ghost use Rattle.normalizer_text.specs.declared.offence.Offence.{Offence};
 ghost use Rattle.icu_normalizer_c.specs.Mismatches.{mismatch_of};
@@ -103,9 +103,9 @@ pub extern "C" fn icu_normalizer_first_mismatch_utf8_nonnull(
     input: &[u8],
     reported: &mut Mismatch,
 ) -> u32
-    ensures status { IsStatus result (Over (held handle.old) form (reported.new ≡ reported.old)
+    ensures status { IsStatus result (Over (held_normalizers handle.old) form (reported.new ≡ reported.old)
         (ReportsMismatch Encoding.Utf8 input.now reported.old reported.new)) }
-    ensures kept { held handle.new ≡ held handle.old }
+    ensures kept { held_normalizers handle.new ≡ held_normalizers handle.old }
 {
     report(alloc, handle, form, &FirstMismatch(input), reported)
 }
@@ -123,9 +123,9 @@ pub extern "C" fn icu_normalizer_first_mismatch_utf16_nonnull(
     input: &[u16],
     reported: &mut Mismatch,
 ) -> u32
-    ensures status { IsStatus result (Over (held handle.old) form (reported.new ≡ reported.old)
+    ensures status { IsStatus result (Over (held_normalizers handle.old) form (reported.new ≡ reported.old)
         (ReportsMismatch Encoding.Utf16 input.now reported.old reported.new)) }
-    ensures kept { held handle.new ≡ held handle.old }
+    ensures kept { held_normalizers handle.new ≡ held_normalizers handle.old }
 {
     report(alloc, handle, form, &FirstMismatch(input), reported)
 }

@@ -4,7 +4,7 @@ ghost use Rattle.normalizer_builder.specs.Building.{Builds};
 ghost use Rattle.normalizer_builder.specs.Built.{AreBuilt, data_in};
 ghost use Rattle.normalizer_records.specs.RecordValue.{RecordValue};
 ghost use Rattle.icu_normalizer_c.specs.Calls.{IsNumbered};
-ghost use Rattle.icu_normalizer_c.specs.Forms.{last_form};
+ghost use Rattle.icu_normalizer_c.specs.FormNumbers.{last_form};
 ghost use Rattle.icu_normalizer_c.specs.declared.fault.Fault.TheVariants.{UnknownForm};
 ghost use Rattle.icu_normalizer_c.specs.Made.{made_by, made_in, MakeBy, MapBy};
 

@@ -1,6 +1,6 @@
 //! Opening and closing.
 ghost use Rattle.std.specs.Prelude.{◌≡◌, [], MatchResult, None, Ok};
-ghost use Rattle.icu_normalizer_c.specs.Calls.{held, IsStatus, IsStatusReporting};
+ghost use Rattle.icu_normalizer_c.specs.Calls.{held_normalizers, IsStatus, IsStatusReporting};
 ghost use Rattle.icu_normalizer_c.specs.Made.{MakeBy, MapBy};
 ghost use Rattle.icu_normalizer_c.specs.Opening.{
   both,
@@ -34,7 +34,7 @@ pub extern "C" fn icu_normalizer_open_unicode_data_nonnull(
     exclusions: &[u8],
 ) -> u32
     ensures { IsStatus result (Opens (both (of_unicode_data unicode_data.now exclusions.now) (Ok []))
-        (held handle.old) (held handle.new)) }
+        (held_normalizers handle.old) (held_normalizers handle.new)) }
 {
     status(open_unicode_data(alloc, handle, unicode_data, exclusions))
 }
@@ -46,7 +46,7 @@ fn open_unicode_data(
     exclusions: &[u8],
 ) -> Result<(), Fault>
     ensures { Opens (both (of_unicode_data unicode_data.now exclusions.now) (Ok []))
-        (held handle.old) (held handle.new) result }
+        (held_normalizers handle.old) (held_normalizers handle.new) result }
 {
     let records = unicode_data_records(alloc, unicode_data, exclusions)?;
     open(alloc, handle, &records, &[])
@@ -70,7 +70,7 @@ pub extern "C" fn icu_normalizer_open_files_nonnull(
 ) -> u32
     ensures { IsStatusReporting result defect.old defect.new (Opens
         (both (of_unicode_data unicode_data.now exclusions.now) (of_idna_table idna_table.now disallowed_limit))
-        (held handle.old) (held handle.new)) }
+        (held_normalizers handle.old) (held_normalizers handle.new)) }
 {
     let outcome = open_files(
         alloc,
@@ -93,7 +93,7 @@ fn open_files(
 ) -> Result<(), Fault>
     ensures { Opens
         (both (of_unicode_data unicode_data.now exclusions.now) (of_idna_table idna_table.now disallowed_limit))
-        (held handle.old) (held handle.new) result }
+        (held_normalizers handle.old) (held_normalizers handle.new) result }
 {
     let records = unicode_data_records(alloc, unicode_data, exclusions)?;
     let mapper = idna_table_records(alloc, idna_table, disallowed_limit)?;
@@ -117,7 +117,7 @@ pub extern "C" fn icu_normalizer_open_records_nonnull(
 ) -> u32
     ensures { IsStatusReporting result defect.old defect.new (Opens
         (both (entries_of codes.now records.now) (mapper_entries_of codes.now mapper_records.now))
-        (held handle.old) (held handle.new)) }
+        (held_normalizers handle.old) (held_normalizers handle.new)) }
 {
     let outcome = open_records(alloc, handle, records, mapper_records, codes);
     status_reporting(outcome, defect)
@@ -131,17 +131,17 @@ fn open_records(
     codes: &[u32],
 ) -> Result<(), Fault>
     ensures { Opens (both (entries_of codes.now records.now) (mapper_entries_of codes.now mapper_records.now))
-        (held handle.old) (held handle.new) result }
+        (held_normalizers handle.old) (held_normalizers handle.new) result }
 {
-    let records = records_of_plain(alloc, codes, records)?;
-    let mapper = records_of_plain(alloc, codes, mapper_records)?;
+    let records = plain_records(alloc, codes, records)?;
+    let mapper = plain_mapper_records(alloc, codes, mapper_records)?;
     open(alloc, handle, &records, &mapper)
 }
 
 /// Closes what the handle has, if it has normalizers.
 #[unsafe(no_mangle)]
 pub extern "C" fn icu_normalizer_close(alloc: Global, handle: &mut Handle)
-    ensures { held handle.new ≡ None }
+    ensures { held_normalizers handle.new ≡ None }
 {
     handle.take(alloc);
 }
@@ -167,6 +167,26 @@ fn idna_table_records(
     Ok(uts46_records_of_idna_table(alloc, idna_table, disallowed)?)
 }
 
+fn plain_records(
+    alloc: Global,
+    codes: &[u32],
+    records: &[PlainRecord],
+) -> Result<Vec<Record>, Fault>
+    ensures { Reads (λ v. v.items) result (entries_of codes.now records.now) }
+{
+    records_of_plain(alloc, codes, records)
+}
+
+fn plain_mapper_records(
+    alloc: Global,
+    codes: &[u32],
+    records: &[PlainMapperRecord],
+) -> Result<Vec<Uts46Record>, Fault>
+    ensures { Reads (λ v. v.items) result (mapper_entries_of codes.now records.now) }
+{
+    records_of_plain(alloc, codes, records)
+}
+
 /// Opens what records build.
 fn open(
     alloc: Global,
@@ -174,7 +194,7 @@ fn open(
     records: &[Record],
     mapper: &[Uts46Record],
 ) -> Result<(), Fault>
-    ensures { Opens (Ok (records.now, mapper.now)) (held handle.old) (held handle.new) result }
+    ensures { Opens (Ok (records.now, mapper.now)) (held_normalizers handle.old) (held_normalizers handle.new) result }
 {
     let normalizers = normalizers_of(alloc, records, mapper)?;
     match Box::new(alloc, normalizers) {

@@ -62,7 +62,7 @@ pub(crate) trait Plain: Copy {
     ghost is_wrong: { List ℕ → Self → Bool };
 
     /// What it says.
-    ghost said: { List ℕ → Self → Self.Read };
+    ghost entry: { List ℕ → Self → Self.Read };
 
     /// The fault if the record after so many is wrong.
     ghost fault: { ℕ → Fault };
@@ -71,7 +71,7 @@ pub(crate) trait Plain: Copy {
         ensures { result ≡ is_wrong codes.now self.now };
 
     fn read(&self, alloc: Global, codes: &[u32]) -> Result<Self::Read, AllocError>
-        ensures { IfOk result (λ r. r ≡ said codes.now self.now) };
+        ensures { IfOk result (λ r. r ≡ entry codes.now self.now) };
 
     fn fault(index: usize) -> Fault
         ensures { result ≡ fault index };
@@ -82,7 +82,7 @@ impl Plain for PlainRecord {
 
     ghost is_wrong = { is_wrong };
 
-    ghost said = { entry_in };
+    ghost entry = { entry_in };
 
     ghost fault = { Fault.Record };
 
@@ -116,7 +116,7 @@ impl Plain for PlainMapperRecord {
 
     ghost is_wrong = { is_wrong_for_mapper };
 
-    ghost said = { mapper_entry_in };
+    ghost entry = { mapper_entry_in };
 
     ghost fault = { Fault.MapperRecord };
 
@@ -231,7 +231,7 @@ fn records_in<R: Plain>(
     codes: &[u32],
     records: &[R],
 ) -> Result<Vec<R::Read>, AllocError>
-    ensures { IfOk result (λ v. v.items ≡ map (R.said codes.now) records.now) }
+    ensures { IfOk result (λ v. v.items ≡ map (R.entry codes.now) records.now) }
 {
     let mut read = Vec::new(alloc);
     for record in records {
@@ -250,7 +250,7 @@ pub(crate) fn records_of_plain<R: Plain>(
     records: &[R],
 ) -> Result<Vec<R::Read>, Fault>
     ensures { Reads (λ v. v.items) result
-        (read_unless_wrong (R.is_wrong codes.now) (R.said codes.now) R.fault records.now) }
+        (read_unless_wrong (R.is_wrong codes.now) (R.entry codes.now) R.fault records.now) }
 {
     if let Some(index) = first_wrong(codes, records) {
         return Err(R::fault(index));

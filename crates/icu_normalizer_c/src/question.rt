@@ -4,7 +4,7 @@ ghost use Rattle.normalizer_text.specs.Encodings.{Encoding, decoded_in};
 ghost use Rattle.icu_normalizer.specs.Checks.{AnswersOf};
 ghost use Rattle.icu_normalizer.specs.Forms.{MadeForm};
 ghost use Rattle.icu_normalizer_c.specs.Buffers.{Reports};
-ghost use Rattle.icu_normalizer_c.specs.Calls.{held, AtForm, IsStatus, Over};
+ghost use Rattle.icu_normalizer_c.specs.Calls.{held_normalizers, AtForm, IsStatus, Over};
 ghost use Rattle.icu_normalizer_c.specs.Made.{made_by};
 
 use crate::fault::{Fault, status};
@@ -39,9 +39,9 @@ pub(crate) fn report<Q: Question>(
     question: &Q,
     reported: &mut Q::Answer,
 ) -> u32
-    ensures status { IsStatus result (Over (held handle.old) form (reported.new ≡ reported.old) (λ m.
+    ensures status { IsStatus result (Over (held_normalizers handle.old) form (reported.new ≡ reported.old) (λ m.
         Reports m Q.encoding (Q.units question.now) (Q.is question.now m) reported.old reported.new)) }
-    ensures kept { held handle.new ≡ held handle.old }
+    ensures kept { held_normalizers handle.new ≡ held_normalizers handle.old }
 {
     status(report_over(alloc, handle, form, question, reported))
 }
@@ -53,9 +53,9 @@ fn report_over<Q: Question>(
     question: &Q,
     reported: &mut Q::Answer,
 ) -> Result<(), Fault>
-    ensures over { Over (held handle.old) form (reported.new ≡ reported.old) (λ m.
+    ensures over { Over (held_normalizers handle.old) form (reported.new ≡ reported.old) (λ m.
         Reports m Q.encoding (Q.units question.now) (Q.is question.now m) reported.old reported.new) result }
-    ensures kept { held handle.new ≡ held handle.old }
+    ensures kept { held_normalizers handle.new ≡ held_normalizers handle.old }
 {
     let Some(normalizers) = handle.take(alloc) else {
         return Err(Fault::NotOpen);

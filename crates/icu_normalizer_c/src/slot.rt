@@ -3,8 +3,8 @@ ghost use Rattle.std.specs.Prelude.{◌≡◌, Option, Some, None, IsSome};
 ghost use Rattle.icu_normalizer_c.specs.declared.normalizers.Normalizers.{Normalizers};
 ghost use Rattle.icu_normalizer_c.specs.Slots.{slot_coded, slot_owns};
 
+use crate::box_parts::Parts;
 use crate::normalizers::Normalizers;
-use crate::parts::Parts;
 use std::alloc::{Allocator, Global};
 use std::marker::Model;
 

@@ -2,7 +2,7 @@
 ghost use Rattle.std.specs.Prelude.{◌≡◌, List, ⊤, Result};
 ghost use Rattle.icu_normalizer_c.specs.declared.fault.Fault.{Fault};
 ghost use Rattle.icu_normalizer_c.specs.Buffers.{Fills};
-ghost use Rattle.icu_normalizer_c.specs.Calls.{held, IsStatus, OverHeld};
+ghost use Rattle.icu_normalizer_c.specs.Calls.{held_normalizers, IsStatus, OverHeld};
 ghost use Rattle.icu_normalizer_c.specs.declared.normalizers.Normalizers.{Normalizers};
 
 use crate::fault::{Fault, status};
@@ -36,11 +36,11 @@ pub(crate) fn write<T: Text>(
     output: &mut [T::Unit],
     needed: &mut usize,
 ) -> u32
-    ensures status { IsStatus result (OverHeld (held handle.old)
+    ensures status { IsStatus result (OverHeld (held_normalizers handle.old)
         ((output.new ≡ output.old) × (needed.new ≡ needed.old))
         (T.at text.now ((output.new ≡ output.old) × (needed.new ≡ needed.old))
         (λ units. Fills units output.old output.new needed.old needed.new))) }
-    ensures kept { held handle.new ≡ held handle.old }
+    ensures kept { held_normalizers handle.new ≡ held_normalizers handle.old }
 {
     status(write_over(alloc, handle, text, output, needed))
 }
@@ -52,10 +52,10 @@ fn write_over<T: Text>(
     output: &mut [T::Unit],
     needed: &mut usize,
 ) -> Result<(), Fault>
-    ensures over { OverHeld (held handle.old) ((output.new ≡ output.old) × (needed.new ≡ needed.old))
+    ensures over { OverHeld (held_normalizers handle.old) ((output.new ≡ output.old) × (needed.new ≡ needed.old))
         (T.at text.now ((output.new ≡ output.old) × (needed.new ≡ needed.old))
         (λ units. Fills units output.old output.new needed.old needed.new)) result }
-    ensures kept { held handle.new ≡ held handle.old }
+    ensures kept { held_normalizers handle.new ≡ held_normalizers handle.old }
 {
     let Some(normalizers) = handle.take(alloc) else {
         return Err(Fault::NotOpen);

@@ -4,7 +4,7 @@ ghost use Rattle.std.specs.Cow.{cow_slice_items, cow_str_bytes, IsBorrowedSlice,
 ghost use Rattle.normalizer_text.specs.Encodings.{Encoding};
 ghost use Rattle.normalizer_text.specs.EncodedForm.{encoded_form};
 ghost use Rattle.icu_normalizer.specs.Owned.{ReturnsForm};
-ghost use Rattle.icu_normalizer_c.specs.Calls.{held, AtForm, IsStatus, Over, WritesForm};
+ghost use Rattle.icu_normalizer_c.specs.Calls.{held_normalizers, AtForm, IsStatus, Over, WritesForm};
 ghost use Rattle.icu_normalizer_c.specs.Made.{made_by};
 
 use crate::buffer::fill;
@@ -127,10 +127,10 @@ pub extern "C" fn icu_normalizer_normalize_utf8_nonnull(
     output: &mut [u8],
     needed: &mut usize,
 ) -> u32
-    ensures status { IsStatus result (Over (held handle.old) form
+    ensures status { IsStatus result (Over (held_normalizers handle.old) form
         ((output.new ≡ output.old) × (needed.new ≡ needed.old))
         (WritesForm Encoding.Utf8 input.now output.old output.new needed.old needed.new)) }
-    ensures kept { held handle.new ≡ held handle.old }
+    ensures kept { held_normalizers handle.new ≡ held_normalizers handle.old }
 {
     write(alloc, handle, &Form { form, input }, output, needed)
 }
@@ -149,10 +149,10 @@ pub extern "C" fn icu_normalizer_normalize_utf16_nonnull(
     output: &mut [u16],
     needed: &mut usize,
 ) -> u32
-    ensures status { IsStatus result (Over (held handle.old) form
+    ensures status { IsStatus result (Over (held_normalizers handle.old) form
         ((output.new ≡ output.old) × (needed.new ≡ needed.old))
         (WritesForm Encoding.Utf16 input.now output.old output.new needed.old needed.new)) }
-    ensures kept { held handle.new ≡ held handle.old }
+    ensures kept { held_normalizers handle.new ≡ held_normalizers handle.old }
 {
     write(alloc, handle, &Form { form, input }, output, needed)
 }

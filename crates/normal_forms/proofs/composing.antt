@@ -1,5 +1,5 @@
 -- Canonical composition.
 pub mod BlockedLemmas
 pub mod ComposeLemmas
-pub mod MarkRunLemmas
+pub mod CompositionOfMarks
 pub mod VisitLemmas

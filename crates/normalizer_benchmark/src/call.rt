@@ -44,15 +44,14 @@ impl Call {
         written: &mut String,
     ) -> Result<(), Fault> {
         match self {
-            Call::Write => normalizer.write(text, written)?,
-            Call::Check => tell(normalizer.check(text)?, written)?,
-            Call::Own => normalizer.own(text, written)?,
-            Call::Iterate => normalizer.iterate(text, written)?,
-            Call::PortWrite => *written = by_port(alloc, form, text)?,
-            Call::PortCheck => tell(checked_by_port(alloc, form, text)?, written)?,
-            Call::PortIterate => iterate_by_port(alloc, form, text, written)?,
+            Call::Write => Ok(normalizer.write(text, written)?),
+            Call::Check => tell(normalizer.check(text)?, written),
+            Call::Own => normalizer.own(text, written),
+            Call::Iterate => normalizer.iterate(text, written),
+            Call::PortWrite => write_by_port(alloc, form, text, written),
+            Call::PortCheck => tell(checked_by_port(alloc, form, text)?, written),
+            Call::PortIterate => iterate_by_port(alloc, form, text, written),
         }
-        Ok(())
     }
 }
 
@@ -63,13 +62,14 @@ fn tell(is_normalized: bool, written: &mut String) -> Result<(), Fault> {
     Ok(())
 }
 
-fn by_port(alloc: Global, form: Form, text: &str) -> Result<String, Fault> {
-    Ok(match form {
+fn write_by_port(alloc: Global, form: Form, text: &str, written: &mut String) -> Result<(), Fault> {
+    *written = match form {
         Form::Nfd => to_nfd(alloc, text)?,
         Form::Nfc => to_nfc(alloc, text)?,
         Form::Nfkd => to_nfkd(alloc, text)?,
         Form::Nfkc => to_nfkc(alloc, text)?,
-    })
+    };
+    Ok(())
 }
 
 fn checked_by_port(alloc: Global, form: Form, text: &str) -> Result<bool, Fault> {

@@ -6,7 +6,7 @@ use Rattle.normalizer_tables.specs.declared.condition.Condition.{Condition}
 use Rattle.normalizer_tables.specs.declared.condition.Condition.TheVariants.{ItemLimit, Surrogates, PastTheEnd, Hangul, Words, Members, Order, Pairs, FdfaForms, Steps}
 use Rattle.normalizer_tables.specs.declared.provider.DataError.{DataError}
 use Rattle.normalizer_tables.specs.declared.provider.DataMarkerInfo.{DataMarkerInfo}
-use Rattle.normalizer_conditions.specs.AcceptedData.{AreAcceptedPairs, class_conditions, composing_conditions, decomposing_conditions, IsAccepted, step_conditions}
+use Rattle.normalizer_conditions.specs.RequiredConditions.{AreAcceptedPairs, class_conditions, composing_conditions, decomposing_conditions, IsAccepted, step_conditions}
 use Rattle.normalizer_tables.specs.Conditions.{IsMet}
 use Rattle.normalizer_tables.specs.Loaded.{Loaded, bounds_of_cap, characters_alone, characters_and_pairs, characters_loaded, classes_loaded, pairs_loaded}
 use Rattle.normalizer_tables.specs.PairConditions.{AreSoundPairs}

@@ -10,7 +10,7 @@ use Rattle.normalizer_packing.specs.declared.Packed.{Packed}
 use Rattle.normalizer_tables.specs.declared.entry.Kind.{Kind}
 use Rattle.normalizer_tables.specs.declared.entry.Kind.TheVariants as kind
 use Rattle.normalizer_packing.specs.ReadBack.{ReadsBack, characters_of, class_by, list_by}
-use Rattle.normalizer_packing.proofs.reading_back.ReadBack.{packs_reads_back}
+use Rattle.normalizer_packing.proofs.reading_back.DataReadBack.{packs_reads_back}
 use Rattle.normalizer_records.specs.RecordValue.{RecordValue, Uts46RecordValue}
 use Rattle.normalizer_records.specs.Faults.{IsFirstRefusal}
 use Rattle.normalizer_builder.specs.Building.{Builds, PacksRecords}

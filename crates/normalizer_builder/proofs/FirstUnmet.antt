@@ -20,7 +20,7 @@ use Rattle.normalizer_records.specs.Meaning.{entry_of, canonical_mapping_of}
 use Rattle.normalizer_records.specs.Recorded.{recorded_step}
 use Rattle.normalizer_builder.specs.declared.demand.Demand.{Demand}
 use Rattle.normalizer_builder.specs.declared.demand.Demand.TheVariants.{Asks, KeepsMappings}
-use Rattle.normalizer_builder.specs.Demands.{asked, every, IsFirstUnmet, KeepsMapping, loaded_of, Meets, reported_number}
+use Rattle.normalizer_builder.specs.Demands.{constructor_demands, every, IsFirstUnmet, KeepsMapping, loaded_of, Meets, reported_number}
 use Rattle.normalizer_builder.specs.inner.Earlier.{asked_of, conditions_of, earlier}
 
 module _ {D : Type 0} (P : D → Type 0) where
@@ -159,7 +159,7 @@ by_kind Canonical = refl
 by_kind Compatibility = refl
 by_kind Mapper = refl
 
-by_condition : flat_map (λ c. on Canonical c ++ on_others c) every ≡ asked
+by_condition : flat_map (λ c. on Canonical c ++ on_others c) every ≡ constructor_demands
 by_condition = refl
 
 module _ (p : Packed) where
@@ -170,7 +170,7 @@ module _ (p : Packed) where
 
   pub of_all_kinds : (a b m : Option Demand) → ((records : List RecordValue) → IsFirstFailing (Meets records p) (asked_of Canonical) a) →
       ((records : List RecordValue) → IsFirstFailing (Meets records p) (asked_of Compatibility) b) → ((records : List RecordValue) → IsFirstFailing (Meets records p) (asked_of Mapper) m) →
-      (records : List RecordValue) → IsFirstFailing (Meets records p) asked (earlier a (earlier b m))
+      (records : List RecordValue) → IsFirstFailing (Meets records p) constructor_demands (earlier a (earlier b m))
   of_all_kinds a b m canonical compatibility mapper records =
       let others = first_of_both (Meets records p) (on Compatibility) (on Mapper) (of_on Compatibility) (of_on Mapper) every 1 numbered b m (compatibility records) (mapper records) in
       first_of_both (Meets records p) (on Canonical) on_others (of_on Canonical) of_others every 1 numbered a (earlier b m) (canonical records) others
@@ -188,23 +188,23 @@ module _ (records : List RecordValue) (p : Packed) where
     | inr there ↦ subst (KeepsMapping records p) (eqb-true _ _ there.3) (All-contains (λ (r : RecordValue). KeepsMapping records p r.c) records there.0 kept there.2)
   ]
 
-  pub asked_unmet : (d : Demand) → IsFirstFailing (Meets records p) asked (Some d) → IsFirstUnmet records p (Some d)
-  asked_unmet d h = first_in_front (Meets records p) asked (KeepsMappings ∷ []) d h
+  pub asked_unmet : (d : Demand) → IsFirstFailing (Meets records p) constructor_demands (Some d) → IsFirstUnmet records p (Some d)
+  asked_unmet d h = first_in_front (Meets records p) constructor_demands (KeepsMappings ∷ []) d h
 
-  pub all_met : IsFirstFailing (Meets records p) asked None → All (λ r. KeepsMapping records p r.c) records → IsFirstUnmet records p None
+  pub all_met : IsFirstFailing (Meets records p) constructor_demands None → All (λ r. KeepsMapping records p r.c) records → IsFirstUnmet records p None
   unfolding IsFirstFailing Meets
-  all_met met kept = All-append (Meets records p) asked (KeepsMappings ∷ []) met (All-cons (Meets records p) KeepsMappings [] (keeps_all kept) (All-nil (Meets records p)))
+  all_met met kept = All-append (Meets records p) constructor_demands (KeepsMappings ∷ []) met (All-cons (Meets records p) KeepsMappings [] (keeps_all kept) (All-nil (Meets records p)))
 
-  pub mappings_unkept : IsFirstFailing (Meets records p) asked None → (¬ All (λ r. KeepsMapping records p r.c) records) → IsFirstUnmet records p (Some KeepsMappings)
+  pub mappings_unkept : IsFirstFailing (Meets records p) constructor_demands None → (¬ All (λ r. KeepsMapping records p r.c) records) → IsFirstUnmet records p (Some KeepsMappings)
   unfolding IsFirstFailing Meets
   mappings_unkept met lost =
-      first_behind (Meets records p) asked (KeepsMappings ∷ []) (Some KeepsMappings) met (IsFirstFailing-here (Meets records p) KeepsMappings [] (λ all. lost (λ k d within. all (get_or records k d).c)))
+      first_behind (Meets records p) constructor_demands (KeepsMappings ∷ []) (Some KeepsMappings) met (IsFirstFailing-here (Meets records p) KeepsMappings [] (λ all. lost (λ k d within. all (get_or records k d).c)))
 
   -- the data of each kind meet all that is required of them
   pub fit_kind : IsFirstUnmet records p None → (kind : Kind) → All (IsMet (loaded_of p kind)) (conditions_of kind)
   unfolding IsFirstFailing Meets
   fit_kind met kind =
-      let first = both_met (Meets records p) (on Canonical) on_others (of_on Canonical) of_others every (All-front (Meets records p) asked (KeepsMappings ∷ []) met) in
+      let first = both_met (Meets records p) (on Canonical) on_others (of_on Canonical) of_others every (All-front (Meets records p) constructor_demands (KeepsMappings ∷ []) met) in
       let others = both_met (Meets records p) (on Compatibility) (on Mapper) (of_on Compatibility) (of_on Mapper) every first.1 in
       let parts : All (Meets records p) (asked_of kind) = elim kind as (λ k. All (Meets records p) (asked_of k)) [ Canonical ↦ first.0 | Compatibility ↦ others.0 | Mapper ↦ others.1 ] in
       λ k c within. subst (Meets records p) (get_or-map (λ e. Asks e kind) (conditions_of kind) k c (Asks c kind) within)
@@ -213,4 +213,4 @@ module _ (records : List RecordValue) (p : Packed) where
   -- the requirement on the mappings is the last
   pub mappings_met : IsFirstUnmet records p None → (n : ℕ) → KeepsMapping records p n
   unfolding IsFirstFailing Meets
-  mappings_met met = All-behind (Meets records p) asked (KeepsMappings ∷ []) met 0 KeepsMappings (omega arith)
+  mappings_met met = All-behind (Meets records p) constructor_demands (KeepsMappings ∷ []) met 0 KeepsMappings (omega arith)

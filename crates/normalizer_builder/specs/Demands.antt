@@ -4,7 +4,7 @@ use Rattle.normalizer_tables.specs.declared.condition.Condition.{Condition}
 use Rattle.normalizer_tables.specs.declared.condition.Condition.TheVariants.{FdfaForms, Results, Steps}
 use Rattle.normalizer_tables.specs.declared.provider.DataMarkerInfo.{DataMarkerInfo}
 use Rattle.normalizer_tables.specs.declared.provider.DataMarkerInfo.TheVariants as marker
-use Rattle.normalizer_conditions.specs.AcceptedData.{composing_conditions}
+use Rattle.normalizer_conditions.specs.RequiredConditions.{composing_conditions}
 use Rattle.normalizer_tables.specs.Conditions.{IsFirstFailing, IsMet, number_of}
 use Rattle.normalizer_tables.specs.Loaded.{bounds_of_cap, Loaded}
 use Rattle.normalizer_tables.specs.Data.{Supplement}
@@ -58,12 +58,12 @@ kinds_asked Steps = Canonical ∷ []
 kinds_asked c = Canonical ∷ Compatibility ∷ Mapper ∷ []
 
 -- what constructors require
-abbrev pub asked : List Demand
-asked = flat_map (λ c. map (Asks c) (kinds_asked c)) every
+abbrev pub constructor_demands : List Demand
+constructor_demands = flat_map (λ c. map (Asks c) (kinds_asked c)) every
 
 -- all that is required: by constructors, then that the recorded mappings are kept
 abbrev pub demands : List Demand
-demands = asked ++ KeepsMappings ∷ []
+demands = constructor_demands ++ KeepsMappings ∷ []
 
 -- all requirements are met, or this is the first that isn't
 abbrev pub IsFirstUnmet : List RecordValue → Packed → Option Demand → Type 0

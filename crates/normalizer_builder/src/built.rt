@@ -25,7 +25,7 @@ impl Drop for Built {
 }
 
 impl DataProvider<NormalizerNfdDataV1> for Built {
-    ghost held = { λ b. Some b.packed.canonical };
+    ghost payload = { λ b. Some b.packed.canonical };
 
     fn load(&self) -> Result<DecompositionData, DataError> {
         loaded(self.packed.canonical.clone())
@@ -33,7 +33,7 @@ impl DataProvider<NormalizerNfdDataV1> for Built {
 }
 
 impl DataProvider<NormalizerNfkdDataV1> for Built {
-    ghost held = { λ b. Some b.packed.compatibility };
+    ghost payload = { λ b. Some b.packed.compatibility };
 
     fn load(&self) -> Result<DecompositionData, DataError> {
         loaded(self.packed.compatibility.clone())
@@ -41,7 +41,7 @@ impl DataProvider<NormalizerNfkdDataV1> for Built {
 }
 
 impl DataProvider<NormalizerUts46DataV1> for Built {
-    ghost held = { λ b. Some b.packed.mapper };
+    ghost payload = { λ b. Some b.packed.mapper };
 
     fn load(&self) -> Result<DecompositionData, DataError> {
         loaded(self.packed.mapper.clone())
@@ -49,7 +49,7 @@ impl DataProvider<NormalizerUts46DataV1> for Built {
 }
 
 impl DataProvider<NormalizerNfdTablesV1> for Built {
-    ghost held = { λ b. Some b.packed.tables };
+    ghost payload = { λ b. Some b.packed.tables };
 
     fn load(&self) -> Result<DecompositionTables, DataError> {
         loaded(self.packed.tables.clone())
@@ -57,7 +57,7 @@ impl DataProvider<NormalizerNfdTablesV1> for Built {
 }
 
 impl DataProvider<NormalizerNfkdTablesV1> for Built {
-    ghost held = { λ b. Some b.packed.supplementary_tables };
+    ghost payload = { λ b. Some b.packed.supplementary_tables };
 
     fn load(&self) -> Result<DecompositionTables, DataError> {
         loaded(self.packed.supplementary_tables.clone())
@@ -65,7 +65,7 @@ impl DataProvider<NormalizerNfkdTablesV1> for Built {
 }
 
 impl DataProvider<NormalizerNfcV1> for Built {
-    ghost held = { λ b. Some b.packed.compositions };
+    ghost payload = { λ b. Some b.packed.compositions };
 
     fn load(&self) -> Result<CanonicalCompositions, DataError> {
         loaded(self.packed.compositions.clone())
@@ -73,7 +73,7 @@ impl DataProvider<NormalizerNfcV1> for Built {
 }
 
 impl DataProvider<NormalizerNfdSupplementV1> for Built {
-    ghost held = { λ b. Some b.packed.supplement };
+    ghost payload = { λ b. Some b.packed.supplement };
 
     fn load(&self) -> Result<NonRecursiveDecompositionSupplement, DataError> {
         loaded(self.packed.supplement.clone())

@@ -6,7 +6,7 @@ ghost use Rattle.normal_forms.specs.Hypotheses.{HasNonemptyLists, SuitsForm};
 ghost use Rattle.normalizer_tables.specs.declared.condition.Condition.{Condition};
 ghost use Rattle.normalizer_tables.specs.declared.provider.DataError.{DataError};
 ghost use Rattle.normalizer_tables.specs.declared.provider.DataMarkerInfo.{DataMarkerInfo};
-ghost use Rattle.normalizer_conditions.specs.AcceptedData.{
+ghost use Rattle.normalizer_conditions.specs.RequiredConditions.{
   AreAcceptedPairs,
   class_conditions,
   composing_conditions,

@@ -6,8 +6,8 @@ ghost use Rattle.normalizer_tables.specs.Conditions.{IsFirstFailing, IsMet};
 ghost use Rattle.normalizer_records.specs.RecordValue.{RecordValue};
 ghost use Rattle.normalizer_records.specs.Faults.{AreRising};
 ghost use Rattle.normalizer_builder.specs.Demands.{
-  asked,
   characters_of,
+  constructor_demands,
   IsFirstUnmet,
   KeepsMapping,
   loaded_of,
@@ -40,7 +40,7 @@ pub(crate) fn first_unmet(records: &[Record], packed: &Packed) -> Option<Demand>
 
 /// The first requirement of constructors that packed data don't meet.
 fn first_asked(packed: &Packed) -> Option<Demand>
-    ensures { (records : List RecordValue) → IsFirstFailing (Meets records packed.now) asked result }
+    ensures { (records : List RecordValue) → IsFirstFailing (Meets records packed.now) constructor_demands result }
 {
     let mapper = first_of_kind(packed, Kind::Mapper);
     let others = earlier(first_of_kind(packed, Kind::Compatibility), mapper);

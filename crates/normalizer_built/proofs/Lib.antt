@@ -1,2 +1,2 @@
-pub mod AcceptedData
+pub mod MemoryAlone
 pub mod FormsOfData

@@ -1,7 +1,7 @@
 //! Mapped text.
 ghost use Rattle.std.specs.Prelude.{◌≡◌, ℕ, List, IfOk, IsOkUnless};
 ghost use Rattle.std.specs.Iterator.{IsFinite};
-ghost use Rattle.normalizer_text.specs.Steps.{Spells};
+ghost use Rattle.normalizer_text.specs.DecodingSteps.{Spells};
 ghost use Rattle.icu_normalizer.specs.Mappers.{mapper_data_of_borrowed};
 ghost use Rattle.normalizer_built.specs.Mapping.{mapped_in};
 

@@ -1,12 +1,12 @@
-pub mod Data
+pub mod UnicodeFiles
 pub mod Devices
-pub mod Faults
+pub mod FileFaults
 pub mod Lines
 pub mod Making
 pub mod Mismatches
 pub mod Outcomes
 pub mod Replies
-pub mod Reports
+pub mod FileReports
 pub mod Runs
 pub mod Versions
 pub mod Arguments

@@ -9,9 +9,9 @@ use Rattle.normalizer_command.specs.declared.fault.Fault.TheVariants.{Open, Writ
 use Rattle.normalizer_command.specs.declared.reply.Task.TheVariants as task
 use Rattle.normalizer_streams.specs.Streams.{IsEndless}
 use Rattle.normalizer_command.specs.Devices.{Devices}
-use Rattle.normalizer_command.specs.Faults.{IsFileFault}
+use Rattle.normalizer_command.specs.FileFaults.{IsFileFault}
 use Rattle.normalizer_command.specs.Replies.{IsReply}
-use Rattle.normalizer_command.specs.Reports.{Report, Tells}
+use Rattle.normalizer_command.specs.FileReports.{Report, Tells}
 use Rattle.normalizer_command.specs.Works.{Work, OfForm}
 
 -- the output, what was reported, and the exit status so far

@@ -4,11 +4,11 @@ use Rattle.std.specs.Io.KnownBytes.{Appends}
 use Rattle.normalizer_io.specs.Transfer.{AppendsFront}
 use Rattle.normalizer_ucd.specs.declared.error.UcdFile.{UcdFile}
 use Rattle.normalizer_ucd.specs.declared.error.UcdFile.TheVariants.{CompositionExclusions}
-use Rattle.normalizer_command.specs.Data.{path_of}
+use Rattle.normalizer_command.specs.UnicodeFiles.{path_of}
 use Rattle.normalizer_command.specs.Devices.{Devices}
-use Rattle.normalizer_command.specs.Faults.{IsFileFault}
+use Rattle.normalizer_command.specs.FileFaults.{IsFileFault}
 use Rattle.normalizer_command.specs.Outcomes.{State}
-use Rattle.normalizer_command.specs.Reports.{Tells}
+use Rattle.normalizer_command.specs.FileReports.{Tells}
 use Rattle.normalizer_command.specs.declared.fault.Fault.{Fault}
 use Rattle.normalizer_command.specs.declared.fault.Fault.TheVariants.{Write}
 

@@ -1,6 +1,6 @@
 //! Why a file failed.
 ghost use Rattle.std.specs.Prelude.{◌≡◌};
-ghost use Rattle.normalizer_command.specs.Faults.{fault_of_file, fault_of_records, fault_of_transfer};
+ghost use Rattle.normalizer_command.specs.FileFaults.{fault_of_file, fault_of_records, fault_of_transfer};
 
 use normalizer_io::TransferError;
 use normalizer_iterators::NormalizeError;

@@ -2,13 +2,13 @@
 ghost use Rattle.std.specs.Prelude.{◌≡◌, ◌≢◌, ◌↔◌, ◌⊎◌, IsTrue, map, IfOk, IfErr, IsErrOf};
 ghost use Rattle.normalizer_streams.specs.Streams.{IsEndless};
 ghost use Rattle.normalizer_command.specs.Devices.{devices};
-ghost use Rattle.normalizer_command.specs.Faults.{IsFileFault};
+ghost use Rattle.normalizer_command.specs.FileFaults.{IsFileFault};
 ghost use Rattle.normalizer_command.specs.Outcomes.{AreDone, IsCutOff, IsWritten, Leaves, greater, state, status_of};
-ghost use Rattle.normalizer_command.specs.Reports.{Tells};
+ghost use Rattle.normalizer_command.specs.FileReports.{Tells};
 ghost use Rattle.normalizer_command.specs.Works.{Does, RepliesAtEnd, Work};
 
+use crate::devices::{Inputs, Reports};
 use crate::fault::Fault;
-use crate::inputs::{Inputs, Reports};
 use crate::reply::Task;
 use crate::worker::Worker;
 use normalizer_io::{Answer, Source, Target, read_all, write_all};
@@ -27,9 +27,9 @@ pub(crate) fn over_files<I: Inputs, W: Target, R: Reports>(
 ) -> u8
     ensures { (w : Work) → Does worker.now w →
         AreDone
-        (devices (I.bytes_of inputs.now) (I.cannot_open inputs.now) (I.read_refused inputs.now) W.taken W.refused)
+        (devices (I.bytes_of inputs.now) (I.cannot_open inputs.now) (I.read_refused inputs.now) W.bytes_taken W.refusal)
         w (map (λ name. name.now) names.now)
-        (state writer.old (R.told reports.old) 0) (state writer.new (R.told reports.new) result) }
+        (state writer.old (R.reports reports.old) 0) (state writer.new (R.reports reports.new) result) }
 {
     let mut status = 0;
     for name in names {
@@ -52,13 +52,13 @@ fn over_file<I: Inputs, W: Target>(
     writer: &mut W,
 ) -> Result<Answer, Fault>
     ensures done { (w : Work) → Does worker.now w → IfOk result
-        (IsWritten w name.now (I.bytes_of inputs.now name.now) (W.taken writer.old) (W.taken writer.new)) }
+        (IsWritten w name.now (I.bytes_of inputs.now name.now) (W.bytes_taken writer.old) (W.bytes_taken writer.new)) }
     ensures why { IfErr result (IsFileFault (I.cannot_open inputs.now name.now)
         (I.read_refused inputs.now name.now ⊎ IsEndless (I.bytes_of inputs.now name.now))
-        (W.refused writer.old writer.new)) }
+        (W.refusal writer.old writer.new)) }
     ensures left { (w : Work) → Does worker.now w →
         IfErr result (λ fault. Leaves w fault (writer.new ≡ writer.old)
-        (IsCutOff w name.now (I.bytes_of inputs.now name.now) (W.taken writer.old) (W.taken writer.new))) }
+        (IsCutOff w name.now (I.bytes_of inputs.now name.now) (W.bytes_taken writer.old) (W.bytes_taken writer.new))) }
 {
     let mut input = inputs.open(name)?;
     over_input(alloc, worker, name, &mut input, writer)
@@ -73,12 +73,12 @@ fn over_input<S: Source, W: Target>(
     writer: &mut W,
 ) -> Result<Answer, Fault>
     ensures done { (w : Work) → Does worker.now w → IfOk result
-        (IsWritten w name.now (S.left input.old) (W.taken writer.old) (W.taken writer.new)) }
-    ensures why { IfErr result (IsFileFault (λ _. ⊥) (S.refused input.old input.new ⊎ IsEndless (S.left input.old))
-        (W.refused writer.old writer.new)) }
+        (IsWritten w name.now (S.bytes_left input.old) (W.bytes_taken writer.old) (W.bytes_taken writer.new)) }
+    ensures why { IfErr result (IsFileFault (λ _. ⊥)
+        (S.refusal input.old input.new ⊎ IsEndless (S.bytes_left input.old)) (W.refusal writer.old writer.new)) }
     ensures left { (w : Work) → Does worker.now w →
         IfErr result (λ fault. Leaves w fault (writer.new ≡ writer.old)
-        (IsCutOff w name.now (S.left input.old) (W.taken writer.old) (W.taken writer.new))) }
+        (IsCutOff w name.now (S.bytes_left input.old) (W.bytes_taken writer.old) (W.bytes_taken writer.new))) }
 {
     match worker {
         Worker::OfForm(Task::Write, scheme, normalizer) => {
@@ -99,11 +99,11 @@ fn write_reply<S: Source, W: Target>(
 ) -> Result<Answer, Fault>
     requires { RepliesAtEnd worker.now }
     ensures done { (w : Work) → Does worker.now w → IfOk result
-        (IsWritten w name.now (S.left input.old) (W.taken writer.old) (W.taken writer.new)) }
-    ensures why { IfErr result (IsFileFault (λ _. ⊥) (S.refused input.old input.new)
-        (W.refused writer.old writer.new)) }
+        (IsWritten w name.now (S.bytes_left input.old) (W.bytes_taken writer.old) (W.bytes_taken writer.new)) }
+    ensures why { IfErr result (IsFileFault (λ _. ⊥) (S.refusal input.old input.new)
+        (W.refusal writer.old writer.new)) }
     ensures cut { (w : Work) → Does worker.now w → IsErrOf result Fault.Write →
-        IsCutOff w name.now (S.left input.old) (W.taken writer.old) (W.taken writer.new) }
+        IsCutOff w name.now (S.bytes_left input.old) (W.bytes_taken writer.old) (W.bytes_taken writer.new) }
     ensures unwritten { IfErr result (λ fault. fault ≢ Fault.Write → writer.new ≡ writer.old) }
 {
     let bytes = read_all(alloc, input)?;
@@ -114,8 +114,8 @@ fn write_reply<S: Source, W: Target>(
 
 /// Reports why a file failed, if it did.
 fn tell<R: Reports>(reports: &mut R, name: &str, outcome: Result<Answer, Fault>)
-    ensures untold { IfOk outcome (λ _. R.told reports.new ≡ R.told reports.old) }
-    ensures told { IfErr outcome (λ fault. Tells (R.told reports.old) (R.told reports.new) (name.now, fault)) }
+    ensures untold { IfOk outcome (λ _. R.reports reports.new ≡ R.reports reports.old) }
+    ensures told { IfErr outcome (λ fault. Tells (R.reports reports.old) (R.reports reports.new) (name.now, fault)) }
 {
     if let Err(fault) = outcome {
         reports.report(name, fault);

@@ -2,14 +2,14 @@
 #![tactic(auto)]
 
 pub mod arguments;
-mod data;
+pub mod devices;
 pub mod fault;
 mod files;
-pub mod inputs;
 pub mod mapping;
 mod mismatch;
 mod normalizers;
 pub mod reply;
 pub mod run;
+mod unicode_files;
 pub mod version;
 pub mod worker;

@@ -3,17 +3,17 @@ ghost use Rattle.std.specs.Prelude.{◌≡◌, ◌⊎◌, map, List, ℕ, IfOk, 
 ghost use Rattle.normalizer_builder.specs.Built.{AreBuilt, data_in};
 ghost use Rattle.normalizer_builder.specs.Building.{Builds};
 ghost use Rattle.normalizer_records.specs.RecordValue.{RecordValue, Uts46RecordValue};
-ghost use Rattle.normalizer_command.specs.Data.{IsDataFault, path_of};
+ghost use Rattle.normalizer_command.specs.UnicodeFiles.{IsDataFault, path_of};
 ghost use Rattle.normalizer_command.specs.Devices.{devices};
 ghost use Rattle.normalizer_command.specs.Outcomes.{AreDone, state};
-ghost use Rattle.normalizer_command.specs.Reports.{Tells};
+ghost use Rattle.normalizer_command.specs.FileReports.{Tells};
 ghost use Rattle.normalizer_command.specs.Runs.{IsRun, RunsByFiles};
 ghost use Rattle.normalizer_command.specs.Works.{work_by};
 
-use crate::data::{DataFault, built, path, read_files};
+use crate::devices::{Inputs, Reports};
 use crate::fault::Fault;
 use crate::files::over_files;
-use crate::inputs::{Inputs, Reports};
+use crate::unicode_files::{DataFault, built, path, read_files};
 use crate::worker::{Command, worker_for};
 use normalizer_builder::Built;
 use normalizer_io::Target;
@@ -34,9 +34,9 @@ pub fn run<I: Inputs, W: Target, R: Reports>(
     reports: &mut R,
 ) -> u8
     ensures { IsRun
-        (devices (I.bytes_of inputs.now) (I.cannot_open inputs.now) (I.read_refused inputs.now) W.taken W.refused)
+        (devices (I.bytes_of inputs.now) (I.cannot_open inputs.now) (I.read_refused inputs.now) W.bytes_taken W.refusal)
         command directory.now (map (λ name. name.now) names.now)
-        (state writer.old (R.told reports.old) 0) (state writer.new (R.told reports.new) result) }
+        (state writer.old (R.reports reports.old) 0) (state writer.new (R.reports reports.new) result) }
 {
     match run_by_files(alloc, command, directory, names, inputs, writer, reports) {
         Ok(status) => status,
@@ -58,11 +58,11 @@ fn run_by_files<I: Inputs, W: Target, R: Reports>(
     reports: &mut R,
 ) -> Result<u8, DataFault>
     ensures done { IfOk result (λ status. RunsByFiles
-        (devices (I.bytes_of inputs.now) (I.cannot_open inputs.now) (I.read_refused inputs.now) W.taken W.refused)
+        (devices (I.bytes_of inputs.now) (I.cannot_open inputs.now) (I.read_refused inputs.now) W.bytes_taken W.refusal)
         command directory.now (map (λ name. name.now) names.now)
-        (state writer.old (R.told reports.old) 0) (state writer.new (R.told reports.new) status)) }
+        (state writer.old (R.reports reports.old) 0) (state writer.new (R.reports reports.new) status)) }
     ensures fault { IfErr result (λ e. IsDataFault
-        (devices (I.bytes_of inputs.now) (I.cannot_open inputs.now) (I.read_refused inputs.now) W.taken W.refused)
+        (devices (I.bytes_of inputs.now) (I.cannot_open inputs.now) (I.read_refused inputs.now) W.bytes_taken W.refusal)
         directory.now command e.file e.fault) }
     ensures unwritten { OnErr result (writer.new ≡ writer.old) }
     ensures untold { OnErr result (reports.new ≡ reports.old) }
@@ -91,9 +91,9 @@ fn over_data<I: Inputs, W: Target, R: Reports>(
     requires { AreBuilt (data_in «data».now) }
     ensures done { (records : List RecordValue) (uts46 : List Uts46RecordValue) →
         Builds records uts46 (data_in «data».now) → IfOk result (λ status. AreDone
-        (devices (I.bytes_of inputs.now) (I.cannot_open inputs.now) (I.read_refused inputs.now) W.taken W.refused)
+        (devices (I.bytes_of inputs.now) (I.cannot_open inputs.now) (I.read_refused inputs.now) W.bytes_taken W.refusal)
         (work_by records uts46 command) (map (λ name. name.now) names.now)
-        (state writer.old (R.told reports.old) 0) (state writer.new (R.told reports.new) status)) }
+        (state writer.old (R.reports reports.old) 0) (state writer.new (R.reports reports.new) status)) }
     ensures unwritten { OnErr result (writer.new ≡ writer.old) }
     ensures untold { OnErr result (reports.new ≡ reports.old) }
 {
@@ -104,7 +104,7 @@ fn over_data<I: Inputs, W: Target, R: Reports>(
 /// Reports which of Unicode's files failed, and why. (Its directory is named if there is no memory for its path.)
 pub(crate) fn tell<R: Reports>(alloc: Global, directory: &str, error: DataFault, reports: &mut R)
     ensures { (name : List ℕ) × ((name ≡ path_of directory.now error.file) ⊎ (name ≡ directory.now))
-        × Tells (R.told reports.old) (R.told reports.new) (name, error.fault) }
+        × Tells (R.reports reports.old) (R.reports reports.new) (name, error.fault) }
 {
     match path(alloc, directory, error.file) {
         Ok(path) => reports.report(path.as_str(), error.fault),

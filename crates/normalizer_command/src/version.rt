@@ -3,9 +3,9 @@ ghost use Rattle.std.specs.Prelude.{◌≡◌, ◌≢◌, ◌==◌, ◌≤◌, l
 ghost use Rattle.std.specs.List.{prefix_len};
 ghost use Rattle.std.specs.Io.KnownBytes.{Appends};
 ghost use Rattle.normalizer_io.specs.Transfer.{AppendsFront};
-ghost use Rattle.normalizer_command.specs.Data.{path_of};
+ghost use Rattle.normalizer_command.specs.UnicodeFiles.{path_of};
 ghost use Rattle.normalizer_command.specs.Devices.{devices};
-ghost use Rattle.normalizer_command.specs.Faults.{IsFileFault};
+ghost use Rattle.normalizer_command.specs.FileFaults.{IsFileFault};
 ghost use Rattle.normalizer_command.specs.Outcomes.{state};
 ghost use Rattle.normalizer_command.specs.Versions.{
   first_line,
@@ -15,10 +15,10 @@ ghost use Rattle.normalizer_command.specs.Versions.{
   IsVersionRun,
 };
 
-use crate::data::{DataFault, read_file};
+use crate::devices::{Inputs, Reports};
 use crate::fault::Fault;
-use crate::inputs::{Inputs, Reports};
 use crate::run::tell;
+use crate::unicode_files::{DataFault, read_file};
 use normalizer_io::{Target, write_all};
 use normalizer_ucd::UcdFile;
 use std::alloc::{AllocError, Global};
@@ -33,8 +33,8 @@ pub fn write_version<I: Inputs, W: Target, R: Reports>(
     reports: &mut R,
 ) -> u8
     ensures { IsVersionRun
-        (devices (I.bytes_of inputs.now) (I.cannot_open inputs.now) (I.read_refused inputs.now) W.taken W.refused)
-        directory.now (state writer.old (R.told reports.old) 0) (state writer.new (R.told reports.new) result) }
+        (devices (I.bytes_of inputs.now) (I.cannot_open inputs.now) (I.read_refused inputs.now) W.bytes_taken W.refusal)
+        directory.now (state writer.old (R.reports reports.old) 0) (state writer.new (R.reports reports.new) result) }
 {
     match version_written(alloc, directory, inputs, writer) {
         Ok(()) => 0,
@@ -53,12 +53,12 @@ fn version_written<I: Inputs, W: Target>(
     writer: &mut W,
 ) -> Result<(), DataFault>
     ensures written { OnOk result (IsVersionAppended
-        (devices (I.bytes_of inputs.now) (I.cannot_open inputs.now) (I.read_refused inputs.now) W.taken W.refused)
+        (devices (I.bytes_of inputs.now) (I.cannot_open inputs.now) (I.read_refused inputs.now) W.bytes_taken W.refusal)
         directory.now writer.old writer.new) }
     ensures why { IfErr result (λ e. IsFileFault (I.cannot_open inputs.now (path_of directory.now e.file))
-        (I.read_refused inputs.now (path_of directory.now e.file)) (W.refused writer.old writer.new) e.fault) }
+        (I.read_refused inputs.now (path_of directory.now e.file)) (W.refusal writer.old writer.new) e.fault) }
     ensures cut { IfErr result (λ e. e.fault ≡ Fault.Write → IsVersionCutOff
-        (devices (I.bytes_of inputs.now) (I.cannot_open inputs.now) (I.read_refused inputs.now) W.taken W.refused)
+        (devices (I.bytes_of inputs.now) (I.cannot_open inputs.now) (I.read_refused inputs.now) W.bytes_taken W.refusal)
         directory.now writer.old writer.new) }
     ensures unwritten { IfErr result (λ e. e.fault ≢ Fault.Write → writer.new ≡ writer.old) }
 {
@@ -72,10 +72,11 @@ fn version_written<I: Inputs, W: Target>(
 
 /// Writes the versions.
 fn text_written<W: Target>(alloc: Global, exclusions: &[u8], writer: &mut W) -> Result<(), Fault>
-    ensures written { OnOk result (Appends (W.taken writer.old) (W.taken writer.new) (version_text exclusions.now)) }
-    ensures why { IfErr result (IsFileFault (λ _. ⊥) ⊥ (W.refused writer.old writer.new)) }
+    ensures written { OnOk result
+        (Appends (W.bytes_taken writer.old) (W.bytes_taken writer.new) (version_text exclusions.now)) }
+    ensures why { IfErr result (IsFileFault (λ _. ⊥) ⊥ (W.refusal writer.old writer.new)) }
     ensures cut { IsErrOf result Fault.Write →
-        AppendsFront (W.taken writer.old) (W.taken writer.new) (version_text exclusions.now) }
+        AppendsFront (W.bytes_taken writer.old) (W.bytes_taken writer.new) (version_text exclusions.now) }
     ensures unwritten { IfErr result (λ fault. fault ≢ Fault.Write → writer.new ≡ writer.old) }
 {
     let text = version_text(alloc, exclusions)?;

@@ -1,3 +1,3 @@
-pub mod AcceptedData
+pub mod RequiredConditions
 pub mod Refusals
 pub mod inner

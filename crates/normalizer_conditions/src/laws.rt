@@ -17,7 +17,7 @@ ghost use Rattle.normalizer_tables.specs.declared.condition.Bounds.{Bounds};
 ghost use Rattle.normalizer_tables.specs.SoundData.{IsSoundData};
 
 pub mod accepted;
-pub mod pairs;
+pub mod data_with_pairs;
 
 /// The members of every list read as themselves.
 pub fn lists_are_full()

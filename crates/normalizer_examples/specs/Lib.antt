@@ -1,6 +1,6 @@
 pub mod Labels
 pub mod Last
 pub mod Reports
-pub mod Runs
+pub mod IteratorRuns
 pub mod Shaping
 pub mod UnicodeForms

@@ -1,7 +1,7 @@
 //! Labels of domain names, mapped and then validated (UTS #46, section 4).
 ghost use Rattle.std.specs.Prelude.{◌≡◌, ◌↔◌, chars, IfOk, IsOkUnless, IsTrue, MatchOption};
 ghost use Rattle.icu_normalizer.specs.Mappers.{mapper_data_of_borrowed};
-ghost use Rattle.normalizer_examples.specs.Labels.{mapped, IsLabel};
+ghost use Rattle.normalizer_examples.specs.Labels.{mapped_text, IsLabel};
 
 use icu_normalizer::NormalizeError;
 use icu_normalizer::uts46::Uts46MapperBorrowed;
@@ -18,8 +18,8 @@ pub fn label(
     text: &str,
 ) -> Result<Option<Vec<char>>, NormalizeError>
     ensures kept { let h = mapper_data_of_borrowed mapper.now in IfOk result (λ label. MatchOption label
-        (¬ IsLabel h (mapped h (chars text.now)))
-        (λ v. (v.items ≡ mapped h (chars text.now)) × IsLabel h v.items)) }
+        (¬ IsLabel h (mapped_text h (chars text.now)))
+        (λ v. (v.items ≡ mapped_text h (chars text.now)) × IsLabel h v.items)) }
     ensures refused { IsOkUnless result NormalizeError.Memory }
 {
     let mapped = collected(alloc, mapper.map_normalize(text.chars())?)?;

@@ -22,7 +22,7 @@ ghost use Rattle.icu_normalizer.specs.ComposingNormalizers.{
 ghost use Rattle.icu_normalizer.specs.Normalizers.{data_of_borrowed};
 ghost use Rattle.normalizer_iterators.specs.Items.{SpellsOk, SpellsUnless};
 ghost use Rattle.normalizer_examples.specs.Last.{last_of};
-ghost use Rattle.normalizer_examples.specs.Runs.{IsFormOfDrained};
+ghost use Rattle.normalizer_examples.specs.IteratorRuns.{IsFormOfDrained};
 
 mod by_records;
 mod by_unicode_data;
@@ -170,17 +170,17 @@ where
         + DataProvider<NormalizerNfkdTablesV1>
         + DataProvider<NormalizerNfcV1>,
     ensures form { IfOk result (λ v. (h : Characters × List Pair) × AcceptsHeld SuitsComposing (with_pairs
-        (nfkd_data (⟦<P as DataProvider<NormalizerNfkdDataV1>>⟧.held provider.now)
-        (⟦<P as DataProvider<NormalizerNfdTablesV1>>⟧.held provider.now)
-        (⟦<P as DataProvider<NormalizerNfkdTablesV1>>⟧.held provider.now))
-        (⟦<P as DataProvider<NormalizerNfcV1>>⟧.held provider.now)) h
+        (nfkd_data (⟦<P as DataProvider<NormalizerNfkdDataV1>>⟧.payload provider.now)
+        (⟦<P as DataProvider<NormalizerNfdTablesV1>>⟧.payload provider.now)
+        (⟦<P as DataProvider<NormalizerNfkdTablesV1>>⟧.payload provider.now))
+        (⟦<P as DataProvider<NormalizerNfcV1>>⟧.payload provider.now)) h
         × (v.items ≡ nfc (reading_by h.0 Dropped h.1) (decoded_utf8 bytes.now))) }
     ensures refused { IfErr result (λ e. (e ≡ DataError.Memory) ⊎
         RefusesHeld (RefusesToCompose marker.NormalizerNfkdDataV1) (with_pairs
-        (nfkd_data (⟦<P as DataProvider<NormalizerNfkdDataV1>>⟧.held provider.now)
-        (⟦<P as DataProvider<NormalizerNfdTablesV1>>⟧.held provider.now)
-        (⟦<P as DataProvider<NormalizerNfkdTablesV1>>⟧.held provider.now))
-        (⟦<P as DataProvider<NormalizerNfcV1>>⟧.held provider.now)) e) }
+        (nfkd_data (⟦<P as DataProvider<NormalizerNfkdDataV1>>⟧.payload provider.now)
+        (⟦<P as DataProvider<NormalizerNfdTablesV1>>⟧.payload provider.now)
+        (⟦<P as DataProvider<NormalizerNfkdTablesV1>>⟧.payload provider.now))
+        (⟦<P as DataProvider<NormalizerNfcV1>>⟧.payload provider.now)) e) }
 {
     let normalizer = ComposingNormalizer::try_new_nfkc_unstable(provider)?;
     match nfc_of_bytes(alloc, &normalizer.as_borrowed(), bytes) {

@@ -76,7 +76,7 @@ pub fn nfd_without_faults<W: Write>(
     text: &str,
     sink: &mut W,
 ) -> Result<(), NormalizeError>
-    requires { (later : W) → ¬ W.refused sink.old later }
+    requires { (later : W) → ¬ W.refusal sink.old later }
     ensures { IsOkUnless result NormalizeError.Memory }
 {
     normalizer.normalize_to(text, sink)
@@ -93,10 +93,10 @@ pub fn nfd_of_both<W: Write>(
     sink: &mut W,
 ) -> Result<(), NormalizeError>
     ensures written { let d = reading_by (data_of_borrowed normalizer.now) Dropped [] in
-        OnOk result (W.taken sink.new ≡
-        (W.taken sink.old ++ encode_utf8_all (normal_form d Decomposing (chars text.now))) ++
+        OnOk result (W.text_taken sink.new ≡
+        (W.text_taken sink.old ++ encode_utf8_all (normal_form d Decomposing (chars text.now))) ++
         encode_utf8_all (normal_form d Decomposing (chars more.now))) }
-    ensures fault { IsErrOf result NormalizeError.Sink → W.refused sink.old sink.new }
+    ensures fault { IsErrOf result NormalizeError.Sink → W.refusal sink.old sink.new }
 {
     normalizer.normalize_to(text, sink)?;
     normalizer.normalize_to(more, sink)

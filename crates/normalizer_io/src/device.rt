@@ -9,11 +9,11 @@ pub struct DeviceError;
 /// What bytes are read from.
 pub trait Source {
     /// The bytes that are left, if the source reports them.
-    ghost left: { Self → Option (List ℕ) };
+    ghost bytes_left: { Self → Option (List ℕ) };
 
     /// Holds from the state before a refused read to the state after it, and also from the state before reads that
     /// succeeded just ahead of it.
-    ghost refused: { Self → Self → Type 0 };
+    ghost refusal: { Self → Self → Type 0 };
 
     /// Puts a front of what is left at the beginning of the buffer, and returns how many bytes it put there: none only
     /// at the end, or for an empty buffer.
@@ -22,19 +22,19 @@ pub trait Source {
     /// `DeviceError` if the read was refused. No byte was read then.
     fn read(&mut self, buffer: &mut [u8]) -> Result<usize, DeviceError>
         ensures count { IfOk result (λ n. n ≤ length buffer.new) }
-        ensures bytes { ReadConsumes (left self.old) (left self.new) result buffer.new }
-        ensures fault { OnErr result (refused self.old self.new) }
-        ensures ahead { OnOk result ((later : Self) → refused self.new later → refused self.old later) };
+        ensures bytes { ReadConsumes (bytes_left self.old) (bytes_left self.new) result buffer.new }
+        ensures fault { OnErr result (refusal self.old self.new) }
+        ensures ahead { OnOk result ((later : Self) → refusal self.new later → refusal self.old later) };
 }
 
 /// What bytes are written to.
 pub trait Target {
     /// The bytes that were taken, if the target reports them.
-    ghost taken: { Self → Option (List ℕ) };
+    ghost bytes_taken: { Self → Option (List ℕ) };
 
     /// Holds from the state before a refused write to the state after it, and also from the state before writes that
     /// succeeded just ahead of it.
-    ghost refused: { Self → Self → Type 0 };
+    ghost refusal: { Self → Self → Type 0 };
 
     /// Takes a beginning of the bytes, at least one byte if there is one, and returns how many bytes it took.
     ///
@@ -43,7 +43,7 @@ pub trait Target {
     fn write(&mut self, bytes: &[u8]) -> Result<usize, DeviceError>
         ensures count { IfOk result (λ n. n ≤ length bytes.now) }
         ensures progress { 0 < length bytes.now → IfOk result (λ n. 0 < n) }
-        ensures bytes { WriteAppends (taken self.old) (taken self.new) result bytes.now }
-        ensures fault { OnErr result (refused self.old self.new) }
-        ensures ahead { OnOk result ((later : Self) → refused self.new later → refused self.old later) };
+        ensures bytes { WriteAppends (bytes_taken self.old) (bytes_taken self.new) result bytes.now }
+        ensures fault { OnErr result (refusal self.old self.new) }
+        ensures ahead { OnOk result ((later : Self) → refusal self.new later → refusal self.old later) };
 }

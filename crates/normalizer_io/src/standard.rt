@@ -9,10 +9,10 @@ use std::io::{Read, Write};
 pub struct Input<R>(pub R);
 
 impl<R: Read> Source for Input<R> {
-    ghost left = { λ s. R.remaining s.0 };
+    ghost bytes_left = { λ s. R.remaining s.0 };
 
     // A reader's contract doesn't say when it refuses.
-    ghost refused = { λ _ _. ⊤ };
+    ghost refusal = { λ _ _. ⊤ };
 
     fn read(&mut self, buffer: &mut [u8]) -> Result<usize, DeviceError> {
         self.0.read(buffer).map_err(|_| DeviceError)
@@ -25,10 +25,10 @@ impl<R: Read> Source for Input<R> {
 pub struct Output<W>(pub W);
 
 impl<W: Write> Target for Output<W> {
-    ghost taken = { λ t. W.contents t.0 };
+    ghost bytes_taken = { λ t. W.contents t.0 };
 
     // A writer's contract doesn't say when it refuses.
-    ghost refused = { λ _ _. ⊤ };
+    ghost refusal = { λ _ _. ⊤ };
 
     fn write(&mut self, bytes: &[u8]) -> Result<usize, DeviceError> {
         match self.0.write(bytes) {

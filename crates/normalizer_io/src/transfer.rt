@@ -15,10 +15,10 @@ const CHUNK: usize = 8192;
 /// # Errors
 /// `Read` if a read was refused, `Memory` if an allocation was. The bytes that were read before are lost.
 pub fn read_all<R: Source>(alloc: Global, reader: &mut R) -> Result<Vec<u8>, TransferError>
-    ensures bytes { IfOk result (λ bytes. IfSome (R.left reader.old) (λ input. bytes.items ≡ input)) }
-    ensures end { OnOk result (IsAtEnd (R.left reader.new)) }
+    ensures bytes { IfOk result (λ bytes. IfSome (R.bytes_left reader.old) (λ input. bytes.items ≡ input)) }
+    ensures end { OnOk result (IsAtEnd (R.bytes_left reader.new)) }
     ensures errors { IfErr result (λ error. (error ≡ TransferError.Read) ⊎ (error ≡ TransferError.Memory)) }
-    ensures read { IsErrOf result TransferError.Read → R.refused reader.old reader.new }
+    ensures read { IsErrOf result TransferError.Read → R.refusal reader.old reader.new }
 {
     let mut chunk = vec![in alloc; 0u8; CHUNK]?;
     read_by(alloc, reader, &mut chunk)
@@ -31,10 +31,10 @@ fn read_by<R: Source>(
     chunk: &mut [u8],
 ) -> Result<Vec<u8>, TransferError>
     requires { 0 < length chunk.old }
-    ensures bytes { IfOk result (λ bytes. IfSome (R.left reader.old) (λ input. bytes.items ≡ input)) }
-    ensures end { OnOk result (IsAtEnd (R.left reader.new)) }
+    ensures bytes { IfOk result (λ bytes. IfSome (R.bytes_left reader.old) (λ input. bytes.items ≡ input)) }
+    ensures end { OnOk result (IsAtEnd (R.bytes_left reader.new)) }
     ensures errors { IfErr result (λ error. (error ≡ TransferError.Read) ⊎ (error ≡ TransferError.Memory)) }
-    ensures read { IsErrOf result TransferError.Read → R.refused reader.old reader.new }
+    ensures read { IsErrOf result TransferError.Read → R.refusal reader.old reader.new }
 {
     let mut bytes = Vec::new(alloc);
     loop {
@@ -53,11 +53,11 @@ fn read_by<R: Source>(
 /// # Errors
 /// `Write` if a write was refused. A beginning of the bytes was taken.
 pub fn write_all<W: Target>(writer: &mut W, bytes: &[u8]) -> Result<(), TransferError>
-    ensures bytes { OnOk result (Appends (W.taken writer.old) (W.taken writer.new) bytes.now) }
-    ensures front { OnErr result (AppendsFront (W.taken writer.old) (W.taken writer.new) bytes.now) }
+    ensures bytes { OnOk result (Appends (W.bytes_taken writer.old) (W.bytes_taken writer.new) bytes.now) }
+    ensures front { OnErr result (AppendsFront (W.bytes_taken writer.old) (W.bytes_taken writer.new) bytes.now) }
     ensures errors { IfErr result (λ error. error ≡ TransferError.Write) }
-    ensures write { OnErr result (W.refused writer.old writer.new) }
-    ensures ahead { OnOk result ((later : W) → W.refused writer.new later → W.refused writer.old later) }
+    ensures write { OnErr result (W.refusal writer.old writer.new) }
+    ensures ahead { OnOk result ((later : W) → W.refusal writer.new later → W.refusal writer.old later) }
 {
     let mut written = 0;
     while written < bytes.len() {

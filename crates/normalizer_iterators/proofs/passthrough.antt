@@ -1,3 +1,3 @@
 -- Passthrough characters.
 pub mod PassthroughClasses
-pub mod PassthroughItems
+pub mod PassthroughItemLemmas

@@ -3,4 +3,4 @@ pub mod LazyLemmas
 pub mod PlainWords
 pub mod ReadingLemmas
 pub mod ShortChunkLemmas
-pub mod SoundData
+pub mod ReadsOfSoundData

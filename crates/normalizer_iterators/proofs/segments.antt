@@ -1,5 +1,5 @@
 -- Segments in buffers.
 pub mod InOrderLemmas
-pub mod MarkRunLemmas
+pub mod BufferedMarks
 pub mod SegmentLemmas
 pub mod ShortTextLemmas

@@ -7,7 +7,7 @@ use Rattle.normalizer_tables.specs.declared.characters.IgnoredCharacters.TheVari
 use Rattle.normalizer_tables.specs.Characters.{Characters, class_of}
 use Rattle.normalizer_tables.specs.Pairs.{Pair, pair_of}
 use Rattle.normalizer_tables.specs.Readings.{reading_by}
-use Rattle.normalizer_text.specs.Steps.{Spells}
+use Rattle.normalizer_text.specs.DecodingSteps.{Spells}
 use Rattle.normalizer_iterators.specs.declared.composition.Visited.{Visited}
 use Rattle.normalizer_iterators.specs.declared.composition.Visited.TheVariants.{Joined, BecomesStarter, Stays}
 use Rattle.normalizer_iterators.specs.declared.decomposition.Decomposition.{Decomposition}
@@ -18,15 +18,15 @@ use Rattle.normalizer_iterators.specs.declared.waiting.ClassedChar.{ClassedChar}
 use Rattle.normalizer_iterators.specs.DecompositionItems as decomposition
 use Rattle.normalizer_iterators.specs.Delegate.{Extent, MayYield}
 use Rattle.normalizer_iterators.specs.MarkRuns.{HasShortMarkRuns}
-use Rattle.normalizer_iterators.specs.StayingMarks.{staying, used, BlocksBelow}
+use Rattle.normalizer_iterators.specs.StayingMarks.{mark_count, staying_marks, BlocksBelow}
 
 -- a character was visited after a starter and the marks that stay: it joined, or is the next starter, or stays
 abbrev pub HasVisited : Reading → ℕ → ℕ → StayingMarks → Visited → StayingMarks → Type 0
-HasVisited d a c old (Joined r) new = (join d a (staying old) c ≡ Some r) × (new ≡ old)
-HasVisited d a c old BecomesStarter new = (join d a (staying old) c ≡ None) × IsStarter d c × (new ≡ old)
+HasVisited d a c old (Joined r) new = (join d a (staying_marks old) c ≡ Some r) × (new ≡ old)
+HasVisited d a c old BecomesStarter new = (join d a (staying_marks old) c ≡ None) × IsStarter d c × (new ≡ old)
 HasVisited d a c old Stays new =
-    (join d a (staying old) c ≡ None) × IsMark d c × (staying new ≡ staying old ++ c ∷ []) × (used new ≡ used old + 1)
-    × BlocksBelow d new
+    (join d a (staying_marks old) c ≡ None) × IsMark d c × (staying_marks new ≡ staying_marks old ++ c ∷ [])
+    × (mark_count new ≡ mark_count old + 1) × BlocksBelow d new
 
 -- the same using data that have the class of the character
 abbrev pub HasVisitedBy : List Pair → ℕ → ClassedChar → StayingMarks → Visited → StayingMarks → Type 0
@@ -37,7 +37,7 @@ HasVisitedBy pairs a given old v new = (s : Characters) → given.class ≡ clas
 -- by each reading that has the class and the pairs: this is what a starter and the character compose to, if they do
 abbrev pub IsJoinBy : List Pair → ℕ → StayingMarks → ClassedChar → Option ℕ → Type 0
 IsJoinBy pairs a marks given r = (d : Reading) → BlocksBelow d marks → given.class ≡ d.class given.character
-    → pair_of pairs a given.character ≡ d.pair a given.character → r ≡ join d a (staying marks) given.character
+    → pair_of pairs a given.character ≡ d.pair a given.character → r ≡ join d a (staying_marks marks) given.character
 
 -- what the starter that was taken, if one was, and the remaining characters compose to
 abbrev pub composed_ahead : Reading → Option ℕ → List ℕ → List ℕ

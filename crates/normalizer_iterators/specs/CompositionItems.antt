@@ -12,7 +12,7 @@ use Rattle.normalizer_tables.specs.Pairs.{Pair}
 use Rattle.normalizer_tables.specs.Readings.{reading_by}
 use Rattle.normalizer_tables.specs.declared.characters.IgnoredCharacters.{IgnoredCharacters}
 use Rattle.normalizer_tables.specs.declared.characters.IgnoredCharacters.TheVariants.{Dropped}
-use Rattle.normalizer_text.specs.Steps.{Spells}
+use Rattle.normalizer_text.specs.DecodingSteps.{Spells}
 use Rattle.normalizer_iterators.specs.declared.composition.Composition.{Composition}
 use Rattle.normalizer_iterators.specs.declared.decomposition.Decomposition.{Decomposition}
 use Rattle.normalizer_iterators.specs.declared.error.NormalizeError.{NormalizeError}
@@ -21,7 +21,7 @@ use Rattle.normalizer_iterators.specs.Composing.{WillYieldAfter, YieldsShort, ah
 use Rattle.normalizer_iterators.specs.DecompositionItems as decomposition
 use Rattle.normalizer_iterators.specs.Delegate.{Extent, MayYield, Source}
 use Rattle.normalizer_iterators.specs.NextItem.{CameFirst, YieldedFirst, YieldsNext}
-use Rattle.normalizer_iterators.specs.StayingMarks.{staying}
+use Rattle.normalizer_iterators.specs.StayingMarks.{staying_marks}
 
 -- if the data meet condition 14, the list of what a and c compose to is the lists of both, in canonical order
 abbrev pub HasListsOfBoth : Characters → List Pair → ℕ → ℕ → Option ℕ → Type 0
@@ -45,7 +45,7 @@ module _ {I : Type 0} where
 
   -- these characters, by what the delegate yields, if memory suffices
   abbrev pub WillYield : (I → List ℕ → Type 0) → Composition I → List ℕ → Type 0
-  WillYield Comes s out = WillYieldAfter Comes (pairing_by s) (staying s.marks) s.ahead s.decomposed out
+  WillYield Comes s out = WillYieldAfter Comes (pairing_by s) (staying_marks s.marks) s.ahead s.decomposed out
 
   -- the runs that are still to come are short
   abbrev pub StaysShort : (I → Option ℕ → I → Type 0) → Composition I → Type 0
@@ -53,7 +53,7 @@ module _ {I : Type 0} where
 
   -- nothing is to come
   abbrev pub IsEnded : Composition I → Type 0
-  IsEnded s = (s.ahead ≡ None) × (staying s.marks ≡ []) × decomposition.IsEnded s.decomposed
+  IsEnded s = (s.ahead ≡ None) × (staying_marks s.marks ≡ []) × decomposition.IsEnded s.decomposed
 
   -- the delegate may be called, and ends
   abbrev pub CanCompose : (I → Type 0) → (I → Count) → Composition I → Type 0
@@ -61,7 +61,7 @@ module _ {I : Type 0} where
 
   -- no more characters than this come
   abbrev pub items_left : (I → Count) → Composition I → ℕ
-  items_left left s = length (staying s.marks) + ahead_left s.ahead (decomposition.items_left left s.decomposed)
+  items_left left s = length (staying_marks s.marks) + ahead_left s.ahead (decomposition.items_left left s.decomposed)
 
   -- a starter was composed with what was decomposed after it, and yielded, or a fault came
   pub record ComposesOn (from : Source I) (starter : ℕ) (old : Decomposition I) (pairs : List Pair)

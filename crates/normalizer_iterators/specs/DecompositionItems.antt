@@ -5,7 +5,7 @@ use Rattle.normal_forms.specs.Reading.{Reading}
 use Rattle.normal_forms.specs.Forms.{nfd}
 use Rattle.normalizer_tables.specs.Characters.{has_class_form}
 use Rattle.normalizer_tables.specs.Readings.{reading_by}
-use Rattle.normalizer_text.specs.Steps.{Spells}
+use Rattle.normalizer_text.specs.DecodingSteps.{Spells}
 use Rattle.normalizer_iterators.specs.declared.decomposition.Decomposition.{Decomposition}
 use Rattle.normalizer_iterators.specs.declared.error.NormalizeError.{NormalizeError}
 use Rattle.normalizer_iterators.specs.declared.waiting.ClassedChar.{ClassedChar}
@@ -14,7 +14,7 @@ use Rattle.normalizer_iterators.specs.LazyReading.{longest_list}
 use Rattle.normalizer_iterators.specs.NextItem.{CameFirst, YieldsNext}
 use Rattle.normalizer_iterators.specs.Reads.{character_of}
 use Rattle.normalizer_iterators.specs.ToCome.{IsToCome, AreShortToCome, reads_left}
-use Rattle.normalizer_iterators.specs.WaitingList.{ordered}
+use Rattle.normalizer_iterators.specs.WaitingList.{ordered_text}
 
 -- an item without its class
 abbrev pub item_of : Option (Result ClassedChar NormalizeError) → Option (Result ℕ NormalizeError)
@@ -33,7 +33,7 @@ module _ {I : Type 0} where
 
   -- these characters, by what the delegate yields, if memory suffices
   abbrev pub WillYield : (I → List ℕ → Type 0) → Decomposition I → List ℕ → Type 0
-  WillYield Comes s out = IsToCome Comes (nfd (reading_of s)) (pending_of s) s.delegate (ordered s.waiting) out
+  WillYield Comes s out = IsToCome Comes (nfd (reading_of s)) (pending_of s) s.delegate (ordered_text s.waiting) out
 
   -- the runs that are still to come are short
   abbrev pub StaysShort : (I → Option ℕ → I → Type 0) → Decomposition I → Type 0
@@ -41,7 +41,7 @@ module _ {I : Type 0} where
 
   -- nothing is to come
   abbrev pub IsEnded : Decomposition I → Type 0
-  IsEnded s = (pending_of s ≡ None) × (ordered s.waiting ≡ [])
+  IsEnded s = (pending_of s ≡ None) × (ordered_text s.waiting ≡ [])
 
   -- the delegate may be called, and ends
   abbrev pub CanDecompose : (I → Type 0) → (I → Count) → Decomposition I → Type 0
@@ -49,7 +49,8 @@ module _ {I : Type 0} where
 
   -- no more characters than this come
   abbrev pub items_left : (I → Count) → Decomposition I → ℕ
-  items_left left s = length (ordered s.waiting) + longest_list * reads_left (pending_of s) (size (left s.delegate))
+  items_left left s =
+      length (ordered_text s.waiting) + longest_list * reads_left (pending_of s) (size (left s.delegate))
 
   -- what a call of `next` returned and left
   pub record DecompositionSteps (from : Source I) (s : Decomposition I) (r : Option (Result ℕ NormalizeError))

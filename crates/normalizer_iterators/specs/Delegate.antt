@@ -2,7 +2,7 @@
 use Rattle.std.specs.Prelude.{◌≡◌, ℕ, ◌<◌, List, [], Option, MatchOption, OnSome, ⊤}
 use Rattle.std.specs.Iterator.{Count, Drains, IsFinite, Yields, size}
 use Rattle.std.specs.declared.iter.Iterator.{Ghosts}
-use Rattle.normalizer_text.specs.Steps.{Spells}
+use Rattle.normalizer_text.specs.DecodingSteps.{Spells}
 
 -- what is said of an iterator of characters: when it may be called, what its calls yield, and how much is left
 abbrev pub Source : Type 0 → Type 1

@@ -5,7 +5,7 @@ use Rattle.std.specs.Iterator.{Drains, Yields, YieldsThen}
 use Rattle.normal_forms.specs.Cut.{IsFront}
 use Rattle.normal_forms.specs.Reading.{Reading}
 use Rattle.normal_forms.specs.ShortRuns.{HasShortRuns}
-use Rattle.normalizer_text.specs.Steps.{Spells}
+use Rattle.normalizer_text.specs.DecodingSteps.{Spells}
 use Rattle.normalizer_iterators.specs.declared.error.NormalizeError.{NormalizeError}
 use Rattle.normalizer_iterators.specs.declared.error.NormalizeError.TheVariants.{Memory}
 

@@ -7,7 +7,7 @@ pub mod Items
 pub mod Iterating
 pub mod LazyComposing
 pub mod LazyReading
-pub mod MarkRun
+pub mod CharactersLeft
 pub mod MarkRuns
 pub mod NextItem
 pub mod Reads

@@ -6,13 +6,13 @@ use Rattle.normal_forms.specs.CompositionByStarters.{is_above}
 use Rattle.normalizer_iterators.specs.declared.marks.StayingMarks.{StayingMarks}
 
 -- those that are left
-unfoldable pub staying : StayingMarks → List ℕ
-staying b = drop b.next b.marks.items
+unfoldable pub staying_marks : StayingMarks → List ℕ
+staying_marks b = drop b.next b.marks.items
 
 -- how many places are in use
-unfoldable pub used : StayingMarks → ℕ
-used b = small_vec_len b.marks
+unfoldable pub mark_count : StayingMarks → ℕ
+mark_count b = small_vec_len b.marks
 
 -- D115: one of them blocks a character exactly if its class is below `unblocked`
 unfoldable pub BlocksBelow : Reading → StayingMarks → Type 0
-BlocksBelow d b = (c : ℕ) → is_above d (staying b) c ≡ nat_le b.unblocked (d.class c)
+BlocksBelow d b = (c : ℕ) → is_above d (staying_marks b) c ≡ nat_le b.unblocked (d.class c)

@@ -7,21 +7,25 @@ use Rattle.normalizer_iterators.specs.declared.waiting.WaitingList.{WaitingList}
 use Rattle.normalizer_iterators.specs.Waiting as entries
 
 -- those that come out next, as they follow one another
-unfoldable pub ordered : WaitingList → List ℕ
-ordered b = entries.characters (drop b.next (take b.run b.entries.items))
+unfoldable pub ordered_text : WaitingList → List ℕ
+ordered_text b = entries.characters (drop b.next (take b.run b.entries.items))
 
 -- the marks after them, not yet in order
-unfoldable pub unordered : WaitingList → List ℕ
-unordered b = entries.characters (drop b.run b.entries.items)
+unfoldable pub unordered_text : WaitingList → List ℕ
+unordered_text b = entries.characters (drop b.run b.entries.items)
+
+-- those that come out next are marks alone
+unfoldable pub HasOnlyMarks : WaitingList → Type 0
+HasOnlyMarks b = entries.HasMarks (drop b.next (take b.run b.entries.items))
 
 -- how many places are in use
-unfoldable pub held : WaitingList → ℕ
-held b = small_vec_len b.entries
+unfoldable pub item_count : WaitingList → ℕ
+item_count b = small_vec_len b.entries
 
 -- the classes are those of the reading
 unfoldable pub AgreesWith : Reading → WaitingList → Type 0
 AgreesWith d b = entries.HasClassesOf d b.entries.items
 
 -- what will be yielded, if `rest` is still to be added
-unfoldable pub reordered : Reading → WaitingList → List ℕ → List ℕ
-reordered d b rest = ordered b ++ order d (unordered b ++ rest)
+unfoldable pub reordered_text : Reading → WaitingList → List ℕ → List ℕ
+reordered_text d b rest = ordered_text b ++ order d (unordered_text b ++ rest)

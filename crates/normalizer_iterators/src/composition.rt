@@ -8,14 +8,14 @@ ghost use Rattle.normal_forms.specs.ShortRuns.{buffer_limit};
 ghost use Rattle.normalizer_tables.specs.Characters.{has_class_form};
 ghost use Rattle.normalizer_tables.specs.Pairs.{pair_of};
 ghost use Rattle.normalizer_tables.specs.Readings.{reading_by};
-ghost use Rattle.normalizer_text.specs.Steps.{Spells};
+ghost use Rattle.normalizer_text.specs.DecodingSteps.{Spells};
 ghost use Rattle.normalizer_iterators.specs.DecompositionItems.{CanDecompose};
 ghost use Rattle.normalizer_iterators.specs.Delegate.{MayYield};
 ghost use Rattle.normalizer_iterators.specs.LazyComposing.{SuitsLazyComposing};
 ghost use Rattle.normalizer_iterators.specs.inner.PassthroughItems.{IsAtPassthrough};
 ghost use Rattle.normalizer_iterators.specs.LazyReading.{SuitsLazyReading};
 ghost use Rattle.normalizer_iterators.specs.NextItem.{IsFormOfSource};
-ghost use Rattle.normalizer_iterators.specs.StayingMarks.{staying, used};
+ghost use Rattle.normalizer_iterators.specs.StayingMarks.{mark_count, staying_marks};
 ghost use Rattle.normalizer_iterators.specs.Composing.{ComposesStarterBy, HasVisitedBy, IsJoinBy};
 ghost use Rattle.normalizer_iterators.specs.Composing.{IsRefused};
 ghost use Rattle.normalizer_iterators.specs.inner.ReadingOn.{IfShortRuns};
@@ -147,7 +147,7 @@ impl<'data, I: Iterator<Item = char> + Drop> Composition<'data, I> {
     #[inline(always)]
     fn pass(&mut self) -> Option<Result<char, NormalizeError>>
         requires can { CanCompose I.can_next I.remaining self.old }
-        requires marks { staying self.old.marks ≡ [] }
+        requires marks { staying_marks self.old.marks ≡ [] }
         requires ahead { self.old.ahead ≡ None }
         requires at_passed { IsAtPassthrough self.old.pairs.now self.old.decomposed }
         ensures { CompositionSteps I.Iterator self.old result self.new }
@@ -164,7 +164,7 @@ impl<'data, I: Iterator<Item = char> + Drop> Composition<'data, I> {
     #[inline(always)]
     fn next_decomposed(&mut self) -> Option<Result<char, NormalizeError>>
         requires can { CanCompose I.can_next I.remaining self.old }
-        requires marks { staying self.old.marks ≡ [] }
+        requires marks { staying_marks self.old.marks ≡ [] }
         requires ahead { self.old.ahead ≡ None }
         ensures { CompositionSteps I.Iterator self.old result self.new }
     {
@@ -214,7 +214,7 @@ fn compose_starter<I: Iterator<Item = char> + Drop>(
     ensures ready { CanDecompose I.can_next I.remaining decomposed.new }
     ensures kept { decomposed.new.characters ≡ decomposed.old.characters }
     ensures ok { IfOk result (λ r. ComposesStarterBy I.next_gives I.remaining pairs.now starter decomposed.old r.0
-        (staying marks.new) r.1 decomposed.new) }
+        (staying_marks marks.new) r.1 decomposed.new) }
     ensures err { IfErr result (IsRefused I.next_gives pairs.now decomposed.old) }
 {
     let mut composite = starter;
@@ -246,7 +246,7 @@ pub(crate) fn visit(
     given: ClassedChar,
 ) -> Result<Visited, AllocError>
     ensures ok { IfOk result (λ v. HasVisitedBy pairs.now starter given marks.old v marks.new) }
-    ensures err { OnErr result ((buffer_limit ≤ used marks.old) × (0 < given.class)) }
+    ensures err { OnErr result ((buffer_limit ≤ mark_count marks.old) × (0 < given.class)) }
 {
     if let Some(joined) = join(pairs, marks, starter, given) {
         return Ok(Visited::Joined(joined));

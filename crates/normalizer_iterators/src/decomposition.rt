@@ -9,12 +9,12 @@ ghost use Rattle.normalizer_tables.specs.Characters.{class_of, has_class_form, c
 ghost use Rattle.normalizer_tables.specs.NfdData.{IsSoundNfdData};
 ghost use Rattle.normalizer_tables.specs.Readings.{reading_by};
 ghost use Rattle.normalizer_tables.specs.declared.characters.IgnoredCharacters.TheVariants.{Dropped};
-ghost use Rattle.normalizer_text.specs.Steps.{Spells};
+ghost use Rattle.normalizer_text.specs.DecodingSteps.{Spells};
 ghost use Rattle.normalizer_iterators.specs.Delegate.{HasRead, IsReadyAfter, MayYield};
 ghost use Rattle.normalizer_iterators.specs.Iterating.{YieldsFormBy};
 ghost use Rattle.normalizer_iterators.specs.LazyReading.{SuitsLazyReading};
 ghost use Rattle.normalizer_iterators.specs.NextItem.{IsFormOfSource};
-ghost use Rattle.normalizer_iterators.specs.WaitingList.{AgreesWith, ordered, unordered};
+ghost use Rattle.normalizer_iterators.specs.WaitingList.{AgreesWith, ordered_text, unordered_text};
 ghost use Rattle.normalizer_iterators.specs.Waiting.{HasClassesOf};
 ghost use Rattle.normalizer_iterators.specs.Reads.{character_of, HasOwnWord, HasOwnWords};
 ghost use Rattle.normalizer_iterators.specs.inner.ReadingOn.{ReadsChunkAfter, ChunkDidNotFitAfter, IsWholeChunk};
@@ -44,7 +44,7 @@ pub struct Decomposition<'data, I> {
     ghost at_boundary: { ForSome (character_of pending) (λ c. continues (has_class_form characters)
         (reading_by characters ignored []) c ≡ false) },
     ghost word: { HasOwnWords characters pending },
-    ghost settled: { unordered waiting ≡ [] },
+    ghost settled: { unordered_text waiting ≡ [] },
     ghost classes: { HasClassesOf (reading_by characters ignored []) waiting.entries.items },
 }
 
@@ -127,7 +127,7 @@ impl<'data, I: Iterator<Item = char> + Drop> Decomposition<'data, I> {
         following: Option<PendingChar>,
     ) -> Result<char, NormalizeError>
         requires taken { self.old.pending ≡ None }
-        requires empty { ordered self.old.waiting ≡ [] }
+        requires empty { ordered_text self.old.waiting ≡ [] }
         requires at_boundary { continues (has_class_form self.old.characters)
             (reading_by self.old.characters self.old.ignored []) read.character ≡ false }
         requires word { HasOwnWord self.old.characters read }

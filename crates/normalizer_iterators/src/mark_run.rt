@@ -8,9 +8,9 @@ ghost use Rattle.normalizer_tables.specs.Readings.{reading_by};
 ghost use Rattle.normalizer_tables.specs.Characters.{Characters, class_of, list_of};
 ghost use Rattle.normalizer_tables.specs.declared.characters.IgnoredCharacters.TheVariants.{Dropped};
 ghost use Rattle.normalizer_text.specs.Encodings.{decoded_in, first_in};
-ghost use Rattle.normalizer_iterators.specs.MarkRun.{left};
-ghost use Rattle.normalizer_iterators.specs.StayingMarks.{staying, BlocksBelow};
-ghost use Rattle.normalizer_iterators.specs.WaitingList.{ordered, reordered, AgreesWith};
+ghost use Rattle.normalizer_iterators.specs.CharactersLeft.{characters_left};
+ghost use Rattle.normalizer_iterators.specs.StayingMarks.{staying_marks, BlocksBelow};
+ghost use Rattle.normalizer_iterators.specs.WaitingList.{ordered_text, reordered_text, AgreesWith};
 ghost use Rattle.normalizer_iterators.specs.inner.MarkReads.{IsReadTo};
 
 use crate::composition::{Visited, visit};
@@ -45,7 +45,7 @@ impl MarkRun {
     ) -> Option<Self>
         requires some { 0 < length (U.units units) }
         requires first { first ≡ first_in U.encoding (U.units units) }
-        ensures { IfSome result (λ run. left run ≡
+        ensures { IfSome result (λ run. characters_left run ≡
             nfd (reading_by characters.now ignored []) (decoded_in U.encoding (U.units units))) }
     {
         let Ok(Some(waiting)) = read_run(characters, ignored, units, first) else {
@@ -59,7 +59,7 @@ impl MarkRun {
         })
     }
 
-    /// Makes the composed form. Returns nothing also if it doesn't begin with a starter, or has another one.
+    /// Makes the composed form. Returns nothing also if a starter follows the first character.
     pub fn composed<U: Units>(
         characters: &CharacterData<'_>,
         ignored: IgnoredCharacters,
@@ -70,13 +70,20 @@ impl MarkRun {
         requires some { 0 < length (U.units units) }
         requires first { first ≡ first_in U.encoding (U.units units) }
         requires results { HasStarterResults (reading_by characters.now Dropped pairs.now) }
-        ensures { IfSome result (λ run. left run ≡
+        ensures { IfSome result (λ run. characters_left run ≡
             nfc (reading_by characters.now ignored pairs.now) (decoded_in U.encoding (U.units units))) }
     {
         let Ok(Some(mut waiting)) = read_run(characters, ignored, units, first) else {
             return None;
         };
         let mut marks = StayingMarks::new(characters.allocator());
+        if waiting.has_only_marks() {
+            return Some(MarkRun {
+                starter: None,
+                marks,
+                waiting,
+            });
+        }
         let starter = compose_marks(pairs, &mut waiting, &mut marks)?;
         Some(MarkRun {
             starter: Some(starter),
@@ -88,8 +95,8 @@ impl MarkRun {
     /// Takes the next character, if one is left.
     #[inline(always)]
     pub fn pop_front(&mut self) -> Option<char>
-        ensures some { IfSome result (λ c. left self.old ≡ c ∷ left self.new) }
-        ensures none { IfNone result (left self.old ≡ []) }
+        ensures some { IfSome result (λ c. characters_left self.old ≡ c ∷ characters_left self.new) }
+        ensures none { IfNone result (characters_left self.old ≡ []) }
     {
         if let Some(starter) = self.starter {
             self.starter = None;
@@ -115,7 +122,7 @@ fn read_run<U: Units>(
 ) -> Result<Option<WaitingList>, AllocError>
     requires some { 0 < length (U.units units) }
     requires first { first ≡ first_in U.encoding (U.units units) }
-    ensures text { IfOk result (λ read. IfSome read (λ waiting. ordered waiting ≡
+    ensures text { IfOk result (λ read. IfSome read (λ waiting. ordered_text waiting ≡
         nfd (reading_by characters.now ignored []) (decoded_in U.encoding (U.units units)))) }
     ensures classes { IfOk result (λ read. IfSome read (AgreesWith (reading_by characters.now ignored []))) }
 {
@@ -138,8 +145,8 @@ fn read_marks<U: Units>(
     waiting: &mut WaitingList,
 ) -> Result<bool, AllocError>
     requires { IsReadTo (reading_by characters.now ignored []) U.encoding (U.units units) position waiting.old }
-    ensures text { IfOk result (λ all. IsTrue all → reordered (reading_by characters.now ignored []) waiting.new [] ≡
-        nfd (reading_by characters.now ignored []) (decoded_in U.encoding (U.units units))) }
+    ensures text { IfOk result (λ all. IsTrue all → reordered_text (reading_by characters.now ignored []) waiting.new []
+        ≡ nfd (reading_by characters.now ignored []) (decoded_in U.encoding (U.units units))) }
     ensures classes { OnOk result (AgreesWith (reading_by characters.now ignored []) waiting.new) }
 {
     let mut place = position;
@@ -176,11 +183,11 @@ fn compose_marks(
     waiting: &mut WaitingList,
     marks: &mut StayingMarks,
 ) -> Option<char>
-    requires none { staying marks.old ≡ [] }
+    requires none { staying_marks marks.old ≡ [] }
     requires blocking { (d : Reading) → BlocksBelow d marks.old }
-    ensures text { IfSome result (λ starter. (s : Characters) → AgreesWith (reading_by s Dropped pairs.now) waiting.old →
-        compose_by_starters (reading_by s Dropped pairs.now) (ordered waiting.old) ≡ starter ∷ staying marks.new) }
-    ensures all { IfSome result (λ _. ordered waiting.new ≡ []) }
+    ensures text { IfSome result (λ c. (s : Characters) → AgreesWith (reading_by s Dropped pairs.now) waiting.old →
+        compose_by_starters (reading_by s Dropped pairs.now) (ordered_text waiting.old) ≡ c ∷ staying_marks marks.new) }
+    ensures all { IfSome result (λ _. ordered_text waiting.new ≡ []) }
 {
     let first = waiting.pop_front()?;
     if first.class != 0 {

@@ -20,12 +20,12 @@ pub(crate) struct StayingMarks {
 }
 
 impl StayingMarks {
-    ghost use Rattle.normalizer_iterators.specs.StayingMarks.{staying, used, BlocksBelow};
+    ghost use Rattle.normalizer_iterators.specs.StayingMarks.{mark_count, staying_marks, BlocksBelow};
 
-    #[tactic(auto, unfolding(crate::specs::StayingMarks::staying, crate::specs::StayingMarks::used))]
+    #[tactic(auto, unfolding(crate::specs::StayingMarks::staying_marks, crate::specs::StayingMarks::mark_count))]
     pub(crate) fn new(alloc: Global) -> Self
-        ensures staying { staying result ≡ [] }
-        ensures used { used result ≡ 0 }
+        ensures staying { staying_marks result ≡ [] }
+        ensures used { mark_count result ≡ 0 }
         ensures blocking { (d : Reading) → BlocksBelow d result }
     {
         StayingMarks {
@@ -35,11 +35,11 @@ impl StayingMarks {
         }
     }
 
-    #[tactic(auto, unfolding(crate::specs::StayingMarks::staying, crate::specs::StayingMarks::used))]
+    #[tactic(auto, unfolding(crate::specs::StayingMarks::staying_marks, crate::specs::StayingMarks::mark_count))]
     #[inline(always)]
     pub(crate) fn clear(&mut self)
-        ensures staying { staying self.new ≡ [] }
-        ensures used { used self.new ≡ 0 }
+        ensures staying { staying_marks self.new ≡ [] }
+        ensures used { mark_count self.new ≡ 0 }
         ensures blocking { (d : Reading) → BlocksBelow d self.new }
     {
         self.next = 0;
@@ -50,8 +50,8 @@ impl StayingMarks {
     /// The next of them, if one is left.
     #[inline(always)]
     pub(crate) fn pop_front(&mut self) -> Option<char>
-        ensures some { IfSome result (λ c. staying self.old ≡ c ∷ staying self.new) }
-        ensures none { IfNone result ((staying self.old ≡ []) × (staying self.new ≡ [])) }
+        ensures some { IfSome result (λ c. staying_marks self.old ≡ c ∷ staying_marks self.new) }
+        ensures none { IfNone result ((staying_marks self.old ≡ []) × (staying_marks self.new ≡ [])) }
     {
         if self.next < self.marks.len() {
             let front = self.marks[self.next];
@@ -67,7 +67,7 @@ impl StayingMarks {
     #[inline(always)]
     pub(crate) fn is_unblocked(&self, class: u8) -> bool
         ensures { (d : Reading) (c : ℕ) → BlocksBelow d self.now → class ≡ d.class c →
-            result ≡ is_above d (staying self.now) c }
+            result ≡ is_above d (staying_marks self.now) c }
     {
         self.unblocked <= class as u16
     }
@@ -75,11 +75,11 @@ impl StayingMarks {
     /// Adds a mark of this class.
     #[inline(always)]
     pub(crate) fn push(&mut self, mark: char, class: u8) -> Result<(), AllocError>
-        ensures staying { OnOk result (staying self.new ≡ staying self.old ++ mark ∷ []) }
-        ensures used { OnOk result (used self.new ≡ used self.old + 1) }
+        ensures staying { OnOk result (staying_marks self.new ≡ staying_marks self.old ++ mark ∷ []) }
+        ensures used { OnOk result (mark_count self.new ≡ mark_count self.old + 1) }
         ensures blocking { OnOk result
             ((d : Reading) → BlocksBelow d self.old → class ≡ d.class mark → BlocksBelow d self.new) }
-        ensures succeeds { used self.old < buffer_limit → IsOk result }
+        ensures succeeds { mark_count self.old < buffer_limit → IsOk result }
     {
         self.marks.push(mark)?;
         self.unblocked = self.unblocked.max(class as u16 + 1);

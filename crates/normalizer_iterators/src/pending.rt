@@ -5,11 +5,11 @@ ghost use Rattle.normalizer_tables.specs.Characters.{Characters, class_of, has_c
 ghost use Rattle.normalizer_tables.specs.Ignored.{ignored_list};
 ghost use Rattle.normalizer_tables.specs.Readings.{reading_by};
 ghost use Rattle.normalizer_tables.specs.Passthrough.{IsPassthrough};
-ghost use Rattle.normalizer_iterators.specs.Reads.{character_of, HasOwnWord, HasOwnWords};
+ghost use Rattle.normalizer_iterators.specs.Reads.{character_of, HasNoFlag, HasOwnWord, HasOwnWords};
 
 use normalizer_tables::characters::{CharacterData, IgnoredCharacters};
 use normalizer_tables::members::Members;
-use normalizer_tables::word::is_class_form;
+use normalizer_tables::word::{is_backward_combining, is_class_form, is_non_round_trip};
 
 /// The bits of a word that are all 0 if the character is its own list, a starter.
 const PLAIN: u32 = 0x3FFF_FFFF;
@@ -63,6 +63,14 @@ impl PendingChar {
         ensures { (s : Characters) → HasOwnWord s self → IsTrue result → IsPassthrough s self.character }
     {
         self.word & PLAIN == 0
+    }
+
+    /// Whether its word was looked up and has neither flag: the words in place of others have both.
+    #[inline(always)]
+    pub(crate) fn has_no_flag(self) -> bool
+        ensures { (s : Characters) → HasOwnWord s self → IsTrue result → HasNoFlag s self.character }
+    {
+        !is_non_round_trip(self.word) && !is_backward_combining(self.word)
     }
 
     /// Whether a boundary precedes the character: it has no class form, and its list has members.

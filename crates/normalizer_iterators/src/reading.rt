@@ -5,7 +5,7 @@ ghost use Rattle.normalizer_tables.specs.Characters.{list_of};
 ghost use Rattle.normalizer_tables.specs.Ignored.{ignored_list};
 ghost use Rattle.normalizer_tables.specs.Readings.{reading_by};
 ghost use Rattle.normalizer_iterators.specs.Delegate.{IsReadyAfter};
-ghost use Rattle.normalizer_iterators.specs.WaitingList.{held, AgreesWith};
+ghost use Rattle.normalizer_iterators.specs.WaitingList.{item_count, AgreesWith};
 ghost use Rattle.normalizer_iterators.specs.inner.ReadingOn.{Adds, KeepsClasses, ReadsOnAfter, DidNotFitAfter};
 ghost use Rattle.normalizer_iterators.specs.Reads.{character_of, HasOwnWord, HasOwnWords};
 
@@ -60,9 +60,9 @@ pub(crate) fn push_list(
     ensures text { OnOk result (Adds characters.now (list_of characters.now (ignored_list ignored) read.character)
         waiting.old waiting.new) }
     ensures classes { OnOk result (KeepsClasses characters.now waiting.old waiting.new) }
-    ensures held { OnOk result (held waiting.new ≡
-        held waiting.old + length (list_of characters.now (ignored_list ignored) read.character)) }
-    ensures succeeds { held waiting.old + length (list_of characters.now (ignored_list ignored) read.character)
+    ensures held { OnOk result (item_count waiting.new ≡
+        item_count waiting.old + length (list_of characters.now (ignored_list ignored) read.character)) }
+    ensures succeeds { item_count waiting.old + length (list_of characters.now (ignored_list ignored) read.character)
         ≤ buffer_limit → IsOk result }
 {
     match read.class_of_itself(characters) {
@@ -85,8 +85,8 @@ pub(crate) fn push_from(
     requires { first ≤ length members.now }
     ensures text { OnOk result (Adds characters.now (drop first members.now) waiting.old waiting.new) }
     ensures classes { OnOk result (KeepsClasses characters.now waiting.old waiting.new) }
-    ensures held { OnOk result (held waiting.new + first ≡ held waiting.old + length members.now) }
-    ensures succeeds { held waiting.old + length members.now ≤ buffer_limit + first → IsOk result }
+    ensures held { OnOk result (item_count waiting.new + first ≡ item_count waiting.old + length members.now) }
+    ensures succeeds { item_count waiting.old + length members.now ≤ buffer_limit + first → IsOk result }
 {
     for place in first..members.len() {
         if let Some(member) = members.get(place) {

@@ -13,7 +13,7 @@ ghost use Rattle.normalizer_tables.specs.declared.characters.IgnoredCharacters.T
 ghost use Rattle.normalizer_text.specs.Encodings.{decoded_in};
 ghost use Rattle.normalizer_iterators.specs.Reads.{HasOwnWord};
 ghost use Rattle.normalizer_iterators.specs.ShortText.{so_far};
-ghost use Rattle.normalizer_iterators.specs.WaitingList.{held, ordered, AgreesWith};
+ghost use Rattle.normalizer_iterators.specs.WaitingList.{item_count, ordered_text, AgreesWith};
 ghost use Rattle.normalizer_iterators.specs.inner.ReadingOn.{Adds, KeepsClasses};
 ghost use Rattle.normalizer_iterators.specs.inner.Segments.{composed_nfd, HasPairsOf};
 
@@ -141,10 +141,10 @@ fn read_all<U: Units>(
     units: U,
     waiting: &mut WaitingList,
 ) -> bool
-    ensures text { IsTrue result → ordered waiting.new ≡
+    ensures text { IsTrue result → ordered_text waiting.new ≡
         nfd (reading_by characters.now ignored []) (decoded_in U.encoding (U.units units)) }
     ensures classes { IsTrue result → AgreesWith (reading_by characters.now ignored []) waiting.new }
-    ensures short { IsTrue result → length (ordered waiting.new) ≤ buffer_limit }
+    ensures short { IsTrue result → length (ordered_text waiting.new) ≤ buffer_limit }
     ensures fits { length (expand (reading_by characters.now ignored []) (decoded_in U.encoding (U.units units)))
         ≤ buffer_limit → IsTrue result }
 {
@@ -173,10 +173,10 @@ fn push_list(
     ensures text { IsTrue result →
         Adds characters.now (list_of characters.now (ignored_list ignored) read.character) waiting.old waiting.new }
     ensures classes { IsTrue result → KeepsClasses characters.now waiting.old waiting.new }
-    ensures held { IsTrue result → held waiting.new ≡
-        held waiting.old + length (list_of characters.now (ignored_list ignored) read.character) }
-    ensures short { IsTrue result → held waiting.new ≤ buffer_limit }
-    ensures fits { held waiting.old + length (list_of characters.now (ignored_list ignored) read.character)
+    ensures held { IsTrue result → item_count waiting.new ≡
+        item_count waiting.old + length (list_of characters.now (ignored_list ignored) read.character) }
+    ensures short { IsTrue result → item_count waiting.new ≤ buffer_limit }
+    ensures fits { item_count waiting.old + length (list_of characters.now (ignored_list ignored) read.character)
         ≤ buffer_limit → IsTrue result }
 {
     match read.class_of_itself(characters) {
@@ -191,8 +191,8 @@ fn push_list(
 /// Copies what is in order, if it fits.
 #[inline(always)]
 fn copy_all(waiting: &mut WaitingList, text: &mut ShortText) -> bool
-    ensures text { IsTrue result → so_far text.new ≡ ordered waiting.old }
-    ensures fits { length (ordered waiting.old) ≤ buffer_limit → IsTrue result }
+    ensures text { IsTrue result → so_far text.new ≡ ordered_text waiting.old }
+    ensures fits { length (ordered_text waiting.old) ≤ buffer_limit → IsTrue result }
 {
     text.clear();
     while let Some(given) = waiting.pop_front() {
@@ -211,8 +211,8 @@ fn compose_all(
     text: &mut ShortText,
 ) -> bool
     ensures text { IsTrue result → (d : Reading) → AgreesWith d waiting.old → HasPairsOf pairs.now d →
-        so_far text.new ≡ compose_by_starters d (ordered waiting.old) }
-    ensures fits { length (ordered waiting.old) ≤ buffer_limit → IsTrue result }
+        so_far text.new ≡ compose_by_starters d (ordered_text waiting.old) }
+    ensures fits { length (ordered_text waiting.old) ≤ buffer_limit → IsTrue result }
 {
     text.clear();
     while let Some(given) = waiting.pop_front() {

@@ -1,3 +1,3 @@
 -- Packed data read to what the entries say.
-pub mod ReadBack
-pub mod ReadBackWords
+pub mod DataReadBack
+pub mod WordsReadBack

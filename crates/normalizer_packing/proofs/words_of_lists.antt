@@ -1,4 +1,4 @@
 -- Words and their flags.
 pub mod FlagLemmas
 pub mod SpelledWords
-pub mod StepWords
+pub mod StoredSteps

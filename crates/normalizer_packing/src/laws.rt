@@ -1,5 +1,5 @@
 //! The laws of packed data. Each function does nothing: its contract is the law, and its proof is in `proofs/`.
-#![tactic(auto, using(crate::proofs::entry_data::PackingLemmas::one_packing, crate::proofs::reading_back::ReadBack::packs_reads_back))]
+#![tactic(auto, using(crate::proofs::entry_data::PackingLemmas::one_packing, crate::proofs::reading_back::DataReadBack::packs_reads_back))]
 
 ghost use Rattle.std.specs.Prelude.{◌≡◌, List};
 ghost use Rattle.normalizer_tables.specs.Pairs.{Pair};

@@ -7,14 +7,14 @@ mod entries;
 mod flags;
 pub mod laws;
 mod packable;
+mod packed_words;
 mod packing;
 mod pointing;
-mod ranges;
 mod spelling;
-mod steps;
+mod step_words;
 mod store;
 mod stores;
-mod words;
+mod table_words;
 
 use normalizer_tables::{
     CanonicalCompositions, DecompositionData, DecompositionTables,

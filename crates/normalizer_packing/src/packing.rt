@@ -12,10 +12,10 @@ use crate::Packed;
 use crate::breakpoints::breakpoints_of;
 use crate::cap::cap_of;
 use crate::entries::Entries;
-use crate::ranges::table_of;
-use crate::steps::supplement_of;
+use crate::packed_words::PackedWords;
+use crate::step_words::supplement_of;
 use crate::stores::{PackError, Stores, stores_of};
-use crate::words::PackedWords;
+use crate::table_words::table_of;
 use normalizer_tables::entry::{Entry, Kind};
 use normalizer_tables::{
     CanonicalCompositions, DecompositionData, NonRecursiveDecompositionSupplement, TableError,

@@ -7,7 +7,7 @@ use Rattle.icu_normalizer.specs.Uts46.{MapperData}
 use Rattle.normalizer_io.specs.declared.outcome.Answer.{Answer}
 use Rattle.normalizer_io.specs.declared.outcome.Answer.TheVariants.{Done, No}
 use Rattle.normalizer_program.specs.OffenceLines.{line_feed}
-use Rattle.normalizer_program.specs.Labels.{is_kept, kept_lines, TellsKept}
+use Rattle.normalizer_program.specs.KeptFields.{is_kept, kept_lines, TellsKept}
 
 passed_more : (items : List (Bor (List ℕ))) (i : ℕ) (d : Bor (List ℕ)) → i < length items
     → map (λ part. part.now) (take (i + 1) items) ≡ map (λ part. part.now) (take i items) ++ (get_or items i d).now ∷ []

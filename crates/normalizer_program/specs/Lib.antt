@@ -1,6 +1,6 @@
 pub mod Endings
-pub mod Faults
-pub mod Labels
+pub mod ReportedFaults
+pub mod KeptFields
 pub mod Needs
 pub mod OffenceLines
 pub mod Outcome

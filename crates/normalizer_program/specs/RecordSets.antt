@@ -4,7 +4,7 @@ use Rattle.normalizer_records.specs.declared.records.BuildError.{BuildError}
 use Rattle.normalizer_records.specs.declared.records.BuildError.TheVariants.{Memory}
 use Rattle.normalizer_records.specs.RecordValue.{RecordValue, Uts46RecordValue}
 use Rattle.normalizer_builder.specs.Building.{IsSmallest}
-use Rattle.normalizer_rows.specs.declared.table.TheConstants.{ROWS, MAPPER_ROWS}
+use Rattle.normalizer_rows.specs.declared.set_table.TheConstants.{ROWS, MAPPER_ROWS}
 use Rattle.normalizer_rows.specs.Rows.{entry_of, mapper_entry_of}
 use Rattle.normalizer_program.specs.declared.arguments.RecordSet.{RecordSet}
 use Rattle.normalizer_program.specs.declared.arguments.RecordSet.TheVariants.{Rows, Nothing}

@@ -17,7 +17,7 @@ use Rattle.normalizer_program.specs.declared.task.FormTask.{FormTask}
 use Rattle.normalizer_program.specs.declared.task.FormTask.TheVariants.{Write, Check, Locate}
 use Rattle.normalizer_program.specs.declared.task.MapperTask.{MapperTask}
 use Rattle.normalizer_program.specs.declared.task.MapperTask.TheVariants.{Map, Validate, Label}
-use Rattle.normalizer_program.specs.Labels.{fields, TellsKept}
+use Rattle.normalizer_program.specs.KeptFields.{fields, TellsKept}
 use Rattle.normalizer_program.specs.Needs.{Work, OfForm, OfMapper}
 use Rattle.normalizer_program.specs.OffenceLines.{TellsOffence}
 

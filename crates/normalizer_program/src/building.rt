@@ -45,7 +45,7 @@ fn mapper_records_of(alloc: Global, set: RecordSet) -> Result<Vec<Uts46Record>, 
 }
 
 impl From<BuildError> for ToolFault {
-    ghost use Rattle.normalizer_program.specs.Faults.{fault_of_build};
+    ghost use Rattle.normalizer_program.specs.ReportedFaults.{fault_of_build};
 
     ghost from_gives = { λ error fault. fault ≡ fault_of_build error };
 

@@ -41,7 +41,7 @@ impl<T: Drop> From<AllocFailed<T>> for ToolFault {
 }
 
 impl From<TransferError> for ToolFault {
-    ghost use Rattle.normalizer_program.specs.Faults.{fault_of_transfer};
+    ghost use Rattle.normalizer_program.specs.ReportedFaults.{fault_of_transfer};
 
     ghost from_gives = { λ error fault. fault ≡ fault_of_transfer error };
 
@@ -55,7 +55,7 @@ impl From<TransferError> for ToolFault {
 }
 
 impl From<DataError> for ToolFault {
-    ghost use Rattle.normalizer_program.specs.Faults.{fault_of};
+    ghost use Rattle.normalizer_program.specs.ReportedFaults.{fault_of};
 
     ghost from_gives = { λ error fault. fault ≡ fault_of error };
 

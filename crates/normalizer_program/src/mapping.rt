@@ -2,7 +2,7 @@
 ghost use Rattle.std.specs.Prelude.{◌≡◌, ◌==◌, IfOk, IfErr, encode_utf8_all, map, string_bytes};
 ghost use Rattle.std.specs.List.{list_any};
 ghost use Rattle.icu_normalizer.specs.Mappers.{mapper_data_of, mapper_data_of_borrowed};
-ghost use Rattle.normalizer_program.specs.Labels.{fields, is_kept, TellsKept};
+ghost use Rattle.normalizer_program.specs.KeptFields.{fields, is_kept, TellsKept};
 ghost use Rattle.normalizer_program.specs.Replies.{IsReplyOfMapper};
 
 use crate::ending::ToolFault;

@@ -36,11 +36,11 @@ where
         + DataProvider<NormalizerNfcV1>,
 {
     ghost held_for_forms = { λ p. held_for_forms
-        (⟦<P as DataProvider<NormalizerNfdDataV1>>⟧.held p)
-        (⟦<P as DataProvider<NormalizerNfdTablesV1>>⟧.held p)
-        (⟦<P as DataProvider<NormalizerNfkdDataV1>>⟧.held p)
-        (⟦<P as DataProvider<NormalizerNfkdTablesV1>>⟧.held p)
-        (⟦<P as DataProvider<NormalizerNfcV1>>⟧.held p) };
+        (⟦<P as DataProvider<NormalizerNfdDataV1>>⟧.payload p)
+        (⟦<P as DataProvider<NormalizerNfdTablesV1>>⟧.payload p)
+        (⟦<P as DataProvider<NormalizerNfkdDataV1>>⟧.payload p)
+        (⟦<P as DataProvider<NormalizerNfkdTablesV1>>⟧.payload p)
+        (⟦<P as DataProvider<NormalizerNfcV1>>⟧.payload p) };
 
     fn normalizer(&self, form: NormalForm) -> Result<Normalizer, ToolFault> {
         match form {

@@ -26,10 +26,10 @@ pub fn program<R: Source, W: Target>(
     ensures unread { AskForNothing (map string_bytes all.now) → reader.new ≡ reader.old }
     ensures unwritten { AskForNothing (map string_bytes all.now) → writer.new ≡ writer.old }
     ensures ends { (records : RecordSet) (command : Command) → AsksFor (map string_bytes all.now) records command →
-        (outcome : Result Answer ToolFault) × EndsWith outcome result.0 result.1.now
-        × IsOutcomeOver records command (R.left reader.old) (W.taken writer.old) (W.taken writer.new) outcome
-        × (IsErrOf outcome ToolFault.Read → R.refused reader.old reader.new)
-        × (IsErrOf outcome ToolFault.Write → W.refused writer.old writer.new)
+        (outcome : Result Answer ToolFault) × EndsWith outcome result.0 result.1.now × IsOutcomeOver records command
+        (R.bytes_left reader.old) (W.bytes_taken writer.old) (W.bytes_taken writer.new) outcome
+        × (IsErrOf outcome ToolFault.Read → R.refusal reader.old reader.new)
+        × (IsErrOf outcome ToolFault.Write → W.refusal writer.old writer.new)
         × IfErr outcome (λ fault. fault ≢ ToolFault.Write → writer.new ≡ writer.old)
         × (IsErrOf outcome ToolFault.Data → reader.new ≡ reader.old) }
 {

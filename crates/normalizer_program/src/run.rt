@@ -26,9 +26,9 @@ pub fn run<P: CommandData, R: Source, W: Target>(
     writer: &mut W,
 ) -> Result<Answer, ToolFault>
     ensures outcome { IsOutcome command (P.held_for_commands provider.now)
-        (R.left reader.old) (W.taken writer.old) (W.taken writer.new) result }
-    ensures read { IsErrOf result ToolFault.Read → R.refused reader.old reader.new }
-    ensures write { IsErrOf result ToolFault.Write → W.refused writer.old writer.new }
+        (R.bytes_left reader.old) (W.bytes_taken writer.old) (W.bytes_taken writer.new) result }
+    ensures read { IsErrOf result ToolFault.Read → R.refusal reader.old reader.new }
+    ensures write { IsErrOf result ToolFault.Write → W.refusal writer.old writer.new }
     ensures unwritten { IfErr result (λ fault. fault ≢ ToolFault.Write → writer.new ≡ writer.old) }
     ensures unread { IsErrOf result ToolFault.Data → reader.new ≡ reader.old }
 {
@@ -45,10 +45,10 @@ fn answer<R: Source, W: Target>(
     writer: &mut W,
 ) -> Result<Answer, ToolFault>
     ensures outcome { (command : Command) (held : Held) → IsServed (task_of command) held (work_by worker.now) →
-        IsOutcome command held (R.left reader.old) (W.taken writer.old) (W.taken writer.new) result }
+        IsOutcome command held (R.bytes_left reader.old) (W.bytes_taken writer.old) (W.bytes_taken writer.new) result }
     ensures data { IfErr result (λ fault. fault ≢ ToolFault.Data) }
-    ensures read { IsErrOf result ToolFault.Read → R.refused reader.old reader.new }
-    ensures write { IsErrOf result ToolFault.Write → W.refused writer.old writer.new }
+    ensures read { IsErrOf result ToolFault.Read → R.refusal reader.old reader.new }
+    ensures write { IsErrOf result ToolFault.Write → W.refusal writer.old writer.new }
     ensures unwritten { IfErr result (λ fault. fault ≢ ToolFault.Write → writer.new ≡ writer.old) }
 {
     let input = read_all(alloc, reader)?;

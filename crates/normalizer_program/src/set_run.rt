@@ -23,9 +23,9 @@ pub fn run_over<R: Source, W: Target>(
     writer: &mut W,
 ) -> Result<Answer, ToolFault>
     ensures outcome { IsOutcomeOver records command
-        (R.left reader.old) (W.taken writer.old) (W.taken writer.new) result }
-    ensures read { IsErrOf result ToolFault.Read → R.refused reader.old reader.new }
-    ensures write { IsErrOf result ToolFault.Write → W.refused writer.old writer.new }
+        (R.bytes_left reader.old) (W.bytes_taken writer.old) (W.bytes_taken writer.new) result }
+    ensures read { IsErrOf result ToolFault.Read → R.refusal reader.old reader.new }
+    ensures write { IsErrOf result ToolFault.Write → W.refusal writer.old writer.new }
     ensures unwritten { IfErr result (λ fault. fault ≢ ToolFault.Write → writer.new ≡ writer.old) }
     ensures unread { IsErrOf result ToolFault.Data → reader.new ≡ reader.old }
 {

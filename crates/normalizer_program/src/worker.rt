@@ -59,12 +59,12 @@ where
         + DataProvider<NormalizerUts46DataV1>,
 {
     ghost held_for_commands = { λ p. held_for_all
-        (⟦<P as DataProvider<NormalizerNfdDataV1>>⟧.held p)
-        (⟦<P as DataProvider<NormalizerNfdTablesV1>>⟧.held p)
-        (⟦<P as DataProvider<NormalizerNfkdDataV1>>⟧.held p)
-        (⟦<P as DataProvider<NormalizerNfkdTablesV1>>⟧.held p)
-        (⟦<P as DataProvider<NormalizerNfcV1>>⟧.held p)
-        (⟦<P as DataProvider<NormalizerUts46DataV1>>⟧.held p) };
+        (⟦<P as DataProvider<NormalizerNfdDataV1>>⟧.payload p)
+        (⟦<P as DataProvider<NormalizerNfdTablesV1>>⟧.payload p)
+        (⟦<P as DataProvider<NormalizerNfkdDataV1>>⟧.payload p)
+        (⟦<P as DataProvider<NormalizerNfkdTablesV1>>⟧.payload p)
+        (⟦<P as DataProvider<NormalizerNfcV1>>⟧.payload p)
+        (⟦<P as DataProvider<NormalizerUts46DataV1>>⟧.payload p) };
 
     fn worker(&self, task: Task) -> Result<Worker, ToolFault> {
         match task {

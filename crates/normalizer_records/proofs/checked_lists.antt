@@ -1,5 +1,5 @@
 -- What is checked of lists.
-pub mod CutLists
+pub mod ChecksOfCuts
 pub mod JamoOfSyllables
 pub mod OrLemmas
 pub mod RoomLemmas

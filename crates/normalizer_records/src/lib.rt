@@ -2,11 +2,11 @@
 #![tactic(auto)]
 
 mod chains;
+mod cut_lists;
 mod expansion;
 mod faults;
 pub mod laws;
 mod list_faults;
-mod lists;
 mod lookup;
 mod ordering;
 mod pair_list;

@@ -20,7 +20,7 @@ ghost use Rattle.normalizer_records.specs.Faults.{
 ghost use Rattle.normalizer_records.specs.Meaning.{class_of};
 ghost use Rattle.normalizer_records.specs.Recorded.{IsOfCharacters, entry_for};
 
-use crate::lists::{cut_list, cut_mapper_list};
+use crate::cut_lists::{cut_list, cut_mapper_list};
 use crate::lookup::{class_of, recorded_step};
 use crate::records::{Mappings, Record, Uts46Record};
 use normalizer_tables::entry::Entry;

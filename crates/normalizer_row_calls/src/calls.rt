@@ -7,7 +7,7 @@ use icu_normalizer::Offence;
 use normalizer_row_data::normalizer::Normalizer;
 use normalizer_row_words::fault::Answer;
 use normalizer_row_words::input::Input;
-use normalizer_row_words::spelling::{Spelled, spelled_all, spelled_bool};
+use normalizer_row_words::printing::{Spelled, spelled_all, spelled_bool};
 use std::alloc::Global;
 
 /// What the calls of a normalizer return for an input.

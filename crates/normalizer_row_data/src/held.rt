@@ -114,7 +114,7 @@ fn loaded<T: Clone>(part: &Option<T>, marker: DataMarkerInfo) -> Result<T, DataE
 }
 
 impl DataProvider<NormalizerNfdDataV1> for Held {
-    ghost held = { λ p. p.canonical };
+    ghost payload = { λ p. p.canonical };
 
     fn load(&self) -> Result<DecompositionData, DataError> {
         loaded(&self.canonical, DataMarkerInfo::NormalizerNfdDataV1)
@@ -122,7 +122,7 @@ impl DataProvider<NormalizerNfdDataV1> for Held {
 }
 
 impl DataProvider<NormalizerNfkdDataV1> for Held {
-    ghost held = { λ p. p.compatibility };
+    ghost payload = { λ p. p.compatibility };
 
     fn load(&self) -> Result<DecompositionData, DataError> {
         loaded(&self.compatibility, DataMarkerInfo::NormalizerNfkdDataV1)
@@ -130,7 +130,7 @@ impl DataProvider<NormalizerNfkdDataV1> for Held {
 }
 
 impl DataProvider<NormalizerUts46DataV1> for Held {
-    ghost held = { λ p. p.mapper };
+    ghost payload = { λ p. p.mapper };
 
     fn load(&self) -> Result<DecompositionData, DataError> {
         loaded(&self.mapper, DataMarkerInfo::NormalizerUts46DataV1)
@@ -138,7 +138,7 @@ impl DataProvider<NormalizerUts46DataV1> for Held {
 }
 
 impl DataProvider<NormalizerNfdTablesV1> for Held {
-    ghost held = { λ p. p.tables };
+    ghost payload = { λ p. p.tables };
 
     fn load(&self) -> Result<DecompositionTables, DataError> {
         loaded(&self.tables, DataMarkerInfo::NormalizerNfdTablesV1)
@@ -146,7 +146,7 @@ impl DataProvider<NormalizerNfdTablesV1> for Held {
 }
 
 impl DataProvider<NormalizerNfkdTablesV1> for Held {
-    ghost held = { λ p. p.supplementary };
+    ghost payload = { λ p. p.supplementary };
 
     fn load(&self) -> Result<DecompositionTables, DataError> {
         loaded(&self.supplementary, DataMarkerInfo::NormalizerNfkdTablesV1)
@@ -154,7 +154,7 @@ impl DataProvider<NormalizerNfkdTablesV1> for Held {
 }
 
 impl DataProvider<NormalizerNfcV1> for Held {
-    ghost held = { λ p. p.pairs };
+    ghost payload = { λ p. p.pairs };
 
     fn load(&self) -> Result<CanonicalCompositions, DataError> {
         loaded(&self.pairs, DataMarkerInfo::NormalizerNfcV1)
@@ -162,7 +162,7 @@ impl DataProvider<NormalizerNfcV1> for Held {
 }
 
 impl DataProvider<NormalizerNfdSupplementV1> for Held {
-    ghost held = { λ p. p.supplement };
+    ghost payload = { λ p. p.supplement };
 
     fn load(&self) -> Result<NonRecursiveDecompositionSupplement, DataError> {
         loaded(&self.supplement, DataMarkerInfo::NormalizerNfdSupplementV1)

@@ -15,7 +15,7 @@ use normalizer_row_data::setting::Setting;
 use normalizer_row_words::fault::{Answer, Fault};
 use normalizer_row_words::input::text;
 use normalizer_row_words::items::{are, collected};
-use normalizer_row_words::spelling::spelled_all;
+use normalizer_row_words::printing::spelled_all;
 use std::alloc::Global;
 
 /// The NFD of a text over data that are checked once and then used unchecked.

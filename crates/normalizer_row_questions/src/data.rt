@@ -8,7 +8,7 @@ use icu_normalizer::{CodePointTable, DataError, DecompositionData, check_nfd_dat
 use normalizer_row_data::held::Held;
 use normalizer_row_data::normalizer::{Normalizer, form_named};
 use normalizer_row_words::fault::{Answer, Fault};
-use normalizer_row_words::spelling::acceptance;
+use normalizer_row_words::printing::acceptance;
 use normalizer_row_words::words::hexadecimal;
 use std::alloc::Global;
 

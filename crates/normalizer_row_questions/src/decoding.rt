@@ -3,7 +3,7 @@
 //! 61 80`: how many strings of this many of the bytes are decoded as by std: all.
 use normalizer_row_words::fault::{Answer, Fault};
 use normalizer_row_words::input::Input;
-use normalizer_row_words::spelling::spelled_all;
+use normalizer_row_words::printing::spelled_all;
 use normalizer_row_words::words::{all, decimal};
 use normalizer_text::{Chars, Units};
 use std::alloc::Global;

@@ -6,6 +6,6 @@ pub mod data;
 pub mod decoding;
 pub mod mapping;
 pub mod parts;
-pub mod plain;
+pub mod plain_program;
 pub mod properties;
-pub mod recorded;
+pub mod record_questions;

@@ -5,7 +5,7 @@ use normalizer_row_data::held::Held;
 use normalizer_row_words::fault::{Answer, Fault};
 use normalizer_row_words::input::text;
 use normalizer_row_words::items::collected;
-use normalizer_row_words::spelling::{spelled_all, spelled_bool};
+use normalizer_row_words::printing::{spelled_all, spelled_bool};
 use normalizer_row_words::words::character;
 use std::alloc::Global;
 

@@ -7,7 +7,7 @@ use icu_normalizer::{CanonicalCompositions, CodePointTable, DecompositionTables,
 use normalizer_row_data::by_hand::numbers;
 use normalizer_row_data::held::Held;
 use normalizer_row_words::fault::{Answer, Fault};
-use normalizer_row_words::spelling::{Spelled, spelled_all, spelled_bool};
+use normalizer_row_words::printing::{Spelled, spelled_all, spelled_bool};
 use normalizer_row_words::words::{character, hexadecimal};
 use normalizer_tables::{block_count, compose, is_never_second};
 use std::alloc::Global;

@@ -9,7 +9,7 @@ use icu_normalizer::properties::{
 use normalizer_row_data::held::Held;
 use normalizer_row_data::setting::Setting;
 use normalizer_row_words::fault::{Answer, Fault};
-use normalizer_row_words::spelling::{Spelled, spelled_all};
+use normalizer_row_words::printing::{Spelled, spelled_all};
 use normalizer_row_words::words::{character, hexadecimal};
 use std::alloc::Global;
 

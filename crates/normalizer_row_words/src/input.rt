@@ -1,6 +1,6 @@
 //! Inputs as rows write them: characters `0061 0308`, or `bytes 61 CC 88`, or `units 0061 0308`.
 use crate::fault::Fault;
-use crate::spelling::{spelled_all, spelled_text};
+use crate::printing::{spelled_all, spelled_text};
 use crate::words::{all, character};
 use std::alloc::Global;
 

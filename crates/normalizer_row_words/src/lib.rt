@@ -4,7 +4,7 @@
 pub mod fault;
 pub mod input;
 pub mod items;
+pub mod printing;
 pub mod ranges;
 pub mod record_rows;
-pub mod spelling;
 pub mod words;

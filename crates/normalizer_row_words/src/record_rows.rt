@@ -1,7 +1,7 @@
 //! Records as rows write them: `canonical 0308 0301 class 230`, `class 9`, `compatibility 0066 0069`; of the mapper
 //! `mapped 03B9`, `ignored`, `disallowed`.
 use crate::fault::Fault;
-use crate::spelling::spelled_all;
+use crate::printing::spelled_all;
 use crate::words::{all, character, decimal, hexadecimal};
 use icu_normalizer::{Record, Uts46Record, Uts46Status};
 use std::alloc::Global;

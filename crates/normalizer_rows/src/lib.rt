@@ -4,7 +4,7 @@
 
 pub mod row;
 mod set;
-mod table;
+mod set_table;
 
 pub use set::{mapper_records, records};
-pub use table::{MAPPER_ROWS, ROWS};
+pub use set_table::{MAPPER_ROWS, ROWS};

@@ -1,5 +1,5 @@
 pub mod CarriedLemmas
 pub mod MoveLemmas
-pub mod RunLemmas
+pub mod ContinuedRuns
 pub mod SchemeLemmas
 pub mod SettledLemmas

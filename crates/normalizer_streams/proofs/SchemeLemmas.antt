@@ -6,7 +6,7 @@ use Rattle.std.proofs.Math.ListN.{drop_of_length-le}
 use Rattle.std.proofs.lemmas.List.{take_all}
 use Rattle.std.proofs.lemmas.List.Concat.{flat_map-append}
 use Rattle.std.proofs.lemmas.Bool.{eq-eqb, eqb-true, true≢false}
-use Rattle.normalizer_text.specs.Utf16.{first_of_utf16, is_high, is_single, unpaired}
+use Rattle.normalizer_text.specs.Utf16.{first_of_utf16, is_high, is_single, unpaired_step}
 use Rattle.normalizer_text.proofs.rules.Utf16Lemmas.{first-single, first-unpaired}
 use Rattle.normalizer_text.proofs.rules.Utf8Lemmas.{IsDecoding-utf8, HasTrails-utf8}
 use Rattle.normalizer_streams.specs.declared.scheme.ByteOrder.{ByteOrder}
@@ -26,11 +26,11 @@ and-false : (a : Bool) → (a && false) ≡ false
 and-false true = refl
 and-false false = refl
 
-is_single-unpaired : (u : ℕ) (b : Bool) → is_single u ≡ b → (unpaired u).is_error ≡ false → is_single u ≡ true
+is_single-unpaired : (u : ℕ) (b : Bool) → is_single u ≡ b → (unpaired_step u).is_error ≡ false → is_single u ≡ true
 is_single-unpaired u true e h = e
 is_single-unpaired u false e h = absurd (true≢false (rw e at h))
 
-single : (u : ℕ) → (unpaired u).is_error ≡ false → is_single u ≡ true
+single : (u : ℕ) → (unpaired_step u).is_error ≡ false → is_single u ≡ true
 single u h = is_single-unpaired u (is_single u) refl h
 
 module _ (order : ByteOrder) where

@@ -61,11 +61,11 @@ impl Carried {
 
     /// Reads a block, and carries its bytes after the others. Returns false, and carries none, at the end.
     pub(crate) fn read_block<R: Source>(&mut self, reader: &mut R) -> Result<bool, TransferError>
-        ensures carries { IfOk result (Carries (R.left reader.old) (R.left reader.new) self.old self.new) }
+        ensures carries { IfOk result (Carries (R.bytes_left reader.old) (R.bytes_left reader.new) self.old self.new) }
         ensures errors { IfErr result (λ error. (error ≡ TransferError.Read) ⊎ (error ≡ TransferError.Memory)) }
-        ensures read { IsErrOf result TransferError.Read → R.refused reader.old reader.new }
-        ensures unread { IsErrOf result TransferError.Read → Keeps (R.left reader.old) (R.left reader.new) }
-        ensures ahead { OnOk result ((later : R) → R.refused reader.new later → R.refused reader.old later) }
+        ensures read { IsErrOf result TransferError.Read → R.refusal reader.old reader.new }
+        ensures unread { IsErrOf result TransferError.Read → Keeps (R.bytes_left reader.old) (R.bytes_left reader.new) }
+        ensures ahead { OnOk result ((later : R) → R.refusal reader.new later → R.refusal reader.old later) }
     {
         let end = self.len + BLOCK;
         lengthen(&mut self.buffer, end)?;
@@ -110,9 +110,9 @@ fn read_behind<R: Source>(
     ensures front { take place buffer.new ≡ take place buffer.old }
     ensures len { length buffer.new ≡ length buffer.old }
     ensures count { IfOk result (λ count. place + count ≤ length buffer.new) }
-    ensures bytes { ReadConsumes (R.left reader.old) (R.left reader.new) result (drop place buffer.new) }
-    ensures fault { OnErr result (R.refused reader.old reader.new) }
-    ensures ahead { OnOk result ((later : R) → R.refused reader.new later → R.refused reader.old later) }
+    ensures bytes { ReadConsumes (R.bytes_left reader.old) (R.bytes_left reader.new) result (drop place buffer.new) }
+    ensures fault { OnErr result (R.refusal reader.old reader.new) }
+    ensures ahead { OnOk result ((later : R) → R.refusal reader.new later → R.refusal reader.old later) }
 {
     reader.read(&mut buffer[place..end])
 }

@@ -64,15 +64,16 @@ pub fn write_form<R: Source, W: Target>(
     writer: &mut W,
 ) -> Result<(), TransferError>
     ensures form { OnOk result (IsFormWritten (form_by scheme normalizer.now)
-        (R.left reader.old) (W.taken writer.old) (W.taken writer.new)) }
-    ensures end { OnOk result (IsAtEnd (R.left reader.new)) }
+        (R.bytes_left reader.old) (W.bytes_taken writer.old) (W.bytes_taken writer.new)) }
+    ensures end { OnOk result (IsAtEnd (R.bytes_left reader.new)) }
     ensures front { OnErr result (IsFormCutOff (form_by scheme normalizer.now)
-        (R.left reader.old) (W.taken writer.old) (W.taken writer.new)) }
-    ensures read { IsErrOf result TransferError.Read → R.refused reader.old reader.new ⊎ IsEndless (R.left reader.old) }
+        (R.bytes_left reader.old) (W.bytes_taken writer.old) (W.bytes_taken writer.new)) }
+    ensures read { IsErrOf result TransferError.Read →
+        R.refusal reader.old reader.new ⊎ IsEndless (R.bytes_left reader.old) }
     ensures so_far { IsErrOf result TransferError.Read →
         IsWrittenToRun scheme (form_by scheme normalizer.now) (may_continue normalizer.now)
-        (R.left reader.old) (R.left reader.new) (W.taken writer.old) (W.taken writer.new) }
-    ensures write { IsErrOf result TransferError.Write → W.refused writer.old writer.new }
+        (R.bytes_left reader.old) (R.bytes_left reader.new) (W.bytes_taken writer.old) (W.bytes_taken writer.new) }
+    ensures write { IsErrOf result TransferError.Write → W.refusal writer.old writer.new }
 {
     let mut carried = Carried::new(alloc);
     let mut buffers = FormBuffers::new(alloc);
@@ -105,14 +106,14 @@ fn write_settled<W: Target>(
     writer: &mut W,
 ) -> Result<(), TransferError>
     ensures moved { (left : Option (List ℕ)) → OnOk result (Moves (form_by scheme normalizer.now)
-        left left (W.taken writer.old) (W.taken writer.new) carried.old carried.new) }
+        left left (W.bytes_taken writer.old) (W.bytes_taken writer.new) carried.old carried.new) }
     ensures run { IsRun scheme (may_continue normalizer.now) (take searched carried.old) →
         OnOk result (IsRun scheme (may_continue normalizer.now) carried.new) }
-    ensures front { OnErr result
-        (IsCutAnyway (form_by scheme normalizer.now) (W.taken writer.old) (W.taken writer.new) carried.old) }
+    ensures front { OnErr result (IsCutAnyway (form_by scheme normalizer.now)
+        (W.bytes_taken writer.old) (W.bytes_taken writer.new) carried.old) }
     ensures errors { IfErr result (λ error. (error ≡ TransferError.Write) ⊎ (error ≡ TransferError.Memory)) }
-    ensures write { IsErrOf result TransferError.Write → W.refused writer.old writer.new }
-    ensures ahead { OnOk result ((later : W) → W.refused writer.new later → W.refused writer.old later) }
+    ensures write { IsErrOf result TransferError.Write → W.refusal writer.old writer.new }
+    ensures ahead { OnOk result ((later : W) → W.refusal writer.new later → W.refusal writer.old later) }
 {
     let from = searched.saturating_sub(LONGEST_SEQUENCE);
     let bytes = carried.bytes();
@@ -133,12 +134,12 @@ fn write_form_of<W: Target>(
     writer: &mut W,
 ) -> Result<(), TransferError>
     ensures form { OnOk result
-        (Appends (W.taken writer.old) (W.taken writer.new) (form_by scheme normalizer.now bytes.now)) }
+        (Appends (W.bytes_taken writer.old) (W.bytes_taken writer.new) (form_by scheme normalizer.now bytes.now)) }
     ensures front { OnErr result
-        (AppendsFront (W.taken writer.old) (W.taken writer.new) (form_by scheme normalizer.now bytes.now)) }
+        (AppendsFront (W.bytes_taken writer.old) (W.bytes_taken writer.new) (form_by scheme normalizer.now bytes.now)) }
     ensures errors { IfErr result (λ error. (error ≡ TransferError.Write) ⊎ (error ≡ TransferError.Memory)) }
-    ensures write { IsErrOf result TransferError.Write → W.refused writer.old writer.new }
-    ensures ahead { OnOk result ((later : W) → W.refused writer.new later → W.refused writer.old later) }
+    ensures write { IsErrOf result TransferError.Write → W.refusal writer.old writer.new }
+    ensures ahead { OnOk result ((later : W) → W.refusal writer.new later → W.refusal writer.old later) }
 {
     match buffers.form_of(scheme, normalizer, bytes) {
         Ok(form) => write_all(writer, form),

@@ -8,21 +8,21 @@ pub record FixedList : Type 0 where
   pub member_classes : List ℕ
 
 -- a fixed list with the class of the character and the classes of the members
-abbrev pub fixed : List ℕ → ℕ → List ℕ → Option FixedList
-fixed members k ks = Some (record { list = members; class = k; member_classes = ks })
+abbrev pub fixed_list_with : List ℕ → ℕ → List ℕ → Option FixedList
+fixed_list_with members k ks = Some (record { list = members; class = k; member_classes = ks })
 
 -- the nine characters that have a fixed list
 unfoldable pub fixed_list_of : ℕ → Option FixedList
 fixed_list_of c =
-    if c == 0x0340 then fixed (0x0300 ∷ []) 230 (230 ∷ [])
-    else if c == 0x0341 then fixed (0x0301 ∷ []) 230 (230 ∷ [])
-    else if c == 0x0343 then fixed (0x0313 ∷ []) 230 (230 ∷ [])
-    else if c == 0x0344 then fixed (0x0308 ∷ 0x0301 ∷ []) 230 (230 ∷ 230 ∷ [])
-    else if c == 0x0F73 then fixed (0x0F71 ∷ 0x0F72 ∷ []) 0 (129 ∷ 130 ∷ [])
-    else if c == 0x0F75 then fixed (0x0F71 ∷ 0x0F74 ∷ []) 0 (129 ∷ 132 ∷ [])
-    else if c == 0x0F81 then fixed (0x0F71 ∷ 0x0F80 ∷ []) 0 (129 ∷ 130 ∷ [])
-    else if c == 0xFF9E then fixed (0x3099 ∷ []) 0 (8 ∷ [])
-    else if c == 0xFF9F then fixed (0x309A ∷ []) 0 (8 ∷ [])
+    if c == 0x0340 then fixed_list_with (0x0300 ∷ []) 230 (230 ∷ [])
+    else if c == 0x0341 then fixed_list_with (0x0301 ∷ []) 230 (230 ∷ [])
+    else if c == 0x0343 then fixed_list_with (0x0313 ∷ []) 230 (230 ∷ [])
+    else if c == 0x0344 then fixed_list_with (0x0308 ∷ 0x0301 ∷ []) 230 (230 ∷ 230 ∷ [])
+    else if c == 0x0F73 then fixed_list_with (0x0F71 ∷ 0x0F72 ∷ []) 0 (129 ∷ 130 ∷ [])
+    else if c == 0x0F75 then fixed_list_with (0x0F71 ∷ 0x0F74 ∷ []) 0 (129 ∷ 132 ∷ [])
+    else if c == 0x0F81 then fixed_list_with (0x0F71 ∷ 0x0F80 ∷ []) 0 (129 ∷ 130 ∷ [])
+    else if c == 0xFF9E then fixed_list_with (0x3099 ∷ []) 0 (8 ∷ [])
+    else if c == 0xFF9F then fixed_list_with (0x309A ∷ []) 0 (8 ∷ [])
     else None
 
 -- the list of U+FDFA ARABIC LIGATURE SALLALLAHOU ALAYHE WASALLAM

@@ -56,8 +56,8 @@ two_characters w = TwoCharacters (bit_and w 0x7FFF) (bit_and (w / 2 ^ 15) 0x7FFF
 
 -- a word that points into the tables: the first item, the low bits of the length, and whether all members after the
 -- first are promised as marks
-unfoldable pub listed : ℕ → WordReading
-listed w = Listed (bit_and w 0x3FFFFFFF / 2 ^ 16 - 1) (bit_and w 0xF) (not (bit_and w 0x10 == 0))
+unfoldable pub listed_reading : ℕ → WordReading
+listed_reading w = Listed (bit_and w 0x3FFFFFFF / 2 ^ 16 - 1) (bit_and w 0xF) (not (bit_and w 0x10 == 0))
 
 -- a word with high zeros
 unfoldable pub read_low : ℕ → ℕ → WordReading
@@ -75,4 +75,4 @@ read c w is_mapper =
     else if is_special_class_form w then SpecialForm (low_byte w)
     else if not (has_high_zeros w) && not (has_low_zeros w) then two_characters w
     else if has_high_zeros w then read_low c w
-    else listed w
+    else listed_reading w

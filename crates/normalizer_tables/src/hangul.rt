@@ -49,6 +49,7 @@ pub fn compose_hangul(first: char, second: char) -> Option<char>
 pub fn is_never_hangul_second(second: char) -> bool
     ensures { IsTrue result ↔ ((first : ℕ) → compose_hangul first second ≡ None) }
 {
+    // `&`: both are two comparisons, which need no branch.
     !is_vowel(second) & !is_trailing_consonant(second)
 }
 

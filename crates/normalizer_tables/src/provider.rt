@@ -65,15 +65,15 @@ pub trait DataMarker {
 
 /// A provider of the data of a marker. Constructors check what `load` returns, so a provider need not be trusted.
 pub trait DataProvider<M: DataMarker> {
-    ghost held: { Self → Option M.Data };
+    ghost payload: { Self → Option M.Data };
 
     /// Returns what is held for the marker.
     ///
     /// # Errors
     /// `Provider` exactly if nothing is held; otherwise `Memory` alone.
     fn load(&self) -> Result<M::Data, DataError>
-        ensures ok { IfOk result (λ d. held self.now ≡ Some d) }
-        ensures missing { IsErrOf result (DataError.Provider M.INFO) ↔ IsNone (held self.now) }
+        ensures ok { IfOk result (λ d. payload self.now ≡ Some d) }
+        ensures missing { IsErrOf result (DataError.Provider M.INFO) ↔ IsNone (payload self.now) }
         ensures refused { IfErr result (λ e. (e ≡ DataError.Provider M.INFO) ⊎ (e ≡ DataError.Memory)) };
 }
 

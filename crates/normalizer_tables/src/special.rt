@@ -1,6 +1,6 @@
 //! The nine characters whose fixed list no word spells.
 ghost use Rattle.std.specs.Prelude.{◌≡◌};
-ghost use Rattle.normalizer_tables.specs.SpecialLists.{FixedList as Fixed, fixed, fixed_list_of};
+ghost use Rattle.normalizer_tables.specs.SpecialLists.{FixedList as Fixed, fixed_list_of, fixed_list_with};
 
 use crate::members::Members;
 use std::marker::Model;

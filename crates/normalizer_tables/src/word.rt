@@ -49,7 +49,7 @@ pub enum WordReading {
 }
 
 /// Returns the reading of the word of a character, in the mapper's data or in others.
-#[tactic(auto, using(crate::proofs::words::WordLemmas::item_above_zero), unfolding(crate::specs::Words::read, crate::specs::Words::two_characters, crate::specs::Words::listed, crate::specs::Words::read_low))]
+#[tactic(auto, using(crate::proofs::words::WordLemmas::item_above_zero), unfolding(crate::specs::Words::read, crate::specs::Words::two_characters, crate::specs::Words::listed_reading, crate::specs::Words::read_low))]
 #[inline(always)]
 pub fn read(character: char, word: u32, is_mapper: bool) -> WordReading
     ensures { result ≡ read character word is_mapper }

@@ -31,7 +31,7 @@ struct Lacking;
 impl<M: DataMarker> DataProvider<M> for Lacking {
     ghost use Rattle.std.specs.Prelude.{None};
 
-    ghost held = { λ _. None };
+    ghost payload = { λ _. None };
 
     fn load(&self) -> Result<M::Data, DataError> {
         Err(DataError::Provider(M::INFO))

@@ -16,11 +16,11 @@ struct Narrow {
 }
 
 impl Write for Narrow {
-    ghost taken = { λ s. string_bytes s.text };
+    ghost text_taken = { λ s. string_bytes s.text };
 
-    ghost refused = { AnyFault };
+    ghost refusal = { AnyFault };
 
-    ghost left = { λ old new. string_bytes new.text ≡ string_bytes old.text };
+    ghost refusal_effect = { λ old new. string_bytes new.text ≡ string_bytes old.text };
 
     fn write_str(&mut self, text: &str) -> Result<(), SinkError> {
         self.writes = self.writes.saturating_add(1);
@@ -65,13 +65,13 @@ struct Noting {
 }
 
 impl Write16 for Noting {
-    ghost taken = { λ s. s.units.items };
+    ghost text_taken = { λ s. s.units.items };
 
-    ghost refused = { AnyFault };
+    ghost refusal = { AnyFault };
 
-    ghost left = { λ old new. new.units.items ≡ old.units.items };
+    ghost refusal_effect = { λ old new. new.units.items ≡ old.units.items };
 
-    ghost hinted = { λ _ _ _ _. ⊤ };
+    ghost length_hint = { λ _ _ _ _. ⊤ };
 
     fn size_hint(&mut self, len: usize) -> Result<(), SinkError> {
         if self.refuses_hints {

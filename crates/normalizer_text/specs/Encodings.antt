@@ -1,7 +1,7 @@
 -- The encodings, each with the first step of its units.
 use Rattle.std.specs.Prelude.{ℕ, Bool, List, encode_utf8_all}
-use Rattle.normalizer_text.specs.declared.step.Step.{Step}
-use Rattle.normalizer_text.specs.Steps.{decoded}
+use Rattle.normalizer_text.specs.declared.decoding_step.Step.{Step}
+use Rattle.normalizer_text.specs.DecodingSteps.{decoded_text}
 use Rattle.normalizer_text.specs.Utf8.{continuation, allows, first_of_utf8}
 use Rattle.normalizer_text.specs.Utf16.{is_low, first_of_utf16, encode_utf16_all}
 
@@ -22,7 +22,7 @@ encoded_in Encoding.Utf16 x = encode_utf16_all x
 
 -- the text that units decode to
 abbrev pub decoded_in : Encoding → List ℕ → List ℕ
-decoded_in e units = decoded (first_in e) units
+decoded_in e units = decoded_text (first_in e) units
 
 -- a unit can come after the first one of a step: no character begins with it
 abbrev pub trails_in : Encoding → ℕ → Bool

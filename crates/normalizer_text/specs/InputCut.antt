@@ -4,7 +4,7 @@ use Rattle.std.specs.Prelude.{◌≡◌, ℕ, ◌≤◌, ◌<◌, true, false, L
 use Rattle.normal_forms.specs.Reading.{Reading}
 use Rattle.normal_forms.specs.declared.Form.{Form}
 use Rattle.normal_forms.specs.Forms.{normal_form, IsNormalized}
-use Rattle.normalizer_text.specs.Steps.{IsWellFormed, IsBoundary}
+use Rattle.normalizer_text.specs.DecodingSteps.{IsWellFormed, IsBoundary}
 use Rattle.normalizer_text.specs.Encodings.{Encoding, first_in, decoded_in}
 
 -- the units are well-formed (D85), and what they decode to is normalized

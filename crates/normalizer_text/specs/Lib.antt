@@ -7,7 +7,7 @@ pub mod MaximalSubparts
 pub mod Outputs
 pub mod Scans
 pub mod Sinks
-pub mod Steps
+pub mod DecodingSteps
 pub mod Utf16
 pub mod Utf8
 pub mod inner

@@ -2,8 +2,8 @@
 -- of maximal subparts).
 use Rattle.std.specs.Prelude.{◌≡◌, ℕ, ◌<◌, ◌≤◌, ◌⊎◌, List, [], ◌∷◌, ◌++◌, length, take}
 use Rattle.std.specs.List.{Contains}
-use Rattle.normalizer_text.specs.declared.step.Step.{Step}
-use Rattle.normalizer_text.specs.Steps.{read, replaced}
+use Rattle.normalizer_text.specs.declared.decoding_step.Step.{Step}
+use Rattle.normalizer_text.specs.DecodingSteps.{read, replacement_step}
 use Rattle.normalizer_text.specs.Utf8.{ByteRange, Row, well_formed_sequences, scalar_value}
 
 -- the byte is within the range
@@ -39,4 +39,4 @@ pub data IsStepOfUtf8 (bytes : List ℕ) : Step → Type 0 where
   sequence : (n : ℕ) → n ≤ length bytes → IsWellFormedSequence (take n bytes)
       → IsStepOfUtf8 bytes (read (scalar_value (take n bytes)) n)
   subpart : (n : ℕ) → ((m : ℕ) → IsWellFormedSequence (take m bytes) → ⊥) → IsMaximalSubpart bytes n
-      → IsStepOfUtf8 bytes (replaced n)
+      → IsStepOfUtf8 bytes (replacement_step n)

@@ -2,7 +2,7 @@
 use Rattle.std.specs.Prelude.{ℕ, ◌+◌, ◌/◌, ◌<◌, ◌≤◌, List, nat_lt, min, if◌then◌else◌, All}
 use Rattle.std.specs.List.{prefix_len, slice_range}
 use Rattle.normalizer_text.specs.Encodings.{Encoding, first_in, decoded_in}
-use Rattle.normalizer_text.specs.Steps.{IsBoundary}
+use Rattle.normalizer_text.specs.DecodingSteps.{IsBoundary}
 
 -- the number of units before the first one that is not below the bound
 abbrev pub leading_below : ℕ → List ℕ → ℕ

@@ -2,8 +2,8 @@
 use Rattle.std.specs.Prelude.{ℕ, suc, ◌+◌, ◌-◌, ◌*◌, ◌==◌, Bool, List, [], ◌∷◌, length, take, find, Option, Some, None}
 use Rattle.std.specs.Prelude.{if◌then◌else◌}
 use Rattle.std.specs.Int.{is_in_range}
-use Rattle.normalizer_text.specs.declared.step.Step.{Step}
-use Rattle.normalizer_text.specs.Steps.{read, replaced, decoded}
+use Rattle.normalizer_text.specs.declared.decoding_step.Step.{Step}
+use Rattle.normalizer_text.specs.DecodingSteps.{read, replacement_step, decoded_text}
 
 -- the least and the greatest byte that may be at a place
 pub record ByteRange : Type 0 where
@@ -50,10 +50,10 @@ unfoldable pub row_of : ℕ → Option Row
 row_of b = find (λ r. allows r.lead b) well_formed_sequences
 
 -- the number of leading places that have a byte that may be there
-abbrev pub matched : List ByteRange → List ℕ → ℕ
-matched [] bytes = 0
-matched (r ∷ rs) [] = 0
-matched (r ∷ rs) (b ∷ bs) = if allows r b then suc (matched rs bs) else 0
+abbrev pub matched_count : List ByteRange → List ℕ → ℕ
+matched_count [] bytes = 0
+matched_count (r ∷ rs) [] = 0
+matched_count (r ∷ rs) (b ∷ bs) = if allows r b then suc (matched_count rs bs) else 0
 
 -- the scalar value that a well-formed sequence encodes (table 3-6)
 abbrev pub scalar_value : List ℕ → ℕ
@@ -67,16 +67,16 @@ scalar_value bytes = 0
 -- row, or U+FFFD for the longest beginning of one, or, if b begins no row, for the byte alone ('U+FFFD substitution of
 -- maximal subparts')
 abbrev pub first_by_row : Option Row → ℕ → List ℕ → Step
-first_by_row None b bs = replaced 1
-first_by_row (Some r) b bs = if matched r.trail bs == length r.trail
+first_by_row None b bs = replacement_step 1
+first_by_row (Some r) b bs = if matched_count r.trail bs == length r.trail
     then read (scalar_value (b ∷ take (length r.trail) bs)) (suc (length r.trail))
-    else replaced (suc (matched r.trail bs))
+    else replacement_step (suc (matched_count r.trail bs))
 
 -- the first step of bytes
 abbrev pub first_of_utf8 : List ℕ → Step
-first_of_utf8 [] = replaced 0
+first_of_utf8 [] = replacement_step 0
 first_of_utf8 (b ∷ bs) = first_by_row (row_of b) b bs
 
 -- the text that bytes decode to
 abbrev pub decoded_utf8 : List ℕ → List ℕ
-decoded_utf8 bytes = decoded first_of_utf8 bytes
+decoded_utf8 bytes = decoded_text first_of_utf8 bytes

@@ -1,7 +1,7 @@
 //! Iterators over the characters that units decode to.
 ghost use Rattle.std.specs.Prelude.{◌≡◌, ℕ, List, length, reverse};
 ghost use Rattle.std.specs.Iterator.{at_most};
-ghost use Rattle.normalizer_text.specs.Steps.{TakesFirst, TakesLast, Spells, decoded};
+ghost use Rattle.normalizer_text.specs.DecodingSteps.{TakesFirst, TakesLast, Spells, decoded_text};
 ghost use Rattle.normalizer_text.specs.Encodings.{first_in};
 
 use crate::units::Units;
@@ -32,9 +32,9 @@ impl<U: Units> Chars<U> {
     pub fn new(units: U) -> Chars<U>
         ensures left { result ≡ U.units units }
         ensures spells { let first = first_in U.encoding in
-            Spells (TakesFirst first) result (decoded first (U.units units)) }
+            Spells (TakesFirst first) result (decoded_text first (U.units units)) }
         ensures spells_back { let first = first_in U.encoding in
-            Spells (TakesLast first) result (reverse (decoded first (U.units units))) }
+            Spells (TakesLast first) result (reverse (decoded_text first (U.units units))) }
     {
         Chars { units }
     }

@@ -86,15 +86,15 @@ impl<U: Expected> IsNormalizedSink<U> {
 }
 
 impl<U: Expected> Output<U> for IsNormalizedSink<U> {
-    ghost taken = { λ sink. sink.came };
+    ghost text_taken = { λ sink. sink.came };
 
-    ghost refused = { ExpectsTheSame };
+    ghost refusal = { ExpectsTheSame };
 
-    ghost left = { ChangesNothing };
+    ghost refusal_effect = { ChangesNothing };
 
     ghost refuses = { IsUnexpected };
 
-    ghost hinted = { NoHint };
+    ghost length_hint = { NoHint };
 
     fn begin(&mut self, _len: usize) -> Result<(), SinkError> {
         Ok(())

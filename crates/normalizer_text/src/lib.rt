@@ -4,18 +4,18 @@
 
 mod chars;
 pub mod check_sink;
+mod decoding_step;
 pub mod laws;
 mod offence;
 pub mod output;
 mod scan;
 pub mod sink;
-mod step;
 mod units;
 mod utf16;
 mod utf8;
 
 pub use chars::{Chars, Utf8Chars, Utf16Chars};
+pub use decoding_step::Step;
 pub use offence::Offence;
-pub use step::Step;
 pub use units::Units;
 pub use utf8::text_of;

@@ -23,7 +23,7 @@ ghost use Rattle.std.specs.Prelude.{
 };
 ghost use Rattle.std.specs.Char.Escape.{encode_utf16};
 ghost use Rattle.normalizer_text.specs.Sinks.{AnswersGrowth, AnswersWrite, AnyFault, TakesNothing};
-ghost use Rattle.normalizer_text.specs.Steps.{IsWellFormed};
+ghost use Rattle.normalizer_text.specs.DecodingSteps.{IsWellFormed};
 ghost use Rattle.normalizer_text.specs.Utf16.{first_of_utf16};
 
 use std::alloc::Allocator;
@@ -35,28 +35,28 @@ pub struct SinkError;
 /// A sink of text in UTF-8. It may refuse a call.
 pub trait Write {
     /// The bytes that it has taken.
-    ghost taken: { Self → List ℕ };
+    ghost text_taken: { Self → List ℕ };
 
     /// The fault relation: it holds from the state before a refused call to the state after it, and also from the
     /// state before any calls that succeeded just before that one.
-    ghost refused: { Self → Self → Type 0 };
+    ghost refusal: { Self → Self → Type 0 };
 
     /// What a refused call may leave, from the state before it to the state after it.
-    ghost left: { Self → Self → Type 0 };
+    ghost refusal_effect: { Self → Self → Type 0 };
 
     /// Appends a text.
     ///
     /// # Errors
     /// [`SinkError`] if the sink refuses the text.
     fn write_str(&mut self, text: &str) -> Result<(), SinkError>
-        ensures { AnswersWrite taken refused left self.old text.now result self.new };
+        ensures { AnswersWrite text_taken refusal refusal_effect self.old text.now result self.new };
 
     /// Appends a character.
     ///
     /// # Errors
     /// [`SinkError`] if the sink refuses the character.
     fn write_char(&mut self, c: char) -> Result<(), SinkError>
-        ensures { AnswersWrite taken refused left self.old (encode_utf8 c) result self.new };
+        ensures { AnswersWrite text_taken refusal refusal_effect self.old (encode_utf8 c) result self.new };
 }
 
 /// A sink of text in UTF-16. It may refuse a call.
@@ -64,26 +64,26 @@ pub trait Write16 {
     ghost use Rattle.normalizer_text.specs.declared.sink.SinkError.{SinkError};
 
     /// The 16-bit units that it has taken.
-    ghost taken: { Self → List ℕ };
+    ghost text_taken: { Self → List ℕ };
 
     /// The fault relation: it holds from the state before a refused call to the state after it, and also from the
     /// state before any calls that succeeded just before that one.
-    ghost refused: { Self → Self → Type 0 };
+    ghost refusal: { Self → Self → Type 0 };
 
     /// What a refused call may leave, from the state before it to the state after it.
-    ghost left: { Self → Self → Type 0 };
+    ghost refusal_effect: { Self → Self → Type 0 };
 
     /// What a hint of this many units may return, from the state before it to the state after it.
-    ghost hinted: { Self → ℕ → Result ⊤ SinkError → Self → Type 0 };
+    ghost length_hint: { Self → ℕ → Result ⊤ SinkError → Self → Type 0 };
 
     /// Receives a hint that about `len` 16-bit units will come. It appends none.
     ///
     /// # Errors
     /// [`SinkError`] if the sink refuses the hint.
     fn size_hint(&mut self, len: usize) -> Result<(), SinkError>
-        ensures answer { AnswersWrite taken refused left self.old [] result self.new }
-        ensures none { taken self.new ≡ taken self.old }
-        ensures hint { hinted self.old len result self.new };
+        ensures answer { AnswersWrite text_taken refusal refusal_effect self.old [] result self.new }
+        ensures none { text_taken self.new ≡ text_taken self.old }
+        ensures hint { length_hint self.old len result self.new };
 
     /// Appends 16-bit units that are well-formed by themselves.
     ///
@@ -91,23 +91,23 @@ pub trait Write16 {
     /// [`SinkError`] if the sink refuses the units.
     fn write_slice(&mut self, units: &[u16]) -> Result<(), SinkError>
         requires { IsWellFormed first_of_utf16 units.now }
-        ensures { AnswersWrite taken refused left self.old units.now result self.new };
+        ensures { AnswersWrite text_taken refusal refusal_effect self.old units.now result self.new };
 
     /// Appends a character.
     ///
     /// # Errors
     /// [`SinkError`] if the sink refuses the character.
     fn write_char(&mut self, c: char) -> Result<(), SinkError>
-        ensures { AnswersWrite taken refused left self.old (encode_utf16 c) result self.new };
+        ensures { AnswersWrite text_taken refusal refusal_effect self.old (encode_utf16 c) result self.new };
 }
 
 /// A string refuses only if a growth was refused, and is then unchanged.
 impl<A: Allocator> Write for String<A> {
-    ghost taken = { string_bytes };
+    ghost text_taken = { string_bytes };
 
-    ghost refused = { AnyFault };
+    ghost refusal = { AnyFault };
 
-    ghost left = { TakesNothing string_bytes };
+    ghost refusal_effect = { TakesNothing string_bytes };
 
     fn write_str(&mut self, text: &str) -> Result<(), SinkError>
         ensures answer { AnswersGrowth string_bytes self.old text.now result self.new }
@@ -126,13 +126,13 @@ impl<A: Allocator> Write for String<A> {
 
 /// A vector refuses only if a growth was refused, and is then unchanged. A hint reserves room.
 impl<A: Allocator> Write16 for Vec<u16, A> {
-    ghost taken = { λ v. v.items };
+    ghost text_taken = { λ v. v.items };
 
-    ghost refused = { AnyFault };
+    ghost refusal = { AnyFault };
 
-    ghost left = { TakesNothing (λ v. v.items) };
+    ghost refusal_effect = { TakesNothing (λ v. v.items) };
 
-    ghost hinted = { λ _ _ _ _. ⊤ };
+    ghost length_hint = { λ _ _ _ _. ⊤ };
 
     fn size_hint(&mut self, len: usize) -> Result<(), SinkError>
         ensures answer { AnswersGrowth (λ v. v.items) self.old [] result self.new }

@@ -1,12 +1,12 @@
 //! The three encodings as one trait, over which every loop is written once.
 ghost use Rattle.std.specs.Prelude.{◌≡◌, ◌==◌, ℕ, ◌+◌, ◌<◌, ◌≤◌, min, MatchOption};
 ghost use Rattle.std.specs.Prelude.{List, [], length, take, drop, slice_index};
-ghost use Rattle.normalizer_text.specs.Steps.{IsBoundary, IsFirstStep, IsLastStep};
+ghost use Rattle.normalizer_text.specs.DecodingSteps.{IsBoundary, IsFirstStep, IsLastStep};
 ghost use Rattle.normalizer_text.specs.inner.Backwards.{IsLastStart};
 ghost use Rattle.normalizer_text.specs.Encodings.{Encoding, first_in, trails_in};
 ghost use Rattle.normalizer_text.specs.Scans.{leading_below, low_byte, EndsLowCharacters};
 
-use crate::step::Step;
+use crate::decoding_step::Step;
 use crate::{scan, utf8, utf16};
 
 /// No step takes more units.

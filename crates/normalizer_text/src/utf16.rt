@@ -3,7 +3,7 @@
 ghost use Rattle.std.specs.Prelude.{◌≡◌, ◌<◌, ◌≤◌, IsTrue, length};
 ghost use Rattle.normalizer_text.specs.Utf16.{is_high, is_low, pair_value, first_of_utf16};
 
-use crate::step::Step;
+use crate::decoding_step::Step;
 
 /// The first unit of a pair (D72).
 fn is_high_surrogate(unit: u16) -> bool

@@ -2,12 +2,12 @@
 ghost use Rattle.std.specs.Prelude.{◌≡◌, ◌+◌, ◌<◌, ◌≤◌, IsTrue, length, option_map, slice_index_or};
 ghost use Rattle.std.specs.Str.{continuation_len};
 ghost use Rattle.normalizer_text.specs.Scans.{low_byte};
-ghost use Rattle.normalizer_text.specs.Steps.{IsWellFormed};
-ghost use Rattle.normalizer_text.specs.Utf8.{continuation, allows, row_of, matched, scalar_value, first_of_utf8};
+ghost use Rattle.normalizer_text.specs.DecodingSteps.{IsWellFormed};
+ghost use Rattle.normalizer_text.specs.Utf8.{continuation, allows, row_of, matched_count, scalar_value, first_of_utf8};
 ghost use Rattle.normalizer_text.specs.MaximalSubparts.{IsWellFormedSequence};
 ghost use Rattle.normalizer_text.specs.inner.Trails.{BeginsWithSequence, LeadsFour, LeadsThree};
 
-use crate::step::Step;
+use crate::decoding_step::Step;
 
 /// A byte that may come after the first one of a character.
 #[inline(always)]
@@ -44,7 +44,7 @@ impl Trail {
     /// Returns the number of leading places that have a byte that may be there.
     #[inline(always)]
     fn matched(self, bytes: &[u8]) -> usize
-        ensures { result ≡ matched (trail_ranges self) bytes.now }
+        ensures { result ≡ matched_count (trail_ranges self) bytes.now }
     {
         let mut n = 0;
         while n < self.length && n < bytes.len() && self.allows(n, bytes[n]) {

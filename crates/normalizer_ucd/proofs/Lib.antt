@@ -1,3 +1,3 @@
 pub mod Cuts
 pub mod Loop
-pub mod Ranges
+pub mod RangeLemmas

@@ -59,15 +59,15 @@ class_of at line = do
 abbrev pub is_tagged : List ℕ → Bool
 is_tagged text = starts_with nat_eq text (0x3C ∷ [])
 
-abbrev pub untagged : List ℕ → List ℕ
-untagged text = if is_tagged text then trim (after_first (λ b. b == 0x3E) text) else text
+abbrev pub untagged_mapping : List ℕ → List ℕ
+untagged_mapping text = if is_tagged text then trim (after_first (λ b. b == 0x3E) text) else text
 
 -- whether a mapping is for compatibility, and its characters; an empty text has none
 unfoldable pub mapping_in : LineFault → List ℕ → Result (Bool × List ℕ) LineFault
 mapping_in fault text =
     if length text == 0 then Ok (false, [])
     else do
-      mapping ← characters fault (untagged text)
+      mapping ← characters fault (untagged_mapping text)
       Ok (is_tagged text, mapping)
 
 -- field 5: the decomposition mapping
@@ -143,14 +143,14 @@ read_line exclusions n position line =
     else read_fields exclusions (place n) position (data_of line)
 
 -- the last range is closed
-abbrev pub closed : Place → Position → Result (Unit {0}) LineFault
-closed at position = if position.is_open then Err (fault at problems.Range) else Ok tt
+abbrev pub closed_end : Place → Position → Result (Unit {0}) LineFault
+closed_end at position = if position.is_open then Err (fault at problems.Range) else Ok tt
 
 -- the records of all lines
 unfoldable pub records_in : List Exclusion → List (List ℕ) → Result (List RecordValue) LineFault
 records_in exclusions parts = do
   read ← read_each (read_line exclusions) 1 start parts
-  end ← closed (place (length parts)) read.0
+  end ← closed_end (place (length parts)) read.0
   Ok read.1
 
 unfoldable pub records_by : List Exclusion → List ℕ → Result (List RecordValue) LineFault

@@ -11,7 +11,7 @@ ghost use Rattle.normalizer_ucd.specs.Exclusions.{
 ghost use Rattle.normalizer_ucd.specs.FallibleReads.{Gives};
 
 use crate::error::{Place, Problem, UcdError, UcdFile};
-use crate::text::{code_point, data_of, field, push_found, whole_lines};
+use crate::lines::{code_point, data_of, field, push_found, whole_lines};
 use normalizer_records::Record;
 use std::alloc::Global;
 

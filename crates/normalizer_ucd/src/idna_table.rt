@@ -27,7 +27,7 @@ ghost use Rattle.normalizer_ucd.specs.IdnaTable.{
 ghost use Rattle.normalizer_ucd.specs.FallibleReads.{Gives};
 
 use crate::error::{Place, Problem, UcdError, UcdFile};
-use crate::text::{
+use crate::lines::{
     after_first, before_first, characters, code_point, data_of, push_found, whole_lines,
 };
 use crate::unicode_data::field_of;

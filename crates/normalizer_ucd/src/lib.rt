@@ -4,7 +4,7 @@
 mod error;
 mod exclusions;
 mod idna_table;
-mod text;
+mod lines;
 mod unicode_data;
 
 pub use error::{LineFault, Place, Problem, UcdError, UcdFile};

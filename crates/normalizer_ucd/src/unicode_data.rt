@@ -3,7 +3,7 @@ ghost use Rattle.std.specs.Prelude.{◌≡◌, ◌≤◌, map};
 ghost use Rattle.normalizer_ucd.specs.UnicodeData.{
   character_of,
   class_of,
-  closed,
+  closed_end,
   code_of,
   combining_class,
   entry_of,
@@ -24,13 +24,13 @@ ghost use Rattle.normalizer_ucd.specs.UnicodeData.{
   records_in,
   records_of,
   step,
-  untagged,
+  untagged_mapping,
 };
 ghost use Rattle.normalizer_ucd.specs.FallibleReads.{Gives};
 
 use crate::error::{LineFault, Place, Problem, UcdError, UcdFile};
 use crate::exclusions::{Exclusion, all_mapped, exclusions_of};
-use crate::text::{
+use crate::lines::{
     after_first, characters, code_point, data_of, field, number, push_found, trim, whole_lines,
 };
 use normalizer_records::Record;
@@ -125,7 +125,7 @@ fn place(number: usize) -> Place
 
 /// An error if a range is open at the end.
 fn closed(number: usize, position: Position) -> Result<(), UcdError>
-    ensures { Gives (λ _. tt) result (closed (place number) position) }
+    ensures { Gives (λ _. tt) result (closed_end (place number) position) }
 {
     if position.is_open {
         return Err(UcdError::Line(place(number).fault(Problem::Range)));
@@ -280,7 +280,7 @@ fn is_tagged(text: &[u8]) -> bool
 
 /// A mapping without its tag.
 fn untagged(text: &[u8]) -> &[u8]
-    ensures { result.now ≡ untagged text.now }
+    ensures { result.now ≡ untagged_mapping text.now }
 {
     if is_tagged(text) {
         trim(after_first(text, b'>'))

@@ -1,8 +1,8 @@
 //! Files, the standard streams, and reports on standard error.
 ghost use Rattle.std.specs.Prelude.{None, ⊤};
 
+use normalizer_command::devices::{Inputs, Reports};
 use normalizer_command::fault::{Fault, Message};
-use normalizer_command::inputs::{Inputs, Reports};
 use normalizer_io::{DeviceError, Input, Source};
 use std::fs::{self, File};
 use std::io::{self, ErrorKind, Stdin};
@@ -20,9 +20,9 @@ pub(crate) enum Stream {
 
 impl Source for Stream {
     // What the system returns is unknown.
-    ghost left = { λ _. None };
+    ghost bytes_left = { λ _. None };
 
-    ghost refused = { λ _ _. ⊤ };
+    ghost refusal = { λ _ _. ⊤ };
 
     fn read(&mut self, buffer: &mut [u8]) -> Result<usize, DeviceError> {
         match self {
@@ -66,7 +66,7 @@ fn opened(rt: &HostRuntime, name: &str) -> io::Result<File> {
 pub(crate) struct ErrorStream<'a>(pub(crate) &'a HostRuntime);
 
 impl Reports for ErrorStream<'_> {
-    ghost told = { λ _. None };
+    ghost reports = { λ _. None };
 
     fn report(&mut self, name: &str, fault: Fault) {
         let message = Message { name, fault };

@@ -5,7 +5,7 @@ use Rattle.std.specs.Char.{IsScalar}
 use Rattle.normal_forms.specs.Order.{order}
 use Rattle.normal_forms.specs.declared.Form.TheVariants.{Composing}
 use Rattle.normalizer_tables.specs.declared.condition.Condition.TheVariants.{Order, Results}
-use Rattle.normalizer_conditions.specs.AcceptedData.{AreAcceptedPairs, pair_conditions}
+use Rattle.normalizer_conditions.specs.RequiredConditions.{AreAcceptedPairs, pair_conditions}
 use Rattle.normalizer_tables.specs.Conditions.{IsMet}
 use Rattle.normalizer_tables.specs.Loaded.{characters_loaded, pairs_loaded}
 use Rattle.normalizer_tables.specs.PairConditions.{HasOrderedLists}
@@ -25,7 +25,7 @@ use Rattle.icu_normalizer.specs.ComposingAcceptance.{SuitsComposing}
 use Rattle.icu_normalizer.specs.Serving.{ServesDecomposing, ServesComposing}
 use Rattle.icu_normalizer.proofs.passthrough.PassthroughLemmas.{HasBoundaryBefore-taken}
 use Rattle.icu_normalizer.proofs.acceptance.SoundPairs.{SuitsLazyComposing-met}
-use Rattle.normalizer_iterators.proofs.reads.SoundData.{SuitsLazyReading-nfd, SuitsLazyReading-sound}
+use Rattle.normalizer_iterators.proofs.reads.ReadsOfSoundData.{SuitsLazyReading-nfd, SuitsLazyReading-sound}
 
 -- the list of a character is in canonical order: condition 9
 list_ordered : (s : Characters) (b : Bounds) → IsMet (characters_loaded s b) Order → (c : ℕ) → IsScalar c → order (reading_by s Dropped []) ((reading_by s Dropped []).list c) ≡ (reading_by s Dropped []).list c

@@ -5,7 +5,7 @@ use Rattle.std.proofs.lemmas.List.Elements.{All-nil}
 use Rattle.normal_forms.specs.Boundary.{BeginsAtBoundary}
 use Rattle.normal_forms.specs.Reading.{Reading, IsStarter}
 use Rattle.normalizer_tables.specs.declared.condition.Condition.TheVariants.{Hangul, Words, Order, Pairs, RoundTrip, SafeBeginning}
-use Rattle.normalizer_conditions.specs.AcceptedData.{AreAcceptedPairs, IsAccepted}
+use Rattle.normalizer_conditions.specs.RequiredConditions.{AreAcceptedPairs, IsAccepted}
 use Rattle.normalizer_tables.specs.Characters.{Characters, list_of}
 use Rattle.normalizer_tables.specs.Ignored.{ignored_list}
 use Rattle.normalizer_tables.specs.PairConditions.{HasOrderedLists}

@@ -20,7 +20,7 @@ use Rattle.normal_forms.proofs.ordering.OrderLemmas.{insert-nil, insert-stays, i
 use Rattle.normalizer_tables.specs.declared.characters.IgnoredCharacters.TheVariants.{Dropped}
 use Rattle.normalizer_tables.specs.declared.condition.Bounds.{Bounds}
 use Rattle.normalizer_tables.specs.declared.condition.Condition.TheVariants.{SafeBeginning}
-use Rattle.normalizer_conditions.specs.AcceptedData.{AreAcceptedPairs}
+use Rattle.normalizer_conditions.specs.RequiredConditions.{AreAcceptedPairs}
 use Rattle.normalizer_tables.specs.Conditions.{IsMet}
 use Rattle.normalizer_tables.specs.PairConditions.{is_composing_passthrough, is_taken_as_boundary, KeepsBoundary}
 use Rattle.normalizer_tables.specs.Characters.{Characters, class_of, class_of_itself, has_class_form, list_of, list_read, named_list, reading_of_word, word_of}
@@ -35,7 +35,7 @@ use Rattle.normalizer_tables.proofs.words.CharacterLemmas.{list_of-reads}
 use Rattle.normalizer_tables.proofs.words.WordLemmas.{class_of-class_form, class_of-itself}
 use Rattle.icu_normalizer.specs.Serving.{ServesDecomposing}
 use Rattle.normalizer_iterators.specs.LazyComposing.{SuitsLazyComposing}
-use Rattle.normalizer_iterators.proofs.passthrough.PassthroughItems.{BeginsAtBoundary-apart}
+use Rattle.normalizer_iterators.proofs.passthrough.PassthroughItemLemmas.{BeginsAtBoundary-apart}
 use Rattle.icu_normalizer.specs.BoundaryBefore.{HasBoundaryBefore}
 use Rattle.icu_normalizer.specs.inner.PassthroughRuns.{Divides, CanFollowMark, CanPassThrough}
 

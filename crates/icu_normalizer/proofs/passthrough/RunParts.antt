@@ -11,10 +11,10 @@ use Rattle.std.proofs.lemmas.List.Elements.{All-nil, All-cons, All-head, All-tai
 use Rattle.normal_forms.specs.Reading.{Reading}
 use Rattle.normal_forms.specs.declared.Form.{Form}
 use Rattle.normal_forms.specs.Forms.{IsNormalized}
-use Rattle.normalizer_text.specs.declared.step.Step.{Step}
+use Rattle.normalizer_text.specs.declared.decoding_step.Step.{Step}
 use Rattle.normalizer_text.specs.Encodings.{Encoding, first_in, decoded_in}
-use Rattle.normalizer_text.specs.Steps.{read, replaced, steps, width_of, IsLastStep}
-use Rattle.normalizer_text.specs.Utf16.{is_single, is_high, is_low, pair_value, unpaired, first_of_utf16}
+use Rattle.normalizer_text.specs.DecodingSteps.{read, replacement_step, steps, width_of, IsLastStep}
+use Rattle.normalizer_text.specs.Utf16.{is_single, is_high, is_low, pair_value, unpaired_step, first_of_utf16}
 use Rattle.normalizer_text.specs.Utf8.{first_of_utf8}
 use Rattle.normalizer_text.proofs.steps.StepBoundaries.{steps-parts}
 use Rattle.normalizer_text.proofs.rules.EncodingRules.{IsDecoding-first}
@@ -33,19 +33,19 @@ error_utf8 : (us : List ℕ) → (first_of_utf8 us).is_error ≡ true → (first
 error_utf8 [] e = refl
 error_utf8 (b ∷ bs) e = by_cases (λ s. s.is_error ≡ true → s.character ≡ replacement) b bs (λ _ _. refl) (λ r f m no. absurd (cc)) (λ r f m _. refl) e
 
-error_unpaired : (u : ℕ) → (unpaired u).is_error ≡ true → (unpaired u).character ≡ replacement
+error_unpaired : (u : ℕ) → (unpaired_step u).is_error ≡ true → (unpaired_step u).character ≡ replacement
 error_unpaired u e = elim (cases_Bool (is_single u)) [
-  | inl single ↦ let is = cond-true (is_single u) (read u 1) (replaced 1) single in absurd (true≢false (sym e ∙ ap (λ s. s.is_error) is))
-  | inr other ↦ ap (λ s. s.character) (cond-false (is_single u) (read u 1) (replaced 1) other)
+  | inl single ↦ let is = cond-true (is_single u) (read u 1) (replacement_step 1) single in absurd (true≢false (sym e ∙ ap (λ s. s.is_error) is))
+  | inr other ↦ ap (λ s. s.character) (cond-false (is_single u) (read u 1) (replacement_step 1) other)
 ]
 
 error_utf16 : (us : List ℕ) → (first_of_utf16 us).is_error ≡ true → (first_of_utf16 us).character ≡ replacement
 error_utf16 [] e = refl
 error_utf16 (u ∷ []) e = error_unpaired u e
 error_utf16 (u ∷ v ∷ us) e = elim (cases_Bool (is_high u && is_low v)) [
-  | inl pair ↦ let is = cond-true (is_high u && is_low v) (read (pair_value u v) 2) (unpaired u) pair in absurd (true≢false (sym e ∙ ap (λ s. s.is_error) is))
+  | inl pair ↦ let is = cond-true (is_high u && is_low v) (read (pair_value u v) 2) (unpaired_step u) pair in absurd (true≢false (sym e ∙ ap (λ s. s.is_error) is))
   | inr other ↦
-      let is = cond-false (is_high u && is_low v) (read (pair_value u v) 2) (unpaired u) other in
+      let is = cond-false (is_high u && is_low v) (read (pair_value u v) 2) (unpaired_step u) other in
       ap (λ s. s.character) is ∙ error_unpaired u (sym (ap (λ s. s.is_error) is) ∙ e)
 ]
 

@@ -7,14 +7,14 @@ use Rattle.std.proofs.lemmas.Bool.{cases_Bool, cond-true, cond-false, eqb-true, 
 use Rattle.std.proofs.lemmas.Option.{option_and_then_some}
 use Rattle.std.proofs.lemmas.List.{append_cancel_left, drop_at, take_at}
 use Rattle.std.proofs.lemmas.List.Elements.{All-nil, All-cons, All-append, All-head, All-tail, All-same, All-drop, All-take}
-use Rattle.normalizer_text.specs.declared.step.Step.{Step}
+use Rattle.normalizer_text.specs.declared.decoding_step.Step.{Step}
 use Rattle.normalizer_text.specs.Encodings.{Encoding, first_in}
-use Rattle.normalizer_text.specs.Steps.{steps, width_of, IsBoundary, IsLastStep}
+use Rattle.normalizer_text.specs.DecodingSteps.{steps, width_of, IsBoundary, IsLastStep}
 use Rattle.normalizer_text.specs.Scans.{leading_below, EndsLowCharacters}
 use Rattle.normalizer_text.proofs.steps.StepBoundaries.{boundary-after, boundary-between, boundary-first, boundary-le, boundary-more, steps-parts, steps-take-drop, width_of-append, width_of-steps}
 use Rattle.normalizer_text.proofs.steps.StepLemmas.{steps-some}
 use Rattle.icu_normalizer.specs.inner.PassthroughRuns.{IsRun, IsPassthroughTo, replacement}
-use Rattle.icu_normalizer.specs.inner.PassthroughRuns.{class_after, class_of_step, following, next_class}
+use Rattle.icu_normalizer.specs.inner.PassthroughRuns.{class_after, class_in_order, class_of_step, next_class}
 
 -- ---- the classes of steps that pass
 
@@ -28,8 +28,8 @@ module _ (passed : ℕ → Option ℕ) where
 
   -- what a class says of the step that has it: it is a starter, or the class isn't less than the last
   pub next_class-passed : (last : ℕ) (s : Step) (k : ℕ) → next_class passed last s ≡ Some k → (class_of_step passed s ≡ Some k) × ((k ≡ 0) ⊎ (last ≤ k))
-  unfolding next_class following
-  next_class-passed last s k is = option_and_then_some (following last) (class_of_step passed s) k is (λ j own follows. elim (cases_Bool ((j == 0) || nat_le last j)) [
+  unfolding next_class class_in_order
+  next_class-passed last s k is = option_and_then_some (class_in_order last) (class_of_step passed s) k is (λ j own follows. elim (cases_Bool ((j == 0) || nat_le last j)) [
     | inl goes_on ↦
         let same : Some j ≡ Some k = sym (cond-true ((j == 0) || nat_le last j) (Some j) None goes_on) ∙ follows in
         let equal : j ≡ k = cc in
@@ -38,8 +38,8 @@ module _ (passed : ℕ → Option ℕ) where
   ])
 
   next_class-starter : (last : ℕ) (s : Step) → class_of_step passed s ≡ Some 0 → next_class passed last s ≡ Some 0
-  unfolding next_class following
-  next_class-starter last s is = ap (option_and_then (following last)) is
+  unfolding next_class class_in_order
+  next_class-starter last s is = ap (option_and_then (class_in_order last)) is
 
   class_after-append : (a b : List Step) (last k : ℕ) → class_after passed last a ≡ Some k → class_after passed last (a ++ b) ≡ class_after passed k b
   unfolding class_after

@@ -1,5 +1,5 @@
 -- The step of a Hangul syllable, and its list.
-use Rattle.std.proofs.Common.{◌≡◌, ◌≢◌, ◌==◌, ℕ, ◌+◌, ◌-◌, ◌/◌, ◌%◌, inl, inr, true, [], ◌∷◌, ◌++◌, Some, refl, sym, ◌∙◌, eq-eqb, ne_eqb, arith}
+use Rattle.std.proofs.Common.{◌≡◌, ◌≢◌, ℕ, ◌+◌, ◌-◌, ◌/◌, ◌%◌, inl, inr, true, [], ◌∷◌, ◌++◌, Some, refl, sym, ◌∙◌, eq-eqb, ne_eqb, arith}
 use Rattle.std.proofs.Math.Utf8.{low_scalar}
 use Rattle.std.proofs.lemmas.Bool.{cases_eq}
 use Rattle.std.proofs.lemmas.Bool.Decides.{nat_tests}

@@ -13,14 +13,14 @@ use Rattle.normal_forms.specs.Offence.{IsFirst}
 use Rattle.normal_forms.specs.ShortRuns.{HasShortRuns}
 use Rattle.normal_forms.proofs.boundaries.ChunkLemmas.{HasShortRuns-rest}
 use Rattle.normal_forms.proofs.forms.TextLemmas.{IsText-normal_form}
-use Rattle.normalizer_conditions.specs.AcceptedData.{SuitsTexts}
+use Rattle.normalizer_conditions.specs.RequiredConditions.{SuitsTexts}
 use Rattle.icu_normalizer.specs.inner.Offences.{IsCutUnlessNormalized}
 use Rattle.icu_normalizer.specs.inner.WrittenParts.{Target, WasRefusedPiece, WritesText}
 use Rattle.normalizer_text.specs.CheckSinks.{Expectation, ChangesNothing, ExpectsTheSame, IsUnexpected}
 use Rattle.normalizer_text.specs.Encodings.{Encoding, first_in, encoded_in, decoded_in}
 use Rattle.normalizer_text.specs.Outputs.{NoHint}
-use Rattle.normalizer_text.specs.Steps.{IsBoundary, IsFirstStep}
-use Rattle.normalizer_text.specs.declared.step.Step.{Step}
+use Rattle.normalizer_text.specs.DecodingSteps.{IsBoundary, IsFirstStep}
+use Rattle.normalizer_text.specs.declared.decoding_step.Step.{Step}
 use Rattle.normalizer_text.proofs.steps.StepLemmas.{decoded-nil, decoded-some}
 use Rattle.normalizer_text.proofs.rules.EncodingLemmas.{encoded_in-append, encoded_in-nil}
 use Rattle.normalizer_text.specs.InputCut.{IsInputNormalized, IsInputCut}
@@ -39,7 +39,7 @@ use Rattle.icu_normalizer.specs.inner.PassthroughRuns.{StandsInInput}
 
 -- what is said of a check sink
 abbrev pub check_target : (U : Type 0) → Target Expectation U
-check_target U = record { taken = λ sink. sink.came; refused = ExpectsTheSame; left = ChangesNothing; refuses = IsUnexpected; hinted = NoHint }
+check_target U = record { text_taken = λ sink. sink.came; refusal = ExpectsTheSame; refusal_effect = ChangesNothing; refuses = IsUnexpected; length_hint = NoHint }
 
 module _ (e : Encoding) (d : Reading) (form : Form) (units : List ℕ) where
   abbrev text : List ℕ

@@ -14,9 +14,9 @@ use Rattle.normal_forms.specs.Cut.{IsCut}
 use Rattle.normal_forms.specs.ShortRuns.{HasShortRuns}
 use Rattle.normal_forms.proofs.cuts.OffenceLemmas.{continued_offence, found_differs}
 use Rattle.normal_forms.proofs.forms.TextLemmas.{IsText-normal_form}
-use Rattle.normalizer_conditions.specs.AcceptedData.{SuitsTexts}
+use Rattle.normalizer_conditions.specs.RequiredConditions.{SuitsTexts}
 use Rattle.normalizer_text.specs.Encodings.{Encoding}
-use Rattle.normalizer_text.specs.Steps.{IsWellFormed}
+use Rattle.normalizer_text.specs.DecodingSteps.{IsWellFormed}
 use Rattle.normalizer_text.specs.Utf8.{decoded_utf8, first_of_utf8}
 use Rattle.normalizer_text.proofs.rules.EncodingLemmas.{DecodesBack-in}
 use Rattle.normalizer_text.proofs.rules.StrLemmas.{decoded-chars, IsUtf8-IsWellFormed, IsWellFormed-IsUtf8}

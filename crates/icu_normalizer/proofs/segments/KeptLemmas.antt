@@ -23,9 +23,9 @@ use Rattle.normal_forms.proofs.ordering.ExpandLemmas.{expand-append}
 use Rattle.normal_forms.proofs.forms.ListLemmas.{AllByRecursion-append}
 use Rattle.normal_forms.proofs.ordering.OrderLemmas.{AreMarksBelow, order-past_lower}
 use Rattle.normal_forms.proofs.composing.VisitLemmas.{compose_is_by_starters}
-use Rattle.normalizer_text.specs.declared.step.Step.{Step}
+use Rattle.normalizer_text.specs.declared.decoding_step.Step.{Step}
 use Rattle.normalizer_text.specs.Encodings.{Encoding, first_in, decoded_in}
-use Rattle.normalizer_text.specs.Steps.{steps, IsBoundary}
+use Rattle.normalizer_text.specs.DecodingSteps.{steps, IsBoundary}
 use Rattle.normalizer_text.proofs.steps.StepBoundaries.{boundary-after, boundary-first, boundary-le, boundary-more, boundary-start, decoded-take-drop, steps-parts}
 use Rattle.normalizer_text.proofs.steps.StepLemmas.{decoded-append}
 use Rattle.normalizer_text.specs.InputCut.{IsInputNormalized}

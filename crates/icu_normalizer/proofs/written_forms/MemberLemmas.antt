@@ -4,9 +4,9 @@ use Rattle.std.specs.Prelude.{All, IfSome, false, slice_get}
 use Rattle.std.specs.Option.{is_some}
 use Rattle.std.proofs.lemmas.List.{drop_all, drop-drop}
 use Rattle.std.proofs.lemmas.List.Elements.{All-nil, All-cons}
-use Rattle.normalizer_text.specs.declared.step.Step.{Step}
+use Rattle.normalizer_text.specs.declared.decoding_step.Step.{Step}
 use Rattle.normalizer_text.specs.Encodings.{Encoding, first_in, decoded_in}
-use Rattle.normalizer_text.specs.Steps.{steps, IsBoundary}
+use Rattle.normalizer_text.specs.DecodingSteps.{steps, IsBoundary}
 use Rattle.normalizer_text.proofs.steps.StepBoundaries.{boundary-le, steps-take-drop}
 use Rattle.normalizer_text.proofs.steps.StepLemmas.{decoded-nil, decoded-some, steps-some}
 use Rattle.normalizer_iterators.specs.declared.error.NormalizeError.{NormalizeError}

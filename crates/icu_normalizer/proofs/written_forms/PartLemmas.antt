@@ -1,7 +1,7 @@
 -- Forms that are written part by part.
 use Rattle.std.proofs.Common.{◌≡◌, ℕ, ◌+◌, ◌<◌, ◌≤◌, Bool, List, length-take-le, [], ◌∷◌, ◌++◌, length, take, drop, Result, Ok, Err, refl, sym, ap}
 use Rattle.std.proofs.Common.{subst, ◌∙◌, append_assoc, append-nil, take-append-drop, arith, inl, inr}
-use Rattle.std.specs.Prelude.{◌⊎◌, IsErrOf}
+use Rattle.std.specs.Prelude.{◌⊎◌, ⊤, IsErrOf}
 use Rattle.std.proofs.lemmas.Bool.{cases_Bool, cond-true, cond-false}
 use Rattle.std.proofs.lemmas.List.{append_cancel_right, drop-drop}
 use Rattle.std.proofs.Math.Seq.{take-length}
@@ -13,7 +13,7 @@ use Rattle.normal_forms.specs.ShortRuns.{continues, leading_length, HasShortChun
 use Rattle.normal_forms.proofs.boundaries.ChunkLemmas.{HasShortRuns-rest}
 use Rattle.normalizer_text.specs.declared.sink.SinkError.{SinkError}
 use Rattle.normalizer_text.specs.Encodings.{Encoding, first_in, encoded_in, decoded_in}
-use Rattle.normalizer_text.specs.Steps.{IsBoundary}
+use Rattle.normalizer_text.specs.DecodingSteps.{IsBoundary}
 use Rattle.normalizer_text.proofs.steps.StepBoundaries.{boundary-after, boundary-le, boundary-start, decoded-take-drop}
 use Rattle.normalizer_text.proofs.rules.EncodingLemmas.{encoded-decoded, encoded_in-append, encoded_in-nil}
 use Rattle.normalizer_text.proofs.steps.StepLemmas.{decoded-nil}
@@ -66,8 +66,8 @@ not_handed_on {fault = fault} {other = other} is handed none got =
 pub record WroteUpTo {S U : Type 0} (e : Encoding) (into : Target S U) (d : Reading) (form : Form) (units : List ℕ) (old : S) (position : ℕ) (now : S) : Type 0 where
   pub boundary : IsBoundary (first_in e) units position
   pub divides : Divides d form (decoded_in e (take position units)) (decoded_in e (drop position units))
-  pub took : into.taken now ≡ into.taken old ++ encoded_form e d form (take position units)
-  pub ahead : (later : S) → into.refused now later → into.refused old later
+  pub took : into.text_taken now ≡ into.text_taken old ++ encoded_form e d form (take position units)
+  pub ahead : (later : S) → into.refusal now later → into.refusal old later
 
 -- the text in two parts
 text-parts : (e : Encoding) (units : List ℕ) (n : ℕ) → IsBoundary (first_in e) units n → decoded_in e units ≡ decoded_in e (take n units) ++ decoded_in e (drop n units)
@@ -126,7 +126,7 @@ module _ {e : Encoding} {d : Reading} {form : Form} where
         pub WrotePart-run : Answered into old piece (Ok tt) new → WrotePart e into d form units old end new
         WrotePart-run answer = record {
           part = part;
-          took = answer.written.appends ∙ ap (λ l. into.taken old ++ l) (is ∙ sym (own_form e d form (take end units) own));
+          took = answer.written.appends ∙ ap (λ l. into.text_taken old ++ l) (is ∙ sym (own_form e d form (take end units) own));
           ahead = answer.written.ahead;
         }
 
@@ -142,7 +142,7 @@ module _ {e : Encoding} {d : Reading} {form : Form} where
               front = [];
               rest = normal_form d form (decoded_in e units);
               parts = refl;
-              took = sym (append-nil (into.taken old)) ∙ ap (λ l. into.taken old ++ l) (sym (encoded_in-nil e));
+              took = sym (append-nil (into.text_taken old)) ∙ ap (λ l. into.text_taken old ++ l) (sym (encoded_in-nil e));
             };
             piece = decoded_in e (take end units);
             kind = inr (record {
@@ -165,7 +165,7 @@ module _ {e : Encoding} {d : Reading} {form : Form} where
             → WrotePart e into d form units old end new
         WrotePart-segment h = record {
           part = part;
-          took = h.written ∙ ap (λ l. into.taken old ++ encoded_form e d form l) is;
+          took = h.written ∙ ap (λ l. into.text_taken old ++ encoded_form e d form l) is;
           ahead = h.ahead;
         }
 
@@ -200,7 +200,7 @@ module _ {e : Encoding} {d : Reading} {form : Form} where
     WroteUpTo-none = record {
       boundary = boundary-start e units;
       divides = subst (λ x. Divides d form x (decoded_in e units)) (sym (decoded-nil e)) (Divides-start d form (decoded_in e units));
-      took = sym (append-nil (into.taken old)) ∙ ap (λ l. into.taken old ++ l) (sym (encoded_form-nil e d form));
+      took = sym (append-nil (into.text_taken old)) ∙ ap (λ l. into.text_taken old ++ l) (sym (encoded_form-nil e d form));
       ahead = λ later h. h;
     }
 
@@ -211,7 +211,7 @@ module _ {e : Encoding} {d : Reading} {form : Form} where
         let most = boundary-le e units position so_far.boundary in
         let end : position ≡ length units = omega (arith, most) in
         record {
-          written = so_far.took ∙ ap (λ l. into.taken old ++ encoded_form e d form l) (ap (λ n. take n units) end ∙ take-length units);
+          written = so_far.took ∙ ap (λ l. into.text_taken old ++ encoded_form e d form l) (ap (λ n. take n units) end ∙ take-length units);
           ahead = so_far.ahead;
           fault = λ k. absurd (cc);
           refusal = λ k. absurd (cc);
@@ -259,8 +259,8 @@ module _ {e : Encoding} {d : Reading} {form : Form} where
             (wrote.part.divides (decoded_in e (take position units))));
         took = wrote.took
             ∙ ap (λ l. l ++ encoded_form e d form (take end rest)) so_far.took
-            ∙ append_assoc (into.taken old) (encoded_form e d form (take position units)) (encoded_form e d form (take end rest))
-            ∙ ap (λ l. into.taken old ++ l)
+            ∙ append_assoc (into.text_taken old) (encoded_form e d form (take position units)) (encoded_form e d form (take end rest))
+            ∙ ap (λ l. into.text_taken old ++ l)
             (sym (encoded_in-append e (normal_form d form (decoded_in e (take position units))) (normal_form d form (decoded_in e (take end rest))))
             ∙ ap (encoded_in e) (sym (form_to end wrote.part.boundary)));
         ahead = λ later h. so_far.ahead later (wrote.ahead later h);
@@ -285,15 +285,15 @@ module _ {e : Encoding} {d : Reading} {form : Form} where
           (HasShortRuns-rest f d (decoded_in e (take position units)) (decoded_in e (drop position units)) (subst (HasShortRuns f d) (text-parts e units position so_far.boundary) h))
 
       -- a beginning of the form of the rest, after what was written
-      beginning_behind : (to : S) → TookBeginning e into.taken (normal_form d form (decoded_in e rest)) now to → TookBeginning e into.taken (normal_form d form (decoded_in e units)) old to
+      beginning_behind : (to : S) → TookBeginning e into.text_taken (normal_form d form (decoded_in e rest)) now to → TookBeginning e into.text_taken (normal_form d form (decoded_in e units)) old to
       beginning_behind to b = record {
         front = normal_form d form (decoded_in e (take position units)) ++ b.front;
         rest = b.rest;
         parts = form_of_all ∙ ap (λ l. normal_form d form (decoded_in e (take position units)) ++ l) b.parts
             ∙ sym (append_assoc (normal_form d form (decoded_in e (take position units))) b.front b.rest);
         took = b.took ∙ ap (λ l. l ++ encoded_in e b.front) so_far.took
-            ∙ append_assoc (into.taken old) (encoded_form e d form (take position units)) (encoded_in e b.front)
-            ∙ ap (λ l. into.taken old ++ l) (sym (encoded_in-append e (normal_form d form (decoded_in e (take position units))) b.front));
+            ∙ append_assoc (into.text_taken old) (encoded_form e d form (take position units)) (encoded_in e b.front)
+            ∙ ap (λ l. into.text_taken old ++ l) (sym (encoded_in-append e (normal_form d form (decoded_in e (take position units))) b.front));
       }
 
       -- a piece of the rest is one of the whole
@@ -327,6 +327,23 @@ module _ {e : Encoding} {d : Reading} {form : Form} where
           leaves = r.leaves;
         };
         begun = λ is. beginning_behind new (h.begun is);
+      }
+
+      -- the rest was written, unless there was a fault
+      pub WritesText-rest : {result : Result ⊤ NormalizeError} {new : S}
+          → WritesText e into (StandsInInput e d form rest) (normal_form d form (decoded_in e rest)) now result new
+          → WritesText e into (StandsInInput e d form units) (normal_form d form (decoded_in e units)) old result new
+      WritesText-rest {result = Err fault} h = WritesText-behind h
+      WritesText-rest {result = Ok none} h = record {
+        written = h.written ∙ ap (λ l. l ++ encoded_form e d form rest) so_far.took
+            ∙ append_assoc (into.text_taken old) (encoded_form e d form (take position units)) (encoded_form e d form rest)
+            ∙ ap (λ l. into.text_taken old ++ l)
+            (sym (encoded_in-append e (normal_form d form (decoded_in e (take position units))) (normal_form d form (decoded_in e rest)))
+            ∙ ap (encoded_in e) (sym form_of_all));
+        ahead = λ later k. so_far.ahead later (h.ahead later k);
+        fault = λ k. absurd (cc);
+        refusal = λ k. absurd (cc);
+        begun = λ k. absurd (cc);
       }
 
     -- the first part may have been written

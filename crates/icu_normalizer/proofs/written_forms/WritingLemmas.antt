@@ -19,23 +19,23 @@ use Rattle.icu_normalizer.specs.inner.WrittenParts.{Target, WritesText}
 module _ {S U : Type 0} (into : Target S U) where
   -- the result of writing some units to the output
   abbrev pub Answered : S → List ℕ → Result ⊤ SinkError → S → Type 0
-  Answered = AnswersUnits into.taken into.refused into.left into.refuses
+  Answered = AnswersUnits into.text_taken into.refusal into.refusal_effect into.refuses
 
   -- the result of announcing an input to it
   abbrev pub AnsweredHint : S → ℕ → Result ⊤ SinkError → S → Type 0
-  AnsweredHint = AnswersHint into.taken into.refused into.left into.refuses into.hinted
+  AnsweredHint = AnswersHint into.text_taken into.refusal into.refusal_effect into.refuses into.length_hint
 
 -- a beginning was written of what an iterator yields from `start`, and it has come to `items`
 pub record WroteSoFar {S U I : Type 0} (e : Encoding) (into : Target S U) (gives : I → Option (Result ℕ NormalizeError) → I → Type 0)
     (start : I) (old : S) (items : I) (now : S) : Type 0 where
-  pub text : (x : List ℕ) → SpellsUnless gives Memory start x → (b : TookBeginning e into.taken x old now) × SpellsUnless gives Memory items b.rest
-  pub ahead : (later : S) → into.refused now later → into.refused old later
+  pub text : (x : List ℕ) → SpellsUnless gives Memory start x → (b : TookBeginning e into.text_taken x old now) × SpellsUnless gives Memory items b.rest
+  pub ahead : (later : S) → into.refusal now later → into.refusal old later
   pub room : (x : List ℕ) → SpellsOk gives start x → (rest : List ℕ) × SpellsOk gives items rest
 
 module _ {S U I : Type 0} {e : Encoding} {into : Target S U} {gives : I → Option (Result ℕ NormalizeError) → I → Type 0} where
   pub WroteSoFar-none : {start : I} {old : S} → WroteSoFar e into gives start old start old
   WroteSoFar-none {old = old} = record {
-    text = λ x h. (record { front = []; rest = x; parts = refl; took = sym (append-nil (into.taken old)) ∙ ap (λ units. into.taken old ++ units) (sym (encoded_in-nil e)) }, h);
+    text = λ x h. (record { front = []; rest = x; parts = refl; took = sym (append-nil (into.text_taken old)) ∙ ap (λ units. into.text_taken old ++ units) (sym (encoded_in-nil e)) }, h);
     ahead = λ later h. h;
     room = λ x h. (x, h);
   }
@@ -55,8 +55,8 @@ module _ {S U I : Type 0} {e : Encoding} {into : Target S U} {gives : I → Opti
               parts = b.parts ∙ ap (λ y. b.front ++ y) came.1 ∙ sym (append_assoc b.front (c ∷ []) came.0);
               took = answer.written.appends
                   ∙ ap (λ units. units ++ encoded_in e (c ∷ [])) b.took
-                  ∙ append_assoc (into.taken old) (encoded_in e b.front) (encoded_in e (c ∷ []))
-                  ∙ ap (λ units. into.taken old ++ units) (sym (encoded_in-append e b.front (c ∷ [])));
+                  ∙ append_assoc (into.text_taken old) (encoded_in e b.front) (encoded_in e (c ∷ []))
+                  ∙ ap (λ units. into.text_taken old ++ units) (sym (encoded_in-append e b.front (c ∷ [])));
             },
             came.2,
           );
@@ -107,7 +107,7 @@ module _ {S U I : Type 0} {e : Encoding} {into : Target S U} {gives : I → Opti
         let so_far = before.text x h in
         let b = so_far.0 in
         let ended = (SpellsUnless-end gives Memory items next b.rest step so_far.1).0 in record {
-          written = b.took ∙ ap (λ y. into.taken old ++ encoded_in e y) (sym (b.parts ∙ ap (λ y. b.front ++ y) ended ∙ append-nil b.front));
+          written = b.took ∙ ap (λ y. into.text_taken old ++ encoded_in e y) (sym (b.parts ∙ ap (λ y. b.front ++ y) ended ∙ append-nil b.front));
           ahead = before.ahead;
           fault = λ k. absurd (cc);
           refusal = λ k. absurd (cc);
@@ -131,7 +131,7 @@ module _ {S U : Type 0} (e : Encoding) (into : Target S U) {old : S} {n : ℕ} w
         fault = λ _. told.units.written.fault;
         refusal = λ _. record {
           before = old;
-          beginning = record { front = []; rest = text; parts = refl; took = sym (append-nil (into.taken old)) ∙ ap (λ units. into.taken old ++ units) (sym nothing) };
+          beginning = record { front = []; rest = text; parts = refl; took = sym (append-nil (into.text_taken old)) ∙ ap (λ units. into.text_taken old ++ units) (sym nothing) };
           piece = [];
           kind = inl (omega arith);
           rest = text;
@@ -143,12 +143,12 @@ module _ {S U : Type 0} (e : Encoding) (into : Target S U) {old : S} {n : ℕ} w
       }
 
   pub TellsLengthFirst-untold : {len : ℕ} → n ≡ len → {refusal : SinkError} {new : S} → AnsweredHint into old n (Err refusal) new
-      → TellsLengthFirst into.taken into.hinted len old (Err Sink) new
-  TellsLengthFirst-untold is {refusal = refusal} {new = new} told = record { hint = Err refusal; state = new; first = subst (λ k. into.hinted old k (Err refusal) new) is told.hint; stops = (refl, refl, told.none) }
+      → TellsLengthFirst into.text_taken into.length_hint len old (Err Sink) new
+  TellsLengthFirst-untold is {refusal = refusal} {new = new} told = record { hint = Err refusal; state = new; first = subst (λ k. into.length_hint old k (Err refusal) new) is told.hint; stops = (refl, refl, told.none) }
 
   -- if it was taken, the rest is as if nothing had come before
   module _ {mid : S} (told : AnsweredHint into old n (Ok tt) mid) where
-    TookBeginning-told : (text : List ℕ) (to : S) → TookBeginning e into.taken text mid to → TookBeginning e into.taken text old to
+    TookBeginning-told : (text : List ℕ) (to : S) → TookBeginning e into.text_taken text mid to → TookBeginning e into.text_taken text old to
     TookBeginning-told text to b = record { front = b.front; rest = b.rest; parts = b.parts; took = b.took ∙ ap (λ units. units ++ encoded_in e b.front) told.none }
 
     module _ {answer : Result ⊤ NormalizeError} {new : S} where
@@ -173,18 +173,18 @@ module _ {S U : Type 0} (e : Encoding) (into : Target S U) {old : S} {n : ℕ} w
         begun = λ is. TookBeginning-told text new (h.begun is);
       }
 
-      pub TellsLengthFirst-told : {len : ℕ} → n ≡ len → TellsLengthFirst into.taken into.hinted len old answer new
-      TellsLengthFirst-told is = record { hint = Ok tt; state = mid; first = subst (λ k. into.hinted old k (Ok tt) mid) is told.hint; stops = tt }
+      pub TellsLengthFirst-told : {len : ℕ} → n ≡ len → TellsLengthFirst into.text_taken into.length_hint len old answer new
+      TellsLengthFirst-told is = record { hint = Ok tt; state = mid; first = subst (λ k. into.length_hint old k (Ok tt) mid) is told.hint; stops = tt }
 
 -- the form was written, whose text is the form of x
 pub WritesForm-text : {S U : Type 0} {offered : List ℕ → List ℕ → Type 0} {e : Encoding} {into : Target S U} {m : MadeForm} {x y : List ℕ} {old new : S}
     {answer : Result ⊤ NormalizeError} → x ≡ y → WritesText e into offered (form_of m x) old answer new → (HasShortRuns m.has_class_form m.reading x → ¬ IsErrOf answer Memory)
-    → WritesForm e into.taken into.refused into.left m y old answer new
+    → WritesForm e into.text_taken into.refusal into.refusal_effect m y old answer new
 WritesForm-text {S = S} {offered = offered} {e = e} {into = into} {m = m} {x = x} {old = old} {new = new} {answer = answer} same h room =
-    subst (λ z. WritesForm e into.taken into.refused into.left m z old answer new) same (record { written = h.written; ahead = h.ahead; fault = h.fault; room = room; begun = begun answer h })
+    subst (λ z. WritesForm e into.text_taken into.refusal into.refusal_effect m z old answer new) same (record { written = h.written; ahead = h.ahead; fault = h.fault; room = room; begun = begun answer h })
   where
     begun : (answer : Result ⊤ NormalizeError) → WritesText e into offered (form_of m x) old answer new
-        → OnErr answer (((s t : S) → into.left s t → TakesNothing into.taken s t) → TookBeginning e into.taken (form_of m x) old new)
+        → OnErr answer (((s t : S) → into.refusal_effect s t → TakesNothing into.text_taken s t) → TookBeginning e into.text_taken (form_of m x) old new)
     begun (Ok done) h = tt
     begun (Err Memory) h = λ _. h.begun refl
     begun (Err Sink) h = λ keeps.

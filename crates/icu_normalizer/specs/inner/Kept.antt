@@ -1,7 +1,7 @@
 -- Starters and marks that stay as they are.
 use Rattle.std.specs.Prelude.{◌≡◌, ℕ, List, ◌<◌, ◌≤◌, ◌⊎◌, false, [], ◌∷◌, IfSome, Some, None}
 use Rattle.normal_forms.specs.Reading.{Reading, ReadsAsItself}
-use Rattle.normalizer_text.specs.declared.step.Step.{Step}
+use Rattle.normalizer_text.specs.declared.decoding_step.Step.{Step}
 use Rattle.icu_normalizer.specs.declared.kept.KeptStarter.{KeptStarter}
 use Rattle.icu_normalizer.specs.inner.PassthroughRuns.{IsStableStarter}
 

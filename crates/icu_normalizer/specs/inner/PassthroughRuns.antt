@@ -7,9 +7,9 @@ use Rattle.normal_forms.specs.declared.Form.TheVariants.{Composing, Decomposing}
 use Rattle.normal_forms.specs.Forms.{normal_form, IsNormalized}
 use Rattle.normal_forms.specs.Boundary.{BeginsWithStarter}
 use Rattle.normal_forms.specs.Cut.{IsFront}
-use Rattle.normalizer_text.specs.declared.step.Step.{Step}
+use Rattle.normalizer_text.specs.declared.decoding_step.Step.{Step}
 use Rattle.normalizer_text.specs.Encodings.{Encoding, first_in, encoded_in, decoded_in}
-use Rattle.normalizer_text.specs.Steps.{IsBoundary, IsLastStep}
+use Rattle.normalizer_text.specs.DecodingSteps.{IsBoundary, IsLastStep}
 use Rattle.normalizer_text.specs.InputCut.{IsInputNormalized}
 use Rattle.icu_normalizer.specs.BoundaryBefore.{HasBoundaryBefore}
 
@@ -42,12 +42,12 @@ unfoldable pub class_of_step : (ℕ → Option ℕ) → Step → Option ℕ
 class_of_step passed s = if s.character == replacement then None else passed s.character
 
 -- after a character of class `last`, one of class 0 passes, and one whose class isn't less than the last
-unfoldable pub following : ℕ → ℕ → Option ℕ
-following last k = if (k == 0) || nat_le last k then Some k else None
+unfoldable pub class_in_order : ℕ → ℕ → Option ℕ
+class_in_order last k = if (k == 0) || nat_le last k then Some k else None
 
 -- the class of a step that passes after a character of class `last`
 unfoldable pub next_class : (ℕ → Option ℕ) → ℕ → Step → Option ℕ
-next_class passed last s = option_and_then (following last) (class_of_step passed s)
+next_class passed last s = option_and_then (class_in_order last) (class_of_step passed s)
 
 -- the class of the last of some steps after a character of class `last`, if each passes
 unfoldable pub class_after : (ℕ → Option ℕ) → ℕ → List Step → Option ℕ

@@ -25,22 +25,22 @@ module _ {S U : Type 0} (e : Encoding) (into : Target S U) where
   -- after that beginning
   pub record WasRefusedPiece (offered : List ℕ → List ℕ → Type 0) (text : List ℕ) (old new : S) : Type 0 where
     pub before : S
-    pub beginning : TookBeginning e into.taken text old before
+    pub beginning : TookBeginning e into.text_taken text old before
     pub piece : List ℕ
     pub kind : (length piece ≤ 1) ⊎ offered beginning.front piece
     pub rest : List ℕ
     pub goes_on : beginning.rest ≡ piece ++ rest
     pub known : into.refuses before (encoded_in e piece)
-    pub leaves : into.left before new
+    pub leaves : into.refusal_effect before new
 
   -- a text was written, or the output refused a piece, or memory was refused
   pub record WritesText (offered : List ℕ → List ℕ → Type 0) (text : List ℕ) (old : S)
       (answer : Result ⊤ NormalizeError) (new : S) : Type 0 where
-    pub written : OnOk answer (into.taken new ≡ into.taken old ++ encoded_in e text)
-    pub ahead : OnOk answer ((later : S) → into.refused new later → into.refused old later)
-    pub fault : IsErrOf answer Sink → into.refused old new
+    pub written : OnOk answer (into.text_taken new ≡ into.text_taken old ++ encoded_in e text)
+    pub ahead : OnOk answer ((later : S) → into.refusal new later → into.refusal old later)
+    pub fault : IsErrOf answer Sink → into.refusal old new
     pub refusal : IsErrOf answer Sink → WasRefusedPiece offered text old new
-    pub begun : IsErrOf answer Memory → TookBeginning e into.taken text old new
+    pub begun : IsErrOf answer Memory → TookBeginning e into.text_taken text old new
 
   -- the form of the units was written, or the output refused a piece of them or of it, or memory was refused
   abbrev pub WritesUnits : MadeForm → List ℕ → S → Result ⊤ NormalizeError → S → Type 0
@@ -49,8 +49,8 @@ module _ {S U : Type 0} (e : Encoding) (into : Target S U) where
   -- a part of the units was written: its form was appended to what was taken before
   pub record WrotePart (d : Reading) (form : Form) (units : List ℕ) (old : S) (end : ℕ) (new : S) : Type 0 where
     pub part : IsPart e d form units end
-    pub took : into.taken new ≡ into.taken old ++ encoded_form e d form (take end units)
-    pub ahead : (later : S) → into.refused new later → into.refused old later
+    pub took : into.text_taken new ≡ into.text_taken old ++ encoded_form e d form (take end units)
+    pub ahead : (later : S) → into.refusal new later → into.refusal old later
 
   -- the same, of a form with its reading
   abbrev pub WritesPart : MadeForm → List ℕ → S → ℕ → S → Type 0

@@ -15,7 +15,7 @@ use Rattle.normal_forms.proofs.ordering.ExpandLemmas.{nfd-nfd}
 use Rattle.normal_forms.proofs.composing.ComposeLemmas.{composed_form, composed_form-composed_form, nfd-composed_form}
 use Rattle.normal_forms.proofs.composing.VisitLemmas.{compose_is_by_starters, pairs_for, normal_form-composed, pairs_for-full, pairs_for-faithful}
 use Rattle.normal_forms.proofs.boundaries.BoundaryLemmas.{composed_form-boundary, composed_form-run, nfd-run}
-use Rattle.normal_forms.proofs.composing.MarkRunLemmas.{compose_after-marks, is_above-ordered}
+use Rattle.normal_forms.proofs.composing.CompositionOfMarks.{compose_after-marks, is_above-ordered}
 
 pub normal_form-normal_form : (d : Reading) (form : Form) → SuitsForm d form → (x : List ℕ) → normal_form d form (normal_form d form x) ≡ normal_form d form x
 normal_form-normal_form d form suits x =

@@ -2,7 +2,7 @@ use Rattle.normalizer_tables.specs.declared.provider.DataMarkerInfo.TheVariants.
 use Rattle.icu_normalizer.specs.ComposingAcceptance.{RefusesToCompose}
 use Rattle.normalizer_tables.specs.declared.entry.Kind.TheVariants.{Mapper}
 use Rattle.normalizer_packing.specs.ReadBack.{characters_of}
-use Rattle.normalizer_built.proofs.AcceptedData.{IsOkUnless-memory}
+use Rattle.normalizer_built.proofs.MemoryAlone.{IsOkUnless-memory}
 use Rattle.normalizer_built.proofs.built_mapper.Goals as goal
 
 pub returns-clause-refused : goal.returns-clause-refused

@@ -2,7 +2,7 @@ use Rattle.normalizer_tables.specs.declared.provider.DataMarkerInfo.TheVariants.
 use Rattle.icu_normalizer.specs.Acceptance.{RefusesToDecompose}
 use Rattle.normalizer_tables.specs.declared.entry.Kind.TheVariants.{Compatibility}
 use Rattle.normalizer_packing.specs.ReadBack.{characters_of}
-use Rattle.normalizer_built.proofs.AcceptedData.{memory_alone}
+use Rattle.normalizer_built.proofs.MemoryAlone.{memory_alone}
 use Rattle.normalizer_built.proofs.nfkd_normalizer.Goals as goal
 
 pub want_of_memory-requires : goal.want_of_memory-requires

@@ -10,7 +10,7 @@ use Rattle.normal_forms.specs.declared.Form.TheVariants.{Decomposing, Composing}
 use Rattle.normal_forms.specs.Hypotheses.{HasFullLists, HasStarterResults, HasFaithfulResults, HasNonemptyLists, HasTextLists, HasScalarResults, SuitsForm}
 use Rattle.normal_forms.proofs.ordering.OrderLemmas.{length-order}
 use Rattle.normalizer_tables.specs.declared.condition.Condition.TheVariants as condition
-use Rattle.normalizer_conditions.specs.AcceptedData.{AreAcceptedPairs, class_conditions, IsAccepted, pair_conditions, SuitsMapper, SuitsTexts}
+use Rattle.normalizer_conditions.specs.RequiredConditions.{AreAcceptedPairs, class_conditions, IsAccepted, pair_conditions, SuitsMapper, SuitsTexts}
 use Rattle.normalizer_tables.specs.Conditions.{IsMet}
 use Rattle.normalizer_tables.specs.Loaded.{characters_loaded, classes_loaded, pairs_loaded}
 use Rattle.normalizer_tables.specs.Characters.{Characters, characters_from, word_of}

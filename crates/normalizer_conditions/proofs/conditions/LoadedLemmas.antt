@@ -7,7 +7,7 @@ use Rattle.std.proofs.lemmas.List.{get_or_append_left, get_or-append-add, length
 use Rattle.std.proofs.lemmas.Option.{IfSome_then}
 use Rattle.normalizer_tables.specs.declared.condition.Condition.{Condition}
 use Rattle.normalizer_tables.specs.declared.condition.Condition.TheVariants.{Words, Members, Order, Passthrough, Pairs, RoundTrip, SafeBeginning, Results, FdfaForms, Steps, WordClasses, PairOrder}
-use Rattle.normalizer_conditions.specs.AcceptedData.{AreAcceptedPairs, composing_conditions, decomposing_conditions, IsAccepted, pair_conditions}
+use Rattle.normalizer_conditions.specs.RequiredConditions.{AreAcceptedPairs, composing_conditions, decomposing_conditions, IsAccepted, pair_conditions}
 use Rattle.normalizer_tables.specs.Characters.{Characters}
 use Rattle.normalizer_tables.specs.Conditions.{IsMet}
 use Rattle.normalizer_conditions.specs.inner.Walk.{IsMetApart, IsMetAt, KeepsPlainBoundary, is_asked_of_words}

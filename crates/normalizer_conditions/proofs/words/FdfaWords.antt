@@ -12,7 +12,7 @@ use Rattle.normalizer_tables.specs.Ranges.{IsComplete}
 use Rattle.normalizer_tables.specs.StepConditions.{AvoidsFdfa}
 use Rattle.normalizer_tables.specs.Table.{code_points, word_at}
 use Rattle.normalizer_tables.specs.Characters.{Characters, word_of, reading_of_word}
-use Rattle.normalizer_tables.specs.Words.{is_plain, is_ordinary_class_form, is_special_class_form, has_high_zeros, read, read_low, two_characters, listed}
+use Rattle.normalizer_tables.specs.Words.{is_plain, is_ordinary_class_form, is_special_class_form, has_high_zeros, read, read_low, two_characters, listed_reading}
 use Rattle.normalizer_tables.specs.CharacterConditions.{is_surrogate}
 use Rattle.normalizer_tables.proofs.conditions.ConditionLemmas.{no_scalar}
 use Rattle.normalizer_tables.proofs.code_points.Tables.{word_at-past}
@@ -23,7 +23,7 @@ masked w m within = sym (ap (bit_and w) within) ∙ sym (and_assoc m w 0x3FFFFFF
 
 -- flags aside, such a word is 1
 read-fdfa : (c w : ℕ) (is_mapper : Bool) → read c w is_mapper ≡ Fdfa → (is_hangul_syllable c ≡ false) × (bit_and w 0x3FFFFFFF ≡ 1)
-unfolding read read_low two_characters listed has_high_zeros
+unfolding read read_low two_characters listed_reading has_high_zeros
 read-fdfa c w is_mapper e = (
   grind arith,
   (

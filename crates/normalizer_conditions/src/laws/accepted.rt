@@ -4,7 +4,7 @@ ghost use Rattle.std.specs.Char.{IsScalar};
 ghost use Rattle.normal_forms.specs.declared.Form.{Form};
 ghost use Rattle.normal_forms.specs.declared.Form.TheVariants.{Decomposing};
 ghost use Rattle.normal_forms.specs.Hypotheses.{HasScalarResults};
-ghost use Rattle.normalizer_conditions.specs.AcceptedData.{
+ghost use Rattle.normalizer_conditions.specs.RequiredConditions.{
   AreAcceptedPairs,
   IsAccepted,
   SuitsMapper,

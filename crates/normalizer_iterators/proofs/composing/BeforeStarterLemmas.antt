@@ -1,16 +1,16 @@
 -- What is still to come of a composition before a starter, from one item to the next.
 use Rattle.std.proofs.Common.{◌≡◌, ℕ, List, [], ◌++◌, length, Some, None, Result, Ok, Err, MatchResult, refl, sym, ap, ◌∙◌, ◌∷◌, subst, arith}
-use Rattle.normal_forms.specs.Reading.{Reading, IsStarter, IsMark}
+use Rattle.normal_forms.specs.Reading.{IsStarter, IsMark}
 use Rattle.normal_forms.specs.CompositionByStarters.{compose_after, compose_by_starters}
 use Rattle.normal_forms.proofs.composing.ComposeLemmas.{compose_by_starters-nil, compose_by_starters-starter, compose_by_starters-mark}
-use Rattle.normalizer_text.specs.Steps.{Spells}
+use Rattle.normalizer_text.specs.DecodingSteps.{Spells}
 use Rattle.normalizer_iterators.specs.declared.composition.Composition.{Composition}
 use Rattle.normalizer_iterators.specs.declared.decomposition.Decomposition.{Decomposition}
 use Rattle.normalizer_iterators.specs.declared.error.NormalizeError.{NormalizeError}
 use Rattle.normalizer_iterators.specs.DecompositionItems as decomposition
 use Rattle.normalizer_iterators.specs.Delegate.{MayYield, Source}
 use Rattle.normalizer_iterators.specs.NextItem.{YieldedFirst}
-use Rattle.normalizer_iterators.specs.StayingMarks.{staying}
+use Rattle.normalizer_iterators.specs.StayingMarks.{staying_marks}
 use Rattle.normalizer_iterators.specs.MarkRuns.{HasShortMarkRuns}
 use Rattle.normalizer_iterators.specs.inner.PassthroughItems.{YieldsItself}
 use Rattle.normalizer_iterators.specs.Composing.{composed_ahead, ahead_left, YieldsShort}
@@ -23,11 +23,11 @@ use Rattle.normalizer_tables.specs.declared.characters.IgnoredCharacters.TheVari
 use Rattle.normalizer_iterators.proofs.composing.CompositionLemmas.{Becomes, WillYield-by, WillYield-parts, WillYield-end, StaysShort-by, items_left-by, CameFirst-composed, IsEnded-parts}
 
 module _ {I : Type 0} (from : Source I) where
-  module _ (s : Composition I) (before : s.ahead ≡ None) (none : staying s.marks ≡ []) where
+  module _ (s : Composition I) (before : s.ahead ≡ None) (none : staying_marks s.marks ≡ []) where
     text_before : (out : List ℕ) (h : WillYield (Spells from.next_gives) s out) → out ≡ compose_by_starters (pairing_by s) h.unread
     text_before out h =
         let d = pairing_by s in
-        h.text ∙ ap (λ l. staying s.marks ++ l) (ap (λ a. composed_ahead d a h.unread) before) ∙ ap (λ l. l ++ compose_by_starters d h.unread) none
+        h.text ∙ ap (λ l. staying_marks s.marks ++ l) (ap (λ a. composed_ahead d a h.unread) before) ∙ ap (λ l. l ++ compose_by_starters d h.unread) none
 
     -- what the decomposition may yield is composed
     may_come : (Comes : I → List ℕ → Type 0) (y out : List ℕ) → decomposition.WillYield Comes s.decomposed y → compose_by_starters (pairing_by s) y ≡ out → WillYield Comes s out
@@ -36,7 +36,7 @@ module _ {I : Type 0} (from : Source I) where
         record {
           unread = y;
           source = h;
-          text = sym (ap (λ l. staying s.marks ++ l) (ap (λ a. composed_ahead d a y) before) ∙ ap (λ l. l ++ compose_by_starters d y) none ∙ composed);
+          text = sym (ap (λ l. staying_marks s.marks ++ l) (ap (λ a. composed_ahead d a y) before) ∙ ap (λ l. l ++ compose_by_starters d y) none ∙ composed);
         }
 
     left_in_source : items_left from.remaining s ≡ decomposition.items_left from.remaining s.decomposed

@@ -3,7 +3,7 @@ use Rattle.std.proofs.Common.{◌≡◌, ℕ, ◌+◌, ◌<◌, List, [], ◌++�
 use Rattle.std.specs.Iterator.{at_most, MakesProgress}
 use Rattle.normal_forms.specs.Reading.{Reading}
 use Rattle.normal_forms.specs.CompositionByStarters.{compose_after}
-use Rattle.normalizer_text.specs.Steps.{Spells}
+use Rattle.normalizer_text.specs.DecodingSteps.{Spells}
 use Rattle.normalizer_iterators.specs.declared.composition.Composition.{Composition}
 use Rattle.normalizer_iterators.specs.declared.decomposition.Decomposition.{Decomposition}
 use Rattle.normalizer_iterators.specs.declared.error.NormalizeError.{NormalizeError}
@@ -11,7 +11,7 @@ use Rattle.normalizer_iterators.specs.declared.error.NormalizeError.TheVariants.
 use Rattle.normalizer_iterators.specs.DecompositionItems as decomposition
 use Rattle.normalizer_iterators.specs.Delegate.{Extent, MayYield, Source}
 use Rattle.normalizer_iterators.specs.NextItem.{CameFirst, YieldedFirst}
-use Rattle.normalizer_iterators.specs.StayingMarks.{staying}
+use Rattle.normalizer_iterators.specs.StayingMarks.{staying_marks}
 use Rattle.normalizer_iterators.specs.Composing.{composed_ahead, ahead_left, WillYieldAfter, YieldsShort, ComposesStarter}
 use Rattle.normalizer_iterators.specs.CompositionItems.{CanCompose, ComposesOn, CompositionSteps, IsEnded, StaysShort, WillYield, items_left, pairing_by}
 use Rattle.normal_forms.proofs.composing.ComposeLemmas.{compose_by_starters-nil}
@@ -24,7 +24,7 @@ module _ {I : Type 0} where
   -- t has the data and the pairs of s; these marks stay, and this is ahead
   pub record Becomes (s : Composition I) (front : List ℕ) (behind : Option ℕ) (t : Composition I) : Type 0 where
     pub kept : (t.decomposed.characters ≡ s.decomposed.characters) × (t.pairs.now ≡ s.pairs.now)
-    pub marks : staying t.marks ≡ front
+    pub marks : staying_marks t.marks ≡ front
     pub ahead : t.ahead ≡ behind
 
   -- only the marks that stay are others
@@ -33,7 +33,7 @@ module _ {I : Type 0} where
     pub pairs : t.pairs.now ≡ s.pairs.now
     pub ahead : t.ahead ≡ s.ahead
 
-  Becomes-marks : (s t : Composition I) → KeepsButMarks s t → Becomes s (staying t.marks) s.ahead t
+  Becomes-marks : (s t : Composition I) → KeepsButMarks s t → Becomes s (staying_marks t.marks) s.ahead t
   Becomes-marks s t same = record { kept = (ap (λ n. n.characters) same.decomposed, same.pairs); marks = refl; ahead = same.ahead }
 
 module _ {I : Type 0} (from : Source I) where
@@ -54,7 +54,7 @@ module _ {I : Type 0} (from : Source I) where
   pub WillYield-by : (s t : Composition I) (front : List ℕ) (behind : Option ℕ) → Becomes s front behind t → (out : List ℕ)
       → WillYieldAfter (Spells from.next_gives) (pairing_by s) front behind t.decomposed out → WillYield (Spells from.next_gives) t out
   WillYield-by s t front behind parts out h =
-      behind_by (pairing_by t) (pairing_by s) (staying t.marks) t.ahead t.decomposed out (pairing_by-kept s t parts.kept)
+      behind_by (pairing_by t) (pairing_by s) (staying_marks t.marks) t.ahead t.decomposed out (pairing_by-kept s t parts.kept)
       (subst (λ l. WillYieldAfter (Spells from.next_gives) (pairing_by s) l t.ahead t.decomposed out) (sym parts.marks)
       (subst (λ a. WillYieldAfter (Spells from.next_gives) (pairing_by s) front a t.decomposed out) (sym parts.ahead) h))
 
@@ -63,7 +63,7 @@ module _ {I : Type 0} (from : Source I) where
   WillYield-parts Comes s t front behind parts out h =
       subst (λ a. WillYieldAfter Comes (pairing_by s) front a t.decomposed out) parts.ahead
       (subst (λ l. WillYieldAfter Comes (pairing_by s) l t.ahead t.decomposed out) parts.marks
-      (subst (λ k. WillYieldAfter Comes k (staying t.marks) t.ahead t.decomposed out) (pairing_by-kept s t parts.kept) h))
+      (subst (λ k. WillYieldAfter Comes k (staying_marks t.marks) t.ahead t.decomposed out) (pairing_by-kept s t parts.kept) h))
 
   -- what is known of one state holds of another after which the same may come
   CameFirst-by : (MayCome : Composition I → List ℕ → Type 0) (s u : Composition I) (r : Option (Result ℕ NormalizeError)) (t : Composition I)
@@ -124,42 +124,42 @@ module _ {I : Type 0} (from : Source I) where
 
   -- ---- a mark is given
 
-  pub Steps-mark : (s t : Composition I) (c : ℕ) → KeepsButMarks s t → staying s.marks ≡ c ∷ staying t.marks → CompositionSteps from s (Some (Ok c)) t
+  pub Steps-mark : (s t : Composition I) (c : ℕ) → KeepsButMarks s t → staying_marks s.marks ≡ c ∷ staying_marks t.marks → CompositionSteps from s (Some (Ok c)) t
   Steps-mark s t c same front =
       let parts = Becomes-marks s t same in
       record {
         item = record {
           first = λ out h. (
-            staying t.marks ++ composed_ahead (pairing_by s) s.ahead h.unread,
+            staying_marks t.marks ++ composed_ahead (pairing_by s) s.ahead h.unread,
             h.text ∙ ap (λ l. l ++ composed_ahead (pairing_by s) s.ahead h.unread) front,
-            WillYield-by s t (staying t.marks) s.ahead parts _ (rw same.decomposed (record { unread = h.unread; source = h.source; text = refl })),
+            WillYield-by s t (staying_marks t.marks) s.ahead parts _ (rw same.decomposed (record { unread = h.unread; source = h.source; text = refl })),
           );
           fault = tt;
-          room = λ h. (refl, StaysShort-by s t (staying t.marks) s.ahead parts (rw same.decomposed h));
+          room = λ h. (refl, StaysShort-by s t (staying_marks t.marks) s.ahead parts (rw same.decomposed h));
           ends = tt;
           stays = λ h. cc (h.1, front);
         };
         came = λ e out h.
             let d = pairing_by s in
-            let b : WillYieldAfter (MayYield from.next_gives e) d (staying t.marks) s.ahead s.decomposed out =
-            subst (λ n. WillYieldAfter (MayYield from.next_gives e) d (staying t.marks) s.ahead n out) same.decomposed
-            (WillYield-parts (MayYield from.next_gives e) s t (staying t.marks) s.ahead parts out h) in
+            let b : WillYieldAfter (MayYield from.next_gives e) d (staying_marks t.marks) s.ahead s.decomposed out =
+            subst (λ n. WillYieldAfter (MayYield from.next_gives e) d (staying_marks t.marks) s.ahead n out) same.decomposed
+            (WillYield-parts (MayYield from.next_gives e) s t (staying_marks t.marks) s.ahead parts out h) in
             record { unread = b.unread; source = b.source; text = ap (λ l. c ∷ l) b.text ∙ ap (λ l. l ++ composed_ahead d s.ahead b.unread) (sym front) };
         ready = λ h. rw same.decomposed h;
         kept = parts.kept;
-        fewer = omega (arith, ap length front, items_left-by s t (staying t.marks) s.ahead parts, ap (λ n. ahead_left s.ahead (decomposition.items_left from.remaining n)) same.decomposed);
+        fewer = omega (arith, ap length front, items_left-by s t (staying_marks t.marks) s.ahead parts, ap (λ n. ahead_left s.ahead (decomposition.items_left from.remaining n)) same.decomposed);
       }
 
   -- ---- there is a starter
 
-  pub Steps-starter : (s t : Composition I) (a : ℕ) (r : Result ℕ NormalizeError) → staying s.marks ≡ [] → ComposesOn from a s.decomposed s.pairs.now r t → s.ahead ≡ Some a
+  pub Steps-starter : (s t : Composition I) (a : ℕ) (r : Result ℕ NormalizeError) → staying_marks s.marks ≡ [] → ComposesOn from a s.decomposed s.pairs.now r t → s.ahead ≡ Some a
       → CompositionSteps from s (Some r) t
   Steps-starter s t a r none on is =
       let d = pairing_by s in
       record {
         item = record {
           first = λ out h.
-              let text : out ≡ compose_after d a [] h.unread = h.text ∙ ap (λ b. staying s.marks ++ composed_ahead d b h.unread) is ∙ ap (λ l. l ++ compose_after d a [] h.unread) none in
+              let text : out ≡ compose_after d a [] h.unread = h.text ∙ ap (λ b. staying_marks s.marks ++ composed_ahead d b h.unread) is ∙ ap (λ l. l ++ compose_after d a [] h.unread) none in
               subst (λ o. MatchResult r (YieldedFirst (WillYield (Spells from.next_gives)) o t) (λ _. WillYield (Spells from.next_gives) t [])) (sym text) (on.first h.unread h.source);
           fault = on.fault;
           room = on.room;
@@ -169,7 +169,7 @@ module _ {I : Type 0} (from : Source I) where
         came = λ e. CameFirst-composed s t e s.decomposed d a r (on.came e) (λ y out h composed. record {
           unread = y;
           source = h;
-          text = sym (ap (λ b. staying s.marks ++ composed_ahead d b y) is ∙ ap (λ l. l ++ compose_after d a [] y) none ∙ composed);
+          text = sym (ap (λ b. staying_marks s.marks ++ composed_ahead d b y) is ∙ ap (λ l. l ++ compose_after d a [] y) none ∙ composed);
         });
         ready = λ _. on.ready;
         kept = on.kept;
@@ -184,7 +184,7 @@ module _ {I : Type 0} (from : Source I) where
 
   -- ---- if no mark is yielded first, it doesn't matter how many were
 
-  module _ (s u : Composition I) (same : KeepsButMarks s u) (none : staying s.marks ≡ []) (none_left : staying u.marks ≡ []) where
+  module _ (s u : Composition I) (same : KeepsButMarks s u) (none : staying_marks s.marks ≡ []) (none_left : staying_marks u.marks ≡ []) where
     without_marks : Becomes s [] s.ahead u
     without_marks = record { kept = (ap (λ n. n.characters) same.decomposed, same.pairs); marks = none_left; ahead = same.ahead }
 

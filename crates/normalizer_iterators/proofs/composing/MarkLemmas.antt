@@ -9,7 +9,7 @@ use Rattle.std.proofs.Math.Dec.{leb-zero}
 use Rattle.std.specs.List.{list_all}
 use Rattle.normal_forms.specs.Reading.{Reading, IsStarter}
 use Rattle.normal_forms.specs.CompositionByStarters.{is_above, join}
-use Rattle.normal_forms.proofs.composing.MarkRunLemmas.{is_above-nil}
+use Rattle.normal_forms.proofs.composing.CompositionOfMarks.{is_above-nil}
 
 pub is_above-push_any : (d : Reading) (p : List ℕ) (m c : ℕ) → is_above d (p ++ m ∷ []) c ≡ (is_above d p c && nat_lt (d.class m) (d.class c))
 unfolding is_above

@@ -5,33 +5,33 @@ use Rattle.normal_forms.specs.CompositionByStarters.{join, compose_after, compos
 use Rattle.normal_forms.specs.Boundary.{BeginsAtBoundary}
 use Rattle.normal_forms.specs.ShortRuns.{buffer_limit}
 use Rattle.normal_forms.proofs.composing.ComposeLemmas.{starter_or_mark, compose_after-nil, compose_after-join, compose_after-starter, compose_after-mark, compose_by_starters-nil}
-use Rattle.normalizer_text.specs.Steps.{Spells}
+use Rattle.normalizer_text.specs.DecodingSteps.{Spells}
 use Rattle.normalizer_iterators.specs.declared.decomposition.Decomposition.{Decomposition}
 use Rattle.normalizer_iterators.specs.declared.error.NormalizeError.{NormalizeError}
 use Rattle.normalizer_iterators.specs.declared.marks.StayingMarks.{StayingMarks}
 use Rattle.normalizer_iterators.specs.DecompositionItems as decomposition
 use Rattle.normalizer_iterators.specs.Delegate.{Extent, MayYield, Source}
 use Rattle.normalizer_iterators.specs.MarkRuns.{leading_marks, HasShortMarkRuns}
-use Rattle.normalizer_iterators.specs.StayingMarks.{staying, used, BlocksBelow}
+use Rattle.normalizer_iterators.specs.StayingMarks.{mark_count, staying_marks, BlocksBelow}
 use Rattle.normalizer_iterators.specs.Composing.{YieldsShort, ComposesStarter}
 use Rattle.normalizer_iterators.proofs.items.DecompositionLemmas.{items_left-ended, nothing_comes}
 use Rattle.normalizer_iterators.proofs.composing.MarkLemmas.{join-starter}
-use Rattle.normalizer_iterators.proofs.passthrough.PassthroughItems.{compose_after-boundary}
+use Rattle.normalizer_iterators.proofs.passthrough.PassthroughItemLemmas.{compose_after-boundary}
 use Rattle.normalizer_iterators.proofs.composing.DecomposedMarks.{leading_marks-mark, HasShortMarkRuns-leading, HasShortMarkRuns-tail}
 
 -- the starter has become `composite`, and these marks stay after it
 pub record ComposedSoFar {I : Type 0} (from : Source I) (d : Reading) (starter : ℕ) (old : Decomposition I) (composite : ℕ)
     (now : Decomposition I) (marks : StayingMarks) : Type 0 where
   pub text : (all : List ℕ) → decomposition.WillYield (Spells from.next_gives) old all → (y : List ℕ)
-      × (compose_after d starter [] all ≡ compose_after d composite (staying marks) y) × decomposition.WillYield (Spells from.next_gives) now y
+      × (compose_after d starter [] all ≡ compose_after d composite (staying_marks marks) y) × decomposition.WillYield (Spells from.next_gives) now y
   pub came : (e : Extent) (y : List ℕ) → decomposition.WillYield (MayYield from.next_gives e) now y → (all : List ℕ) × decomposition.WillYield (MayYield from.next_gives e) old all
-      × (compose_after d starter [] all ≡ compose_after d composite (staying marks) y)
-  pub short : YieldsShort from.next_gives d old → (h : YieldsShort from.next_gives d now) × (length (staying marks) + leading_marks d h.unread ≤ buffer_limit)
+      × (compose_after d starter [] all ≡ compose_after d composite (staying_marks marks) y)
+  pub short : YieldsShort from.next_gives d old → (h : YieldsShort from.next_gives d now) × (length (staying_marks marks) + leading_marks d h.unread ≤ buffer_limit)
   pub blocking : BlocksBelow d marks
-  pub in_use : used marks ≡ length (staying marks)
+  pub in_use : mark_count marks ≡ length (staying_marks marks)
   pub ready : decomposition.CanDecompose from.can_next from.remaining now
   pub kept : now.characters ≡ old.characters
-  pub fewer : length (staying marks) + decomposition.items_left from.remaining now ≤ decomposition.items_left from.remaining old
+  pub fewer : length (staying_marks marks) + decomposition.items_left from.remaining now ≤ decomposition.items_left from.remaining old
 
 room_after_join : (d : Reading) (a : ℕ) (p : List ℕ) (c r : ℕ) (y : List ℕ) → join d a p c ≡ Some r → HasShortMarkRuns d y → length p + leading_marks d (c ∷ y) ≤ buffer_limit
     → length p + leading_marks d y ≤ buffer_limit
@@ -60,7 +60,7 @@ module _ {I : Type 0} (from : Source I) (d : Reading) where
   pub YieldsShort-no_fault : (now : Decomposition I) (e : NormalizeError) (next : Decomposition I) → decomposition.DecompositionSteps from now (Some (Err e)) next → YieldsShort from.next_gives d now → ⊥
   YieldsShort-no_fault now e next step h = cc (step.item.room h.short).0
 
-  pub ComposedSoFar-none : (starter : ℕ) (old : Decomposition I) (marks : StayingMarks) → staying marks ≡ [] → used marks ≡ 0 → BlocksBelow d marks → decomposition.CanDecompose from.can_next from.remaining old
+  pub ComposedSoFar-none : (starter : ℕ) (old : Decomposition I) (marks : StayingMarks) → staying_marks marks ≡ [] → mark_count marks ≡ 0 → BlocksBelow d marks → decomposition.CanDecompose from.can_next from.remaining old
       → ComposedSoFar from d starter old starter old marks
   ComposedSoFar-none starter old marks none unused blocking ready = record {
     text = λ all h. (all, ap (λ p. compose_after d starter p all) (sym none), h);
@@ -75,20 +75,20 @@ module _ {I : Type 0} (from : Source I) (d : Reading) where
 
   pub ComposedSoFar-joined : (starter : ℕ) (old : Decomposition I) (composite : ℕ) (now : Decomposition I) (marks : StayingMarks) (c r : ℕ) (next : Decomposition I) (after : StayingMarks)
       → ComposedSoFar from d starter old composite now marks → decomposition.DecompositionSteps from now (Some (Ok c)) next
-      → join d composite (staying marks) c ≡ Some r → after ≡ marks → ComposedSoFar from d starter old r next after
+      → join d composite (staying_marks marks) c ≡ Some r → after ≡ marks → ComposedSoFar from d starter old r next after
   ComposedSoFar-joined starter old composite now marks c r next after before step joins kept =
       subst (ComposedSoFar from d starter old r next) (sym kept) (record {
         text = λ all h.
             let b = before.text all h in
             let first = step.item.first b.0 b.2 in
-            (first.0, b.1 ∙ ap (compose_after d composite (staying marks)) first.1 ∙ compose_after-join d composite (staying marks) c r first.0 joins, first.2);
+            (first.0, b.1 ∙ ap (compose_after d composite (staying_marks marks)) first.1 ∙ compose_after-join d composite (staying_marks marks) c r first.0 joins, first.2);
         came = λ e y h.
             let b = before.came e (c ∷ y) (step.came e y h) in
-            (b.0, b.1, b.2 ∙ compose_after-join d composite (staying marks) c r y joins);
+            (b.0, b.1, b.2 ∙ compose_after-join d composite (staying_marks marks) c r y joins);
         short = λ h.
             let b = before.short h in
             let n = YieldsShort-next now c next step b.0 in
-            (n.0, room_after_join d composite (staying marks) c r n.0.unread joins n.0.runs (omega (arith, b.1, ap (leading_marks d) n.1)));
+            (n.0, room_after_join d composite (staying_marks marks) c r n.0.unread joins n.0.runs (omega (arith, b.1, ap (leading_marks d) n.1)));
         blocking = before.blocking;
         in_use = before.in_use;
         ready = step.ready before.ready;
@@ -98,22 +98,22 @@ module _ {I : Type 0} (from : Source I) (d : Reading) where
 
   pub ComposedSoFar-stays : (starter : ℕ) (old : Decomposition I) (composite : ℕ) (now : Decomposition I) (marks : StayingMarks) (c : ℕ) (next : Decomposition I) (after : StayingMarks)
       → ComposedSoFar from d starter old composite now marks → decomposition.DecompositionSteps from now (Some (Ok c)) next
-      → join d composite (staying marks) c ≡ None → IsMark d c → staying after ≡ staying marks ++ c ∷ []
-      → used after ≡ used marks + 1 → BlocksBelow d after → ComposedSoFar from d starter old composite next after
+      → join d composite (staying_marks marks) c ≡ None → IsMark d c → staying_marks after ≡ staying_marks marks ++ c ∷ []
+      → mark_count after ≡ mark_count marks + 1 → BlocksBelow d after → ComposedSoFar from d starter old composite next after
   ComposedSoFar-stays starter old composite now marks c next after before step apart mark longer in_use blocking =
-      let one_more : length (staying after) ≡ length (staying marks) + 1 = ap length longer ∙ length-append (staying marks) (c ∷ []) in
+      let one_more : length (staying_marks after) ≡ length (staying_marks marks) + 1 = ap length longer ∙ length-append (staying_marks marks) (c ∷ []) in
       record {
         text = λ all h.
             let b = before.text all h in
             let first = step.item.first b.0 b.2 in (
               first.0,
-              b.1 ∙ ap (compose_after d composite (staying marks)) first.1 ∙ compose_after-mark d composite (staying marks) c first.0 apart mark
+              b.1 ∙ ap (compose_after d composite (staying_marks marks)) first.1 ∙ compose_after-mark d composite (staying_marks marks) c first.0 apart mark
                   ∙ ap (λ p. compose_after d composite p first.0) (sym longer),
               first.2,
             );
         came = λ e y h.
             let b = before.came e (c ∷ y) (step.came e y h) in
-            (b.0, b.1, b.2 ∙ compose_after-mark d composite (staying marks) c y apart mark ∙ ap (λ p. compose_after d composite p y) (sym longer));
+            (b.0, b.1, b.2 ∙ compose_after-mark d composite (staying_marks marks) c y apart mark ∙ ap (λ p. compose_after d composite p y) (sym longer));
         short = λ h.
             let b = before.short h in
             let n = YieldsShort-next now c next step b.0 in
@@ -127,7 +127,7 @@ module _ {I : Type 0} (from : Source I) (d : Reading) where
 
   -- a mark for which there is no room comes after too many
   pub ComposedSoFar-no_room : (starter : ℕ) (old : Decomposition I) (composite : ℕ) (now : Decomposition I) (marks : StayingMarks) (c : ℕ) (next : Decomposition I)
-      → ComposedSoFar from d starter old composite now marks → decomposition.DecompositionSteps from now (Some (Ok c)) next → IsMark d c → buffer_limit ≤ used marks
+      → ComposedSoFar from d starter old composite now marks → decomposition.DecompositionSteps from now (Some (Ok c)) next → IsMark d c → buffer_limit ≤ mark_count marks
       → YieldsShort from.next_gives d old → ⊥
   ComposedSoFar-no_room starter old composite now marks c next before step mark full h =
       let b = before.short h in
@@ -136,22 +136,22 @@ module _ {I : Type 0} (from : Source I) (d : Reading) where
 
   pub ComposesStarter-starts : (starter : ℕ) (old : Decomposition I) (composite : ℕ) (now : Decomposition I) (marks : StayingMarks) (c : ℕ) (next : Decomposition I) (after : StayingMarks)
       → ComposedSoFar from d starter old composite now marks → decomposition.DecompositionSteps from now (Some (Ok c)) next
-      → join d composite (staying marks) c ≡ None → IsStarter d c → after ≡ marks
-      → ComposesStarter from.next_gives from.remaining d starter old composite (staying after) (Some c) next
+      → join d composite (staying_marks marks) c ≡ None → IsStarter d c → after ≡ marks
+      → ComposesStarter from.next_gives from.remaining d starter old composite (staying_marks after) (Some c) next
   ComposesStarter-starts starter old composite now marks c next after before step apart starts kept =
-      subst (λ m. ComposesStarter from.next_gives from.remaining d starter old composite (staying m) (Some c) next) (sym kept) (record {
+      subst (λ m. ComposesStarter from.next_gives from.remaining d starter old composite (staying_marks m) (Some c) next) (sym kept) (record {
         text = λ all h.
             let b = before.text all h in
             let first = step.item.first b.0 b.2 in (
-              staying marks ++ compose_after d c [] first.0,
-              b.1 ∙ ap (compose_after d composite (staying marks)) first.1 ∙ compose_after-starter d composite (staying marks) c first.0 apart starts,
+              staying_marks marks ++ compose_after d c [] first.0,
+              b.1 ∙ ap (compose_after d composite (staying_marks marks)) first.1 ∙ compose_after-starter d composite (staying_marks marks) c first.0 apart starts,
               record { unread = first.0; source = first.2; text = refl },
             );
         came = λ e rest h.
             let b = before.came e (c ∷ h.unread) (step.came e h.unread h.source) in (
               b.0,
               b.1,
-              b.2 ∙ compose_after-starter d composite (staying marks) c h.unread apart starts ∙ ap (λ l. composite ∷ l) (sym h.text),
+              b.2 ∙ compose_after-starter d composite (staying_marks marks) c h.unread apart starts ∙ ap (λ l. composite ∷ l) (sym h.text),
             );
         short = λ h. (YieldsShort-next now c next step (before.short h).0).0;
         fewer = omega (arith, before.fewer, step.fewer);
@@ -165,22 +165,22 @@ module _ {I : Type 0} (from : Source I) (d : Reading) where
 
   pub ComposesStarter-ends : (starter : ℕ) (old : Decomposition I) (composite : ℕ) (now : Decomposition I) (marks : StayingMarks) (next : Decomposition I)
       → ComposedSoFar from d starter old composite now marks → decomposition.DecompositionSteps from now None next
-      → ComposesStarter from.next_gives from.remaining d starter old composite (staying marks) None next
+      → ComposesStarter from.next_gives from.remaining d starter old composite (staying_marks marks) None next
   ComposesStarter-ends starter old composite now marks next before step = record {
     text = λ all h.
         let b = before.text all h in
         let end = step.item.first b.0 b.2 in (
-          staying marks,
-          b.1 ∙ ap (compose_after d composite (staying marks)) end.0 ∙ compose_after-nil d composite (staying marks),
-          record { unread = []; source = end.1; text = sym (ap (λ l. staying marks ++ l) (compose_by_starters-nil d) ∙ append-nil (staying marks)) },
+          staying_marks marks,
+          b.1 ∙ ap (compose_after d composite (staying_marks marks)) end.0 ∙ compose_after-nil d composite (staying_marks marks),
+          record { unread = []; source = end.1; text = sym (ap (λ l. staying_marks marks ++ l) (compose_by_starters-nil d) ∙ append-nil (staying_marks marks)) },
         );
     came = λ e rest h.
         let b = before.came e [] (step.came e) in
         let none : h.unread ≡ [] = nothing_comes from (MayYield from.next_gives e) next h.unread step.item.ends h.source in (
           b.0,
           b.1,
-          b.2 ∙ compose_after-nil d composite (staying marks) ∙ ap (λ l. composite ∷ l)
-              (sym (h.text ∙ ap (λ y. staying marks ++ compose_by_starters d y) none ∙ ap (λ l. staying marks ++ l) (compose_by_starters-nil d) ∙ append-nil (staying marks))),
+          b.2 ∙ compose_after-nil d composite (staying_marks marks) ∙ ap (λ l. composite ∷ l)
+              (sym (h.text ∙ ap (λ y. staying_marks marks ++ compose_by_starters d y) none ∙ ap (λ l. staying_marks marks ++ l) (compose_by_starters-nil d) ∙ append-nil (staying_marks marks))),
         );
     short = λ h. YieldsShort-end now next step (before.short h).0;
     fewer = omega (arith, before.fewer, items_left-ended from next step.item.ends);
@@ -188,19 +188,19 @@ module _ {I : Type 0} (from : Source I) (d : Reading) where
 
   -- what begins at a boundary is not composed with what comes before it
   pub ComposesStarter-passes : (starter : ℕ) (old : Decomposition I) (composite : ℕ) (now : Decomposition I) (marks : StayingMarks) → ComposedSoFar from d starter old composite now marks
-      → ((Comes : I → List ℕ → Type 0) (y : List ℕ) → decomposition.WillYield Comes now y → BeginsAtBoundary d y) → ComposesStarter from.next_gives from.remaining d starter old composite (staying marks) None now
+      → ((Comes : I → List ℕ → Type 0) (y : List ℕ) → decomposition.WillYield Comes now y → BeginsAtBoundary d y) → ComposesStarter from.next_gives from.remaining d starter old composite (staying_marks marks) None now
   ComposesStarter-passes starter old composite now marks before begins = record {
     text = λ all h.
         let b = before.text all h in (
-          staying marks ++ compose_by_starters d b.0,
-          b.1 ∙ compose_after-boundary d composite (staying marks) b.0 (begins (Spells from.next_gives) b.0 b.2),
+          staying_marks marks ++ compose_by_starters d b.0,
+          b.1 ∙ compose_after-boundary d composite (staying_marks marks) b.0 (begins (Spells from.next_gives) b.0 b.2),
           record { unread = b.0; source = b.2; text = refl },
         );
     came = λ e rest h.
         let b = before.came e h.unread h.source in (
           b.0,
           b.1,
-          b.2 ∙ compose_after-boundary d composite (staying marks) h.unread (begins (MayYield from.next_gives e) h.unread h.source) ∙ ap (λ l. composite ∷ l) (sym h.text),
+          b.2 ∙ compose_after-boundary d composite (staying_marks marks) h.unread (begins (MayYield from.next_gives e) h.unread h.source) ∙ ap (λ l. composite ∷ l) (sym h.text),
         );
     short = λ h. (before.short h).0;
     fewer = before.fewer;

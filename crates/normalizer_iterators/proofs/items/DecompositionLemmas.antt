@@ -2,7 +2,7 @@
 use Rattle.std.proofs.Common.{◌≡◌, ℕ, ◌+◌, ◌*◌, List, [], ◌∷◌, length, refl, ap, ◌∙◌, subst, arith, sym, Option, Some, None, IfSome, IfOk, IfErr, Ok, Err, Result}
 use Rattle.std.specs.Iterator.{Count, size, IsFinite}
 use Rattle.normal_forms.specs.Forms.{nfd}
-use Rattle.normalizer_text.specs.Steps.{Spells}
+use Rattle.normalizer_text.specs.DecodingSteps.{Spells}
 use Rattle.normalizer_tables.specs.Characters.{class_of, has_class_form}
 use Rattle.normalizer_iterators.specs.declared.decomposition.Decomposition.{Decomposition}
 use Rattle.normalizer_iterators.specs.declared.error.NormalizeError.{NormalizeError}
@@ -16,7 +16,7 @@ use Rattle.normalizer_iterators.specs.Delegate.{HasRead, IsReadyAfter, MayYield,
 use Rattle.normalizer_iterators.specs.LazyReading.{longest_list}
 use Rattle.normalizer_iterators.specs.inner.ReadingOn.{ReadsChunk, ChunkDidNotFit}
 use Rattle.normalizer_iterators.specs.ToCome.{IsToCome, AreShortToCome, reads_left}
-use Rattle.normalizer_iterators.specs.WaitingList.{ordered}
+use Rattle.normalizer_iterators.specs.WaitingList.{ordered_text}
 use Rattle.normalizer_iterators.proofs.items.ToComeLemmas.{nfd-nil, IsToCome-front, IsToCome-back, IsToCome-none, IsToCome-ended, AreShortToCome-ended}
 use Rattle.normalizer_iterators.proofs.items.ToComeLemmas.{IsToCome-chunk, came_chunk, AreShortToCome-chunk, short_chunk_fits, chunk_size}
 
@@ -42,23 +42,23 @@ module _ {I : Type 0} (from : Source I) where
       let parts = at_boundary-parts (has_class_form s.characters) (reading_of s) c (s.at_boundary c here) in
       sym (s.suits.starters c first r.others parts.0 r.members)
 
-  pub ended : (Comes : I → List ℕ → Type 0) (s : Decomposition I) → pending_of s ≡ None → ordered s.waiting ≡ [] → WillYield Comes s []
-  ended Comes s none empty = IsToCome-ended Comes (nfd (reading_of s)) (pending_of s) s.delegate (ordered s.waiting) (nfd-nil (reading_of s)) none empty
+  pub ended : (Comes : I → List ℕ → Type 0) (s : Decomposition I) → pending_of s ≡ None → ordered_text s.waiting ≡ [] → WillYield Comes s []
+  ended Comes s none empty = IsToCome-ended Comes (nfd (reading_of s)) (pending_of s) s.delegate (ordered_text s.waiting) (nfd-nil (reading_of s)) none empty
 
   pub items_left-ended : (t : Decomposition I) → IsEnded t → items_left from.remaining t ≡ 0
   items_left-ended t end =
       ap (λ l. length l + longest_list * reads_left (pending_of t) (size (from.remaining t.delegate))) end.1 ∙ ap (λ p. 0 + longest_list * reads_left p (size (from.remaining t.delegate))) end.0 ∙ omega arith
 
   pub nothing_comes : (Comes : I → List ℕ → Type 0) (s : Decomposition I) (out : List ℕ) → IsEnded s → WillYield Comes s out → out ≡ []
-  nothing_comes Comes s out end h = IsToCome-none Comes (nfd (reading_of s)) (pending_of s) s.delegate (ordered s.waiting) out (nfd-nil (reading_of s)) end.0 end.1 h
+  nothing_comes Comes s out end h = IsToCome-none Comes (nfd (reading_of s)) (pending_of s) s.delegate (ordered_text s.waiting) out (nfd-nil (reading_of s)) end.0 end.1 h
 
   -- a buffered character is yielded
   pub Steps-front : (s t : Decomposition I) (c : ℕ) → t.characters ≡ s.characters → t.ignored ≡ s.ignored → t.pending ≡ s.pending → t.delegate ≡ s.delegate
-      → ordered s.waiting ≡ c ∷ ordered t.waiting → DecompositionSteps from s (Some (Ok c)) t
+      → ordered_text s.waiting ≡ c ∷ ordered_text t.waiting → DecompositionSteps from s (Some (Ok c)) t
   Steps-front s t c characters ignored pending delegate front = record {
     item = record {
       first = λ out h.
-          let next = IsToCome-front (Spells from.next_gives) (nfd (reading_of s)) (pending_of s) s.delegate (ordered s.waiting) (ordered t.waiting) out c front h in
+          let next = IsToCome-front (Spells from.next_gives) (nfd (reading_of s)) (pending_of s) s.delegate (ordered_text s.waiting) (ordered_text t.waiting) out c front h in
           (next.0, next.1, rw (characters, ignored, pending, delegate) next.2);
       fault = tt;
       room = λ h. (refl, rw (characters, ignored, pending, delegate) h);
@@ -66,18 +66,18 @@ module _ {I : Type 0} (from : Source I) where
       stays = λ h. cc (h.1, front);
     };
     came = λ e out h.
-        IsToCome-back (MayYield from.next_gives e) (nfd (reading_of s)) (pending_of s) s.delegate (ordered s.waiting) (ordered t.waiting) out c front (rw (characters, ignored, pending, delegate) at h);
+        IsToCome-back (MayYield from.next_gives e) (nfd (reading_of s)) (pending_of s) s.delegate (ordered_text s.waiting) (ordered_text t.waiting) out c front (rw (characters, ignored, pending, delegate) at h);
     ready = λ h. rw (pending, delegate) h;
     kept = (characters, ignored);
     fewer = rw (pending, delegate) (omega (arith, ap length front));
   }
 
-  pub Steps-ended : (s t : Decomposition I) → t.characters ≡ s.characters → t.ignored ≡ s.ignored → pending_of s ≡ None → pending_of t ≡ None → ordered s.waiting ≡ [] → ordered t.waiting ≡ []
+  pub Steps-ended : (s t : Decomposition I) → t.characters ≡ s.characters → t.ignored ≡ s.ignored → pending_of s ≡ None → pending_of t ≡ None → ordered_text s.waiting ≡ [] → ordered_text t.waiting ≡ []
       → DecompositionSteps from s None t
   Steps-ended s t characters ignored before after empty empty_after = record {
     item = record {
       first = λ out h. (
-        IsToCome-none (Spells from.next_gives) (nfd (reading_of s)) (pending_of s) s.delegate (ordered s.waiting) out (nfd-nil (reading_of s)) before empty h,
+        IsToCome-none (Spells from.next_gives) (nfd (reading_of s)) (pending_of s) s.delegate (ordered_text s.waiting) out (nfd-nil (reading_of s)) before empty h,
         ended (Spells from.next_gives) t after empty_after,
       );
       fault = tt;
@@ -96,9 +96,9 @@ module _ {I : Type 0} (from : Source I) where
           (AreShortToCome-ended from.next_gives (has_class_form s.characters) (reading_of s) None s.delegate t.delegate refl
           (subst (λ p. AreShortToCome from.next_gives (has_class_form s.characters) (reading_of s) p s.delegate) before h))
 
-  module _ (s : Decomposition I) (c : ℕ) (pending : pending_of s ≡ Some c) (empty : ordered s.waiting ≡ []) where
-    to_come : (out : List ℕ) → WillYield (Spells from.next_gives) s out → IsToCome (Spells from.next_gives) (nfd (reading_of s)) (Some c) s.delegate (ordered s.waiting) out
-    to_come out h = subst (λ p. IsToCome (Spells from.next_gives) (nfd (reading_of s)) p s.delegate (ordered s.waiting) out) pending h
+  module _ (s : Decomposition I) (c : ℕ) (pending : pending_of s ≡ Some c) (empty : ordered_text s.waiting ≡ []) where
+    to_come : (out : List ℕ) → WillYield (Spells from.next_gives) s out → IsToCome (Spells from.next_gives) (nfd (reading_of s)) (Some c) s.delegate (ordered_text s.waiting) out
+    to_come out h = subst (λ p. IsToCome (Spells from.next_gives) (nfd (reading_of s)) p s.delegate (ordered_text s.waiting) out) pending h
 
     short_to_come : StaysShort from.next_gives s → AreShortToCome from.next_gives (has_class_form s.characters) (reading_of s) (Some c) s.delegate
     short_to_come h = subst (λ p. AreShortToCome from.next_gives (has_class_form s.characters) (reading_of s) p s.delegate) pending h
@@ -113,7 +113,7 @@ module _ {I : Type 0} (from : Source I) where
       item = record {
         first = λ out h.
             let next =
-            IsToCome-chunk from (has_class_form s.characters) (reading_of s) s.suits c s.delegate t.delegate first (pending_of t) t.waiting (ordered s.waiting) out empty
+            IsToCome-chunk from (has_class_form s.characters) (reading_of s) s.suits c s.delegate t.delegate first (pending_of t) t.waiting (ordered_text s.waiting) out empty
             (s.at_boundary c pending) r (to_come out h) in
             (next.0, next.1, rw (characters, ignored) next.2);
         fault = tt;
@@ -126,15 +126,15 @@ module _ {I : Type 0} (from : Source I) where
         stays = λ h. cc (h.0, pending);
       };
       came = λ e out h.
-          subst (λ p. IsToCome (MayYield from.next_gives e) (nfd (reading_of s)) p s.delegate (ordered s.waiting) (first ∷ out)) (sym pending)
-          (came_chunk from (has_class_form s.characters) (reading_of s) s.suits e c s.delegate t.delegate first (pending_of t) t.waiting (ordered s.waiting) out empty
+          subst (λ p. IsToCome (MayYield from.next_gives e) (nfd (reading_of s)) p s.delegate (ordered_text s.waiting) (first ∷ out)) (sym pending)
+          (came_chunk from (has_class_form s.characters) (reading_of s) s.suits e c s.delegate t.delegate first (pending_of t) t.waiting (ordered_text s.waiting) out empty
           (s.at_boundary c pending) r (rw (characters, ignored) at h));
       ready = λ h. r.ready;
       kept = (characters, ignored);
       fewer = omega (arith, items_left-pending, chunk_size from (has_class_form s.characters) (reading_of s) s.suits c s.delegate t.delegate first (pending_of t) t.waiting r);
     }
 
-    pub Steps-refused : (t : Decomposition I) → t.characters ≡ s.characters → t.ignored ≡ s.ignored → pending_of t ≡ None → ordered t.waiting ≡ []
+    pub Steps-refused : (t : Decomposition I) → t.characters ≡ s.characters → t.ignored ≡ s.ignored → pending_of t ≡ None → ordered_text t.waiting ≡ []
         → ChunkDidNotFit from.next_gives (has_class_form s.characters) (reading_of s) c s.delegate → DecompositionSteps from s (Some (Err Memory)) t
     Steps-refused t characters ignored after empty_after long = record {
       item = record {

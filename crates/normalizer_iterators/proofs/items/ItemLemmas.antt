@@ -6,12 +6,12 @@ use Rattle.std.specs.Iterator.{Yields}
 use Rattle.normal_forms.specs.Forms.{nfd}
 use Rattle.normal_forms.specs.Reading.{Reading}
 use Rattle.normal_forms.specs.ShortRuns.{HasShortRuns}
-use Rattle.normalizer_text.specs.Steps.{Spells}
+use Rattle.normalizer_text.specs.DecodingSteps.{Spells}
 use Rattle.normalizer_iterators.specs.DecompositionItems.{WillYield, StaysShort, IsEnded, DecompositionSteps, pending_of, reading_of}
 use Rattle.normalizer_iterators.specs.CompositionItems as composition
 use Rattle.normalizer_iterators.specs.CompositionItems.{CompositionSteps, pairing_by}
-use Rattle.normalizer_iterators.specs.StayingMarks.{staying}
-use Rattle.normalizer_iterators.specs.WaitingList.{ordered}
+use Rattle.normalizer_iterators.specs.StayingMarks.{staying_marks}
+use Rattle.normalizer_iterators.specs.WaitingList.{ordered_text}
 use Rattle.normalizer_iterators.specs.declared.composition.Composition.{Composition}
 use Rattle.normalizer_iterators.specs.declared.decomposition.Decomposition.{Decomposition}
 use Rattle.normalizer_iterators.specs.declared.error.NormalizeError.{NormalizeError}
@@ -184,14 +184,14 @@ module _ {I : Type 0} (from : Source I) where
 
   some_decomposed : (s : Decomposition I) → (out : List ℕ) × WillYield (MayYield from.next_gives so_far) s out
   some_decomposed s = (
-    ordered s.waiting ++ nfd (reading_of s) (option_to_list (pending_of s) ++ []),
+    ordered_text s.waiting ++ nfd (reading_of s) (option_to_list (pending_of s) ++ []),
     record { unread = []; source = behind_may_come (pending_of s) s.delegate; text = refl },
   )
 
   some_composed : (s : Composition I) → (out : List ℕ) × composition.WillYield (MayYield from.next_gives so_far) s out
   some_composed s =
       let y = some_decomposed s.decomposed in (
-        staying s.marks ++ composed_ahead (pairing_by s) s.ahead y.0,
+        staying_marks s.marks ++ composed_ahead (pairing_by s) s.ahead y.0,
         record { unread = y.0; source = y.1; text = refl },
       )
 

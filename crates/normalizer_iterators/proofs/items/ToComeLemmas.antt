@@ -9,13 +9,13 @@ use Rattle.normal_forms.specs.Chunks.{BeginsChunk}
 use Rattle.normal_forms.specs.ShortRuns.{continues, HasShortRuns}
 use Rattle.normal_forms.proofs.ordering.OrderLemmas.{order-nil, length-order}
 use Rattle.normal_forms.proofs.boundaries.ChunkLemmas.{nfd-before_chunk, nfd-chunk, HasShortRuns-rest, leading_fits, chunk_fits}
-use Rattle.normalizer_text.specs.Steps.{Spells}
+use Rattle.normalizer_text.specs.DecodingSteps.{Spells}
 use Rattle.normalizer_iterators.specs.declared.waiting.WaitingList.{WaitingList}
 use Rattle.normalizer_iterators.specs.Delegate.{ComesAfter, Extent, MayYield, Source}
 use Rattle.normalizer_iterators.specs.LazyReading.{SuitsLazyReading, longest_list}
 use Rattle.normalizer_iterators.specs.inner.ReadingOn.{ReadsOn, DidNotFit, ReadsChunk, ChunkDidNotFit}
 use Rattle.normalizer_iterators.specs.ToCome.{IsToCome, AreShortToCome, reads_left}
-use Rattle.normalizer_iterators.specs.WaitingList.{ordered, unordered, held}
+use Rattle.normalizer_iterators.specs.WaitingList.{ordered_text, unordered_text, item_count}
 use Rattle.normalizer_iterators.proofs.reads.LazyLemmas.{at_boundary-parts, spelled_behind, spelled_then, MayYield-then}
 use Rattle.normalizer_iterators.proofs.reads.ReadingLemmas.{reordered-nothing}
 
@@ -74,8 +74,8 @@ module _ {I : Type 0} (gives : I → Option ℕ → I → Type 0) where
 module _ {I : Type 0} (from : Source I) (f : ℕ → Bool) (d : Reading) where
   -- ---- the first characters are read
 
-  pub IsToCome-start : SuitsLazyReading f d → (delegate u : I) (w b : WaitingList) (pending : Option ℕ) (x : List ℕ) → ordered w ≡ [] → unordered w ≡ []
-      → ReadsOn from f d delegate w pending u b → Spells from.next_gives delegate x → IsToCome (Spells from.next_gives) (nfd d) pending u (ordered b) (nfd d x)
+  pub IsToCome-start : SuitsLazyReading f d → (delegate u : I) (w b : WaitingList) (pending : Option ℕ) (x : List ℕ) → ordered_text w ≡ [] → unordered_text w ≡ []
+      → ReadsOn from f d delegate w pending u b → Spells from.next_gives delegate x → IsToCome (Spells from.next_gives) (nfd d) pending u (ordered_text b) (nfd d x)
   IsToCome-start suits delegate u w b pending x front open_marks r spells =
       let parts = spelled_then from.next_gives delegate r.read pending u x r.run spells in
       record {
@@ -86,8 +86,8 @@ module _ {I : Type 0} (from : Source I) (f : ℕ → Bool) (d : Reading) where
             ∙ ap (λ l. l ++ nfd d (option_to_list pending ++ parts.0)) (sym (r.text ∙ reordered-nothing d w (expand d r.read) front open_marks));
       }
 
-  pub came_start : SuitsLazyReading f d → (e : Extent) (delegate u : I) (w b : WaitingList) (pending : Option ℕ) (out : List ℕ) → ordered w ≡ [] → unordered w ≡ []
-      → ReadsOn from f d delegate w pending u b → IsToCome (MayYield from.next_gives e) (nfd d) pending u (ordered b) out → (x : List ℕ) × MayYield from.next_gives e delegate x × (out ≡ nfd d x)
+  pub came_start : SuitsLazyReading f d → (e : Extent) (delegate u : I) (w b : WaitingList) (pending : Option ℕ) (out : List ℕ) → ordered_text w ≡ [] → unordered_text w ≡ []
+      → ReadsOn from f d delegate w pending u b → IsToCome (MayYield from.next_gives e) (nfd d) pending u (ordered_text b) out → (x : List ℕ) × MayYield from.next_gives e delegate x × (out ≡ nfd d x)
   came_start suits e delegate u w b pending out front open_marks r h =
       let behind = option_to_list pending ++ h.unread in (
         r.read ++ behind,
@@ -102,7 +102,7 @@ module _ {I : Type 0} (from : Source I) (f : ℕ → Bool) (d : Reading) where
       let parts = spelled_then from.next_gives delegate r.read pending u x r.run spells in
       record { unread = parts.0; source = parts.2; short = HasShortRuns-rest f d r.read (option_to_list pending ++ parts.0) (subst (HasShortRuns f d) parts.1 short) }
 
-  pub short_start_fits : (delegate : I) (w : WaitingList) (x : List ℕ) → held w ≡ 0 → DidNotFit from.next_gives f d delegate w → Spells from.next_gives delegate x → HasShortRuns f d x → ⊥
+  pub short_start_fits : (delegate : I) (w : WaitingList) (x : List ℕ) → item_count w ≡ 0 → DidNotFit from.next_gives f d delegate w → Spells from.next_gives delegate x → HasShortRuns f d x → ⊥
   short_start_fits delegate w x none long spells short =
       let parts = spelled_behind from.next_gives delegate long.read long.delegate_after x long.run spells in
       omega (arith, long.too_long, leading_fits f d long.read parts.0 (subst (HasShortRuns f d) parts.1 short) long.continuing)
@@ -111,12 +111,12 @@ module _ {I : Type 0} (from : Source I) (f : ℕ → Bool) (d : Reading) where
 
   pub IsToCome-chunk : SuitsLazyReading f d → (c : ℕ) (delegate u : I) (first : ℕ) (pending : Option ℕ) (b : WaitingList) (front out : List ℕ) → front ≡ [] → continues f d c ≡ false
       → ReadsChunk from f d c delegate first pending u b → IsToCome (Spells from.next_gives) (nfd d) (Some c) delegate front out → (rest : List ℕ) × (out ≡ first ∷ rest)
-      × IsToCome (Spells from.next_gives) (nfd d) pending u (ordered b) rest
+      × IsToCome (Spells from.next_gives) (nfd d) pending u (ordered_text b) rest
   IsToCome-chunk suits c delegate u first pending b front out none at_boundary r h =
       let parts = spelled_then from.next_gives delegate r.read pending u h.unread r.run h.source in
       let behind = nfd d (option_to_list pending ++ parts.0) in
       let starter = suits.starters c first r.others ((at_boundary-parts f d c at_boundary).0) r.members in (
-        ordered b ++ behind,
+        ordered_text b ++ behind,
         h.text ∙ ap (λ l. l ++ nfd d (c ∷ h.unread)) none ∙ ap (λ l. nfd d (c ∷ l)) parts.1
             ∙ nfd-chunk d c first r.others r.read (option_to_list pending ++ parts.0) r.members starter (begins_chunk f d suits (Spells from.next_gives) pending u parts.0 r.at_boundary parts.2)
             ∙ ap (λ l. first ∷ (l ++ behind)) (sym r.text),
@@ -124,7 +124,7 @@ module _ {I : Type 0} (from : Source I) (f : ℕ → Bool) (d : Reading) where
       )
 
   pub came_chunk : SuitsLazyReading f d → (e : Extent) (c : ℕ) (delegate u : I) (first : ℕ) (pending : Option ℕ) (b : WaitingList) (front rest : List ℕ) → front ≡ [] → continues f d c ≡ false
-      → ReadsChunk from f d c delegate first pending u b → IsToCome (MayYield from.next_gives e) (nfd d) pending u (ordered b) rest
+      → ReadsChunk from f d c delegate first pending u b → IsToCome (MayYield from.next_gives e) (nfd d) pending u (ordered_text b) rest
       → IsToCome (MayYield from.next_gives e) (nfd d) (Some c) delegate front (first ∷ rest)
   came_chunk suits e c delegate u first pending b front rest none at_boundary r h =
       let behind = option_to_list pending ++ h.unread in
@@ -156,12 +156,12 @@ module _ {I : Type 0} (from : Source I) (f : ℕ → Bool) (d : Reading) where
 
   -- a chunk yields no more than its share
   pub chunk_size : SuitsLazyReading f d → (c : ℕ) (delegate u : I) (first : ℕ) (pending : Option ℕ) (b : WaitingList) → ReadsChunk from f d c delegate first pending u b
-      → length (ordered b) + longest_list * reads_left pending (size (from.remaining u)) < longest_list * (size (from.remaining delegate) + 1)
+      → length (ordered_text b) + longest_list * reads_left pending (size (from.remaining u)) < longest_list * (size (from.remaining delegate) + 1)
   chunk_size suits c delegate u first pending b r =
       let own = suits.short c in
       let all = ap length r.text ∙ length-order d (r.others ++ expand d r.read) ∙ length-append r.others (expand d r.read) in
       let read = length-expand d r.read suits.short in
-      by pending (size (from.remaining u)) (size (from.remaining delegate)) (length r.read) (length (ordered b)) (omega (arith, own, all, read, ap length r.members)) r.fewer
+      by pending (size (from.remaining u)) (size (from.remaining delegate)) (length r.read) (length (ordered_text b)) (omega (arith, own, all, read, ap length r.members)) r.fewer
     where
       by : (pending : Option ℕ) (after before n given : ℕ) → given < longest_list + longest_list * n → MatchOption pending (n ≤ before) (λ _. after + n < before)
           → given + longest_list * reads_left pending after < longest_list * (before + 1)

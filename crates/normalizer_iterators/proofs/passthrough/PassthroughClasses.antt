@@ -16,7 +16,7 @@ use Rattle.normalizer_tables.specs.PairConditions.{is_composing_passthrough}
 use Rattle.normalizer_tables.specs.Pairs.{Pair}
 use Rattle.normalizer_tables.specs.SpecialLists.{FixedList, fixed_list_of}
 use Rattle.normalizer_tables.specs.Words.{ignored_marker, class_of_word, is_plain, is_class_form, is_ordinary_class_form, is_special_class_form, is_backward_combining, is_non_round_trip}
-use Rattle.normalizer_tables.specs.Words.{has_high_zeros, has_low_zeros, low_byte, two_characters, read_low, listed, read}
+use Rattle.normalizer_tables.specs.Words.{has_high_zeros, has_low_zeros, low_byte, two_characters, read_low, listed_reading, read}
 use Rattle.normalizer_tables.specs.Readings.{reading_by}
 use Rattle.normalizer_tables.specs.declared.characters.IgnoredCharacters.TheVariants.{Dropped}
 use Rattle.normalizer_tables.proofs.words.CharacterLemmas.{list_read-scalar, list_of-reads, class_of-scalar}
@@ -57,7 +57,7 @@ read-ordinary : (P : WordReading → Type 0) (n w : ℕ) (is_mapper : Bool) → 
 unfolding read
 read-ordinary P n w is_mapper ordinary ignored itself form =
     ordinary_either P (is_mapper && (w == ignored_marker)) (is_plain w) (is_ordinary_class_form w) (low_byte w)
-    (if is_special_class_form w then SpecialForm (low_byte w) else if not (has_high_zeros w) && not (has_low_zeros w) then two_characters w else if has_high_zeros w then read_low n w else listed w)
+    (if is_special_class_form w then SpecialForm (low_byte w) else if not (has_high_zeros w) && not (has_low_zeros w) then two_characters w else if has_high_zeros w then read_low n w else listed_reading w)
     ordinary ignored itself form
 
 module _ (s : Characters) (n : ℕ) (h : IsScalar n) where

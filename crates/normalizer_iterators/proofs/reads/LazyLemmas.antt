@@ -9,7 +9,7 @@ use Rattle.normalizer_tables.specs.Characters.{Characters, list_of}
 use Rattle.normalizer_tables.specs.Ignored.{ignored_list}
 use Rattle.normalizer_tables.specs.Pairs.{Pair}
 use Rattle.normalizer_tables.specs.Readings.{reading_by}
-use Rattle.normalizer_text.specs.Steps.{Spells}
+use Rattle.normalizer_text.specs.DecodingSteps.{Spells}
 use Rattle.normalizer_iterators.specs.Delegate.{ComesAfter, Extent, MayYield, SpellsAfter}
 use Rattle.normalizer_iterators.specs.Delegate.Extent.{to_end, so_far}
 use Rattle.normalizer_iterators.specs.LazyReading.{HasClassesFrom}

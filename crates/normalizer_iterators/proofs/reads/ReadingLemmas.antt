@@ -19,19 +19,19 @@ use Rattle.normalizer_tables.specs.Characters.{Characters}
 use Rattle.normalizer_iterators.specs.declared.waiting.WaitingList.{WaitingList}
 use Rattle.normalizer_iterators.specs.LazyReading.{HasClassesFrom}
 use Rattle.normalizer_iterators.specs.ToCome.{reads_left}
-use Rattle.normalizer_iterators.specs.WaitingList.{ordered, unordered, held, reordered, AgreesWith}
+use Rattle.normalizer_iterators.specs.WaitingList.{ordered_text, unordered_text, item_count, reordered_text, AgreesWith}
 
-pub reordered-nothing : (d : Reading) (b : WaitingList) (rest : List ℕ) → ordered b ≡ [] → unordered b ≡ [] → reordered d b rest ≡ order d rest
-unfolding reordered
-reordered-nothing d b rest front open_marks = ap (λ l. l ++ order d (unordered b ++ rest)) front ∙ ap (λ l. order d (l ++ rest)) open_marks
+pub reordered-nothing : (d : Reading) (b : WaitingList) (rest : List ℕ) → ordered_text b ≡ [] → unordered_text b ≡ [] → reordered_text d b rest ≡ order d rest
+unfolding reordered_text
+reordered-nothing d b rest front open_marks = ap (λ l. l ++ order d (unordered_text b ++ rest)) front ∙ ap (λ l. order d (l ++ rest)) open_marks
 
 -- ---- the members of a list, one after another
 
 -- those from `first` up to `place` went in
 pub record PushedSoFar (s : Characters) (members : List ℕ) (first place : ℕ) (old new : WaitingList) : Type 0 where
-  pub text : (d : Reading) → HasClassesFrom s d → AgreesWith d old → (rest : List ℕ) → reordered d old (drop first members ++ rest) ≡ reordered d new (drop place members ++ rest)
+  pub text : (d : Reading) → HasClassesFrom s d → AgreesWith d old → (rest : List ℕ) → reordered_text d old (drop first members ++ rest) ≡ reordered_text d new (drop place members ++ rest)
   pub classes : (d : Reading) → HasClassesFrom s d → AgreesWith d old → AgreesWith d new
-  pub held : held new + first ≡ held old + place
+  pub held : item_count new + first ≡ item_count old + place
 
 pub drop_member : (members : List ℕ) (place m : ℕ) → Some m ≡ slice_get members place → drop place members ≡ m ∷ drop (place + 1) members
 drop_member members place m e =
@@ -50,11 +50,11 @@ no_member members place inside e =
     ]
 
 pub pushed_member : (s : Characters) (members : List ℕ) (first place m : ℕ) (old w new : WaitingList) → Some m ≡ slice_get members place → PushedSoFar s members first place old w
-    → ((d : Reading) → HasClassesFrom s d → AgreesWith d w → (rest : List ℕ) → reordered d w (m ∷ rest) ≡ reordered d new rest)
-    → ((d : Reading) → HasClassesFrom s d → AgreesWith d w → AgreesWith d new) → held new ≡ held w + 1 → PushedSoFar s members first (place + 1) old new
+    → ((d : Reading) → HasClassesFrom s d → AgreesWith d w → (rest : List ℕ) → reordered_text d w (m ∷ rest) ≡ reordered_text d new rest)
+    → ((d : Reading) → HasClassesFrom s d → AgreesWith d w → AgreesWith d new) → item_count new ≡ item_count w + 1 → PushedSoFar s members first (place + 1) old new
 pushed_member s members first place m old w new there before text classes more = record {
   text = λ d same agrees rest.
-      before.text d same agrees rest ∙ ap (λ l. reordered d w (l ++ rest)) (drop_member members place m there)
+      before.text d same agrees rest ∙ ap (λ l. reordered_text d w (l ++ rest)) (drop_member members place m there)
       ∙ text d same (before.classes d same agrees) (drop (place + 1) members ++ rest);
   classes = λ d same agrees. classes d same (before.classes d same agrees);
   held = omega (arith, before.held);
@@ -64,8 +64,8 @@ pub pushed_none : (s : Characters) (members : List ℕ) (first : ℕ) (old : Wai
 pushed_none s members first old = record { text = λ d same agrees rest. refl; classes = λ d same agrees. agrees; held = refl }
 
 pub pushed_all : (s : Characters) (members : List ℕ) (first place : ℕ) (old new : WaitingList) → length members ≤ place → PushedSoFar s members first place old new → (d : Reading)
-    → HasClassesFrom s d → AgreesWith d old → (rest : List ℕ) → reordered d old (drop first members ++ rest) ≡ reordered d new rest
-pushed_all s members first place old new end pushed d same agrees rest = pushed.text d same agrees rest ∙ ap (λ l. reordered d new (l ++ rest)) (drop_all place members end)
+    → HasClassesFrom s d → AgreesWith d old → (rest : List ℕ) → reordered_text d old (drop first members ++ rest) ≡ reordered_text d new rest
+pushed_all s members first place old new end pushed d same agrees rest = pushed.text d same agrees rest ∙ ap (λ l. reordered_text d new (l ++ rest)) (drop_all place members end)
 
 -- ---- characters that continue, one after another
 
@@ -75,9 +75,9 @@ pub record ReadSoFar {I : Type 0} (gives : I → Option ℕ → I → Type 0) (l
   pub read : List ℕ
   pub run : Yields gives delegate read delegate_now
   pub continuing : AllPass (continues has_class_form d) read
-  pub text : (rest : List ℕ) → reordered d waiting (expand d read ++ rest) ≡ reordered d waiting_now rest
+  pub text : (rest : List ℕ) → reordered_text d waiting (expand d read ++ rest) ≡ reordered_text d waiting_now rest
   pub agrees : AgreesWith d waiting_now
-  pub held : held waiting_now ≡ held waiting + length (expand d read)
+  pub held : item_count waiting_now ≡ item_count waiting + length (expand d read)
   pub fewer : size (left delegate_now) + length read ≤ size (left delegate)
 
 nearer_end : (pending : Option ℕ) (next n all now : ℕ) → now + n ≤ all → OnSome pending (next < now) → MatchOption pending (n ≤ all) (λ _. next + n < all)
@@ -102,7 +102,7 @@ module _ {I : Type 0} (from : Source I) (f : ℕ → Bool) (d : Reading) where
   expand-one_more xs c = expand-append d xs (c ∷ []) ∙ ap (λ l. expand d xs ++ l) (append-nil (d.list c))
 
   pub ReadSoFar-more : (delegate now next : I) (waiting w new : WaitingList) (c : ℕ) → ReadSoFar from.next_gives from.remaining f d delegate waiting now w → from.next_gives now (Some c) next → continues f d c ≡ true
-      → ((rest : List ℕ) → reordered d w (d.list c ++ rest) ≡ reordered d new rest) → AgreesWith d new → held new ≡ held w + length (d.list c) → size (from.remaining next) < size (from.remaining now)
+      → ((rest : List ℕ) → reordered_text d w (d.list c ++ rest) ≡ reordered_text d new rest) → AgreesWith d new → item_count new ≡ item_count w + length (d.list c) → size (from.remaining next) < size (from.remaining now)
       → ReadSoFar from.next_gives from.remaining f d delegate waiting next new
   ReadSoFar-more delegate now next waiting w new c before step continuing text agrees more nearer =
       let longer = expand-one_more before.read c in
@@ -111,7 +111,7 @@ module _ {I : Type 0} (from : Source I) (f : ℕ → Bool) (d : Reading) where
         run = Yields-one_more from.next_gives delegate before.read now c next before.run step;
         continuing = All-push (λ b. continues f d b ≡ true) before.read c before.continuing continuing;
         text = λ rest.
-            ap (λ l. reordered d waiting (l ++ rest)) longer ∙ ap (reordered d waiting) (append_assoc (expand d before.read) (d.list c) rest)
+            ap (λ l. reordered_text d waiting (l ++ rest)) longer ∙ ap (reordered_text d waiting) (append_assoc (expand d before.read) (d.list c) rest)
             ∙ before.text (d.list c ++ rest) ∙ text rest;
         agrees = agrees;
         held = omega (arith, before.held, ap length longer, length-append (expand d before.read) (d.list c));
@@ -119,21 +119,21 @@ module _ {I : Type 0} (from : Source I) (f : ℕ → Bool) (d : Reading) where
       }
 
   pub ReadSoFar-done : (delegate now next : I) (waiting w new : WaitingList) (pending : Option ℕ) → ReadSoFar from.next_gives from.remaining f d delegate waiting now w → from.next_gives now pending next
-      → IfSome pending (λ c. continues f d c ≡ false) → ordered new ≡ reordered d w [] → unordered new ≡ [] → IsReadyAfter from.can_next from.remaining pending next
+      → IfSome pending (λ c. continues f d c ≡ false) → ordered_text new ≡ reordered_text d w [] → unordered_text new ≡ [] → IsReadyAfter from.can_next from.remaining pending next
       → OnSome pending (size (from.remaining next) < size (from.remaining now)) → ReadsOn from f d delegate waiting pending next new
   ReadSoFar-done delegate now next waiting w new pending before step at_boundary text settled ready nearer = record {
     read = before.read;
     run = (now, before.run, step);
     continuing = before.continuing;
     at_boundary = at_boundary;
-    text = text ∙ sym (before.text []) ∙ ap (reordered d waiting) (append-nil (expand d before.read));
+    text = text ∙ sym (before.text []) ∙ ap (reordered_text d waiting) (append-nil (expand d before.read));
     settled = settled;
     ready = ready;
     fewer = nearer_end pending (size (from.remaining next)) (length before.read) (size (from.remaining delegate)) (size (from.remaining now)) before.fewer nearer;
   }
 
   pub ReadSoFar-refused : (delegate now next : I) (waiting w : WaitingList) (c : ℕ) → ReadSoFar from.next_gives from.remaining f d delegate waiting now w → from.next_gives now (Some c) next → continues f d c ≡ true
-      → buffer_limit < held w + length (d.list c) → DidNotFit from.next_gives f d delegate waiting
+      → buffer_limit < item_count w + length (d.list c) → DidNotFit from.next_gives f d delegate waiting
   ReadSoFar-refused delegate now next waiting w c before step continuing long =
       let longer = expand-one_more before.read c in
       record {
@@ -177,7 +177,7 @@ module _ {I : Type 0} (from : Source I) where
     ReadsAhead-none ready agrees = record { ready = ready; agrees = agrees; behind = λ before read. (before, ReadSoFar-none from f d before waiting agrees, read) }
 
     pub ReadsAhead-more : (c : ℕ) (now after : I) (w new : WaitingList) (next : Option ℕ) → ReadsAhead from f d first delegate waiting (Some c) now w → continues f d c ≡ true
-        → ((rest : List ℕ) → reordered d w (d.list c ++ rest) ≡ reordered d new rest) → AgreesWith d new → held new ≡ held w + length (d.list c) → from.next_gives now next after
+        → ((rest : List ℕ) → reordered_text d w (d.list c ++ rest) ≡ reordered_text d new rest) → AgreesWith d new → item_count new ≡ item_count w + length (d.list c) → from.next_gives now next after
         → OnSome next (from.can_next after × IsFinite (from.remaining after) × (size (from.remaining after) < size (from.remaining now))) → ReadsAhead from f d first delegate waiting next after new
     ReadsAhead-more c now after w new next before continuing text agrees more step near = record {
       ready = IsReadyAfter-next now after next near;
@@ -191,12 +191,12 @@ module _ {I : Type 0} (from : Source I) where
     }
 
     pub ReadsAhead-done : (pending : Option ℕ) (now : I) (w new : WaitingList) → ReadsAhead from f d first delegate waiting pending now w → IfSome pending (λ c. continues f d c ≡ false)
-        → ordered new ≡ reordered d w [] → unordered new ≡ [] → (before : I) → HasRead from.next_gives from.remaining before first delegate → ReadsOn from f d before waiting pending now new
+        → ordered_text new ≡ reordered_text d w [] → unordered_text new ≡ [] → (before : I) → HasRead from.next_gives from.remaining before first delegate → ReadsOn from f d before waiting pending now new
     ReadsAhead-done pending now w new ahead at_boundary text settled before read =
         let last = ahead.behind before read in
         ReadSoFar-done from f d before last.0 now waiting w new pending last.1 last.2.step at_boundary text settled ahead.ready last.2.nearer
 
-    pub ReadsAhead-refused : (c : ℕ) (now : I) (w : WaitingList) → ReadsAhead from f d first delegate waiting (Some c) now w → continues f d c ≡ true → buffer_limit < held w + length (d.list c)
+    pub ReadsAhead-refused : (c : ℕ) (now : I) (w : WaitingList) → ReadsAhead from f d first delegate waiting (Some c) now w → continues f d c ≡ true → buffer_limit < item_count w + length (d.list c)
         → (before : I) → HasRead from.next_gives from.remaining before first delegate → DidNotFit from.next_gives f d before waiting
     ReadsAhead-refused c now w ahead continuing long before read =
         let last = ahead.behind before read in
@@ -205,8 +205,8 @@ module _ {I : Type 0} (from : Source I) where
 -- ---- a chunk, if nothing was buffered before
 
 pub ReadsChunk-from : {I : Type 0} (from : Source I) (f : ℕ → Bool) (d : Reading) (c first : ℕ) (members : List ℕ) (delegate next : I)
-    (w b new : WaitingList) (pending : Option ℕ) → members ≡ d.list c → Some first ≡ slice_get members 0 → ordered w ≡ [] → unordered w ≡ []
-    → ((rest : List ℕ) → reordered d w (drop 1 members ++ rest) ≡ reordered d b rest) → ReadsOn from f d delegate b pending next new
+    (w b new : WaitingList) (pending : Option ℕ) → members ≡ d.list c → Some first ≡ slice_get members 0 → ordered_text w ≡ [] → unordered_text w ≡ []
+    → ((rest : List ℕ) → reordered_text d w (drop 1 members ++ rest) ≡ reordered_text d b rest) → ReadsOn from f d delegate b pending next new
     → ReadsChunk from f d c delegate first pending next new
 ReadsChunk-from from f d c first members delegate next w b new pending is there front open_marks pushed r = record {
   others = drop 1 members;
@@ -223,7 +223,7 @@ ReadsChunk-from from f d c first members delegate next w b new pending is there 
 
 -- a character that is its own list is a chunk if a boundary follows it
 pub ReadsChunk-alone : {I : Type 0} (from : Source I) (f : ℕ → Bool) (d : Reading) (c : ℕ) (delegate next : I) (following : Option ℕ)
-    (w : WaitingList) → IsWholeChunk f d c following → HasRead from.next_gives from.remaining delegate following next → IsReadyAfter from.can_next from.remaining following next → ordered w ≡ [] → unordered w ≡ []
+    (w : WaitingList) → IsWholeChunk f d c following → HasRead from.next_gives from.remaining delegate following next → IsReadyAfter from.can_next from.remaining following next → ordered_text w ≡ [] → unordered_text w ≡ []
     → ReadsChunk from f d c delegate c following next w
 unfolding expand
 ReadsChunk-alone from f d c delegate next following w alone read ready front open_marks = record {
@@ -246,6 +246,6 @@ ChunkDidNotFit-members gives f d c members delegate is long =
     record { read = []; delegate_after = delegate; run = refl; continuing = All-nil (λ b. continues f d b ≡ true); too_long = omega (arith, ap length is) }
 
 pub ChunkDidNotFit-behind : {I : Type 0} (gives : I → Option ℕ → I → Type 0) (f : ℕ → Bool) (d : Reading) (c : ℕ) (members : List ℕ) (delegate : I) (b : WaitingList) → members ≡ d.list c
-    → held b + 1 ≡ length members → DidNotFit gives f d delegate b → ChunkDidNotFit gives f d c delegate
+    → item_count b + 1 ≡ length members → DidNotFit gives f d delegate b → ChunkDidNotFit gives f d c delegate
 ChunkDidNotFit-behind gives f d c members delegate b is all long =
     record { read = long.read; delegate_after = long.delegate_after; run = long.run; continuing = long.continuing; too_long = omega (arith, long.too_long, all, ap length is) }

@@ -17,7 +17,7 @@ use Rattle.normalizer_tables.specs.Readings.{reading_by}
 use Rattle.normalizer_text.specs.Encodings.{Encoding, decoded_in}
 use Rattle.normalizer_iterators.specs.declared.segment.short_text.ShortText.{ShortText}
 use Rattle.normalizer_iterators.specs.ShortText.{so_far}
-use Rattle.normalizer_iterators.specs.inner.ShortTextSteps.{composing, BlocksBelow}
+use Rattle.normalizer_iterators.specs.inner.ShortTextSteps.{composition_with, BlocksBelow}
 use Rattle.normalizer_iterators.proofs.segments.ShortTextLemmas.{composing-nil}
 
 -- no two neighbours are a reorderable pair
@@ -59,7 +59,7 @@ pub record ComposedInOrder (s : Characters) (pairs : List Pair) (e : Encoding) (
   pub fit : NeighboursFit (reading_by s Dropped pairs) read
   pub end : EndsWith (reading_by s Dropped pairs) read last
   pub blocking : BlocksBelow (reading_by s Dropped pairs) text
-  pub composed : (rest : List ℕ) → composing (reading_by s Dropped pairs) text rest ≡ compose_by_starters (reading_by s Dropped pairs) (read ++ rest)
+  pub composed : (rest : List ℕ) → composition_with (reading_by s Dropped pairs) text rest ≡ compose_by_starters (reading_by s Dropped pairs) (read ++ rest)
 
 order-reading_by : (s : Characters) (ignored : IgnoredCharacters) (pairs : List Pair) (x : List ℕ) → order (reading_by s ignored []) x ≡ order (reading_by s Dropped pairs) x
 unfolding order insert is_reorderable
@@ -67,7 +67,7 @@ order-reading_by s ignored pairs x = refl
 
 module _ (s : Characters) (pairs : List Pair) (e : Encoding) (units : List ℕ) where
   pub ComposedInOrder-none : (text : ShortText) → BlocksBelow (reading_by s Dropped pairs) text
-      → ((rest : List ℕ) → composing (reading_by s Dropped pairs) text rest ≡ compose_by_starters (reading_by s Dropped pairs) rest) → ComposedInOrder s pairs e units 0 0 text
+      → ((rest : List ℕ) → composition_with (reading_by s Dropped pairs) text rest ≡ compose_by_starters (reading_by s Dropped pairs) rest) → ComposedInOrder s pairs e units 0 0 text
   unfolding expand
   ComposedInOrder-none text blocking composed = record {
     read = [];
@@ -83,7 +83,7 @@ module _ (s : Characters) (pairs : List Pair) (e : Encoding) (units : List ℕ) 
       → decoded_in e (drop position units) ≡ c ∷ decoded_in e (drop (position + width) units)
       → ((ignored : List ℕ) → list_of s ignored c ≡ c ∷ []) → (reading_by s Dropped pairs).class c ≡ k → (0 < k → k < last → ⊥)
       → BlocksBelow (reading_by s Dropped pairs) new
-      → ((rest : List ℕ) → composing (reading_by s Dropped pairs) old (c ∷ rest) ≡ composing (reading_by s Dropped pairs) new rest) → ComposedInOrder s pairs e units (position + width) k new
+      → ((rest : List ℕ) → composition_with (reading_by s Dropped pairs) old (c ∷ rest) ≡ composition_with (reading_by s Dropped pairs) new rest) → ComposedInOrder s pairs e units (position + width) k new
   unfolding expand
   ComposedInOrder-more position last c width k old new before decoded own class fits blocking composed =
       let d = reading_by s Dropped pairs in record {

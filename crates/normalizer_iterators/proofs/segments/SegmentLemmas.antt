@@ -14,24 +14,24 @@ use Rattle.normalizer_tables.specs.Pairs.{Pair}
 use Rattle.normalizer_tables.specs.Readings.{reading_by}
 use Rattle.normalizer_tables.specs.declared.characters.IgnoredCharacters.{IgnoredCharacters}
 use Rattle.normalizer_tables.specs.declared.characters.IgnoredCharacters.TheVariants.{Dropped}
-use Rattle.normalizer_text.specs.declared.step.Step.{Step}
+use Rattle.normalizer_text.specs.declared.decoding_step.Step.{Step}
 use Rattle.normalizer_text.specs.Encodings.{Encoding, first_in, decoded_in}
 use Rattle.normalizer_text.proofs.steps.StepLemmas.{decoded-nil, decoded-some}
 use Rattle.normalizer_iterators.specs.declared.segment.short_text.ShortText.{ShortText}
 use Rattle.normalizer_iterators.specs.declared.waiting.WaitingList.{WaitingList}
 use Rattle.normalizer_iterators.specs.inner.Segments.{HasPairsOf}
-use Rattle.normalizer_iterators.specs.inner.ShortTextSteps.{composing, BlocksBelow}
-use Rattle.normalizer_iterators.specs.WaitingList.{ordered, held, reordered, unordered, AgreesWith}
+use Rattle.normalizer_iterators.specs.inner.ShortTextSteps.{composition_with, BlocksBelow}
+use Rattle.normalizer_iterators.specs.WaitingList.{ordered_text, item_count, reordered_text, unordered_text, AgreesWith}
 use Rattle.normalizer_iterators.proofs.reads.ReadingLemmas.{reordered-nothing}
 
 -- the lists of what the units before a position decode to are buffered
 pub record BufferedTo (d : Reading) (e : Encoding) (units : List ℕ) (position : ℕ) (waiting : WaitingList) : Type 0 where
   pub agrees : AgreesWith d waiting
-  pub text : reordered d waiting (expand d (decoded_in e (drop position units))) ≡ order d (expand d (decoded_in e units))
-  pub fits : held waiting ≤ buffer_limit
-  pub held : held waiting + length (expand d (decoded_in e (drop position units))) ≡ length (expand d (decoded_in e units))
+  pub text : reordered_text d waiting (expand d (decoded_in e (drop position units))) ≡ order d (expand d (decoded_in e units))
+  pub fits : item_count waiting ≤ buffer_limit
+  pub held : item_count waiting + length (expand d (decoded_in e (drop position units))) ≡ length (expand d (decoded_in e units))
 
-pub BufferedTo-none : (d : Reading) (e : Encoding) (units : List ℕ) (waiting : WaitingList) → AgreesWith d waiting → ordered waiting ≡ [] → unordered waiting ≡ [] → held waiting ≡ 0
+pub BufferedTo-none : (d : Reading) (e : Encoding) (units : List ℕ) (waiting : WaitingList) → AgreesWith d waiting → ordered_text waiting ≡ [] → unordered_text waiting ≡ [] → item_count waiting ≡ 0
     → BufferedTo d e units 0 waiting
 BufferedTo-none d e units waiting agrees front open_marks none = record {
   agrees = agrees;
@@ -60,21 +60,21 @@ expand-left d e units position s inside is = ap (expand d) (decoded-left e units
 
 module _ (d : Reading) (e : Encoding) (units : List ℕ) (position : ℕ) (s : Step) (old : WaitingList) where
   pub BufferedTo-more : (new : WaitingList) → BufferedTo d e units position old → position < length units → s ≡ first_in e (drop position units)
-      → ((rest : List ℕ) → reordered d old (d.list s.character ++ rest) ≡ reordered d new rest) → AgreesWith d new
-      → held new ≡ held old + length (d.list s.character) → held new ≤ buffer_limit → BufferedTo d e units (position + s.width) new
+      → ((rest : List ℕ) → reordered_text d old (d.list s.character ++ rest) ≡ reordered_text d new rest) → AgreesWith d new
+      → item_count new ≡ item_count old + length (d.list s.character) → item_count new ≤ buffer_limit → BufferedTo d e units (position + s.width) new
   BufferedTo-more new before inside is text agrees more fits =
       let left = expand-left d e units position s inside is in
       let rest = expand d (decoded_in e (drop (position + s.width) units)) in
       record {
         agrees = agrees;
-        text = sym (text rest) ∙ ap (reordered d old) (sym left) ∙ before.text;
+        text = sym (text rest) ∙ ap (reordered_text d old) (sym left) ∙ before.text;
         held = omega (arith, before.held, ap length left, length-append (d.list s.character) rest);
         fits = fits;
       }
 
   -- a list that doesn't fit is part of what doesn't
   pub BufferedTo-full : BufferedTo d e units position old → position < length units → s ≡ first_in e (drop position units)
-      → length (expand d (decoded_in e units)) ≤ buffer_limit → held old + length (d.list s.character) ≤ buffer_limit
+      → length (expand d (decoded_in e units)) ≤ buffer_limit → item_count old + length (d.list s.character) ≤ buffer_limit
   BufferedTo-full before inside is short =
       let left = expand-left d e units position s inside is in
       let rest = expand d (decoded_in e (drop (position + s.width) units)) in
@@ -82,10 +82,10 @@ module _ (d : Reading) (e : Encoding) (units : List ℕ) (position : ℕ) (s : S
 
 -- the end was reached
 pub BufferedTo-end : (d : Reading) (e : Encoding) (units : List ℕ) (position : ℕ) (waiting : WaitingList) → BufferedTo d e units position waiting → length units ≤ position
-    → reordered d waiting [] ≡ nfd d (decoded_in e units)
+    → reordered_text d waiting [] ≡ nfd d (decoded_in e units)
 unfolding nfd expand
 BufferedTo-end d e units position waiting before past =
-    ap (λ us. reordered d waiting (expand d us)) (sym (decoded-all e units position past)) ∙ before.text
+    ap (λ us. reordered_text d waiting (expand d us)) (sym (decoded-all e units position past)) ∙ before.text
 
 length-nfd : (d : Reading) (x : List ℕ) → length (nfd d x) ≡ length (expand d x)
 unfolding nfd
@@ -109,24 +109,24 @@ on_ok (Err e) b P h is true_ = cc
 pub record ComposedTo (pairs : List Pair) (first left : WaitingList) (text : ShortText) : Type 0 where
   pub agrees : (d : Reading) → AgreesWith d first → AgreesWith d left
   pub blocking : (d : Reading) → AgreesWith d first → BlocksBelow d text
-  pub composed : (d : Reading) → AgreesWith d first → HasPairsOf pairs d → composing d text (ordered left) ≡ compose_by_starters d (ordered first)
-  pub room : text.len + length (ordered left) ≤ length (ordered first)
+  pub composed : (d : Reading) → AgreesWith d first → HasPairsOf pairs d → composition_with d text (ordered_text left) ≡ compose_by_starters d (ordered_text first)
+  pub room : text.len + length (ordered_text left) ≤ length (ordered_text first)
 
-pub ComposedTo-none : (pairs : List Pair) (first : WaitingList) (text : ShortText) → ((d : Reading) (rest : List ℕ) → composing d text rest ≡ compose_by_starters d rest)
+pub ComposedTo-none : (pairs : List Pair) (first : WaitingList) (text : ShortText) → ((d : Reading) (rest : List ℕ) → composition_with d text rest ≡ compose_by_starters d rest)
     → ((d : Reading) → BlocksBelow d text) → text.len ≡ 0 → ComposedTo pairs first first text
 ComposedTo-none pairs first text composed blocking none =
-    record { agrees = λ d agrees. agrees; blocking = λ d agrees. blocking d; composed = λ d agrees by. composed d (ordered first); room = omega arith }
+    record { agrees = λ d agrees. agrees; blocking = λ d agrees. blocking d; composed = λ d agrees by. composed d (ordered_text first); room = omega arith }
 
-pub ComposedTo-more : (pairs : List Pair) (first old new : WaitingList) (text next : ShortText) (c : ℕ) → ComposedTo pairs first old text → ordered old ≡ c ∷ ordered new
+pub ComposedTo-more : (pairs : List Pair) (first old new : WaitingList) (text next : ShortText) (c : ℕ) → ComposedTo pairs first old text → ordered_text old ≡ c ∷ ordered_text new
     → ((d : Reading) → AgreesWith d old → AgreesWith d new)
     → ((d : Reading) → AgreesWith d old → BlocksBelow d text → BlocksBelow d next)
-    → ((d : Reading) → AgreesWith d old → HasPairsOf pairs d → BlocksBelow d text → (rest : List ℕ) → composing d text (c ∷ rest) ≡ composing d next rest)
+    → ((d : Reading) → AgreesWith d old → HasPairsOf pairs d → BlocksBelow d text → (rest : List ℕ) → composition_with d text (c ∷ rest) ≡ composition_with d next rest)
     → next.len ≤ text.len + 1 → ComposedTo pairs first new next
 ComposedTo-more pairs first old new text next c before is agrees blocking composed room = record {
   agrees = λ d known. agrees d (before.agrees d known);
   blocking = λ d known. blocking d (before.agrees d known) (before.blocking d known);
   composed = λ d known by.
-      sym (composed d (before.agrees d known) by (before.blocking d known) (ordered new)) ∙ ap (composing d text) (sym is) ∙ before.composed d known by;
+      sym (composed d (before.agrees d known) by (before.blocking d known) (ordered_text new)) ∙ ap (composition_with d text) (sym is) ∙ before.composed d known by;
   room = omega (arith, before.room, ap length is);
 }
 

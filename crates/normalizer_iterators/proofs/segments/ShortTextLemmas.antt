@@ -9,7 +9,7 @@ use Rattle.normal_forms.specs.CompositionByStarters.{is_above, compose_after, co
 use Rattle.normal_forms.proofs.composing.ComposeLemmas.{compose_after-join, compose_after-mark, compose_after-nil, compose_after-starter, compose_by_starters-mark, compose_by_starters-nil, compose_by_starters-starter}
 use Rattle.normalizer_iterators.specs.declared.segment.short_text.ShortText.{ShortText}
 use Rattle.normalizer_iterators.specs.ShortText.{so_far}
-use Rattle.normalizer_iterators.specs.inner.ShortTextSteps.{composed_with, composing, join_at, BlocksAfter}
+use Rattle.normalizer_iterators.specs.inner.ShortTextSteps.{composed_with, composition_with, join_at, BlocksAfter}
 use Rattle.normalizer_iterators.proofs.composing.MarkLemmas.{is_above-none, is_above-one_more, join-above, join-blocked}
 
 -- the last starter is one of the characters so far
@@ -124,6 +124,6 @@ length-so_far b = length-take-le b.len b.characters (omega (arith, b.within, b.w
 pub within-so_far : (b : ShortText) → IsWithin (so_far b) b.starter
 within-so_far b = λ place is. omega (arith, b.starter_within place is, length-so_far b)
 
-pub composing-nil : (d : Reading) (b : ShortText) → composing d b [] ≡ so_far b
-unfolding composing
+pub composing-nil : (d : Reading) (b : ShortText) → composition_with d b [] ≡ so_far b
+unfolding composition_with
 composing-nil d b = composed_with-nil d (so_far b) b.starter (within-so_far b)

@@ -9,7 +9,7 @@ use Rattle.normalizer_tables.specs.Characters.{Characters}
 use Rattle.normalizer_tables.specs.Pairs.{Pair}
 use Rattle.normalizer_tables.specs.Readings.{reading_by}
 use Rattle.normalizer_tables.specs.declared.characters.IgnoredCharacters.TheVariants.{Dropped}
-use Rattle.normalizer_text.specs.Steps.{Spells}
+use Rattle.normalizer_text.specs.DecodingSteps.{Spells}
 use Rattle.normalizer_iterators.specs.declared.decomposition.Decomposition.{Decomposition}
 use Rattle.normalizer_iterators.specs.declared.composition.passing.Given.{Given}
 use Rattle.normalizer_iterators.specs.declared.composition.passing.Given.TheVariants.{Itself, FirstMember}
@@ -18,7 +18,7 @@ use Rattle.normalizer_iterators.specs.DecompositionItems.{CanDecompose, Decompos
 use Rattle.normalizer_iterators.specs.DecompositionItems.{items_left, pending_of}
 use Rattle.normalizer_iterators.specs.Delegate.{Extent, MayYield, Source}
 use Rattle.normalizer_iterators.specs.LazyComposing.{IsComposingPassthrough, IsNormalizedApartIn, SuitsLazyComposing}
-use Rattle.normalizer_iterators.specs.WaitingList.{ordered}
+use Rattle.normalizer_iterators.specs.WaitingList.{ordered_text}
 
 -- a composing loop passes the character, if there is one
 abbrev pub IfComposingPassthrough : Characters → Bounds → Option ℕ → Type 0
@@ -28,11 +28,11 @@ module _ {I : Type 0} where
   -- nothing is buffered, and a composing loop passes the character that is read next
   abbrev pub PassthroughIsNext : Bounds → Decomposition I → Type 0
   PassthroughIsNext b s =
-      (ordered s.waiting ≡ []) × MatchOption (pending_of s) ⊥ (IsComposingPassthrough s.characters b)
+      (ordered_text s.waiting ≡ []) × MatchOption (pending_of s) ⊥ (IsComposingPassthrough s.characters b)
 
   -- nothing is buffered, and the character that is read next, if there is one, is normalized apart
   pub record IsAtPassthrough (pairs : List Pair) (s : Decomposition I) : Type 0 where
-    pub waiting : ordered s.waiting ≡ []
+    pub waiting : ordered_text s.waiting ≡ []
     pub apart : ForSome (pending_of s) (IsNormalizedApartIn s.characters pairs s.ignored)
 
   -- c was yielded as it is: what was to come for it composes to c alone, apart from the rest

@@ -10,16 +10,16 @@ use Rattle.normal_forms.specs.ShortRuns.{buffer_limit, continues, HasShortRuns}
 use Rattle.normalizer_tables.specs.declared.characters.IgnoredCharacters.{IgnoredCharacters}
 use Rattle.normalizer_tables.specs.Characters.{Characters, has_class_form}
 use Rattle.normalizer_tables.specs.Readings.{reading_by}
-use Rattle.normalizer_text.specs.Steps.{Spells}
+use Rattle.normalizer_text.specs.DecodingSteps.{Spells}
 use Rattle.normalizer_iterators.specs.declared.waiting.WaitingList.{WaitingList}
-use Rattle.normalizer_iterators.specs.WaitingList.{ordered, unordered, held, reordered, AgreesWith}
+use Rattle.normalizer_iterators.specs.WaitingList.{ordered_text, unordered_text, item_count, reordered_text, AgreesWith}
 use Rattle.normalizer_iterators.specs.Delegate.{HasRead, IsReadyAfter, Source}
 use Rattle.normalizer_iterators.specs.LazyReading.{HasClassesFrom}
 
 -- by each reading that has the classes of the data: these characters were added, and classes are still right
 abbrev pub Adds : Characters → List ℕ → WaitingList → WaitingList → Type 0
 Adds s x old new = (d : Reading) → HasClassesFrom s d → AgreesWith d old → (rest : List ℕ)
-    → reordered d old (x ++ rest) ≡ reordered d new rest
+    → reordered_text d old (x ++ rest) ≡ reordered_text d new rest
 
 abbrev pub KeepsClasses : Characters → WaitingList → WaitingList → Type 0
 KeepsClasses s old new = (d : Reading) → HasClassesFrom s d → AgreesWith d old → AgreesWith d new
@@ -38,8 +38,8 @@ pub record ReadsOn {I : Type 0} (from : Source I)
   pub run : YieldsThen from.next_gives delegate read pending delegate_after
   pub continuing : AllPass (continues has_class_form d) read
   pub at_boundary : IfSome pending (λ c. continues has_class_form d c ≡ false)
-  pub text : ordered waiting_after ≡ reordered d waiting (expand d read)
-  pub settled : unordered waiting_after ≡ []
+  pub text : ordered_text waiting_after ≡ reordered_text d waiting (expand d read)
+  pub settled : unordered_text waiting_after ≡ []
   pub ready : IsReadyAfter from.can_next from.remaining pending delegate_after
   pub fewer : MatchOption pending (length read ≤ size (from.remaining delegate))
       (λ _. size (from.remaining delegate_after) + length read < size (from.remaining delegate))
@@ -51,7 +51,7 @@ pub record DidNotFit {I : Type 0} (gives : I → Option ℕ → I → Type 0) (h
   pub delegate_after : I
   pub run : Yields gives delegate read delegate_after
   pub continuing : AllPass (continues has_class_form d) read
-  pub too_long : buffer_limit < held waiting + length (expand d read)
+  pub too_long : buffer_limit < item_count waiting + length (expand d read)
 
 -- the first member of the list of a character came; the others and the lists of the characters that continue it are
 -- buffered in order; then one after a boundary was read, or None
@@ -64,8 +64,8 @@ pub record ReadsChunk {I : Type 0} (from : Source I)
   pub run : YieldsThen from.next_gives delegate read pending delegate_after
   pub continuing : AllPass (continues has_class_form d) read
   pub at_boundary : IfSome pending (λ c. continues has_class_form d c ≡ false)
-  pub text : ordered waiting_after ≡ order d (others ++ expand d read)
-  pub settled : unordered waiting_after ≡ []
+  pub text : ordered_text waiting_after ≡ order d (others ++ expand d read)
+  pub settled : unordered_text waiting_after ≡ []
   pub ready : IsReadyAfter from.can_next from.remaining pending delegate_after
   pub fewer : MatchOption pending (length read ≤ size (from.remaining delegate))
       (λ _. size (from.remaining delegate_after) + length read < size (from.remaining delegate))

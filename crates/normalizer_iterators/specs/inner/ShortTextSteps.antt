@@ -20,8 +20,8 @@ BlocksAfter d x (Some place) unblocked =
     (c : ℕ) → is_above d (drop (place + 1) x) c ≡ nat_le unblocked (d.class c)
 
 -- what the characters so far and the rest compose to
-unfoldable pub composing : Reading → ShortText → List ℕ → List ℕ
-composing d b rest = composed_with d (so_far b) b.starter rest
+unfoldable pub composition_with : Reading → ShortText → List ℕ → List ℕ
+composition_with d b rest = composed_with d (so_far b) b.starter rest
 
 -- the marks after the last starter block as `unblocked` says
 unfoldable pub BlocksBelow : Reading → ShortText → Type 0
@@ -38,7 +38,7 @@ join_last d b c = join_at d (so_far b) b.starter c
 
 -- c was added: the old text and c, and whatever is still to come, compose to the same as the new one
 abbrev pub Adds : Reading → ℕ → ShortText → ShortText → Type 0
-Adds d c old new = (rest : List ℕ) → composing d old (c ∷ rest) ≡ composing d new rest
+Adds d c old new = (rest : List ℕ) → composition_with d old (c ∷ rest) ≡ composition_with d new rest
 
 -- the reading composes each character with c as the pairs say
 abbrev pub HasPairsWith : List Pair → ℕ → Reading → Type 0

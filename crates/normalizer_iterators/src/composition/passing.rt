@@ -5,7 +5,7 @@ ghost use Rattle.normalizer_iterators.specs.inner.PassthroughItems.{PassthroughI
 ghost use Rattle.normalizer_iterators.specs.inner.PassthroughItems.{YieldsPassthroughBy};
 ghost use Rattle.normalizer_iterators.specs.DecompositionItems.{CanDecompose};
 ghost use Rattle.normalizer_iterators.specs.Reads.{character_of, HasOwnWord, HasOwnWords};
-ghost use Rattle.normalizer_iterators.specs.WaitingList.{ordered};
+ghost use Rattle.normalizer_iterators.specs.WaitingList.{ordered_text};
 
 use crate::decomposition::Decomposition;
 use crate::error::NormalizeError;
@@ -48,7 +48,7 @@ pub(crate) fn next_passthrough<I: Iterator<Item = char> + Drop>(
 ) -> Option<Result<Given, NormalizeError>>
     requires can { CanDecompose I.can_next I.remaining decomposed.old }
     requires at_boundary { PassthroughHasBoundaries decomposed.old.characters bounds decomposed.old.ignored }
-    requires empty { ordered decomposed.old.waiting ≡ [] }
+    requires empty { ordered_text decomposed.old.waiting ≡ [] }
     ensures { YieldsPassthroughBy I.Iterator bounds decomposed.old result decomposed.new }
 {
     let read = decomposed.pending.take()?;
@@ -94,7 +94,7 @@ fn is_composing_passthrough(
     requires { HasOwnWord characters.now read }
     ensures { IsTrue result ↔ IsComposingPassthrough characters.now bounds read.character }
 {
-    if (read.character as u32) < bounds.composition {
+    if read.has_no_flag() || (read.character as u32) < bounds.composition {
         return true;
     }
     let word = read.word_by(characters);

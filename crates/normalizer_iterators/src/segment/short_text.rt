@@ -26,7 +26,7 @@ pub(crate) struct ShortText {
 
 impl ShortText {
     ghost use Rattle.normalizer_iterators.specs.ShortText.{so_far};
-    ghost use Rattle.normalizer_iterators.specs.inner.ShortTextSteps.{composing, join_last, Adds, BlocksBelow};
+    ghost use Rattle.normalizer_iterators.specs.inner.ShortTextSteps.{composition_with, join_last, Adds, BlocksBelow};
     ghost use Rattle.normalizer_iterators.specs.inner.ShortTextSteps.{HasPairsWith, IsJoined};
 
     pub(crate) fn new() -> Self
@@ -40,12 +40,13 @@ impl ShortText {
         }
     }
 
-    #[tactic(auto, unfolding(crate::specs::inner::ShortTextSteps::composing, crate::specs::inner::ShortTextSteps::BlocksBelow))]
+    #[tactic(auto, unfolding(crate::specs::inner::ShortTextSteps::composition_with, crate::specs::inner::ShortTextSteps::BlocksBelow))]
     #[inline(always)]
     pub(crate) fn clear(&mut self)
         ensures text { so_far self.new ≡ [] }
         ensures len { self.new.len ≡ 0 }
-        ensures composing { (d : Reading) (rest : List ℕ) → composing d self.new rest ≡ compose_by_starters d rest }
+        ensures composing { (d : Reading) (rest : List ℕ) →
+            composition_with d self.new rest ≡ compose_by_starters d rest }
         ensures blocking { (d : Reading) → BlocksBelow d self.new }
     {
         self.len = 0;

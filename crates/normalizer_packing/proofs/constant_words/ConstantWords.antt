@@ -22,7 +22,7 @@ use Rattle.normalizer_tables.specs.declared.step.Step.TheVariants.{Default}
 use Rattle.normalizer_packing.specs.StepWords.{step_in, step_lists, word_of_step}
 use Rattle.normalizer_packing.specs.inner.Breakpoints.{IsConstantBetween, AreBreakpoints, edges}
 use Rattle.normalizer_packing.proofs.entry_data.EntryLemmas.{Contains-map, find-missing, find-tells}
-use Rattle.normalizer_packing.proofs.reading_back.ReadBackWords.{no_fixed-alone}
+use Rattle.normalizer_packing.proofs.reading_back.WordsReadBack.{no_fixed-alone}
 use Rattle.normalizer_packing.proofs.lists.TableLemmas.{eq_list}
 use Rattle.normalizer_packing.proofs.words_of_lists.SpelledWords.{final_packs, short_packs}
 

@@ -16,7 +16,7 @@ use Rattle.normalizer_records.specs.Meaning.{entry_of, class_of, replacement, ex
 use Rattle.normalizer_records.specs.inner.Lookup.{no_entry}
 use Rattle.normalizer_records.specs.inner.CutLists.{IsOfSome}
 use Rattle.normalizer_records.specs.Faults.{is_fixed, has_fixed_fault, begins_with_mark, HasWrongClass, HasLongList, IsAsked, HasClassFault, HasLengthFault}
-use Rattle.normalizer_records.proofs.checked_lists.CutLists.{begins-order}
+use Rattle.normalizer_records.proofs.checked_lists.ChecksOfCuts.{begins-order}
 use Rattle.normalizer_records.proofs.replacing.ExpansionLemmas.{expansion-alone, expansion-replaced}
 use Rattle.normalizer_records.proofs.record_faults.LookupLemmas.{stands_or_none}
 use Rattle.normalizer_records.proofs.checked_lists.JamoOfSyllables.{by_jamo, jamo_some, replacement-syllable}

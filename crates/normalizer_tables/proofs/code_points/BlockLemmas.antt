@@ -10,7 +10,7 @@ use Rattle.std.proofs.lemmas.List.FromFn.{get_or-map-range_with_len, length-map-
 use Rattle.std.proofs.lemmas.Bool.{cases_lt, cond_both, ltb-true, ltb-false, eq-eqb, ne_eqb}
 use Rattle.std.proofs.lemmas.List.Folds.{position_or_len_push}
 use Rattle.normalizer_tables.specs.Table.{Block, block_places}
-use Rattle.normalizer_tables.specs.inner.Blocks.{block_at, stored_word, stored_words, block_of, number_in, joined, blocks_to, numbers_to, IsStored}
+use Rattle.normalizer_tables.specs.inner.Blocks.{block_at, stored_word, stored_words, block_of, number_in, joined_blocks, blocks_to, numbers_to, IsStored}
 use Rattle.normalizer_tables.specs.Ranges.{WordRange, word_in, words_of}
 use Rattle.normalizer_tables.specs.Table.{code_points}
 
@@ -42,22 +42,22 @@ module _ (bs : List Block) (b : Block) where
   number_in-le = prefix_len-le-length _ bs
 
   -- a block is at its number, and the others are where they were
-  joined-here : (number_in bs b < length (joined bs b)) × (get_or (joined bs b) (number_in bs b) [] ≡ b)
+  joined-here : (number_in bs b < length (joined_blocks bs b)) × (get_or (joined_blocks bs b) (number_in bs b) [] ≡ b)
   joined-here = cond_both (ltb (number_in bs b) (length bs)) bs (bs ++ b ∷ []) (λ cs. (number_in bs b < length cs) × (get_or cs (number_in bs b) [] ≡ b))
       (λ kept. (ltb-true _ _ kept, sym ((bytes_decides _ _).0 (passes_at_first (pointwise nat_eq b) bs [] (ltb-true _ _ kept)))))
       (λ new.
       let last : length bs ≡ number_in bs b = omega (arith, ltb-false _ _ new, number_in-le) in
       (omega (arith, length_push bs b), get_or_push bs b [] _ last))
 
-  joined-earlier : (j : ℕ) → j < length bs → (j < length (joined bs b)) × (get_or (joined bs b) j [] ≡ get_or bs j [])
+  joined-earlier : (j : ℕ) → j < length bs → (j < length (joined_blocks bs b)) × (get_or (joined_blocks bs b) j [] ≡ get_or bs j [])
   joined-earlier j below = cond_both (ltb (number_in bs b) (length bs)) bs (bs ++ b ∷ []) (λ cs. (j < length cs) × (get_or cs j [] ≡ get_or bs j []))
       (λ _. (below, refl)) (λ _. (omega (arith, length_push bs b), get_or_append_left bs (b ∷ []) [] j below))
 
-  joined-length : length (joined bs b) ≤ length bs + 1
+  joined-length : length (joined_blocks bs b) ≤ length bs + 1
   joined-length = cond_both (ltb (number_in bs b) (length bs)) bs (bs ++ b ∷ []) (λ cs. length cs ≤ length bs + 1) (λ _. omega arith) (λ _. omega (arith, length_push bs b))
 
 -- the number of a kept block stays when another joins
-pub number_in-kept : (bs : List Block) (b other : Block) → number_in bs b < length bs → (number_in (joined bs other) b ≡ number_in bs b) × (number_in bs b < length (joined bs other))
+pub number_in-kept : (bs : List Block) (b other : Block) → number_in bs b < length bs → (number_in (joined_blocks bs other) b ≡ number_in bs b) × (number_in bs b < length (joined_blocks bs other))
 number_in-kept bs b other kept = (
   cond_both (ltb (number_in bs other) (length bs)) bs (bs ++ other ∷ []) (λ cs. number_in cs b ≡ number_in bs b) (λ _. refl)
       (λ _. position_or_len_push (pointwise nat_eq b) bs other ∙ ap (λ c. cond c (length bs + cond (pointwise nat_eq b other) 0 1) (number_in bs b)) (ne_eqb _ _ (λ same. absurd (omega arith)))),
@@ -65,7 +65,7 @@ number_in-kept bs b other kept = (
 )
 
 -- and is that of the block that has joined
-pub number_in-joined : (bs : List Block) (b : Block) → (number_in (joined bs b) b ≡ number_in bs b) × (number_in bs b < length (joined bs b))
+pub number_in-joined : (bs : List Block) (b : Block) → (number_in (joined_blocks bs b) b ≡ number_in bs b) × (number_in bs b < length (joined_blocks bs b))
 number_in-joined bs b = (
   cond_both (ltb (number_in bs b) (length bs)) bs (bs ++ b ∷ []) (λ cs. number_in cs b ≡ number_in bs b) (λ _. refl)
       (λ new.
@@ -75,7 +75,7 @@ number_in-joined bs b = (
 )
 
 -- one more place
-pub blocks_to-more : (words : List ℕ) (n : ℕ) → blocks_to words (n + 1) ≡ joined (blocks_to words n) (block_of words n)
+pub blocks_to-more : (words : List ℕ) (n : ℕ) → blocks_to words (n + 1) ≡ joined_blocks (blocks_to words n) (block_of words n)
 unfolding blocks_to
 blocks_to-more words n = ap (blocks_to words) (add-one n)
 

@@ -8,7 +8,7 @@ use Rattle.normalizer_tables.specs.declared.word.WordReading.TheVariants.{Ignore
 use Rattle.normalizer_tables.specs.Data.{Lists}
 use Rattle.normalizer_tables.specs.Hangul.{hangul_decomposition}
 use Rattle.normalizer_tables.specs.SpecialLists.{fixed_list_of, fdfa_list}
-use Rattle.normalizer_tables.specs.Words.{two_characters, listed, read_low, read}
+use Rattle.normalizer_tables.specs.Words.{two_characters, listed_reading, read_low, read}
 use Rattle.normalizer_tables.specs.Characters.{Characters, word_of, reading_of_word, as_text, items_at, narrow_at, wide_at, placed_in, listed_in, listed_at, named_list, list_read, list_of}
 
 -- a word names a length in the tables by four bits
@@ -17,7 +17,7 @@ low_of (Listed item low rest_are_marks) = low
 low_of _ = 0
 
 read-few : (n w : ℕ) (is_mapper : Bool) → low_of (read n w is_mapper) ≤ 15
-unfolding read two_characters listed read_low
+unfolding read two_characters listed_reading read_low
 read-few n w is_mapper = grind (arith, and_le_r w 0xF)
 
 -- the list that is given, or that of the character alone

@@ -2,7 +2,7 @@
 use Rattle.std.proofs.Common.{◌≡◌, ◌≢◌, ℕ, ◌⊎◌, inl, inr, false, List, [], length, Option, ap, subst, arith}
 use Rattle.normal_forms.specs.Hypotheses.{HasNonemptyLists}
 use Rattle.normalizer_tables.specs.declared.word.WordReading.TheVariants.{Ignored}
-use Rattle.normalizer_tables.specs.Words.{two_characters, listed, read_low, read}
+use Rattle.normalizer_tables.specs.Words.{two_characters, listed_reading, read_low, read}
 use Rattle.normalizer_tables.specs.Characters.{Characters, word_of, reading_of_word, list_of}
 use Rattle.normalizer_tables.specs.Ignored.{IgnoredCharacters, Replaced, ignored_list}
 use Rattle.normalizer_tables.proofs.lists.ListLengths.{list_of-few}
@@ -10,7 +10,7 @@ use Rattle.normalizer_tables.specs.Readings.{reading_of}
 
 -- no word of data that aren't the mapper's is the ignored marker
 read-unmarked : (n w : ℕ) → read n w false ≢ Ignored
-unfolding read two_characters listed read_low
+unfolding read two_characters listed_reading read_low
 read-unmarked n w e = grind arith
 
 pub list_of-empty : (s : Characters) (ignored : List ℕ) (n : ℕ) → list_of s ignored n ≡ [] → (reading_of_word s n ≡ Ignored → ⊥) → ⊥

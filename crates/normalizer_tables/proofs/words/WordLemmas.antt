@@ -7,7 +7,7 @@ use lib.Utf8.{scalar}
 use Rattle.normalizer_tables.specs.declared.word.WordReading.TheVariants.{Itself, ClassForm, HangulSyllable}
 use Rattle.normalizer_tables.specs.Hangul.{is_hangul_syllable}
 use Rattle.normalizer_tables.specs.Characters.{Characters, class_of, reading_of_word}
-use Rattle.normalizer_tables.specs.Words.{has_high_zeros, class_of_word, is_class_form, read, read_low, two_characters, listed}
+use Rattle.normalizer_tables.specs.Words.{has_high_zeros, class_of_word, is_class_form, read, read_low, two_characters, listed_reading}
 use Rattle.normalizer_tables.proofs.words.CharacterLemmas.{list_of-reads}
 use Rattle.normalizer_tables.proofs.conditions.ConditionLemmas.{plain-no_class_form}
 use Rattle.normalizer_tables.proofs.lists.NonemptyLists.{list_of-empty}
@@ -22,16 +22,16 @@ item_above_zero w h =
 
 -- a word reads as that of a Hangul syllable only if it is one's
 pub read-hangul : (s : Characters) (n : ℕ) → reading_of_word s n ≡ HangulSyllable → is_hangul_syllable n ≡ true
-unfolding reading_of_word read read_low two_characters listed
+unfolding reading_of_word read read_low two_characters listed_reading
 read-hangul s n e = grind arith
 
 -- a word that says that its character is its own list has the class
 pub class_of-itself : (s : Characters) (n : ℕ) → reading_of_word s n ≡ Itself → scalar n ≡ true → 0 ≡ class_of s n
-unfolding class_of reading_of_word read read_low two_characters listed class_of_word is_class_form
+unfolding class_of reading_of_word read read_low two_characters listed_reading class_of_word is_class_form
 class_of-itself s n e known = grind (arith, plain-no_class_form)
 
 pub class_of-class_form : (s : Characters) (n k : ℕ) → reading_of_word s n ≡ ClassForm k → scalar n ≡ true → k ≡ class_of s n
-unfolding class_of reading_of_word read read_low two_characters listed class_of_word is_class_form
+unfolding class_of reading_of_word read read_low two_characters listed_reading class_of_word is_class_form
 class_of-class_form s n k e known = grind arith
 
 -- what the functions that read words cite

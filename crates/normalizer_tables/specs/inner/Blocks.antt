@@ -28,12 +28,12 @@ abbrev pub number_in : List Block → Block → ℕ
 number_in blocks block = position_or_len (pointwise nat_eq block) blocks
 
 -- the blocks, with this one appended if it is none of them
-abbrev pub joined : List Block → Block → List Block
-joined blocks block = cond (nat_lt (number_in blocks block) (length blocks)) blocks (blocks ++ block ∷ [])
+abbrev pub joined_blocks : List Block → Block → List Block
+joined_blocks blocks block = cond (nat_lt (number_in blocks block) (length blocks)) blocks (blocks ++ block ∷ [])
 
 -- the number of the block among those kept, to which it is added if it is none of them
 abbrev pub IsJoined : List Block → Block → List Block → ℕ → Type 0
-IsJoined old block new number = (new ≡ joined old block) × (number ≡ number_in old block)
+IsJoined old block new number = (new ≡ joined_blocks old block) × (number ≡ number_in old block)
 
 -- the block of one word alone
 abbrev pub block_with : ℕ → Block
@@ -46,7 +46,7 @@ IsKnown blocks known = IfSome known (λ k. (number_in blocks (block_with k.0) �
 -- the blocks of the first places, each once, in the order of their first use
 unfoldable pub blocks_to : List ℕ → ℕ → List Block
 blocks_to words zero = []
-blocks_to words (suc n) = joined (blocks_to words n) (block_of words n)
+blocks_to words (suc n) = joined_blocks (blocks_to words n) (block_of words n)
 
 -- the numbers of the blocks of the first places
 unfoldable pub numbers_to : List ℕ → ℕ → List ℕ

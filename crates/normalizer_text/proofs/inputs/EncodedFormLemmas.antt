@@ -12,7 +12,7 @@ use Rattle.normal_forms.specs.Forms.{normal_form, IsNormalized}
 use Rattle.normal_forms.specs.Hypotheses.{HasNonemptyLists, SuitsForm}
 use Rattle.normal_forms.specs.Cut.{IsCommonFront, IsFront}
 use Rattle.normal_forms.proofs.cuts.OffenceLemmas.{common_front_from, offered_front_is_normalized}
-use Rattle.normalizer_text.specs.Steps.{IsWellFormed, IsBoundary}
+use Rattle.normalizer_text.specs.DecodingSteps.{IsWellFormed, IsBoundary}
 use Rattle.normalizer_text.specs.Encodings.{Encoding, first_in, encoded_in, decoded_in}
 use Rattle.normalizer_text.proofs.rules.EncodingLemmas.{DecodesBack-in, encoded-decoded, encoded_in-append}
 use Rattle.normalizer_text.proofs.steps.StepLemmas.{decoded-IsText}

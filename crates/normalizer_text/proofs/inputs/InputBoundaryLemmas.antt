@@ -8,8 +8,8 @@ use Rattle.std.specs.List.{list_any, slice_range}
 use Rattle.std.proofs.lemmas.List.Folds.{list_any_at, list_any_none}
 use Rattle.std.proofs.lemmas.List.Elements.{All-nil, All-drop, All-same, All-append}
 use Rattle.std.proofs.Math.Seq.{drop-append_seam}
-use Rattle.normalizer_text.specs.declared.step.Step.{Step}
-use Rattle.normalizer_text.specs.Steps.{steps, IsWellFormed}
+use Rattle.normalizer_text.specs.declared.decoding_step.Step.{Step}
+use Rattle.normalizer_text.specs.DecodingSteps.{steps, IsWellFormed}
 use Rattle.normalizer_text.specs.Encodings.{Encoding, first_in, decoded_in}
 use Rattle.normalizer_text.proofs.steps.StepLemmas.{steps-nil, steps-append, decoded-append}
 use Rattle.normalizer_text.proofs.steps.StepBoundaries.{boundary-le, boundary-well_formed, steps-parts}

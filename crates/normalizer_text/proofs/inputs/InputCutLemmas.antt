@@ -11,7 +11,7 @@ use Rattle.normal_forms.specs.Forms.{normal_form}
 use Rattle.normal_forms.specs.Hypotheses.{SuitsForm}
 use Rattle.normal_forms.specs.Cut.{QualifiesForCut, IsCut, IsCommonFront}
 use Rattle.normal_forms.proofs.cuts.OffenceLemmas.{parts_of_form, cut_iff, smaller_qualifies}
-use Rattle.normalizer_text.specs.Steps.{steps, IsBoundary, IsWellFormed, width_of}
+use Rattle.normalizer_text.specs.DecodingSteps.{steps, IsBoundary, IsWellFormed, width_of}
 use Rattle.normalizer_text.specs.Encodings.{Encoding, first_in, decoded_in}
 use Rattle.normalizer_text.proofs.steps.StepBoundaries.{steps-parts, width_of-fewer}
 use Rattle.normalizer_text.proofs.steps.StepLemmas.{decoded-nil, steps-some}

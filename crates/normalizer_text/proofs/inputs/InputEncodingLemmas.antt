@@ -7,7 +7,7 @@ use Rattle.normal_forms.specs.Forms.{normal_form, IsNormalized}
 use Rattle.normal_forms.specs.Cut.{IsCut}
 use Rattle.normal_forms.specs.Offence.{IsFirst, IsFirstOffence}
 use Rattle.normal_forms.proofs.cuts.OffenceLemmas.{cut_unique}
-use Rattle.normalizer_text.specs.Steps.{IsWellFormed}
+use Rattle.normalizer_text.specs.DecodingSteps.{IsWellFormed}
 use Rattle.normalizer_text.specs.Encodings.{Encoding, first_in, encoded_in, decoded_in}
 use Rattle.normalizer_text.proofs.rules.EncodingLemmas.{encoded-decoded}
 use Rattle.normalizer_text.specs.InputCut.{IsInputNormalized, IsInputCut, characters_before}

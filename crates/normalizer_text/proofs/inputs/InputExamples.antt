@@ -7,8 +7,8 @@ use Rattle.normal_forms.specs.declared.Form.{Form}
 use Rattle.normal_forms.specs.Forms.{IsNormalized}
 use Rattle.normal_forms.specs.Hypotheses.{SuitsForm}
 use Rattle.normal_forms.proofs.cuts.OffenceLemmas.{parts_of_form}
-use Rattle.normalizer_text.specs.declared.step.Step.{Step}
-use Rattle.normalizer_text.specs.Steps.{read, replaced, IsWellFormed, steps_past}
+use Rattle.normalizer_text.specs.declared.decoding_step.Step.{Step}
+use Rattle.normalizer_text.specs.DecodingSteps.{read, replacement_step, IsWellFormed, steps_past}
 use Rattle.normalizer_text.specs.Encodings.{Encoding}
 use Rattle.normalizer_text.specs.Utf8.{first_of_utf8, row_of}
 use Rattle.normalizer_text.specs.InputCut.{IsInputNormalized}
@@ -23,7 +23,7 @@ error_first e ss error free = true≢false (sym error ∙ All-head (λ s. s.is_e
 
 pub broken_is_ill_formed : IsWellFormed first_of_utf8 (0xE2 ∷ 0x98 ∷ []) → ⊥
 unfolding steps_past row_of
-broken_is_ill_formed w = error_first (replaced 2) [] refl w
+broken_is_ill_formed w = error_first (replacement_step 2) [] refl w
 
 pub completed_is_normalized : (d : Reading) (form : Form) → IsNormalized d form (0x2603 ∷ []) → IsInputNormalized Encoding.Utf8 d form (0xE2 ∷ 0x98 ∷ 0x83 ∷ [])
 unfolding steps_past row_of
@@ -37,13 +37,13 @@ bytes = 0x61 ∷ 0xFF ∷ 0x61 ∷ []
 
 error_second : IsWellFormed first_of_utf8 bytes → ⊥
 unfolding steps_past row_of
-error_second w = error_first (replaced 1) (read 0x61 1 ∷ []) refl (All-tail (λ s. s.is_error ≡ false) (read 0x61 1) (replaced 1 ∷ read 0x61 1 ∷ []) w)
+error_second w = error_first (replacement_step 1) (read 0x61 1 ∷ []) refl (All-tail (λ s. s.is_error ≡ false) (read 0x61 1) (replacement_step 1 ∷ read 0x61 1 ∷ []) w)
 
 front_before_error : (m : ℕ) → m ≤ 3 → IsWellFormed first_of_utf8 (take m bytes) → m ≤ 1
 unfolding steps_past row_of
 front_before_error zero within w = omega arith
 front_before_error (suc zero) within w = omega arith
-front_before_error (suc (suc zero)) within w = absurd (error_first (replaced 1) [] refl (All-tail (λ s. s.is_error ≡ false) (read 0x61 1) (replaced 1 ∷ []) w))
+front_before_error (suc (suc zero)) within w = absurd (error_first (replacement_step 1) [] refl (All-tail (λ s. s.is_error ≡ false) (read 0x61 1) (replacement_step 1 ∷ []) w))
 front_before_error (suc (suc (suc zero))) within w = absurd (error_second w)
 front_before_error (suc (suc (suc (suc m)))) within w = absurd (omega arith)
 

@@ -10,7 +10,7 @@ use Rattle.normal_forms.specs.Hypotheses.{HasNonemptyLists, SuitsForm}
 use Rattle.normal_forms.specs.Cut.{QualifiesForCut, IsCut}
 use Rattle.normal_forms.specs.Offence.{IsFirst, IsFirstOffence}
 use Rattle.normal_forms.proofs.cuts.OffenceLemmas.{found_differs, parts_of_form, continued_cut}
-use Rattle.normalizer_text.specs.Steps.{IsWellFormed}
+use Rattle.normalizer_text.specs.DecodingSteps.{IsWellFormed}
 use Rattle.normalizer_text.specs.Encodings.{Encoding, first_in, decoded_in}
 use Rattle.normalizer_text.proofs.steps.StepLemmas.{decoded-some, decoded-append}
 use Rattle.normal_forms.proofs.cuts.PlaceLemmas.{cases_first, cut_of, cut_unique, first_unique, form_is_nothing, normalized_iff_cut, at_seam}

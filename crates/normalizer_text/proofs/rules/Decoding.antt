@@ -2,7 +2,7 @@
 use Rattle.std.specs.Prelude.{◌≡◌, ℕ, ◌<◌, ◌≤◌, true, false, List, [], ◌∷◌, ◌++◌, length, take, slice_index}
 use Rattle.std.specs.Char.{IsScalar, encode_utf8}
 use Rattle.std.specs.Char.Escape.{encode_utf16}
-use Rattle.normalizer_text.specs.Steps.{read, replaced}
+use Rattle.normalizer_text.specs.DecodingSteps.{read, replacement_step}
 use Rattle.normalizer_text.specs.Encodings.{Encoding, first_in, encoded_in, trails_in, longest_step}
 
 -- what decoding from the front follows from
@@ -19,7 +19,7 @@ pub record IsDecoding (e : Encoding) : Type 0 where
 -- error; and a step takes few units
 pub record HasTrails (e : Encoding) : Type 0 where
   pub inside : (us : List ℕ) (k : ℕ) → 0 < k → k < (first_in e us).width → trails_in e (slice_index us k) ≡ true
-  pub alone : (us : List ℕ) → 0 < length us → trails_in e (slice_index us 0) ≡ true → first_in e us ≡ replaced 1
+  pub alone : (us : List ℕ) → 0 < length us → trails_in e (slice_index us 0) ≡ true → first_in e us ≡ replacement_step 1
   pub short : (us : List ℕ) → (first_in e us).width ≤ longest_step
 
 -- the units of a character

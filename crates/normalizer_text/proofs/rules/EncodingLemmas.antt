@@ -4,8 +4,8 @@ use Rattle.std.specs.Prelude.{All}
 use Rattle.std.specs.Char.{IsScalar}
 use Rattle.std.proofs.lemmas.List.{drop_at}
 use Rattle.std.proofs.lemmas.List.Elements.{All-nil, All-cons, All-head, All-tail, All-same}
-use Rattle.normalizer_text.specs.declared.step.Step.{Step}
-use Rattle.normalizer_text.specs.Steps.{read, steps, decoded, IsWellFormed}
+use Rattle.normalizer_text.specs.declared.decoding_step.Step.{Step}
+use Rattle.normalizer_text.specs.DecodingSteps.{read, steps, decoded_text, IsWellFormed}
 use Rattle.normalizer_text.specs.Encodings.{Encoding, first_in, decoded_in, encoded_in}
 use Rattle.normalizer_text.proofs.rules.Decoding.{IsEncoding, encode_in}
 use Rattle.normalizer_text.proofs.sequences.SequenceLemmas.{IsEncoding-utf8}
@@ -65,10 +65,10 @@ module _ (e : Encoding) where
       ∙ ap (λ l. l ++ all y) (sym (rule.cons c x))
 
   -- what is well-formed is the encoding of what it decodes to
-  pub encoded-decoded : (us : List ℕ) → IsWellFormed first us → all (decoded first us) ≡ us
+  pub encoded-decoded : (us : List ℕ) → IsWellFormed first us → all (decoded_text first us) ≡ us
   encoded-decoded us w = by (length us) us (omega arith) w
     where
-      by : (n : ℕ) (us : List ℕ) → length us ≤ n → IsWellFormed first us → all (decoded first us) ≡ us
+      by : (n : ℕ) (us : List ℕ) → length us ≤ n → IsWellFormed first us → all (decoded_text first us) ≡ us
       by n [] h w = ap all (decoded-nil e) ∙ rule.nil
       by zero (u ∷ us) h w = absurd (omega arith)
       by (suc n) (u ∷ us) h w =
@@ -77,7 +77,7 @@ module _ (e : Encoding) where
           let rest = drop s.width us' in
           let w' : All IsRight (s ∷ steps first rest) = All-same IsRight (s ∷ steps first rest) (steps first us') (sym (steps-some e us' (omega arith))) w in
           ap all (decoded-some e us' (omega arith))
-          ∙ rule.cons s.character (decoded first rest)
+          ∙ rule.cons s.character (decoded_text first rest)
           ∙ ap (λ x. encode s.character ++ x) (by n rest (rest-shorter e us' n (omega arith) h) (All-tail IsRight s (steps first rest) w'))
           ∙ ap (λ x. x ++ rest) (rule.back us' (omega arith) (All-head IsRight s (steps first rest) w'))
           ∙ take-append-drop s.width us'

@@ -12,10 +12,10 @@ use Rattle.std.proofs.lemmas.Bool.Decides.{nat_tests}
 use Rattle.std.proofs.lemmas.List.{length-replicate, map-append}
 use Rattle.std.proofs.lemmas.List.Elements.{All-nil, All-cons, All-head, All-tail, All-same}
 use Rattle.std.proofs.lemmas.Str.{utf16_chars-nil, utf16_chars_lone, utf16_chars_pair, utf8_lossy-IsUtf8, utf8_lossy_chunk, utf8_valid_len-IsValidUpTo, encodes-append}
-use Rattle.normalizer_text.specs.declared.step.Step.{Step}
-use Rattle.normalizer_text.specs.Steps.{steps, width_of, IsWellFormed}
-use Rattle.normalizer_text.specs.Utf8.{range, Row, row_of, well_formed_sequences, continuation, allows, matched, first_of_utf8, decoded_utf8}
-use Rattle.normalizer_text.specs.Utf16.{is_high, is_low, pair_value, unpaired, decoded_utf16}
+use Rattle.normalizer_text.specs.declared.decoding_step.Step.{Step}
+use Rattle.normalizer_text.specs.DecodingSteps.{steps, width_of, IsWellFormed}
+use Rattle.normalizer_text.specs.Utf8.{range, Row, row_of, well_formed_sequences, continuation, allows, matched_count, first_of_utf8, decoded_utf8}
+use Rattle.normalizer_text.specs.Utf16.{is_high, is_low, pair_value, unpaired_step, decoded_utf16}
 use Rattle.normalizer_text.proofs.sequences.MatchLemmas.{allows-true}
 use Rattle.normalizer_text.specs.MaximalSubparts.{IsWithin}
 use Rattle.normalizer_text.proofs.sequences.RowLemmas.{Each, find-Each}
@@ -29,7 +29,7 @@ use Rattle.normalizer_text.proofs.rules.Utf16Lemmas.{unpaired-cases, unpaired-wi
 
 -- ---- 16-bit units
 
-lone : (u : ℕ) → u < 2 ^ 16 → (unpaired u).character ≡ unwrap_or (lone_unit_char u) 0xFFFD
+lone : (u : ℕ) → u < 2 ^ 16 → (unpaired_step u).character ≡ unwrap_or (lone_unit_char u) 0xFFFD
 lone u h = unpaired-cases (λ s. s.character ≡ unwrap_or (lone_unit_char u) 0xFFFD) u
     (λ single. ⊎_elim (λ l. grind (arith, nat_tests)) (λ g. grind (arith, nat_tests)) (single-cases u single))
     (λ other. grind (arith, nat_tests))
@@ -42,8 +42,8 @@ decoded-lossy16 us small = by (length us) us (omega arith) small
     by zero (u ∷ us) h s = absurd (omega arith)
     by (suc n) (u ∷ []) h s =
         decoded-some Encoding.Utf16 (u ∷ []) (omega arith)
-        ∙ ap (λ w. (unpaired u).character ∷ decoded_utf16 (drop w (u ∷ []))) (unpaired-width u)
-        ∙ ap (λ x. (unpaired u).character ∷ x) (decoded-nil Encoding.Utf16)
+        ∙ ap (λ w. (unpaired_step u).character ∷ decoded_utf16 (drop w (u ∷ []))) (unpaired-width u)
+        ∙ ap (λ x. (unpaired_step u).character ∷ x) (decoded-nil Encoding.Utf16)
         ∙ ap (λ c. c ∷ []) (lone u (All-head (λ u. u < 2 ^ 16) u [] s))
         ∙ sym (ap (map (λ o. unwrap_or o 0xFFFD)) (utf16_chars_lone u [] (λ p. omega arith) ∙ ap (λ x. lone_unit_char u ∷ x) utf16_chars-nil))
     by (suc n) (u ∷ v ∷ us) h s = ⊎_elim
@@ -58,8 +58,8 @@ decoded-lossy16 us small = by (length us) us (omega arith) small
         let first = first-unpaired u v us apart in
         decoded-some Encoding.Utf16 (u ∷ v ∷ us) (omega arith)
         ∙ ap (λ s. s.character ∷ decoded_utf16 (drop s.width (u ∷ v ∷ us))) first
-        ∙ ap (λ w. (unpaired u).character ∷ decoded_utf16 (drop w (u ∷ v ∷ us))) (unpaired-width u)
-        ∙ ap (λ x. (unpaired u).character ∷ x) (by n (v ∷ us) (omega arith) (All-tail (λ u. u < 2 ^ 16) u (v ∷ us) s))
+        ∙ ap (λ w. (unpaired_step u).character ∷ decoded_utf16 (drop w (u ∷ v ∷ us))) (unpaired-width u)
+        ∙ ap (λ x. (unpaired_step u).character ∷ x) (by n (v ∷ us) (omega arith) (All-tail (λ u. u < 2 ^ 16) u (v ∷ us) s))
         ∙ ap (λ c. c ∷ utf16_lossy_chars (v ∷ us)) (lone u (All-head (λ u. u < 2 ^ 16) u (v ∷ us) s))
         ∙ sym (ap (map (λ o. unwrap_or o 0xFFFD)) (utf16_chars_lone u (v ∷ us) (λ p. false≢true (sym apart ∙ grind (arith, nat_tests))))))
         (cases_Bool (is_high u && is_low v))
@@ -131,8 +131,8 @@ three_of : (b c d : ℕ) (bs : List ℕ) → nat_lt (length (b ∷ c ∷ d ∷ b
 three_of b c d bs = le-ltb (length (b ∷ c ∷ d ∷ bs)) 3 (omega arith)
 
 -- the bytes from the third on, and those from the second on
-after_two : (b c : ℕ) (bs : List ℕ) (more : ℕ) → more ≤ 2 → matched (replicate more continuation) bs < more
-    → unwrap_or (error_len_after_two (b ∷ c ∷ bs)) (length (b ∷ c ∷ bs)) ≡ suc (suc (matched (replicate more continuation) bs))
+after_two : (b c : ℕ) (bs : List ℕ) (more : ℕ) → more ≤ 2 → matched_count (replicate more continuation) bs < more
+    → unwrap_or (error_len_after_two (b ∷ c ∷ bs)) (length (b ∷ c ∷ bs)) ≡ suc (suc (matched_count (replicate more continuation) bs))
 after_two b c bs zero h m = absurd (omega arith)
 after_two b c [] (suc more) h m = refl
 after_two b c (d ∷ bs) (suc more) h m = ⊎_elim
@@ -140,11 +140,11 @@ after_two b c (d ∷ bs) (suc more) h m = ⊎_elim
     (λ wrong.
     let len = length (b ∷ c ∷ d ∷ bs) in
     ap (λ o. unwrap_or o len) (cond-false (nat_lt len 3) None _ (three_of b c d bs) ∙ cond-false (allows continuation d) _ (Some 2) wrong)
-    ∙ sym (ap (λ x. suc (suc x)) (cond-false (allows continuation d) (suc (matched (replicate more continuation) bs)) 0 wrong)))
+    ∙ sym (ap (λ x. suc (suc x)) (cond-false (allows continuation d) (suc (matched_count (replicate more continuation) bs)) 0 wrong)))
     (cases_Bool (allows continuation d))
   where
-    by : (more : ℕ) (bs : List ℕ) → suc more ≤ 2 → matched (replicate more continuation) bs < more → allows continuation d ≡ true
-        → unwrap_or (error_len_after_two (b ∷ c ∷ d ∷ bs)) (length (b ∷ c ∷ d ∷ bs)) ≡ suc (suc (matched (replicate (suc more) continuation) (d ∷ bs)))
+    by : (more : ℕ) (bs : List ℕ) → suc more ≤ 2 → matched_count (replicate more continuation) bs < more → allows continuation d ≡ true
+        → unwrap_or (error_len_after_two (b ∷ c ∷ d ∷ bs)) (length (b ∷ c ∷ d ∷ bs)) ≡ suc (suc (matched_count (replicate (suc more) continuation) (d ∷ bs)))
     by zero bs h m good = absurd (omega arith)
     by (suc zero) [] h m good = ap (λ o. unwrap_or o 3) (cond-true (allows continuation d) None (Some 2) good) ∙ sym (ap (λ x. suc (suc x)) (cond-true (allows continuation d) 1 0 good))
     by (suc zero) (e ∷ bs) h m good =
@@ -154,17 +154,17 @@ after_two b c (d ∷ bs) (suc more) h m = ⊎_elim
         ∙ sym (ap (λ x. suc (suc x)) (cond-true (allows continuation d) _ 0 good ∙ ap suc (cond-false (allows continuation e) 1 0 (unmatched (allows continuation e) 0 m))))
     by (suc (suc more)) bs h m good = absurd (omega arith)
 
-after_one : (r : Row) (b : ℕ) (bs : List ℕ) → HasSecond r b → matched r.trail bs < length r.trail → unwrap_or (error_len_after_one (b ∷ bs)) (length (b ∷ bs)) ≡ suc (matched r.trail bs)
-after_one r b bs h m = subst (λ x. unwrap_or (error_len_after_one (b ∷ bs)) (length (b ∷ bs)) ≡ suc (matched x bs)) (sym h.trail) (by bs (subst (λ x. matched x bs < length x) h.trail m))
+after_one : (r : Row) (b : ℕ) (bs : List ℕ) → HasSecond r b → matched_count r.trail bs < length r.trail → unwrap_or (error_len_after_one (b ∷ bs)) (length (b ∷ bs)) ≡ suc (matched_count r.trail bs)
+after_one r b bs h m = subst (λ x. unwrap_or (error_len_after_one (b ∷ bs)) (length (b ∷ bs)) ≡ suc (matched_count x bs)) (sym h.trail) (by bs (subst (λ x. matched_count x bs < length x) h.trail m))
   where
     by : (bs : List ℕ)
-        → matched (range (second_byte_min b) (second_byte_max b) ∷ replicate h.more continuation) bs < suc (length (replicate h.more continuation))
-        → unwrap_or (error_len_after_one (b ∷ bs)) (length (b ∷ bs)) ≡ suc (matched (range (second_byte_min b) (second_byte_max b) ∷ replicate h.more continuation) bs)
+        → matched_count (range (second_byte_min b) (second_byte_max b) ∷ replicate h.more continuation) bs < suc (length (replicate h.more continuation))
+        → unwrap_or (error_len_after_one (b ∷ bs)) (length (b ∷ bs)) ≡ suc (matched_count (range (second_byte_min b) (second_byte_max b) ∷ replicate h.more continuation) bs)
     by [] m = refl
     by (c ∷ bs) m =
         let len = length (b ∷ c ∷ bs) in
         let may = allows (range (second_byte_min b) (second_byte_max b)) c in
-        let rest = matched (replicate h.more continuation) bs in
+        let rest = matched_count (replicate h.more continuation) bs in
         let two : nat_lt len 2 ≡ false = le-ltb len 2 (omega arith) in ⊎_elim
         (λ good.
         let less : rest < h.more = omega (arith, length-replicate h.more continuation, cond-true may (suc rest) 0 good) in
@@ -199,7 +199,7 @@ invalid_len b bs e = by_cases (λ s. s.is_error ≡ true → utf8_invalid_len (b
     (λ n _. rw (some_bytes b bs, no_row b n) refl)
     (λ r f m e. absurd (false≢true e))
     (λ r f m _. ⊎_elim
-    (λ none. absurd (let k = subst (λ x. matched x bs < length x) none m in omega arith))
+    (λ none. absurd (let k = subst (λ x. matched_count x bs < length x) none m in omega arith))
     (λ h. rw (some_bytes b bs, in_lead b h.low h.high) (after_one r b bs h m))
     (row_of-HasSeconds b r f))
     e

@@ -6,7 +6,7 @@ use Rattle.std.specs.Str.{IsCharBoundary, IsUtf8, chars, all_scalars}
 use Rattle.std.proofs.lemmas.Str.{chars_from_encodes, IsCharBoundary-from_take, IsUtf8-take}
 use Rattle.std.proofs.lemmas.Bool.{and_from, and_parts}
 use Rattle.std.proofs.lemmas.List.Elements.{All-nil, All-cons, All-head, All-tail}
-use Rattle.normalizer_text.specs.Steps.{IsWellFormed, IsBoundary}
+use Rattle.normalizer_text.specs.DecodingSteps.{IsWellFormed, IsBoundary}
 use Rattle.normalizer_text.specs.Utf8.{continuation, allows, first_of_utf8, decoded_utf8}
 use Rattle.normalizer_text.proofs.steps.StepBoundaries.{boundary-le, boundary-well_formed, well_formed-parts}
 use Rattle.normalizer_text.specs.Encodings.{Encoding}

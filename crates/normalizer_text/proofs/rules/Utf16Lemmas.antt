@@ -5,9 +5,9 @@ use Rattle.std.specs.Char.Escape.{encode_utf16}
 use Rattle.std.specs.Int.{is_in_range}
 use Rattle.std.proofs.lemmas.Bool.{true≢false, cases_Bool, cases_lt, or_cases, and_parts, and_from, and_left, or_from, leb-true, le-leb, lt-ltb, le-ltb, cond-true, cond-false}
 use Rattle.std.proofs.lemmas.Bool.Decides.{nat_tests}
-use Rattle.normalizer_text.specs.declared.step.Step.{Step}
-use Rattle.normalizer_text.specs.Steps.{read, replaced}
-use Rattle.normalizer_text.specs.Utf16.{is_high, is_low, is_single, pair_value, unpaired, first_of_utf16}
+use Rattle.normalizer_text.specs.declared.decoding_step.Step.{Step}
+use Rattle.normalizer_text.specs.DecodingSteps.{read, replacement_step}
+use Rattle.normalizer_text.specs.Utf16.{is_high, is_low, is_single, pair_value, unpaired_step, first_of_utf16}
 use Rattle.normalizer_text.specs.Encodings.{Encoding}
 use Rattle.normalizer_text.proofs.rules.Decoding.{IsDecoding, HasTrails, IsEncoding}
 use Rattle.normalizer_text.proofs.sequences.ScalarLemmas.{scalar_cases, IsScalar-low, IsScalar-high}
@@ -46,26 +46,26 @@ single-high u e = ⊎_elim (λ l. below 0xD800 0xDBFF u (omega arith)) (λ h. ab
 
 -- ---- what is shown of a step by cases
 
-pub unpaired-cases : (P : Step → Type 0) (u : ℕ) → (is_single u ≡ true → P (read u 1)) → (is_single u ≡ false → P (replaced 1)) → P (unpaired u)
+pub unpaired-cases : (P : Step → Type 0) (u : ℕ) → (is_single u ≡ true → P (read u 1)) → (is_single u ≡ false → P (replacement_step 1)) → P (unpaired_step u)
 unpaired-cases P u right wrong = ⊎_elim
-    (λ e. subst P (sym (cond-true (is_single u) (read u 1) (replaced 1) e)) (right e))
-    (λ e. subst P (sym (cond-false (is_single u) (read u 1) (replaced 1) e)) (wrong e))
+    (λ e. subst P (sym (cond-true (is_single u) (read u 1) (replacement_step 1) e)) (right e))
+    (λ e. subst P (sym (cond-false (is_single u) (read u 1) (replacement_step 1) e)) (wrong e))
     (cases_Bool (is_single u))
 
 pub first-pair : (u v : ℕ) (us : List ℕ) → (is_high u && is_low v) ≡ true → first_of_utf16 (u ∷ v ∷ us) ≡ read (pair_value u v) 2
-first-pair u v us e = cond-true (is_high u && is_low v) (read (pair_value u v) 2) (unpaired u) e
+first-pair u v us e = cond-true (is_high u && is_low v) (read (pair_value u v) 2) (unpaired_step u) e
 
-pub first-unpaired : (u v : ℕ) (us : List ℕ) → (is_high u && is_low v) ≡ false → first_of_utf16 (u ∷ v ∷ us) ≡ unpaired u
-first-unpaired u v us e = cond-false (is_high u && is_low v) (read (pair_value u v) 2) (unpaired u) e
+pub first-unpaired : (u v : ℕ) (us : List ℕ) → (is_high u && is_low v) ≡ false → first_of_utf16 (u ∷ v ∷ us) ≡ unpaired_step u
+first-unpaired u v us e = cond-false (is_high u && is_low v) (read (pair_value u v) 2) (unpaired_step u) e
 
 cases : (P : Step → Type 0) (u v : ℕ) (us : List ℕ) → ((is_high u && is_low v) ≡ true → P (read (pair_value u v) 2))
-    → ((is_high u && is_low v) ≡ false → P (unpaired u)) → P (first_of_utf16 (u ∷ v ∷ us))
+    → ((is_high u && is_low v) ≡ false → P (unpaired_step u)) → P (first_of_utf16 (u ∷ v ∷ us))
 cases P u v us pair single = ⊎_elim
     (λ e. subst P (sym (first-pair u v us e)) (pair e))
     (λ e. subst P (sym (first-unpaired u v us e)) (single e))
     (cases_Bool (is_high u && is_low v))
 
-pub unpaired-width : (u : ℕ) → (unpaired u).width ≡ 1
+pub unpaired-width : (u : ℕ) → (unpaired_step u).width ≡ 1
 unpaired-width u = unpaired-cases (λ s. s.width ≡ 1) u (λ _. refl) (λ _. refl)
 
 pub pair-bounds : (u v : ℕ) → (is_high u && is_low v) ≡ true → IsBetween 0xD800 0xDBFF u × IsBetween 0xDC00 0xDFFF v
@@ -88,7 +88,7 @@ short_utf16 [] = omega arith
 short_utf16 (u ∷ []) = omega (arith, unpaired-width u)
 short_utf16 (u ∷ v ∷ us) = cases (λ s. s.width ≤ 2) u v us (λ _. omega arith) (λ _. omega (arith, unpaired-width u))
 
-scalar-unpaired : (u : ℕ) → IsScalar (unpaired u).character
+scalar-unpaired : (u : ℕ) → IsScalar (unpaired_step u).character
 scalar-unpaired u = unpaired-cases (λ s. IsScalar s.character) u
     (λ e. ⊎_elim (λ l. IsScalar-low u (omega arith)) (λ h. IsScalar-high u (omega arith) (omega arith)) (single-cases u e))
     (λ _. refl)
@@ -105,13 +105,13 @@ cut_utf16 [] n h l = absurd (omega arith)
 cut_utf16 (u ∷ us) zero h l = absurd (omega (arith, some_utf16 (u ∷ us) h))
 cut_utf16 (u ∷ []) (suc zero) h l = refl
 cut_utf16 (u ∷ []) (suc (suc n)) h l = refl
-cut_utf16 (u ∷ v ∷ us) (suc zero) h l = cases (λ s. s.width ≤ 1 → unpaired u ≡ s) u v us (λ _ l. absurd (omega arith)) (λ _ _. refl) l
+cut_utf16 (u ∷ v ∷ us) (suc zero) h l = cases (λ s. s.width ≤ 1 → unpaired_step u ≡ s) u v us (λ _ l. absurd (omega arith)) (λ _ _. refl) l
 cut_utf16 (u ∷ v ∷ us) (suc (suc n)) h l = refl
 
 extends_utf16 : (us more : List ℕ) → 0 < length us → (first_of_utf16 us).is_error ≡ false → first_of_utf16 (us ++ more) ≡ first_of_utf16 us
 extends_utf16 [] more h e = absurd (omega arith)
 extends_utf16 (u ∷ []) [] h e = refl
-extends_utf16 (u ∷ []) (v ∷ more) h e = unpaired-cases (λ s. s.is_error ≡ false → first_of_utf16 (u ∷ v ∷ more) ≡ unpaired u) u
+extends_utf16 (u ∷ []) (v ∷ more) h e = unpaired-cases (λ s. s.is_error ≡ false → first_of_utf16 (u ∷ v ∷ more) ≡ unpaired_step u) u
     (λ single _. first-unpaired u v more (and_left _ _ (single-high u single)))
     (λ _ e. absurd (true≢false e))
     e
@@ -130,10 +130,10 @@ inside_utf16 (u ∷ v ∷ us) (suc zero) some h = cases (λ s. 1 < s.width → i
     h
 inside_utf16 (u ∷ v ∷ us) (suc (suc k)) some h = absurd (omega (arith, short_utf16 (u ∷ v ∷ us)))
 
-alone-unpaired : (u : ℕ) → is_low u ≡ true → unpaired u ≡ replaced 1
-alone-unpaired u e = cond-false (is_single u) (read u 1) (replaced 1) (low-single u e)
+alone-unpaired : (u : ℕ) → is_low u ≡ true → unpaired_step u ≡ replacement_step 1
+alone-unpaired u e = cond-false (is_single u) (read u 1) (replacement_step 1) (low-single u e)
 
-alone_utf16 : (us : List ℕ) → 0 < length us → is_low (get_or us 0 0) ≡ true → first_of_utf16 us ≡ replaced 1
+alone_utf16 : (us : List ℕ) → 0 < length us → is_low (get_or us 0 0) ≡ true → first_of_utf16 us ≡ replacement_step 1
 alone_utf16 [] h e = absurd (omega arith)
 alone_utf16 (u ∷ []) h e = alone-unpaired u e
 alone_utf16 (u ∷ v ∷ us) h e = first-unpaired u v us (and_left _ _ (low-high u e)) ∙ alone-unpaired u e
@@ -156,8 +156,8 @@ single-scalar : (c : ℕ) → IsScalar c → c < 0x10000 → is_single c ≡ tru
 single-scalar c h l = ⊎_elim (λ k. grind (arith, nat_tests)) (λ k. grind (arith, nat_tests)) (scalar_cases c h)
 
 pub first-single : (c : ℕ) (more : List ℕ) → is_single c ≡ true → first_of_utf16 (c ∷ more) ≡ read c 1
-first-single c [] e = cond-true (is_single c) (read c 1) (replaced 1) e
-first-single c (v ∷ more) e = first-unpaired c v more (and_left _ _ (single-high c e)) ∙ cond-true (is_single c) (read c 1) (replaced 1) e
+first-single c [] e = cond-true (is_single c) (read c 1) (replacement_step 1) e
+first-single c (v ∷ more) e = first-unpaired c v more (and_left _ _ (single-high c e)) ∙ cond-true (is_single c) (read c 1) (replacement_step 1) e
 
 first-encode : (c : ℕ) (more : List ℕ) → IsScalar c → first_of_utf16 (encode_utf16 c ++ more) ≡ read c (length (encode_utf16 c))
 first-encode c more h = ⊎_elim
@@ -171,7 +171,7 @@ first-encode c more h = ⊎_elim
     (first-pair high low more (and_from _ _ (within 0xD800 0xDBFF high (omega arith) (omega arith)) (within 0xDC00 0xDFFF low (omega arith) (omega arith))) ∙ ap (λ v. read v 2) value))
     (cases_lt c 0x10000)
 
-encode-unpaired : (u : ℕ) (us : List ℕ) → (unpaired u).is_error ≡ false → encode_utf16 (unpaired u).character ≡ take (unpaired u).width (u ∷ us)
+encode-unpaired : (u : ℕ) (us : List ℕ) → (unpaired_step u).is_error ≡ false → encode_utf16 (unpaired_step u).character ≡ take (unpaired_step u).width (u ∷ us)
 encode-unpaired u us e = unpaired-cases (λ s. s.is_error ≡ false → encode_utf16 s.character ≡ take s.width (u ∷ us)) u
     (λ single _. encode-single u (⊎_elim (λ l. omega arith) (λ h. omega arith) (single-cases u single)))
     (λ _ e. absurd (true≢false e))

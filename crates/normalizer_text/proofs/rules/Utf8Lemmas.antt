@@ -3,9 +3,9 @@ use Rattle.std.proofs.Common.{◌≡◌, ℕ, zero, suc, ◌<◌, ◌≤◌, ◌
 use Rattle.std.specs.Char.{IsScalar}
 use Rattle.std.proofs.lemmas.List.{take-take, take-append-le}
 use Rattle.std.proofs.lemmas.Bool.{true≢false, cases_eq, and_from, le-leb}
-use Rattle.normalizer_text.specs.declared.step.Step.{Step}
-use Rattle.normalizer_text.specs.Steps.{read, replaced}
-use Rattle.normalizer_text.specs.Utf8.{ByteRange, Row, row_of, continuation, allows, matched, scalar_value, first_by_row, first_of_utf8}
+use Rattle.normalizer_text.specs.declared.decoding_step.Step.{Step}
+use Rattle.normalizer_text.specs.DecodingSteps.{read, replacement_step}
+use Rattle.normalizer_text.specs.Utf8.{ByteRange, Row, row_of, continuation, allows, matched_count, scalar_value, first_by_row, first_of_utf8}
 use Rattle.normalizer_text.specs.Encodings.{Encoding}
 use Rattle.normalizer_text.proofs.rules.Decoding.{IsDecoding, HasTrails}
 use Rattle.normalizer_text.proofs.sequences.MatchLemmas.{allows-true, allows-below_matched, matched-le, matched-take, matched-append}
@@ -13,14 +13,14 @@ use Rattle.normalizer_text.proofs.sequences.RowLemmas.{Each, row_of-IsRow, IsSeq
 use Rattle.normalizer_text.proofs.sequences.ScalarLemmas.{scalar_value-IsScalar}
 
 -- the bytes after the first one are matched or not
-rows : (r : Row) (bs : List ℕ) → (matched r.trail bs ≡ length r.trail) ⊎ (matched r.trail bs < length r.trail)
-rows r bs = ⊎_elim (λ e. inl e) (λ ne. inr (let k = matched-le r.trail bs in omega arith)) (cases_eq (matched r.trail bs) (length r.trail))
+rows : (r : Row) (bs : List ℕ) → (matched_count r.trail bs ≡ length r.trail) ⊎ (matched_count r.trail bs < length r.trail)
+rows r bs = ⊎_elim (λ e. inl e) (λ ne. inr (let k = matched-le r.trail bs in omega arith)) (cases_eq (matched_count r.trail bs) (length r.trail))
 
 -- what is shown of a step by cases
 pub by_cases : (P : Step → Type 0) (b : ℕ) (bs : List ℕ)
-    → (row_of b ≡ None → P (replaced 1))
-    → ((r : Row) → row_of b ≡ Some r → matched r.trail bs ≡ length r.trail → P (read (scalar_value (b ∷ take (length r.trail) bs)) (suc (length r.trail))))
-    → ((r : Row) → row_of b ≡ Some r → matched r.trail bs < length r.trail → P (replaced (suc (matched r.trail bs))))
+    → (row_of b ≡ None → P (replacement_step 1))
+    → ((r : Row) → row_of b ≡ Some r → matched_count r.trail bs ≡ length r.trail → P (read (scalar_value (b ∷ take (length r.trail) bs)) (suc (length r.trail))))
+    → ((r : Row) → row_of b ≡ Some r → matched_count r.trail bs < length r.trail → P (replacement_step (suc (matched_count r.trail bs))))
     → P (first_of_utf8 (b ∷ bs))
 by_cases P b bs none whole short = by (row_of b) refl
   where
@@ -57,9 +57,9 @@ cut-by_row (Some r) b bs n h = ⊎_elim
     ∙ ap (λ x. record { character = scalar_value (b ∷ x); width = suc (length r.trail); is_error = false }) (take-take (length r.trail) n bs k)
     ∙ sym (by_row-whole r b bs m))
     (λ m.
-    let k : matched r.trail bs ≤ n = (let w = ap (λ s. s.width) (by_row-short r b bs m) in omega arith) in
+    let k : matched_count r.trail bs ≤ n = (let w = ap (λ s. s.width) (by_row-short r b bs m) in omega arith) in
     let same = matched-take r.trail bs n k in
-    by_row-short r b (take n bs) (omega arith) ∙ ap (λ x. replaced (suc x)) same ∙ sym (by_row-short r b bs m))
+    by_row-short r b (take n bs) (omega arith) ∙ ap (λ x. replacement_step (suc x)) same ∙ sym (by_row-short r b bs m))
     (rows r bs)
 
 cut_utf8 : (us : List ℕ) (n : ℕ) → 0 < length us → (first_of_utf8 us).width ≤ n → first_of_utf8 (take n us) ≡ first_of_utf8 us
@@ -98,11 +98,11 @@ inside_utf8 (b ∷ bs) (suc j) some h = by_cases (λ s. suc j < s.width → allo
     h
 
 -- no character begins with a continuation byte
-alone_utf8 : (us : List ℕ) → 0 < length us → allows continuation (get_or us 0 0) ≡ true → first_of_utf8 us ≡ replaced 1
+alone_utf8 : (us : List ℕ) → 0 < length us → allows continuation (get_or us 0 0) ≡ true → first_of_utf8 us ≡ replacement_step 1
 alone_utf8 [] h e = absurd (omega arith)
 alone_utf8 (b ∷ bs) h e = by (row_of b) refl
   where
-    by : (o : Option Row) → row_of b ≡ o → first_by_row o b bs ≡ replaced 1
+    by : (o : Option Row) → row_of b ≡ o → first_by_row o b bs ≡ replacement_step 1
     by None _ = refl
     by (Some r) f =
         let k = row_of-IsRow b r f in

@@ -3,7 +3,7 @@ use Rattle.std.proofs.Common.{◌≡◌, ℕ, zero, suc, ◌-◌, ◌*◌, ◌<�
 use Rattle.std.specs.Prelude.{All}
 use Rattle.std.proofs.lemmas.Bool.{true≢false}
 use Rattle.std.proofs.lemmas.List.Elements.{All-nil, All-cons, All-head, All-tail, All-same, All-drop}
-use Rattle.normalizer_text.specs.Steps.{read, steps, IsWellFormed}
+use Rattle.normalizer_text.specs.DecodingSteps.{read, steps, IsWellFormed}
 use Rattle.normalizer_text.specs.Utf8.{range, row, scalar_value, first_by_row, first_of_utf8, decoded_utf8}
 use Rattle.normalizer_text.specs.Utf16.{first_of_utf16}
 use Rattle.normalizer_text.proofs.sequences.Sequences.{IsSequence}

@@ -17,7 +17,7 @@ use Rattle.std.proofs.lemmas.List.Sums.{prefix_len-drop_yes, prefix_len-drop_no,
 use Rattle.std.proofs.lemmas.List.Elements.{All-nil, All-cons, All-head, All-tail, All-same, All-weaker}
 use Rattle.normalizer_text.specs.Encodings.{Encoding, first_in, decoded_in}
 use Rattle.normalizer_text.specs.Scans.{leading_below, low_byte, EndsLowCharacters}
-use Rattle.normalizer_text.specs.Steps.{read, steps, IsWellFormed, IsBoundary}
+use Rattle.normalizer_text.specs.DecodingSteps.{read, steps, IsWellFormed, IsBoundary}
 use Rattle.normalizer_text.specs.Utf8.{allows, continuation, first_of_utf8, decoded_utf8}
 use Rattle.normalizer_text.specs.Utf16.{first_of_utf16}
 use Rattle.normalizer_text.proofs.steps.StepLemmas.{IsRight, decoded-nil, decoded-some, steps-nil, steps-some}

@@ -5,8 +5,8 @@ use Rattle.std.specs.Prelude.{find, option_map}
 use Rattle.std.proofs.lemmas.List.{length-replicate}
 use Rattle.std.proofs.lemmas.Bool.{cases_Bool, ne_eqb, eq-eqb, cases_eq}
 use Rattle.normalizer_text.specs.declared.utf8.Trail.{Trail}
-use Rattle.normalizer_text.specs.Steps.{read, replaced}
-use Rattle.normalizer_text.specs.Utf8.{ByteRange, Row, row, continuation, well_formed_sequences, row_of, allows, matched, scalar_value, first_by_row, first_of_utf8}
+use Rattle.normalizer_text.specs.DecodingSteps.{read, replacement_step}
+use Rattle.normalizer_text.specs.Utf8.{ByteRange, Row, row, continuation, well_formed_sequences, row_of, allows, matched_count, scalar_value, first_by_row, first_of_utf8}
 use Rattle.normalizer_text.specs.MaximalSubparts.{IsWithin, AreWithin}
 use Rattle.normalizer_text.specs.inner.Trails.{trail_ranges}
 use Rattle.normalizer_text.proofs.sequences.Sequences.{IsSequence}
@@ -125,7 +125,7 @@ unfolding row_of
 row_of-IsRow b r e = find-Each (λ r. allows r.lead b) IsRow well_formed_sequences each-IsRow r e
 
 -- a row's sequence in front
-pub IsSequence-row : (b : ℕ) (bs : List ℕ) (r : Row) → row_of b ≡ Some r → matched r.trail bs ≡ length r.trail → IsSequence (b ∷ take (length r.trail) bs)
+pub IsSequence-row : (b : ℕ) (bs : List ℕ) (r : Row) → row_of b ≡ Some r → matched_count r.trail bs ≡ length r.trail → IsSequence (b ∷ take (length r.trail) bs)
 IsSequence-row b bs r e m =
     let k = row_of-IsRow b r e in
     k.0.sequences b _ (allows-true r.lead b k.1) (AreWithin-matched r.trail bs m)
@@ -140,27 +140,27 @@ row_none : (o : Option Row) → None ≡ option_map (λ r. r.trail) o → o ≡ 
 row_none None e = refl
 row_none (Some r) e = cc
 
-pub first-none : (bytes : List ℕ) → 0 < length bytes → None ≡ option_map (λ r. r.trail) (row_of (get_or bytes 0 0)) → replaced 1 ≡ first_of_utf8 bytes
+pub first-none : (bytes : List ℕ) → 0 < length bytes → None ≡ option_map (λ r. r.trail) (row_of (get_or bytes 0 0)) → replacement_step 1 ≡ first_of_utf8 bytes
 first-none [] h e = absurd (omega arith)
 first-none (b ∷ bs) h e = rw (row_none (row_of b) e) refl
 
-pub by_row-short : (r : Row) (b : ℕ) (bs : List ℕ) → matched r.trail bs < length r.trail → first_by_row (Some r) b bs ≡ replaced (suc (matched r.trail bs))
-by_row-short r b bs m = rw (ne_eqb (matched r.trail bs) (length r.trail) (λ q. absurd (omega arith))) refl
+pub by_row-short : (r : Row) (b : ℕ) (bs : List ℕ) → matched_count r.trail bs < length r.trail → first_by_row (Some r) b bs ≡ replacement_step (suc (matched_count r.trail bs))
+by_row-short r b bs m = rw (ne_eqb (matched_count r.trail bs) (length r.trail) (λ q. absurd (omega arith))) refl
 
-pub by_row-whole : (r : Row) (b : ℕ) (bs : List ℕ) → matched r.trail bs ≡ length r.trail → first_by_row (Some r) b bs ≡ read (scalar_value (b ∷ take (length r.trail) bs)) (suc (length r.trail))
-by_row-whole r b bs m = rw (eq-eqb (matched r.trail bs) (length r.trail) m) refl
+pub by_row-whole : (r : Row) (b : ℕ) (bs : List ℕ) → matched_count r.trail bs ≡ length r.trail → first_by_row (Some r) b bs ≡ read (scalar_value (b ∷ take (length r.trail) bs)) (suc (length r.trail))
+by_row-whole r b bs m = rw (eq-eqb (matched_count r.trail bs) (length r.trail) m) refl
 
 -- a sequence that is cut short, of a first byte that `t` may follow, m of whose places are matched
 pub first-short : (bytes : List ℕ) (t : Trail) (m : ℕ) → 0 < length bytes → Some (trail_ranges t) ≡ option_map (λ r. r.trail) (row_of (get_or bytes 0 0))
-    → m ≡ matched (trail_ranges t) (drop 1 bytes) → 1 + m ≤ t.length → replaced (1 + m) ≡ first_of_utf8 bytes
+    → m ≡ matched_count (trail_ranges t) (drop 1 bytes) → 1 + m ≤ t.length → replacement_step (1 + m) ≡ first_of_utf8 bytes
 first-short [] t m h e q l = absurd (omega arith)
 first-short (b ∷ bs) t m h e q l =
     let k = row_trail (row_of b) (trail_ranges t) e in
-    let short : matched (trail_ranges t) bs < length (trail_ranges t) = omega (arith, length-trail_ranges t) in
+    let short : matched_count (trail_ranges t) bs < length (trail_ranges t) = omega (arith, length-trail_ranges t) in
     sym (ap (λ o. first_by_row o b bs) k.1
-    ∙ by_row-short k.0 b bs (subst (λ x. matched x bs < length x) k.2 short)
-    ∙ ap (λ x. replaced (suc (matched x bs))) (sym k.2)
-    ∙ ap replaced (omega arith))
+    ∙ by_row-short k.0 b bs (subst (λ x. matched_count x bs < length x) k.2 short)
+    ∙ ap (λ x. replacement_step (suc (matched_count x bs))) (sym k.2)
+    ∙ ap replacement_step (omega arith))
 
 -- the same if all of them are
 pub record IsWhole (bytes : List ℕ) (m : ℕ) : Type 0 where
@@ -169,13 +169,13 @@ pub record IsWhole (bytes : List ℕ) (m : ℕ) : Type 0 where
   pub step : read (scalar_value (take (1 + m) bytes)) (1 + m) ≡ first_of_utf8 bytes
 
 pub first-whole : (bytes : List ℕ) (t : Trail) (m : ℕ) → 0 < length bytes → Some (trail_ranges t) ≡ option_map (λ r. r.trail) (row_of (get_or bytes 0 0))
-    → m ≡ matched (trail_ranges t) (drop 1 bytes) → t.length < 1 + m → IsWhole bytes m
+    → m ≡ matched_count (trail_ranges t) (drop 1 bytes) → t.length < 1 + m → IsWhole bytes m
 first-whole [] t m h e q l = absurd (omega arith)
 first-whole (b ∷ bs) t m h e q l =
     let k = row_trail (row_of b) (trail_ranges t) e in
     let le = matched-le (trail_ranges t) bs in
-    let all : matched (trail_ranges t) bs ≡ length (trail_ranges t) = omega (arith, length-trail_ranges t) in
-    let whole : matched k.0.trail bs ≡ length k.0.trail = subst (λ x. matched x bs ≡ length x) k.2 all in
+    let all : matched_count (trail_ranges t) bs ≡ length (trail_ranges t) = omega (arith, length-trail_ranges t) in
+    let whole : matched_count k.0.trail bs ≡ length k.0.trail = subst (λ x. matched_count x bs ≡ length x) k.2 all in
     let n : suc (length k.0.trail) ≡ 1 + m = omega (arith, ap length k.2) in record {
       fits = omega arith;
       sequence = subst (λ x. IsSequence (take x (b ∷ bs))) n (IsSequence-row b bs k.0 k.1 whole);

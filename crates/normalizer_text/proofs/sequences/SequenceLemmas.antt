@@ -5,8 +5,8 @@ use Rattle.std.specs.Str.{continuation_len}
 use Rattle.std.proofs.lemmas.Bool.{true≢false, cases_eq, cases_lt, cond-true, cond-false, and_from, le-leb, lt-ltb, le-ltb}
 use Rattle.std.proofs.lemmas.Bool.Decides.{nat_tests}
 use Rattle.std.proofs.lemmas.List.{take_at}
-use Rattle.normalizer_text.specs.Steps.{read, IsWellFormed}
-use Rattle.normalizer_text.specs.Utf8.{ByteRange, range, Row, row, row_of, continuation, allows, matched, scalar_value, first_by_row, first_of_utf8}
+use Rattle.normalizer_text.specs.DecodingSteps.{read, IsWellFormed}
+use Rattle.normalizer_text.specs.Utf8.{ByteRange, range, Row, row, row_of, continuation, allows, matched_count, scalar_value, first_by_row, first_of_utf8}
 use Rattle.normalizer_text.proofs.sequences.Sequences.{IsSequence}
 use Rattle.normalizer_text.specs.MaximalSubparts.{IsWithin, AreWithin}
 use Rattle.normalizer_text.proofs.sequences.RowLemmas.{IsSequence-row, IsWhole, by_row-whole}
@@ -88,7 +88,7 @@ HasRow-sequence b (c ∷ d ∷ e ∷ f ∷ bs) s = absurd s
 pub allows_from : (r : ByteRange) (b : ℕ) → IsWithin r b → allows r b ≡ true
 allows_from r b h = and_from _ _ (le-leb r.least b h.0) (le-leb b r.greatest h.1)
 
-pub matched-AreWithin : (rs : List ByteRange) (bs more : List ℕ) → AreWithin rs bs → (matched rs (bs ++ more) ≡ length rs) × (length bs ≡ length rs)
+pub matched-AreWithin : (rs : List ByteRange) (bs more : List ℕ) → AreWithin rs bs → (matched_count rs (bs ++ more) ≡ length rs) × (length bs ≡ length rs)
 matched-AreWithin [] [] more h = (refl, refl)
 matched-AreWithin [] (b ∷ bs) more h = absurd h
 matched-AreWithin (r ∷ rs) [] more h = absurd h

@@ -4,9 +4,9 @@ use Rattle.std.proofs.Common.{take, drop, take-append-drop, get_or, map, Some, N
 use Rattle.std.specs.Prelude.{slice_index_or}
 use Rattle.std.specs.List.{Contains}
 use Rattle.std.proofs.lemmas.Bool.{cases_Bool}
-use Rattle.normalizer_text.specs.declared.step.Step.{Step}
-use Rattle.normalizer_text.specs.Steps.{read, replaced}
-use Rattle.normalizer_text.specs.Utf8.{ByteRange, Row, continuation, well_formed_sequences, row_of, allows, matched, scalar_value, first_by_row, first_of_utf8}
+use Rattle.normalizer_text.specs.declared.decoding_step.Step.{Step}
+use Rattle.normalizer_text.specs.DecodingSteps.{read, replacement_step}
+use Rattle.normalizer_text.specs.Utf8.{ByteRange, Row, continuation, well_formed_sequences, row_of, allows, matched_count, scalar_value, first_by_row, first_of_utf8}
 use Rattle.normalizer_text.specs.MaximalSubparts.{IsWithin, AreWithin, IsWellFormedSequence, BeginsSequence, IsMaximalSubpart, IsStepOfUtf8}
 use Rattle.normalizer_text.proofs.sequences.MatchLemmas.{allows-true, matched-le, AreWithin-matched}
 use Rattle.normalizer_text.proofs.sequences.RowLemmas.{Each, find-Each, row_of-IsRow, by_row-whole}
@@ -122,7 +122,7 @@ least_bytes [] h = tt
 least_bytes (r ∷ rs) h = ((omega arith, h.0), least_bytes rs h.1)
 
 -- the bytes that are matched can be completed
-completed : (rs : List ByteRange) (bs : List ℕ) → Each (λ t. t.least ≤ t.greatest) rs → (more : List ℕ) × AreWithin rs (take (matched rs bs) bs ++ more)
+completed : (rs : List ByteRange) (bs : List ℕ) → Each (λ t. t.least ≤ t.greatest) rs → (more : List ℕ) × AreWithin rs (take (matched_count rs bs) bs ++ more)
 completed [] bs h = ([], tt)
 completed (r ∷ rs) [] h = (map (λ t. t.least) (r ∷ rs), least_bytes (r ∷ rs) h)
 completed (r ∷ rs) (b ∷ bs) h = ⊎_elim
@@ -131,7 +131,7 @@ completed (r ∷ rs) (b ∷ bs) h = ⊎_elim
     (cases_Bool (allows r b))
 
 -- bytes that can be completed are matched
-matched-front : (rs : List ByteRange) (bs more : List ℕ) (k : ℕ) → k ≤ length bs → AreWithin rs (take k bs ++ more) → k ≤ matched rs bs
+matched-front : (rs : List ByteRange) (bs more : List ℕ) (k : ℕ) → k ≤ length bs → AreWithin rs (take k bs ++ more) → k ≤ matched_count rs bs
 matched-front rs bs more zero le h = omega arith
 matched-front rs [] more (suc k) le h = absurd (omega arith)
 matched-front [] (b ∷ bs) more (suc k) le h = absurd h
@@ -150,13 +150,13 @@ same_row b bs s r e =
     subst (λ t. AreWithin t.trail bs) same s.within.1
 
 -- a sequence in front matches its row
-matched-sequence : (b : ℕ) (bs : List ℕ) (k : ℕ) → IsWellFormedSequence (b ∷ take k bs) → (r : Row) → row_of b ≡ Some r → (matched r.trail bs ≡ length r.trail) × (length (take k bs) ≡ length r.trail)
+matched-sequence : (b : ℕ) (bs : List ℕ) (k : ℕ) → IsWellFormedSequence (b ∷ take k bs) → (r : Row) → row_of b ≡ Some r → (matched_count r.trail bs ≡ length r.trail) × (length (take k bs) ≡ length r.trail)
 matched-sequence b bs k s r e =
     let m = matched-AreWithin r.trail (take k bs) (drop k bs) (same_row b (take k bs) s r e) in
-    (ap (matched r.trail) (sym (take-append-drop k bs)) ∙ m.0, m.1)
+    (ap (matched_count r.trail) (sym (take-append-drop k bs)) ∙ m.0, m.1)
 
 -- no sequence is at the front if its row is not matched
-unmatched : (b : ℕ) (bs : List ℕ) → ((r : Row) → row_of b ≡ Some r → matched r.trail bs < length r.trail) → (n : ℕ) → IsWellFormedSequence (take n (b ∷ bs)) → ⊥
+unmatched : (b : ℕ) (bs : List ℕ) → ((r : Row) → row_of b ≡ Some r → matched_count r.trail bs < length r.trail) → (n : ℕ) → IsWellFormedSequence (take n (b ∷ bs)) → ⊥
 unmatched b bs short zero s = s.within
 unmatched b bs short (suc k) s =
     let e = row_of-sequence b (take k bs) s in
@@ -173,7 +173,7 @@ IsMaximalSubpart-one b bs none = record { some = omega arith; within = omega ari
     longest zero le s = omega arith
     longest (suc k) le s = absurd (no_row b none s.1.row (row_of-sequence b (take k bs ++ s.0) s.1))
 
-IsMaximalSubpart-matched : (b : ℕ) (bs : List ℕ) (r : Row) → row_of b ≡ Some r → IsMaximalSubpart (b ∷ bs) (suc (matched r.trail bs))
+IsMaximalSubpart-matched : (b : ℕ) (bs : List ℕ) (r : Row) → row_of b ≡ Some r → IsMaximalSubpart (b ∷ bs) (suc (matched_count r.trail bs))
 IsMaximalSubpart-matched b bs r e =
     let t = row_of-IsTableRow b r e in
     let le = matched-le r.trail bs in
@@ -185,7 +185,7 @@ IsMaximalSubpart-matched b bs r e =
       longest = longest;
     }
   where
-    longest : (m : ℕ) → m ≤ length (b ∷ bs) → BeginsSequence (take m (b ∷ bs)) → m ≤ suc (matched r.trail bs)
+    longest : (m : ℕ) → m ≤ length (b ∷ bs) → BeginsSequence (take m (b ∷ bs)) → m ≤ suc (matched_count r.trail bs)
     longest zero le s = omega arith
     longest (suc k) le s =
         let i = matched-front r.trail bs s.0 k (omega arith) (same_row b (take k bs ++ s.0) s.1 r e) in omega arith
@@ -200,9 +200,9 @@ IsStepOfUtf8-first (b ∷ bs) h = by_cases (IsStepOfUtf8 (b ∷ bs)) b bs
     IsStepOfUtf8.sequence (suc (length r.trail)) (omega arith)
     (record { row = r; listed = (row_of-IsTableRow b r e).listed; within = (lead-IsWithin b r e, AreWithin-matched r.trail bs m) }))
     (λ r e m.
-    let same : (s : Row) → row_of b ≡ Some s → matched s.trail bs < length s.trail = λ s f.
-    let k : r ≡ s = (let i : Some r ≡ Some s = sym e ∙ f in cc) in subst (λ t. matched t.trail bs < length t.trail) k m in
-    IsStepOfUtf8.subpart (suc (matched r.trail bs)) (unmatched b bs same) (IsMaximalSubpart-matched b bs r e))
+    let same : (s : Row) → row_of b ≡ Some s → matched_count s.trail bs < length s.trail = λ s f.
+    let k : r ≡ s = (let i : Some r ≡ Some s = sym e ∙ f in cc) in subst (λ t. matched_count t.trail bs < length t.trail) k m in
+    IsStepOfUtf8.subpart (suc (matched_count r.trail bs)) (unmatched b bs same) (IsMaximalSubpart-matched b bs r e))
 
 -- ---- no other
 
@@ -218,17 +218,17 @@ sequence_step b bs (suc k) le s =
     ap (λ n. read (scalar_value (b ∷ take n bs)) (suc n)) size
     ∙ sym (ap (λ o. first_by_row o b bs) e ∙ by_row-whole s.row b bs m.0)
 
-subpart_step : (b : ℕ) (bs : List ℕ) (n : ℕ) → ((m : ℕ) → IsWellFormedSequence (take m (b ∷ bs)) → ⊥) → IsMaximalSubpart (b ∷ bs) n → replaced n ≡ first_of_utf8 (b ∷ bs)
-subpart_step b bs n no_sequence maximal = by_cases (λ s. replaced n ≡ s) b bs
+subpart_step : (b : ℕ) (bs : List ℕ) (n : ℕ) → ((m : ℕ) → IsWellFormedSequence (take m (b ∷ bs)) → ⊥) → IsMaximalSubpart (b ∷ bs) n → replacement_step n ≡ first_of_utf8 (b ∷ bs)
+subpart_step b bs n no_sequence maximal = by_cases (λ s. replacement_step n ≡ s) b bs
     (λ none. same 1 (IsMaximalSubpart-one b bs none))
     (λ r e m. absurd (no_sequence (suc (length r.trail)) (record { row = r; listed = (row_of-IsTableRow b r e).listed; within = (lead-IsWithin b r e, AreWithin-matched r.trail bs m) })))
-    (λ r e m. same (suc (matched r.trail bs)) (IsMaximalSubpart-matched b bs r e))
+    (λ r e m. same (suc (matched_count r.trail bs)) (IsMaximalSubpart-matched b bs r e))
   where
-    same : (m : ℕ) → IsMaximalSubpart (b ∷ bs) m → replaced n ≡ replaced m
+    same : (m : ℕ) → IsMaximalSubpart (b ∷ bs) m → replacement_step n ≡ replacement_step m
     same m other =
         let up = maximal_le (b ∷ bs) n m maximal other in
         let down = maximal_le (b ∷ bs) m n other maximal in
-        let e : n ≡ m = omega arith in ap replaced e
+        let e : n ≡ m = omega arith in ap replacement_step e
 
 pub IsStepOfUtf8-only : (bytes : List ℕ) (s : Step) → 0 < length bytes → IsStepOfUtf8 bytes s → s ≡ first_of_utf8 bytes
 IsStepOfUtf8-only [] s h is = absurd (omega arith)

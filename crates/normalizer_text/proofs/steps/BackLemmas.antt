@@ -4,8 +4,8 @@ use Rattle.std.proofs.Common.{length, length-drop, length-append, length-take-le
 use Rattle.std.specs.Prelude.{slice_index}
 use Rattle.std.proofs.lemmas.List.{drop-drop, take_all, drop_all, append-nil, map-append, reverse-append, same_from_push}
 use Rattle.std.proofs.lemmas.Bool.{false_from_ne_true, cases_lt, cases_eq, true≢false}
-use Rattle.normalizer_text.specs.declared.step.Step.{Step}
-use Rattle.normalizer_text.specs.Steps.{steps, decoded, replaced, IsBoundary, IsLastStep, TakesLast, TakenFrom, Spells}
+use Rattle.normalizer_text.specs.declared.decoding_step.Step.{Step}
+use Rattle.normalizer_text.specs.DecodingSteps.{steps, decoded_text, replacement_step, IsBoundary, IsLastStep, TakesLast, TakenFrom, Spells}
 use Rattle.normalizer_text.specs.Encodings.{Encoding, first_in, trails_in, longest_step}
 use Rattle.normalizer_text.specs.inner.Backwards.{IsLastStart}
 use Rattle.normalizer_text.proofs.rules.Decoding.{IsDecoding, HasTrails}
@@ -75,7 +75,7 @@ module _ (e : Encoding) where
 
   -- ---- what the last step takes, and what it leaves
 
-  pub decoded-last : (us : List ℕ) (s : Step) → IsLastStep first us s → decoded first us ≡ decoded first (take (length us - s.width) us) ++ s.character ∷ []
+  pub decoded-last : (us : List ℕ) (s : Step) → IsLastStep first us s → decoded_text first us ≡ decoded_text first (take (length us - s.width) us) ++ s.character ∷ []
   decoded-last us s l = ap (map (λ s. s.character)) l.last ∙ map-append (λ s. s.character) (steps first (take (length us - s.width) us)) (s ∷ [])
 
   pub some-last : (us : List ℕ) (s : Step) → IsLastStep first us s → 0 < s.width
@@ -88,10 +88,10 @@ module _ (e : Encoding) where
       (cases_eq s.width 0)
 
   -- an iterator that takes the last step each time yields what the units decode to, from the back
-  pub Spells-TakesLast : (us : List ℕ) → Spells (TakesLast first) us (reverse (decoded first us))
+  pub Spells-TakesLast : (us : List ℕ) → Spells (TakesLast first) us (reverse (decoded_text first us))
   Spells-TakesLast us = by (length us) us (omega arith)
     where
-      by : (n : ℕ) (us : List ℕ) → length us ≤ n → Spells (TakesLast first) us (reverse (decoded first us))
+      by : (n : ℕ) (us : List ℕ) → length us ≤ n → Spells (TakesLast first) us (reverse (decoded_text first us))
       by n [] h = subst (Spells (TakesLast first) []) (sym (ap reverse (decoded-nil e))) (λ x j p.
           absurd (let f = p.1.fits in let z = some-last [] p.0 p.1 in omega arith))
       by zero (u ∷ us) h = absurd (omega arith)
@@ -100,15 +100,15 @@ module _ (e : Encoding) where
           let found = last-step us' (omega arith) in
           let q = found.0 in
           let at = found.1 in
-          let whole : decoded first us' ≡ decoded first (take q us') ++ (first (drop q us')).character ∷ [] =
+          let whole : decoded_text first us' ≡ decoded_text first (take q us') ++ (first (drop q us')).character ∷ [] =
           ap (map (λ s. s.character)) at.last ∙ map-append (λ s. s.character) (steps first (take q us')) (first (drop q us') ∷ []) in
-          subst (Spells (TakesLast first) us') (sym (ap reverse whole ∙ reverse-append (decoded first (take q us')) ((first (drop q us')).character ∷ []))) (
+          subst (Spells (TakesLast first) us') (sym (ap reverse whole ∙ reverse-append (decoded_text first (take q us')) ((first (drop q us')).character ∷ []))) (
             (λ j p. absurd (let k : length us' ≡ 0 = ap length p.0 in omega arith)),
             λ x j p.
                 let back = decoded-last us' p.0 p.1 in
                 let both = same_from_push _ _ _ _ (sym whole ∙ back) in (
                   p.2 ∙ sym both.1,
-                  subst (λ y. Spells (TakesLast first) y (reverse (decoded first (take q us')))) (sym p.3)
+                  subst (λ y. Spells (TakesLast first) y (reverse (decoded_text first (take q us')))) (sym p.3)
                       (subst (λ y. Spells (TakesLast first) (take (length us' - p.0.width) us') (reverse y)) (sym both.0)
                       (by n (take (length us' - p.0.width) us') (omega (arith, some-last us' p.0 p.1, length-take-le (length us' - p.0.width) us' (omega arith))))),
                 ),
@@ -116,18 +116,18 @@ module _ (e : Encoding) where
 
   -- ---- from both ends
 
-  pub decoded-TakenFrom : {us x rest y : List ℕ} → TakenFrom first us x rest y → decoded first us ≡ x ++ decoded first rest ++ y
-  decoded-TakenFrom {us = us} TakenFrom.none = sym (append-nil (decoded first us))
+  pub decoded-TakenFrom : {us x rest y : List ℕ} → TakenFrom first us x rest y → decoded_text first us ≡ x ++ decoded_text first rest ++ y
+  decoded-TakenFrom {us = us} TakenFrom.none = sym (append-nil (decoded_text first us))
   decoded-TakenFrom (TakenFrom.front x rest y c left t p) =
-      let some : decoded first rest ≡ c ∷ decoded first left =
-      decoded-some e rest p.0 ∙ ap (λ z. z ∷ decoded first (drop (first rest).width rest)) (sym p.1) ∙ ap (λ z. c ∷ decoded first z) (sym p.2) in
-      decoded-TakenFrom t ∙ ap (λ z. x ++ z ++ y) some ∙ ap (λ z. z ++ y) (sym (append_assoc x (c ∷ []) (decoded first left)))
+      let some : decoded_text first rest ≡ c ∷ decoded_text first left =
+      decoded-some e rest p.0 ∙ ap (λ z. z ∷ decoded_text first (drop (first rest).width rest)) (sym p.1) ∙ ap (λ z. c ∷ decoded_text first z) (sym p.2) in
+      decoded-TakenFrom t ∙ ap (λ z. x ++ z ++ y) some ∙ ap (λ z. z ++ y) (sym (append_assoc x (c ∷ []) (decoded_text first left)))
   decoded-TakenFrom (TakenFrom.back x rest y c left t p) =
-      let some : decoded first rest ≡ decoded first left ++ c ∷ [] =
-      decoded-last rest p.0 p.1 ∙ ap (λ z. decoded first (take (length rest - p.0.width) rest) ++ z ∷ []) (sym p.2) ∙ ap (λ z. decoded first z ++ c ∷ []) (sym p.3) in
+      let some : decoded_text first rest ≡ decoded_text first left ++ c ∷ [] =
+      decoded-last rest p.0 p.1 ∙ ap (λ z. decoded_text first (take (length rest - p.0.width) rest) ++ z ∷ []) (sym p.2) ∙ ap (λ z. decoded_text first z ++ c ∷ []) (sym p.3) in
       decoded-TakenFrom t ∙ ap (λ z. x ++ z ++ y) some
-      ∙ ap (λ z. z ++ y) (sym (append_assoc x (decoded first left) (c ∷ [])))
-      ∙ append_assoc (x ++ decoded first left) (c ∷ []) y
+      ∙ ap (λ z. z ++ y) (sym (append_assoc x (decoded_text first left) (c ∷ [])))
+      ∙ append_assoc (x ++ decoded_text first left) (c ∷ []) y
 
   -- ---- which unit the last step begins with
 
@@ -179,7 +179,7 @@ module _ (e : Encoding) where
       let there : 0 < length (drop p us) = omega arith in
       let front : length us - (first (drop p us)).width ≡ p = omega arith in
       let lead : 0 < p → p < length us → trails (get_or us p 0) ≡ false = λ some _. ⊎_elim (λ low. s.at low) (λ high. false_from_ne_true (trails (get_or us p 0)) (λ trail.
-      let one : first (drop p us) ≡ replaced 1 = t.alone (drop p us) there (ap trails (get_or-drop p us 0 0 ∙ ap (λ i. get_or us i 0) (plus-zero p)) ∙ trail) in
+      let one : first (drop p us) ≡ replacement_step 1 = t.alone (drop p us) there (ap trails (get_or-drop p us 0 0 ∙ ap (λ i. get_or us i 0) (plus-zero p)) ∙ trail) in
       let width = ap (λ s. s.width) one in
       absurd (omega arith))) (cases_lt (length us - longest_step) p) in
       record {
@@ -192,7 +192,7 @@ module _ (e : Encoding) where
       }
 
   -- and if it doesn't: the last unit alone is an error
-  IsLastStep-alone : (us : List ℕ) (p : ℕ) → IsLastStart trails us p → ((first (drop p us)).width ≡ length us - p → ⊥) → IsLastStep first us (replaced 1)
+  IsLastStep-alone : (us : List ℕ) (p : ℕ) → IsLastStart trails us p → ((first (drop p us)).width ≡ length us - p → ⊥) → IsLastStep first us (replacement_step 1)
   IsLastStep-alone us p s ne =
       let below = s.below in
       let low = s.low in
@@ -210,18 +210,18 @@ module _ (e : Encoding) where
       let differ : q ≡ p → ⊥ = λ same. ne (ap (λ i. (first (drop i us)).width) (sym same) ∙ ends ∙ ap (λ i. length us - i) same) in
       let after : p < q = ⊎_elim (λ yes. yes) (λ no. absurd (true≢false (sym (inside p (omega (arith, differ)) below) ∙ s.at (omega (arith, differ))))) (cases_lt p q) in
       let there : 0 < length (drop q us) = omega (arith, length-drop q us) in
-      let alone : first (drop q us) ≡ replaced 1 = t.alone (drop q us) there (ap trails (get_or-drop q us 0 0 ∙ ap (λ i. get_or us i 0) (plus-zero q)) ∙ s.after q after under) in
+      let alone : first (drop q us) ≡ replacement_step 1 = t.alone (drop q us) there (ap trails (get_or-drop q us 0 0 ∙ ap (λ i. get_or us i 0) (plus-zero q)) ∙ s.after q after under) in
       let one : length us - 1 ≡ q = (let k = ap (λ s. s.width) alone in omega arith) in
       record {
         fits = omega arith;
         last = at.last
             ∙ ap (λ x. steps first (take q us) ++ x ∷ []) alone
-            ∙ ap (λ i. steps first (take i us) ++ replaced 1 ∷ []) (sym one);
+            ∙ ap (λ i. steps first (take i us) ++ replacement_step 1 ∷ []) (sym one);
       }
 
   -- the same of a step that was found there, and of the one that is then the last
   pub IsLastStep-found : (us : List ℕ) (p n : ℕ) (s : Step) → IsLastStart trails us p → n ≡ length us → s ≡ first (drop p us) → s.width ≡ n - p → IsLastStep first us s
   IsLastStep-found us p n s l all is w = subst (IsLastStep first us) (sym is) (IsLastStep-whole us p l (sym (ap (λ s. s.width) is) ∙ w ∙ ap (λ n. n - p) all))
 
-  pub IsLastStep-other : (us : List ℕ) (p n : ℕ) (s r : Step) → IsLastStart trails us p → n ≡ length us → s ≡ first (drop p us) → (s.width ≡ n - p → ⊥) → r ≡ replaced 1 → IsLastStep first us r
+  pub IsLastStep-other : (us : List ℕ) (p n : ℕ) (s r : Step) → IsLastStart trails us p → n ≡ length us → s ≡ first (drop p us) → (s.width ≡ n - p → ⊥) → r ≡ replacement_step 1 → IsLastStep first us r
   IsLastStep-other us p n s r l all is w one = subst (IsLastStep first us) (sym one) (IsLastStep-alone us p l (λ k. w (ap (λ s. s.width) is ∙ k ∙ sym (ap (λ n. n - p) all))))

@@ -6,8 +6,8 @@ use Rattle.std.proofs.lemmas.List.{append-nil, take_at, drop_at, drop-drop, map-
 use Rattle.std.proofs.lemmas.Bool.{cases_lt}
 use Rattle.std.specs.List.{slice_range}
 use Rattle.std.proofs.lemmas.List.Elements.{All-take, All-drop, All-same}
-use Rattle.normalizer_text.specs.declared.step.Step.{Step}
-use Rattle.normalizer_text.specs.Steps.{steps, width_of, IsBoundary, IsFirstStep, IsLastStep, IsWellFormed, decoded}
+use Rattle.normalizer_text.specs.declared.decoding_step.Step.{Step}
+use Rattle.normalizer_text.specs.DecodingSteps.{steps, width_of, IsBoundary, IsFirstStep, IsLastStep, IsWellFormed, decoded_text}
 use Rattle.normalizer_text.specs.Encodings.{Encoding, first_in}
 use Rattle.normalizer_text.proofs.rules.EncodingRules.{IsDecoding-first}
 use Rattle.normalizer_text.proofs.steps.StepLemmas.{IsRight, steps-nil, steps-some, steps-apart, rest-shorter, steps-append}
@@ -149,21 +149,21 @@ module _ (e : Encoding) where
       )
 
   -- the text of the two parts
-  pub decoded-take-drop : (us : List ℕ) (n : ℕ) → IsBoundary first us n → decoded first us ≡ decoded first (take n us) ++ decoded first (drop n us)
+  pub decoded-take-drop : (us : List ℕ) (n : ℕ) → IsBoundary first us n → decoded_text first us ≡ decoded_text first (take n us) ++ decoded_text first (drop n us)
   decoded-take-drop us n b = ap (map (λ s. s.character)) (steps-take-drop us n b) ∙ map-append (λ s. s.character) (steps first (take n us)) (steps first (drop n us))
 
   -- the text of the three parts at two positions
   pub decoded-between : (us : List ℕ) (n m : ℕ) → IsBoundary first us n → IsBoundary first us m → n ≤ m
-      → decoded first us ≡ decoded first (take n us) ++ decoded first (slice_range us n m) ++ decoded first (drop m us)
+      → decoded_text first us ≡ decoded_text first (take n us) ++ decoded_text first (slice_range us n m) ++ decoded_text first (drop m us)
   decoded-between us n m b c le =
-      let front = decoded first (take n us) in
-      let middle = decoded first (slice_range us n m) in
+      let front = decoded_text first (take n us) in
+      let middle = decoded_text first (slice_range us n m) in
       let place : n + (m - n) ≡ m = omega arith in
       let behind : drop (m - n) (drop n us) ≡ drop m us = drop-drop (m - n) n us ∙ ap (λ i. drop i us) place in
       decoded-take-drop us n b
       ∙ ap (λ l. front ++ l) (decoded-take-drop (drop n us) (m - n) (boundary-between us n m b c le))
-      ∙ ap (λ l. front ++ (middle ++ decoded first l)) behind
-      ∙ sym (append_assoc front middle (decoded first (drop m us)))
+      ∙ ap (λ l. front ++ (middle ++ decoded_text first l)) behind
+      ∙ sym (append_assoc front middle (decoded_text first (drop m us)))
 
   -- a step ends with well-formed units
   pub boundary-well_formed : (us : List ℕ) (n : ℕ) → n ≤ length us → IsWellFormed first (take n us) → IsBoundary first us n

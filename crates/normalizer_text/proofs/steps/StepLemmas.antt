@@ -4,8 +4,8 @@ use Rattle.std.specs.Prelude.{◌↔◌, All}
 use Rattle.std.specs.Char.{IsScalar}
 use Rattle.std.proofs.lemmas.List.{drop-drop, drop-take, drop-append-le, map-append}
 use Rattle.std.proofs.lemmas.List.Elements.{All-nil, All-cons, All-head, All-tail, All-same}
-use Rattle.normalizer_text.specs.declared.step.Step.{Step}
-use Rattle.normalizer_text.specs.Steps.{steps_past, steps, decoded, Decodes, IsWellFormed, width_of, TakesFirst, Spells}
+use Rattle.normalizer_text.specs.declared.decoding_step.Step.{Step}
+use Rattle.normalizer_text.specs.DecodingSteps.{steps_past, steps, decoded_text, Decodes, IsWellFormed, width_of, TakesFirst, Spells}
 use Rattle.normalizer_text.specs.Encodings.{Encoding, first_in}
 use Rattle.normalizer_text.proofs.rules.Decoding.{IsDecoding}
 use Rattle.normalizer_text.proofs.rules.EncodingRules.{IsDecoding-first}
@@ -31,7 +31,7 @@ module _ (e : Encoding) where
   unfolding steps_past
   steps-nil = refl
 
-  pub decoded-nil : decoded first [] ≡ []
+  pub decoded-nil : decoded_text first [] ≡ []
   decoded-nil = ap (map (λ s. s.character)) steps-nil
 
   steps-cons : (u : ℕ) (us : List ℕ) → 0 < (first (u ∷ us)).width → steps first (u ∷ us) ≡ first (u ∷ us) ∷ steps first (drop (first (u ∷ us)).width (u ∷ us))
@@ -47,7 +47,7 @@ module _ (e : Encoding) where
   steps-some [] h = absurd (omega arith)
   steps-some (u ∷ us) h = steps-cons u us (d.some (u ∷ us) h)
 
-  pub decoded-some : (us : List ℕ) → 0 < length us → decoded first us ≡ (first us).character ∷ decoded first (drop (first us).width us)
+  pub decoded-some : (us : List ℕ) → 0 < length us → decoded_text first us ≡ (first us).character ∷ decoded_text first (drop (first us).width us)
   decoded-some us h = ap (map (λ s. s.character)) (steps-some us h)
 
   -- what the step in front leaves is shorter
@@ -55,42 +55,42 @@ module _ (e : Encoding) where
   rest-shorter us n h l = omega (arith, length-drop (first us).width us, d.some us h)
 
   -- an iterator that takes the first step each time yields what the units decode to
-  pub Spells-TakesFirst : (us : List ℕ) → Spells (TakesFirst first) us (decoded first us)
+  pub Spells-TakesFirst : (us : List ℕ) → Spells (TakesFirst first) us (decoded_text first us)
   Spells-TakesFirst us = by (length us) us (omega arith)
     where
-      by : (n : ℕ) (us : List ℕ) → length us ≤ n → Spells (TakesFirst first) us (decoded first us)
+      by : (n : ℕ) (us : List ℕ) → length us ≤ n → Spells (TakesFirst first) us (decoded_text first us)
       by n [] h = subst (Spells (TakesFirst first) []) (sym decoded-nil) (λ x j p. absurd (omega (arith, p.0)))
       by zero (u ∷ us) h = absurd (omega arith)
       by (suc n) (u ∷ us) h = subst (Spells (TakesFirst first) (u ∷ us)) (sym (decoded-some (u ∷ us) (omega arith))) (
         (λ j p. absurd (let k : length (u ∷ us) ≡ 0 = ap length p.0 in omega arith)),
         λ x j p. (
           p.1,
-          subst (λ y. Spells (TakesFirst first) y (decoded first (drop (first (u ∷ us)).width (u ∷ us)))) (sym p.2)
+          subst (λ y. Spells (TakesFirst first) y (decoded_text first (drop (first (u ∷ us)).width (u ∷ us)))) (sym p.2)
               (by n (drop (first (u ∷ us)).width (u ∷ us)) (rest-shorter (u ∷ us) n (omega arith) h)),
         ),
       )
 
   -- ---- the relation and the function
 
-  pub Decodes-decoded : (us : List ℕ) → Decodes first us (decoded first us)
+  pub Decodes-decoded : (us : List ℕ) → Decodes first us (decoded_text first us)
   Decodes-decoded us = by (length us) us (omega arith)
     where
-      by : (n : ℕ) (us : List ℕ) → length us ≤ n → Decodes first us (decoded first us)
+      by : (n : ℕ) (us : List ℕ) → length us ≤ n → Decodes first us (decoded_text first us)
       by n [] h = subst (Decodes first []) (sym decoded-nil) Decodes.nothing
       by zero (u ∷ us) h = absurd (omega arith)
       by (suc n) (u ∷ us) h = subst (Decodes first (u ∷ us)) (sym (decoded-some (u ∷ us) (omega arith)))
           (Decodes.step u us _ (by n (drop (first (u ∷ us)).width (u ∷ us)) (rest-shorter (u ∷ us) n (omega arith) h)))
 
-  pub decoded_from_Decodes : {us x : List ℕ} → Decodes first us x → x ≡ decoded first us
+  pub decoded_from_Decodes : {us x : List ℕ} → Decodes first us x → x ≡ decoded_text first us
   decoded_from_Decodes Decodes.nothing = sym decoded-nil
   decoded_from_Decodes (Decodes.step u us x h) = ap (λ y. (first (u ∷ us)).character ∷ y) (decoded_from_Decodes h) ∙ sym (decoded-some (u ∷ us) (omega arith))
 
   -- ---- each decoded character is a scalar value
 
-  pub decoded-IsText : (us : List ℕ) → All IsScalar (decoded first us)
+  pub decoded-IsText : (us : List ℕ) → All IsScalar (decoded_text first us)
   decoded-IsText us = by (length us) us (omega arith)
     where
-      by : (n : ℕ) (us : List ℕ) → length us ≤ n → All IsScalar (decoded first us)
+      by : (n : ℕ) (us : List ℕ) → length us ≤ n → All IsScalar (decoded_text first us)
       by n [] h = All-same IsScalar _ _ decoded-nil (All-nil IsScalar)
       by zero (u ∷ us) h = absurd (omega arith)
       by (suc n) (u ∷ us) h = All-same IsScalar _ _ (decoded-some (u ∷ us) (omega arith))
@@ -166,8 +166,8 @@ module _ (e : Encoding) where
 
   -- ---- what the public laws say
 
-  pub Decodes-iff : (units x : List ℕ) → Decodes first units x ↔ (x ≡ decoded first units)
+  pub Decodes-iff : (units x : List ℕ) → Decodes first units x ↔ (x ≡ decoded_text first units)
   Decodes-iff units x = (decoded_from_Decodes, λ same. subst (Decodes first units) (sym same) (Decodes-decoded units))
 
-  pub decoded-append : (front rest : List ℕ) → IsWellFormed first front → decoded first (front ++ rest) ≡ decoded first front ++ decoded first rest
+  pub decoded-append : (front rest : List ℕ) → IsWellFormed first front → decoded_text first (front ++ rest) ≡ decoded_text first front ++ decoded_text first rest
   decoded-append front rest w = ap (map (λ s. s.character)) (steps-append front rest w) ∙ map-append (λ s. s.character) (steps first front) (steps first rest)

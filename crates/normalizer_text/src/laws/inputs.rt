@@ -11,7 +11,7 @@ ghost use Rattle.normal_forms.specs.Forms.{normal_form, IsNormalized};
 ghost use Rattle.normal_forms.specs.Cut.{QualifiesForCut, IsCut, IsCommonFront, IsFront};
 ghost use Rattle.normal_forms.specs.Offence.{IsFirstOffence};
 ghost use Rattle.normal_forms.specs.Hypotheses.{HasNonemptyLists, HasScalarResults, HasTextLists, SuitsForm};
-ghost use Rattle.normalizer_text.specs.Steps.{IsWellFormed, IsBoundary};
+ghost use Rattle.normalizer_text.specs.DecodingSteps.{IsWellFormed, IsBoundary};
 ghost use Rattle.normalizer_text.specs.Encodings.{Encoding, first_in, encoded_in, decoded_in};
 ghost use Rattle.normalizer_text.specs.InputCut.{IsInputNormalized, QualifiesForInputCut, IsInputCut};
 ghost use Rattle.normalizer_text.specs.InputCut.{characters_before, IsErrorFreeBoundary, IsErrorAt};

@@ -1,6 +1,6 @@
 use Rattle.std.proofs.Common.{◌-◌, ◌<◌, length}
 use Rattle.normalizer_text.specs.Encodings.{first_in}
-use Rattle.normalizer_text.specs.Steps.{IsBoundary}
+use Rattle.normalizer_text.specs.DecodingSteps.{IsBoundary}
 use Rattle.icu_normalizer.proofs.runs.front_segment.Given as goal
 
 abbrev pub invariant-loop-end : goal.invariant-loop-end

@@ -6,7 +6,7 @@ use Rattle.icu_normalizer.proofs.runs.kept_end.Given as goal
 
 abbrev pub invariant-loop-end : goal.invariant-loop-end
 invariant-loop-end g l =
-    let m = g.N.Forming.made l.normalizer in IsKeptTo g.U.Units.encoding m.reading m.form (g.U.Units.units l.units) l.end
+    let m = g.N.Forming.made_form l.normalizer in IsKeptTo g.U.Units.encoding m.reading m.form (g.U.Units.units l.units) l.end
     × IfSome l.first (λ first. first ≡ first_in g.U.Units.encoding (drop l.end (g.U.Units.units l.units)))
 
 abbrev pub decreases-loop-end : goal.decreases-loop-end

@@ -6,7 +6,7 @@ use Rattle.icu_normalizer.proofs.writing.form_of_pair.Goals as goal
 
 pub returns : goal.returns
 returns g c =
-    let m = g.N.Forming.made c.args.normalizer.now in
+    let m = g.N.Forming.made_form c.args.normalizer.now in
     let two = decoded-two g.U.Units.encoding _ c.args.first c.step_at-second.result c.requires.some c.requires.first c.step_at-second.ensures
     (omega (arith, c.len.ensures, c.if-first-len.false))
     (c.if-second-len.false ∙ ap (λ n. n - c.args.first.width) c.len-2.ensures) in

@@ -1,12 +1,12 @@
 use Rattle.std.proofs.Common.{length}
-use Rattle.normalizer_iterators.specs.MarkRun.{left}
+use Rattle.normalizer_iterators.specs.CharactersLeft.{characters_left}
 use Rattle.icu_normalizer.proofs.written_forms.MemberLemmas.{list_gives}
 use Rattle.icu_normalizer.proofs.written_forms.WritingLemmas.{WroteSoFar}
 use Rattle.icu_normalizer.proofs.writing.write_marks.Given as goal
 
 abbrev pub invariant-loop-character : goal.invariant-loop-character
 invariant-loop-character g l =
-    WroteSoFar g.U.Units.encoding g.O.Output list_gives (left l.fn.run) l.initial.output (left l.run) l.output
+    WroteSoFar g.U.Units.encoding g.O.Output list_gives (characters_left l.fn.run) l.initial.output (characters_left l.run) l.output
 
 abbrev pub decreases-loop-character : goal.decreases-loop-character
-decreases-loop-character g l = length (left l.run)
+decreases-loop-character g l = length (characters_left l.run)

@@ -7,7 +7,7 @@ use Rattle.icu_normalizer.proofs.writing.write_segment.Goals as goal
 pub returns-in-Some-clause-text : goal.returns-in-Some-clause-text
 returns-in-Some-clause-text g c =
     let one = decoded-one g.U.Units.encoding _ c.args.first c.requires.some c.requires.first (c.if-first-len.true ∙ c.len.ensures) in
-    let same = c.in-Some.ensures ∙ ap (normal_form (g.N.Forming.made c.args.normalizer.now).reading (g.N.Forming.made c.args.normalizer.now).form) (sym one) in
+    let same = c.in-Some.ensures ∙ ap (normal_form (g.N.Forming.made_form c.args.normalizer.now).reading (g.N.Forming.made_form c.args.normalizer.now).form) (sym one) in
     WritesText-same same c.write_members.ensures.text
 
 pub returns-in-Some-form_of_pair-clause-text : goal.returns-in-Some-form_of_pair-clause-text

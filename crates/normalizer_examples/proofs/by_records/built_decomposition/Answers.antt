@@ -2,7 +2,7 @@ use Rattle.normalizer_tables.specs.declared.provider.DataMarkerInfo.TheVariants.
 use Rattle.icu_normalizer.specs.StepData.{RefusesSteps}
 use Rattle.normalizer_tables.specs.declared.entry.Kind.TheVariants.{Canonical}
 use Rattle.normalizer_packing.specs.ReadBack.{characters_of}
-use Rattle.normalizer_built.proofs.AcceptedData.{IsOkUnless-memory}
+use Rattle.normalizer_built.proofs.MemoryAlone.{IsOkUnless-memory}
 use Rattle.normalizer_examples.proofs.by_records.built_decomposition.Goals as goal
 
 pub returns-clause-refused : goal.returns-clause-refused

@@ -4,8 +4,8 @@ use Rattle.normalizer_io.proofs.transfer.read_by.Given as goal
 
 abbrev pub invariant-loop-count : goal.invariant-loop-count
 invariant-loop-count g l = record {
-  read : Consumes (g.R.Source.left l.fn.reader) (g.R.Source.left l.reader) l.bytes.items;
-  ahead : (later : _) → g.R.Source.refused l.reader later → g.R.Source.refused l.fn.reader later;
+  read : Consumes (g.R.Source.bytes_left l.fn.reader) (g.R.Source.bytes_left l.reader) l.bytes.items;
+  ahead : (later : _) → g.R.Source.refusal l.reader later → g.R.Source.refusal l.fn.reader later;
 }
 
 -- the room that is left in the Vec

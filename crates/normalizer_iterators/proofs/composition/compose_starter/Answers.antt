@@ -6,7 +6,7 @@ use Rattle.normalizer_tables.specs.declared.characters.IgnoredCharacters.TheVari
 use Rattle.normalizer_iterators.specs.declared.waiting.ClassedChar.{ClassedChar}
 use Rattle.normal_forms.specs.Boundary.{BeginsAtBoundary}
 use Rattle.normalizer_iterators.specs.LazyComposing.{SuitsLazyComposing}
-use Rattle.normalizer_iterators.proofs.passthrough.PassthroughItems.{IsAtPassthrough-stands, BeginsAtBoundary-to_come}
+use Rattle.normalizer_iterators.proofs.passthrough.PassthroughItemLemmas.{IsAtPassthrough-stands, BeginsAtBoundary-to_come}
 use Rattle.normalizer_iterators.proofs.composing.StarterLemmas.{YieldsShort-no_fault, ComposedSoFar-none, ComposedSoFar-joined, ComposedSoFar-stays, ComposedSoFar-no_room, ComposesStarter-starts}
 use Rattle.normalizer_iterators.proofs.composing.StarterLemmas.{ComposesStarter-ends, ComposesStarter-passes}
 use Rattle.normalizer_iterators.proofs.composition.compose_starter.Goals as goal

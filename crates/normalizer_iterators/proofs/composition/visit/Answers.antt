@@ -3,7 +3,7 @@ use Rattle.std.proofs.lemmas.Result.{err_from_is_err_and}
 use Rattle.normal_forms.specs.ShortRuns.{buffer_limit}
 use Rattle.normalizer_tables.specs.declared.characters.IgnoredCharacters.TheVariants.{Dropped}
 use Rattle.normalizer_tables.specs.Readings.{reading_by}
-use Rattle.normalizer_iterators.specs.StayingMarks.{used}
+use Rattle.normalizer_iterators.specs.StayingMarks.{mark_count}
 use Rattle.normalizer_iterators.proofs.reads.LazyLemmas.{too_many, class-reading_by}
 use Rattle.normalizer_iterators.proofs.composing.ComposingLemmas.{pair-reading_by}
 use Rattle.normalizer_iterators.proofs.composition.visit.Goals as goal
@@ -36,6 +36,6 @@ returns-clause-ok c = λ s known blocks.
 
 pub returns-in_err-push-clause-err : goal.returns-in_err-push-clause-err
 returns-in_err-push-clause-err c =
-    let full = too_many (used c.args.marks.now + 1) buffer_limit (λ room. c.in_err-push.ensures.succeeds (omega arith)) in
+    let full = too_many (mark_count c.args.marks.now + 1) buffer_limit (λ room. c.in_err-push.ensures.succeeds (omega arith)) in
     let exit = err_from_is_err_and c.from_residual.result c.from_residual.ensures.1 in
     rw exit.1 (omega arith, omega (arith, c.if-given-eq0.false))

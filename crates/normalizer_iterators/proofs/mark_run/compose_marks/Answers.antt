@@ -2,7 +2,7 @@ use Rattle.std.proofs.Common.{arith, ◌∙◌}
 use Rattle.normalizer_tables.specs.Readings.{reading_by}
 use Rattle.normalizer_tables.specs.declared.characters.IgnoredCharacters.TheVariants.{Dropped}
 use Rattle.normalizer_iterators.proofs.reads.LazyLemmas.{class-reading_by}
-use Rattle.normalizer_iterators.proofs.segments.MarkRunLemmas.{ComposedMarks-all, ComposedMarks-first, ComposedMarks-joined, ComposedMarks-stays}
+use Rattle.normalizer_iterators.proofs.segments.BufferedMarks.{ComposedMarks-all, ComposedMarks-first, ComposedMarks-joined, ComposedMarks-stays}
 use Rattle.normalizer_iterators.proofs.mark_run.compose_marks.Goals as goal
 
 pub loop-given-init : goal.loop-given-init

@@ -1,10 +1,10 @@
-use Rattle.std.proofs.Common.{◌∷◌, ◌++◌, [], arith, sym, ap, ◌∙◌}
+use Rattle.std.proofs.Common.{◌++◌, [], arith, sym, ap, ◌∙◌}
 use Rattle.normalizer_tables.specs.Readings.{reading_by}
 use Rattle.normalizer_tables.specs.Ignored.{ignored_list}
 use Rattle.normalizer_text.proofs.steps.StepBoundaries.{step-some}
-use Rattle.normalizer_iterators.specs.WaitingList.{reordered}
+use Rattle.normalizer_iterators.specs.WaitingList.{reordered_text}
 use Rattle.normalizer_iterators.proofs.reads.LazyLemmas.{class-reading_by, list-reading_by}
-use Rattle.normalizer_iterators.proofs.segments.MarkRunLemmas.{IsReadTo-all, IsReadTo-more}
+use Rattle.normalizer_iterators.proofs.segments.BufferedMarks.{IsReadTo-all, IsReadTo-more}
 use Rattle.normalizer_iterators.proofs.mark_run.read_marks.Goals as goal
 
 pub overflow_add-place : goal.overflow_add-place
@@ -26,7 +26,7 @@ loop-place-preserved g c =
     let class = c.in-Some.ensures.class ∙ sym (class-reading_by s c.args.ignored [] mark) in
     let before = c.loop-place.invariant in
     IsReadTo-more d g.U.Units.encoding (g.U.Units.units c.args.units) c.loop-place.place c.step_at-step.result c.loop-place.waiting _ before (omega (arith, c.len.ensures)) c.step_at-step.ensures
-    (λ rest. ap (λ l. reordered d c.loop-place.waiting (l ++ rest)) own ∙ c.in_ok-push_mark.ensures.text d rest)
+    (λ rest. ap (λ l. reordered_text d c.loop-place.waiting (l ++ rest)) own ∙ c.in_ok-push_mark.ensures.text d rest)
     (c.in_ok-push_mark.ensures.classes d before.agrees class)
 
 pub returns-clause-text : goal.returns-clause-text

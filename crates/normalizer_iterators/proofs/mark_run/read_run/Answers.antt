@@ -1,7 +1,7 @@
-use Rattle.std.proofs.Common.{[], ◌∙◌}
+use Rattle.std.proofs.Common.{[]}
 use Rattle.normalizer_tables.specs.Readings.{reading_by}
 use Rattle.normalizer_iterators.proofs.reads.LazyLemmas.{class-reading_by}
-use Rattle.normalizer_iterators.proofs.segments.MarkRunLemmas.{IsReadTo-first}
+use Rattle.normalizer_iterators.proofs.segments.BufferedMarks.{IsReadTo-first}
 use Rattle.normalizer_iterators.proofs.mark_run.read_run.Goals as goal
 
 pub read_marks-requires : goal.read_marks-requires

@@ -1,6 +1,6 @@
 use Rattle.std.proofs.Common.{map, take}
 use Rattle.icu_normalizer.specs.Mappers.{mapper_data_of_borrowed}
-use Rattle.normalizer_program.specs.Labels.{TellsKept}
+use Rattle.normalizer_program.specs.KeptFields.{TellsKept}
 use Rattle.normalizer_program.proofs.mapping.labelled.Given as goal
 
 abbrev pub invariant-loop-field : goal.invariant-loop-field

@@ -2,7 +2,7 @@ use Rattle.std.proofs.Common.{◌≡◌, ◌↔◌, ◌==◌, ℕ, false, IsTrue
 use Rattle.std.proofs.lemmas.Bool.Decides.{Decides-eqb, Decides-or}
 use Rattle.normalizer_records.specs.Faults.{HasWrongClass, HasLongList, IsTooLong, IsWrong}
 use Rattle.normalizer_records.specs.Recorded.{entry_for}
-use Rattle.normalizer_records.proofs.checked_lists.CutLists.{MayStandFor-short, MayStandFor-some}
+use Rattle.normalizer_records.proofs.checked_lists.ChecksOfCuts.{MayStandFor-short, MayStandFor-some}
 use Rattle.normalizer_records.proofs.checked_lists.OrLemmas.{any_decides}
 use Rattle.normalizer_records.proofs.list_faults.checked_entry.Goals as goal
 

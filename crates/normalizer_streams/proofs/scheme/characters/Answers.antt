@@ -1,6 +1,6 @@
 use Rattle.std.proofs.lemmas.Iterator.{items_from_collect}
 use Rattle.normalizer_text.specs.Encodings.{first_in}
-use Rattle.normalizer_text.specs.Steps.{TakesFirst}
+use Rattle.normalizer_text.specs.DecodingSteps.{TakesFirst}
 use Rattle.normalizer_streams.proofs.scheme.characters.Goals as goal
 
 pub returns : goal.returns

@@ -1,5 +1,5 @@
 use Rattle.std.proofs.Common.{sym, ◌∙◌}
-use Rattle.normalizer_streams.proofs.RunLemmas.{continues_unless_safe}
+use Rattle.normalizer_streams.proofs.ContinuedRuns.{continues_unless_safe}
 use Rattle.normalizer_streams.proofs.settled.has_boundary_before.Goals as goal
 
 pub returns-in-Composing-clause-continues : goal.returns-in-Composing-clause-continues

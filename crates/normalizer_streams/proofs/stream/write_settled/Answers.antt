@@ -1,7 +1,7 @@
 use Rattle.std.proofs.Common.{arith}
 use Rattle.normalizer_streams.specs.Streams.{form_by, may_continue}
 use Rattle.normalizer_streams.proofs.MoveLemmas.{IsCutAnyway-settled, Moves-none, Moves-settled, OnErr-always}
-use Rattle.normalizer_streams.proofs.RunLemmas.{IsRun-last, IsRun-more}
+use Rattle.normalizer_streams.proofs.ContinuedRuns.{IsRun-last, IsRun-more}
 use Rattle.normalizer_streams.proofs.stream.write_settled.Goals as goal
 
 pub returns-in_err-write_form_of-clause-front : goal.returns-in_err-write_form_of-clause-front

@@ -1,5 +1,5 @@
 use Rattle.std.proofs.Common.{◌∙◌, sym, ap}
-use Rattle.normalizer_text.specs.Steps.{read}
+use Rattle.normalizer_text.specs.DecodingSteps.{read}
 use Rattle.normalizer_text.proofs.scans.LowLemmas.{first-ascii_byte}
 use Rattle.normalizer_text.proofs.utf8.first_step.Goals as goal
 

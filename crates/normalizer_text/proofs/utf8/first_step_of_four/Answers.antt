@@ -1,5 +1,5 @@
 use Rattle.std.proofs.Common.{◌∙◌, length-take-le, sym, ap}
-use Rattle.normalizer_text.specs.Steps.{read}
+use Rattle.normalizer_text.specs.DecodingSteps.{read}
 use Rattle.normalizer_text.proofs.sequences.SubpartLemmas.{first-begins}
 use Rattle.normalizer_text.proofs.utf8.first_step_of_four.Goals as goal
 

@@ -1,5 +1,5 @@
 use Rattle.std.proofs.Common.{length-take-le, sym, subst, ap, ◌∙◌, ◌≡◌, length, take}
-use Rattle.normalizer_text.specs.Steps.{read}
+use Rattle.normalizer_text.specs.DecodingSteps.{read}
 use Rattle.normalizer_text.specs.MaximalSubparts.{IsWellFormedSequence}
 use Rattle.normalizer_text.specs.Utf8.{scalar_value, first_of_utf8}
 use Rattle.normalizer_text.proofs.sequences.SequenceLemmas.{whole-well_formed}

@@ -1,6 +1,6 @@
 use Rattle.std.proofs.Common.{◌≡◌, ◌++◌, refl}
 use Rattle.normalizer_ucd.specs.IdnaTable.{entries_at, entries_of}
-use Rattle.normalizer_ucd.proofs.Ranges.{one_more, no_more}
+use Rattle.normalizer_ucd.proofs.RangeLemmas.{one_more, no_more}
 use Rattle.normalizer_ucd.proofs.idna_table.push_records.Goals as goal
 
 pub loop-code-init : goal.loop-code-init

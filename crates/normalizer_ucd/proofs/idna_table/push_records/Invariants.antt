@@ -1,7 +1,7 @@
 use Rattle.std.proofs.Common.{◌≡◌, ◌++◌}
 use Rattle.std.specs.List.{flat_map}
 use Rattle.normalizer_ucd.specs.IdnaTable.{entries_at, entries_of}
-use Rattle.normalizer_ucd.proofs.Ranges.{numbers}
+use Rattle.normalizer_ucd.proofs.RangeLemmas.{numbers}
 use Rattle.normalizer_ucd.proofs.idna_table.push_records.Given as goal
 
 abbrev pub invariant-loop-code : goal.invariant-loop-code

@@ -1,6 +1,6 @@
 use Rattle.std.proofs.Common.{refl}
 use Rattle.normalizer_iterators.proofs.composing.CompositionLemmas.{Steps-mark, Steps-starter, Steps-marks}
-use Rattle.normalizer_iterators.proofs.passthrough.PassthroughItems.{IsAtPassthrough-stands}
+use Rattle.normalizer_iterators.proofs.passthrough.PassthroughItemLemmas.{IsAtPassthrough-stands}
 use Rattle.normalizer_iterators.proofs.composition.Composition.next_item.Goals as goal
 
 -- ---- a mark is given

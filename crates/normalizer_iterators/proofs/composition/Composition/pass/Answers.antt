@@ -1,6 +1,6 @@
 use Rattle.std.proofs.Common.{refl}
 use Rattle.normalizer_iterators.proofs.composing.BeforeStarterLemmas.{Steps-fault, Steps-end, Steps-first_starter, Steps-passed}
-use Rattle.normalizer_iterators.proofs.passthrough.PassthroughItems.{has_boundary_before, YieldsPassthrough-kept}
+use Rattle.normalizer_iterators.proofs.passthrough.PassthroughItemLemmas.{has_boundary_before, YieldsPassthrough-kept}
 use Rattle.normalizer_iterators.proofs.composition.Composition.pass.Goals as goal
 
 pub next_passthrough-requires : goal.next_passthrough-requires

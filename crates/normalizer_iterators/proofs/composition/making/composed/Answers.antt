@@ -3,7 +3,7 @@ use Rattle.normal_forms.specs.Forms.{nfc}
 use Rattle.normal_forms.specs.ShortRuns.{HasShortRuns}
 use Rattle.normalizer_tables.specs.Characters.{has_class_form}
 use Rattle.normalizer_tables.specs.Readings.{reading_by}
-use Rattle.normalizer_text.specs.Steps.{Spells}
+use Rattle.normalizer_text.specs.DecodingSteps.{Spells}
 use Rattle.normalizer_iterators.specs.Delegate.{MayYield}
 use Rattle.normalizer_iterators.specs.NextItem.{IsFormOfSource}
 use Rattle.normalizer_iterators.specs.CompositionItems.{WillYield, StaysShort, CompositionSteps}

@@ -4,7 +4,7 @@ use Rattle.normalizer_iterators.specs.LazyComposing.{IsNormalizedApartIn}
 use Rattle.normalizer_iterators.specs.Reads.{character_of}
 use Rattle.normalizer_iterators.proofs.items.DecompositionLemmas.{Steps-ended, Steps-read, ready_behind}
 use Rattle.normalizer_iterators.proofs.reads.ReadingLemmas.{HasRead-as, IsReadyAfter-next}
-use Rattle.normalizer_iterators.proofs.passthrough.PassthroughItems.{all_anew, all_apart, YieldsItself-next, YieldsStarter-next}
+use Rattle.normalizer_iterators.proofs.passthrough.PassthroughItemLemmas.{all_anew, all_apart, YieldsItself-next, YieldsStarter-next}
 use Rattle.normalizer_iterators.proofs.composition.passing.next_passthrough.Goals as goal
 
 pub next-requires : goal.next-requires

@@ -1,6 +1,6 @@
 use Rattle.std.proofs.Common.{◌∙◌}
 use Rattle.normalizer_tables.proofs.words.PassthroughBound.{IsPassthroughBelow-handed_in}
-use Rattle.normalizer_iterators.proofs.reads.SoundData.{SuitsLazyReading-nfd}
+use Rattle.normalizer_iterators.proofs.reads.ReadsOfSoundData.{SuitsLazyReading-nfd}
 use Rattle.normalizer_iterators.proofs.decomposition.Decomposition.new.Goals as goal
 
 pub with_passthrough_bound-characters-requires : goal.with_passthrough_bound-characters-requires

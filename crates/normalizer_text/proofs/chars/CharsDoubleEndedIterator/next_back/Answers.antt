@@ -1,6 +1,6 @@
 use Rattle.normalizer_text.specs.Encodings.{first_in}
 use Rattle.std.proofs.Common.{◌-◌, sym, subst}
-use Rattle.normalizer_text.specs.Steps.{IsBoundary}
+use Rattle.normalizer_text.specs.DecodingSteps.{IsBoundary}
 use Rattle.normalizer_text.proofs.steps.StepBoundaries.{boundary-last}
 use Rattle.normalizer_text.proofs.chars.CharsDoubleEndedIterator.next_back.Goals as goal
 

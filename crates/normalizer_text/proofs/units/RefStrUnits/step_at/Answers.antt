@@ -1,6 +1,6 @@
 use Rattle.std.proofs.Common.{◌<◌, length, length-drop, get_or, drop, arith, sym, ap, subst, ◌∙◌}
 use Rattle.std.proofs.lemmas.List.{take_rest}
-use Rattle.normalizer_text.specs.Steps.{IsWellFormed}
+use Rattle.normalizer_text.specs.DecodingSteps.{IsWellFormed}
 use Rattle.normalizer_text.specs.Utf8.{allows, continuation, first_of_utf8}
 use Rattle.normalizer_text.proofs.rules.Utf8Lemmas.{HasTrails-utf8}
 use Rattle.normalizer_text.proofs.rules.StrLemmas.{well_formed-at}

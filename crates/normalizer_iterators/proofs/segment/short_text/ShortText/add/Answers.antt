@@ -1,12 +1,12 @@
 use Rattle.std.proofs.Common.{◌+◌, arith, sym, ap, ◌∙◌, max}
 use Rattle.normal_forms.specs.Reading.{IsMark}
 use Rattle.normalizer_iterators.specs.ShortText.{so_far}
-use Rattle.normalizer_iterators.specs.inner.ShortTextSteps.{composing, join_last, BlocksBelow, composed_with}
+use Rattle.normalizer_iterators.specs.inner.ShortTextSteps.{composition_with, join_last, BlocksBelow, composed_with}
 use Rattle.normalizer_iterators.proofs.segments.ShortTextLemmas.{composed_with-starter, composed_with-mark, BlocksAfter-starter, BlocksAfter-mark, length-so_far, within-so_far}
 use Rattle.normalizer_iterators.proofs.segment.short_text.ShortText.add.Goals as goal
 
 pub returns-then-given-eq0-clause-text : goal.returns-then-given-eq0-clause-text
-unfolding composing join_last
+unfolding composition_with join_last
 returns-then-given-eq0-clause-text c = λ _ d class apart rest.
     let b = c.args.self.now in
     composed_with-starter d (so_far b) (so_far c.push.new.self) b.starter c.args.given.character b.len rest (length-so_far b) (within-so_far b) apart (sym class ∙ c.if-given-eq0.true)
@@ -19,7 +19,7 @@ returns-then-given-eq0-clause-blocking c = λ _ d class blocks.
     BlocksAfter-starter d (so_far b) (so_far c.push.new.self) c.args.given.character b.len (length-so_far b) (c.push.ensures.text c.if-not-push.false)
 
 pub returns-else-given-eq0-clause-text : goal.returns-else-given-eq0-clause-text
-unfolding composing join_last
+unfolding composition_with join_last
 returns-else-given-eq0-clause-text c = λ _ d class apart rest.
     let b = c.args.self.now in
     let mark : IsMark d c.args.given.character = omega (arith, class, c.if-given-eq0.false) in

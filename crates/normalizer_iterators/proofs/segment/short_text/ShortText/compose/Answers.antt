@@ -1,10 +1,10 @@
 use Rattle.normalizer_iterators.specs.ShortText.{so_far}
-use Rattle.normalizer_iterators.specs.inner.ShortTextSteps.{composing, join_last, BlocksBelow}
+use Rattle.normalizer_iterators.specs.inner.ShortTextSteps.{composition_with, join_last, BlocksBelow}
 use Rattle.normalizer_iterators.proofs.segments.ShortTextLemmas.{composed_with-joined, BlocksAfter-joined, take_set, within-so_far}
 use Rattle.normalizer_iterators.proofs.segment.short_text.ShortText.compose.Goals as goal
 
 pub returns-in-Some-clause-text : goal.returns-in-Some-clause-text
-unfolding composing join_last
+unfolding composition_with join_last
 returns-in-Some-clause-text c = λ _ d class pair blocks rest.
     let b = c.args.self.now in
     composed_with-joined d (so_far b) _ b.starter c.in-Some.place c.in-Some.composite c.args.given.character rest c.in-Some.ensures.place (within-so_far b)

@@ -1,0 +1,76 @@
+-- The data that the files of Unicode mean.
+use Rattle.std.specs.Prelude.{◌≡◌, ℕ, List, [], ◌∷◌, ◌++◌, codes, Option, IfSome, Ok, Err, ⊤, ◌⊎◌}
+use Rattle.normalizer_builder.specs.Building.{Builds, IsSmallest}
+use Rattle.normalizer_packing.specs.declared.Packed.{Packed}
+use Rattle.normalizer_records.specs.RecordValue.{RecordValue, Uts46RecordValue}
+use Rattle.normalizer_ucd.specs.declared.error.UcdFile.{UcdFile}
+use Rattle.normalizer_ucd.specs.declared.error.UcdFile.TheVariants.{UnicodeData, CompositionExclusions, IdnaMappingTable}
+use Rattle.normalizer_ucd.specs.declared.idna_table.Disallowed.TheVariants.{All}
+use Rattle.normalizer_ucd.specs.IdnaTable.{uts46_records_of}
+use Rattle.normalizer_ucd.specs.UnicodeData.{records_of}
+use Rattle.normalizer_command.specs.Devices.{Devices}
+use Rattle.normalizer_command.specs.FileFaults.{IsFileFault}
+use Rattle.normalizer_command.specs.declared.fault.Fault.{Fault}
+use Rattle.normalizer_command.specs.declared.fault.Fault.TheVariants.{Open, Read, Write, Memory, Line, Records}
+use Rattle.normalizer_command.specs.declared.worker.Command.{Command}
+use Rattle.normalizer_command.specs.declared.worker.Command.TheVariants.{OfForm, OfMapper}
+
+abbrev pub name_of : UcdFile → List ℕ
+name_of UnicodeData = codes "UnicodeData.txt"
+name_of CompositionExclusions = codes "CompositionExclusions.txt"
+name_of IdnaMappingTable = codes "IdnaMappingTable.txt"
+
+-- a file in a directory
+abbrev pub path_of : List ℕ → UcdFile → List ℕ
+path_of directory file = directory ++ (0x2F ∷ name_of file)
+
+-- these are the bytes of a file of a directory, if they are known
+abbrev pub IsFile : (List ℕ → Option (List ℕ)) → (directory : List ℕ) → UcdFile → (bytes : List ℕ) → Type 0
+IsFile bytes_of directory file bytes = IfSome (bytes_of (path_of directory file)) (λ all. bytes ≡ all)
+
+-- no table is read for a form
+abbrev pub IsTable : (List ℕ → Option (List ℕ)) → (directory : List ℕ) → Command → (table : List ℕ) → Type 0
+IsTable bytes_of directory (OfForm task scheme form) table = table ≡ []
+IsTable bytes_of directory (OfMapper task scheme) table = IsFile bytes_of directory IdnaMappingTable table
+
+-- these are the bytes of the files that a command needs, if they are known
+abbrev pub AreFiles : (List ℕ → Option (List ℕ)) → (directory : List ℕ) → Command
+    → (unicode_data exclusions table : List ℕ) → Type 0
+AreFiles bytes_of directory command unicode_data exclusions table =
+    IsFile bytes_of directory UnicodeData unicode_data × IsFile bytes_of directory CompositionExclusions exclusions
+    × IsTable bytes_of directory command table
+
+-- the records that the lines of the files say
+abbrev pub AreRecorded : (unicode_data exclusions table : List ℕ) → List RecordValue → List Uts46RecordValue → Type 0
+AreRecorded unicode_data exclusions table records uts46 =
+    (records_of unicode_data exclusions ≡ Ok records) × (uts46_records_of All table ≡ Ok uts46)
+
+-- these data are built from them
+abbrev pub AreBuiltOf : (unicode_data exclusions table : List ℕ) → List RecordValue → List Uts46RecordValue → Packed →
+    Type 0
+AreBuiltOf unicode_data exclusions table records uts46 p =
+    AreRecorded unicode_data exclusions table records uts46 × Builds records uts46 p
+
+-- why the bytes of the files make no data, and which of the files is named
+abbrev pub IsFaultOf : (unicode_data exclusions table : List ℕ) → UcdFile → Fault → Type 0
+IsFaultOf unicode_data exclusions table file (Line fault) = (file ≡ fault.place.file)
+    × ((records_of unicode_data exclusions ≡ Err fault) ⊎ (uts46_records_of All table ≡ Err fault))
+IsFaultOf unicode_data exclusions table file (Records error) = (file ≡ UnicodeData) × ((records : List RecordValue)
+    × (uts46 : List Uts46RecordValue) × AreRecorded unicode_data exclusions table records uts46
+    × IsSmallest records uts46 error)
+IsFaultOf unicode_data exclusions table file Memory = ⊤
+IsFaultOf unicode_data exclusions table file (Open kind) = ⊥
+IsFaultOf unicode_data exclusions table file Read = ⊥
+IsFaultOf unicode_data exclusions table file Write = ⊥
+
+-- why a file of a directory can't be read
+abbrev pub IsReadFault : {W : Type 0} → Devices W → (directory : List ℕ) → UcdFile → Fault → Type 0
+IsReadFault d directory file fault =
+    IsFileFault (d.cannot_open (path_of directory file)) (d.read_refused (path_of directory file)) ⊥ fault
+
+-- why there are no data: this file of the directory can't be read, or the bytes of the files make none
+abbrev pub IsDataFault : {W : Type 0} → Devices W → (directory : List ℕ) → Command → UcdFile → Fault → Type 0
+IsDataFault d directory command file fault = IsReadFault d directory file fault
+    ⊎ ((unicode_data : List ℕ) × (exclusions : List ℕ) × (table : List ℕ)
+    × AreFiles d.bytes_of directory command unicode_data exclusions table
+    × IsFaultOf unicode_data exclusions table file fault)

@@ -1,0 +1,43 @@
+//! What the program reads from, and what it reports failures to.
+ghost use Rattle.std.specs.Prelude.{◌≡◌, ℕ, List, Option, IfOk, IfErr};
+ghost use Rattle.std.specs.declared.io.ErrorKind.{ErrorKind};
+ghost use Rattle.normalizer_command.specs.FileReports.{Report, Tells};
+
+use crate::fault::Fault;
+use normalizer_io::Source;
+use std::io::ErrorKind;
+
+/// Files by their names, and standard input.
+pub trait Inputs {
+    /// An open file.
+    type Input: Source + Drop;
+
+    /// The bytes of the file of a name, if they are known.
+    ghost bytes_of: { Self → List ℕ → Option (List ℕ) };
+
+    /// Holds if the file of a name can't be opened, for this reason.
+    ghost cannot_open: { Self → List ℕ → ErrorKind → Type 0 };
+
+    /// Holds if a read of the file of a name was refused.
+    ghost read_refused: { Self → List ℕ → Type 0 };
+
+    /// Opens the file of this name; `-` is standard input.
+    ///
+    /// # Errors
+    /// Why it can't be opened.
+    fn open(&self, name: &str) -> Result<Self::Input, ErrorKind>
+        ensures bytes { IfOk result (λ input. Self.Input.bytes_left input ≡ bytes_of self.now name.now) }
+        ensures reads { IfOk result (λ input. (later : Self.Input) → Self.Input.refusal input later →
+            read_refused self.now name.now) }
+        ensures fault { IfErr result (cannot_open self.now name.now) };
+}
+
+/// Takes reports of files that failed.
+pub trait Reports {
+    /// The reports so far, if they are known.
+    ghost reports: { Self → Option (List Report) };
+
+    /// Reports why a file failed.
+    fn report(&mut self, name: &str, fault: Fault)
+        ensures { Tells (reports self.old) (reports self.new) (name.now, fault) };
+}

@@ -1,0 +1,183 @@
+//! The data of a directory of Unicode's files.
+ghost use Rattle.std.specs.Prelude.{◌≡◌, List, IfOk, IfErr, IfSome, string_bytes};
+ghost use Rattle.normalizer_builder.specs.Built.{data_in};
+ghost use Rattle.normalizer_command.specs.UnicodeFiles.{
+  AreBuiltOf,
+  AreFiles,
+  AreRecorded,
+  IsFaultOf,
+  IsFile,
+  IsTable,
+  name_of,
+  path_of,
+};
+ghost use Rattle.normalizer_command.specs.FileFaults.{fault_of_file, IsFileFault};
+ghost use Rattle.normalizer_records.specs.RecordValue.{RecordValue, Uts46RecordValue};
+ghost use Rattle.normalizer_ucd.specs.declared.error.LineFault.{LineFault};
+
+use crate::devices::Inputs;
+use crate::fault::Fault;
+use crate::worker::Command;
+use normalizer_builder::{Built, Records};
+use normalizer_io::read_all;
+use normalizer_records::{Record, Uts46Record};
+use normalizer_ucd::{
+    Disallowed, UcdError, UcdFile, records_of_unicode_data, uts46_records_of_idna_table,
+};
+use std::alloc::{AllocError, Global};
+
+/// A file of a directory that failed.
+#[derive(Clone, Copy)]
+pub(crate) struct DataFault {
+    pub(crate) file: UcdFile,
+    pub(crate) fault: Fault,
+}
+
+/// The path of a file in a directory.
+pub(crate) fn path(alloc: Global, directory: &str, file: UcdFile) -> Result<String, AllocError>
+    ensures { IfOk result (λ path. string_bytes path ≡ path_of directory.now file) }
+{
+    let name = name_of(file);
+    format!(in alloc; "{directory}/{name}")
+}
+
+fn name_of(file: UcdFile) -> &'static str
+    ensures { result.now ≡ name_of file }
+{
+    match file {
+        UcdFile::UnicodeData => "UnicodeData.txt",
+        UcdFile::CompositionExclusions => "CompositionExclusions.txt",
+        UcdFile::IdnaMappingTable => "IdnaMappingTable.txt",
+    }
+}
+
+/// The bytes of the files of a directory.
+#[derive(Drop)]
+pub(crate) struct DataFiles {
+    pub(crate) unicode_data: Vec<u8>,
+    pub(crate) exclusions: Vec<u8>,
+    pub(crate) table: Vec<u8>,
+}
+
+/// The bytes of the files that a command needs.
+pub(crate) fn read_files<I: Inputs>(
+    alloc: Global,
+    inputs: &I,
+    directory: &str,
+    command: Command,
+) -> Result<DataFiles, DataFault>
+    ensures files { IfOk result (λ r. AreFiles (I.bytes_of inputs.now) directory.now command
+        r.unicode_data.items r.exclusions.items r.table.items) }
+    ensures fault { IfErr result (λ e. IsFileFault (I.cannot_open inputs.now (path_of directory.now e.file))
+        (I.read_refused inputs.now (path_of directory.now e.file)) ⊥ e.fault) }
+{
+    let unicode_data = read_file(alloc, inputs, directory, UcdFile::UnicodeData)?;
+    let exclusions = read_file(alloc, inputs, directory, UcdFile::CompositionExclusions)?;
+    let table = read_table(alloc, inputs, directory, command)?;
+    Ok(DataFiles {
+        unicode_data,
+        exclusions,
+        table,
+    })
+}
+
+/// The bytes of the mapping table, if a command needs it.
+fn read_table<I: Inputs>(
+    alloc: Global,
+    inputs: &I,
+    directory: &str,
+    command: Command,
+) -> Result<Vec<u8>, DataFault>
+    ensures table { IfOk result (λ v. IsTable (I.bytes_of inputs.now) directory.now command v.items) }
+    ensures fault { IfErr result (λ e. IsFileFault (I.cannot_open inputs.now (path_of directory.now e.file))
+        (I.read_refused inputs.now (path_of directory.now e.file)) ⊥ e.fault) }
+{
+    match command {
+        Command::OfForm(..) => Ok(Vec::new(alloc)),
+        Command::OfMapper(..) => read_file(alloc, inputs, directory, UcdFile::IdnaMappingTable),
+    }
+}
+
+/// The bytes of a file of a directory.
+pub(crate) fn read_file<I: Inputs>(
+    alloc: Global,
+    inputs: &I,
+    directory: &str,
+    file: UcdFile,
+) -> Result<Vec<u8>, DataFault>
+    ensures bytes { IfOk result (λ v. IsFile (I.bytes_of inputs.now) directory.now file v.items) }
+    ensures fault { IfErr result (λ e. IsFileFault (I.cannot_open inputs.now (path_of directory.now e.file))
+        (I.read_refused inputs.now (path_of directory.now e.file)) ⊥ e.fault) }
+{
+    match read(alloc, inputs, directory, file) {
+        Ok(bytes) => Ok(bytes),
+        Err(fault) => Err(DataFault { file, fault }),
+    }
+}
+
+fn read<I: Inputs>(
+    alloc: Global,
+    inputs: &I,
+    directory: &str,
+    file: UcdFile,
+) -> Result<Vec<u8>, Fault>
+    ensures bytes { IfOk result (λ v. IsFile (I.bytes_of inputs.now) directory.now file v.items) }
+    ensures fault { IfErr result (IsFileFault (I.cannot_open inputs.now (path_of directory.now file))
+        (I.read_refused inputs.now (path_of directory.now file)) ⊥) }
+{
+    let path = path(alloc, directory, file)?;
+    let mut input = inputs.open(path.as_str())?;
+    Ok(read_all(alloc, &mut input)?)
+}
+
+/// The data that the records of the files build.
+pub(crate) fn built(alloc: Global, files: &DataFiles) -> Result<Built, DataFault>
+    ensures built { IfOk result (λ b. (records : List RecordValue) × (uts46 : List Uts46RecordValue) × AreBuiltOf
+        files.now.unicode_data.items files.now.exclusions.items files.now.table.items records uts46 (data_in b)) }
+    ensures fault { IfErr result (λ e. IsFaultOf
+        files.now.unicode_data.items files.now.exclusions.items files.now.table.items e.file e.fault) }
+{
+    let (records, uts46) = records_of(alloc, files)?;
+    match Records::build(alloc, &records, &uts46) {
+        Ok(built) => Ok(built),
+        Err(error) => Err(DataFault {
+            file: UcdFile::UnicodeData,
+            fault: Fault::from(error),
+        }),
+    }
+}
+
+/// The records that the files yield.
+fn records_of(
+    alloc: Global,
+    files: &DataFiles,
+) -> Result<(Vec<Record>, Vec<Uts46Record>), DataFault>
+    ensures recorded { IfOk result (λ r. AreRecorded
+        files.now.unicode_data.items files.now.exclusions.items files.now.table.items r.0.items r.1.items) }
+    ensures fault { IfErr result (λ e. IsFaultOf
+        files.now.unicode_data.items files.now.exclusions.items files.now.table.items e.file e.fault) }
+{
+    let records = match records_of_unicode_data(alloc, &files.unicode_data, &files.exclusions) {
+        Ok(records) => records,
+        Err(error) => return Err(of_file(error)),
+    };
+    match uts46_records_of_idna_table(alloc, &files.table, Disallowed::All) {
+        Ok(uts46) => Ok((records, uts46)),
+        Err(error) => Err(of_file(error)),
+    }
+}
+
+/// The file that a line is of.
+fn of_file(error: UcdError) -> DataFault
+    ensures fault { result.fault ≡ fault_of_file error }
+    ensures file { (fault : LineFault) → error ≡ UcdError.Line fault → result.file ≡ fault.place.file }
+{
+    let file = match error {
+        UcdError::Line(fault) => fault.place.file,
+        UcdError::Memory => UcdFile::UnicodeData,
+    };
+    DataFault {
+        file,
+        fault: Fault::from(error),
+    }
+}

@@ -1,0 +1,83 @@
+//! The words of one kind of data.
+#![tactic(auto, using(crate::proofs::words_of_lists::SpelledWords::packed_words, crate::proofs::lists::ListPlaces::listed_places), unfolding(normalizer_tables::specs::Entries::kept_list))]
+
+ghost use Rattle.std.specs.Prelude.{◌≡◌, ◌<◌, true};
+ghost use Rattle.normalizer_tables.specs.Conditions.{item_limit};
+ghost use Rattle.normalizer_packing.specs.inner.PackedWords.{CanPoint};
+ghost use Rattle.normalizer_packing.specs.Packing.{IsPackedWord};
+ghost use Rattle.normalizer_packing.specs.Stored.{is_among, item_of, listed_in};
+
+use crate::entries::Entries;
+use crate::flags::flagged;
+use crate::pointing::pointing_word;
+use crate::spelling::{Spelling, spell};
+use crate::stores::Stores;
+use crate::table_words::Words;
+use normalizer_tables::CanonicalCompositions;
+use normalizer_tables::entry::Kind;
+use normalizer_tables::word::SURROGATE_WORD;
+
+/// What the words of one kind of data are made of.
+#[derive(Drop)]
+pub struct PackedWords<'a, 'e> {
+    /// The entries of all characters.
+    pub entries: &'a Entries<'e>,
+    /// The pairs.
+    pub compositions: &'a CanonicalCompositions,
+    /// The lists in tables.
+    pub stores: &'a Stores<'e>,
+    /// The kind of data.
+    pub kind: Kind,
+}
+
+impl Words for PackedWords<'_, '_> {
+    ghost is_ready = { λ w. CanPoint w.entries.now w.stores.now };
+
+    ghost is_word = { λ w. IsPackedWord w.kind w.entries.now w.compositions.now };
+
+    fn word_of(&self, number: u32) -> u32 {
+        match char::from_u32(number) {
+            Some(character) => self.word_of_character(character),
+            None => SURROGATE_WORD,
+        }
+    }
+}
+
+impl PackedWords<'_, '_> {
+    fn word_of_character(&self, character: char) -> u32
+        requires { CanPoint self.now.entries.now self.now.stores.now }
+        ensures { IsPackedWord self.now.kind self.now.entries.now self.now.compositions.now character result }
+    {
+        let alone = [character];
+        let list = self.entries.list_of(self.kind, character, &alone);
+        let kept = list.unwrap_or(&[]);
+        match spell(self.entries, character, list) {
+            Spelling::Final(word) => word,
+            Spelling::Short(word) => {
+                flagged(self.entries, self.compositions, character, kept, word)
+            }
+            Spelling::Listed => {
+                let word = pointing_word(self.entries, kept, self.item_of(kept));
+                flagged(self.entries, self.compositions, character, kept, word)
+            }
+        }
+    }
+
+    /// The first item of a list in the four tables, put one after another.
+    fn item_of(&self, list: &[char]) -> u32
+        requires ready { CanPoint self.now.entries.now self.now.stores.now }
+        requires listed { is_among list.now (listed_in self.now.entries.now self.now.kind) ≡ true }
+        ensures within { result < item_limit }
+        ensures item { result ≡ item_of self.now.entries.now list.now }
+    {
+        let canonical = &self.stores.canonical;
+        let supplementary = &self.stores.supplementary;
+        match canonical.place_of(list) {
+            Some(place) => canonical.item_at(list, place) as u32,
+            None => {
+                let place = supplementary.place_of(list).unwrap();
+                (canonical.len() + supplementary.item_at(list, place)) as u32
+            }
+        }
+    }
+}

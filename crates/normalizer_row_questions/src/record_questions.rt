@@ -1,0 +1,59 @@
+//! `build`: whether the records build data; `said build` has the text of the error. `record 0344`, `mapper 0041`: what
+//! is recorded. `count records`: how many.
+use icu_normalizer::{BuildError, Record, Uts46Record};
+use normalizer_row_data::setting::Setting;
+use normalizer_row_words::fault::{Answer, Fault};
+use normalizer_row_words::printing::building;
+use normalizer_row_words::record_rows::{spelled_mapper_record, spelled_record};
+use normalizer_row_words::words::character;
+use std::alloc::Global;
+
+/// Why the records build no data, or `ok`.
+pub fn build(setting: &Setting<'_>, question: &[&str]) -> Answer {
+    match question {
+        [] => building(setting.alloc, setting.refusal()),
+        _ => Err(Fault::Unreadable),
+    }
+}
+
+/// The text of the error.
+pub fn said(setting: &Setting<'_>) -> Answer {
+    match setting.refusal() {
+        Some(BuildError::Memory) | None => Err(Fault::Unreadable),
+        Some(error) => Ok(format!(in setting.alloc; "{error}")?),
+    }
+}
+
+/// What is recorded of a character.
+pub fn record(alloc: Global, records: &[Record], question: &[&str]) -> Answer {
+    let [c] = question else {
+        return Err(Fault::Unreadable);
+    };
+    let c = character(c)?;
+    match records.iter().find(|record| record.c == c) {
+        Some(record) => spelled_record(alloc, record),
+        None => Ok(String::from_str(alloc, "none")?),
+    }
+}
+
+/// What is recorded of a character for the mapper.
+pub fn mapper_record(alloc: Global, records: &[Uts46Record], question: &[&str]) -> Answer {
+    let [c] = question else {
+        return Err(Fault::Unreadable);
+    };
+    let c = character(c)?;
+    match records.iter().find(|record| record.c == c) {
+        Some(record) => spelled_mapper_record(alloc, record),
+        None => Ok(String::from_str(alloc, "none")?),
+    }
+}
+
+/// How many records there are, or how many of the mapper.
+pub fn count(alloc: Global, setting: &Setting<'_>, question: &[&str]) -> Answer {
+    let count = match question {
+        ["records"] => setting.records().len(),
+        ["mapper"] => setting.mapper().len(),
+        _ => return Err(Fault::Unreadable),
+    };
+    Ok(format!(in alloc; "{count}")?)
+}
