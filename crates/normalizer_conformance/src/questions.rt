@@ -3,7 +3,7 @@ use normalizer_row_calls::calls;
 use normalizer_row_data::held::Held;
 use normalizer_row_data::setting::Setting;
 use normalizer_row_questions::{
-    by_data, data, decoding, mapping, parts, plain, properties, recorded,
+    by_data, data, decoding, mapping, parts, plain_program, properties, record_questions,
 };
 use normalizer_row_words::fault::{Answer, Fault};
 use std::alloc::Global;
@@ -18,7 +18,7 @@ pub fn answer(setting: &mut Setting<'_>, question: &[&str]) -> Answer {
         "nfd" | "nfc" | "nfkd" | "nfkc" => of_form(setting, "form", question),
         "is" | "split" | "offence" | "owned" => of_form(setting, name, rest),
         "compose" => properties::composite(alloc, setting, rest),
-        "plain" | "plain-cut" => plain::asked(alloc, setting, name, rest),
+        "plain" | "plain-cut" => plain_program::asked(alloc, setting, name, rest),
         "by-records" | "build" | "record" | "mapper" | "count" => {
             of_records(alloc, setting, name, rest)
         }
@@ -26,7 +26,7 @@ pub fn answer(setting: &mut Setting<'_>, question: &[&str]) -> Answer {
         "head" => decoding::head(alloc, rest),
         "every" => decoding::every(alloc, rest),
         "ranges" => parts::ranges(alloc, rest),
-        "said" if matches!(rest, ["build"]) => recorded::said(setting),
+        "said" if matches!(rest, ["build"]) => record_questions::said(setting),
         _ => of_data(alloc, setting.held()?, name, rest),
     }
 }
@@ -43,10 +43,10 @@ fn of_form(setting: &mut Setting<'_>, name: &str, question: &[&str]) -> Answer {
 fn of_records(alloc: Global, setting: &Setting<'_>, name: &str, rest: &[&str]) -> Answer {
     match name {
         "by-records" => by_data::by_records(alloc, setting, rest),
-        "build" => recorded::build(setting, rest),
-        "record" => recorded::record(alloc, setting.records(), rest),
-        "mapper" => recorded::mapper_record(alloc, setting.mapper(), rest),
-        _ => recorded::count(alloc, setting, rest),
+        "build" => record_questions::build(setting, rest),
+        "record" => record_questions::record(alloc, setting.records(), rest),
+        "mapper" => record_questions::mapper_record(alloc, setting.mapper(), rest),
+        _ => record_questions::count(alloc, setting, rest),
     }
 }
 
