@@ -40,10 +40,11 @@ pub(crate) fn end_of_below<L: Lanes>(units: L, position: usize, bound: u32) -> u
     }
     while len - end >= LANES {
         let below = units.lanes_below(end, bound);
-        end += below;
         if below < LANES {
-            return end;
+            return end + below;
         }
+        // By a constant, so that the processor can load the next vector before it has compared this one.
+        end += LANES;
     }
     while end < len && units.is_below(end, bound) {
         end += 1;

@@ -67,13 +67,13 @@ module _ (bound : ℕ) (units : List ℕ) (at n below : ℕ) (room : at + n ≤ 
   leading_below-within few = apart ∙ cond-false _ _ _ (ne_eqb below n (λ e. absurd (omega arith)))
 
   -- or it doesn't
-  pub leading_below-past : n ≤ below → (at + below ≤ length units) × (at + below + leading_below bound (drop (at + below) units) ≡ at + leading_below bound (drop at units))
+  pub leading_below-past : n ≤ below → (at + n ≤ length units) × (at + n + leading_below bound (drop (at + n) units) ≡ at + leading_below bound (drop at units))
   leading_below-past all =
       let most = leading_below-le bound (take n (drop at units)) in
       let long = length-chunk at n units room in
       let whole : below ≡ n = omega arith in
       let rest = apart ∙ cond-true _ _ _ (eq-eqb below n whole) in
-      (omega arith, ap (λ k. at + k + leading_below bound (drop (at + k) units)) whole ∙ omega (arith, rest))
+      (omega arith, omega (arith, rest))
 
 prefix_len-same : (p q : ℕ → Bool) → ((x : ℕ) → p x ≡ q x) → (xs : List ℕ) → prefix_len p xs ≡ prefix_len q xs
 prefix_len-same p q same [] = refl
