@@ -6,6 +6,7 @@ pub mod OffenceLines
 pub mod Outcome
 pub mod RecordSets
 pub mod Replies
+pub mod Runs
 pub mod SetOutcome
 pub mod Tasks
 pub mod Arguments

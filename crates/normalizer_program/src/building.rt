@@ -22,8 +22,7 @@ pub fn built(alloc: Global, set: RecordSet) -> Result<Built, ToolFault>
 {
     let records = records_of(alloc, set)?;
     let mapper = mapper_records_of(alloc, set)?;
-    let built = Records::build(alloc, &records, &mapper)?;
-    Ok(built)
+    Ok(Records::build(alloc, &records, &mapper)?)
 }
 
 fn records_of(alloc: Global, set: RecordSet) -> Result<Vec<Record>, AllocError>

@@ -10,10 +10,9 @@ mod normalizer;
 pub mod program;
 mod reply;
 pub mod run;
-mod set_run;
 mod task;
 mod worker;
 
 pub use building::built;
-pub use set_run::run_over;
+pub use program::run_over;
 pub use worker::CommandData;

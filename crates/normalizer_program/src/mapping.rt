@@ -6,7 +6,6 @@ ghost use Rattle.normalizer_program.specs.KeptFields.{fields, is_kept, TellsKept
 ghost use Rattle.normalizer_program.specs.Replies.{IsReplyOfMapper};
 
 use crate::ending::ToolFault;
-use crate::reply::Reply;
 use crate::task::MapperTask;
 use icu_normalizer::uts46::{Uts46Mapper, Uts46MapperBorrowed};
 use normalizer_built::mapped;
@@ -22,9 +21,9 @@ impl MapperTask {
         alloc: Global,
         mapper: &Uts46Mapper,
         input: &[u8],
-    ) -> Result<Reply, ToolFault>
+    ) -> Result<(Answer, String), ToolFault>
         ensures reply { IfOk result (λ r. IsReplyOfMapper self (mapper_data_of mapper.now)
-            input.now r.answer (string_bytes r.output)) }
+            input.now r.0 (string_bytes r.1)) }
         ensures errors { IfErr result (λ fault. fault ≡ ToolFault.Memory) }
     {
         let mapper = mapper.as_borrowed();
@@ -37,8 +36,7 @@ impl MapperTask {
                 labelled(alloc, &mapper, &mapped)?
             }
         };
-        let output = encoded(alloc, &characters)?;
-        Ok(Reply { answer, output })
+        Ok((answer, encoded(alloc, &characters)?))
     }
 }
 

@@ -1,17 +1,13 @@
 //! The program without its streams: which command its words name, how it ends, and what it then prints.
-ghost use Rattle.std.specs.Prelude.{◌≡◌, ◌≢◌, Result, map, string_bytes, IfErr, IsErrOf};
-ghost use Rattle.normalizer_program.specs.Endings.{EndsWith, IsUsage};
+ghost use Rattle.std.specs.Prelude.{map, string_bytes};
+ghost use Rattle.normalizer_program.specs.Runs.{devices, IsProgram, IsRun};
 ghost use Rattle.normalizer_program.specs.SetOutcome.{IsOutcomeOver};
-ghost use Rattle.normalizer_program.specs.Arguments.{AskForNothing, AsksFor};
-ghost use Rattle.normalizer_io.specs.declared.outcome.Answer.{Answer};
-ghost use Rattle.normalizer_program.specs.declared.ending.ToolFault.{ToolFault};
-ghost use Rattle.normalizer_program.specs.declared.arguments.Command.{Command};
-ghost use Rattle.normalizer_program.specs.declared.arguments.RecordSet.{RecordSet};
 
-use crate::arguments::{USAGE, words};
-use crate::ending::ending;
-use crate::set_run::run_over;
-use normalizer_io::{Source, Target};
+use crate::arguments::{Command, RecordSet, USAGE, words};
+use crate::building::built;
+use crate::ending::{ToolFault, ending};
+use crate::run::run;
+use normalizer_io::{Answer, Source, Target};
 use std::alloc::Global;
 
 /// Runs the command that the words after the program's name name. Returns the exit status, and the line for standard
@@ -22,19 +18,31 @@ pub fn program<R: Source, W: Target>(
     reader: &mut R,
     writer: &mut W,
 ) -> (u8, &'static str)
-    ensures usage { AskForNothing (map string_bytes all.now) → IsUsage result.0 result.1.now }
-    ensures unread { AskForNothing (map string_bytes all.now) → reader.new ≡ reader.old }
-    ensures unwritten { AskForNothing (map string_bytes all.now) → writer.new ≡ writer.old }
-    ensures ends { (records : RecordSet) (command : Command) → AsksFor (map string_bytes all.now) records command →
-        (outcome : Result Answer ToolFault) × EndsWith outcome result.0 result.1.now × IsOutcomeOver records command
-        (R.bytes_left reader.old) (W.bytes_taken writer.old) (W.bytes_taken writer.new) outcome
-        × (IsErrOf outcome ToolFault.Read → R.refusal reader.old reader.new)
-        × (IsErrOf outcome ToolFault.Write → W.refusal writer.old writer.new)
-        × IfErr outcome (λ fault. fault ≢ ToolFault.Write → writer.new ≡ writer.old)
-        × (IsErrOf outcome ToolFault.Data → reader.new ≡ reader.old) }
+    ensures { IsProgram (devices R.bytes_left R.refusal W.bytes_taken W.refusal) (map string_bytes all.now)
+        (reader.old, writer.old) (reader.new, writer.new) result.0 result.1.now }
 {
     match words(all) {
         None => (2, USAGE),
         Some((records, command)) => ending(&run_over(alloc, records, command, reader, writer)),
     }
+}
+
+/// Builds the data of the records, and runs the command over them.
+///
+/// # Errors
+/// - `Data` if the records build no data. Nothing was read.
+/// - `Read` if a read was refused, `Memory` if an allocation was. Nothing was written.
+/// - `Write` if a write was refused. A beginning of the output was written.
+pub fn run_over<R: Source, W: Target>(
+    alloc: Global,
+    records: RecordSet,
+    command: Command,
+    reader: &mut R,
+    writer: &mut W,
+) -> Result<Answer, ToolFault>
+    ensures { IsRun (devices R.bytes_left R.refusal W.bytes_taken W.refusal) (IsOutcomeOver records command)
+        (reader.old, writer.old) (reader.new, writer.new) result }
+{
+    let data = built(alloc, records)?;
+    run(alloc, &data, command, reader, writer)
 }

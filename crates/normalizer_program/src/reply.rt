@@ -1,4 +1,4 @@
-//! A command's result, and what it writes.
+//! The reply of a form's task to its input: the result, and the text that is written before it is returned.
 ghost use Rattle.std.specs.Prelude.{◌≡◌, IfErr, IfOk, string_bytes};
 ghost use Rattle.normalizer_program.specs.OffenceLines.{code_point_digits, offence_line, TellsOffence};
 ghost use Rattle.normalizer_program.specs.Replies.{IsReplyOfForm};
@@ -11,13 +11,6 @@ use normalizer_built::Normalizer;
 use normalizer_io::Answer;
 use std::alloc::{AllocError, Global};
 
-/// A result, with the text that is written before it is returned.
-#[derive(Drop)]
-pub struct Reply {
-    pub(crate) answer: Answer,
-    pub(crate) output: String,
-}
-
 impl FormTask {
     /// The reply to bytes, by a normalizer.
     pub(crate) fn reply(
@@ -25,47 +18,34 @@ impl FormTask {
         alloc: Global,
         normalizer: &Normalizer,
         input: &[u8],
-    ) -> Result<Reply, ToolFault>
+    ) -> Result<(Answer, String), ToolFault>
         ensures reply { IfOk result (λ r. IsReplyOfForm self (kind_by normalizer.now) (reading_of normalizer.now)
-            input.now r.answer (string_bytes r.output)) }
+            input.now r.0 (string_bytes r.1)) }
         ensures errors { IfErr result (λ fault. fault ≡ ToolFault.Memory) }
     {
         match self {
-            FormTask::Write => {
-                let output = normalizer.form_of(alloc, input)?;
-                Ok(Reply {
-                    answer: Answer::Done,
-                    output,
-                })
-            }
+            FormTask::Write => Ok((Answer::Done, normalizer.form_of(alloc, input)?)),
             FormTask::Check => {
-                let own = normalizer.is_normalized(input)?;
-                Ok(Reply {
-                    answer: if own { Answer::Done } else { Answer::No },
-                    output: String::new(alloc),
-                })
+                let is_normalized = normalizer.is_normalized(input)?;
+                let answer = if is_normalized {
+                    Answer::Done
+                } else {
+                    Answer::No
+                };
+                Ok((answer, String::new(alloc)))
             }
-            FormTask::Locate => {
-                let offence = normalizer.first_offence(input)?;
-                Ok(offence_told(alloc, offence)?)
-            }
+            FormTask::Locate => Ok(offence_told(alloc, normalizer.first_offence(input)?)?),
         }
     }
 }
 
 /// No, with the line of the mismatch; yes, with nothing, if there is none.
-fn offence_told(alloc: Global, offence: Option<Offence>) -> Result<Reply, AllocError>
-    ensures { IfOk result (λ r. TellsOffence offence r.answer (string_bytes r.output)) }
+fn offence_told(alloc: Global, offence: Option<Offence>) -> Result<(Answer, String), AllocError>
+    ensures { IfOk result (λ r. TellsOffence offence r.0 (string_bytes r.1)) }
 {
     match offence {
-        Some(offence) => Ok(Reply {
-            answer: Answer::No,
-            output: offence_line(alloc, offence)?,
-        }),
-        None => Ok(Reply {
-            answer: Answer::Done,
-            output: String::new(alloc),
-        }),
+        Some(offence) => Ok((Answer::No, offence_line(alloc, offence)?)),
+        None => Ok((Answer::Done, String::new(alloc))),
     }
 }
 

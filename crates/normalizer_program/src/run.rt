@@ -1,8 +1,8 @@
 //! A command, from the bytes of a source to the bytes of a target.
-ghost use Rattle.std.specs.Prelude.{◌≡◌, ◌≢◌, IfErr, IsErrOf};
 ghost use Rattle.normalizer_program.specs.Needs.{Held, IsServed};
 ghost use Rattle.normalizer_program.specs.Workers.{work_by};
 ghost use Rattle.normalizer_program.specs.Outcome.{IsOutcome};
+ghost use Rattle.normalizer_program.specs.Runs.{devices, IsRun};
 ghost use Rattle.normalizer_program.specs.Tasks.{task_of};
 ghost use Rattle.normalizer_program.specs.declared.arguments.Command.{Command};
 
@@ -25,12 +25,8 @@ pub fn run<P: CommandData, R: Source, W: Target>(
     reader: &mut R,
     writer: &mut W,
 ) -> Result<Answer, ToolFault>
-    ensures outcome { IsOutcome command (P.held_for_commands provider.now)
-        (R.bytes_left reader.old) (W.bytes_taken writer.old) (W.bytes_taken writer.new) result }
-    ensures read { IsErrOf result ToolFault.Read → R.refusal reader.old reader.new }
-    ensures write { IsErrOf result ToolFault.Write → W.refusal writer.old writer.new }
-    ensures unwritten { IfErr result (λ fault. fault ≢ ToolFault.Write → writer.new ≡ writer.old) }
-    ensures unread { IsErrOf result ToolFault.Data → reader.new ≡ reader.old }
+    ensures { IsRun (devices R.bytes_left R.refusal W.bytes_taken W.refusal)
+        (IsOutcome command (P.held_for_commands provider.now)) (reader.old, writer.old) (reader.new, writer.new) result }
 {
     let worker = provider.worker(command.task())?;
     answer(alloc, &worker, reader, writer)
@@ -44,15 +40,12 @@ fn answer<R: Source, W: Target>(
     reader: &mut R,
     writer: &mut W,
 ) -> Result<Answer, ToolFault>
-    ensures outcome { (command : Command) (held : Held) → IsServed (task_of command) held (work_by worker.now) →
-        IsOutcome command held (R.bytes_left reader.old) (W.bytes_taken writer.old) (W.bytes_taken writer.new) result }
-    ensures data { IfErr result (λ fault. fault ≢ ToolFault.Data) }
-    ensures read { IsErrOf result ToolFault.Read → R.refusal reader.old reader.new }
-    ensures write { IsErrOf result ToolFault.Write → W.refusal writer.old writer.new }
-    ensures unwritten { IfErr result (λ fault. fault ≢ ToolFault.Write → writer.new ≡ writer.old) }
+    ensures { (command : Command) (held : Held) → IsServed (task_of command) held (work_by worker.now) →
+        IsRun (devices R.bytes_left R.refusal W.bytes_taken W.refusal) (IsOutcome command held)
+        (reader.old, writer.old) (reader.new, writer.new) result }
 {
     let input = read_all(alloc, reader)?;
-    let reply = worker.reply(alloc, &input)?;
-    write_all(writer, reply.output.as_bytes())?;
-    Ok(reply.answer)
+    let (answer, output) = worker.reply(alloc, &input)?;
+    write_all(writer, output.as_bytes())?;
+    Ok(answer)
 }

@@ -6,10 +6,10 @@ ghost use Rattle.normalizer_program.specs.Replies.{IsReply};
 
 use crate::ending::ToolFault;
 use crate::normalizer::FormData;
-use crate::reply::Reply;
 use crate::task::{FormTask, MapperTask, Task};
 use icu_normalizer::uts46::Uts46Mapper;
 use normalizer_built::Normalizer;
+use normalizer_io::Answer;
 use normalizer_tables::{
     DataProvider, NormalizerNfcV1, NormalizerNfdDataV1, NormalizerNfdTablesV1,
     NormalizerNfkdDataV1, NormalizerNfkdTablesV1, NormalizerUts46DataV1,
@@ -82,8 +82,8 @@ where
 
 impl Worker {
     /// The reply to bytes.
-    pub(crate) fn reply(&self, alloc: Global, input: &[u8]) -> Result<Reply, ToolFault>
-        ensures reply { IfOk result (λ r. IsReply (work_by self.now) input.now r.answer (string_bytes r.output)) }
+    pub(crate) fn reply(&self, alloc: Global, input: &[u8]) -> Result<(Answer, String), ToolFault>
+        ensures reply { IfOk result (λ r. IsReply (work_by self.now) input.now r.0 (string_bytes r.1)) }
         ensures errors { IfErr result (λ fault. fault ≡ ToolFault.Memory) }
     {
         match self {

@@ -19,11 +19,20 @@ use std::alloc::AllocError;
 use std::marker::Model;
 
 /// The pairs of characters that compose: a list of triples of second character, first character and result.
-#[derive(Drop)]
 pub struct CanonicalCompositions {
     pairs: PairBuckets,
     /// Look-ups of a second halve a list that rises, and scan another.
     is_rising: bool,
+}
+
+// Written out, so that each place that drops one makes one call.
+impl Drop for CanonicalCompositions {
+    fn drop(self) {
+        let CanonicalCompositions {
+            pairs: _pairs,
+            is_rising: _is_rising,
+        } = self;
+    }
 }
 
 impl Model for CanonicalCompositions {

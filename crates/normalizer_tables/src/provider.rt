@@ -79,12 +79,22 @@ pub trait DataProvider<M: DataMarker> {
 
 /// Decomposition data: the words of all characters, and `passthrough_cap`, the number below which no character changes
 /// by composing.
-#[derive(Drop, Clone, PartialEq, Eq)]
+#[derive(Clone, PartialEq, Eq)]
 pub struct DecompositionData {
     /// The words.
     pub table: CodePointTable,
     /// The number below which no character changes by composing.
     pub passthrough_cap: u16,
+}
+
+// Written out, so that each place that drops one makes one call.
+impl Drop for DecompositionData {
+    fn drop(self) {
+        let DecompositionData {
+            table: _table,
+            passthrough_cap: _passthrough_cap,
+        } = self;
+    }
 }
 
 impl Model for DecompositionData {
@@ -96,12 +106,22 @@ impl Model for DecompositionData {
 }
 
 /// The lists of characters that words point into.
-#[derive(Drop, Clone, PartialEq, Eq)]
+#[derive(Clone, PartialEq, Eq)]
 pub struct DecompositionTables {
     /// The lists of characters up to U+FFFF, one after another.
     pub scalars16: Scalars16,
     /// The other lists, one after another.
     pub scalars24: Scalars24,
+}
+
+// Written out, so that each place that drops one makes one call.
+impl Drop for DecompositionTables {
+    fn drop(self) {
+        let DecompositionTables {
+            scalars16: _scalars16,
+            scalars24: _scalars24,
+        } = self;
+    }
 }
 
 impl Model for DecompositionTables {
@@ -125,12 +145,22 @@ impl DecompositionTables {
 }
 
 /// What single decomposition steps need besides the words.
-#[derive(Drop, Clone, PartialEq, Eq)]
+#[derive(Clone, PartialEq, Eq)]
 pub struct NonRecursiveDecompositionSupplement {
     /// The words of the characters that need them.
     pub table: CodePointTable,
     /// The pairs of characters that they point to.
     pub scalars24: Scalars24,
+}
+
+// Written out, so that each place that drops one makes one call.
+impl Drop for NonRecursiveDecompositionSupplement {
+    fn drop(self) {
+        let NonRecursiveDecompositionSupplement {
+            table: _table,
+            scalars24: _scalars24,
+        } = self;
+    }
 }
 
 impl Model for NonRecursiveDecompositionSupplement {

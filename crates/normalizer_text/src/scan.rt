@@ -6,8 +6,10 @@ ghost use Rattle.normalizer_text.specs.Scans.{leading_below};
 
 use std::simd::prelude::*;
 
-/// How many units a vector holds.
+/// How many units the first vector holds: most runs end in it.
 const LANES: usize = 16;
+/// How many units each vector after it holds.
+const MORE_LANES: usize = 32;
 
 /// Units that are compared with a bound by a vector, or one alone.
 pub(crate) trait Lanes: Copy {
@@ -21,10 +23,15 @@ pub(crate) trait Lanes: Copy {
         requires { position < length (units self) }
         ensures { result ≡ nat_lt (slice_index (units self) position) bound };
 
-    /// Returns how many units of the vector at a position come before the first one that is not below the bound.
+    /// Returns how many units of the first vector, at a position, come before the first one that is not below the bound.
     fn lanes_below(self, position: usize, bound: u32) -> usize
         requires { position + LANES ≤ length (units self) }
         ensures { result ≡ leading_below bound (take LANES (drop position (units self))) };
+
+    /// Returns the same of a vector after it.
+    fn more_lanes_below(self, position: usize, bound: u32) -> usize
+        requires { position + MORE_LANES ≤ length (units self) }
+        ensures { result ≡ leading_below bound (take MORE_LANES (drop position (units self))) };
 }
 
 /// Returns the end of the units from a position on that are all below the bound.
@@ -38,13 +45,20 @@ pub(crate) fn end_of_below<L: Lanes>(units: L, position: usize, bound: u32) -> u
     if end < len && !units.is_below(end, bound) {
         return end;
     }
-    while len - end >= LANES {
+    if len - end >= LANES {
         let below = units.lanes_below(end, bound);
-        if below < LANES {
+        if below != LANES {
+            return end + below;
+        }
+        end += LANES;
+    }
+    while len - end >= MORE_LANES {
+        let below = units.more_lanes_below(end, bound);
+        if below != MORE_LANES {
             return end + below;
         }
         // By a constant, so that the processor can load the next vector before it has compared this one.
-        end += LANES;
+        end += MORE_LANES;
     }
     while end < len && units.is_below(end, bound) {
         end += 1;
@@ -52,16 +66,30 @@ pub(crate) fn end_of_below<L: Lanes>(units: L, position: usize, bound: u32) -> u
     end
 }
 
-/// Returns how many lanes come before the first one whose bit is set.
+/// Returns how many of so many lanes come before the first one whose bit is set.
 #[inline(always)]
-fn lanes_before_set(mask: u64) -> usize
-    ensures { result ≡ (if mask == 0 then LANES else trailing_zeros w64 mask) }
+fn lanes_before_set(mask: u64, lanes: usize) -> usize
+    ensures { result ≡ (if mask == 0 then lanes else trailing_zeros w64 mask) }
 {
     if mask == 0 {
-        LANES
+        lanes
     } else {
         mask.trailing_zeros() as usize
     }
+}
+
+/// Returns how many of the N bytes at a position come before the first one that is not below the bound.
+#[inline(always)]
+fn byte_lanes_below<const N: usize>(bytes: &[u8], position: usize, bound: u32) -> usize
+    requires few { N ≤ 64 }
+    requires room { position + N ≤ length bytes.now }
+    ensures { result ≡ leading_below bound (take N (drop position bytes.now)) }
+{
+    let Ok(bound) = u8::try_from(bound) else {
+        return N;
+    };
+    let vector = Simd::<u8, N>::from_slice(&bytes[position..]);
+    lanes_before_set(vector.simd_ge(Simd::splat(bound)).to_bitmask(), N)
 }
 
 impl<'a> Lanes for &'a [u8] {
@@ -79,12 +107,27 @@ impl<'a> Lanes for &'a [u8] {
 
     #[inline(always)]
     fn lanes_below(self, position: usize, bound: u32) -> usize {
-        let Ok(bound) = u8::try_from(bound) else {
-            return LANES;
-        };
-        let reaches = u8x16::from_slice(&self[position..]).simd_ge(u8x16::splat(bound));
-        lanes_before_set(reaches.to_bitmask())
+        byte_lanes_below::<LANES>(self, position, bound)
     }
+
+    #[inline(always)]
+    fn more_lanes_below(self, position: usize, bound: u32) -> usize {
+        byte_lanes_below::<MORE_LANES>(self, position, bound)
+    }
+}
+
+/// Returns how many of the N 16-bit units at a position come before the first one that is not below the bound.
+#[inline(always)]
+fn unit_lanes_below<const N: usize>(units: &[u16], position: usize, bound: u32) -> usize
+    requires few { N ≤ 64 }
+    requires room { position + N ≤ length units.now }
+    ensures { result ≡ leading_below bound (take N (drop position units.now)) }
+{
+    let Ok(bound) = u16::try_from(bound) else {
+        return N;
+    };
+    let vector = Simd::<u16, N>::from_slice(&units[position..]);
+    lanes_before_set(vector.simd_ge(Simd::splat(bound)).to_bitmask(), N)
 }
 
 impl<'a> Lanes for &'a [u16] {
@@ -102,10 +145,11 @@ impl<'a> Lanes for &'a [u16] {
 
     #[inline(always)]
     fn lanes_below(self, position: usize, bound: u32) -> usize {
-        let Ok(bound) = u16::try_from(bound) else {
-            return LANES;
-        };
-        let reaches = u16x16::from_slice(&self[position..]).simd_ge(u16x16::splat(bound));
-        lanes_before_set(reaches.to_bitmask())
+        unit_lanes_below::<LANES>(self, position, bound)
+    }
+
+    #[inline(always)]
+    fn more_lanes_below(self, position: usize, bound: u32) -> usize {
+        unit_lanes_below::<MORE_LANES>(self, position, bound)
     }
 }

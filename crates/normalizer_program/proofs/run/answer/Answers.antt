@@ -6,16 +6,23 @@ use Rattle.normalizer_io.specs.Transfer.{AppendsFront}
 use Rattle.normalizer_program.specs.declared.ending.ToolFault.TheVariants.{Write}
 use Rattle.normalizer_program.proofs.run.answer.Goals as goal
 
-pub returns-in_err-write_all-clause-outcome : goal.returns-in_err-write_all-clause-outcome
-returns-in_err-write_all-clause-outcome g c = λ command held served.
-    let reply = c.in_ok-reply.reply in
+pub returns-in_err-write_all : goal.returns-in_err-write_all
+returns-in_err-write_all g c = λ command held served.
+    let answer = c.in_ok-answer.answer in
+    let output = string_bytes c.in_ok-answer.output in
     let refused : c.from_residual-in_err-write_all.result ≡ Err Write = search rules in
-    let replies : Replies command held (g.R.Source.bytes_left c.args.reader.now) reply.answer (string_bytes reply.output) = record {
+    let replies : Replies command held (g.R.Source.bytes_left c.args.reader.now) answer output = record {
       work = work_by c.args.worker.now;
       served = served;
       input = c.in_ok-input.input.items;
       whole = c.in_ok-input.ensures.bytes;
       reply = search rules;
     } in
-    let front : AppendsFront (g.W.Target.bytes_taken c.args.writer.now) (g.W.Target.bytes_taken c.write_all.new.writer) (string_bytes reply.output) = search rules in
-    rw refused (reply.answer, string_bytes reply.output, replies, front)
+    let front : AppendsFront (g.W.Target.bytes_taken c.args.writer.now) (g.W.Target.bytes_taken c.write_all.new.writer) output = search rules in
+    record {
+      outcome = rw refused (answer, output, replies, front);
+      read = search rules;
+      write = search rules;
+      unwritten = search rules;
+      unread = search rules;
+    }
