@@ -5,10 +5,10 @@ use Rattle.normalizer_built.specs.declared.NormalForm.TheVariants.{Nfd, Nfc, Nfk
 use Rattle.normalizer_streams.specs.declared.scheme.ByteOrder.TheVariants.{Big, Little}
 use Rattle.normalizer_streams.specs.declared.scheme.EncodingScheme.{EncodingScheme}
 use Rattle.normalizer_streams.specs.declared.scheme.EncodingScheme.TheVariants.{Utf8, Utf16}
-use Rattle.normalizer_command.specs.declared.mapping.MapperTask.{MapperTask}
-use Rattle.normalizer_command.specs.declared.mapping.MapperTask.TheVariants.{Map, Validate}
-use Rattle.normalizer_command.specs.declared.reply.Task.{Task}
-use Rattle.normalizer_command.specs.declared.reply.Task.TheVariants.{Write, Check, Locate}
+use Rattle.normalizer_replies.specs.declared.mapping.MapperTask.{MapperTask}
+use Rattle.normalizer_replies.specs.declared.mapping.MapperTask.TheVariants.{Map, Validate}
+use Rattle.normalizer_replies.specs.declared.reply.Task.{Task}
+use Rattle.normalizer_replies.specs.declared.reply.Task.TheVariants.{Write, Check, Locate}
 
 -- the word of a form
 abbrev pub NamesForm : NormalForm → List ℕ → Type 0

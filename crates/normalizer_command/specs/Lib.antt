@@ -1,14 +1,8 @@
 pub mod UnicodeFiles
 pub mod Devices
 pub mod FileFaults
-pub mod Lines
-pub mod Making
-pub mod Mismatches
 pub mod Outcomes
-pub mod Replies
 pub mod FileReports
 pub mod Runs
 pub mod Versions
 pub mod Arguments
-pub mod Works
-pub mod inner

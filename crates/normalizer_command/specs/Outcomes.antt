@@ -6,13 +6,13 @@ use Rattle.normalizer_io.specs.declared.outcome.Answer.{Answer}
 use Rattle.normalizer_io.specs.declared.outcome.Answer.TheVariants.{Done, No}
 use Rattle.normalizer_command.specs.declared.fault.Fault.{Fault}
 use Rattle.normalizer_command.specs.declared.fault.Fault.TheVariants.{Open, Write}
-use Rattle.normalizer_command.specs.declared.reply.Task.TheVariants as task
+use Rattle.normalizer_replies.specs.declared.reply.Task.TheVariants as task
 use Rattle.normalizer_streams.specs.Streams.{IsEndless}
 use Rattle.normalizer_command.specs.Devices.{Devices}
 use Rattle.normalizer_command.specs.FileFaults.{IsFileFault}
-use Rattle.normalizer_command.specs.Replies.{IsReply}
+use Rattle.normalizer_replies.specs.Replies.{IsReply}
 use Rattle.normalizer_command.specs.FileReports.{Report, Tells}
-use Rattle.normalizer_command.specs.Works.{Work, OfForm}
+use Rattle.normalizer_replies.specs.Works.{Work, OfForm}
 
 -- the output, what was reported, and the exit status so far
 pub record State (W : Type 0) : Type 0 where

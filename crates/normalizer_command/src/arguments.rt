@@ -2,15 +2,13 @@
 ghost use Rattle.std.specs.Prelude.{◌≡◌, ◌↔◌, Some};
 ghost use Rattle.normalizer_built.specs.declared.NormalForm.{NormalForm};
 ghost use Rattle.normalizer_streams.specs.declared.scheme.EncodingScheme.{EncodingScheme};
-ghost use Rattle.normalizer_command.specs.declared.mapping.MapperTask.{MapperTask};
-ghost use Rattle.normalizer_command.specs.declared.reply.Task.{Task};
+ghost use Rattle.normalizer_replies.specs.declared.mapping.MapperTask.{MapperTask};
+ghost use Rattle.normalizer_replies.specs.declared.reply.Task.{Task};
 ghost use Rattle.normalizer_command.specs.Arguments.{NamesForm, NamesMapperTask, NamesScheme, NamesTask};
 
-use crate::mapping::MapperTask;
-use crate::reply::Task;
-use crate::worker::Command as FileCommand;
 use clap::{Arg, ArgAction, ArgMatches, Command, Error};
 use normalizer_built::NormalForm;
+use normalizer_replies::{Command as FileCommand, MapperTask, Task};
 use normalizer_streams::{ByteOrder, EncodingScheme};
 use std::alloc::{AllocError, Global};
 
@@ -169,11 +167,16 @@ fn form_named(word: &str) -> Option<NormalForm>
 }
 
 fn command<'a>(alloc: Global) -> Result<Command<'a>, AllocError> {
-    Command::new(alloc, "uninorm")
+    let command = Command::new(alloc, "uninorm")
         .about("Writes the normal forms of text (Unicode Standard Annex #15)")
         .after_help(AFTER_HELP)
         .arg(word(alloc))?
-        .arg(files(alloc))?
+        .arg(files(alloc))?;
+    with_options(alloc, command)
+}
+
+fn with_options<'a>(alloc: Global, command: Command<'a>) -> Result<Command<'a>, AllocError> {
+    command
         .arg(directory(alloc))?
         .arg(encoding(alloc))?
         .arg(version(alloc))

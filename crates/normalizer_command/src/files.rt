@@ -1,17 +1,20 @@
 //! A command over files.
-ghost use Rattle.std.specs.Prelude.{◌≡◌, ◌≢◌, ◌↔◌, ◌⊎◌, IsTrue, map, IfOk, IfErr, IsErrOf};
+ghost use Rattle.std.specs.Prelude.{◌≡◌, ◌≢◌, ◌↔◌, ◌⊎◌, ℕ, IsTrue, List, map, IfOk, IfErr, IsErrOf};
+ghost use Rattle.std.specs.Io.KnownBytes.{Appends};
+ghost use Rattle.normalizer_io.specs.declared.outcome.Answer.{Answer};
+ghost use Rattle.normalizer_io.specs.Transfer.{AppendsFront};
+ghost use Rattle.normalizer_replies.specs.Replies.{IsReply};
 ghost use Rattle.normalizer_streams.specs.Streams.{IsEndless};
 ghost use Rattle.normalizer_command.specs.Devices.{devices};
 ghost use Rattle.normalizer_command.specs.FileFaults.{IsFileFault};
 ghost use Rattle.normalizer_command.specs.Outcomes.{AreDone, IsCutOff, IsWritten, Leaves, greater, state, status_of};
 ghost use Rattle.normalizer_command.specs.FileReports.{Tells};
-ghost use Rattle.normalizer_command.specs.Works.{Does, RepliesAtEnd, Work};
+ghost use Rattle.normalizer_replies.specs.Works.{Does, RepliesAtEnd, Work};
 
 use crate::devices::{Inputs, Reports};
 use crate::fault::Fault;
-use crate::reply::Task;
-use crate::worker::Worker;
 use normalizer_io::{Answer, Source, Target, read_all, write_all};
+use normalizer_replies::{Task, Worker};
 use normalizer_streams::write_form;
 use std::alloc::Global;
 
@@ -107,7 +110,28 @@ fn write_reply<S: Source, W: Target>(
     ensures unwritten { IfErr result (λ fault. fault ≢ Fault.Write → writer.new ≡ writer.old) }
 {
     let bytes = read_all(alloc, input)?;
-    let reply = worker.reply(alloc, name, &bytes)?;
+    write_reply_to(alloc, worker, name, &bytes, writer)
+}
+
+/// Computes the reply to bytes, and only then writes it.
+fn write_reply_to<W: Target>(
+    alloc: Global,
+    worker: &Worker,
+    name: &str,
+    bytes: &[u8],
+    writer: &mut W,
+) -> Result<Answer, Fault>
+    requires { RepliesAtEnd worker.now }
+    ensures done { (w : Work) → Does worker.now w → IfOk result (λ answer. (output : List ℕ)
+        × IsReply w name.now bytes.now answer output
+        × Appends (W.bytes_taken writer.old) (W.bytes_taken writer.new) output) }
+    ensures why { IfErr result (IsFileFault (λ _. ⊥) ⊥ (W.refusal writer.old writer.new)) }
+    ensures cut { (w : Work) → Does worker.now w → IsErrOf result Fault.Write → (answer : Answer) × (output : List ℕ)
+        × IsReply w name.now bytes.now answer output
+        × AppendsFront (W.bytes_taken writer.old) (W.bytes_taken writer.new) output }
+    ensures unwritten { IfErr result (λ fault. fault ≢ Fault.Write → writer.new ≡ writer.old) }
+{
+    let reply = worker.reply(alloc, name, bytes)?;
     write_all(writer, &reply.output)?;
     Ok(reply.answer)
 }

@@ -8,16 +8,16 @@ ghost use Rattle.normalizer_command.specs.Devices.{devices};
 ghost use Rattle.normalizer_command.specs.Outcomes.{AreDone, state};
 ghost use Rattle.normalizer_command.specs.FileReports.{Tells};
 ghost use Rattle.normalizer_command.specs.Runs.{IsRun, RunsByFiles};
-ghost use Rattle.normalizer_command.specs.Works.{work_by};
+ghost use Rattle.normalizer_replies.specs.Works.{work_by};
 
 use crate::devices::{Inputs, Reports};
 use crate::fault::Fault;
 use crate::files::over_files;
 use crate::unicode_files::{DataFault, built, path, read_files};
-use crate::worker::{Command, worker_for};
 use normalizer_builder::Built;
 use normalizer_io::Target;
 use normalizer_iterators::NormalizeError;
+use normalizer_replies::{Command, worker_for};
 use normalizer_ucd::UcdFile;
 use std::alloc::Global;
 

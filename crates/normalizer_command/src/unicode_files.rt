@@ -17,10 +17,10 @@ ghost use Rattle.normalizer_ucd.specs.declared.error.LineFault.{LineFault};
 
 use crate::devices::Inputs;
 use crate::fault::Fault;
-use crate::worker::Command;
 use normalizer_builder::{Built, Records};
 use normalizer_io::read_all;
 use normalizer_records::{Record, Uts46Record};
+use normalizer_replies::Command;
 use normalizer_ucd::{
     Disallowed, UcdError, UcdFile, records_of_unicode_data, uts46_records_of_idna_table,
 };

@@ -1,0 +1,6 @@
+pub mod CodePointLemmas
+pub mod LineLemmas
+pub mod MakingLemmas
+pub mod MapperLemmas
+pub mod MismatchLemmas
+pub mod WorkLemmas

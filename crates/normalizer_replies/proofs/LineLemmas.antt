@@ -1,0 +1,89 @@
+-- The lines of a text: one after another, and by mappings that make the same.
+use Rattle.std.proofs.Common.{◌≡◌, ℕ, ◌+◌, ◌==◌, ◌<◌, ◌≤◌, suc, List, [], ◌∷◌, ◌++◌, length, drop, get_or, map, Bor, append-nil, append_assoc, refl, sym, ap, ◌∙◌, arith}
+use Rattle.std.specs.Prelude.{bytes_eq, not, ◌&&◌}
+use Rattle.std.specs.List.{join_with_byte, list_any}
+use Rattle.std.proofs.Math.Dec.{eqb-suc-zero}
+use Rattle.std.proofs.Math.Seq.{drop-cons}
+use Rattle.std.proofs.Math.ListN.{drop_of_length-le}
+use Rattle.normalizer_text.proofs.rules.EncodingLemmas.{encoded_in-append}
+use Rattle.normalizer_text.specs.Encodings.{encoded_in}
+use Rattle.icu_normalizer.specs.Uts46.{MapperData}
+use Rattle.normalizer_streams.specs.declared.scheme.EncodingScheme.{EncodingScheme}
+use Rattle.normalizer_streams.specs.declared.scheme.EncodingScheme.TheVariants.{Utf8, Utf16}
+use Rattle.normalizer_streams.specs.Schemes.{bytes_of, encoded_by, encoding_of}
+use Rattle.normalizer_streams.proofs.SchemeLemmas.{bytes-append}
+use Rattle.normalizer_replies.specs.declared.mapping.MapperTask.{MapperTask}
+use Rattle.normalizer_replies.specs.declared.mapping.MapperTask.TheVariants.{Map, Validate}
+use Rattle.normalizer_replies.specs.Making.{Mapping, Maps, mapping_of}
+use Rattle.normalizer_replies.specs.Lines.{invalid_lines, is_valid_line, line_feed, mapped_lines, told_unless}
+use Rattle.normalizer_replies.specs.inner.EachLine.{replies_to, reply_to}
+
+abbrev pub texts : List (Bor (List ℕ)) → List (List ℕ)
+texts lines = map (λ line. line.now) lines
+
+abbrev pub line_at : List (Bor (List ℕ)) → ℕ → List ℕ
+line_at lines i = (get_or lines i (record { ref_ptr = (0, 0); now = [] })).now
+
+next_line : (lines : List (Bor (List ℕ))) (i : ℕ) → i < length lines → texts (drop i lines) ≡ line_at lines i ∷ texts (drop (i + 1) lines)
+next_line lines i lt = let e : i + 1 ≡ suc i = omega arith in rw e (ap texts (drop-cons lines i (record { ref_ptr = (0, 0); now = [] }) lt))
+
+module _ (task : MapperTask) (s : EncodingScheme) (m : Mapping) (name : List ℕ) (lines : List (Bor (List ℕ))) (i : ℕ) (output : List ℕ) where
+  -- a line more in a loop
+  pub one_more : (reply more all : List ℕ) → i < length lines → more ≡ output ++ reply → reply ≡ reply_to task s m name i (line_at lines i)
+      → output ++ replies_to task s m name i (texts (drop i lines)) ≡ all → more ++ replies_to task s m name (i + 1) (texts (drop (i + 1) lines)) ≡ all
+  one_more reply more all lt grown is before =
+      let rest = replies_to task s m name (i + 1) (texts (drop (i + 1) lines)) in
+      let now : replies_to task s m name i (texts (drop i lines)) ≡ reply_to task s m name i (line_at lines i) ++ rest = rw (next_line lines i lt) refl in
+      ap (λ x. x ++ rest) (grown ∙ ap (λ x. output ++ x) is) ∙ append_assoc output (reply_to task s m name i (line_at lines i)) rest
+      ∙ ap (λ x. output ++ x) (sym now) ∙ before
+
+  -- no line is left
+  pub is_done : (all : List ℕ) → length lines ≤ i → output ++ replies_to task s m name i (texts (drop i lines)) ≡ all → output ≡ all
+  is_done all le before =
+      let none : replies_to task s m name i (texts (drop i lines)) ≡ [] = rw (drop_of_length-le lines le) refl in
+      sym (append-nil output) ∙ ap (λ x. output ++ x) (sym none) ∙ before
+
+module _ (s : EncodingScheme) where
+  encoded_by-append : (x y : List ℕ) → encoded_by s (x ++ y) ≡ encoded_by s x ++ encoded_by s y
+  encoded_by-append x y = ap (bytes_of s) (encoded_in-append (encoding_of s) x y) ∙ bytes-append s (encoded_in (encoding_of s) x) (encoded_in (encoding_of s) y)
+
+  module _ (m : Mapping) (name : List ℕ) where
+    joined : (first : List ℕ) (n : ℕ) (lines : List (List ℕ))
+        → encoded_by s (join_with_byte line_feed (first ∷ map m.map lines)) ≡ encoded_by s first ++ replies_to Map s m name (suc n) lines
+    joined first n [] = sym (append-nil (encoded_by s first))
+    joined first n (line ∷ lines) =
+        let feed = line_feed ∷ [] in
+        let rest = replies_to Map s m name (suc (suc n)) lines in
+        let e : suc n + 1 ≡ suc (suc n) = omega arith in
+        let later : encoded_by s (join_with_byte line_feed (m.map line ∷ map m.map lines)) ≡ encoded_by s (m.map line) ++ rest = joined (m.map line) (suc n) lines in
+        rw (eqb-suc-zero n, e) (encoded_by-append first (line_feed ∷ join_with_byte line_feed (m.map line ∷ map m.map lines))
+        ∙ ap (λ x. encoded_by s first ++ x) (encoded_by-append feed (join_with_byte line_feed (m.map line ∷ map m.map lines))
+        ∙ ap (λ x. encoded_by s feed ++ x) later ∙ sym (append_assoc (encoded_by s feed) (encoded_by s (m.map line)) rest)
+        ∙ ap (λ x. x ++ rest) (sym (encoded_by-append feed (m.map line)))))
+
+    pub map-replies : (lines : List (List ℕ)) → replies_to Map s m name 0 lines ≡ encoded_by s (mapped_lines m lines)
+    map-replies [] = nothing s
+      where
+        nothing : (s : EncodingScheme) → [] ≡ encoded_by s []
+        nothing Utf8 = refl
+        nothing (Utf16 order) = refl
+    map-replies (line ∷ lines) = sym (joined (m.map line) 0 lines)
+
+    pub validate-replies : (n : ℕ) (lines : List (List ℕ)) → replies_to Validate s m name n lines ≡ invalid_lines m name (n + 1) lines
+    validate-replies n [] = refl
+    validate-replies n (line ∷ lines) = ap (λ x. told_unless (is_valid_line m line) name (n + 1) ++ x) (validate-replies (n + 1) lines)
+
+-- mappings that make the same of every text
+module _ (h : MapperData) (m : Mapping) (maps : Maps h m) where
+  mapped_each : (lines : List (List ℕ)) → map (mapping_of h).map lines ≡ map m.map lines
+  mapped_each [] = refl
+  mapped_each (line ∷ lines) = ap (λ x. x ∷ map (mapping_of h).map lines) (maps.same_map line) ∙ ap (λ xs. m.map line ∷ xs) (mapped_each lines)
+
+  pub mapped_lines-by : (lines : List (List ℕ)) → mapped_lines (mapping_of h) lines ≡ mapped_lines m lines
+  mapped_lines-by lines = ap (join_with_byte line_feed) (mapped_each lines)
+
+  pub invalid_lines-by : (name : List ℕ) (n : ℕ) (lines : List (List ℕ)) → invalid_lines (mapping_of h) name n lines ≡ invalid_lines m name n lines
+  invalid_lines-by name n [] = refl
+  invalid_lines-by name n (line ∷ lines) =
+      ap (λ x. told_unless (not (list_any (λ c. c == 0xFFFD) line) && bytes_eq x line) name n ++ invalid_lines (mapping_of h) name (n + 1) lines) (maps.same_validate line)
+      ∙ ap (λ x. told_unless (is_valid_line m line) name n ++ x) (invalid_lines-by name (n + 1) lines)

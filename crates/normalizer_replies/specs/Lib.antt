@@ -1,0 +1,6 @@
+pub mod Lines
+pub mod Making
+pub mod Mismatches
+pub mod Replies
+pub mod Works
+pub mod inner

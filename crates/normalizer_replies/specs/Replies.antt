@@ -1,0 +1,48 @@
+-- The reply to the bytes of a file, and what is written.
+use Rattle.std.specs.Prelude.{◌≡◌, ℕ, List, [], Option}
+use Rattle.normalizer_text.specs.EncodedForm.{encoded_form}
+use Rattle.normalizer_text.specs.InputCut.{IsInputNormalized}
+use Rattle.normalizer_text.specs.InputOffence.{IsInputOffenceOf}
+use Rattle.normalizer_text.specs.declared.offence.Offence.{Offence}
+use Rattle.normalizer_io.specs.declared.outcome.Answer.{Answer}
+use Rattle.normalizer_io.specs.declared.outcome.Answer.TheVariants.{Done, No}
+use Rattle.normalizer_streams.specs.declared.scheme.EncodingScheme.{EncodingScheme}
+use Rattle.normalizer_streams.specs.Schemes.{bytes_of, decoded_by, encoded_by, encoding_of, units_of}
+use Rattle.normalizer_replies.specs.declared.mapping.MapperTask.{MapperTask}
+use Rattle.normalizer_replies.specs.declared.mapping.MapperTask.TheVariants.{Map, Validate}
+use Rattle.normalizer_replies.specs.declared.reply.Task.{Task}
+use Rattle.normalizer_replies.specs.declared.reply.Task.TheVariants.{Write, Check, Locate}
+use Rattle.normalizer_replies.specs.Lines.{TellsInvalid, line_of, lines_of, mapped_lines}
+use Rattle.normalizer_replies.specs.Making.{Making, Mapping}
+use Rattle.normalizer_replies.specs.Mismatches.{TellsMismatch}
+use Rattle.normalizer_replies.specs.Works.{Work, OfForm, OfMapper}
+
+-- the bytes are well-formed and already normalized, or are not
+abbrev pub IsInForm : EncodingScheme → Making → List ℕ → Type 0
+IsInForm s m input = IsInputNormalized (encoding_of s) m.reading m.form (units_of s input)
+
+-- the form of what the bytes decode to, as they are encoded; the name on a line if they aren't in the form; or the line
+-- of their first mismatch
+abbrev pub IsReplyOfForm : Task → EncodingScheme → Making → (name input : List ℕ) → Answer → (output : List ℕ) → Type 0
+IsReplyOfForm Write s m name input answer output =
+    (answer ≡ Done) × (output ≡ bytes_of s (encoded_form (encoding_of s) m.reading m.form (units_of s input)))
+IsReplyOfForm Check s m name input Done output = IsInForm s m input × (output ≡ [])
+IsReplyOfForm Check s m name input No output = (¬ IsInForm s m input) × (output ≡ line_of name)
+IsReplyOfForm Locate s m name input answer output = (mismatch : Option Offence)
+    × IsInputOffenceOf (encoding_of s) m.reading m.form (units_of s input) mismatch
+    × TellsMismatch s name input mismatch answer output
+
+-- the lines, each mapped by itself, encoded; or the numbers of those that aren't valid
+abbrev pub IsReplyOfLines : MapperTask → EncodingScheme → Mapping → (name : List ℕ) → (lines : List (List ℕ)) → Answer
+    → (output : List ℕ) → Type 0
+IsReplyOfLines Map s m name lines answer output = (answer ≡ Done) × (output ≡ encoded_by s (mapped_lines m lines))
+IsReplyOfLines Validate s m name lines answer output = TellsInvalid m name lines answer output
+
+-- by the lines of what the bytes decode to
+abbrev pub IsReplyOfMapper : MapperTask → EncodingScheme → Mapping → (name input : List ℕ) → Answer
+    → (output : List ℕ) → Type 0
+IsReplyOfMapper task s m name input answer output = IsReplyOfLines task s m name (lines_of (decoded_by s input)) answer output
+
+abbrev pub IsReply : Work → (name input : List ℕ) → Answer → (output : List ℕ) → Type 0
+IsReply (OfForm task s m) name input answer output = IsReplyOfForm task s m name input answer output
+IsReply (OfMapper task s m) name input answer output = IsReplyOfMapper task s m name input answer output

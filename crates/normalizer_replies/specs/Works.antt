@@ -1,0 +1,36 @@
+-- What is done with files.
+use Rattle.std.specs.Prelude.{◌≡◌, List, ⊤}
+use Rattle.normalizer_records.specs.RecordValue.{RecordValue, Uts46RecordValue}
+use Rattle.icu_normalizer.specs.Mappers.{mapper_data_of}
+use Rattle.normalizer_streams.specs.declared.scheme.EncodingScheme.{EncodingScheme}
+use Rattle.normalizer_replies.specs.declared.mapping.MapperTask.{MapperTask}
+use Rattle.normalizer_replies.specs.declared.reply.Task.{Task}
+use Rattle.normalizer_replies.specs.declared.reply.Task.TheVariants as task
+use Rattle.normalizer_replies.specs.declared.worker.Command.{Command}
+use Rattle.normalizer_replies.specs.declared.worker.Command.TheVariants as command
+use Rattle.normalizer_replies.specs.declared.worker.Worker.{Worker}
+use Rattle.normalizer_replies.specs.declared.worker.Worker.TheVariants as worker
+use Rattle.normalizer_replies.specs.Making.{Making, Makes, Mapping, Maps, making_by, mapping_by}
+
+-- something of a normal form, or something of the mapper
+pub data Work : Type 0 where
+  OfForm : Task → EncodingScheme → Making → Work
+  OfMapper : MapperTask → EncodingScheme → Mapping → Work
+
+-- the work of a command, by what records mean
+abbrev pub work_by : List RecordValue → List Uts46RecordValue → Command → Work
+work_by records uts46 (command.OfForm task scheme form) = OfForm task scheme (making_by records form)
+work_by records uts46 (command.OfMapper task scheme) = OfMapper task scheme (mapping_by records uts46)
+
+-- the worker does this work
+abbrev pub Does : Worker → Work → Type 0
+Does (worker.OfForm task scheme n) (OfForm task' scheme' m) = (task ≡ task') × (scheme ≡ scheme') × Makes n m
+Does (worker.OfForm task scheme n) (OfMapper task' scheme' m) = ⊥
+Does (worker.OfMapper task scheme n) (OfForm task' scheme' m) = ⊥
+Does (worker.OfMapper task scheme n) (OfMapper task' scheme' m) =
+    (task ≡ task') × (scheme ≡ scheme') × Maps (mapper_data_of n) m
+
+-- it reads a file to its end before it writes, as for all but writing a form
+abbrev pub RepliesAtEnd : Worker → Type 0
+RepliesAtEnd (worker.OfForm task.Write scheme n) = ⊥
+RepliesAtEnd other = ⊤

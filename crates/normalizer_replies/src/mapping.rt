@@ -1,0 +1,208 @@
+//! What is done with a file by the mapper.
+ghost use Rattle.std.specs.Prelude.{◌≡◌, ◌↔◌, ◌<◌, ◌+◌, ◌^◌, ◌==◌, ◌++◌, [], IfOk, IsOkUnless, map, bytes_eq, string_bytes};
+ghost use Rattle.std.specs.List.{list_any};
+ghost use Rattle.icu_normalizer.specs.Mappers.{mapper_data_of, mapper_data_of_borrowed};
+ghost use Rattle.normalizer_replies.specs.Lines.{invalid_line, is_valid_line, lines_of, told_unless};
+ghost use Rattle.normalizer_replies.specs.Making.{mapping_of, Mapping, Maps};
+ghost use Rattle.normalizer_replies.specs.Replies.{IsReplyOfLines, IsReplyOfMapper};
+ghost use Rattle.normalizer_replies.specs.inner.EachLine.{feed_unless, replies_to, reply_to};
+
+use crate::reply::Reply;
+use icu_normalizer::uts46::{Uts46Mapper, Uts46MapperBorrowed};
+use normalizer_built::mapped;
+use normalizer_io::Answer;
+use normalizer_iterators::NormalizeError;
+use normalizer_streams::EncodingScheme;
+use normalizer_tables::characters::IgnoredCharacters::{Dropped, Replaced};
+use std::alloc::{AllocError, Global};
+
+/// What is done with a file by the mapper.
+#[derive(Clone, Copy, Debug, PartialEq, Eq)]
+pub enum MapperTask {
+    /// Its lines are written, each mapped by itself.
+    Map,
+    /// The numbers of its lines that aren't valid are written.
+    Validate,
+}
+
+impl MapperTask {
+    /// Returns the reply to the bytes of a file.
+    pub(crate) fn reply(
+        self,
+        alloc: Global,
+        scheme: EncodingScheme,
+        mapper: &Uts46Mapper,
+        name: &str,
+        bytes: &[u8],
+    ) -> Result<Reply, NormalizeError>
+        ensures reply { (m : Mapping) → Maps (mapper_data_of mapper.now) m →
+            IfOk result (λ r. IsReplyOfMapper self scheme m name.now bytes.now r.answer r.output.items) }
+        ensures refused { IsOkUnless result NormalizeError.Memory }
+    {
+        let text = scheme.decode(alloc, bytes)?;
+        self.reply_to_text(alloc, scheme, &mapper.as_borrowed(), name, &text)
+    }
+
+    /// Returns the reply to a text, by the mapper's data.
+    fn reply_to_text(
+        self,
+        alloc: Global,
+        scheme: EncodingScheme,
+        mapper: &Uts46MapperBorrowed<'_>,
+        name: &str,
+        text: &[char],
+    ) -> Result<Reply, NormalizeError>
+        ensures reply { IfOk result (λ r. IsReplyOfLines self scheme (mapping_of (mapper_data_of_borrowed mapper.now))
+            name.now (lines_of text.now) r.answer r.output.items) }
+        ensures refused { IsOkUnless result NormalizeError.Memory }
+    {
+        let lines = lines(alloc, text)?;
+        let output = self.replies_to(alloc, scheme, mapper, name, &lines)?;
+        Ok(self.finished(output))
+    }
+
+    /// The reply with this output: yes if nothing is reported.
+    fn finished(self, output: Vec<u8>) -> Reply
+        ensures output { result.output.items ≡ output.items }
+        ensures mapped { self ≡ MapperTask.Map → result.answer ≡ Answer.Done }
+        ensures valid { self ≡ MapperTask.Validate → (result.answer ≡ Answer.Done) ↔ (output.items ≡ []) }
+    {
+        let answer = match self {
+            MapperTask::Validate if !output.is_empty() => Answer::No,
+            _ => Answer::Done,
+        };
+        Reply { answer, output }
+    }
+
+    /// What is written of the lines.
+    fn replies_to(
+        self,
+        alloc: Global,
+        scheme: EncodingScheme,
+        mapper: &Uts46MapperBorrowed<'_>,
+        name: &str,
+        lines: &[&[char]],
+    ) -> Result<Vec<u8>, NormalizeError>
+        ensures written { IfOk result (λ output. output.items ≡ replies_to self scheme
+            (mapping_of (mapper_data_of_borrowed mapper.now)) name.now 0 (map (λ line. line.now) lines.now)) }
+        ensures refused { IsOkUnless result NormalizeError.Memory }
+    {
+        let mut output = Vec::new(alloc);
+        for (index, line) in lines.iter().enumerate() {
+            let reply = self.reply_to(alloc, scheme, mapper, name, index, line)?;
+            output.extend_from_slice(&reply)?;
+        }
+        Ok(output)
+    }
+
+    /// What is written of a line.
+    fn reply_to(
+        self,
+        alloc: Global,
+        scheme: EncodingScheme,
+        mapper: &Uts46MapperBorrowed<'_>,
+        name: &str,
+        index: usize,
+        line: &[char],
+    ) -> Result<Vec<u8>, NormalizeError>
+        requires { index + 1 < 2 ^ 64 }
+        ensures written { IfOk result (λ reply. reply.items ≡ reply_to self scheme
+            (mapping_of (mapper_data_of_borrowed mapper.now)) name.now index line.now) }
+        ensures refused { IsOkUnless result NormalizeError.Memory }
+    {
+        match self {
+            MapperTask::Map => {
+                let mapped = mapped_line(alloc, mapper, index == 0, line)?;
+                Ok(scheme.encode(alloc, &mapped)?)
+            }
+            MapperTask::Validate => {
+                let is_valid = is_valid_line(alloc, mapper, line)?;
+                Ok(told_unless(alloc, is_valid, name, index + 1)?)
+            }
+        }
+    }
+}
+
+/// What is between line feeds.
+fn lines(alloc: Global, text: &[char]) -> Result<Vec<&[char]>, AllocError>
+    ensures { IfOk result (λ lines. map (λ line. line.now) lines.items ≡ lines_of text.now) }
+{
+    text.split(|c| *c == '\n').collect(alloc)
+}
+
+/// A line, mapped; but for the first, after a line feed.
+fn mapped_line(
+    alloc: Global,
+    mapper: &Uts46MapperBorrowed<'_>,
+    is_first: bool,
+    line: &[char],
+) -> Result<Vec<char>, NormalizeError>
+    ensures mapped { IfOk result (λ text. text.items
+        ≡ feed_unless is_first ++ (mapping_of (mapper_data_of_borrowed mapper.now)).map line.now) }
+    ensures refused { IsOkUnless result NormalizeError.Memory }
+{
+    let mut text = feed_unless(alloc, is_first)?;
+    let mapped = mapped(alloc, mapper, Dropped, line.iter().copied())?;
+    text.extend_from_slice(&mapped)?;
+    Ok(text)
+}
+
+/// A line feed, or nothing.
+fn feed_unless(alloc: Global, is_first: bool) -> Result<Vec<char>, AllocError>
+    ensures { IfOk result (λ text. text.items ≡ feed_unless is_first) }
+{
+    let mut text = Vec::new(alloc);
+    if !is_first {
+        text.push('\n')?;
+    }
+    Ok(text)
+}
+
+/// The report of a line, unless it is valid.
+fn told_unless(
+    alloc: Global,
+    is_valid: bool,
+    name: &str,
+    number: usize,
+) -> Result<Vec<u8>, AllocError>
+    ensures { IfOk result (λ report. report.items ≡ told_unless is_valid name.now number) }
+{
+    if is_valid {
+        return Ok(Vec::new(alloc));
+    }
+    Ok(invalid_line(alloc, name, number)?.into_bytes())
+}
+
+/// The name of the file, and the number of a line.
+fn invalid_line(alloc: Global, name: &str, number: usize) -> Result<String, AllocError>
+    ensures { IfOk result (λ line. string_bytes line ≡ invalid_line name.now number) }
+{
+    format!(in alloc; "{name}:{number}: invalid\n")
+}
+
+/// Whether validation leaves a line as it is, and it has no U+FFFD.
+fn is_valid_line(
+    alloc: Global,
+    mapper: &Uts46MapperBorrowed<'_>,
+    line: &[char],
+) -> Result<bool, NormalizeError>
+    ensures valid { IfOk result (λ valid. valid ≡
+        is_valid_line (mapping_of (mapper_data_of_borrowed mapper.now)) line.now) }
+    ensures refused { IsOkUnless result NormalizeError.Memory }
+{
+    let valid = mapped(alloc, mapper, Replaced, line.iter().copied())?;
+    Ok(!holds_replacement(line) && is_same(&valid, line))
+}
+
+fn is_same(a: &[char], b: &[char]) -> bool
+    ensures { result ≡ bytes_eq a.now b.now }
+{
+    a == b
+}
+
+/// Whether a text has U+FFFD.
+fn holds_replacement(text: &[char]) -> bool
+    ensures { result ≡ list_any (λ c. c == 0xFFFD) text.now }
+{
+    text.iter().any(|c| *c == char::REPLACEMENT_CHARACTER)
+}
