@@ -75,12 +75,7 @@ impl Worker {
     ///
     /// # Errors
     /// `Memory` if an allocation was refused.
-    pub fn reply(
-        &self,
-        alloc: Global,
-        name: &str,
-        bytes: &[u8],
-    ) -> Result<Reply, NormalizeError>
+    pub fn reply(&self, alloc: Global, name: &str, bytes: &[u8]) -> Result<Reply, NormalizeError>
         requires { RepliesAtEnd self.now }
         ensures reply { (w : Work) → Does self.now w →
             IfOk result (λ r. IsReply w name.now bytes.now r.answer r.output.items) }

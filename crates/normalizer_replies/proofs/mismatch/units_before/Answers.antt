@@ -1,5 +1,4 @@
 use Rattle.std.proofs.Common.{◌==◌, not, rules, tests}
-use Rattle.std.specs.Prelude.{take_while}
 use Rattle.std.proofs.lemmas.Iterator.Adapters.{YieldsList-from_rev_slice}
 use Rattle.std.proofs.lemmas.Iterator.Consumers.{count_from_yields_List}
 use Rattle.std.proofs.lemmas.Iterator.Search.{YieldsList-from_take_while}
