@@ -3,11 +3,11 @@ ghost use Rattle.std.specs.Prelude.{◌≡◌, ◌⊎◌, IfErr, IfOk, encode_ut
 ghost use Rattle.icu_normalizer.specs.Mappers.{mapper_data_of, mapper_data_of_borrowed};
 ghost use Rattle.normalizer_text.specs.Utf8.{decoded_utf8};
 ghost use Rattle.normalizer_built.specs.Mapping.{mapped_in};
-ghost use Rattle.normalizer_program.specs.Labels.{fields, TellsLabels};
+ghost use Rattle.normalizer_program.specs.Labels.{fields};
 ghost use Rattle.normalizer_program.specs.Needs.{held, IsServed, Refuses};
 ghost use Rattle.normalizer_program.specs.OffenceLines.{offence_line};
 ghost use Rattle.normalizer_program.specs.Replies.{IsReply};
-ghost use Rattle.normalizer_program.specs.Tasks.{task_of};
+ghost use Rattle.normalizer_program.specs.Tasks.{Label, task_of};
 ghost use Rattle.normalizer_program.specs.Workers.{work_by};
 
 use crate::arguments::Command;
@@ -75,12 +75,7 @@ impl Worker {
             },
             Worker::Map(mapper) => Ok((Done, mapped_text(alloc, mapper, Dropped, input)?)),
             Worker::Validate(mapper) => Ok((Done, mapped_text(alloc, mapper, Replaced, input)?)),
-            Worker::Label(mapper) => {
-                let mapper = mapper.as_borrowed();
-                let text = mapped(alloc, &mapper, Dropped, Utf8Chars::new(input))?;
-                let (answer, lines) = labels(alloc, &mapper, &text)?;
-                Ok((answer, encoded(alloc, &lines)?))
-            }
+            Worker::Label(mapper) => labels(alloc, &mapper.as_borrowed(), input),
         }
     }
 }
@@ -115,17 +110,18 @@ fn encoded(alloc: Global, characters: &[char]) -> Result<String, AllocError>
     characters.iter().copied().collect(alloc)
 }
 
-/// Whether all fields of a text are valid, and those that are, each followed by a line feed.
+/// Whether all fields of the text that bytes decode to are valid once it is mapped, and those that are, each on a line.
 fn labels(
     alloc: Global,
     mapper: &Uts46MapperBorrowed<'_>,
-    text: &[char],
-) -> Result<(Answer, Vec<char>), NormalizeError>
-    ensures { IfOk result (λ r. TellsLabels (mapper_data_of_borrowed mapper.now) (fields text.now) r.0 r.1.items) }
+    input: &[u8],
+) -> Result<(Answer, String), NormalizeError>
+    ensures { IfOk result (λ r. IsReply (Label (mapper_data_of_borrowed mapper.now)) input.now r.0 (string_bytes r.1)) }
 {
+    let text = mapped(alloc, mapper, Dropped, Utf8Chars::new(input))?;
+    let fields = fields(alloc, &text)?;
     let mut answer = Done;
     let mut lines = Vec::new(alloc);
-    let fields = fields(alloc, text)?;
     for field in &fields {
         if is_valid(alloc, mapper, field)? {
             lines.extend_from_slice(field)?;
@@ -134,7 +130,7 @@ fn labels(
             answer = No;
         }
     }
-    Ok((answer, lines))
+    Ok((answer, encoded(alloc, &lines)?))
 }
 
 /// What is between the full stops of a text.
