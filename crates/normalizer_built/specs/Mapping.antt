@@ -22,7 +22,7 @@ mapped_in h ignored x = nfc (reading_by h.0 ignored h.1) x
 abbrev pub is_valid_by : (List ℕ → List ℕ) → List ℕ → Bool
 is_valid_by validated x = not (list_any (λ c. c == 0xFFFD) x) && bytes_eq (validated x) x
 
--- the same by data
+-- the same of what a mapper validates
 abbrev pub is_valid : MapperData → List ℕ → Bool
 is_valid h x = is_valid_by (mapped_in h Replaced) x
 
