@@ -1,3 +1,4 @@
 pub mod Mapping
 pub mod Normalizers
+pub mod Providers
 pub mod RecordedForms

@@ -1,4 +1,5 @@
-//! Normalizers over data that records built: their constructors refuse nothing but memory.
+//! Normalizers over data that records built: their constructors refuse nothing but memory. Normalizers to any form, and
+//! mapped text.
 #![tactic(auto)]
 
 ghost use Rattle.std.specs.Prelude.{◌≡◌, IfOk, IsOkUnless};
@@ -18,9 +19,11 @@ use normalizer_tables::DataError;
 
 mod mapping;
 mod normalizer;
+mod provider;
 
-pub use mapping::mapped;
+pub use mapping::{is_valid, mapped};
 pub use normalizer::Normalizer;
+pub use provider::{FormData, MappingData};
 
 /// The four normal forms (UAX #15, section 1.2).
 #[derive(Clone, Copy, Debug, PartialEq, Eq)]

@@ -1,9 +1,10 @@
-//! Mapped text.
-ghost use Rattle.std.specs.Prelude.{◌≡◌, ℕ, List, IfOk, IsOkUnless};
+//! Mapped text, and which text is valid.
+ghost use Rattle.std.specs.Prelude.{◌≡◌, ◌==◌, ℕ, List, IfOk, IsOkUnless, bytes_eq};
+ghost use Rattle.std.specs.List.{list_any};
 ghost use Rattle.std.specs.Iterator.{IsFinite};
 ghost use Rattle.normalizer_text.specs.DecodingSteps.{Spells};
 ghost use Rattle.icu_normalizer.specs.Mappers.{mapper_data_of_borrowed};
-ghost use Rattle.normalizer_built.specs.Mapping.{mapped_in};
+ghost use Rattle.normalizer_built.specs.Mapping.{is_valid, mapped_in};
 
 use icu_normalizer::uts46::Uts46MapperBorrowed;
 use normalizer_iterators::{NormalizeError, collected};
@@ -31,4 +32,38 @@ pub fn mapped<I: Iterator<Item = char> + Drop>(
         IgnoredCharacters::Dropped => collected(alloc, mapper.map_normalize(characters)?),
         IgnoredCharacters::Replaced => collected(alloc, mapper.normalize_validate(characters)?),
     }
+}
+
+/// Returns whether validation leaves a text as it is, and the text has no U+FFFD.
+///
+/// # Errors
+/// `Memory` if an allocation was refused.
+pub fn is_valid(
+    alloc: Global,
+    mapper: &Uts46MapperBorrowed<'_>,
+    text: &[char],
+) -> Result<bool, NormalizeError>
+    ensures valid { IfOk result (λ valid. valid ≡ is_valid (mapper_data_of_borrowed mapper.now) text.now) }
+    ensures refused { IsOkUnless result NormalizeError.Memory }
+{
+    let valid = mapped(
+        alloc,
+        mapper,
+        IgnoredCharacters::Replaced,
+        text.iter().copied(),
+    )?;
+    Ok(!holds_replacement(text) && is_same(&valid, text))
+}
+
+/// Whether a text has U+FFFD.
+fn holds_replacement(text: &[char]) -> bool
+    ensures { result ≡ list_any (λ c. c == 0xFFFD) text.now }
+{
+    text.iter().any(|c| *c == char::REPLACEMENT_CHARACTER)
+}
+
+fn is_same(a: &[char], b: &[char]) -> bool
+    ensures { result ≡ bytes_eq a.now b.now }
+{
+    a == b
 }

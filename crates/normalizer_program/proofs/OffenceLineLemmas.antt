@@ -1,7 +1,8 @@
--- The digits of a code point, as a format lays them out.
-use Rattle.std.proofs.Common.{◌≡◌, ℕ, ◌-◌, ◌^◌, [], List, length, false, Some, Result, IfOk, IfSome, arith, append-nil}
-use Rattle.std.specs.Fmt.{digits, padded_integral, format_spec, char_count, styled_digits_output, digits_output}
-use Rattle.normalizer_program.specs.OffenceLines.{code_point_digits}
+-- The line of a mismatch, as a format lays it out.
+use Rattle.std.proofs.Common.{◌≡◌, ℕ, ◌-◌, ◌^◌, [], List, ◌∷◌, length, decimal, false, Some, Result, IfOk, IfSome, arith, append-nil}
+use Rattle.std.specs.Fmt.{digits, padded_integral, format_spec, char_count, styled_digits_output, digits_output, ◌++?◌}
+use Rattle.normalizer_text.specs.declared.offence.Offence.{Offence}
+use Rattle.normalizer_program.specs.OffenceLines.{code_point_digits, line_feed, offence_line, space}
 
 padded_integral-four : (n : ℕ) → padded_integral (format_spec 32 0 4 4 (2 ^ 64 - 1)) false [] (digits 16 false n) ≡ code_point_digits n
 unfolding padded_integral char_count
@@ -9,6 +10,9 @@ padded_integral-four n =
     let short : 4 - length (digits 16 false n) - 0 - 0 ≡ 4 - length (digits 16 false n) = omega arith in
     rw (short, append-nil (digits 16 false n))
 
-pub shown_as_code_point : {S E : Type 0} (bytes : S → List ℕ) (r : Result S E) (d : _) (f : _) (n : ℕ) → f ≡ format_spec 32 0 4 4 (2 ^ 64 - 1) → digits_output d ≡ Some (digits 16 false n)
-    → IfOk r (λ s. IfSome (styled_digits_output d f) (λ bs. bytes s ≡ bs)) → IfOk r (λ s. bytes s ≡ code_point_digits n)
-shown_as_code_point bytes r d f n spec shown h = rw (← padded_integral-four n) (rw (spec, shown) at h)
+pub shown_as_offence_line : {S E : Type 0} (bytes : S → List ℕ) (r : Result S E) (d d' : _) (f f' : _) (o : Offence) → f ≡ format_spec 32 0 4 4 (2 ^ 64 - 1) → f' ≡ format_spec 32 0 4 4 (2 ^ 64 - 1)
+    → digits_output d ≡ Some (digits 16 false o.found) → digits_output d' ≡ Some (digits 16 false o.wanted)
+    → IfOk r (λ s. IfSome (Some (decimal o.place) ++? Some (space ∷ []) ++? styled_digits_output d f ++? Some (space ∷ []) ++? styled_digits_output d' f' ++? Some (line_feed ∷ [])) (λ bs. bytes s ≡ bs))
+    → IfOk r (λ s. bytes s ≡ offence_line o)
+shown_as_offence_line bytes r d d' f f' o spec spec' found wanted h =
+    rw (← padded_integral-four o.found, ← padded_integral-four o.wanted) (rw (spec, spec', found, wanted) at h)

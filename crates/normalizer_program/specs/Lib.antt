@@ -1,13 +1,13 @@
+pub mod Arguments
 pub mod Endings
-pub mod ReportedFaults
-pub mod KeptFields
+pub mod Labels
 pub mod Needs
 pub mod OffenceLines
 pub mod Outcome
 pub mod RecordSets
 pub mod Replies
+pub mod ReportedFaults
 pub mod Runs
 pub mod SetOutcome
 pub mod Tasks
-pub mod Arguments
 pub mod Workers

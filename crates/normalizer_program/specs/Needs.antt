@@ -1,102 +1,33 @@
 -- The data that a command needs, and what it does by them.
-use Rattle.std.specs.Prelude.{◌≡◌, List, Option, Result, []}
-use Rattle.normal_forms.specs.declared.Form.{Form}
-use Rattle.normal_forms.specs.declared.Form.TheVariants.{Decomposing, Composing}
+use Rattle.std.specs.Prelude.{◌≡◌}
 use Rattle.normal_forms.specs.Reading.{Reading}
-use Rattle.normalizer_tables.specs.Characters.{Characters}
-use Rattle.normalizer_tables.specs.Data.{Decompositions, Lists}
 use Rattle.normalizer_tables.specs.declared.provider.DataError.{DataError}
-use Rattle.normalizer_tables.specs.declared.provider.DataMarkerInfo.{DataMarkerInfo}
-use Rattle.normalizer_tables.specs.declared.provider.DataMarkerInfo.TheVariants as marker
-use Rattle.normalizer_tables.specs.Pairs.{Pair}
-use Rattle.normalizer_tables.specs.Readings.{reading_by}
-use Rattle.normalizer_tables.specs.declared.characters.IgnoredCharacters.TheVariants.{Dropped}
-use Rattle.icu_normalizer.specs.Acceptance.{nfd_data, nfkd_data, AcceptsHeld, RefusesHeld}
-use Rattle.icu_normalizer.specs.Acceptance.{SuitsDecomposing, RefusesToDecompose}
-use Rattle.icu_normalizer.specs.ComposingAcceptance.{SuitsComposing, RefusesToCompose, with_pairs}
-use Rattle.icu_normalizer.specs.Uts46.{MapperData, uts46_data}
-use Rattle.normalizer_program.specs.declared.task.FormTask.{FormTask}
-use Rattle.normalizer_program.specs.declared.task.MapperTask.{MapperTask}
-use Rattle.normalizer_built.specs.declared.NormalForm.{NormalForm}
-use Rattle.normalizer_built.specs.declared.NormalForm.TheVariants.{Nfd, Nfc, Nfkd, Nfkc}
-use Rattle.normalizer_program.specs.declared.task.Task.{Task}
-use Rattle.normalizer_program.specs.declared.task.Task.TheVariants as task
+use Rattle.icu_normalizer.specs.Acceptance.{AcceptsHeld}
+use Rattle.icu_normalizer.specs.ComposingAcceptance.{SuitsComposing}
+use Rattle.icu_normalizer.specs.Uts46.{MapperData}
+use Rattle.normalizer_built.specs.Providers.{HeldForForms, HeldForMapper, kind_of, IsReadBy, RefusesForm, RefusesMapper}
+use Rattle.normalizer_program.specs.Tasks.{Task, Work, OfForm, OfMapper}
 
--- what is held for the normal forms: the data of either kind, or the marker of the first load for which nothing is
--- held, and the pairs
-pub record HeldForForms : Type 0 where
-  pub canonical : Result Characters DataMarkerInfo
-  pub compatibility : Result Characters DataMarkerInfo
-  pub pairs : Option (List Pair)
-
--- what is held for all commands
+-- what is held for the commands
 pub record Held : Type 0 where
   pub forms : HeldForForms
-  pub mapper : Result MapperData DataMarkerInfo
+  pub mapper : HeldForMapper
 
--- what the loads for the four forms hold, by what each marker holds
-abbrev pub held_for_forms : (nfd : Option Decompositions) (tables : Option Lists) (nfkd : Option Decompositions)
-    (supplementary : Option Lists) (pairs : Option (List Pair)) → HeldForForms
-held_for_forms nfd tables nfkd supplementary pairs = record {
-  canonical = nfd_data nfd tables;
-  compatibility = nfkd_data nfkd tables supplementary;
-  pairs = pairs;
-}
-
--- what all loads hold, by what each marker holds
-abbrev pub held_for_all : (nfd : Option Decompositions) (tables : Option Lists) (nfkd : Option Decompositions)
-    (supplementary : Option Lists) (pairs : Option (List Pair)) (uts46 : Option Decompositions) → Held
-held_for_all nfd tables nfkd supplementary pairs uts46 = record {
-  forms = held_for_forms nfd tables nfkd supplementary pairs;
-  mapper = uts46_data uts46 tables supplementary pairs;
-}
-
--- the form that is made by either kind of data
-abbrev pub kind_of : NormalForm → Form
-kind_of Nfd = Decomposing
-kind_of Nfc = Composing
-kind_of Nfkd = Decomposing
-kind_of Nfkc = Composing
-
--- data are held and meet the conditions for decomposing text, and this is their reading
-abbrev pub DecomposesBy : Result Characters DataMarkerInfo → Reading → Type 0
-DecomposesBy held d = (s : Characters) × AcceptsHeld SuitsDecomposing held s × (d ≡ reading_by s Dropped [])
-
--- the same of data and pairs, for composing text
-abbrev pub ComposesBy : Result (Characters × List Pair) DataMarkerInfo → Reading → Type 0
-ComposesBy held d = (h : Characters × List Pair) × AcceptsHeld SuitsComposing held h × (d ≡ reading_by h.0 Dropped h.1)
-
--- the data that the form needs are held and meet their conditions, and this is their reading
-abbrev pub IsReadBy : NormalForm → HeldForForms → Reading → Type 0
-IsReadBy Nfd held d = DecomposesBy held.canonical d
-IsReadBy Nfc held d = ComposesBy (with_pairs held.canonical held.pairs) d
-IsReadBy Nfkd held d = DecomposesBy held.compatibility d
-IsReadBy Nfkc held d = ComposesBy (with_pairs held.compatibility held.pairs) d
-
--- data that the form needs are not held, or they break a condition
-abbrev pub FormLacksData : NormalForm → HeldForForms → Type 0
-FormLacksData Nfd held = (e : DataError) × RefusesHeld (RefusesToDecompose marker.NormalizerNfdDataV1) held.canonical e
-FormLacksData Nfc held =
-    (e : DataError) × RefusesHeld (RefusesToCompose marker.NormalizerNfdDataV1) (with_pairs held.canonical held.pairs) e
-FormLacksData Nfkd held =
-    (e : DataError) × RefusesHeld (RefusesToDecompose marker.NormalizerNfkdDataV1) held.compatibility e
-FormLacksData Nfkc held = (e : DataError)
-    × RefusesHeld (RefusesToCompose marker.NormalizerNfkdDataV1) (with_pairs held.compatibility held.pairs) e
-
--- what is done, and by which data
-pub data Work : Type 0 where
-  OfForm : FormTask → Form → Reading → Work
-  OfMapper : MapperTask → MapperData → Work
+abbrev pub held : HeldForForms → HeldForMapper → Held
+held forms mapper = record { forms = forms; mapper = mapper }
 
 -- the data that the task needs are held and meet their conditions, and this is the task over them
 abbrev pub IsServed : Task → Held → Work → Type 0
-IsServed (task.OfForm t form) held work =
-    (d : Reading) × IsReadBy form held.forms d × (work ≡ OfForm t (kind_of form) d)
-IsServed (task.OfMapper t) held work =
-    (h : MapperData) × AcceptsHeld SuitsComposing held.mapper h × (work ≡ OfMapper t h)
+IsServed (OfForm work_by form) h work =
+    (d : Reading) × IsReadBy form h.forms d × (work ≡ work_by (kind_of form) d)
+IsServed (OfMapper work_by) h work =
+    (m : MapperData) × AcceptsHeld SuitsComposing h.mapper m × (work ≡ work_by m)
 
--- data that the task needs are not held, or they break a condition
+-- data that the task needs are not held, or they break a condition, with this error
+abbrev pub Refuses : Task → Held → DataError → Type 0
+Refuses (OfForm work_by form) h e = RefusesForm form h.forms e
+Refuses (OfMapper work_by) h e = RefusesMapper h.mapper e
+
+-- the same with any error
 abbrev pub LacksData : Task → Held → Type 0
-LacksData (task.OfForm t form) held = FormLacksData form held.forms
-LacksData (task.OfMapper t) held =
-    (e : DataError) × RefusesHeld (RefusesToCompose marker.NormalizerUts46DataV1) held.mapper e
+LacksData task h = (e : DataError) × Refuses task h e

@@ -5,9 +5,9 @@ use Rattle.normalizer_io.specs.declared.outcome.Answer.{Answer}
 use Rattle.normalizer_program.specs.declared.ending.ToolFault.{ToolFault}
 use Rattle.normalizer_program.specs.declared.ending.ToolFault.TheVariants.{Read, Write, Memory, Data}
 use Rattle.normalizer_program.specs.declared.arguments.Command.{Command}
-use Rattle.normalizer_program.specs.Needs.{Held, Work, IsServed, LacksData}
+use Rattle.normalizer_program.specs.Needs.{Held, IsServed, LacksData}
 use Rattle.normalizer_program.specs.Replies.{IsReply}
-use Rattle.normalizer_program.specs.Tasks.{task_of}
+use Rattle.normalizer_program.specs.Tasks.{Work, task_of}
 use Rattle.normalizer_io.specs.Transfer.{AppendsFront}
 
 -- the command has this reply to all the bytes of a source, if the source reports them, over data that are held and

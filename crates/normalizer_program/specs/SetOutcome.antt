@@ -2,19 +2,25 @@
 use Rattle.std.specs.Prelude.{ℕ, List, Option, Some, Result, Ok, Err, ⊤, ◌⊎◌}
 use Rattle.normalizer_builder.specs.Building.{Builds}
 use Rattle.normalizer_packing.specs.declared.Packed.{Packed}
+use Rattle.icu_normalizer.specs.Uts46.{uts46_data}
+use Rattle.normalizer_built.specs.Providers.{held_for_forms}
 use Rattle.normalizer_io.specs.declared.outcome.Answer.{Answer}
 use Rattle.normalizer_program.specs.declared.ending.ToolFault.{ToolFault}
 use Rattle.normalizer_program.specs.declared.ending.ToolFault.TheVariants.{Read, Write, Memory, Data}
 use Rattle.normalizer_program.specs.declared.arguments.Command.{Command}
 use Rattle.normalizer_program.specs.declared.arguments.RecordSet.{RecordSet}
-use Rattle.normalizer_program.specs.Needs.{Held, held_for_all}
+use Rattle.normalizer_program.specs.Needs.{Held, held}
 use Rattle.normalizer_program.specs.Outcome.{IsOutcome}
 use Rattle.normalizer_program.specs.RecordSets.{AreRefused, mapper_records_of, records_of}
 
 -- what built data hold
 abbrev pub held_by : Packed → Held
-held_by p = held_for_all (Some p.canonical) (Some p.tables) (Some p.compatibility) (Some p.supplementary_tables)
-    (Some p.compositions) (Some p.mapper)
+held_by p =
+    let tables = Some p.tables in
+    let supplementary = Some p.supplementary_tables in
+    let pairs = Some p.compositions in
+    held (held_for_forms (Some p.canonical) tables (Some p.compatibility) supplementary pairs)
+    (uts46_data (Some p.mapper) tables supplementary pairs)
 
 -- the records build data, and this is the outcome of the command over them
 abbrev pub IsOutcomeOfBuilt : RecordSet → Command → (left before after : Option (List ℕ)) → Result Answer ToolFault

@@ -1,13 +1,26 @@
--- The task of each command.
+-- What each command does, and by which data.
+use Rattle.normal_forms.specs.declared.Form.{Form}
+use Rattle.normal_forms.specs.Reading.{Reading}
+use Rattle.icu_normalizer.specs.Uts46.{MapperData}
+use Rattle.normalizer_built.specs.declared.NormalForm.{NormalForm}
+use Rattle.normalizer_built.specs.declared.NormalForm.TheVariants.{Nfd, Nfc, Nfkd, Nfkc}
 use Rattle.normalizer_program.specs.declared.arguments.Command.{Command}
 use Rattle.normalizer_program.specs.declared.arguments.Command.TheVariants as command
-use Rattle.normalizer_built.specs.declared.NormalForm.TheVariants.{Nfd, Nfc, Nfkd, Nfkc}
-use Rattle.normalizer_program.specs.declared.task.FormTask.TheVariants.{Write, Check, Locate}
-use Rattle.normalizer_program.specs.declared.task.MapperTask.TheVariants.{Map, Validate, Label}
-use Rattle.normalizer_program.specs.declared.task.Task.{Task}
-use Rattle.normalizer_program.specs.declared.task.Task.TheVariants.{OfForm, OfMapper}
 
--- something of a normal form of the input, or something of the mapper
+-- what is done, and by which data
+pub data Work : Type 0 where
+  Write : Form → Reading → Work
+  Check : Form → Reading → Work
+  Locate : Form → Reading → Work
+  Map : MapperData → Work
+  Validate : MapperData → Work
+  Label : MapperData → Work
+
+-- what is done by the data for a normal form, or by the mapper's
+pub data Task : Type 0 where
+  OfForm : (Form → Reading → Work) → NormalForm → Task
+  OfMapper : (MapperData → Work) → Task
+
 abbrev pub task_of : Command → Task
 task_of command.Nfd = OfForm Write Nfd
 task_of command.Nfc = OfForm Write Nfc

@@ -1,11 +1,14 @@
 //! The result of the program, and how it ends.
 ghost use Rattle.std.specs.Prelude.{◌≡◌};
-ghost use Rattle.normalizer_program.specs.Endings.{status_of, line_of};
+ghost use Rattle.normalizer_program.specs.Endings.{line_of, status_of};
+ghost use Rattle.normalizer_program.specs.ReportedFaults.{fault_of, fault_of_build, fault_of_transfer};
+ghost use Rattle.normalizer_program.specs.declared.ending.ToolFault.TheVariants.{Memory};
 
 use normalizer_io::{Answer, TransferError};
 use normalizer_iterators::NormalizeError;
+use normalizer_records::BuildError;
 use normalizer_tables::DataError;
-use std::alloc::{AllocError, AllocFailed};
+use std::alloc::AllocError;
 
 /// Why a command has no result.
 #[derive(Clone, Copy, Debug, PartialEq, Eq)]
@@ -20,29 +23,7 @@ pub enum ToolFault {
     Data,
 }
 
-impl From<AllocError> for ToolFault {
-    ghost use Rattle.normalizer_program.specs.declared.ending.ToolFault.TheVariants.{Memory};
-
-    ghost from_gives = { λ _ fault. fault ≡ Memory };
-
-    fn from(_error: AllocError) -> ToolFault {
-        ToolFault::Memory
-    }
-}
-
-impl<T: Drop> From<AllocFailed<T>> for ToolFault {
-    ghost use Rattle.normalizer_program.specs.declared.ending.ToolFault.TheVariants.{Memory};
-
-    ghost from_gives = { λ _ fault. fault ≡ Memory };
-
-    fn from(_error: AllocFailed<T>) -> ToolFault {
-        ToolFault::Memory
-    }
-}
-
 impl From<TransferError> for ToolFault {
-    ghost use Rattle.normalizer_program.specs.ReportedFaults.{fault_of_transfer};
-
     ghost from_gives = { λ error fault. fault ≡ fault_of_transfer error };
 
     fn from(error: TransferError) -> ToolFault {
@@ -55,8 +36,6 @@ impl From<TransferError> for ToolFault {
 }
 
 impl From<DataError> for ToolFault {
-    ghost use Rattle.normalizer_program.specs.ReportedFaults.{fault_of};
-
     ghost from_gives = { λ error fault. fault ≡ fault_of error };
 
     fn from(error: DataError) -> ToolFault {
@@ -67,10 +46,27 @@ impl From<DataError> for ToolFault {
     }
 }
 
+impl From<BuildError> for ToolFault {
+    ghost from_gives = { λ error fault. fault ≡ fault_of_build error };
+
+    fn from(error: BuildError) -> ToolFault {
+        match error {
+            BuildError::Memory => ToolFault::Memory,
+            _ => ToolFault::Data,
+        }
+    }
+}
+
+impl From<AllocError> for ToolFault {
+    ghost from_gives = { λ _ fault. fault ≡ Memory };
+
+    fn from(_error: AllocError) -> ToolFault {
+        ToolFault::Memory
+    }
+}
+
 // A call that writes to no sink, or to a text in memory, fails only if an allocation is refused.
 impl From<NormalizeError> for ToolFault {
-    ghost use Rattle.normalizer_program.specs.declared.ending.ToolFault.TheVariants.{Memory};
-
     ghost from_gives = { λ _ fault. fault ≡ Memory };
 
     fn from(_error: NormalizeError) -> ToolFault {

@@ -1,94 +1,141 @@
-//! What a command needs to be done.
-ghost use Rattle.std.specs.Prelude.{◌≡◌, ◌⊎◌, IfOk, IfErr, IsErrOf, string_bytes};
-ghost use Rattle.normalizer_program.specs.Needs.{held_for_all, Held, IsServed, LacksData};
-ghost use Rattle.normalizer_program.specs.Workers.{work_by};
+//! What a command is done by, and its reply to the input.
+ghost use Rattle.std.specs.Prelude.{◌≡◌, ◌⊎◌, IfErr, IfOk, encode_utf8_all, map, string_bytes};
+ghost use Rattle.icu_normalizer.specs.Mappers.{mapper_data_of, mapper_data_of_borrowed};
+ghost use Rattle.normalizer_text.specs.Utf8.{decoded_utf8};
+ghost use Rattle.normalizer_built.specs.Mapping.{mapped_in};
+ghost use Rattle.normalizer_program.specs.Labels.{fields};
+ghost use Rattle.normalizer_program.specs.Needs.{held, IsServed, Refuses};
+ghost use Rattle.normalizer_program.specs.OffenceLines.{offence_line};
 ghost use Rattle.normalizer_program.specs.Replies.{IsReply};
+ghost use Rattle.normalizer_program.specs.Tasks.{Label, task_of};
+ghost use Rattle.normalizer_program.specs.Workers.{work_by};
 
-use crate::ending::ToolFault;
-use crate::normalizer::FormData;
-use crate::task::{FormTask, MapperTask, Task};
-use icu_normalizer::uts46::Uts46Mapper;
-use normalizer_built::Normalizer;
-use normalizer_io::Answer;
-use normalizer_tables::{
-    DataProvider, NormalizerNfcV1, NormalizerNfdDataV1, NormalizerNfdTablesV1,
-    NormalizerNfkdDataV1, NormalizerNfkdTablesV1, NormalizerUts46DataV1,
-};
-use std::alloc::Global;
+use crate::arguments::Command;
+use icu_normalizer::Offence;
+use icu_normalizer::uts46::{Uts46Mapper, Uts46MapperBorrowed};
+use normalizer_built::{FormData, MappingData, NormalForm, Normalizer, is_valid, mapped};
+use normalizer_io::Answer::{self, Done, No};
+use normalizer_iterators::NormalizeError;
+use normalizer_tables::DataError;
+use normalizer_tables::characters::IgnoredCharacters::{self, Dropped, Replaced};
+use normalizer_text::Utf8Chars;
+use std::alloc::{AllocError, Global};
 
-/// A task with what it is done by.
-pub enum Worker {
-    /// A task about a form, by its normalizer.
-    OfForm(FormTask, Normalizer),
-    /// A task of the mapper.
-    OfMapper(MapperTask, Uts46Mapper),
-}
-
-// Written out, so that each place that drops a worker makes one call.
-impl Drop for Worker {
-    fn drop(self) {
-        match self {
-            Worker::OfForm(_, _normalizer) => {}
-            Worker::OfMapper(_, _mapper) => {}
-        }
-    }
-}
-
-/// What the data for the commands come from.
-pub trait CommandData {
-    /// What is held for the commands.
-    ghost held_for_commands: { Self → Held };
-
-    /// Makes what a task needs, over what is held.
-    ///
-    /// # Errors
-    /// `Data` if data that it needs are missing or refused, `Memory` if an allocation was refused.
-    fn worker(&self, task: Task) -> Result<Worker, ToolFault>
-        ensures served { IfOk result (λ w. IsServed task (held_for_commands self.now) (work_by w)) }
-        ensures data { IsErrOf result ToolFault.Data → LacksData task (held_for_commands self.now) }
-        ensures errors { IfErr result (λ fault. (fault ≡ ToolFault.Data) ⊎ (fault ≡ ToolFault.Memory)) };
-}
-
-impl<P> CommandData for P
-where
-    P: DataProvider<NormalizerNfdDataV1>
-        + DataProvider<NormalizerNfdTablesV1>
-        + DataProvider<NormalizerNfkdDataV1>
-        + DataProvider<NormalizerNfkdTablesV1>
-        + DataProvider<NormalizerNfcV1>
-        + DataProvider<NormalizerUts46DataV1>,
-{
-    ghost held_for_commands = { λ p. held_for_all
-        (⟦<P as DataProvider<NormalizerNfdDataV1>>⟧.payload p)
-        (⟦<P as DataProvider<NormalizerNfdTablesV1>>⟧.payload p)
-        (⟦<P as DataProvider<NormalizerNfkdDataV1>>⟧.payload p)
-        (⟦<P as DataProvider<NormalizerNfkdTablesV1>>⟧.payload p)
-        (⟦<P as DataProvider<NormalizerNfcV1>>⟧.payload p)
-        (⟦<P as DataProvider<NormalizerUts46DataV1>>⟧.payload p) };
-
-    fn worker(&self, task: Task) -> Result<Worker, ToolFault> {
-        match task {
-            Task::OfForm(task, form) => {
-                let normalizer = self.normalizer(form)?;
-                Ok(Worker::OfForm(task, normalizer))
-            }
-            Task::OfMapper(task) => {
-                let mapper = Uts46Mapper::try_new(self)?;
-                Ok(Worker::OfMapper(task, mapper))
-            }
-        }
-    }
+/// What a command does, with what it is done by.
+#[derive(Drop)]
+pub(crate) enum Worker {
+    Write(Normalizer),
+    Check(Normalizer),
+    Locate(Normalizer),
+    Map(Uts46Mapper),
+    Validate(Uts46Mapper),
+    Label(Uts46Mapper),
 }
 
 impl Worker {
-    /// The reply to bytes.
-    pub(crate) fn reply(&self, alloc: Global, input: &[u8]) -> Result<(Answer, String), ToolFault>
-        ensures reply { IfOk result (λ r. IsReply (work_by self.now) input.now r.0 (string_bytes r.1)) }
-        ensures errors { IfErr result (λ fault. fault ≡ ToolFault.Memory) }
+    /// Returns what a command is done by, over what a provider holds.
+    pub fn new<P: FormData + MappingData>(provider: &P, command: Command) -> Result<Self, DataError>
+        ensures served { IfOk result (λ w. IsServed (task_of command)
+            (held (P.held_for_forms provider.now) (P.held_for_mapper provider.now)) (work_by w)) }
+        ensures errors { IfErr result (λ e. (e ≡ DataError.Memory) ⊎ Refuses (task_of command)
+            (held (P.held_for_forms provider.now) (P.held_for_mapper provider.now)) e) }
     {
-        match self {
-            Worker::OfForm(task, normalizer) => task.reply(alloc, normalizer, input),
-            Worker::OfMapper(task, mapper) => task.reply(alloc, mapper, input),
+        match command {
+            Command::Nfd => Ok(Worker::Write(provider.normalizer(NormalForm::Nfd)?)),
+            Command::Nfc => Ok(Worker::Write(provider.normalizer(NormalForm::Nfc)?)),
+            Command::Nfkd => Ok(Worker::Write(provider.normalizer(NormalForm::Nfkd)?)),
+            Command::Nfkc => Ok(Worker::Write(provider.normalizer(NormalForm::Nfkc)?)),
+            Command::IsNfd => Ok(Worker::Check(provider.normalizer(NormalForm::Nfd)?)),
+            Command::IsNfc => Ok(Worker::Check(provider.normalizer(NormalForm::Nfc)?)),
+            Command::IsNfkd => Ok(Worker::Check(provider.normalizer(NormalForm::Nfkd)?)),
+            Command::IsNfkc => Ok(Worker::Check(provider.normalizer(NormalForm::Nfkc)?)),
+            Command::WhereNfd => Ok(Worker::Locate(provider.normalizer(NormalForm::Nfd)?)),
+            Command::WhereNfc => Ok(Worker::Locate(provider.normalizer(NormalForm::Nfc)?)),
+            Command::WhereNfkd => Ok(Worker::Locate(provider.normalizer(NormalForm::Nfkd)?)),
+            Command::WhereNfkc => Ok(Worker::Locate(provider.normalizer(NormalForm::Nfkc)?)),
+            Command::Map => Ok(Worker::Map(provider.mapper()?)),
+            Command::Validate => Ok(Worker::Validate(provider.mapper()?)),
+            Command::Label => Ok(Worker::Label(provider.mapper()?)),
         }
     }
+
+    /// Returns the reply to bytes: the result, and the text that is written before it is returned.
+    pub fn reply(&self, alloc: Global, input: &[u8]) -> Result<(Answer, String), NormalizeError>
+        ensures { IfOk result (λ r. IsReply (work_by self.now) input.now r.0 (string_bytes r.1)) }
+    {
+        match self {
+            Worker::Write(normalizer) => Ok((Done, normalizer.form_of(alloc, input)?)),
+            Worker::Check(normalizer) => {
+                let normalized = normalizer.is_normalized(input)?;
+                Ok((if normalized { Done } else { No }, String::new(alloc)))
+            }
+            Worker::Locate(normalizer) => match normalizer.first_offence(input)? {
+                Some(offence) => Ok((No, offence_line(alloc, offence)?)),
+                None => Ok((Done, String::new(alloc))),
+            },
+            Worker::Map(mapper) => Ok((Done, mapped_text(alloc, mapper, Dropped, input)?)),
+            Worker::Validate(mapper) => Ok((Done, mapped_text(alloc, mapper, Replaced, input)?)),
+            Worker::Label(mapper) => labels(alloc, &mapper.as_borrowed(), input),
+        }
+    }
+}
+
+/// The place, the character found and the one wanted, on one line.
+fn offence_line(alloc: Global, offence: Offence) -> Result<String, AllocError>
+    ensures { IfOk result (λ line. string_bytes line ≡ offence_line offence) }
+{
+    let place = offence.place;
+    let (found, wanted) = (offence.found as u32, offence.wanted as u32);
+    format!(in alloc; "{place} {found:04x} {wanted:04x}\n")
+}
+
+/// The text that bytes decode to, mapped, in UTF-8.
+fn mapped_text(
+    alloc: Global,
+    mapper: &Uts46Mapper,
+    ignored: IgnoredCharacters,
+    input: &[u8],
+) -> Result<String, NormalizeError>
+    ensures { IfOk result (λ text. string_bytes text
+        ≡ encode_utf8_all (mapped_in (mapper_data_of mapper.now) ignored (decoded_utf8 input.now))) }
+{
+    let text = mapped(alloc, &mapper.as_borrowed(), ignored, Utf8Chars::new(input))?;
+    Ok(encoded(alloc, &text)?)
+}
+
+/// The UTF-8 of characters.
+fn encoded(alloc: Global, characters: &[char]) -> Result<String, AllocError>
+    ensures { IfOk result (λ text. string_bytes text ≡ encode_utf8_all characters.now) }
+{
+    characters.iter().copied().collect(alloc)
+}
+
+/// Whether all fields of the text that bytes decode to are valid once it is mapped, and those that are, each on a line.
+fn labels(
+    alloc: Global,
+    mapper: &Uts46MapperBorrowed<'_>,
+    input: &[u8],
+) -> Result<(Answer, String), NormalizeError>
+    ensures { IfOk result (λ r. IsReply (Label (mapper_data_of_borrowed mapper.now)) input.now r.0 (string_bytes r.1)) }
+{
+    let text = mapped(alloc, mapper, Dropped, Utf8Chars::new(input))?;
+    let fields = fields(alloc, &text)?;
+    let mut answer = Done;
+    let mut lines = Vec::new(alloc);
+    for field in &fields {
+        if is_valid(alloc, mapper, field)? {
+            lines.extend_from_slice(field)?;
+            lines.extend_from_slice(&['\n'])?;
+        } else {
+            answer = No;
+        }
+    }
+    Ok((answer, encoded(alloc, &lines)?))
+}
+
+/// What is between the full stops of a text.
+fn fields(alloc: Global, text: &[char]) -> Result<Vec<&[char]>, AllocError>
+    ensures { IfOk result (λ parts. map (λ part. part.now) parts.items ≡ fields text.now) }
+{
+    text.split(|c| *c == '.').collect(alloc)
 }

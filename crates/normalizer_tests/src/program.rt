@@ -2,15 +2,15 @@
 use icu_normalizer::{
     DataError, DataMarker, DataProvider, Record, Records, Uts46Record, Uts46Status,
 };
+use normalizer_built::{FormData, MappingData};
 use normalizer_io::{Answer, Input, Output};
-use normalizer_program::CommandData;
 use normalizer_program::arguments::Command;
 use normalizer_program::ending::ToolFault;
 use normalizer_program::run::run;
 use std::alloc::Global;
 
 /// Whether a run over data ends so, with this much of the input left and nothing written.
-fn writes_nothing<P: CommandData>(
+fn writes_nothing<P: FormData + MappingData>(
     alloc: Global,
     provider: &P,
     command: Command,

@@ -4,37 +4,29 @@
 
 use normalizer_io::{Input, Output};
 use normalizer_program::ending::{ToolFault, ending};
-use normalizer_program::program::program;
+use normalizer_program::run::program;
+use std::alloc::AllocError;
 use std::env;
 use std::io::ErrorKind;
 use std::process::ExitCode;
 
 fn main(rt: HostRuntime) -> ExitCode {
-    let (status, line) = ended(&rt);
+    let (mut input, mut output) = (Input(rt.stdin()), Output(rt.stdout()));
+    let (status, line) = match arguments(&rt) {
+        Ok(all) => program(rt.alloc(), &all, &mut input, &mut output),
+        Err(_) => ending(&Err(ToolFault::Memory)),
+    };
     if !line.is_empty() {
         let _ = eprintln!(rt; "{line}");
     }
     ExitCode::from(status)
 }
 
-/// Runs the program over the arguments and the standard streams.
-fn ended(rt: &HostRuntime) -> (u8, &'static str) {
-    match arguments(rt) {
-        Ok(all) => program(
-            rt.alloc(),
-            &all,
-            &mut Input(rt.stdin()),
-            &mut Output(rt.stdout()),
-        ),
-        Err(fault) => ending(&Err(fault)),
-    }
-}
-
 /// The words after the program's name: none, which name no command, if one is not UTF-8.
-fn arguments(rt: &HostRuntime) -> Result<Vec<String>, ToolFault> {
+fn arguments(rt: &HostRuntime) -> Result<Vec<String>, AllocError> {
     match env::args(rt) {
-        Ok(arguments) => Ok(arguments.skip(1).collect(rt.alloc())?),
-        Err(error) if error.kind() == ErrorKind::OutOfMemory => Err(ToolFault::Memory),
+        Ok(arguments) => arguments.skip(1).collect(rt.alloc()),
+        Err(error) if error.kind() == ErrorKind::OutOfMemory => Err(AllocError),
         Err(_) => Ok(Vec::new(rt.alloc())),
     }
 }

@@ -1,5 +1,5 @@
 use Rattle.std.proofs.Common.{refl, rules}
-use Rattle.normalizer_program.proofs.program.program.Goals as goal
+use Rattle.normalizer_program.proofs.run.program.Goals as goal
 
 pub returns-in-Some : goal.returns-in-Some
 returns-in-Some g c = record {

@@ -1,19 +1,21 @@
 use Rattle.std.proofs.Common.{rules, ◌≡◌, string_bytes}
 use Rattle.std.specs.Prelude.{Err}
-use Rattle.normalizer_program.specs.Workers.{work_by}
-use Rattle.normalizer_program.specs.Outcome.{Replies}
 use Rattle.normalizer_io.specs.Transfer.{AppendsFront}
+use Rattle.normalizer_program.specs.Needs.{held}
+use Rattle.normalizer_program.specs.Outcome.{Replies}
+use Rattle.normalizer_program.specs.Workers.{work_by}
 use Rattle.normalizer_program.specs.declared.ending.ToolFault.TheVariants.{Write}
-use Rattle.normalizer_program.proofs.run.answer.Goals as goal
+use Rattle.normalizer_program.proofs.run.run.Goals as goal
 
 pub returns-in_err-write_all : goal.returns-in_err-write_all
-returns-in_err-write_all g c = λ command held served.
+returns-in_err-write_all g c =
     let answer = c.in_ok-answer.answer in
     let output = string_bytes c.in_ok-answer.output in
+    let provided = held (g.P.FormData.held_for_forms c.args.provider.now) (g.P.MappingData.held_for_mapper c.args.provider.now) in
     let refused : c.from_residual-in_err-write_all.result ≡ Err Write = search rules in
-    let replies : Replies command held (g.R.Source.bytes_left c.args.reader.now) answer output = record {
-      work = work_by c.args.worker.now;
-      served = served;
+    let replies : Replies c.args.command provided (g.R.Source.bytes_left c.args.reader.now) answer output = record {
+      work = work_by c.in_ok-worker.worker;
+      served = c.in_ok-worker.ensures.served;
       input = c.in_ok-input.input.items;
       whole = c.in_ok-input.ensures.bytes;
       reply = search rules;

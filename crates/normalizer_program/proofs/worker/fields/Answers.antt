@@ -2,7 +2,7 @@ use Rattle.std.proofs.Common.{◌==◌, rules}
 use Rattle.std.proofs.lemmas.Iterator.Consumers.{map_from_collect}
 use Rattle.std.proofs.lemmas.Iterator.Splits.{YieldsList-from_slice_split}
 use borrow.Author.Tests.{tests}
-use Rattle.normalizer_program.proofs.mapping.fields.Goals as goal
+use Rattle.normalizer_program.proofs.worker.fields.Goals as goal
 
 pub returns : goal.returns
 returns c = map_from_collect _ c.collect.ensures.ran
