@@ -5,7 +5,6 @@ ghost use Rattle.normalizer_program.specs.ReportedFaults.{fault_of, fault_of_bui
 ghost use Rattle.normalizer_program.specs.declared.ending.ToolFault.TheVariants.{Memory};
 
 use normalizer_io::{Answer, TransferError};
-use normalizer_iterators::NormalizeError;
 use normalizer_records::BuildError;
 use normalizer_tables::DataError;
 use std::alloc::AllocError;
@@ -61,15 +60,6 @@ impl From<AllocError> for ToolFault {
     ghost from_gives = { λ _ fault. fault ≡ Memory };
 
     fn from(_error: AllocError) -> ToolFault {
-        ToolFault::Memory
-    }
-}
-
-// A call that writes to no sink, or to a text in memory, fails only if an allocation is refused.
-impl From<NormalizeError> for ToolFault {
-    ghost from_gives = { λ _ fault. fault ≡ Memory };
-
-    fn from(_error: NormalizeError) -> ToolFault {
         ToolFault::Memory
     }
 }

@@ -91,7 +91,9 @@ pub fn run<P: FormData + MappingData, R: Source, W: Target>(
 {
     let worker = Worker::new(provider, command)?;
     let input = read_all(alloc, reader)?;
-    let (answer, output) = worker.reply(alloc, &input)?;
+    let Ok((answer, output)) = worker.reply(alloc, &input) else {
+        return Err(ToolFault::Memory);
+    };
     write_all(writer, output.as_bytes())?;
     Ok(answer)
 }

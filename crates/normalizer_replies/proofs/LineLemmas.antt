@@ -15,7 +15,8 @@ use Rattle.normalizer_streams.proofs.SchemeLemmas.{bytes-append}
 use Rattle.normalizer_replies.specs.declared.mapping.MapperTask.{MapperTask}
 use Rattle.normalizer_replies.specs.declared.mapping.MapperTask.TheVariants.{Map, Validate}
 use Rattle.normalizer_replies.specs.Making.{Mapping, Maps, mapping_of}
-use Rattle.normalizer_replies.specs.Lines.{invalid_lines, is_valid_line, line_feed, mapped_lines, told_unless}
+use Rattle.normalizer_built.specs.Mapping.{is_valid_by}
+use Rattle.normalizer_replies.specs.Lines.{invalid_lines, line_feed, mapped_lines, told_unless}
 use Rattle.normalizer_replies.specs.inner.EachLine.{replies_to, reply_to}
 
 abbrev pub texts : List (Bor (List ℕ)) → List (List ℕ)
@@ -71,7 +72,7 @@ module _ (s : EncodingScheme) where
 
     pub validate-replies : (n : ℕ) (lines : List (List ℕ)) → replies_to Validate s m name n lines ≡ invalid_lines m name (n + 1) lines
     validate-replies n [] = refl
-    validate-replies n (line ∷ lines) = ap (λ x. told_unless (is_valid_line m line) name (n + 1) ++ x) (validate-replies (n + 1) lines)
+    validate-replies n (line ∷ lines) = ap (λ x. told_unless (is_valid_by m.validate line) name (n + 1) ++ x) (validate-replies (n + 1) lines)
 
 -- mappings that make the same of every text
 module _ (h : MapperData) (m : Mapping) (maps : Maps h m) where
@@ -86,4 +87,4 @@ module _ (h : MapperData) (m : Mapping) (maps : Maps h m) where
   invalid_lines-by name n [] = refl
   invalid_lines-by name n (line ∷ lines) =
       ap (λ x. told_unless (not (list_any (λ c. c == 0xFFFD) line) && bytes_eq x line) name n ++ invalid_lines (mapping_of h) name (n + 1) lines) (maps.same_validate line)
-      ∙ ap (λ x. told_unless (is_valid_line m line) name n ++ x) (invalid_lines-by name (n + 1) lines)
+      ∙ ap (λ x. told_unless (is_valid_by m.validate line) name n ++ x) (invalid_lines-by name (n + 1) lines)

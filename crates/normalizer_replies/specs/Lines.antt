@@ -1,7 +1,7 @@
 -- The lines of a text: each mapped by itself, or validated.
-use Rattle.std.specs.Prelude.{◌≡◌, ◌↔◌, ℕ, ◌+◌, ◌==◌, ◌&&◌, not, Bool, List, [], ◌∷◌, ◌++◌, map}
-use Rattle.std.specs.Prelude.{bytes_eq, codes, decimal, if◌then◌else◌}
-use Rattle.std.specs.List.{join_with_byte, list_any, slice_split}
+use Rattle.std.specs.Prelude.{◌≡◌, ◌↔◌, ℕ, ◌+◌, ◌==◌, Bool, List, [], ◌∷◌, ◌++◌, map, codes, decimal, if◌then◌else◌}
+use Rattle.std.specs.List.{join_with_byte, slice_split}
+use Rattle.normalizer_built.specs.Mapping.{is_valid_by}
 use Rattle.normalizer_io.specs.declared.outcome.Answer.{Answer}
 use Rattle.normalizer_io.specs.declared.outcome.Answer.TheVariants.{Done}
 use Rattle.normalizer_replies.specs.Making.{Mapping}
@@ -20,11 +20,6 @@ lines_of text = slice_split (λ c. c == line_feed) text
 abbrev pub mapped_lines : Mapping → List (List ℕ) → List ℕ
 mapped_lines m lines = join_with_byte line_feed (map m.map lines)
 
--- validation keeps the line as it is, and it has no U+FFFD (bytes_eq decides of any two lists of numbers whether they
--- are the same)
-abbrev pub is_valid_line : Mapping → List ℕ → Bool
-is_valid_line m line = not (list_any (λ c. c == 0xFFFD) line) && bytes_eq (m.validate line) line
-
 -- NAME:LINE: invalid
 abbrev pub invalid_line : (name : List ℕ) → (number : ℕ) → List ℕ
 invalid_line name number = name ++ (codes ":" ++ (decimal number ++ (codes ": invalid" ++ (line_feed ∷ []))))
@@ -36,7 +31,7 @@ told_unless valid name number = if valid then [] else invalid_line name number
 abbrev pub invalid_lines : Mapping → (name : List ℕ) → (number : ℕ) → List (List ℕ) → List ℕ
 invalid_lines m name number [] = []
 invalid_lines m name number (line ∷ lines) =
-    told_unless (is_valid_line m line) name number ++ invalid_lines m name (number + 1) lines
+    told_unless (is_valid_by m.validate line) name number ++ invalid_lines m name (number + 1) lines
 
 -- a line for each of the lines that isn't valid, and yes if there is none
 pub record TellsInvalid (m : Mapping) (name : List ℕ) (lines : List (List ℕ)) (answer : Answer) (output : List ℕ)

@@ -1,19 +1,18 @@
 //! What is done with a file by the mapper.
-ghost use Rattle.std.specs.Prelude.{◌≡◌, ◌↔◌, ◌<◌, ◌+◌, ◌^◌, ◌==◌, ◌++◌, [], IfOk, IsOkUnless, map, bytes_eq, string_bytes};
-ghost use Rattle.std.specs.List.{list_any};
+ghost use Rattle.std.specs.Prelude.{◌≡◌, ◌↔◌, ◌<◌, ◌+◌, ◌^◌, ◌++◌, [], IfOk, IsOkUnless, map, string_bytes};
 ghost use Rattle.icu_normalizer.specs.Mappers.{mapper_data_of, mapper_data_of_borrowed};
-ghost use Rattle.normalizer_replies.specs.Lines.{invalid_line, is_valid_line, lines_of, told_unless};
+ghost use Rattle.normalizer_replies.specs.Lines.{invalid_line, lines_of, told_unless};
 ghost use Rattle.normalizer_replies.specs.Making.{mapping_of, Mapping, Maps};
 ghost use Rattle.normalizer_replies.specs.Replies.{IsReplyOfLines, IsReplyOfMapper};
 ghost use Rattle.normalizer_replies.specs.inner.EachLine.{feed_unless, replies_to, reply_to};
 
 use crate::reply::Reply;
 use icu_normalizer::uts46::{Uts46Mapper, Uts46MapperBorrowed};
-use normalizer_built::mapped;
+use normalizer_built::{is_valid, mapped};
 use normalizer_io::Answer;
 use normalizer_iterators::NormalizeError;
 use normalizer_streams::EncodingScheme;
-use normalizer_tables::characters::IgnoredCharacters::{Dropped, Replaced};
+use normalizer_tables::characters::IgnoredCharacters::Dropped;
 use std::alloc::{AllocError, Global};
 
 /// What is done with a file by the mapper.
@@ -116,8 +115,8 @@ impl MapperTask {
                 Ok(scheme.encode(alloc, &mapped)?)
             }
             MapperTask::Validate => {
-                let is_valid = is_valid_line(alloc, mapper, line)?;
-                Ok(told_unless(alloc, is_valid, name, index + 1)?)
+                let valid = is_valid(alloc, mapper, line)?;
+                Ok(told_unless(alloc, valid, name, index + 1)?)
             }
         }
     }
@@ -178,31 +177,4 @@ fn invalid_line(alloc: Global, name: &str, number: usize) -> Result<String, Allo
     ensures { IfOk result (λ line. string_bytes line ≡ invalid_line name.now number) }
 {
     format!(in alloc; "{name}:{number}: invalid\n")
-}
-
-/// Whether validation leaves a line as it is, and it has no U+FFFD.
-fn is_valid_line(
-    alloc: Global,
-    mapper: &Uts46MapperBorrowed<'_>,
-    line: &[char],
-) -> Result<bool, NormalizeError>
-    ensures valid { IfOk result (λ valid. valid ≡
-        is_valid_line (mapping_of (mapper_data_of_borrowed mapper.now)) line.now) }
-    ensures refused { IsOkUnless result NormalizeError.Memory }
-{
-    let valid = mapped(alloc, mapper, Replaced, line.iter().copied())?;
-    Ok(!holds_replacement(line) && is_same(&valid, line))
-}
-
-fn is_same(a: &[char], b: &[char]) -> bool
-    ensures { result ≡ bytes_eq a.now b.now }
-{
-    a == b
-}
-
-/// Whether a text has U+FFFD.
-fn holds_replacement(text: &[char]) -> bool
-    ensures { result ≡ list_any (λ c. c == 0xFFFD) text.now }
-{
-    text.iter().any(|c| *c == char::REPLACEMENT_CHARACTER)
 }

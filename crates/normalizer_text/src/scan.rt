@@ -23,7 +23,7 @@ pub(crate) trait Lanes: Copy {
         requires { position < length (units self) }
         ensures { result ≡ nat_lt (slice_index (units self) position) bound };
 
-    /// Returns how many units of the first vector, at a position, come before the first one that is not below the bound.
+    /// Returns how many units of the first vector, at a position, come before the first that is not below the bound.
     fn lanes_below(self, position: usize, bound: u32) -> usize
         requires { position + LANES ≤ length (units self) }
         ensures { result ≡ leading_below bound (take LANES (drop position (units self))) };
@@ -35,8 +35,15 @@ pub(crate) trait Lanes: Copy {
 }
 
 /// Returns the end of the units from a position on that are all below the bound.
+///
+/// With `IN_CALL`, the end of a run that is longer than the first vector is found in a call, so that fewer loops are
+/// inlined into the loop over characters: that is faster over bytes, and slower over 16-bit units.
 #[inline(always)]
-pub(crate) fn end_of_below<L: Lanes>(units: L, position: usize, bound: u32) -> usize
+pub(crate) fn end_of_below<L: Lanes, const IN_CALL: bool>(
+    units: L,
+    position: usize,
+    bound: u32,
+) -> usize
     requires { position ≤ length (L.units units) }
     ensures { result ≡ position + leading_below bound (drop position (L.units units)) }
 {
@@ -52,6 +59,39 @@ pub(crate) fn end_of_below<L: Lanes>(units: L, position: usize, bound: u32) -> u
         }
         end += LANES;
     }
+    end_of_long_run::<L, IN_CALL>(units, end, bound)
+}
+
+/// Returns the end of the units from a position on that are all below the bound, in a call or not.
+#[inline(always)]
+fn end_of_long_run<L: Lanes, const IN_CALL: bool>(units: L, position: usize, bound: u32) -> usize
+    requires { position ≤ length (L.units units) }
+    ensures { result ≡ position + leading_below bound (drop position (L.units units)) }
+{
+    if IN_CALL {
+        end_in_call(units, position, bound)
+    } else {
+        end_by_vectors(units, position, bound)
+    }
+}
+
+/// Returns the same end, in a call.
+#[inline(never)]
+fn end_in_call<L: Lanes>(units: L, position: usize, bound: u32) -> usize
+    requires { position ≤ length (L.units units) }
+    ensures { result ≡ position + leading_below bound (drop position (L.units units)) }
+{
+    end_by_vectors(units, position, bound)
+}
+
+/// Returns the same end, by vectors and then unit by unit.
+#[inline(always)]
+fn end_by_vectors<L: Lanes>(units: L, position: usize, bound: u32) -> usize
+    requires { position ≤ length (L.units units) }
+    ensures { result ≡ position + leading_below bound (drop position (L.units units)) }
+{
+    let len = units.len();
+    let mut end = position;
     while len - end >= MORE_LANES {
         let below = units.more_lanes_below(end, bound);
         if below != MORE_LANES {

@@ -150,7 +150,7 @@ impl<'a> Units for &'a str {
 
     #[inline(always)]
     fn end_of_below(self, position: usize, limit: u32) -> usize {
-        scan::end_of_below(self.as_bytes(), position, limit)
+        scan::end_of_below::<&[u8], true>(self.as_bytes(), position, limit)
     }
 
     fn low_units_are_of_low_characters(self) {}
@@ -191,7 +191,7 @@ impl<'a> Units for &'a [u8] {
 
     #[inline(always)]
     fn end_of_below(self, position: usize, limit: u32) -> usize {
-        scan::end_of_below(self, position, limit)
+        scan::end_of_below::<&[u8], true>(self, position, limit)
     }
 
     fn low_units_are_of_low_characters(self) {}
@@ -232,7 +232,7 @@ impl<'a> Units for &'a [u16] {
 
     #[inline(always)]
     fn end_of_below(self, position: usize, limit: u32) -> usize {
-        scan::end_of_below(self, position, limit)
+        scan::end_of_below::<&[u16], false>(self, position, limit)
     }
 
     fn low_units_are_of_low_characters(self) {}

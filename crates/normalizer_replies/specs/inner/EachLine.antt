@@ -4,7 +4,8 @@ use Rattle.normalizer_streams.specs.declared.scheme.EncodingScheme.{EncodingSche
 use Rattle.normalizer_streams.specs.Schemes.{encoded_by}
 use Rattle.normalizer_replies.specs.declared.mapping.MapperTask.{MapperTask}
 use Rattle.normalizer_replies.specs.declared.mapping.MapperTask.TheVariants.{Map, Validate}
-use Rattle.normalizer_replies.specs.Lines.{is_valid_line, line_feed, told_unless}
+use Rattle.normalizer_built.specs.Mapping.{is_valid_by}
+use Rattle.normalizer_replies.specs.Lines.{line_feed, told_unless}
 use Rattle.normalizer_replies.specs.Making.{Mapping}
 
 -- what comes before a line
@@ -14,7 +15,7 @@ feed_unless is_first = if is_first then [] else line_feed ∷ []
 -- of the line after so many others
 abbrev pub reply_to : MapperTask → EncodingScheme → Mapping → (name : List ℕ) → ℕ → List ℕ → List ℕ
 reply_to Map s m name n line = encoded_by s (feed_unless (n == 0) ++ m.map line)
-reply_to Validate s m name n line = told_unless (is_valid_line m line) name (n + 1)
+reply_to Validate s m name n line = told_unless (is_valid_by m.validate line) name (n + 1)
 
 -- of the lines after so many others
 abbrev pub replies_to : MapperTask → EncodingScheme → Mapping → (name : List ℕ) → ℕ → List (List ℕ) → List ℕ

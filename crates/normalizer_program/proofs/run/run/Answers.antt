@@ -9,8 +9,8 @@ use Rattle.normalizer_program.proofs.run.run.Goals as goal
 
 pub returns-in_err-write_all : goal.returns-in_err-write_all
 returns-in_err-write_all g c =
-    let answer = c.in_ok-answer.answer in
-    let output = string_bytes c.in_ok-answer.output in
+    let answer = c.in-Ok.answer in
+    let output = string_bytes c.in-Ok.output in
     let provided = held (g.P.FormData.held_for_forms c.args.provider.now) (g.P.MappingData.held_for_mapper c.args.provider.now) in
     let refused : c.from_residual-in_err-write_all.result ≡ Err Write = search rules in
     let replies : Replies c.args.command provided (g.R.Source.bytes_left c.args.reader.now) answer output = record {
