@@ -1,7 +1,6 @@
 -- What is made of texts, by what records mean.
 use Rattle.std.specs.Prelude.{◌≡◌, ℕ, List}
 use Rattle.normal_forms.specs.declared.Form.{Form}
-use Rattle.normal_forms.specs.declared.Form.TheVariants.{Decomposing, Composing}
 use Rattle.normal_forms.specs.Forms.{nfc, normal_form}
 use Rattle.normal_forms.specs.Reading.{Reading}
 use Rattle.normalizer_tables.specs.declared.characters.IgnoredCharacters.TheVariants.{Dropped, Replaced}
@@ -14,6 +13,7 @@ use Rattle.normalizer_built.specs.declared.NormalForm.TheVariants.{Nfd, Nfc, Nfk
 use Rattle.normalizer_built.specs.declared.normalizer.Normalizer.{Normalizer}
 use Rattle.normalizer_built.specs.Mapping.{mapped_in, mapper_reading}
 use Rattle.normalizer_built.specs.Normalizers.{kind_by, reading_of}
+use Rattle.normalizer_built.specs.Providers.{kind_of}
 use Rattle.icu_normalizer.specs.Uts46.{MapperData}
 
 -- a normal form, and the reading by which it is made
@@ -26,12 +26,6 @@ mappings_of Nfd = Canonical
 mappings_of Nfc = Canonical
 mappings_of Nfkd = All
 mappings_of Nfkc = All
-
-abbrev pub kind_of : NormalForm → Form
-kind_of Nfd = Decomposing
-kind_of Nfc = Composing
-kind_of Nfkd = Decomposing
-kind_of Nfkc = Composing
 
 -- D118 to D121 by what records mean
 abbrev pub making_by : List RecordValue → NormalForm → Making
