@@ -4,8 +4,8 @@ use Rattle.std.specs.Prelude.{Result, IsOk, OnOk, OnErr, IfErr, IsErrOf}
 use Rattle.normal_forms.specs.ShortRuns.{HasShortRuns}
 use Rattle.normalizer_text.specs.Encodings.{Encoding, decoded_in}
 use Rattle.icu_normalizer.specs.Forms.{MadeForm}
-use Rattle.icu_normalizer_c.specs.declared.fault.Fault.{Fault}
-use Rattle.icu_normalizer_c.specs.declared.fault.Fault.TheVariants.{BufferTooSmall, Memory}
+use Rattle.normalizer_handles.specs.declared.fault.Fault.{Fault}
+use Rattle.normalizer_handles.specs.declared.fault.Fault.TheVariants.{BufferTooSmall, Memory}
 
 -- The units are written to the front of the buffer, if there is room for all of them, and their number is reported. If
 -- there isn't room, or on any other fault, the buffer is unchanged.

@@ -5,42 +5,20 @@ use Rattle.normalizer_text.specs.Encodings.{Encoding, encoded_in, decoded_in}
 use Rattle.normalizer_text.specs.EncodedForm.{encoded_form}
 use Rattle.normalizer_text.specs.InputCut.{IsInputCut, IsInputNormalized}
 use Rattle.normalizer_text.specs.declared.offence.Offence.{Offence}
-use Rattle.normalizer_built.specs.declared.NormalForm.{NormalForm}
 use Rattle.normalizer_built.specs.Mapping.{mapped_in}
 use Rattle.icu_normalizer.specs.Checks.{IsLastingOffence}
 use Rattle.icu_normalizer.specs.Forms.{MadeForm}
 use Rattle.icu_normalizer.specs.declared.uts46.Uts46Mapper.{Uts46Mapper}
 use Rattle.icu_normalizer.specs.Mappers.{mapper_data_of}
 use Rattle.icu_normalizer.specs.Uts46.{MapperData}
-use Rattle.icu_normalizer_c.specs.declared.fault.Fault.{Fault}
-use Rattle.icu_normalizer_c.specs.declared.fault.Fault.TheVariants.{UnknownForm, NotOpen, NoMapper}
-use Rattle.icu_normalizer_c.specs.declared.defect.Defect.{Defect}
-use Rattle.icu_normalizer_c.specs.declared.handle.Handle.{Handle}
+use Rattle.normalizer_handles.specs.declared.fault.Fault.{Fault}
+use Rattle.normalizer_handles.specs.declared.fault.Fault.TheVariants.{UnknownForm, NotOpen, NoMapper}
 use Rattle.icu_normalizer_c.specs.declared.mismatch.Mismatch.{Mismatch}
-use Rattle.icu_normalizer_c.specs.declared.normalizers.Normalizers.{Normalizers}
+use Rattle.normalizer_handles.specs.declared.normalizers.Normalizers.{Normalizers}
 use Rattle.icu_normalizer_c.specs.Buffers.{Fills, Reports}
-use Rattle.icu_normalizer_c.specs.Defects.{defect_after}
-use Rattle.icu_normalizer_c.specs.FormNumbers.{last_form, number_of}
-use Rattle.icu_normalizer_c.specs.Made.{made_in}
+use Rattle.normalizer_handles.specs.FormNumbers.{last_form}
+use Rattle.normalizer_handles.specs.Made.{IsNumbered}
 use Rattle.icu_normalizer_c.specs.Mismatches.{mismatch_of}
-use Rattle.icu_normalizer_c.specs.Status.{status_of}
-
--- the number is the status of an outcome of this kind
-abbrev pub IsStatus : ℕ → (Result ⊤ Fault → Type 0) → Type 0
-IsStatus number Is = (outcome : Result ⊤ Fault) × (number ≡ status_of outcome) × Is outcome
-
--- the same of an outcome whose defect, if it has one, is reported
-abbrev pub IsStatusReporting : ℕ → (before after : Defect) → (Result ⊤ Fault → Type 0) → Type 0
-IsStatusReporting number before after Is =
-    (outcome : Result ⊤ Fault) × (number ≡ status_of outcome) × (after ≡ defect_after outcome before) × Is outcome
-
--- the normalizers of a handle, or none
-abbrev pub held_normalizers : Handle → Option Normalizers
-held_normalizers h = h.slot.value
-
--- the form that the normalizers make and that has the number
-abbrev pub IsNumbered : Normalizers → (number : ℕ) → MadeForm → Type 0
-IsNumbered n number m = (form : NormalForm) × (number ≡ number_of form) × (m ≡ made_in n form)
 
 -- a call at a form of the normalizers, unless no form has the number
 abbrev pub AtForm : Normalizers → (number : ℕ) → (Unchanged : Type 0) → (MadeForm → Result ⊤ Fault → Type 0)

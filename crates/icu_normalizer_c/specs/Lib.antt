@@ -1,10 +1,3 @@
 pub mod Buffers
 pub mod Calls
-pub mod Defects
-pub mod FormNumbers
-pub mod Made
 pub mod Mismatches
-pub mod Opening
-pub mod PlainRecords
-pub mod Slots
-pub mod Status

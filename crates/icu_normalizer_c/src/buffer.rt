@@ -1,7 +1,7 @@
 //! The buffers of callers.
 ghost use Rattle.icu_normalizer_c.specs.Buffers.{Fills};
 
-use crate::fault::Fault;
+use normalizer_handles::Fault;
 
 /// Writes units to the front of a buffer, if there is room for all of them. Says how many there are.
 pub(crate) fn fill<T: Copy>(units: &[T], output: &mut [T], needed: &mut usize) -> Result<(), Fault>

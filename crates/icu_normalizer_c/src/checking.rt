@@ -2,12 +2,13 @@
 ghost use Rattle.std.specs.Prelude.{◌≡◌, ◌↔◌, IsTrue};
 ghost use Rattle.normalizer_text.specs.InputCut.{IsInputCut, IsInputNormalized};
 ghost use Rattle.normalizer_text.specs.Encodings.{Encoding};
-ghost use Rattle.icu_normalizer_c.specs.Calls.{held_normalizers, IsStatus, Over, ReportsCut, ReportsNormalized};
+ghost use Rattle.icu_normalizer_c.specs.Calls.{Over, ReportsCut, ReportsNormalized};
+ghost use Rattle.normalizer_handles.specs.Handles.{held_normalizers};
+ghost use Rattle.normalizer_handles.specs.Status.{IsStatus};
 
-use crate::handle::Handle;
-use crate::normalizers::Normalizer;
 use crate::question::{Question, report};
 use icu_normalizer::NormalizeError;
+use normalizer_handles::{Handle, Normalizer};
 use std::alloc::Global;
 
 /// Whether an input is well-formed and normalized.

@@ -1,15 +1,16 @@
 //! The first mismatches of inputs.
 ghost use Rattle.std.specs.Prelude.{◌≡◌, Option};
 ghost use Rattle.normalizer_text.specs.Encodings.{Encoding};
-ghost use Rattle.icu_normalizer_c.specs.Calls.{held_normalizers, IsStatus, Over, ReportsMismatch};
+ghost use Rattle.icu_normalizer_c.specs.Calls.{Over, ReportsMismatch};
+ghost use Rattle.normalizer_handles.specs.Handles.{held_normalizers};
+ghost use Rattle.normalizer_handles.specs.Status.{IsStatus};
 ghost use Rattle.icu_normalizer.specs.Checks.{IsLastingOffence};
 ghost use Rattle.normalizer_text.specs.declared.offence.Offence.{Offence};
 ghost use Rattle.icu_normalizer_c.specs.Mismatches.{mismatch_of};
 
-use crate::handle::Handle;
-use crate::normalizers::Normalizer;
 use crate::question::{Question, report};
 use icu_normalizer::{NormalizeError, Offence};
+use normalizer_handles::{Handle, Normalizer};
 use std::alloc::Global;
 
 /// The first mismatch of an input, if it has one. If not, the numbers are 0.

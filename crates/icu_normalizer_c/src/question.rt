@@ -4,13 +4,13 @@ ghost use Rattle.normalizer_text.specs.Encodings.{Encoding, decoded_in};
 ghost use Rattle.icu_normalizer.specs.Checks.{AnswersOf};
 ghost use Rattle.icu_normalizer.specs.Forms.{MadeForm};
 ghost use Rattle.icu_normalizer_c.specs.Buffers.{Reports};
-ghost use Rattle.icu_normalizer_c.specs.Calls.{held_normalizers, AtForm, IsStatus, Over};
-ghost use Rattle.icu_normalizer_c.specs.Made.{made_by};
+ghost use Rattle.icu_normalizer_c.specs.Calls.{AtForm, Over};
+ghost use Rattle.normalizer_handles.specs.Handles.{held_normalizers};
+ghost use Rattle.normalizer_handles.specs.Status.{IsStatus};
+ghost use Rattle.normalizer_handles.specs.Made.{made_by};
 
-use crate::fault::{Fault, status};
-use crate::handle::Handle;
-use crate::normalizers::{Normalizer, Normalizers};
 use icu_normalizer::NormalizeError;
+use normalizer_handles::{Fault, Handle, Normalizer, Normalizers, status};
 use std::alloc::Global;
 
 /// A question about an input at a form.

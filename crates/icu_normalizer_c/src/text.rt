@@ -1,13 +1,13 @@
 //! Texts for the buffers of callers.
 ghost use Rattle.std.specs.Prelude.{◌≡◌, List, ⊤, Result};
-ghost use Rattle.icu_normalizer_c.specs.declared.fault.Fault.{Fault};
+ghost use Rattle.normalizer_handles.specs.declared.fault.Fault.{Fault};
 ghost use Rattle.icu_normalizer_c.specs.Buffers.{Fills};
-ghost use Rattle.icu_normalizer_c.specs.Calls.{held_normalizers, IsStatus, OverHeld};
-ghost use Rattle.icu_normalizer_c.specs.declared.normalizers.Normalizers.{Normalizers};
+ghost use Rattle.icu_normalizer_c.specs.Calls.{OverHeld};
+ghost use Rattle.normalizer_handles.specs.Handles.{held_normalizers};
+ghost use Rattle.normalizer_handles.specs.Status.{IsStatus};
+ghost use Rattle.normalizer_handles.specs.declared.normalizers.Normalizers.{Normalizers};
 
-use crate::fault::{Fault, status};
-use crate::handle::Handle;
-use crate::normalizers::Normalizers;
+use normalizer_handles::{Fault, Handle, Normalizers, status};
 use std::alloc::Global;
 
 /// A text that normalizers or their mapper make of an input.

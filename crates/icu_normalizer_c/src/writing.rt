@@ -4,15 +4,15 @@ ghost use Rattle.std.specs.Cow.{cow_slice_items, cow_str_bytes, IsBorrowedSlice,
 ghost use Rattle.normalizer_text.specs.Encodings.{Encoding};
 ghost use Rattle.normalizer_text.specs.EncodedForm.{encoded_form};
 ghost use Rattle.icu_normalizer.specs.Owned.{ReturnsForm};
-ghost use Rattle.icu_normalizer_c.specs.Calls.{held_normalizers, AtForm, IsStatus, Over, WritesForm};
-ghost use Rattle.icu_normalizer_c.specs.Made.{made_by};
+ghost use Rattle.icu_normalizer_c.specs.Calls.{AtForm, Over, WritesForm};
+ghost use Rattle.normalizer_handles.specs.Handles.{held_normalizers};
+ghost use Rattle.normalizer_handles.specs.Status.{IsStatus};
+ghost use Rattle.normalizer_handles.specs.Made.{made_by};
 
 use crate::buffer::fill;
-use crate::fault::Fault;
-use crate::handle::Handle;
-use crate::normalizers::{Normalizer, Normalizers};
 use crate::text::{Text, write};
 use icu_normalizer::NormalizeError;
+use normalizer_handles::{Fault, Handle, Normalizer, Normalizers};
 use std::alloc::Global;
 use std::borrow::{CowSlice, CowStr};
 

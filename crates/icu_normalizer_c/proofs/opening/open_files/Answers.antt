@@ -1,7 +1,0 @@
-use Rattle.icu_normalizer_c.proofs.OpeningLemmas.{opens-both}
-use Rattle.icu_normalizer_c.proofs.opening.open_files.Goals as goal
-
-pub returns : goal.returns
-returns c =
-    opens-both _ _ c.in_ok-records.records.items c.in_ok-mapper.mapper.items c.in_ok-records.ensures c.in_ok-mapper.ensures _ _ _
-    (rw (← c.deref.ensures.value, ← c.deref-2.ensures.value) c.open.ensures)

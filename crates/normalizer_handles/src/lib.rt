@@ -1,0 +1,19 @@
+//! What C keeps of normalizers, and how it is opened: by Unicode's files, or by records from C.
+#![tactic(auto)]
+
+mod box_parts;
+mod defect;
+mod fault;
+mod form;
+mod handle;
+mod normalizers;
+mod opening;
+mod plain_records;
+mod slot;
+
+pub use defect::{Defect, status_reporting};
+pub use fault::{Fault, status};
+pub use handle::Handle;
+pub use normalizers::{Normalizer, Normalizers};
+pub use opening::{open_files, open_records, open_unicode_data};
+pub use plain_records::{PlainMapperRecord, PlainRecord};
