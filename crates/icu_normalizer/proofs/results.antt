@@ -1,4 +1,6 @@
 -- Results of checks and owned forms.
 pub mod CheckLemmas
 pub mod OwnedLemmas
+pub mod QualifyingLemmas
 pub mod TextAnswers
+pub mod UnorderedLemmas

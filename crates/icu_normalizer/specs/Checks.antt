@@ -17,16 +17,16 @@ use Rattle.icu_normalizer.specs.Forms.{MadeForm}
 
 -- The result is of this kind. `Memory` is the only error, and never comes if the text x that was looked at has short
 -- runs.
-pub record AnswersOf {A : Type 0} (m : MadeForm) (x : List ℕ) (Is : A → Type 0) (answer : Result A NormalizeError)
+pub record AnswersOf {A : Type 0} (m : MadeForm) (x : List ℕ) (Is : A → Type 0) (result : Result A NormalizeError)
     : Type 0 where
-  pub is : IfOk answer Is
-  pub room : HasShortRuns m.has_class_form m.reading x → IsOk answer
-  pub refused : IsOkUnless answer Memory
+  pub is : IfOk result Is
+  pub room : HasShortRuns m.has_class_form m.reading x → IsOk result
+  pub refused : IsOkUnless result Memory
 
 -- true exactly if the units are well-formed and normalized
 abbrev pub ChecksForm : MadeForm → Encoding → List ℕ → Result Bool NormalizeError → Type 0
-ChecksForm m e units answer =
-    AnswersOf m (decoded_in e units) (λ yes. IsTrue yes ↔ IsInputNormalized e m.reading m.form units) answer
+ChecksForm m e units result =
+    AnswersOf m (decoded_in e units) (λ yes. IsTrue yes ↔ IsInputNormalized e m.reading m.form units) result
 
 -- the units have a first mismatch, at the place or before it
 abbrev pub HasOffenceWithin : MadeForm → Encoding → List ℕ → ℕ → Type 0
@@ -35,15 +35,15 @@ HasOffenceWithin m e units place =
 
 -- The first mismatch of the units, or none if they are well-formed and normalized. The character found there isn't the
 -- one expected, or an error is there. Appending to well-formed units never removes it, nor moves it later.
-pub record IsLastingOffence (m : MadeForm) (e : Encoding) (units : List ℕ) (answer : Option Offence) : Type 0 where
-  pub offence : IsInputOffenceOf e m.reading m.form units answer
-  pub differ : ForSome answer (λ o. (o.found ≢ o.wanted) ⊎ IsErrorAt e units o.place)
+pub record IsLastingOffence (m : MadeForm) (e : Encoding) (units : List ℕ) (result : Option Offence) : Type 0 where
+  pub offence : IsInputOffenceOf e m.reading m.form units result
+  pub differ : ForSome result (λ o. (o.found ≢ o.wanted) ⊎ IsErrorAt e units o.place)
   pub lasts : IsWellFormed (first_in e) units
-      → ForSome answer (λ o. (more : List ℕ) → HasOffenceWithin m e (units ++ more) o.place)
+      → ForSome result (λ o. (more : List ℕ) → HasOffenceWithin m e (units ++ more) o.place)
 
 -- the first mismatch of the units, or none
 abbrev pub FindsOffence : MadeForm → Encoding → List ℕ → Result (Option Offence) NormalizeError → Type 0
-FindsOffence m e units answer = AnswersOf m (decoded_in e units) (IsLastingOffence m e units) answer
+FindsOffence m e units result = AnswersOf m (decoded_in e units) (IsLastingOffence m e units) result
 
 -- The units in two parts, at their cut: the prefix is well-formed and normalized, the rest is empty or is not both.
 pub record IsSplitAtCut (m : MadeForm) (e : Encoding) (units prefix rest : List ℕ) : Type 0 where
@@ -56,7 +56,7 @@ pub record IsSplitAtCut (m : MadeForm) (e : Encoding) (units prefix rest : List 
 
 -- true exactly if the text is normalized
 abbrev pub ChecksText : MadeForm → List ℕ → Result Bool NormalizeError → Type 0
-ChecksText m x answer = AnswersOf m x (λ yes. IsTrue yes ↔ IsNormalized m.reading m.form x) answer
+ChecksText m x result = AnswersOf m x (λ yes. IsTrue yes ↔ IsNormalized m.reading m.form x) result
 
 -- The first mismatch of a text, after some of its characters; the place counts their bytes. The character found isn't
 -- the one expected. Whatever is appended, the text has a mismatch after as many characters or fewer.
@@ -70,8 +70,8 @@ pub record IsLastingOffenceOfText (m : MadeForm) (x : List ℕ) (o : Offence) : 
 
 -- the first mismatch of the text, or none if it is normalized
 abbrev pub FindsOffenceOfText : MadeForm → List ℕ → Result (Option Offence) NormalizeError → Type 0
-FindsOffenceOfText m x answer =
-    AnswersOf m x (λ o. MatchOption o (IsNormalized m.reading m.form x) (IsLastingOffenceOfText m x)) answer
+FindsOffenceOfText m x result =
+    AnswersOf m x (λ o. MatchOption o (IsNormalized m.reading m.form x) (IsLastingOffenceOfText m x)) result
 
 -- A text in two parts, by their bytes, at its cut: the prefix is normalized, the rest is empty or is not.
 pub record IsTextSplitAtCut (m : MadeForm) (text prefix rest : List ℕ) : Type 0 where

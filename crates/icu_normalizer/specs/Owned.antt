@@ -30,18 +30,18 @@ pub record IsEncodedFormOf (m : MadeForm) (e : Encoding) (units content : List �
 -- The form of the units was returned, borrowed exactly if they are well-formed and normalized. `Memory` is the only
 -- error, and if they are, it never comes over short runs.
 pub record ReturnsForm {A : Type 0} (content : A → List ℕ) (IsBorrowed : A → Type 0) (m : MadeForm) (e : Encoding)
-    (units : List ℕ) (answer : Result A NormalizeError) : Type 0 where
-  pub form : IfOk answer (λ z. IsEncodedFormOf m e units (content z))
-  pub borrows : IfOk answer (λ z. IsBorrowed z ↔ IsInputNormalized e m.reading m.form units)
+    (units : List ℕ) (result : Result A NormalizeError) : Type 0 where
+  pub form : IfOk result (λ z. IsEncodedFormOf m e units (content z))
+  pub borrows : IfOk result (λ z. IsBorrowed z ↔ IsInputNormalized e m.reading m.form units)
   pub room : HasShortRuns m.has_class_form m.reading (decoded_in e units) → IsInputNormalized e m.reading m.form units
-      → IsOk answer
-  pub refused : IsOkUnless answer Memory
+      → IsOk result
+  pub refused : IsOkUnless result Memory
 
 -- The form of a text was returned, borrowed exactly if the text is normalized. `Memory` is the only error, and if the
 -- text is normalized, it never comes over short runs.
-pub record ReturnsFormOfText (m : MadeForm) (x : List ℕ) (answer : Result (CowStr Global) NormalizeError)
+pub record ReturnsFormOfText (m : MadeForm) (x : List ℕ) (result : Result (CowStr Global) NormalizeError)
     : Type 0 where
-  pub form : IfOk answer (λ z. IsFormOf m x (chars (cow_str_bytes z)))
-  pub borrows : IfOk answer (λ z. IsBorrowedStr z ↔ IsNormalized m.reading m.form x)
-  pub room : HasShortRuns m.has_class_form m.reading x → IsNormalized m.reading m.form x → IsOk answer
-  pub refused : IsOkUnless answer Memory
+  pub form : IfOk result (λ z. IsFormOf m x (chars (cow_str_bytes z)))
+  pub borrows : IfOk result (λ z. IsBorrowedStr z ↔ IsNormalized m.reading m.form x)
+  pub room : HasShortRuns m.has_class_form m.reading x → IsNormalized m.reading m.form x → IsOk result
+  pub refused : IsOkUnless result Memory

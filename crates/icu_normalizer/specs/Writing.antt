@@ -20,17 +20,17 @@ module _ {S : Type 0} (e : Encoding) (taken : S → List ℕ) where
   -- sink is also one since before this call. `Sink` comes only with a fault of the sink, and `Memory` never if the text
   -- has short runs. After either a beginning of the form was taken, if refused calls take nothing.
   pub record WritesForm (refused left : S → S → Type 0) (m : MadeForm) (x : List ℕ) (old : S)
-      (answer : Result ⊤ NormalizeError) (new : S) : Type 0 where
-    pub written : OnOk answer (taken new ≡ taken old ++ encoded_in e (form_of m x))
-    pub ahead : OnOk answer ((later : S) → refused new later → refused old later)
-    pub fault : IsErrOf answer Sink → refused old new
-    pub room : HasShortRuns m.has_class_form m.reading x → ¬ IsErrOf answer Memory
-    pub begun : OnErr answer (((s t : S) → left s t → TakesNothing taken s t) → TookBeginning (form_of m x) old new)
+      (result : Result ⊤ NormalizeError) (new : S) : Type 0 where
+    pub written : OnOk result (taken new ≡ taken old ++ encoded_in e (form_of m x))
+    pub ahead : OnOk result ((later : S) → refused new later → refused old later)
+    pub fault : IsErrOf result Sink → refused old new
+    pub room : HasShortRuns m.has_class_form m.reading x → ¬ IsErrOf result Memory
+    pub begun : OnErr result (((s t : S) → left s t → TakesNothing taken s t) → TookBeginning (form_of m x) old new)
 
 -- the sink first received the number of units of the input; if it refused that, nothing else was done
 pub record TellsLengthFirst {S : Type 0} (taken : S → List ℕ) (hinted : S → ℕ → Result ⊤ SinkError → S → Type 0)
-    (len : ℕ) (old : S) (answer : Result ⊤ NormalizeError) (new : S) : Type 0 where
+    (len : ℕ) (old : S) (result : Result ⊤ NormalizeError) (new : S) : Type 0 where
   pub hint : Result ⊤ SinkError
   pub state : S
   pub first : hinted old len hint state
-  pub stops : OnErr hint (IsErrOf answer Sink × (new ≡ state) × (taken new ≡ taken old))
+  pub stops : OnErr hint (IsErrOf result Sink × (new ≡ state) × (taken new ≡ taken old))

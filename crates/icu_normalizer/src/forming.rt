@@ -15,6 +15,7 @@ ghost use Rattle.icu_normalizer.specs.BoundaryBefore.{HasBoundaryBefore};
 ghost use Rattle.icu_normalizer.specs.Forms.{form_by, form_in, form_of, HasShortUnits, MadeForm};
 ghost use Rattle.icu_normalizer.specs.inner.Offences.{IsFirstOrNone};
 ghost use Rattle.icu_normalizer.specs.inner.PassthroughRuns.{IsKeptSegment, CanFollowMark, CanPassThrough};
+ghost use Rattle.icu_normalizer.specs.inner.PassthroughRuns.{IsOwnListOfClass};
 ghost use Rattle.icu_normalizer.specs.inner.WrittenParts.{NothingOffered, WritesText};
 
 use crate::composing_form::ComposingForm;
@@ -51,6 +52,10 @@ pub trait Forming {
     /// the class before is greater.
     fn passthrough_class(&self, character: char) -> Option<u8>
         ensures { result ≡ passthrough_class self.now character };
+
+    /// Returns the class of a character, if it is its own list.
+    fn class_of_itself(&self, character: char) -> Option<u8>
+        ensures { IfSome result (IsOwnListOfClass (made_form self.now).reading character) };
 
     /// Returns the bound below which every character is passed on, with class 0.
     fn passthrough_bound(&self) -> u32
@@ -158,6 +163,11 @@ impl<'a> Forming for DecomposingForm<'a> {
         self.characters.class_of_itself(character, word)
     }
 
+    fn class_of_itself(&self, character: char) -> Option<u8> {
+        let word = self.characters.word_of(character);
+        self.characters.class_of_itself(character, word)
+    }
+
     fn passthrough_bound(&self) -> u32 {
         self.bounds.decomposition
     }
@@ -238,6 +248,11 @@ impl<'a> Forming for ComposingForm<'a> {
         } else {
             None
         }
+    }
+
+    fn class_of_itself(&self, character: char) -> Option<u8> {
+        let word = self.characters.word_of(character);
+        self.characters.class_of_itself(character, word)
     }
 
     fn passthrough_bound(&self) -> u32 {

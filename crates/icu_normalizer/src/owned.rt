@@ -1,16 +1,19 @@
 //! The forms of text, bytes and 16-bit units, borrowed from the input if it is already normalized.
-ghost use Rattle.std.specs.Prelude.{◌≡◌, ◌++◌, [], chars, IfOk, IsOk, IsOkUnless, OnOk, string_bytes};
+ghost use Rattle.std.specs.Prelude.{◌≡◌, ◌<◌, ◌++◌, [], chars, IfOk, IsOk, IsOkUnless, IsTrue, OnOk, string_bytes};
 ghost use Rattle.std.specs.Cow.{cow_slice_items, cow_str_bytes, IsBorrowedSlice, IsBorrowedStr};
 ghost use Rattle.normalizer_text.specs.Encodings.{Encoding};
 ghost use Rattle.normalizer_text.specs.EncodedForm.{encoded_form};
-ghost use Rattle.normalizer_text.specs.InputCut.{IsInputCut, IsInputNormalized};
+ghost use Rattle.normalizer_text.specs.InputCut.{IsInputNormalized, QualifiesForInputCut};
 ghost use Rattle.icu_normalizer.specs.Forms.{HasShortUnits};
 ghost use Rattle.icu_normalizer.specs.Owned.{ReturnsForm, ReturnsFormOfText};
+ghost use Rattle.icu_normalizer.specs.inner.Offences.{QualifiesUnlessNormalized};
+ghost use Rattle.icu_normalizer.specs.inner.PassthroughRuns.{IsOwnListOfClass};
 ghost use Rattle.icu_normalizer.specs.inner.WriteUnlessOwn.{WroteUnlessOwn};
 
 use crate::borrowed::NormalizerBorrowed;
 use crate::forming::Forming;
 use crate::offence::cut_of;
+use crate::runs::kept_end;
 use crate::writing::form_to;
 use normalizer_iterators::NormalizeError;
 use normalizer_text::check_sink::Expected;
@@ -51,15 +54,71 @@ impl<'t> Growing<&'t [u16]> for Vec<u16> {
     }
 }
 
-/// Writes the form of units that are cut at a place: the prefix as it is, and the form of the rest. Room for as many
-/// units is made first.
-fn write_from_cut<U: Units, N: Forming, O: Growing<U>>(
+/// Returns the class of a mark that is its own list, and 0 for other characters.
+fn class_of_mark<N: Forming>(normalizer: &N, character: char) -> u8
+    ensures { 0 < result → IsOwnListOfClass (N.made_form normalizer.now).reading character result }
+{
+    normalizer.class_of_itself(character).unwrap_or(0)
+}
+
+/// Whether a mark after the first character is seen to be out of order before another starter comes. If so, the units
+/// aren't normalized.
+fn has_unordered_marks<U: Units, N: Forming>(normalizer: &N, units: U) -> bool
+    ensures { let m = N.made_form normalizer.now in
+        IsTrue result → ¬ IsInputNormalized U.encoding m.reading m.form (U.units units) }
+{
+    let mut last = 0;
+    let mut end = 0;
+    while end < units.len() {
+        let step = units.step_at(end);
+        let class = class_of_mark(normalizer, step.character);
+        if class > 0 && class < last {
+            return true;
+        }
+        if class == 0 && end > 0 {
+            return false;
+        }
+        last = class;
+        end += step.width;
+    }
+    false
+}
+
+/// Returns a place before which the units stay as they are: the end of what is kept, if marks after it are seen to be
+/// out of order, so that they are put in order once only; else the cut. Nothing if the units are well-formed and
+/// normalized.
+fn place_of_change<U: Expected, N: Forming>(
+    normalizer: &N,
+    units: U,
+) -> Result<Option<usize>, NormalizeError>
+    ensures place { let m = N.made_form normalizer.now in
+        IfOk result (QualifiesUnlessNormalized U.encoding m.reading m.form (U.units units)) }
+    ensures room { HasShortUnits (N.made_form normalizer.now) U.encoding (U.units units) → IsOk result }
+    ensures refused { IsOkUnless result NormalizeError.Memory }
+{
+    let kept = kept_end(normalizer, units);
+    if kept == units.len() {
+        return Ok(None);
+    }
+    let rest = units.after(kept);
+    if has_unordered_marks(normalizer, rest) {
+        return Ok(Some(kept));
+    }
+    match cut_of(normalizer, rest)? {
+        Some(place) => Ok(Some(kept + place)),
+        None => Ok(None),
+    }
+}
+
+/// Writes the form of units in two parts: what comes before the place as it is, and the form of the rest. Room for as
+/// many units is made first.
+fn write_from_place<U: Units, N: Forming, O: Growing<U>>(
     normalizer: &N,
     units: U,
     place: usize,
     output: &mut O,
 ) -> Result<(), NormalizeError>
-    requires { IsInputCut U.encoding (N.made_form normalizer.now).reading (N.made_form normalizer.now).form
+    requires { QualifiesForInputCut U.encoding (N.made_form normalizer.now).reading (N.made_form normalizer.now).form
         (U.units units) place }
     ensures { let m = N.made_form normalizer.now in OnOk result (O.text_taken output.new ≡
         O.text_taken output.old ++ encoded_form U.encoding m.reading m.form (U.units units)) }
@@ -81,10 +140,10 @@ fn write_unless_own<U: Expected, N: Forming, O: Growing<U>>(
         IsInputNormalized U.encoding m.reading m.form (U.units units) → IsOk result }
     ensures refused { IsOkUnless result NormalizeError.Memory }
 {
-    let Some(place) = cut_of(normalizer, units)? else {
+    let Some(place) = place_of_change(normalizer, units)? else {
         return Ok(true);
     };
-    match write_from_cut(normalizer, units, place, output) {
+    match write_from_place(normalizer, units, place, output) {
         Ok(()) => Ok(false),
         Err(_) => Err(NormalizeError::Memory),
     }

@@ -23,7 +23,7 @@ pub(crate) trait Question {
     /// The units of the input.
     ghost units: { Self → List ℕ };
 
-    /// Which answer is right.
+    /// Which results are right.
     ghost is: { Self → MadeForm → Self.Answer → Type 0 };
 
     fn ask(&self, normalizer: &Normalizer<'_>) -> Result<Self::Answer, NormalizeError>
@@ -31,7 +31,7 @@ pub(crate) trait Question {
             (is self.now (made_by normalizer.now)) result };
 }
 
-/// Reports the answer to a question at a form of the normalizers of a handle, and returns the status.
+/// Reports the result of a question at a form of the normalizers of a handle, and returns the status.
 pub(crate) fn report<Q: Question>(
     alloc: Global,
     handle: &mut Handle,

@@ -13,7 +13,7 @@ use Rattle.normalizer_records.specs.Meaning.{mapper_list, pairs_of}
 use Rattle.normalizer_builder.specs.RecordedClasses.{mapper_class_of}
 use Rattle.icu_normalizer.specs.Uts46.{MapperData}
 
--- the text mapped by data, in NFC: ignored characters are dropped, for mapping, or read as U+FFFD, for validation
+-- the text mapped using data, in NFC: ignored characters are dropped, for mapping, or read as U+FFFD, for validation
 abbrev pub mapped_in : MapperData → IgnoredCharacters → List ℕ → List ℕ
 mapped_in h ignored x = nfc (reading_by h.0 ignored h.1) x
 

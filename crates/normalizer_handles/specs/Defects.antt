@@ -45,7 +45,7 @@ abbrev pub condition_of_error : BuildError → ℕ
 condition_of_error (errors.Unfit marker condition) = condition
 condition_of_error error = 0
 
--- what the caller is told of data that are wrong; else what it had stays
+-- what is reported to the caller of data that are wrong; otherwise what it had stays
 abbrev pub defect_of : Fault → Defect → Defect
 defect_of (Line f) before =
     record { place = f.place.line; source = number_of_file f.place.file; reason = number_of_problem f.problem }

@@ -26,7 +26,7 @@ use std::alloc::{AllocError, Global};
 #[repr(C)]
 #[derive(Clone, Copy)]
 pub struct PlainRecord {
-    /// Where the mapping begins in the array.
+    /// The index in the array at which the mapping begins.
     pub mapping_start: usize,
     /// How many code points the mapping has.
     pub mapping_length: usize,
@@ -44,7 +44,7 @@ pub struct PlainRecord {
 #[repr(C)]
 #[derive(Clone, Copy)]
 pub struct PlainMapperRecord {
-    /// Where the mapping begins in the array.
+    /// The index in the array at which the mapping begins.
     pub mapping_start: usize,
     /// How many code points the mapping has.
     pub mapping_length: usize,

@@ -16,20 +16,20 @@ use Rattle.normalizer_text.proofs.rules.EncodingLemmas.{DecodesBack-in, encoded-
 use Rattle.normalizer_text.proofs.steps.StepLemmas.{decoded-IsText}
 use Rattle.normalizer_text.specs.EncodedForm.{encoded_form}
 use Rattle.normalizer_text.proofs.inputs.EncodedFormLemmas.{is_normalized_iff_encoded_form}
-use Rattle.normalizer_text.specs.InputCut.{IsInputCut, IsInputNormalized}
+use Rattle.normalizer_text.specs.InputCut.{IsInputNormalized, QualifiesForInputCut}
 use Rattle.icu_normalizer.specs.Forms.{MadeForm}
 use Rattle.icu_normalizer.specs.Owned.{ReturnsForm, IsEncodedFormOf}
 
 -- the prefix and the form of the rest are the form of the whole
-pub form_from_cut : (e : Encoding) (d : Reading) (form : Form) (units : List ℕ) (place : ℕ) → IsInputCut e d form units place
+pub form_from_cut : (e : Encoding) (d : Reading) (form : Form) (units : List ℕ) (place : ℕ) → QualifiesForInputCut e d form units place
     → take place units ++ encoded_form e d form (drop place units) ≡ encoded_form e d form units
 form_from_cut e d form units place cut =
-    ap (λ l. l ++ encoded_form e d form (drop place units)) (sym (encoded-decoded e (take place units) cut.qualifies.well_formed))
+    ap (λ l. l ++ encoded_form e d form (drop place units)) (sym (encoded-decoded e (take place units) cut.well_formed))
     ∙ sym (encoded_in-append e (decoded_in e (take place units)) (normal_form d form (decoded_in e (drop place units))))
-    ∙ ap (encoded_in e) cut.qualifies.keeps
+    ∙ ap (encoded_in e) cut.keeps
 
 -- they are written one after the other
-pub written_from_cut : {S A E : Type 0} (taken : S → List ℕ) {e : Encoding} {d : Reading} {form : Form} {units : List ℕ} {place : ℕ} → IsInputCut e d form units place
+pub written_from_cut : {S A E : Type 0} (taken : S → List ℕ) {e : Encoding} {d : Reading} {form : Form} {units : List ℕ} {place : ℕ} → QualifiesForInputCut e d form units place
     → (old mid new : S) {prefix rest : List ℕ} (answer : Result A E) → prefix ≡ take place units → rest ≡ drop place units → taken mid ≡ taken old ++ prefix
     → OnOk answer (taken new ≡ taken mid ++ encoded_form e d form rest) → OnOk answer (taken new ≡ taken old ++ encoded_form e d form units)
 written_from_cut taken {e = e} {d = d} {form = form} {units = units} {place = place} cut old mid new {prefix = prefix} {rest = rest} answer prefix_is rest_is took h =

@@ -87,7 +87,7 @@ module _ (e : Encoding) (d : Reading) (form : Form) where
 module _ {e : Encoding} {d : Reading} {form : Form} where
   module _ {units : List ℕ} {end : ℕ} (part : IsPart e d form units end) where
     -- the form of all is that of the part and that of the others
-    form-parts : normal_form d form (decoded_in e units) ≡ normal_form d form (decoded_in e (take end units)) ++ normal_form d form (decoded_in e (drop end units))
+    pub form-parts : normal_form d form (decoded_in e units) ≡ normal_form d form (decoded_in e (take end units)) ++ normal_form d form (decoded_in e (drop end units))
     form-parts =
         ap (normal_form d form) (text-parts e units end part.boundary)
         ∙ part.divides [] (decoded_in e (drop end units)) [] (sym (append-nil (decoded_in e (drop end units))))

@@ -33,6 +33,11 @@ pub record CanFollowMark (d : Reading) (form : Form) (held_back : Bool) (c k : �
   pub itself : ReadsAsItself d c
   pub class : d.class c ≡ k
 
+-- c is its own list, and has the class k
+pub record IsOwnListOfClass (d : Reading) (c k : ℕ) : Type 0 where
+  pub itself : ReadsAsItself d c
+  pub class : d.class c ≡ k
+
 -- U+FFFD, as which errors read, never passes
 abbrev pub replacement : ℕ
 replacement = 0xFFFD

@@ -11,8 +11,8 @@ use Rattle.icu_normalizer.specs.Forms.{MadeForm, form_in}
 use Rattle.icu_normalizer.specs.Writing.{TookBeginning}
 use Rattle.icu_normalizer.specs.inner.PassthroughRuns.{IsPart, StandsInInput}
 
--- what is said of an output S of pieces of U: what it has taken, what a refused call leaves and tells, and what a hint
--- may return
+-- what is said of an output S of pieces of U: what it has taken, what a refused call leaves, what its refusal says,
+-- and what a hint may return
 abbrev pub Target : Type 0 → Type 0 → Type 1
 Target S U = Ghosts S U
 
@@ -35,12 +35,12 @@ module _ {S U : Type 0} (e : Encoding) (into : Target S U) where
 
   -- a text was written, or the output refused a piece, or memory was refused
   pub record WritesText (offered : List ℕ → List ℕ → Type 0) (text : List ℕ) (old : S)
-      (answer : Result ⊤ NormalizeError) (new : S) : Type 0 where
-    pub written : OnOk answer (into.text_taken new ≡ into.text_taken old ++ encoded_in e text)
-    pub ahead : OnOk answer ((later : S) → into.refusal new later → into.refusal old later)
-    pub fault : IsErrOf answer Sink → into.refusal old new
-    pub refusal : IsErrOf answer Sink → WasRefusedPiece offered text old new
-    pub begun : IsErrOf answer Memory → TookBeginning e into.text_taken text old new
+      (result : Result ⊤ NormalizeError) (new : S) : Type 0 where
+    pub written : OnOk result (into.text_taken new ≡ into.text_taken old ++ encoded_in e text)
+    pub ahead : OnOk result ((later : S) → into.refusal new later → into.refusal old later)
+    pub fault : IsErrOf result Sink → into.refusal old new
+    pub refusal : IsErrOf result Sink → WasRefusedPiece offered text old new
+    pub begun : IsErrOf result Memory → TookBeginning e into.text_taken text old new
 
   -- the form of the units was written, or the output refused a piece of them or of it, or memory was refused
   abbrev pub WritesUnits : MadeForm → List ℕ → S → Result ⊤ NormalizeError → S → Type 0

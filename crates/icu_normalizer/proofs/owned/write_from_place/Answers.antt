@@ -1,13 +1,13 @@
 use Rattle.std.proofs.Common.{ap, ◌++◌, ◌∙◌}
-use Rattle.icu_normalizer.proofs.results.CheckLemmas.{boundary_at_cut}
+use Rattle.normalizer_text.proofs.inputs.InputBoundaryLemmas.{boundary_of_front}
 use Rattle.icu_normalizer.proofs.results.OwnedLemmas.{written_from_cut}
-use Rattle.icu_normalizer.proofs.owned.write_from_cut.Goals as goal
+use Rattle.icu_normalizer.proofs.owned.write_from_place.Goals as goal
 
 pub before-requires : goal.before-requires
-before-requires g c = boundary_at_cut _ _ _ _ _ c.requires
+before-requires g c = (boundary_of_front _ _ _ c.requires.within c.requires.well_formed).boundary
 
 pub after-requires : goal.after-requires
-after-requires g c = boundary_at_cut _ _ _ _ _ c.requires
+after-requires g c = (boundary_of_front _ _ _ c.requires.within c.requires.well_formed).boundary
 
 pub returns : goal.returns
 returns g c =
