@@ -24,21 +24,57 @@ pub fn without_comment(line: &str) -> &str {
     }
 }
 
-/// What is wrong with a row. One that begins with `not` is to differ itself.
+/// What is expected of a row.
+#[derive(Clone, Copy)]
+enum Expected {
+    /// Its result, or if it sets data no fault.
+    Right,
+    /// Another result.
+    Another,
+    /// That it can't be read.
+    Unreadable,
+    /// That its data are refused, or not there.
+    Refused,
+}
+
+/// What is expected of a row by its first word, and the rest of it.
+fn expectation(row: &str) -> (Expected, &str) {
+    match row.split_once(' ') {
+        Some(("not", rest)) => (Expected::Another, rest),
+        Some(("unreadable", rest)) => (Expected::Unreadable, rest),
+        Some(("refused", rest)) => (Expected::Refused, rest),
+        _ => (Expected::Right, row),
+    }
+}
+
+/// What is wrong with a row. One that begins with `fails` is to be wrong itself.
 pub fn what_differs<'a>(
     setting: &mut Setting<'a>,
     row: &'a str,
 ) -> Result<Option<String>, AllocError> {
-    let alloc = setting.alloc;
-    let (row, is_to_differ) = match row.strip_prefix("not ") {
-        Some(row) => (row, true),
-        None => (row, false),
+    let Some(row) = row.strip_prefix("fails ") else {
+        return unexpected(setting, row);
     };
-    match (difference(setting, row), is_to_differ) {
-        (Ok(answer), false) => Ok(answer),
-        (Err(fault), false) => Ok(Some(String::from_str(alloc, fault.name())?)),
-        (Ok(None), true) => Ok(Some(String::from_str(alloc, "as wanted")?)),
-        _ => Ok(None),
+    match unexpected(setting, row)? {
+        Some(_) => Ok(None),
+        None => Ok(Some(String::from_str(setting.alloc, AS_EXPECTED)?)),
+    }
+}
+
+const AS_EXPECTED: &str = "as expected";
+
+/// What came of a row in place of what it says.
+fn unexpected<'a>(setting: &mut Setting<'a>, row: &'a str) -> Result<Option<String>, AllocError> {
+    let alloc = setting.alloc;
+    let (expected, row) = expectation(row);
+    match (expected, difference(setting, row)) {
+        (Expected::Right, Ok(None))
+        | (Expected::Another, Ok(Some(_)))
+        | (Expected::Unreadable, Err(Fault::Unreadable))
+        | (Expected::Refused, Err(Fault::Refused)) => Ok(None),
+        (_, Ok(None)) => Ok(Some(String::from_str(alloc, AS_EXPECTED)?)),
+        (_, Ok(answer)) => Ok(answer),
+        (_, Err(fault)) => Ok(Some(String::from_str(alloc, fault.name())?)),
     }
 }
 

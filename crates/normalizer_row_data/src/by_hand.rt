@@ -40,20 +40,19 @@ impl Drop for Part {
 /// Second character, first character and composite.
 type Pair = (char, char, char);
 
-/// Whether a row sets a part of data, or removes one.
-pub fn gives_data(row: &[&str]) -> bool {
+/// Reads a row that sets a part of data, or removes one.
+pub fn read_row(alloc: Global, row: &[&str]) -> Result<(), Fault> {
     match row {
-        [name, "nfd" | "nfkd" | "uts46" | "supplement", ..] => is_of_kind(name),
-        [name, ..] => matches!(*name, "pairs" | "pair") || matches!(row, ["no", "pairs"]),
-        [] => false,
+        ["pairs" | "pair", characters @ ..] => {
+            let _pairs = with_pairs(Vec::new(alloc), characters)?;
+            Ok(())
+        }
+        ["no", "pairs"] => Ok(()),
+        [name, "nfd" | "nfkd" | "uts46" | "supplement", rest @ ..] => {
+            Part::nothing(alloc).take(alloc, name, rest)
+        }
+        _ => Err(Fault::Unreadable),
     }
-}
-
-fn is_of_kind(name: &str) -> bool {
-    matches!(
-        name,
-        "range" | "cap" | "past" | "scalars16" | "scalars24" | "no"
-    )
 }
 
 /// The numbers that a word such as `1161..1175` says, or that of one alone, twice.
@@ -63,9 +62,8 @@ pub fn numbers(word: &str) -> Result<(u32, u32), Fault> {
 }
 
 impl Part {
-    /// What rows set of a kind.
-    pub fn of(alloc: Global, rows: &[&str], kind: &str) -> Result<Part, Fault> {
-        let mut part = Part {
+    fn nothing(alloc: Global) -> Part {
+        Part {
             has_words: false,
             ranges: Vec::new(alloc),
             past: 0,
@@ -73,7 +71,12 @@ impl Part {
             has_lists: false,
             scalars16: Vec::new(alloc),
             scalars24: Vec::new(alloc),
-        };
+        }
+    }
+
+    /// What rows set of a kind.
+    pub fn of(alloc: Global, rows: &[&str], kind: &str) -> Result<Part, Fault> {
+        let mut part = Part::nothing(alloc);
         part.take_all(alloc, rows, kind)?;
         Ok(part)
     }
@@ -95,7 +98,8 @@ impl Part {
             "cap" | "past" => self.take_number(name, only(rest)?),
             "scalars16" => self.take_scalars16(all(alloc, rest)?),
             "scalars24" => self.take_scalars24(all(alloc, rest)?),
-            _ => self.take_none(only(rest)?),
+            "no" => self.take_none(only(rest)?),
+            _ => Err(Fault::Unreadable),
         }
     }
 

@@ -2,6 +2,7 @@
 #![tactic(auto)]
 
 pub mod by_hand;
+pub mod given;
 pub mod held;
 pub mod normalizer;
 pub mod setting;

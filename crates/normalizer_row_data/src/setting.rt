@@ -1,13 +1,12 @@
 //! The data for questions: records, and data that they build or that rows make by hand.
-use crate::by_hand::{gives_data, numbers};
+use crate::by_hand::read_row;
+use crate::given::Given;
 use crate::held::Held;
 use crate::normalizer::{Normalizer, form_named};
 use icu_normalizer::{BuildError, Record, Records, Uts46Record};
 use normalizer_built::NormalForm;
 use normalizer_row_words::fault::Fault;
-use normalizer_row_words::record_rows::{mapper_record_of, push_records, record_of};
-use normalizer_row_words::words::{character, words};
-use normalizer_rows::{mapper_records, records};
+use normalizer_row_words::words::words;
 use std::alloc::Global;
 
 /// What questions are about.
@@ -62,93 +61,38 @@ impl<'a> Setting<'a> {
     pub fn edited(&self, edits: &'a str) -> Result<Setting<'a>, Fault> {
         let mut rows = self.rows.to_vec(self.alloc)?;
         for edit in edits.split(" and ") {
-            if !gives_data(&words(self.alloc, edit)?) {
-                return Err(Fault::Unreadable);
-            }
+            read_row(self.alloc, &words(self.alloc, edit)?)?;
             rows.push(edit)?;
         }
         Ok(Setting::over(self.alloc, rows))
     }
 
-    /// Takes a row that sets something: a record, records, or a part of data by hand.
+    /// Takes a row that sets something: a record, records, or a part of data by hand. One that has a fault sets nothing.
     pub fn give(&mut self, row: &'a str) -> Result<(), Fault> {
+        let given = Given::read(self.alloc, row)?;
+        let is_by_hand = given.is_by_hand();
+        self.take(given)?;
+        self.is_by_hand = is_by_hand;
         self.is_held = false;
         self.normalizer = None;
-        self.take(row, &words(self.alloc, row)?)
-    }
-
-    fn take(&mut self, row: &'a str, words: &[&str]) -> Result<(), Fault> {
-        let [name, rest @ ..] = words else {
-            return Err(Fault::Unreadable);
-        };
-        self.is_by_hand = false;
-        match *name {
-            "record" => self.take_record(rest),
-            "mapper" => self.take_mapper_record(rest),
-            "records" => self.take_records(rest),
-            _ => self.take_row(row, words),
-        }
-    }
-
-    fn take_record(&mut self, words: &[&str]) -> Result<(), Fault> {
-        let [c, words @ ..] = words else {
-            return Err(Fault::Unreadable);
-        };
-        self.records
-            .push(record_of(self.alloc, character(c)?, words)?)?;
         Ok(())
     }
 
-    fn take_mapper_record(&mut self, words: &[&str]) -> Result<(), Fault> {
-        let [c, words @ ..] = words else {
-            return Err(Fault::Unreadable);
-        };
-        self.mapper
-            .push(mapper_record_of(self.alloc, character(c)?, words)?)?;
+    fn take(&mut self, given: Given<'a>) -> Result<(), Fault> {
+        match given {
+            Given::Record(record) => self.records.push(record)?,
+            Given::MapperRecord(record) => self.mapper.push(record)?,
+            Given::Records(mut records) => self.records.append(&mut records)?,
+            Given::Set(records, mapper) => self.take_set(records, mapper),
+            Given::Row(row) => self.rows.push(row)?,
+            Given::NoRows => self.rows.clear(),
+        }
         Ok(())
     }
 
-    fn take_records(&mut self, words: &[&str]) -> Result<(), Fault> {
-        match words {
-            [set] => self.take_set(set),
-            [range, rest @ ..] => {
-                push_records(self.alloc, &mut self.records, numbers(range)?, rest)
-            }
-            [] => Err(Fault::Unreadable),
-        }
-    }
-
-    /// Takes a row of data by hand. `data none` sets none.
-    fn take_row(&mut self, row: &'a str, words: &[&str]) -> Result<(), Fault> {
-        self.is_by_hand = true;
-        if gives_data(words) {
-            self.rows.push(row)?;
-            return Ok(());
-        }
-        match words {
-            ["data", "none"] => {
-                self.rows.clear();
-                Ok(())
-            }
-            _ => Err(Fault::Unreadable),
-        }
-    }
-
-    /// Takes the records of a set in the place of all before.
-    fn take_set(&mut self, set: &str) -> Result<(), Fault> {
-        match set {
-            "rows" => {
-                self.records = records(self.alloc)?;
-                self.mapper = mapper_records(self.alloc)?;
-                Ok(())
-            }
-            "none" => {
-                self.records.clear();
-                self.mapper.clear();
-                Ok(())
-            }
-            _ => Err(Fault::Unreadable),
-        }
+    fn take_set(&mut self, records: Vec<Record>, mapper: Vec<Uts46Record>) {
+        self.records = records;
+        self.mapper = mapper;
     }
 
     /// The records that rows set.
@@ -173,8 +117,7 @@ impl<'a> Setting<'a> {
         }
         match Records::build(self.alloc, &self.records, &self.mapper) {
             Ok(built) => self.held.take_built(&built),
-            Err(BuildError::Memory) => Err(Fault::Memory),
-            Err(_) => Err(Fault::Unreadable),
+            Err(error) => Err(Fault::from(error)),
         }
     }
 

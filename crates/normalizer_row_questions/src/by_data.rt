@@ -3,8 +3,8 @@
 ghost use Rattle.normalizer_builder.specs.Built.{AreBuilt, data_in};
 
 use icu_normalizer::{
-    BuildError, Built, ComposingNormalizerBorrowed, DecomposingNormalizerBorrowed, Decomposition,
-    Records, Utf8Chars, check_nfd_data,
+    Built, ComposingNormalizerBorrowed, DecomposingNormalizerBorrowed, Decomposition, Records,
+    Utf8Chars, check_nfd_data,
 };
 use normalizer_built::{
     NormalForm, nfc_normalizer, nfd_normalizer, nfkc_normalizer, nfkd_normalizer,
@@ -31,7 +31,7 @@ pub fn unchecked(alloc: Global, held: &Held, characters: &[&str]) -> Answer {
 
 fn unchecked_form(alloc: Global, held: &Held, text: &[u8]) -> Result<Vec<char>, Fault> {
     let (Some(words), Some(tables)) = (&held.canonical, &held.tables) else {
-        return Err(Fault::Unreadable);
+        return Err(Fault::Refused);
     };
     check_nfd_data(words, tables)?;
     let normalizer = DecomposingNormalizerBorrowed::new_with_data(words, tables);
@@ -40,7 +40,7 @@ fn unchecked_form(alloc: Global, held: &Held, text: &[u8]) -> Result<Vec<char>, 
 
 fn is_unchecked_form(held: &Held, text: &str, form: &[char]) -> Result<bool, Fault> {
     let (Some(words), Some(tables)) = (&held.canonical, &held.tables) else {
-        return Err(Fault::Unreadable);
+        return Err(Fault::Refused);
     };
     check_nfd_data(words, tables)?;
     are(Decomposition::new(text.chars(), words, tables)?, form)
@@ -57,8 +57,7 @@ pub fn by_records(alloc: Global, setting: &Setting<'_>, question: &[&str]) -> An
             alloc,
             &form_by_built(alloc, &built, form_named(name)?, text.as_bytes())?,
         ),
-        Err(BuildError::Memory) => Err(Fault::Memory),
-        Err(_) => Err(Fault::Unreadable),
+        Err(error) => Err(Fault::from(error)),
     }
 }
 

@@ -19,7 +19,7 @@ pub fn data_named<'a>(held: &'a Held, kind: &str) -> Result<&'a DecompositionDat
         "uts46" => &held.mapper,
         _ => return Err(Fault::Unreadable),
     };
-    data.as_ref().ok_or(Fault::Unreadable)
+    data.as_ref().ok_or(Fault::Refused)
 }
 
 pub fn table_named<'a>(held: &'a Held, kind: &str) -> Result<&'a CodePointTable, Fault> {
@@ -75,13 +75,14 @@ pub fn constructed(alloc: Global, held: &Held, question: &[&str]) -> Answer {
     acceptance(alloc, refusal(held, name)?)
 }
 
-/// The text of the error of a constructor.
+/// The text of the error of a constructor, or `none`.
 pub fn said(alloc: Global, held: &Held, question: &[&str]) -> Answer {
     let [name] = question else {
         return Err(Fault::Unreadable);
     };
     match refusal(held, name)? {
-        Some(DataError::Memory) | None => Err(Fault::Unreadable),
+        None => Ok(String::from_str(alloc, "none")?),
+        Some(DataError::Memory) => Err(Fault::Memory),
         Some(error) => Ok(format!(in alloc; "{error}")?),
     }
 }
@@ -102,7 +103,7 @@ pub fn checked(alloc: Global, held: &Held, question: &[&str]) -> Answer {
         return Err(Fault::Unreadable);
     };
     let (Some(words), Some(tables)) = (&held.canonical, &held.tables) else {
-        return Err(Fault::Unreadable);
+        return Err(Fault::Refused);
     };
     acceptance(alloc, check_nfd_data(words, tables).err())
 }

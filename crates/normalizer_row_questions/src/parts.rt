@@ -13,7 +13,7 @@ use normalizer_tables::{block_count, compose, is_never_second};
 use std::alloc::Global;
 
 fn pairs_of(held: &Held) -> Result<&CanonicalCompositions, Fault> {
-    held.pairs.as_ref().ok_or(Fault::Unreadable)
+    held.pairs.as_ref().ok_or(Fault::Refused)
 }
 
 /// What two characters compose to, or `none`.
@@ -48,6 +48,7 @@ pub fn counted(alloc: Global, held: &Held, question: &[&str]) -> Answer {
 pub fn lists(alloc: Global, held: &Held, question: &[&str]) -> Answer {
     match (question, &held.tables) {
         (["nfd"], Some(tables)) => lists_of(alloc, tables),
+        (["nfd"], None) => Err(Fault::Refused),
         _ => Err(Fault::Unreadable),
     }
 }

@@ -51,7 +51,7 @@ fn lines_of(
 
 fn canonical_lines(alloc: Global, held: &Held, records: &[Record]) -> Result<Vec<Line>, Fault> {
     let (Some(words), Some(tables)) = (&held.canonical, &held.tables) else {
-        return Err(Fault::Unreadable);
+        return Err(Fault::Refused);
     };
     lines_of(
         alloc,

@@ -16,10 +16,11 @@ pub fn build(setting: &Setting<'_>, question: &[&str]) -> Answer {
     }
 }
 
-/// The text of the error.
+/// The text of the error, or `none`.
 pub fn said(setting: &Setting<'_>) -> Answer {
     match setting.refusal() {
-        Some(BuildError::Memory) | None => Err(Fault::Unreadable),
+        None => Ok(String::from_str(setting.alloc, "none")?),
+        Some(BuildError::Memory) => Err(Fault::Memory),
         Some(error) => Ok(format!(in setting.alloc; "{error}")?),
     }
 }

@@ -1,12 +1,14 @@
 //! Why a row has no result.
-use icu_normalizer::{DataError, NormalizeError, TableError};
+use icu_normalizer::{BuildError, DataError, NormalizeError, TableError};
 use std::alloc::{AllocError, AllocFailed};
 
 /// Why a row has no result.
 #[derive(Clone, Copy, Debug, PartialEq, Eq)]
 pub enum Fault {
-    /// The row can't be read, or its data are not there.
+    /// The row can't be read.
     Unreadable,
+    /// The data are refused, or the part that is needed is not there.
+    Refused,
     /// Calls that must have the same result had two.
     Divided,
     /// There was not enough memory.
@@ -21,6 +23,7 @@ impl Fault {
     pub fn name(self) -> &'static str {
         match self {
             Fault::Unreadable => "unreadable",
+            Fault::Refused => "refused",
             Fault::Divided => "different ways to ask have different answers",
             Fault::Memory => "out of memory",
         }
@@ -49,7 +52,16 @@ impl From<DataError> for Fault {
     fn from(error: DataError) -> Fault {
         match error {
             DataError::Memory => Fault::Memory,
-            _ => Fault::Unreadable,
+            _ => Fault::Refused,
+        }
+    }
+}
+
+impl From<BuildError> for Fault {
+    fn from(error: BuildError) -> Fault {
+        match error {
+            BuildError::Memory => Fault::Memory,
+            _ => Fault::Refused,
         }
     }
 }
@@ -58,7 +70,7 @@ impl From<TableError> for Fault {
     fn from(error: TableError) -> Fault {
         match error {
             TableError::Memory => Fault::Memory,
-            TableError::Ranges => Fault::Unreadable,
+            TableError::Ranges => Fault::Refused,
         }
     }
 }
