@@ -36,10 +36,18 @@ HasShortUnits m e units = HasShortRuns m.has_class_form m.reading (decoded_in e 
 abbrev pub form_by : Characters → List Pair → Form → MadeForm
 form_by s pairs form = record { has_class_form = has_class_form s; reading = reading_by s Dropped pairs; form = form }
 
--- the decomposing form using the data of a normalizer
-abbrev pub decomposed_by : NormalizerBorrowed DecomposingForm → MadeForm
-decomposed_by n = form_by n.form.characters [] Decomposing
+-- the decomposing form using its data
+abbrev pub decomposing_by : DecomposingForm → MadeForm
+decomposing_by f = form_by f.characters [] Decomposing
 
--- the composing form using the data and the pairs of a normalizer
+-- the composing form using its data and pairs
+abbrev pub composing_by : ComposingForm → MadeForm
+composing_by f = form_by f.characters f.pairs.now Composing
+
+-- the form of a decomposing normalizer
+abbrev pub decomposed_by : NormalizerBorrowed DecomposingForm → MadeForm
+decomposed_by n = decomposing_by n.form
+
+-- the form of a composing normalizer
 abbrev pub composed_by : NormalizerBorrowed ComposingForm → MadeForm
-composed_by n = form_by n.form.characters n.form.pairs.now Composing
+composed_by n = composing_by n.form

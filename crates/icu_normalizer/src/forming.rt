@@ -12,7 +12,7 @@ ghost use Rattle.normalizer_text.specs.Encodings.{decoded_in, first_in};
 ghost use Rattle.normalizer_iterators.specs.CharactersLeft.{characters_left};
 ghost use Rattle.normalizer_iterators.specs.Segment.{text};
 ghost use Rattle.icu_normalizer.specs.BoundaryBefore.{HasBoundaryBefore};
-ghost use Rattle.icu_normalizer.specs.Forms.{form_by, form_in, form_of, HasShortUnits, MadeForm};
+ghost use Rattle.icu_normalizer.specs.Forms.{composing_by, decomposing_by, form_in, form_of, HasShortUnits, MadeForm};
 ghost use Rattle.icu_normalizer.specs.inner.Offences.{IsFirstOrNone};
 ghost use Rattle.icu_normalizer.specs.inner.PassthroughRuns.{IsKeptSegment, CanFollowMark, CanPassThrough};
 ghost use Rattle.icu_normalizer.specs.inner.PassthroughRuns.{IsOwnListOfClass};
@@ -28,7 +28,7 @@ use normalizer_tables::members::Members;
 use normalizer_tables::word::{is_backward_combining, is_non_round_trip};
 use normalizer_text::output::Output;
 use normalizer_text::{Chars, Step, Units};
-use std::alloc::Global;
+use std::alloc::{AllocError, Global};
 
 /// A form with the data that it is made by.
 pub trait Forming {
@@ -98,13 +98,14 @@ pub trait Forming {
         ensures fits { length (expand (made_form self.now).reading (decoded_in U.encoding (U.units units)))
             ≤ buffer_limit → IsTrue result };
 
-    /// Makes the form of what the units decode to, of which the first step was read before, if all the others are marks
-    /// and memory suffices.
-    fn mark_run<U: Units>(&self, units: U, first: Step) -> Option<MarkRun>
+    /// Makes the form of what the units decode to, of which the first step was read before, if all the others are
+    /// marks.
+    fn mark_run<U: Units>(&self, units: U, first: Step) -> Result<Option<MarkRun>, AllocError>
         requires some { 0 < length (U.units units) }
         requires first { first ≡ first_in U.encoding (U.units units) }
-        ensures { IfSome result (λ run. characters_left run ≡
-            form_in (made_form self.now) U.encoding (U.units units)) };
+        ensures form { IfOk result (λ made. IfSome made (λ run. characters_left run ≡
+            form_in (made_form self.now) U.encoding (U.units units))) }
+        ensures room { HasShortUnits (made_form self.now) U.encoding (U.units units) → IsOk result };
 
     /// Writes the form of what the units decode to as an iterator yields it.
     fn write_items<U: Units, O: Output<U>>(
@@ -142,9 +143,7 @@ pub trait Forming {
 }
 
 impl<'a> Forming for DecomposingForm<'a> {
-    ghost use Rattle.normal_forms.specs.declared.Form.TheVariants.{Decomposing};
-
-    ghost made_form = { λ f. form_by f.characters [] Decomposing };
+    ghost made_form = { decomposing_by };
 
     ghost passthrough_class = { λ f c. if nat_lt c f.bounds.decomposition then Some 0
         else class_of_itself (reading_of_word f.characters c) };
@@ -204,7 +203,7 @@ impl<'a> Forming for DecomposingForm<'a> {
         buffers.decompose(&self.characters, IgnoredCharacters::Dropped, units)
     }
 
-    fn mark_run<U: Units>(&self, units: U, first: Step) -> Option<MarkRun> {
+    fn mark_run<U: Units>(&self, units: U, first: Step) -> Result<Option<MarkRun>, AllocError> {
         MarkRun::decomposed(&self.characters, IgnoredCharacters::Dropped, units, first)
     }
 
@@ -230,9 +229,7 @@ impl<'a> Forming for DecomposingForm<'a> {
 }
 
 impl<'a> Forming for ComposingForm<'a> {
-    ghost use Rattle.normal_forms.specs.declared.Form.TheVariants.{Composing};
-
-    ghost made_form = { λ f. form_by f.characters f.pairs.now Composing };
+    ghost made_form = { composing_by };
 
     ghost passthrough_class = { λ f c. if is_composing_passthrough f.characters f.bounds c then Some 0 else None };
 
@@ -292,7 +289,7 @@ impl<'a> Forming for ComposingForm<'a> {
         buffers.compose(&self.characters, ignored, self.pairs, units)
     }
 
-    fn mark_run<U: Units>(&self, units: U, first: Step) -> Option<MarkRun> {
+    fn mark_run<U: Units>(&self, units: U, first: Step) -> Result<Option<MarkRun>, AllocError> {
         let ignored = IgnoredCharacters::Dropped;
         MarkRun::composed(&self.characters, ignored, self.pairs, units, first)
     }

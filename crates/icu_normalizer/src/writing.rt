@@ -138,7 +138,7 @@ fn write_long<U: Units, N: Forming, O: Output<U>>(
     ensures room { HasShortUnits (N.made_form normalizer.now) U.encoding (U.units units) →
         ¬ IsErrOf result NormalizeError.Memory }
 {
-    if let Some(run) = normalizer.mark_run(units, first) {
+    if let Some(run) = normalizer.mark_run(units, first)? {
         return write_marks::<U, O>(run, output);
     }
     normalizer.write_items(units, output)

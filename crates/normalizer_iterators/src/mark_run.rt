@@ -1,22 +1,28 @@
 //! The normal form of a character and the marks after it, however many these are.
-ghost use Rattle.std.specs.Prelude.{◌≡◌, ◌<◌, ◌∷◌, [], List, ℕ, length, IfOk, IfSome, IfNone, IsTrue, OnOk};
-ghost use Rattle.normal_forms.specs.CompositionByStarters.{compose_by_starters};
+ghost use Rattle.std.specs.Prelude.{◌≡◌, ◌+◌, ◌<◌, ◌≤◌, ◌∷◌, [], List, ℕ, drop, length};
+ghost use Rattle.std.specs.Prelude.{IfOk, IfSome, IfNone, IsOk, IsOkAnd, IsTrue, OnOk};
+ghost use Rattle.normal_forms.specs.CompositionByStarters.{compose_after};
+ghost use Rattle.normal_forms.specs.Decomposition.{expand};
 ghost use Rattle.normal_forms.specs.Forms.{nfc, nfd};
 ghost use Rattle.normal_forms.specs.Hypotheses.{HasStarterResults};
 ghost use Rattle.normal_forms.specs.Reading.{Reading};
+ghost use Rattle.normal_forms.specs.ShortRuns.{buffer_limit};
 ghost use Rattle.normalizer_tables.specs.Readings.{reading_by};
 ghost use Rattle.normalizer_tables.specs.Characters.{Characters, class_of, list_of};
 ghost use Rattle.normalizer_tables.specs.declared.characters.IgnoredCharacters.TheVariants.{Dropped};
 ghost use Rattle.normalizer_text.specs.Encodings.{decoded_in, first_in};
 ghost use Rattle.normalizer_iterators.specs.CharactersLeft.{characters_left};
-ghost use Rattle.normalizer_iterators.specs.StayingMarks.{staying_marks, BlocksBelow};
-ghost use Rattle.normalizer_iterators.specs.WaitingList.{ordered_text, reordered_text, AgreesWith};
-ghost use Rattle.normalizer_iterators.specs.inner.MarkReads.{IsReadTo};
+ghost use Rattle.normalizer_iterators.specs.LazyReading.{HasShortLazyRuns};
+ghost use Rattle.normalizer_iterators.specs.Reads.{HasOwnWord};
+ghost use Rattle.normalizer_iterators.specs.StayingMarks.{mark_count, staying_marks, BlocksBelow};
+ghost use Rattle.normalizer_iterators.specs.WaitingList.{item_count, ordered_text, reordered_text, AgreesWith};
+ghost use Rattle.normalizer_iterators.specs.inner.MarkReads.{after_starter, starter_of, HasRoomForMarks, IsUncomposed};
+ghost use Rattle.normalizer_iterators.specs.inner.ReadingOn.{Adds, KeepsClasses};
 
 use crate::composition::{Visited, visit};
 use crate::marks::StayingMarks;
 use crate::pending::PendingChar;
-use crate::reading::push_list;
+use crate::reading::push_from;
 use crate::waiting::WaitingList;
 use normalizer_tables::CanonicalCompositions;
 use normalizer_tables::characters::{CharacterData, IgnoredCharacters};
@@ -26,7 +32,7 @@ use std::alloc::AllocError;
 /// The normal form of a character and the marks after it, whose characters are taken one by one.
 #[derive(Drop)]
 pub struct MarkRun {
-    /// The starter, if it was composed and isn't taken.
+    /// The starter at its front, if there is one and it isn't taken.
     starter: Option<char>,
     /// The marks that stay after it.
     marks: StayingMarks,
@@ -36,60 +42,58 @@ pub struct MarkRun {
 
 impl MarkRun {
     /// Makes the decomposed form of what the units decode to, of which the first step was read before. Returns nothing
-    /// if what follows that isn't marks that are their own lists, or if memory was refused.
+    /// if what follows that isn't marks that are their own lists.
+    ///
+    /// # Errors
+    /// `AllocError` if an allocation was refused. Over short runs none is made.
     pub fn decomposed<U: Units>(
         characters: &CharacterData<'_>,
         ignored: IgnoredCharacters,
         units: U,
         first: Step,
-    ) -> Option<Self>
+    ) -> Result<Option<Self>, AllocError>
         requires some { 0 < length (U.units units) }
         requires first { first ≡ first_in U.encoding (U.units units) }
-        ensures { IfSome result (λ run. characters_left run ≡
-            nfd (reading_by characters.now ignored []) (decoded_in U.encoding (U.units units))) }
+        ensures form { IfOk result (λ made. IfSome made (λ run. characters_left run ≡
+            nfd (reading_by characters.now ignored []) (decoded_in U.encoding (U.units units)))) }
+        ensures room { HasShortLazyRuns characters.now ignored (decoded_in U.encoding (U.units units)) → IsOk result }
     {
-        let Ok(Some(waiting)) = read_run(characters, ignored, units, first) else {
-            return None;
-        };
-        let marks = StayingMarks::new(characters.allocator());
-        Some(MarkRun {
-            starter: None,
-            marks,
-            waiting,
-        })
+        read_run(characters, ignored, units, first)
     }
 
     /// Makes the composed form. Returns nothing also if a starter follows the first character.
+    ///
+    /// # Errors
+    /// `AllocError` if an allocation was refused. Over short runs none is made.
     pub fn composed<U: Units>(
         characters: &CharacterData<'_>,
         ignored: IgnoredCharacters,
         pairs: &CanonicalCompositions,
         units: U,
         first: Step,
-    ) -> Option<Self>
+    ) -> Result<Option<Self>, AllocError>
         requires some { 0 < length (U.units units) }
         requires first { first ≡ first_in U.encoding (U.units units) }
         requires results { HasStarterResults (reading_by characters.now Dropped pairs.now) }
-        ensures { IfSome result (λ run. characters_left run ≡
-            nfc (reading_by characters.now ignored pairs.now) (decoded_in U.encoding (U.units units))) }
+        ensures form { IfOk result (λ made. IfSome made (λ run. characters_left run ≡
+            nfc (reading_by characters.now ignored pairs.now) (decoded_in U.encoding (U.units units)))) }
+        ensures room { HasShortLazyRuns characters.now ignored (decoded_in U.encoding (U.units units)) → IsOk result }
     {
-        let Ok(Some(mut waiting)) = read_run(characters, ignored, units, first) else {
-            return None;
+        let Some(mut run) = read_run(characters, ignored, units, first)? else {
+            return Ok(None);
         };
-        let mut marks = StayingMarks::new(characters.allocator());
-        if waiting.has_only_marks() {
-            return Some(MarkRun {
-                starter: None,
-                marks,
-                waiting,
-            });
-        }
-        let starter = compose_marks(pairs, &mut waiting, &mut marks)?;
-        Some(MarkRun {
-            starter: Some(starter),
-            marks,
-            waiting,
-        })
+        let Some(starter) = run.starter else {
+            if run.waiting.has_only_marks() {
+                return Ok(Some(run));
+            }
+            return Ok(None);
+        };
+        let Some(composite) = compose_marks(pairs, starter, &mut run.waiting, &mut run.marks)?
+        else {
+            return Ok(None);
+        };
+        run.starter = Some(composite);
+        Ok(Some(run))
     }
 
     /// Takes the next character, if one is left.
@@ -119,21 +123,57 @@ fn read_run<U: Units>(
     ignored: IgnoredCharacters,
     units: U,
     first: Step,
-) -> Result<Option<WaitingList>, AllocError>
+) -> Result<Option<MarkRun>, AllocError>
     requires some { 0 < length (U.units units) }
     requires first { first ≡ first_in U.encoding (U.units units) }
-    ensures text { IfOk result (λ read. IfSome read (λ waiting. ordered_text waiting ≡
-        nfd (reading_by characters.now ignored []) (decoded_in U.encoding (U.units units)))) }
-    ensures classes { IfOk result (λ read. IfSome read (AgreesWith (reading_by characters.now ignored []))) }
+    ensures text { IfOk result (λ read. IfSome read (λ run. IsUncomposed (reading_by characters.now ignored [])
+        (nfd (reading_by characters.now ignored []) (decoded_in U.encoding (U.units units))) run)) }
+    ensures room { HasShortLazyRuns characters.now ignored (decoded_in U.encoding (U.units units)) →
+        IsOkAnd result (λ read. IfSome read (λ run. length (ordered_text run.waiting) ≤ buffer_limit)) }
 {
+    let marks = StayingMarks::new(characters.allocator());
     let mut waiting = WaitingList::new(characters.allocator());
     let read = PendingChar::new(characters, 0, first.character);
-    push_list(characters, ignored, read, &mut waiting)?;
+    let starter = push_after_starter(characters, ignored, read, &mut waiting)?;
     if !read_marks(characters, ignored, units, first.width, &mut waiting)? {
         return Ok(None);
     }
     waiting.put_in_order()?;
-    Ok(Some(waiting))
+    Ok(Some(MarkRun {
+        starter,
+        marks,
+        waiting,
+    }))
+}
+
+/// Buffers the list of a character, but for its first member if that is a starter, which is returned.
+fn push_after_starter(
+    characters: &CharacterData<'_>,
+    ignored: IgnoredCharacters,
+    read: PendingChar,
+    waiting: &mut WaitingList,
+) -> Result<Option<char>, AllocError>
+    requires { HasOwnWord characters.now read }
+    ensures starter { let d = reading_by characters.now ignored [] in
+        IfOk result (λ starter. starter ≡ starter_of d (d.list read.character)) }
+    ensures text { let d = reading_by characters.now ignored [] in
+        OnOk result (Adds characters.now (after_starter d (d.list read.character)) waiting.old waiting.new) }
+    ensures classes { OnOk result (KeepsClasses characters.now waiting.old waiting.new) }
+    ensures held { let d = reading_by characters.now ignored [] in OnOk result
+        (item_count waiting.new ≡ item_count waiting.old + length (after_starter d (d.list read.character))) }
+    ensures succeeds { let d = reading_by characters.now ignored [] in
+        item_count waiting.old + length (after_starter d (d.list read.character)) ≤ buffer_limit → IsOk result }
+{
+    let members = read.members(characters, ignored);
+    let Some(first) = members.get(0) else {
+        return Ok(None);
+    };
+    if characters.class_of(first) != 0 {
+        push_from(characters, &members, 0, waiting)?;
+        return Ok(None);
+    }
+    push_from(characters, &members, 1, waiting)?;
+    Ok(Some(first))
 }
 
 /// Buffers what the units decode to from a position on. Returns whether all are marks that are their own lists.
@@ -144,10 +184,13 @@ fn read_marks<U: Units>(
     position: usize,
     waiting: &mut WaitingList,
 ) -> Result<bool, AllocError>
-    requires { IsReadTo (reading_by characters.now ignored []) U.encoding (U.units units) position waiting.old }
-    ensures text { IfOk result (λ all. IsTrue all → reordered_text (reading_by characters.now ignored []) waiting.new []
-        ≡ nfd (reading_by characters.now ignored []) (decoded_in U.encoding (U.units units))) }
+    requires { AgreesWith (reading_by characters.now ignored []) waiting.old }
+    ensures text { let d = reading_by characters.now ignored [] in IfOk result (λ all. IsTrue all →
+        reordered_text d waiting.old (expand d (decoded_in U.encoding (drop position (U.units units))))
+        ≡ reordered_text d waiting.new []) }
     ensures classes { OnOk result (AgreesWith (reading_by characters.now ignored []) waiting.new) }
+    ensures room { HasRoomForMarks characters.now ignored waiting.old
+        (decoded_in U.encoding (drop position (U.units units))) → IsOk result × (item_count waiting.new ≤ buffer_limit) }
 {
     let mut place = position;
     while place < units.len() {
@@ -176,31 +219,31 @@ fn class_of_mark(characters: &CharacterData<'_>, character: char) -> Option<u8>
     }
 }
 
-/// Composes what is in order: returns the starter, and the marks that stay, unless it doesn't begin with a starter or
-/// has another one, or memory was refused.
+/// Composes a starter with the marks after it that are in order: returns what it becomes, and keeps the marks that
+/// stay, unless there is another starter.
 fn compose_marks(
     pairs: &CanonicalCompositions,
+    first: char,
     waiting: &mut WaitingList,
     marks: &mut StayingMarks,
-) -> Option<char>
+) -> Result<Option<char>, AllocError>
     requires none { staying_marks marks.old ≡ [] }
+    requires used { mark_count marks.old ≡ 0 }
     requires blocking { (d : Reading) → BlocksBelow d marks.old }
-    ensures text { IfSome result (λ c. (s : Characters) → AgreesWith (reading_by s Dropped pairs.now) waiting.old →
-        compose_by_starters (reading_by s Dropped pairs.now) (ordered_text waiting.old) ≡ c ∷ staying_marks marks.new) }
-    ensures all { IfSome result (λ _. ordered_text waiting.new ≡ []) }
+    ensures text { IfOk result (λ made. IfSome made (λ c. (s : Characters) →
+        AgreesWith (reading_by s Dropped pairs.now) waiting.old → compose_after (reading_by s Dropped pairs.now)
+        first [] (ordered_text waiting.old) ≡ c ∷ staying_marks marks.new)) }
+    ensures all { IfOk result (λ made. IfSome made (λ _. ordered_text waiting.new ≡ [])) }
+    ensures room { (s : Characters) → AgreesWith (reading_by s Dropped pairs.now) waiting.old →
+        length (ordered_text waiting.old) ≤ buffer_limit → IsOk result }
 {
-    let first = waiting.pop_front()?;
-    if first.class != 0 {
-        return None;
-    }
-    let mut starter = first.character;
+    let mut starter = first;
     while let Some(given) = waiting.pop_front() {
-        match visit(pairs, marks, starter, given) {
-            Ok(Visited::Joined(joined)) => starter = joined,
-            Ok(Visited::Stays) => {}
-            Ok(Visited::BecomesStarter) => return None,
-            Err(_) => return None,
+        match visit(pairs, marks, starter, given)? {
+            Visited::Joined(joined) => starter = joined,
+            Visited::BecomesStarter => return Ok(None),
+            Visited::Stays => {}
         }
     }
-    Some(starter)
+    Ok(Some(starter))
 }

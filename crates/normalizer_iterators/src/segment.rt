@@ -158,7 +158,10 @@ fn read_all<U: Units>(
         }
         position += step.width;
     }
-    waiting.put_in_order().is_ok()
+    let Ok(()) = waiting.put_in_order() else {
+        unreachable!()
+    };
+    true
 }
 
 /// Buffers the list of a character, if it fits.
@@ -180,10 +183,24 @@ fn push_list(
         ≤ buffer_limit → IsTrue result }
 {
     match read.class_of_itself(characters) {
-        Some(class) => waiting.has_room(1) && waiting.push(read.character, class).is_ok(),
+        Some(class) => {
+            if !waiting.has_room(1) {
+                return false;
+            }
+            let Ok(()) = waiting.push(read.character, class) else {
+                unreachable!()
+            };
+            true
+        }
         None => {
             let members = read.members(characters, ignored);
-            waiting.has_room(members.len()) && push_from(characters, &members, 0, waiting).is_ok()
+            if !waiting.has_room(members.len()) {
+                return false;
+            }
+            let Ok(()) = push_from(characters, &members, 0, waiting) else {
+                unreachable!()
+            };
+            true
         }
     }
 }

@@ -1,10 +1,17 @@
 -- Runs of marks: what is buffered, and what it composes to.
-use Rattle.std.proofs.Common.{◌≡◌, ℕ, ◌+◌, ◌<◌, ◌≤◌, List, [], ◌∷◌, ◌++◌, All, length, drop, take, sym, ap, subst, ◌∙◌, arith}
+use Rattle.std.proofs.Common.{◌≡◌, ℕ, ◌+◌, ◌<◌, ◌≤◌, Bool, true, false, List, [], ◌∷◌, ◌++◌, All, Option, Some, None, length, drop, take, refl, sym, ap, subst, ◌∙◌, arith, eq-eqb, inl, inr, slice_get, append-nil, Result, Ok, Err, IfOk, IfSome}
+use Rattle.std.specs.Prelude.{option_to_list}
+use Rattle.std.proofs.lemmas.Bool.{cases_Bool, cond-true, cond-false, eqb-true, ne_eqb}
+use Rattle.std.specs.Option.{ForSome}
+use Rattle.std.proofs.lemmas.List.{length-drop, length-map, length-take-le}
 use Rattle.std.proofs.lemmas.List.Elements.{All-drop, All-head, All-map, All-tail, All-take}
 use Rattle.normal_forms.specs.CompositionByStarters.{compose_after, compose_by_starters}
 use Rattle.normal_forms.specs.Decomposition.{expand}
 use Rattle.normal_forms.specs.Forms.{nfd}
-use Rattle.normal_forms.specs.Reading.{Reading, IsMark, IsStarter}
+use Rattle.normal_forms.specs.Order.{order}
+use Rattle.normal_forms.specs.Reading.{Reading, IsMark, IsStarter, is_starter}
+use Rattle.normal_forms.specs.ShortRuns.{buffer_limit, continues, leading_length, HasShortRuns}
+use Rattle.normal_forms.proofs.boundaries.ChunkLemmas.{chunk_bound}
 use Rattle.normal_forms.proofs.composing.ComposeLemmas.{
   compose_after-join,
   compose_after-mark,
@@ -13,44 +20,203 @@ use Rattle.normal_forms.proofs.composing.ComposeLemmas.{
   compose_by_starters-nil,
   compose_by_starters-starter,
 }
+use Rattle.normal_forms.proofs.ordering.OrderLemmas.{insert-starter, order-cons}
 use Rattle.normalizer_tables.specs.Characters.{Characters}
 use Rattle.normalizer_tables.specs.Pairs.{Pair}
 use Rattle.normalizer_tables.specs.Readings.{reading_by}
 use Rattle.normalizer_tables.specs.declared.characters.IgnoredCharacters.TheVariants.{Dropped}
 use Rattle.normalizer_text.specs.declared.decoding_step.Step.{Step}
 use Rattle.normalizer_text.specs.Encodings.{Encoding, first_in, decoded_in}
+use Rattle.normalizer_text.proofs.steps.StepLemmas.{decoded-some}
 use Rattle.normalizer_iterators.specs.declared.composition.Visited.{Visited}
 use Rattle.normalizer_iterators.specs.declared.composition.Visited.TheVariants.{Joined, Stays}
 use Rattle.normalizer_iterators.specs.declared.marks.StayingMarks.{StayingMarks}
+use Rattle.normalizer_iterators.specs.declared.waiting.ClassedChar.{ClassedChar}
 use Rattle.normalizer_iterators.specs.declared.waiting.WaitingList.{WaitingList}
 use Rattle.normalizer_iterators.specs.Composing.{HasVisited}
-use Rattle.normalizer_iterators.specs.StayingMarks.{staying_marks, BlocksBelow}
+use Rattle.normalizer_iterators.specs.LazyReading.{SuitsLazyReading}
+use Rattle.normalizer_iterators.specs.StayingMarks.{mark_count, staying_marks, BlocksBelow}
 use Rattle.normalizer_iterators.specs.Waiting.{HasClassesOf}
-use Rattle.normalizer_iterators.specs.WaitingList.{ordered_text, reordered_text, unordered_text, AgreesWith, HasOnlyMarks}
-use Rattle.normalizer_iterators.specs.inner.MarkReads.{IsReadTo}
-use Rattle.normalizer_iterators.proofs.reads.ReadingLemmas.{reordered-nothing}
-use Rattle.normalizer_iterators.proofs.segments.SegmentLemmas.{decoded-all, expand-left}
+use Rattle.normalizer_iterators.specs.WaitingList.{ordered_text, reordered_text, unordered_text, item_count, AgreesWith, HasOnlyMarks}
+use Rattle.normalizer_iterators.specs.inner.MarkReads.{after_starter, starter_of, IsUncomposed}
+use Rattle.normalizer_iterators.specs.declared.mark_run.MarkRun.{MarkRun}
+use Rattle.normalizer_iterators.specs.CharactersLeft.{characters_left}
+use Rattle.normalizer_tables.specs.declared.characters.IgnoredCharacters.{IgnoredCharacters}
+use Rattle.normalizer_iterators.proofs.reads.LazyLemmas.{at_boundary-parts}
+use Rattle.normalizer_iterators.proofs.reads.ReadingLemmas.{drop_member, no_member, reordered-nothing}
+use Rattle.normalizer_iterators.proofs.segments.SegmentLemmas.{decoded-all, decoded-left, expand-left, AgreesWith-reading_by}
 
-module _ (d : Reading) (e : Encoding) (units : List ℕ) where
-  pub IsReadTo-more : (place : ℕ) (s : Step) (old new : WaitingList) → IsReadTo d e units place old → place < length units → s ≡ first_in e (drop place units)
-      → ((rest : List ℕ) → reordered_text d old (d.list s.character ++ rest) ≡ reordered_text d new rest) → AgreesWith d new → IsReadTo d e units (place + s.width) new
-  IsReadTo-more place s old new before inside is text agrees = record {
-    agrees = agrees;
-    text = sym (text (expand d (decoded_in e (drop (place + s.width) units)))) ∙ ap (reordered_text d old) (sym (expand-left d e units place s inside is)) ∙ before.text;
-  }
+-- ---- a starter at the front
 
-  -- the first step was read
-  pub IsReadTo-first : (s : Step) (old new : WaitingList) → 0 < length units → s ≡ first_in e units → AgreesWith d old → ordered_text old ≡ [] → unordered_text old ≡ []
-      → ((rest : List ℕ) → reordered_text d old (d.list s.character ++ rest) ≡ reordered_text d new rest) → AgreesWith d new → IsReadTo d e units s.width new
-  IsReadTo-first s old new some is empty front open_marks text agrees =
-      let same : 0 + s.width ≡ s.width = omega arith in
-      let none : IsReadTo d e units 0 old = record { agrees = empty; text = reordered-nothing d old (expand d (decoded_in e units)) front open_marks } in
-      subst (λ n. IsReadTo d e units n new) same (IsReadTo-more 0 s old new none some is text agrees)
+starter_test : (d : Reading) (c : ℕ) → IsStarter d c → is_starter d c ≡ true
+starter_test d c starter = eq-eqb (d.class c) 0 starter
 
-  -- all was
-  pub IsReadTo-all : (place : ℕ) (waiting : WaitingList) → IsReadTo d e units place waiting → length units ≤ place → reordered_text d waiting [] ≡ nfd d (decoded_in e units)
+mark_test : (d : Reading) (c : ℕ) → IsMark d c → is_starter d c ≡ false
+mark_test d c mark = ne_eqb (d.class c) 0 (λ e. absurd (omega arith))
+
+-- the list begins with a starter
+module _ (d : Reading) (x : List ℕ) (c : ℕ) (there : Some c ≡ slice_get x 0) where
+  abbrev parted : x ≡ c ∷ drop 1 x
+  parted = drop_member x 0 c there
+
+  pub starter_of-starter : IsStarter d c → Some c ≡ starter_of d x
+  unfolding starter_of
+  starter_of-starter starter = sym (ap (starter_of d) parted ∙ cond-true _ _ _ (starter_test d c starter))
+
+  pub after_starter-starter : IsStarter d c → after_starter d x ≡ drop 1 x
+  unfolding after_starter
+  after_starter-starter starter = ap (after_starter d) parted ∙ cond-true _ _ _ (starter_test d c starter)
+
+  -- or with a mark
+  pub starter_of-mark : IsMark d c → None ≡ starter_of d x
+  unfolding starter_of
+  starter_of-mark mark = sym (ap (starter_of d) parted ∙ cond-false _ _ _ (mark_test d c mark))
+
+  pub after_starter-mark : IsMark d c → after_starter d x ≡ x
+  unfolding after_starter
+  after_starter-mark mark = ap (after_starter d) parted ∙ cond-false _ _ _ (mark_test d c mark) ∙ sym parted
+
+pub length-rest : (x : List ℕ) (c : ℕ) → Some c ≡ slice_get x 0 → length x ≡ length (drop 1 x) + 1
+length-rest x c there = omega (arith, ap length (drop_member x 0 c there))
+
+-- or it has no members
+pub no_members : (x : List ℕ) → None ≡ slice_get x 0 → x ≡ []
+no_members [] none = refl
+no_members (c ∷ x) none = absurd (no_member (c ∷ x) 0 (omega arith) none)
+
+pub starter_of-nil : (d : Reading) (x : List ℕ) → x ≡ [] → (None ≡ starter_of d x) × (after_starter d x ≡ [])
+unfolding starter_of after_starter
+starter_of-nil d x none = (sym (ap (starter_of d) none), ap (after_starter d) none)
+
+-- it stays where it is
+order-starter : (d : Reading) (x y : List ℕ) → order d (x ++ y) ≡ option_to_list (starter_of d x) ++ order d (after_starter d x ++ y)
+unfolding starter_of after_starter
+order-starter d [] y = refl
+order-starter d (c ∷ x) y =
+    elim (cases_Bool (is_starter d c)) [
+      | inl starts ↦
+          order-cons d c (x ++ y) ∙ insert-starter d c (order d (x ++ y)) (eqb-true (d.class c) 0 starts)
+          ∙ sym (ap (λ o. option_to_list o ++ order d (after_starter d (c ∷ x) ++ y)) (cond-true (is_starter d c) (Some c) None starts)
+          ∙ ap (λ l. c ∷ order d (l ++ y)) (cond-true (is_starter d c) x (c ∷ x) starts))
+      | inr other ↦
+          sym (ap (λ o. option_to_list o ++ order d (after_starter d (c ∷ x) ++ y)) (cond-false (is_starter d c) (Some c) None other)
+          ∙ ap (λ l. order d (l ++ y)) (cond-false (is_starter d c) x (c ∷ x) other))
+    ]
+
+-- a starter that it begins with is one
+pub starter_of-class : (d : Reading) (x : List ℕ) → ForSome (starter_of d x) (IsStarter d)
+unfolding starter_of
+starter_of-class d [] c is = cc
+starter_of-class d (b ∷ x) c is =
+    elim (cases_Bool (is_starter d b)) [
+      | inl starts ↦
+          let same : b ≡ c = cc (cond-true (is_starter d b) (Some b) None starts, is) in
+          subst (IsStarter d) same (eqb-true (d.class b) 0 starts)
+      | inr other ↦ cc (cond-false (is_starter d b) (Some b) None other, is)
+    ]
+
+length-after_starter : (d : Reading) (x : List ℕ) → length (after_starter d x) ≤ length x
+unfolding after_starter
+length-after_starter d [] = omega arith
+length-after_starter d (c ∷ x) =
+    elim (cases_Bool (is_starter d c)) [
+      | inl starts ↦ omega (arith, ap length (cond-true (is_starter d c) x (c ∷ x) starts))
+      | inr other ↦ omega (arith, ap length (cond-false (is_starter d c) x (c ∷ x) other))
+    ]
+
+-- ---- a run is read
+
+module _ (f : ℕ → Bool) (d : Reading) where
+  -- a mark that is its own list continues what comes before it
+  leading_length-mark : (c : ℕ) (x : List ℕ) → d.list c ≡ c ∷ [] → IsMark d c → SuitsLazyReading f d → leading_length f d (c ∷ x) ≡ leading_length f d x + 1
+  unfolding leading_length
+  leading_length-mark c x own mark suits =
+      elim (cases_Bool (continues f d c)) [
+        | inl on ↦ omega (arith, cond-true (continues f d c) (length (d.list c) + leading_length f d x) 0 on, ap length own)
+        | inr at_boundary ↦
+            let parts = at_boundary-parts f d c at_boundary in
+            let starter : d.class c ≡ 0 = suits.starters c c [] parts.0 own in
+            absurd (omega arith)
+      ]
+
+  -- of a text with short runs, room is left for the marks after its first character
+  pub first_fits : (c : ℕ) (x : List ℕ) → SuitsLazyReading f d → HasShortRuns f d (c ∷ x) → length (after_starter d (d.list c)) + leading_length f d x ≤ buffer_limit
+  unfolding leading_length after_starter
+  first_fits c x suits runs =
+      elim (cases_Bool (continues f d c)) [
+        | inl on ↦ omega (arith, runs.leading, cond-true (continues f d c) (length (d.list c) + leading_length f d x) 0 on, length-after_starter d (d.list c))
+        | inr at_boundary ↦
+            let parts = at_boundary-parts f d c at_boundary in
+            let starter = suits.starters c parts.1 parts.2 parts.0 parts.3 in
+            let others : after_starter d (d.list c) ≡ parts.2 = ap (after_starter d) parts.3 ∙ cond-true (is_starter d parts.1) parts.2 (parts.1 ∷ parts.2) (starter_test d parts.1 starter) in
+            omega (arith, chunk_bound f d c x runs at_boundary, ap length others, ap length parts.3)
+      ]
+
+  module _ (e : Encoding) (units : List ℕ) (position : ℕ) (old : WaitingList) where
+    -- what the units from a position up to a place decode to is buffered
+    pub record MarksReadTo (place : ℕ) (now : WaitingList) : Type 0 where
+      pub agrees : AgreesWith d now
+      pub text : reordered_text d old (expand d (decoded_in e (drop position units))) ≡ reordered_text d now (expand d (decoded_in e (drop place units)))
+      pub room : SuitsLazyReading f d → item_count now + leading_length f d (decoded_in e (drop place units)) ≡ item_count old + leading_length f d (decoded_in e (drop position units))
+
+    pub MarksReadTo-none : AgreesWith d old → MarksReadTo position old
+    MarksReadTo-none agrees = record { agrees = agrees; text = refl; room = λ suits. refl }
+
+    module _ (place : ℕ) (s : Step) (now : WaitingList) (before : MarksReadTo place now) (inside : place < length units) (is : s ≡ first_in e (drop place units))
+        (own : d.list s.character ≡ s.character ∷ []) (mark : IsMark d s.character) where
+      left : SuitsLazyReading f d → leading_length f d (decoded_in e (drop place units)) ≡ leading_length f d (decoded_in e (drop (place + s.width) units)) + 1
+      left suits =
+          ap (leading_length f d) (decoded-left e units place s inside is)
+          ∙ leading_length-mark s.character (decoded_in e (drop (place + s.width) units)) own mark suits
+
+      pub MarksReadTo-more : (new : WaitingList) → ((rest : List ℕ) → reordered_text d now (s.character ∷ rest) ≡ reordered_text d new rest) → AgreesWith d new → item_count new ≡ item_count now + 1
+          → MarksReadTo (place + s.width) new
+      MarksReadTo-more new text agrees more = record {
+        agrees = agrees;
+        text =
+            let rest = expand d (decoded_in e (drop (place + s.width) units)) in
+            before.text ∙ ap (reordered_text d now) (expand-left d e units place s inside is) ∙ ap (λ l. reordered_text d now (l ++ rest)) own ∙ text rest;
+        room = λ suits. omega (arith, before.room suits, left suits);
+      }
+
+      pub MarksReadTo-fits : SuitsLazyReading f d → item_count old + leading_length f d (decoded_in e (drop position units)) ≤ buffer_limit → item_count now < buffer_limit
+      MarksReadTo-fits suits fits = omega (arith, before.room suits, left suits)
+
+    -- all was
+    pub MarksReadTo-all : (place : ℕ) (now : WaitingList) → MarksReadTo place now → length units ≤ place → reordered_text d old (expand d (decoded_in e (drop position units))) ≡ reordered_text d now []
+    unfolding expand
+    MarksReadTo-all place now to past = to.text ∙ ap (λ x. reordered_text d now (expand d x)) (decoded-all e units place past)
+
+-- no more are in order than places are in use
+pub length-ordered : (b : WaitingList) → length (ordered_text b) ≤ item_count b
+unfolding ordered_text item_count
+length-ordered b =
+    let all = b.entries.items in
+    omega (arith, length-map (drop b.next (take b.run all)) (λ (w : ClassedChar). w.character), length-drop b.next (take b.run all), length-take-le b.run all b.within)
+
+-- a whole run was: the first character, the marks after it, and all of them were put in order
+module _ (d : Reading) (e : Encoding) (units : List ℕ) (s : Step) (some : 0 < length units) (is : s ≡ first_in e units) where
+  pub decoded-first : decoded_in e units ≡ s.character ∷ decoded_in e (drop s.width units)
+  decoded-first = decoded-some e units some ∙ ap (λ t. t.character ∷ decoded_in e (drop t.width units)) (sym is)
+
+  -- there is room for the marks, if the first character isn't buffered when it is a starter
+  pub first-room : (f : ℕ → Bool) (read : ℕ) → read ≡ s.character → SuitsLazyReading f d → HasShortRuns f d (decoded_in e units)
+      → length (after_starter d (d.list read)) + leading_length f d (decoded_in e (drop s.width units)) ≤ buffer_limit
+  first-room f read same suits runs =
+      let fits = first_fits f d s.character (decoded_in e (drop s.width units)) suits (subst (HasShortRuns f d) decoded-first runs) in
+      subst (λ c. length (after_starter d (d.list c)) + leading_length f d (decoded_in e (drop s.width units)) ≤ buffer_limit) (sym same) fits
+
+  pub read_run-whole : (read : ℕ) (empty pushed all sorted : WaitingList) → read ≡ s.character → ordered_text empty ≡ [] → unordered_text empty ≡ []
+      → ((rest : List ℕ) → reordered_text d empty (after_starter d (d.list read) ++ rest) ≡ reordered_text d pushed rest)
+      → reordered_text d pushed (expand d (decoded_in e (drop s.width units))) ≡ reordered_text d all [] → ordered_text sorted ≡ reordered_text d all []
+      → nfd d (decoded_in e units) ≡ option_to_list (starter_of d (d.list read)) ++ ordered_text sorted
   unfolding nfd expand
-  IsReadTo-all place waiting to past = ap (λ x. reordered_text d waiting (expand d x)) (sym (decoded-all e units place past)) ∙ to.text
+  read_run-whole first empty pushed all sorted same front open_marks push read sort =
+      let rest = expand d (decoded_in e (drop s.width units)) in
+      let list = d.list first in
+      ap (λ x. order d (expand d x)) decoded-first ∙ ap (λ c. order d (d.list c ++ rest)) (sym same) ∙ order-starter d list rest
+      ∙ ap (λ l. option_to_list (starter_of d list) ++ l)
+      (sym (reordered-nothing d empty (after_starter d list ++ rest) front open_marks) ∙ push rest ∙ read ∙ sym sort)
 
 -- ---- marks alone
 
@@ -72,33 +238,31 @@ ordered-marks d b agrees marks =
 -- ---- a starter and the marks after it are composed
 
 -- what was in order is composed, but for those that are left
-pub record ComposedMarks (pairs : List Pair) (first : WaitingList) (starter : ℕ) (left : WaitingList) (marks : StayingMarks) : Type 0 where
+pub record ComposedMarks (pairs : List Pair) (start : ℕ) (first : WaitingList) (starter : ℕ) (left : WaitingList) (marks : StayingMarks) : Type 0 where
   pub agrees : (s : Characters) → AgreesWith (reading_by s Dropped pairs) first → AgreesWith (reading_by s Dropped pairs) left
   pub blocking : (s : Characters) → AgreesWith (reading_by s Dropped pairs) first → BlocksBelow (reading_by s Dropped pairs) marks
   pub composed : (s : Characters) → AgreesWith (reading_by s Dropped pairs) first
-      → compose_by_starters (reading_by s Dropped pairs) (ordered_text first) ≡ compose_after (reading_by s Dropped pairs) starter (staying_marks marks) (ordered_text left)
+      → compose_after (reading_by s Dropped pairs) start [] (ordered_text first) ≡ compose_after (reading_by s Dropped pairs) starter (staying_marks marks) (ordered_text left)
+  pub room : (s : Characters) → AgreesWith (reading_by s Dropped pairs) first → mark_count marks + length (ordered_text left) ≤ length (ordered_text first)
 
-module _ (pairs : List Pair) where
-  pub ComposedMarks-first : (first left : WaitingList) (starter : ℕ) (marks : StayingMarks) → ordered_text first ≡ starter ∷ ordered_text left → staying_marks marks ≡ []
-      → ((d : Reading) → AgreesWith d first → IsStarter d starter) → ((d : Reading) → AgreesWith d first → AgreesWith d left) → ((d : Reading) → BlocksBelow d marks)
-      → ComposedMarks pairs first starter left marks
-  ComposedMarks-first first left starter marks front none class agrees blocking = record {
-    agrees = λ s known. agrees (reading_by s Dropped pairs) known;
+module _ (pairs : List Pair) (start : ℕ) where
+  pub ComposedMarks-first : (first : WaitingList) (marks : StayingMarks) → staying_marks marks ≡ [] → mark_count marks ≡ 0 → ((d : Reading) → BlocksBelow d marks)
+      → ComposedMarks pairs start first start first marks
+  ComposedMarks-first first marks none used blocking = record {
+    agrees = λ s known. known;
     blocking = λ s known. blocking (reading_by s Dropped pairs);
-    composed = λ s known.
-        let d = reading_by s Dropped pairs in
-        ap (compose_by_starters d) front ∙ compose_by_starters-starter d starter (ordered_text left) (class d known)
-        ∙ ap (λ l. compose_after d starter l (ordered_text left)) (sym none);
+    composed = λ s known. ap (λ l. compose_after (reading_by s Dropped pairs) start l (ordered_text first)) (sym none);
+    room = λ s known. omega arith;
   }
 
   -- one more was visited
-  module _ (first old new : WaitingList) (starter c : ℕ) (marks : StayingMarks) (before : ComposedMarks pairs first starter old marks) (front : ordered_text old ≡ c ∷ ordered_text new)
+  module _ (first old new : WaitingList) (starter c : ℕ) (marks : StayingMarks) (before : ComposedMarks pairs start first starter old marks) (front : ordered_text old ≡ c ∷ ordered_text new)
       (agrees : (d : Reading) → AgreesWith d old → AgreesWith d new) where
     abbrev pub Visits : Visited → StayingMarks → Type 0
     Visits v next = (s : Characters) → AgreesWith (reading_by s Dropped pairs) old → BlocksBelow (reading_by s Dropped pairs) marks
         → HasVisited (reading_by s Dropped pairs) starter c marks v next
 
-    pub ComposedMarks-joined : (r : ℕ) (next : StayingMarks) → Visits (Joined r) next → ComposedMarks pairs first r new next
+    pub ComposedMarks-joined : (r : ℕ) (next : StayingMarks) → Visits (Joined r) next → ComposedMarks pairs start first r new next
     ComposedMarks-joined r next visited = record {
       agrees = λ s known. agrees (reading_by s Dropped pairs) (before.agrees s known);
       blocking = λ s known.
@@ -110,9 +274,12 @@ module _ (pairs : List Pair) where
           before.composed s known ∙ ap (compose_after d starter (staying_marks marks)) front
           ∙ compose_after-join d starter (staying_marks marks) c r (ordered_text new) v.0
           ∙ ap (λ m. compose_after d r (staying_marks m) (ordered_text new)) (sym v.1);
+      room = λ s known.
+          let v = visited s (before.agrees s known) (before.blocking s known) in
+          omega (arith, before.room s known, ap length front, ap mark_count v.1);
     }
 
-    pub ComposedMarks-stays : (next : StayingMarks) → Visits Stays next → ComposedMarks pairs first starter new next
+    pub ComposedMarks-stays : (next : StayingMarks) → Visits Stays next → ComposedMarks pairs start first starter new next
     ComposedMarks-stays next visited = record {
       agrees = λ s known. agrees (reading_by s Dropped pairs) (before.agrees s known);
       blocking = λ s known. (visited s (before.agrees s known) (before.blocking s known)).4;
@@ -122,11 +289,54 @@ module _ (pairs : List Pair) where
           before.composed s known ∙ ap (compose_after d starter (staying_marks marks)) front
           ∙ compose_after-mark d starter (staying_marks marks) c (ordered_text new) v.0 v.1
           ∙ ap (λ l. compose_after d starter l (ordered_text new)) (sym v.2);
+      room = λ s known.
+          let v = visited s (before.agrees s known) (before.blocking s known) in
+          omega (arith, before.room s known, ap length front, v.3);
     }
 
+    -- there is room for it if all fit
+    pub ComposedMarks-fits : (s : Characters) → AgreesWith (reading_by s Dropped pairs) first → length (ordered_text first) ≤ buffer_limit → mark_count marks < buffer_limit
+    ComposedMarks-fits s known few = omega (arith, before.room s known, ap length front)
+
   -- all were
-  pub ComposedMarks-all : (first left : WaitingList) (starter : ℕ) (marks : StayingMarks) → ComposedMarks pairs first starter left marks → ordered_text left ≡ []
-      → (s : Characters) → AgreesWith (reading_by s Dropped pairs) first → compose_by_starters (reading_by s Dropped pairs) (ordered_text first) ≡ starter ∷ staying_marks marks
+  pub ComposedMarks-all : (first left : WaitingList) (starter : ℕ) (marks : StayingMarks) → ComposedMarks pairs start first starter left marks → ordered_text left ≡ []
+      → (s : Characters) → AgreesWith (reading_by s Dropped pairs) first → compose_after (reading_by s Dropped pairs) start [] (ordered_text first) ≡ starter ∷ staying_marks marks
   ComposedMarks-all first left starter marks before none s known =
       let d = reading_by s Dropped pairs in
       before.composed s known ∙ ap (compose_after d starter (staying_marks marks)) none ∙ compose_after-nil d starter (staying_marks marks)
+
+-- ---- a run that was read
+
+-- its characters are those that are left, if none is composed
+pub characters_left-whole : (d : Reading) (x : List ℕ) (run : MarkRun) → IsUncomposed d x run → characters_left run ≡ x
+unfolding characters_left
+characters_left-whole d x run read = ap (λ l. option_to_list run.starter ++ (l ++ ordered_text run.waiting)) read.none ∙ sym read.whole
+
+pub characters_left-uncomposed : {E : Type 0} (d : Reading) (x : List ℕ) (made : Result (Option MarkRun) E) → IfOk made (λ read. IfSome read (IsUncomposed d x))
+    → IfOk made (λ read. IfSome read (λ run. characters_left run ≡ x))
+characters_left-uncomposed d x (Ok (Some run)) read = characters_left-whole d x run read
+characters_left-uncomposed d x (Ok None) read = tt
+characters_left-uncomposed d x (Err e) read = tt
+
+module _ (d : Reading) (x : List ℕ) (run : MarkRun) (read : IsUncomposed d x run) where
+  -- marks alone stay
+  pub composed-marks : run.starter ≡ None → HasOnlyMarks run.waiting → characters_left run ≡ compose_by_starters d x
+  composed-marks none marks =
+      let whole : x ≡ ordered_text run.waiting = read.whole ∙ ap (λ o. option_to_list o ++ ordered_text run.waiting) none in
+      characters_left-whole d x run read ∙ whole ∙ sym (ap (compose_by_starters d) whole ∙ compose_by_starters-marks d (ordered_text run.waiting) (ordered-marks d run.waiting read.classes marks))
+
+  -- a starter was composed with the marks after it
+  pub composed-run : (start composite : ℕ) (now : MarkRun) → run.starter ≡ Some start → now.starter ≡ Some composite → ordered_text now.waiting ≡ []
+      → compose_after d start [] (ordered_text run.waiting) ≡ composite ∷ staying_marks now.marks → characters_left now ≡ compose_by_starters d x
+  unfolding characters_left
+  composed-run start composite now is became all text =
+      let whole : x ≡ start ∷ ordered_text run.waiting = read.whole ∙ ap (λ o. option_to_list o ++ ordered_text run.waiting) is in
+      ap (λ o. option_to_list o ++ (staying_marks now.marks ++ ordered_text now.waiting)) became
+      ∙ ap (λ l. composite ∷ (staying_marks now.marks ++ l)) all ∙ ap (λ l. composite ∷ l) (append-nil (staying_marks now.marks)) ∙ sym text
+      ∙ sym (ap (compose_by_starters d) whole ∙ compose_by_starters-starter d start (ordered_text run.waiting) (read.begins start is))
+
+-- neither ignored characters nor pairs change what was read
+pub IsUncomposed-reading_by : (s : Characters) (ignored : IgnoredCharacters) (pairs : List Pair) (x : List ℕ) (run : MarkRun) → IsUncomposed (reading_by s ignored []) x run
+    → IsUncomposed (reading_by s Dropped pairs) x run
+IsUncomposed-reading_by s ignored pairs x run read =
+    record { whole = read.whole; begins = read.begins; classes = AgreesWith-reading_by s ignored pairs run.waiting read.classes; none = read.none; used = read.used; blocking = read.blocking }

@@ -1,6 +1,5 @@
 -- Short texts in buffers: what is buffered, and what is left to read.
-use Rattle.std.proofs.Common.{◌≡◌, Bool, Result, Ok, Err, OnOk, ℕ, ◌+◌, ◌<◌, ◌≤◌, List, [], ◌∷◌, ◌++◌, length, drop, sym, ap, ◌∙◌, arith}
-use Rattle.std.specs.Prelude.{is_ok, true}
+use Rattle.std.proofs.Common.{◌≡◌, ℕ, ◌+◌, ◌<◌, ◌≤◌, List, [], ◌∷◌, ◌++◌, length, drop, sym, ap, ◌∙◌, arith}
 use Rattle.std.proofs.lemmas.List.{drop_all, drop-drop, length-append, length-drop}
 use Rattle.normal_forms.specs.Reading.{Reading}
 use Rattle.normal_forms.specs.CompositionByStarters.{compose_by_starters}
@@ -97,11 +96,6 @@ unfolding expand
 BufferedTo-short d e units position waiting before past =
     let none : expand d (decoded_in e (drop position units)) ≡ [] = ap (expand d) (decoded-all e units position past) in
     omega (arith, before.held, before.fits, ap length none, length-nfd d (decoded_in e units))
-
--- what holds on success holds if the test says so
-pub on_ok : {A E : Type 0} (r : Result A E) (b : Bool) (P : Type 0) → OnOk r P → b ≡ is_ok r → b ≡ true → P
-on_ok (Ok a) b P h is true_ = h
-on_ok (Err e) b P h is true_ = cc
 
 -- ---- what is in order is composed
 

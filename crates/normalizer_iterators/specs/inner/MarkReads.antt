@@ -1,14 +1,39 @@
 -- Reading a run of marks.
-use Rattle.std.specs.Prelude.{◌≡◌, ℕ, List, drop}
-use Rattle.normal_forms.specs.Decomposition.{expand}
-use Rattle.normal_forms.specs.Order.{order}
-use Rattle.normal_forms.specs.Reading.{Reading}
-use Rattle.normalizer_text.specs.Encodings.{Encoding, decoded_in}
+use Rattle.std.specs.Prelude.{◌≡◌, ℕ, ◌+◌, ◌≤◌, List, [], ◌∷◌, ◌++◌, Option, Some, None, option_to_list}
+use Rattle.std.specs.Prelude.{if◌then◌else◌}
+use Rattle.std.specs.Option.{ForSome}
+use Rattle.normal_forms.specs.Reading.{Reading, IsStarter, is_starter}
+use Rattle.normal_forms.specs.ShortRuns.{buffer_limit, leading_length}
+use Rattle.normalizer_tables.specs.declared.characters.IgnoredCharacters.{IgnoredCharacters}
+use Rattle.normalizer_tables.specs.Characters.{Characters, has_class_form}
+use Rattle.normalizer_tables.specs.Readings.{reading_by}
+use Rattle.normalizer_iterators.specs.declared.mark_run.MarkRun.{MarkRun}
 use Rattle.normalizer_iterators.specs.declared.waiting.WaitingList.{WaitingList}
-use Rattle.normalizer_iterators.specs.WaitingList.{reordered_text, AgreesWith}
+use Rattle.normalizer_iterators.specs.LazyReading.{SuitsLazyReading}
+use Rattle.normalizer_iterators.specs.StayingMarks.{mark_count, staying_marks, BlocksBelow}
+use Rattle.normalizer_iterators.specs.WaitingList.{item_count, ordered_text, AgreesWith}
 
--- the lists of what the units before a place decode to are buffered
-pub record IsReadTo (d : Reading) (e : Encoding) (units : List ℕ) (place : ℕ) (waiting : WaitingList) : Type 0 where
-  pub agrees : AgreesWith d waiting
-  pub text : reordered_text d waiting (expand d (decoded_in e (drop place units)))
-      ≡ order d (expand d (decoded_in e units))
+-- the first character, if it is a starter
+unfoldable pub starter_of : Reading → List ℕ → Option ℕ
+starter_of d [] = None
+starter_of d (c ∷ x) = if is_starter d c then Some c else None
+
+-- what comes after that
+unfoldable pub after_starter : Reading → List ℕ → List ℕ
+after_starter d [] = []
+after_starter d (c ∷ x) = if is_starter d c then x else c ∷ x
+
+-- there is room for the lists of the characters that continue at the front of x, by data that can be read lazily
+abbrev pub HasRoomForMarks : Characters → IgnoredCharacters → WaitingList → List ℕ → Type 0
+HasRoomForMarks s ignored waiting x =
+    let d = reading_by s ignored [] in
+    SuitsLazyReading (has_class_form s) d × (item_count waiting + leading_length (has_class_form s) d x ≤ buffer_limit)
+
+-- a run has the characters of x, of which none is composed yet
+pub record IsUncomposed (d : Reading) (x : List ℕ) (run : MarkRun) : Type 0 where
+  pub whole : x ≡ option_to_list run.starter ++ ordered_text run.waiting
+  pub begins : ForSome run.starter (IsStarter d)
+  pub classes : AgreesWith d run.waiting
+  pub none : staying_marks run.marks ≡ []
+  pub used : mark_count run.marks ≡ 0
+  pub blocking : (e : Reading) → BlocksBelow e run.marks

@@ -1,11 +1,16 @@
-use Rattle.std.proofs.Common.{◌++◌, [], arith, sym, ap, ◌∙◌}
+use Rattle.std.proofs.Common.{[], arith, sym, ◌∙◌}
+use Rattle.normalizer_tables.specs.Characters.{has_class_form}
 use Rattle.normalizer_tables.specs.Readings.{reading_by}
 use Rattle.normalizer_tables.specs.Ignored.{ignored_list}
 use Rattle.normalizer_text.proofs.steps.StepBoundaries.{step-some}
-use Rattle.normalizer_iterators.specs.WaitingList.{reordered_text}
 use Rattle.normalizer_iterators.proofs.reads.LazyLemmas.{class-reading_by, list-reading_by}
-use Rattle.normalizer_iterators.proofs.segments.BufferedMarks.{IsReadTo-all, IsReadTo-more}
+use Rattle.normalizer_iterators.proofs.segments.BufferedMarks.{MarksReadTo-all, MarksReadTo-fits, MarksReadTo-more, MarksReadTo-none}
 use Rattle.normalizer_iterators.proofs.mark_run.read_marks.Goals as goal
+
+pub loop-place-init : goal.loop-place-init
+loop-place-init g c =
+    let s = c.args.characters.now in
+    MarksReadTo-none (has_class_form s) (reading_by s c.args.ignored []) g.U.Units.encoding (g.U.Units.units c.args.units) c.args.position c.args.waiting.now c.requires
 
 pub overflow_add-place : goal.overflow_add-place
 overflow_add-place g c =
@@ -24,12 +29,23 @@ loop-place-preserved g c =
     let mark = c.step_at-step.result.character in
     let own = list-reading_by s c.args.ignored [] mark ∙ c.in-Some.ensures.itself (ignored_list c.args.ignored) in
     let class = c.in-Some.ensures.class ∙ sym (class-reading_by s c.args.ignored [] mark) in
-    let before = c.loop-place.invariant in
-    IsReadTo-more d g.U.Units.encoding (g.U.Units.units c.args.units) c.loop-place.place c.step_at-step.result c.loop-place.waiting _ before (omega (arith, c.len.ensures)) c.step_at-step.ensures
-    (λ rest. ap (λ l. reordered_text d c.loop-place.waiting (l ++ rest)) own ∙ c.in_ok-push_mark.ensures.text d rest)
-    (c.in_ok-push_mark.ensures.classes d before.agrees class)
+    MarksReadTo-more (has_class_form s) d g.U.Units.encoding (g.U.Units.units c.args.units) c.args.position c.args.waiting.now c.loop-place.place c.step_at-step.result c.loop-place.waiting
+    c.loop-place.invariant (omega (arith, c.len.ensures)) c.step_at-step.ensures own (omega (arith, c.in-Some.ensures.mark, class)) _
+    (λ rest. c.in_ok-push_mark.ensures.text d rest) (c.in_ok-push_mark.ensures.classes d c.loop-place.invariant.agrees class) c.in_ok-push_mark.ensures.held
 
 pub returns-clause-text : goal.returns-clause-text
 returns-clause-text g c = λ _.
-    let d = reading_by c.args.characters.now c.args.ignored [] in
-    IsReadTo-all d g.U.Units.encoding (g.U.Units.units c.args.units) c.loop-place.place c.loop-place.waiting c.loop-place.invariant (omega (arith, c.len.ensures))
+    let s = c.args.characters.now in
+    MarksReadTo-all (has_class_form s) (reading_by s c.args.ignored []) g.U.Units.encoding (g.U.Units.units c.args.units) c.args.position c.args.waiting.now c.loop-place.place _ c.loop-place.invariant
+    (omega (arith, c.len.ensures))
+
+pub returns-in_err-push_mark-clause-room : goal.returns-in_err-push_mark-clause-room
+returns-in_err-push_mark-clause-room g c = λ fits.
+    let s = c.args.characters.now in
+    let d = reading_by s c.args.ignored [] in
+    let mark = c.step_at-step.result.character in
+    let own = list-reading_by s c.args.ignored [] mark ∙ c.in-Some.ensures.itself (ignored_list c.args.ignored) in
+    let class = c.in-Some.ensures.class ∙ sym (class-reading_by s c.args.ignored [] mark) in
+    cc (c.in_err-push_mark.ensures.succeeds
+    (MarksReadTo-fits (has_class_form s) d g.U.Units.encoding (g.U.Units.units c.args.units) c.args.position c.args.waiting.now c.loop-place.place c.step_at-step.result c.loop-place.waiting
+    c.loop-place.invariant (omega (arith, c.len.ensures)) c.step_at-step.ensures own (omega (arith, c.in-Some.ensures.mark, class)) fits.0 fits.1))

@@ -2,7 +2,7 @@ use Rattle.std.proofs.Common.{◌≡◌, [], length, arith, ap, ◌∙◌}
 use Rattle.normalizer_tables.specs.Readings.{reading_by}
 use Rattle.normalizer_text.proofs.steps.StepBoundaries.{step-some}
 use Rattle.normalizer_iterators.proofs.reads.LazyLemmas.{class-reading_by, list-reading_by}
-use Rattle.normalizer_iterators.proofs.segments.SegmentLemmas.{BufferedTo-none, BufferedTo-more, BufferedTo-full, BufferedTo-end, BufferedTo-short, on_ok}
+use Rattle.normalizer_iterators.proofs.segments.SegmentLemmas.{BufferedTo-none, BufferedTo-more, BufferedTo-full, BufferedTo-end, BufferedTo-short}
 use Rattle.normalizer_iterators.proofs.segment.read_all.Goals as goal
 
 pub loop-position-init : goal.loop-position-init
@@ -40,20 +40,14 @@ loop-position-preserved g c =
 pub returns-clause-text : goal.returns-clause-text
 returns-clause-text g c = λ ok.
     let d = reading_by c.args.characters.now c.args.ignored [] in
-    let put = on_ok c.put_in_order.result c.is_ok.result _ c.put_in_order.ensures.text c.is_ok.ensures.value ok in
-    put d c.loop-position.invariant.agrees ∙ BufferedTo-end d _ _ _ _ c.loop-position.invariant (omega (arith, c.len.ensures))
+    c.in-Ok.ensures.text d c.loop-position.invariant.agrees ∙ BufferedTo-end d _ _ _ _ c.loop-position.invariant (omega (arith, c.len.ensures))
 
 pub returns-clause-classes : goal.returns-clause-classes
 returns-clause-classes g c = λ ok.
-    let d = reading_by c.args.characters.now c.args.ignored [] in
-    on_ok c.put_in_order.result c.is_ok.result _ c.put_in_order.ensures.classes c.is_ok.ensures.value ok d c.loop-position.invariant.agrees
+    c.in-Ok.ensures.classes (reading_by c.args.characters.now c.args.ignored []) c.loop-position.invariant.agrees
 
 pub returns-clause-short : goal.returns-clause-short
 returns-clause-short g c = λ ok.
     let d = reading_by c.args.characters.now c.args.ignored [] in
-    let put = on_ok c.put_in_order.result c.is_ok.result _ c.put_in_order.ensures.text c.is_ok.ensures.value ok in
-    let form = put d c.loop-position.invariant.agrees ∙ BufferedTo-end d _ _ _ _ c.loop-position.invariant (omega (arith, c.len.ensures)) in
+    let form = c.in-Ok.ensures.text d c.loop-position.invariant.agrees ∙ BufferedTo-end d _ _ _ _ c.loop-position.invariant (omega (arith, c.len.ensures)) in
     omega (arith, ap length form, BufferedTo-short d _ _ _ _ c.loop-position.invariant (omega (arith, c.len.ensures)))
-
-pub returns-clause-fits : goal.returns-clause-fits
-returns-clause-fits g c = λ short. c.is_ok.ensures.value ∙ c.put_in_order.ensures.succeeds c.loop-position.invariant.fits

@@ -3,4 +3,7 @@ use Rattle.icu_normalizer.proofs.forming.DecomposingFormForming.mark_run.Goals a
 
 pub returns : goal.returns
 unfolding normal_form
-returns g c = c.decomposed.ensures
+returns g c = record {
+  form = c.decomposed.ensures.form;
+  room = λ short. c.decomposed.ensures.room (c.args.self.now.serves.reading, short);
+}
