@@ -113,7 +113,7 @@ typedef struct icu_normalizer_mapper_record {
 
 /* Where data are wrong, and why. It is written on three statuses only:
    - WRONG_LINE: the first line that is wrong, of CompositionExclusions.txt, then of UnicodeData.txt, then of
-     IdnaMappingTable.txt.
+     IdnaMappingTable.txt. Files that are cut off or state different versions are refused before lines are read.
    - WRONG_RECORD: the first record that is wrong by itself, whatever the others are, of those of characters, then of
      those of the mapper.
    - WRONG_RECORDS: each record is right by itself, but all can't be built into tables. The reason is the first of 10
@@ -142,7 +142,7 @@ typedef struct icu_normalizer_defect {
 #define ICU_NORMALIZER_ALL_RECORDS 4u
 #define ICU_NORMALIZER_ONE_MAPPER_RECORD 5u
 
-/* Returns what the reason of a defect means, in English: 1 to 8, 19 and 20 are of lines, 9 is of one record, 10 to 18
+/* Returns what the reason of a defect means, in English: 1 to 8 and 19 to 24 are of lines, 9 is of one record, 10 to 18
    are of the records together. With reason 17, the place is the number of the condition (docs/CONDITIONS.md). */
 static inline const char *icu_normalizer_reason_text(uint32_t reason) {
     switch (reason) {
@@ -166,6 +166,10 @@ static inline const char *icu_normalizer_reason_text(uint32_t reason) {
         case 18: return "the lists have more items than the tables hold";
         case 19: return "the last line has no line feed: the file is cut off";
         case 20: return "UnicodeData.txt has no canonical mapping of the character";
+        case 21: return "the file has no end mark: it is cut off";
+        case 22: return "code points before this line are missing";
+        case 23: return "the file ends before U+10FFFF";
+        case 24: return "the files state different versions of Unicode";
         default: return "no reason has this number";
     }
 }

@@ -47,7 +47,8 @@ pub extern "C" fn icu_normalizer_open_files_nonnull(
     defect: &mut Defect,
 ) -> u32
     ensures { IsStatusReporting result defect.old defect.new (Opens
-        (both (of_unicode_data unicode_data.now exclusions.now) (of_idna_table idna_table.now disallowed_limit))
+        (both (of_unicode_data unicode_data.now exclusions.now)
+        (of_idna_table exclusions.now idna_table.now disallowed_limit))
         (held_normalizers handle.old) (held_normalizers handle.new)) }
 {
     let outcome = open_files(

@@ -1,5 +1,5 @@
 -- A run over files, by the data of a directory.
-use Rattle.std.specs.Prelude.{◌≡◌, ◌⊎◌, ℕ, List}
+use Rattle.std.specs.Prelude.{◌≡◌, ◌⊎◌, ℕ, List, Option}
 use Rattle.normalizer_records.specs.RecordValue.{RecordValue, Uts46RecordValue}
 use Rattle.normalizer_ucd.specs.declared.error.UcdFile.{UcdFile}
 use Rattle.normalizer_command.specs.declared.fault.Fault.{Fault}
@@ -15,7 +15,7 @@ pub record RunsByFiles {W : Type 0} (d : Devices W) (command : Command) (directo
     (s t : State W) : Type 0 where
   pub unicode_data : List ℕ
   pub exclusions : List ℕ
-  pub table : List ℕ
+  pub table : Option (List ℕ)
   pub files : AreFiles d.bytes_of directory command unicode_data exclusions table
   pub records : List RecordValue
   pub uts46 : List Uts46RecordValue

@@ -1,12 +1,13 @@
 -- The data that the files of Unicode mean.
-use Rattle.std.specs.Prelude.{◌≡◌, ℕ, List, [], ◌∷◌, ◌++◌, codes, Option, IfSome, Ok, Err, ⊤, ◌⊎◌}
+use Rattle.std.specs.Prelude.{◌≡◌, ℕ, List, [], ◌∷◌, ◌++◌, codes, Option, Some, None, IfSome, IsSomeAnd, Result, Ok, Err, ⊤, ◌⊎◌}
 use Rattle.normalizer_builder.specs.Building.{Builds, IsSmallest}
 use Rattle.normalizer_packing.specs.declared.Packed.{Packed}
 use Rattle.normalizer_records.specs.RecordValue.{RecordValue, Uts46RecordValue}
 use Rattle.normalizer_ucd.specs.declared.error.UcdFile.{UcdFile}
 use Rattle.normalizer_ucd.specs.declared.error.UcdFile.TheVariants.{UnicodeData, CompositionExclusions, IdnaMappingTable}
 use Rattle.normalizer_ucd.specs.declared.idna_table.Disallowed.TheVariants.{All}
-use Rattle.normalizer_ucd.specs.IdnaTable.{uts46_records_of}
+use Rattle.normalizer_ucd.specs.declared.error.LineFault.{LineFault}
+use Rattle.normalizer_ucd.specs.IdnaTable.{uts46_records_beside}
 use Rattle.normalizer_ucd.specs.UnicodeData.{records_of}
 use Rattle.normalizer_command.specs.Devices.{Devices}
 use Rattle.normalizer_command.specs.FileFaults.{IsFileFault}
@@ -29,32 +30,40 @@ abbrev pub IsFile : (List ℕ → Option (List ℕ)) → (directory : List ℕ) 
 IsFile bytes_of directory file bytes = IfSome (bytes_of (path_of directory file)) (λ all. bytes ≡ all)
 
 -- no table is read for a form
-abbrev pub IsTable : (List ℕ → Option (List ℕ)) → (directory : List ℕ) → Command → (table : List ℕ) → Type 0
-IsTable bytes_of directory (OfForm task scheme form) table = table ≡ []
-IsTable bytes_of directory (OfMapper task scheme) table = IsFile bytes_of directory IdnaMappingTable table
+abbrev pub IsTable : (List ℕ → Option (List ℕ)) → (directory : List ℕ) → Command → (table : Option (List ℕ)) → Type 0
+IsTable bytes_of directory (OfForm task scheme form) table = table ≡ None
+IsTable bytes_of directory (OfMapper task scheme) table =
+    IsSomeAnd table (λ bytes. IsFile bytes_of directory IdnaMappingTable bytes)
 
 -- these are the bytes of the files that a command needs, if they are known
 abbrev pub AreFiles : (List ℕ → Option (List ℕ)) → (directory : List ℕ) → Command
-    → (unicode_data exclusions table : List ℕ) → Type 0
+    → (unicode_data exclusions : List ℕ) → (table : Option (List ℕ)) → Type 0
 AreFiles bytes_of directory command unicode_data exclusions table =
     IsFile bytes_of directory UnicodeData unicode_data × IsFile bytes_of directory CompositionExclusions exclusions
     × IsTable bytes_of directory command table
 
+-- the mapper's records that a table says, if there is one
+abbrev pub mapper_records_of : (exclusions : List ℕ) → (table : Option (List ℕ)) →
+    Result (List Uts46RecordValue) LineFault
+mapper_records_of exclusions None = Ok []
+mapper_records_of exclusions (Some table) = uts46_records_beside exclusions All table
+
 -- the records that the lines of the files say
-abbrev pub AreRecorded : (unicode_data exclusions table : List ℕ) → List RecordValue → List Uts46RecordValue → Type 0
+abbrev pub AreRecorded : (unicode_data exclusions : List ℕ) → (table : Option (List ℕ))
+    → List RecordValue → List Uts46RecordValue → Type 0
 AreRecorded unicode_data exclusions table records uts46 =
-    (records_of unicode_data exclusions ≡ Ok records) × (uts46_records_of All table ≡ Ok uts46)
+    (records_of unicode_data exclusions ≡ Ok records) × (mapper_records_of exclusions table ≡ Ok uts46)
 
 -- these data are built from them
-abbrev pub AreBuiltOf : (unicode_data exclusions table : List ℕ) → List RecordValue → List Uts46RecordValue → Packed →
-    Type 0
+abbrev pub AreBuiltOf : (unicode_data exclusions : List ℕ) → (table : Option (List ℕ))
+    → List RecordValue → List Uts46RecordValue → Packed → Type 0
 AreBuiltOf unicode_data exclusions table records uts46 p =
     AreRecorded unicode_data exclusions table records uts46 × Builds records uts46 p
 
 -- why the bytes of the files make no data, and which of the files is named
-abbrev pub IsFaultOf : (unicode_data exclusions table : List ℕ) → UcdFile → Fault → Type 0
+abbrev pub IsFaultOf : (unicode_data exclusions : List ℕ) → (table : Option (List ℕ)) → UcdFile → Fault → Type 0
 IsFaultOf unicode_data exclusions table file (Line fault) = (file ≡ fault.place.file)
-    × ((records_of unicode_data exclusions ≡ Err fault) ⊎ (uts46_records_of All table ≡ Err fault))
+    × ((records_of unicode_data exclusions ≡ Err fault) ⊎ (mapper_records_of exclusions table ≡ Err fault))
 IsFaultOf unicode_data exclusions table file (Records error) = (file ≡ UnicodeData) × ((records : List RecordValue)
     × (uts46 : List Uts46RecordValue) × AreRecorded unicode_data exclusions table records uts46
     × IsSmallest records uts46 error)
@@ -71,6 +80,6 @@ IsReadFault d directory file fault =
 -- why there are no data: this file of the directory can't be read, or the bytes of the files make none
 abbrev pub IsDataFault : {W : Type 0} → Devices W → (directory : List ℕ) → Command → UcdFile → Fault → Type 0
 IsDataFault d directory command file fault = IsReadFault d directory file fault
-    ⊎ ((unicode_data : List ℕ) × (exclusions : List ℕ) × (table : List ℕ)
+    ⊎ ((unicode_data : List ℕ) × (exclusions : List ℕ) × (table : Option (List ℕ))
     × AreFiles d.bytes_of directory command unicode_data exclusions table
     × IsFaultOf unicode_data exclusions table file fault)

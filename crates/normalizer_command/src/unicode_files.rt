@@ -1,5 +1,6 @@
 //! The data of a directory of Unicode's files.
 ghost use Rattle.std.specs.Prelude.{◌≡◌, List, IfOk, IfErr, IfSome, string_bytes};
+ghost use Rattle.std.specs.Option.{option_map};
 ghost use Rattle.normalizer_builder.specs.Built.{data_in};
 ghost use Rattle.normalizer_command.specs.UnicodeFiles.{
   AreBuiltOf,
@@ -8,12 +9,14 @@ ghost use Rattle.normalizer_command.specs.UnicodeFiles.{
   IsFaultOf,
   IsFile,
   IsTable,
+  mapper_records_of,
   name_of,
   path_of,
 };
 ghost use Rattle.normalizer_command.specs.FileFaults.{fault_of_file, IsFileFault};
 ghost use Rattle.normalizer_records.specs.RecordValue.{RecordValue, Uts46RecordValue};
 ghost use Rattle.normalizer_ucd.specs.declared.error.LineFault.{LineFault};
+ghost use Rattle.normalizer_ucd.specs.FallibleReads.{Gives};
 
 use crate::devices::Inputs;
 use crate::fault::Fault;
@@ -22,7 +25,7 @@ use normalizer_io::read_all;
 use normalizer_records::{Record, Uts46Record};
 use normalizer_replies::Command;
 use normalizer_ucd::{
-    Disallowed, UcdError, UcdFile, records_of_unicode_data, uts46_records_of_idna_table,
+    Disallowed, UcdError, UcdFile, records_of_unicode_data, uts46_records_beside_exclusions,
 };
 use std::alloc::{AllocError, Global};
 
@@ -51,12 +54,12 @@ fn name_of(file: UcdFile) -> &'static str
     }
 }
 
-/// The bytes of the files of a directory.
+/// The bytes of the files of a directory. A form needs no mapping table.
 #[derive(Drop)]
 pub(crate) struct DataFiles {
     pub(crate) unicode_data: Vec<u8>,
     pub(crate) exclusions: Vec<u8>,
-    pub(crate) table: Vec<u8>,
+    pub(crate) table: Option<Vec<u8>>,
 }
 
 /// The bytes of the files that a command needs.
@@ -67,7 +70,7 @@ pub(crate) fn read_files<I: Inputs>(
     command: Command,
 ) -> Result<DataFiles, DataFault>
     ensures files { IfOk result (λ r. AreFiles (I.bytes_of inputs.now) directory.now command
-        r.unicode_data.items r.exclusions.items r.table.items) }
+        r.unicode_data.items r.exclusions.items (option_map (λ v. v.items) r.table)) }
     ensures fault { IfErr result (λ e. IsFileFault (I.cannot_open inputs.now (path_of directory.now e.file))
         (I.read_refused inputs.now (path_of directory.now e.file)) ⊥ e.fault) }
 {
@@ -87,14 +90,18 @@ fn read_table<I: Inputs>(
     inputs: &I,
     directory: &str,
     command: Command,
-) -> Result<Vec<u8>, DataFault>
-    ensures table { IfOk result (λ v. IsTable (I.bytes_of inputs.now) directory.now command v.items) }
+) -> Result<Option<Vec<u8>>, DataFault>
+    ensures table { IfOk result (λ t. IsTable (I.bytes_of inputs.now) directory.now command
+        (option_map (λ v. v.items) t)) }
     ensures fault { IfErr result (λ e. IsFileFault (I.cannot_open inputs.now (path_of directory.now e.file))
         (I.read_refused inputs.now (path_of directory.now e.file)) ⊥ e.fault) }
 {
     match command {
-        Command::OfForm(..) => Ok(Vec::new(alloc)),
-        Command::OfMapper(..) => read_file(alloc, inputs, directory, UcdFile::IdnaMappingTable),
+        Command::OfForm(..) => Ok(None),
+        Command::OfMapper(..) => {
+            let table = read_file(alloc, inputs, directory, UcdFile::IdnaMappingTable)?;
+            Ok(Some(table))
+        }
     }
 }
 
@@ -133,9 +140,10 @@ fn read<I: Inputs>(
 /// The data that the records of the files build.
 pub(crate) fn built(alloc: Global, files: &DataFiles) -> Result<Built, DataFault>
     ensures built { IfOk result (λ b. (records : List RecordValue) × (uts46 : List Uts46RecordValue) × AreBuiltOf
-        files.now.unicode_data.items files.now.exclusions.items files.now.table.items records uts46 (data_in b)) }
-    ensures fault { IfErr result (λ e. IsFaultOf
-        files.now.unicode_data.items files.now.exclusions.items files.now.table.items e.file e.fault) }
+        files.now.unicode_data.items files.now.exclusions.items (option_map (λ v. v.items) files.now.table)
+        records uts46 (data_in b)) }
+    ensures fault { IfErr result (λ e. IsFaultOf files.now.unicode_data.items files.now.exclusions.items
+        (option_map (λ v. v.items) files.now.table) e.file e.fault) }
 {
     let (records, uts46) = records_of(alloc, files)?;
     match Records::build(alloc, &records, &uts46) {
@@ -153,17 +161,31 @@ fn records_of(
     files: &DataFiles,
 ) -> Result<(Vec<Record>, Vec<Uts46Record>), DataFault>
     ensures recorded { IfOk result (λ r. AreRecorded
-        files.now.unicode_data.items files.now.exclusions.items files.now.table.items r.0.items r.1.items) }
-    ensures fault { IfErr result (λ e. IsFaultOf
-        files.now.unicode_data.items files.now.exclusions.items files.now.table.items e.file e.fault) }
+        files.now.unicode_data.items files.now.exclusions.items (option_map (λ v. v.items) files.now.table)
+        r.0.items r.1.items) }
+    ensures fault { IfErr result (λ e. IsFaultOf files.now.unicode_data.items files.now.exclusions.items
+        (option_map (λ v. v.items) files.now.table) e.file e.fault) }
 {
     let records = match records_of_unicode_data(alloc, &files.unicode_data, &files.exclusions) {
         Ok(records) => records,
         Err(error) => return Err(of_file(error)),
     };
-    match uts46_records_of_idna_table(alloc, &files.table, Disallowed::All) {
+    match mapper_records_of(alloc, files) {
         Ok(uts46) => Ok((records, uts46)),
         Err(error) => Err(of_file(error)),
+    }
+}
+
+/// The records that the mapping table yields, if there is one.
+fn mapper_records_of(alloc: Global, files: &DataFiles) -> Result<Vec<Uts46Record>, UcdError>
+    ensures { Gives (λ v. v.items) result
+        (mapper_records_of files.now.exclusions.items (option_map (λ v. v.items) files.now.table)) }
+{
+    match &files.table {
+        None => Ok(Vec::new(alloc)),
+        Some(table) => {
+            uts46_records_beside_exclusions(alloc, &files.exclusions, table, Disallowed::All)
+        }
     }
 }
 

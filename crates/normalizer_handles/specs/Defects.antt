@@ -27,6 +27,10 @@ number_of_problem problems.Range = 7
 number_of_problem problems.NotACharacter = 8
 number_of_problem problems.CutOff = 19
 number_of_problem problems.Unmapped = 20
+number_of_problem problems.NoEndMark = 21
+number_of_problem problems.Gap = 22
+number_of_problem problems.TooShort = 23
+number_of_problem problems.OtherVersion = 24
 
 abbrev pub number_of_error : BuildError → ℕ
 number_of_error errors.Order = 10

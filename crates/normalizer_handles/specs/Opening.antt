@@ -4,7 +4,7 @@ use Rattle.normalizer_builder.specs.Building.{IsSmallest}
 use Rattle.normalizer_records.specs.RecordValue.{RecordValue, Uts46RecordValue}
 use Rattle.normalizer_ucd.specs.declared.error.LineFault.{LineFault}
 use Rattle.normalizer_ucd.specs.declared.idna_table.Disallowed.TheVariants.{RangesUpTo}
-use Rattle.normalizer_ucd.specs.IdnaTable.{uts46_records_of}
+use Rattle.normalizer_ucd.specs.IdnaTable.{uts46_records_beside}
 use Rattle.normalizer_ucd.specs.UnicodeData.{records_of}
 use Rattle.normalizer_handles.specs.declared.fault.Fault.{Fault}
 use Rattle.normalizer_handles.specs.declared.fault.Fault.TheVariants.{Memory, Line, Records}
@@ -35,9 +35,10 @@ both (Ok records) (Ok mapper) = Ok (records, mapper)
 abbrev pub of_unicode_data : (unicode_data exclusions : List ℕ) → Result (List RecordValue) Fault
 of_unicode_data unicode_data exclusions = of_lines (records_of unicode_data exclusions)
 
--- what the bytes of IdnaMappingTable.txt say, without disallowed ranges of more than so many code points
-abbrev pub of_idna_table : (table : List ℕ) → (limit : ℕ) → Result (List Uts46RecordValue) Fault
-of_idna_table table limit = of_lines (uts46_records_of (RangesUpTo limit) table)
+-- what the bytes of IdnaMappingTable.txt say, without disallowed ranges of more than so many code points, if the file
+-- is of the version of the exclusions
+abbrev pub of_idna_table : (exclusions table : List ℕ) → (limit : ℕ) → Result (List Uts46RecordValue) Fault
+of_idna_table exclusions table limit = of_lines (uts46_records_beside exclusions (RangesUpTo limit) table)
 
 -- why records aren't built
 abbrev pub IsBuildFault : List RecordValue → List Uts46RecordValue → Fault → Type 0

@@ -49,6 +49,10 @@ fn number_of_problem(problem: Problem) -> u32
         Problem::NotACharacter => 8,
         Problem::CutOff => 19,
         Problem::Unmapped => 20,
+        Problem::NoEndMark => 21,
+        Problem::Gap => 22,
+        Problem::TooShort => 23,
+        Problem::OtherVersion => 24,
     }
 }
 

@@ -17,7 +17,7 @@ use crate::handle::Handle;
 use crate::normalizers::Normalizers;
 use crate::plain_records::{PlainMapperRecord, PlainRecord, records_of_plain};
 use icu_normalizer::{Record, Records, Uts46Record};
-use normalizer_ucd::{Disallowed, records_of_unicode_data, uts46_records_of_idna_table};
+use normalizer_ucd::{Disallowed, records_of_unicode_data, uts46_records_beside_exclusions};
 use std::alloc::Global;
 
 /// Opens normalizers by the bytes of `UnicodeData.txt` and `CompositionExclusions.txt`, with no mapper. What the handle
@@ -53,11 +53,12 @@ pub fn open_files(
     disallowed_limit: u32,
 ) -> Result<(), Fault>
     ensures { Opens
-        (both (of_unicode_data unicode_data.now exclusions.now) (of_idna_table idna_table.now disallowed_limit))
+        (both (of_unicode_data unicode_data.now exclusions.now)
+        (of_idna_table exclusions.now idna_table.now disallowed_limit))
         (held_normalizers handle.old) (held_normalizers handle.new) result }
 {
     let records = unicode_data_records(alloc, unicode_data, exclusions)?;
-    let mapper = idna_table_records(alloc, idna_table, disallowed_limit)?;
+    let mapper = idna_table_records(alloc, exclusions, idna_table, disallowed_limit)?;
     open(alloc, handle, &records, &mapper)
 }
 
@@ -93,13 +94,14 @@ fn unicode_data_records(
 
 fn idna_table_records(
     alloc: Global,
+    exclusions: &[u8],
     idna_table: &[u8],
     disallowed_limit: u32,
 ) -> Result<Vec<Uts46Record>, Fault>
-    ensures { Reads (λ v. v.items) result (of_idna_table idna_table.now disallowed_limit) }
+    ensures { Reads (λ v. v.items) result (of_idna_table exclusions.now idna_table.now disallowed_limit) }
 {
     let disallowed = Disallowed::RangesUpTo(disallowed_limit);
-    Ok(uts46_records_of_idna_table(alloc, idna_table, disallowed)?)
+    Ok(uts46_records_beside_exclusions(alloc, exclusions, idna_table, disallowed)?)
 }
 
 /// Opens what records build.

@@ -12,12 +12,13 @@ fn composed(alloc: Global, unicode_data: &[u8], exclusions: &[u8], text: &str) -
     Some(form)
 }
 
-/// Two lines of `UnicodeData.txt`.
-const UNICODE_DATA: &str = "00E4;;;0;;0061 0308;;;;;;;;;\n0308;;;230;;;;;;;;;;;\n";
+/// Two lines of `UnicodeData.txt`, and its end mark.
+const UNICODE_DATA: &str = "00E4;;;0;;0061 0308;;;;;;;;;\n0308;;;230;;;;;;;;;;;\n# EOF\n";
 
 fn is_composed(alloc: Global, text: &str, want: &str) -> bool {
-    composed(alloc, UNICODE_DATA.as_bytes(), "".as_bytes(), text).is_some_and(|form| form.as_str()
-        == want)
+    composed(alloc, UNICODE_DATA.as_bytes(), "# EOF\n".as_bytes(), text).is_some_and(
+        |form| form.as_str() == want,
+    )
 }
 
 #[test]

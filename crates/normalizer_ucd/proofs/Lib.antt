@@ -1,3 +1,4 @@
 pub mod Cuts
+pub mod Heads
 pub mod Loop
 pub mod RangeLemmas

@@ -29,7 +29,7 @@ texts parts = map (λ part. part.now) parts
 abbrev pub part_at : List (Bor (List ℕ)) → ℕ → List ℕ
 part_at parts i = (get_or parts i (record { ref_ptr = (0, 0); now = [] })).now
 
-one_more : (parts : List (Bor (List ℕ))) (i : ℕ) → i < length parts →
+pub one_more : (parts : List (Bor (List ℕ))) (i : ℕ) → i < length parts →
     texts (drop i parts) ≡ part_at parts i ∷ texts (drop (i + 1) parts)
 one_more parts i lt = ap texts (drop_step parts i (record { ref_ptr = (0, 0); now = [] }) lt)
 

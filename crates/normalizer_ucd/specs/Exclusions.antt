@@ -9,7 +9,7 @@ use Rattle.normalizer_ucd.specs.declared.error.Problem.TheVariants.{CodePoint, U
 use Rattle.normalizer_ucd.specs.declared.error.UcdFile.TheVariants.{CompositionExclusions}
 use Rattle.normalizer_ucd.specs.FallibleReads.{◌>>=◌, fault, read_each}
 use Rattle.normalizer_ucd.specs.declared.exclusions.Exclusion.{Exclusion}
-use Rattle.normalizer_ucd.specs.Fields.{whole_lines, data_of, field, code_point}
+use Rattle.normalizer_ucd.specs.Fields.{data_of, field, code_point}
 
 abbrev pub place : ℕ → Place
 place n = record { file = CompositionExclusions; line = n }
@@ -26,11 +26,6 @@ unfoldable pub exclusions_in : List (List ℕ) → Result (List Exclusion) LineF
 exclusions_in parts = do
   read ← read_each exclusion_of 1 tt parts
   Ok read.1
-
-unfoldable pub exclusions_of : List ℕ → Result (List Exclusion) LineFault
-exclusions_of file = do
-  parts ← whole_lines CompositionExclusions file
-  exclusions_in parts
 
 -- the character has a canonical mapping
 abbrev pub is_mapped : List RecordValue → ℕ → Bool

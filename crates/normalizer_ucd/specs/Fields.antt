@@ -1,28 +1,16 @@
 -- Lines and their fields (Unicode Standard Annex #44, section 4.2).
 use Rattle.std.specs.Prelude.{ℕ, ◌+◌, ◌-◌, ◌*◌, ◌^◌, ◌==◌, ◌&&◌, ◌||◌, Bool, nat_lt, nat_le, List, [], ◌∷◌, length, take, drop}
-use Rattle.std.specs.Prelude.{Option, Some, None, Result, Ok, Err, nat_eq, slice_get, if◌then◌else◌}
+use Rattle.std.specs.Prelude.{Option, Some, None, Result, Ok, slice_get, if◌then◌else◌}
 use Rattle.std.specs.Option.{option_and_then, option_map, ok_or}
-use Rattle.std.specs.List.{slice_split, prefix_len, suffix_len, before_first, ends_with}
+use Rattle.std.specs.List.{slice_split, prefix_len, suffix_len, before_first}
 use Rattle.std.specs.Int.{is_in_range}
 use Rattle.std.specs.Char.{is_ascii_whitespace, is_digit, digit_value}
 use Rattle.normalizer_ucd.specs.declared.error.LineFault.{LineFault}
-use Rattle.normalizer_ucd.specs.declared.error.Problem.TheVariants.{CutOff}
-use Rattle.normalizer_ucd.specs.declared.error.UcdFile.{UcdFile}
 use Rattle.normalizer_ucd.specs.FallibleReads.{◌>>=◌, fault, read_each}
 
 -- what lies between line feeds
 abbrev pub lines : List ℕ → List (List ℕ)
 lines file = slice_split (λ b. b == 0x0A) file
-
--- a line feed ends the last line; an empty file has none
-abbrev pub is_whole : List ℕ → Bool
-is_whole file = (length file == 0) || ends_with nat_eq file (0x0A ∷ [])
-
--- the lines of a file that isn't cut off
-unfoldable pub whole_lines : UcdFile → List ℕ → Result (List (List ℕ)) LineFault
-whole_lines name file =
-    if is_whole file then Ok (lines file)
-    else Err (fault (record { file = name; line = length (lines file) }) CutOff)
 
 abbrev pub trim_end : List ℕ → List ℕ
 trim_end text = take (length text - suffix_len is_ascii_whitespace text) text
@@ -35,9 +23,13 @@ trim text = trim_end (drop (prefix_len is_ascii_whitespace text) text)
 abbrev pub data_of : List ℕ → List ℕ
 data_of line = trim (before_first (λ b. b == 0x23) line)
 
+-- what lies between the occurrences of a byte, by its number
+abbrev pub part : List ℕ → ℕ → ℕ → Option (List ℕ)
+part text at n = slice_get (slice_split (λ b. b == at) text) n
+
 -- a field of a line by its number: what lies between semicolons
 abbrev pub field : List ℕ → ℕ → Option (List ℕ)
-field line n = option_map trim (slice_get (slice_split (λ b. b == 0x3B) line) n)
+field line n = option_map trim (part line 0x3B n)
 
 -- a number with a further digit, if that is one of the radix and the whole needs no more than 32 bits
 abbrev pub with_digit : ℕ → ℕ → ℕ → Option ℕ

@@ -14,8 +14,11 @@ use Rattle.normalizer_ucd.specs.declared.idna_table.Disallowed.TheVariants as ch
 use Rattle.normalizer_ucd.specs.declared.idna_table.StatusName.{StatusName}
 use Rattle.normalizer_ucd.specs.declared.idna_table.StatusName.TheVariants as names
 use Rattle.normalizer_ucd.specs.FallibleReads.{◌>>=◌, fault, read_each}
-use Rattle.normalizer_ucd.specs.Fields.{whole_lines, data_of, code_point, is_scalar_value, characters}
+use Rattle.normalizer_ucd.specs.declared.idna_table.Covered.{Covered}
+use Rattle.normalizer_ucd.specs.Fields.{lines, data_of, code_point, is_scalar_value, characters}
 use Rattle.normalizer_ucd.specs.UnicodeData.{field_of}
+use Rattle.normalizer_ucd.specs.Versions.{agree, stated_in}
+use Rattle.normalizer_ucd.specs.Wholes.{whole_lines}
 
 abbrev pub place : ℕ → Place
 place n = record { file = files.IdnaMappingTable; line = n }
@@ -97,10 +100,11 @@ pub record RangeStatus : Type 0 where
 abbrev pub range_status : ℕ → ℕ → Option Status → Option RangeStatus
 range_status first end status = option_map (λ s. record { first = first; end = end; status = s }) status
 
--- the end of a range, if it isn't empty and comes after the ranges before it
+-- the end of a range, if it isn't empty and begins where the ranges before it end
 abbrev pub end_of : Place → ℕ → ℕ → ℕ → Result ℕ LineFault
 end_of at next first last =
     if nat_lt first next then Err (fault at problems.Order)
+    else if nat_lt next first then Err (fault at problems.Gap)
     else if nat_lt last first then Err (fault at problems.Order)
     else Ok (last + 1)
 
@@ -113,14 +117,26 @@ read_fields choice at next line = do
   status ← status_of choice at line first last name
   Ok (end, range_status first end status)
 
+-- before the first line
+abbrev pub start : Covered
+start = record { end = 0; line = 1 }
+
 -- a line without data says nothing
-unfoldable pub read_line : Disallowed → ℕ → ℕ → List ℕ → Result (ℕ × Option RangeStatus) LineFault
-read_line choice n next line =
-    if length (data_of line) == 0 then Ok (next, None) else read_fields choice (place n) next (data_of line)
+unfoldable pub read_line : Disallowed → ℕ → Covered → List ℕ → Result (Covered × Option RangeStatus) LineFault
+read_line choice n covered line =
+    if length (data_of line) == 0 then Ok (covered, None)
+    else do
+      read ← read_fields choice (place n) covered.end (data_of line)
+      Ok (record { end = read.0; line = n }, read.1)
+
+-- the ranges are all code points
+abbrev pub full_end : Covered → Result (Unit {0}) LineFault
+full_end covered = if covered.end == 0x110000 then Ok tt else Err (fault (place covered.line) problems.TooShort)
 
 unfoldable pub ranges_in : Disallowed → List (List ℕ) → Result (List RangeStatus) LineFault
 ranges_in choice parts = do
-  read ← read_each (read_line choice) 1 0 parts
+  read ← read_each (read_line choice) 1 start parts
+  full ← full_end read.0
   Ok read.1
 
 -- a surrogate is no character
@@ -131,9 +147,22 @@ entries_at status c = if is_scalar_value c then record { c = c; status = status 
 unfoldable pub entries_of : RangeStatus → List Uts46RecordValue
 entries_of r = flat_map (entries_at r.status) (range_with_len r.first (r.end - r.first))
 
+-- the records that the lines of a table say
+unfoldable pub uts46_records_in : Disallowed → List (List ℕ) → Result (List Uts46RecordValue) LineFault
+uts46_records_in choice parts = do
+  ranges ← ranges_in choice parts
+  Ok (flat_map entries_of ranges)
+
 -- the records that the table says
 unfoldable pub uts46_records_of : Disallowed → List ℕ → Result (List Uts46RecordValue) LineFault
 uts46_records_of choice table = do
   parts ← whole_lines files.IdnaMappingTable table
-  ranges ← ranges_in choice parts
-  Ok (flat_map entries_of ranges)
+  uts46_records_in choice parts
+
+-- the same, if the table states the version of Unicode that the exclusions state
+unfoldable pub uts46_records_beside : (composition_exclusions : List ℕ) → Disallowed → List ℕ →
+    Result (List Uts46RecordValue) LineFault
+uts46_records_beside composition_exclusions choice table = do
+  parts ← whole_lines files.IdnaMappingTable table
+  same ← agree (stated_in (lines composition_exclusions)) files.IdnaMappingTable (stated_in parts)
+  uts46_records_in choice parts

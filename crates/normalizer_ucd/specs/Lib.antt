@@ -3,3 +3,5 @@ pub mod Fields
 pub mod IdnaTable
 pub mod FallibleReads
 pub mod UnicodeData
+pub mod Versions
+pub mod Wholes

@@ -13,9 +13,11 @@ use Rattle.normalizer_ucd.specs.declared.unicode_data.Part.{Part}
 use Rattle.normalizer_ucd.specs.declared.unicode_data.Part.TheVariants.{Whole, First, Last}
 use Rattle.normalizer_ucd.specs.declared.unicode_data.Position.{Position}
 use Rattle.normalizer_ucd.specs.FallibleReads.{◌>>=◌, fault, read_each}
-use Rattle.normalizer_ucd.specs.Fields.{whole_lines, data_of, trim, field, number, code_point, is_scalar_value, characters}
+use Rattle.normalizer_ucd.specs.Fields.{data_of, trim, field, number, code_point, is_scalar_value, characters}
 use Rattle.normalizer_ucd.specs.declared.exclusions.Exclusion.{Exclusion}
-use Rattle.normalizer_ucd.specs.Exclusions.{all_mapped, exclusions_of}
+use Rattle.normalizer_ucd.specs.Exclusions.{all_mapped, exclusions_in}
+use Rattle.normalizer_ucd.specs.Versions.{agree, stated_in}
+use Rattle.normalizer_ucd.specs.Wholes.{whole_lines, last_mark}
 
 abbrev pub place : ℕ → Place
 place n = record { file = files.UnicodeData; line = n }
@@ -29,12 +31,9 @@ code_of at line = do
   text ← field_of at line 0
   ok_or (code_point text) (fault at problems.CodePoint)
 
--- the ends of the names of a range's two lines: "First>" and "Last>"
+-- the end of the name of the first line of a range: "First>"
 abbrev pub first_mark : List ℕ
 first_mark = 0x46 ∷ 0x69 ∷ 0x72 ∷ 0x73 ∷ 0x74 ∷ 0x3E ∷ []
-
-abbrev pub last_mark : List ℕ
-last_mark = 0x4C ∷ 0x61 ∷ 0x73 ∷ 0x74 ∷ 0x3E ∷ []
 
 abbrev pub part_named : List ℕ → Part
 part_named name =
@@ -88,13 +87,17 @@ is_last Last = true
 
 -- before the first line
 abbrev pub start : Position
-start = record { next = 0; is_open = false }
+start = record { next = 0; is_open = false; line = 0 }
 
 -- the position after a line: code points rise, and the last line of a range follows its first
 abbrev pub step : Place → Position → ℕ → Part → Result Position LineFault
 step at position code part =
     if nat_lt code position.next then Err (fault at problems.Order)
-    else if beq position.is_open (is_last part) then Ok (record { next = code + 1; is_open = is_first part })
+    else if beq position.is_open (is_last part) then Ok (record {
+      next = code + 1;
+      is_open = is_first part;
+      line = at.line;
+    })
     else Err (fault at problems.Range)
 
 -- the code point of a line that is for one character
@@ -143,25 +146,28 @@ read_line exclusions n position line =
     else read_fields exclusions (place n) position (data_of line)
 
 -- the last range is closed
-abbrev pub closed_end : Place → Position → Result (Unit {0}) LineFault
-closed_end at position = if position.is_open then Err (fault at problems.Range) else Ok tt
+abbrev pub closed_end : Position → Result (Unit {0}) LineFault
+closed_end position = if position.is_open then Err (fault (place position.line) problems.Range) else Ok tt
 
 -- the records of all lines
 unfoldable pub records_in : List Exclusion → List (List ℕ) → Result (List RecordValue) LineFault
 records_in exclusions parts = do
   read ← read_each (read_line exclusions) 1 start parts
-  end ← closed_end (place (length parts)) read.0
+  end ← closed_end read.0
   Ok read.1
 
-unfoldable pub records_by : List Exclusion → List ℕ → Result (List RecordValue) LineFault
-records_by exclusions file = do
-  parts ← whole_lines files.UnicodeData file
-  records_in exclusions parts
-
--- the records that the two files yield
-unfoldable pub records_of : List ℕ → List ℕ → Result (List RecordValue) LineFault
-records_of unicode_data composition_exclusions = do
-  exclusions ← exclusions_of composition_exclusions
-  records ← records_by exclusions unicode_data
+-- the records of the lines of both files
+unfoldable pub records_by : (unicode_data composition_exclusions : List (List ℕ)) → Result (List RecordValue) LineFault
+records_by unicode_data composition_exclusions = do
+  exclusions ← exclusions_in composition_exclusions
+  records ← records_in exclusions unicode_data
   mapped ← all_mapped exclusions records
   Ok records
+
+-- the records that the two files yield
+unfoldable pub records_of : (unicode_data composition_exclusions : List ℕ) → Result (List RecordValue) LineFault
+records_of unicode_data composition_exclusions = do
+  listed ← whole_lines files.CompositionExclusions composition_exclusions
+  parts ← whole_lines files.UnicodeData unicode_data
+  same ← agree (stated_in listed) files.UnicodeData (stated_in parts)
+  records_by parts listed

@@ -83,6 +83,18 @@ pub enum Problem {
     /// The last line has no line feed at its end: the file is cut off.
     #[error("the last line has no line feed: the file is cut off")]
     CutOff,
+    /// The last line is none by which the file ends: the file is cut off.
+    #[error("the file has no end mark: it is cut off")]
+    NoEndMark,
+    /// Code points between the range before and the range of the line have no line.
+    #[error("code points before this line are missing")]
+    Gap,
+    /// The last range ends before U+10FFFF.
+    #[error("the file ends before U+10FFFF")]
+    TooShort,
+    /// The line states another version of Unicode than `CompositionExclusions.txt`.
+    #[error("the files state different versions of Unicode")]
+    OtherVersion,
     /// A character that is excluded from composition has no canonical mapping: the files are of different versions.
     #[error("UnicodeData.txt has no canonical mapping of the character")]
     Unmapped,

@@ -4,14 +4,13 @@ ghost use Rattle.normalizer_ucd.specs.Exclusions.{
   all_mapped,
   exclusion_of,
   exclusions_in,
-  exclusions_of,
   is_mapped,
   place,
 };
 ghost use Rattle.normalizer_ucd.specs.FallibleReads.{Gives};
 
 use crate::error::{Place, Problem, UcdError, UcdFile};
-use crate::lines::{code_point, data_of, field, push_found, whole_lines};
+use crate::lines::{code_point, data_of, field, push_found};
 use normalizer_records::Record;
 use std::alloc::Global;
 
@@ -22,17 +21,9 @@ pub(crate) struct Exclusion {
     pub(crate) line: usize,
 }
 
-/// The code points that the file lists.
-#[tactic(auto, unfolding(crate::specs::Exclusions::exclusions_of))]
-pub(crate) fn exclusions_of(alloc: Global, file: &[u8]) -> Result<Vec<Exclusion>, UcdError>
-    ensures { Gives (λ v. v.items) result (exclusions_of file.now) }
-{
-    let lines = whole_lines(alloc, UcdFile::CompositionExclusions, file)?;
-    exclusions_in(alloc, &lines)
-}
-
+/// The code points that the lines list.
 #[tactic(auto, unfolding(crate::specs::Exclusions::exclusions_in))]
-fn exclusions_in(alloc: Global, lines: &[&[u8]]) -> Result<Vec<Exclusion>, UcdError>
+pub(crate) fn exclusions_in(alloc: Global, lines: &[&[u8]]) -> Result<Vec<Exclusion>, UcdError>
     ensures { Gives (λ v. v.items) result (exclusions_in (map (λ line. line.now) lines.now)) }
 {
     let mut exclusions = Vec::new(alloc);

@@ -10,6 +10,7 @@ ghost use Rattle.normalizer_ucd.specs.IdnaTable.{
   entries_at,
   entries_of,
   first_of,
+  full_end,
   is_kept,
   last_of,
   last_text,
@@ -22,15 +23,17 @@ ghost use Rattle.normalizer_ucd.specs.IdnaTable.{
   read_line,
   status_named,
   status_of,
+  uts46_records_beside,
+  uts46_records_in,
   uts46_records_of,
 };
 ghost use Rattle.normalizer_ucd.specs.FallibleReads.{Gives};
 
 use crate::error::{Place, Problem, UcdError, UcdFile};
-use crate::lines::{
-    after_first, before_first, characters, code_point, data_of, push_found, whole_lines,
-};
+use crate::lines::{after_first, before_first, characters, code_point, data_of, lines, push_found};
+use crate::stated::agree;
 use crate::unicode_data::field_of;
+use crate::wholes::whole_lines;
 use normalizer_records::{Uts46Record, Uts46Status};
 use std::alloc::{AllocError, Global};
 use std::marker::Model;
@@ -72,15 +75,23 @@ impl Model for RangeStatus {
     ghost view = { λ r. record { first = r.first; end = r.end; status = status_of r.status } };
 }
 
+/// What the lines before cover: the code points before the end, up to the line of that number.
+#[derive(Clone, Copy)]
+struct Covered {
+    end: u32,
+    line: usize,
+}
+
 /// Returns a mapper's records, as `IdnaMappingTable.txt` says (Unicode Technical Standard #46, section 5). They rise by
 /// character.
 ///
-/// Valid characters and deviations have none, nor have code points that no line has; `@missing` lines are comments.
-/// `disallowed_STD3_valid` is read as `valid`, `disallowed_STD3_mapped` as `mapped`. Fields after the mapping aren't
-/// read.
+/// Valid characters and deviations have none. `@missing` lines are comments. `disallowed_STD3_valid` is read as
+/// `valid`, `disallowed_STD3_mapped` as `mapped`. Fields after the mapping aren't read.
 ///
 /// # Errors
-/// The first line that is wrong, or `Memory`. A file that is cut off is refused before its lines are read.
+/// The first line that is wrong, or `Memory`. The lines list all code points from U+0000 to U+10FFFF: a gap is a fault
+/// of the line after it, and an end before U+10FFFF one of the last line with data. If the last line has no line feed,
+/// the file is refused before its lines are read.
 #[tactic(auto, unfolding(crate::specs::IdnaTable::uts46_records_of))]
 pub fn uts46_records_of_idna_table(
     alloc: Global,
@@ -90,7 +101,39 @@ pub fn uts46_records_of_idna_table(
     ensures { Gives (λ v. v.items) result (uts46_records_of disallowed table.now) }
 {
     let lines = whole_lines(alloc, UcdFile::IdnaMappingTable, table)?;
-    let ranges = ranges_in(alloc, disallowed, &lines)?;
+    uts46_records_in(alloc, disallowed, &lines)
+}
+
+/// Returns the same records, if the table states the version of Unicode that `CompositionExclusions.txt` states, or one
+/// of them states none.
+///
+/// # Errors
+/// Those of [`uts46_records_of_idna_table`], and before lines are read the line that states another version.
+#[tactic(auto, unfolding(crate::specs::IdnaTable::uts46_records_beside))]
+pub fn uts46_records_beside_exclusions(
+    alloc: Global,
+    composition_exclusions: &[u8],
+    table: &[u8],
+    disallowed: Disallowed,
+) -> Result<Vec<Uts46Record>, UcdError>
+    ensures { Gives (λ v. v.items) result (uts46_records_beside composition_exclusions.now disallowed table.now) }
+{
+    let parts = whole_lines(alloc, UcdFile::IdnaMappingTable, table)?;
+    let listed = lines(alloc, composition_exclusions)?;
+    agree(alloc, &listed, UcdFile::IdnaMappingTable, &parts)?;
+    uts46_records_in(alloc, disallowed, &parts)
+}
+
+/// The records of the lines of a table.
+#[tactic(auto, unfolding(crate::specs::IdnaTable::uts46_records_in))]
+fn uts46_records_in(
+    alloc: Global,
+    disallowed: Disallowed,
+    lines: &[&[u8]],
+) -> Result<Vec<Uts46Record>, UcdError>
+    ensures { Gives (λ v. v.items) result (uts46_records_in disallowed (map (λ line. line.now) lines.now)) }
+{
+    let ranges = ranges_in(alloc, disallowed, lines)?;
     Ok(records_of(alloc, &ranges)?)
 }
 
@@ -154,13 +197,24 @@ fn ranges_in(
     ensures { Gives (λ v. v.items) result (ranges_in disallowed (map (λ line. line.now) lines.now)) }
 {
     let mut ranges = Vec::new(alloc);
-    let mut end = 0;
+    let mut covered = Covered { end: 0, line: 1 };
     for (index, line) in lines.iter().enumerate() {
-        let (next, range) = read_line(alloc, disallowed, index + 1, end, line)?;
-        end = next;
+        let (next, range) = read_line(alloc, disallowed, index + 1, covered, line)?;
+        covered = next;
         push_found(&mut ranges, range)?;
     }
+    full(covered)?;
     Ok(ranges)
+}
+
+/// An error if code points are missing at the end.
+fn full(covered: Covered) -> Result<(), UcdError>
+    ensures { Gives (λ _. tt) result (full_end covered) }
+{
+    if covered.end == 0x110000 {
+        return Ok(());
+    }
+    Err(UcdError::Line(place(covered.line).fault(Problem::TooShort)))
 }
 
 fn place(number: usize) -> Place
@@ -177,16 +231,17 @@ fn read_line(
     alloc: Global,
     disallowed: Disallowed,
     number: usize,
-    next: u32,
+    covered: Covered,
     line: &[u8],
-) -> Result<(u32, Option<RangeStatus>), UcdError>
-    ensures { Gives (λ x. x) result (read_line disallowed number next line.now) }
+) -> Result<(Covered, Option<RangeStatus>), UcdError>
+    ensures { Gives (λ x. x) result (read_line disallowed number covered line.now) }
 {
     let data = data_of(line);
     if data.is_empty() {
-        return Ok((next, None));
+        return Ok((covered, None));
     }
-    read_fields(alloc, disallowed, place(number), next, data)
+    let (end, range) = read_fields(alloc, disallowed, place(number), covered.end, data)?;
+    Ok((Covered { end, line: number }, range))
 }
 
 #[tactic(auto, unfolding(crate::specs::IdnaTable::read_fields))]
@@ -350,6 +405,9 @@ fn end_of(place: Place, next: u32, first: u32, last: u32) -> Result<u32, UcdErro
 {
     if first < next {
         return Err(UcdError::Line(place.fault(Problem::Order)));
+    }
+    if next < first {
+        return Err(UcdError::Line(place.fault(Problem::Gap)));
     }
     if last < first {
         return Err(UcdError::Line(place.fault(Problem::Order)));

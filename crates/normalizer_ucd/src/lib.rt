@@ -5,8 +5,11 @@ mod error;
 mod exclusions;
 mod idna_table;
 mod lines;
+mod stated;
 mod unicode_data;
+mod wholes;
 
 pub use error::{LineFault, Place, Problem, UcdError, UcdFile};
-pub use idna_table::{Disallowed, uts46_records_of_idna_table};
+pub use idna_table::{Disallowed, uts46_records_beside_exclusions, uts46_records_of_idna_table};
+pub use stated::{Version, stated_version};
 pub use unicode_data::records_of_unicode_data;

@@ -9,16 +9,16 @@ ghost use Rattle.normalizer_ucd.specs.Fields.{
   code_point,
   data_of,
   field,
-  is_whole,
+  lines,
   number,
+  part,
   read_character,
   trim,
-  whole_lines,
   with_digit,
 };
 ghost use Rattle.normalizer_ucd.specs.FallibleReads.{Gives};
 
-use crate::error::{LineFault, Place, Problem, UcdError, UcdFile};
+use crate::error::{LineFault, UcdError};
 use std::alloc::{AllocError, Global};
 
 /// The bytes without white space at either end.
@@ -79,26 +79,11 @@ fn split(alloc: Global, text: &[u8], at: u8) -> Result<Vec<&[u8]>, AllocError>
     Ok(parts)
 }
 
-/// The lines of a file that isn't cut off.
-#[tactic(auto, unfolding(crate::specs::Fields::whole_lines))]
-pub(crate) fn whole_lines(alloc: Global, name: UcdFile, file: &[u8]) -> Result<Vec<&[u8]>, UcdError>
-    ensures { Gives (λ v. map (λ part. part.now) v.items) result (whole_lines name file.now) }
+/// What lies between line feeds.
+pub(crate) fn lines(alloc: Global, file: &[u8]) -> Result<Vec<&[u8]>, AllocError>
+    ensures { IfOk result (λ v. map (λ part. part.now) v.items ≡ lines file.now) }
 {
-    let lines = split(alloc, file, b'\n')?;
-    if is_whole(file) {
-        return Ok(lines);
-    }
-    let place = Place {
-        file: name,
-        line: lines.len(),
-    };
-    Err(UcdError::Line(place.fault(Problem::CutOff)))
-}
-
-fn is_whole(file: &[u8]) -> bool
-    ensures { result ≡ is_whole file.now }
-{
-    file.is_empty() || file.ends_with(b"\n")
+    split(alloc, file, b'\n')
 }
 
 /// A line without its comment.
@@ -108,15 +93,22 @@ pub(crate) fn data_of(line: &[u8]) -> &[u8]
     trim(cut(line, b'#').0)
 }
 
+/// What lies between the occurrences of a byte, by its number.
+pub(crate) fn part(text: &[u8], at: u8, number: usize) -> Option<&[u8]>
+    ensures { option_copied result ≡ part text.now at number }
+{
+    let mut rest = text;
+    for _ in 0..number {
+        rest = cut(rest, at).1?;
+    }
+    Some(cut(rest, at).0)
+}
+
 /// A field of a line.
 pub(crate) fn field(line: &[u8], number: usize) -> Option<&[u8]>
     ensures { option_copied result ≡ field line.now number }
 {
-    let mut rest = line;
-    for _ in 0..number {
-        rest = cut(rest, b';').1?;
-    }
-    Some(trim(cut(rest, b';').0))
+    Some(trim(part(line, b';', number)?))
 }
 
 fn with_digit(radix: u32, value: u32, digit: u8) -> Option<u32>

@@ -29,10 +29,10 @@ ghost use Rattle.normalizer_ucd.specs.UnicodeData.{
 ghost use Rattle.normalizer_ucd.specs.FallibleReads.{Gives};
 
 use crate::error::{LineFault, Place, Problem, UcdError, UcdFile};
-use crate::exclusions::{Exclusion, all_mapped, exclusions_of};
-use crate::lines::{
-    after_first, characters, code_point, data_of, field, number, push_found, trim, whole_lines,
-};
+use crate::exclusions::{Exclusion, all_mapped, exclusions_in};
+use crate::lines::{after_first, characters, code_point, data_of, field, number, push_found, trim};
+use crate::stated::agree;
+use crate::wholes::whole_lines;
 use normalizer_records::Record;
 use std::alloc::Global;
 
@@ -44,20 +44,23 @@ enum Part {
     Last,
 }
 
-/// The position after the lines before: the least code point that may be next, and whether a range is open.
+/// The position after the lines before: the least code point that may be next, whether a range is open, and the number
+/// of the last line with data.
 #[derive(Clone, Copy)]
 struct Position {
     next: u32,
     is_open: bool,
+    line: usize,
 }
 
 /// Returns the records of the characters that have a class above 0 or a mapping, as the two files say. They rise by
 /// character. A character is excluded from composition if the second file lists it.
 ///
 /// # Errors
-/// The first line that is wrong, or `Memory`. A file that is cut off is refused before its lines are read, and the
-/// second file is read before the first. A line of the second file is wrong too if its character has no canonical
-/// mapping in the first: then the files are of different versions.
+/// The first line that is wrong, or `Memory`. A file that is cut off is refused before lines are read: the last line
+/// with any text is `# EOF`, or in the first file closes the range up to U+10FFFD, as in Unicode's own. So are files
+/// that state different versions of Unicode. The second file is read before the first. A line of it is wrong too if its
+/// character has no canonical mapping in the first.
 ///
 /// # Examples
 /// ```rust
@@ -77,19 +80,30 @@ pub fn records_of_unicode_data(
 ) -> Result<Vec<Record>, UcdError>
     ensures { Gives (λ v. v.items) result (records_of unicode_data.now composition_exclusions.now) }
 {
-    let exclusions = exclusions_of(alloc, composition_exclusions)?;
-    let records = records_by(alloc, &exclusions, unicode_data)?;
-    all_mapped(&exclusions, &records)?;
-    Ok(records)
+    let listed = whole_lines(
+        alloc,
+        UcdFile::CompositionExclusions,
+        composition_exclusions,
+    )?;
+    let lines = whole_lines(alloc, UcdFile::UnicodeData, unicode_data)?;
+    agree(alloc, &listed, UcdFile::UnicodeData, &lines)?;
+    records_by(alloc, &lines, &listed)
 }
 
-/// The records of the lines of the first file.
+/// The records of the lines of both files.
 #[tactic(auto, unfolding(crate::specs::UnicodeData::records_by))]
-fn records_by(alloc: Global, exclusions: &[Exclusion], file: &[u8]) -> Result<Vec<Record>, UcdError>
-    ensures { Gives (λ v. v.items) result (records_by exclusions.now file.now) }
+fn records_by(
+    alloc: Global,
+    unicode_data: &[&[u8]],
+    composition_exclusions: &[&[u8]],
+) -> Result<Vec<Record>, UcdError>
+    ensures { Gives (λ v. v.items) result
+        (records_by (map (λ line. line.now) unicode_data.now) (map (λ line. line.now) composition_exclusions.now)) }
 {
-    let lines = whole_lines(alloc, UcdFile::UnicodeData, file)?;
-    records_in(alloc, exclusions, &lines)
+    let exclusions = exclusions_in(alloc, composition_exclusions)?;
+    let records = records_in(alloc, &exclusions, unicode_data)?;
+    all_mapped(&exclusions, &records)?;
+    Ok(records)
 }
 
 #[tactic(auto, unfolding(crate::specs::UnicodeData::records_in))]
@@ -104,13 +118,14 @@ fn records_in(
     let mut position = Position {
         next: 0,
         is_open: false,
+        line: 0,
     };
     for (index, line) in lines.iter().enumerate() {
         let (next, record) = read_line(alloc, exclusions, index + 1, position, line)?;
         position = next;
         push_found(&mut records, record)?;
     }
-    closed(lines.len(), position)?;
+    closed(position)?;
     Ok(records)
 }
 
@@ -124,11 +139,11 @@ fn place(number: usize) -> Place
 }
 
 /// An error if a range is open at the end.
-fn closed(number: usize, position: Position) -> Result<(), UcdError>
-    ensures { Gives (λ _. tt) result (closed_end (place number) position) }
+fn closed(position: Position) -> Result<(), UcdError>
+    ensures { Gives (λ _. tt) result (closed_end position) }
 {
     if position.is_open {
-        return Err(UcdError::Line(place(number).fault(Problem::Range)));
+        return Err(UcdError::Line(place(position.line).fault(Problem::Range)));
     }
     Ok(())
 }
@@ -315,6 +330,7 @@ fn step(place: Place, position: Position, code: u32, part: Part) -> Result<Posit
     Ok(Position {
         next: code + 1,
         is_open: is_first(part),
+        line: place.line,
     })
 }
 

@@ -1,10 +1,14 @@
 //! Writes the records read from files of the Unicode Character Database, or why they were refused. An argument names
 //! two files, as `UnicodeData.txt+CompositionExclusions.txt`, or a table of IDNA and the most code points of a
-//! disallowed range that is recorded, as `IdnaMappingTable.txt@9` or `IdnaMappingTable.txt@all`.
+//! disallowed range that is recorded, as `IdnaMappingTable.txt@9` or `IdnaMappingTable.txt@all`, or such a table beside
+//! exclusions, as `CompositionExclusions.txt+IdnaMappingTable.txt@all`.
 #![tactic(auto)]
 
 use normalizer_records::{Record, Uts46Record, Uts46Status};
-use normalizer_ucd::{Disallowed, records_of_unicode_data, uts46_records_of_idna_table};
+use normalizer_ucd::{
+    Disallowed, UcdError, records_of_unicode_data, uts46_records_beside_exclusions,
+    uts46_records_of_idna_table,
+};
 use std::process::ExitCode;
 use std::{env, fs, io};
 
@@ -18,11 +22,10 @@ fn main(rt: HostRuntime) -> ExitCode {
 fn write_all(rt: &HostRuntime) -> io::Result<()> {
     for files in env::args(rt)?.skip(1) {
         println!(rt; "{files}")?;
-        if let Some((unicode_data, exclusions)) = files.as_str().split_once('+') {
+        if let Some((names, most)) = files.as_str().split_once('@') {
+            write_mapper_records(rt, mapper_records(rt, names, most)?)?;
+        } else if let Some((unicode_data, exclusions)) = files.as_str().split_once('+') {
             write_records(rt, unicode_data, exclusions)?;
-        }
-        if let Some((table, most)) = files.as_str().split_once('@') {
-            write_mapper_records(rt, table, most)?;
         }
     }
     Ok(())
@@ -58,13 +61,30 @@ fn write_record(rt: &HostRuntime, record: &Record) -> io::Result<()> {
     Ok(())
 }
 
-fn write_mapper_records(rt: &HostRuntime, table: &str, most: &str) -> io::Result<()> {
-    let table = fs::read(rt, table)?;
+/// What is read from a table, or from one beside exclusions.
+fn mapper_records(
+    rt: &HostRuntime,
+    names: &str,
+    most: &str,
+) -> io::Result<Result<Vec<Uts46Record>, UcdError>> {
     let disallowed = match most.parse::<u32>() {
         Ok(most) => Disallowed::RangesUpTo(most),
         Err(_) => Disallowed::All,
     };
-    match uts46_records_of_idna_table(rt.alloc(), &table, disallowed) {
+    let Some((exclusions, table)) = names.split_once('+') else {
+        let table = fs::read(rt, names)?;
+        return Ok(uts46_records_of_idna_table(rt.alloc(), &table, disallowed));
+    };
+    let exclusions = fs::read(rt, exclusions)?;
+    let table = fs::read(rt, table)?;
+    Ok(uts46_records_beside_exclusions(rt.alloc(), &exclusions, &table, disallowed))
+}
+
+fn write_mapper_records(
+    rt: &HostRuntime,
+    read: Result<Vec<Uts46Record>, UcdError>,
+) -> io::Result<()> {
+    match read {
         Ok(records) => {
             for record in &records {
                 write_mapper_record(rt, record)?;

@@ -129,8 +129,10 @@ static void utf16(icu_normalizer *normalizer) {
     EXPECT(mismatch.exists && mismatch.offset == 2 && mismatch.found == 0xFFFD && mismatch.expected == 0xFFFD);
 }
 
-/* A few lines of IdnaMappingTable.txt: U+24B6 maps to U+0061, U+00AD is ignored, U+0378 and U+0379 are disallowed. */
-static const char table[] = "00AD ; ignored\n0378..0379 ; disallowed # NA\n24B6 ; mapped ; 0061\n";
+/* A table of IDNA: U+24B6 maps to U+0061, U+00AD is ignored, U+0378 and U+0379 are disallowed, all others are valid. */
+static const char table[] =
+    "0000..00AC ; valid\n00AD ; ignored\n00AE..0377 ; valid\n0378..0379 ; disallowed # NA\n"
+    "037A..24B5 ; valid\n24B6 ; mapped ; 0061\n24B7..10FFFF ; valid\n";
 
 static void mapping(icu_normalizer *normalizer) {
     const char *text = "\xE2\x92\xB6\xC2\xAD\xCC\x88\xCD\xB8";
@@ -235,26 +237,46 @@ static void records(icu_normalizer *normalizer) {
     EXPECT(icu_normalizer_map_utf8(normalizer, NULL, 0, NULL, 0, &number) == ICU_NORMALIZER_NO_MAPPER);
 }
 
+/* A file with no lines but its end mark. */
+static const char end[] = "# EOF\n";
+
 /* Why files are refused, and where. */
 static void files(icu_normalizer *normalizer) {
     icu_normalizer_defect defect = {7, 7, 7};
-    const char *data = "0041;;;0;;;\n\n0040;;;0;;;\n", *exclusions = "0958\nX\n", *lines = "0041 ; never\n";
-    EXPECT(unless_refused(icu_normalizer_open_files(
-        normalizer, bytes_of(data), strlen(data), NULL, 0, NULL, 0, 0, &defect)) == ICU_NORMALIZER_WRONG_LINE);
+    const char *data = "0041;;;0;;;\n\n0040;;;0;;;\n# EOF\n", *exclusions = "0958\nX\n# EOF\n";
+    const char *lines = "0000..0041 ; never\n";
+    EXPECT(unless_refused(icu_normalizer_open_files(normalizer, bytes_of(data), strlen(data),
+        bytes_of(end), strlen(end), NULL, 0, 0, &defect)) == ICU_NORMALIZER_WRONG_LINE);
     EXPECT(defect.place == 3 && defect.source == ICU_NORMALIZER_UNICODE_DATA && defect.reason == 6);
     EXPECT(unless_refused(icu_normalizer_open_files(normalizer, bytes_of(data), strlen(data), bytes_of(exclusions),
         strlen(exclusions), NULL, 0, 0, &defect)) == ICU_NORMALIZER_WRONG_LINE);
     EXPECT(defect.place == 2 && defect.source == ICU_NORMALIZER_COMPOSITION_EXCLUSIONS && defect.reason == 2);
-    EXPECT(unless_refused(icu_normalizer_open_files(
-        normalizer, NULL, 0, NULL, 0, bytes_of(lines), strlen(lines), 0, &defect)) == ICU_NORMALIZER_WRONG_LINE);
+    EXPECT(unless_refused(icu_normalizer_open_files(normalizer, bytes_of(end), strlen(end),
+        bytes_of(end), strlen(end), bytes_of(lines), strlen(lines), 0, &defect)) == ICU_NORMALIZER_WRONG_LINE);
     EXPECT(defect.place == 1 && defect.source == ICU_NORMALIZER_IDNA_MAPPING_TABLE && defect.reason == 5);
-    /* A file that is cut off, and files of different versions. */
-    EXPECT(unless_refused(icu_normalizer_open_files(normalizer, NULL, 0, bytes_of("0958"), 4, NULL, 0, 0, &defect))
-        == ICU_NORMALIZER_WRONG_LINE);
-    EXPECT(defect.place == 1 && defect.source == ICU_NORMALIZER_COMPOSITION_EXCLUSIONS && defect.reason == 19);
-    EXPECT(unless_refused(icu_normalizer_open_files(normalizer, NULL, 0, bytes_of("0958\n"), 5, NULL, 0, 0, &defect))
-        == ICU_NORMALIZER_WRONG_LINE);
-    EXPECT(defect.place == 1 && defect.source == ICU_NORMALIZER_COMPOSITION_EXCLUSIONS && defect.reason == 20);
+}
+
+static void wrong_line(icu_normalizer *normalizer, const char *data, const char *exclusions, const char *lines,
+    size_t place, uint32_t source, uint32_t reason) {
+    icu_normalizer_defect defect = {7, 7, 7};
+    EXPECT(unless_refused(icu_normalizer_open_files(normalizer, bytes_of(data), strlen(data), bytes_of(exclusions),
+        strlen(exclusions), bytes_of(lines), strlen(lines), 0, &defect)) == ICU_NORMALIZER_WRONG_LINE);
+    EXPECT(defect.place == place && defect.source == source && defect.reason == reason);
+}
+
+/* Files that are cut off, and files of different versions. */
+static void parts_of_files(icu_normalizer *normalizer) {
+    wrong_line(normalizer, "", "0958", "", 1, ICU_NORMALIZER_COMPOSITION_EXCLUSIONS, 19);
+    wrong_line(normalizer, end, "0958\n# EOF\n", "", 1, ICU_NORMALIZER_COMPOSITION_EXCLUSIONS, 20);
+    wrong_line(normalizer, end, "#\n0958\n\n", "", 2, ICU_NORMALIZER_COMPOSITION_EXCLUSIONS, 21);
+    wrong_line(normalizer, "", end, "", 1, ICU_NORMALIZER_UNICODE_DATA, 21);
+    wrong_line(normalizer, end, end, "0000..0040 ; valid\n0042..10FFFF ; valid\n", 2,
+        ICU_NORMALIZER_IDNA_MAPPING_TABLE, 22);
+    wrong_line(normalizer, end, end, "", 1, ICU_NORMALIZER_IDNA_MAPPING_TABLE, 23);
+    wrong_line(normalizer, end, end, "0000..10FFFE ; valid\n", 1, ICU_NORMALIZER_IDNA_MAPPING_TABLE, 23);
+    wrong_line(normalizer, "# 17.0.0\n# EOF\n", "# 18.0.0\n# EOF\n", "", 1, ICU_NORMALIZER_UNICODE_DATA, 24);
+    wrong_line(normalizer, "# 18.0.0\n# EOF\n", "# 18.0.0\n# EOF\n", "#\n# 17.0.0\n0000..10FFFF ; valid\n", 2,
+        ICU_NORMALIZER_IDNA_MAPPING_TABLE, 24);
 }
 
 int main(int count, char **words) {
@@ -294,9 +316,10 @@ int main(int count, char **words) {
     utf8(&normalizer);
     if (status == ICU_NORMALIZER_OK) mapping(&normalizer);
     /* U+0041 mapped alone: the list of U+00C0 has it. */
+    static const char mapped_alone[] = "0000..0040 ; valid\n0041 ; mapped ; 0061\n0042..10FFFF ; valid\n";
     if (status == ICU_NORMALIZER_OK) {
         status = icu_normalizer_open_files(&normalizer, data, data_length, exclusions, exclusions_length,
-            bytes_of("0041 ; mapped ; 0061\n"), 21, 0, &defect);
+            (const uint8_t *)mapped_alone, sizeof mapped_alone - 1, 0, &defect);
         EXPECT(status == ICU_NORMALIZER_WRONG_RECORDS || status == ICU_NORMALIZER_OUT_OF_MEMORY);
         if (status == ICU_NORMALIZER_WRONG_RECORDS)
             EXPECT(defect.place == 8 && defect.source == ICU_NORMALIZER_ALL_RECORDS && defect.reason == 17);
@@ -304,6 +327,7 @@ int main(int count, char **words) {
     }
     icu_normalizer other = ICU_NORMALIZER_CLOSED;
     files(&other);
+    parts_of_files(&other);
     closed(&other);
     records(&other);
     icu_normalizer_close(&other);

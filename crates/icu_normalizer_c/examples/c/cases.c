@@ -151,7 +151,9 @@ static void open_files(icu_normalizer *normalizer, const char *directory) {
     uint8_t *data = file(directory, "UnicodeData.txt", &data_length);
     uint8_t *exclusions = file(directory, "CompositionExclusions.txt", &exclusions_length);
     uint8_t *first = fenced(), *second = fenced(), *third = fenced();
-    const uint8_t table[] = "00AD ; ignored\n0378..0379 ; disallowed\n24B6 ; mapped ; 0061\n";
+    const uint8_t table[] =
+        "0000..00AC ; valid\n00AD ; ignored\n00AE..0377 ; valid\n0378..0379 ; disallowed\n"
+        "037A..24B5 ; valid\n24B6 ; mapped ; 0061\n24B7..10FFFF ; valid\n";
     icu_normalizer_defect defect = {7, 7, 7};
     for (enum side side = LAST; side <= FIRST; side++) {
         EXPECT(icu_normalizer_open_files(normalizer, placed(side, first, data, data_length), data_length,
@@ -194,8 +196,8 @@ static void compare_empty(void) {
     icu_normalizer normalizer = ICU_NORMALIZER_CLOSED;
     icu_normalizer_defect defect = {7, 7, 7};
     const icu_normalizer_mapper_record one = {0, 0, 0xAD, ICU_NORMALIZER_IGNORED};
-    EXPECT(icu_normalizer_open_unicode_data(&normalizer, NULL, 0, NULL, 0) == ICU_NORMALIZER_OK);
-    EXPECT(icu_normalizer_open_files(&normalizer, NULL, 0, NULL, 0, NULL, 0, 0, &defect) == ICU_NORMALIZER_OK);
+    EXPECT(icu_normalizer_open_unicode_data(&normalizer, NULL, 0, NULL, 0) == ICU_NORMALIZER_WRONG_LINE);
+    EXPECT(icu_normalizer_open_files(&normalizer, NULL, 0, NULL, 0, NULL, 0, 0, &defect) == ICU_NORMALIZER_WRONG_LINE);
     EXPECT(icu_normalizer_open_records(&normalizer, NULL, 0, NULL, 0, NULL, 0, &defect) == ICU_NORMALIZER_OK);
     EXPECT(icu_normalizer_open_records(&normalizer, NULL, 0, &one, 1, NULL, 0, &defect) == ICU_NORMALIZER_OK);
     for (icu_normalizer_form form = 0; form < 4; form++)
@@ -216,14 +218,17 @@ static void compare_empty(void) {
 
 /* Mapping with arrays at each side, into buffers of all sizes: U+24B6 U+00AD U+0308 U+0378 to U+00E4 U+FFFD. */
 static void compare_mapped(void) {
-    static const char table[] = "00AD ; ignored\n0378..0379 ; disallowed\n24B6 ; mapped ; 0061\n";
-    static const char data[] = "00E4;;;0;;0061 0308\n0308;;;230;;\n";
+    static const char table[] =
+        "0000..00AC ; valid\n00AD ; ignored\n00AE..0377 ; valid\n0378..0379 ; disallowed\n"
+        "037A..24B5 ; valid\n24B6 ; mapped ; 0061\n24B7..10FFFF ; valid\n";
+    static const char data[] = "00E4;;;0;;0061 0308\n0308;;;230;;\n# EOF\n", exclusions[] = "# EOF\n";
     static const uint8_t text[] = "\xE2\x92\xB6\xC2\xAD\xCC\x88\xCD\xB8", mapped[] = "\xC3\xA4\xEF\xBF\xBD";
     static const uint16_t units[] = {0x24B6, 0xAD, 0x308, 0x378}, wide[] = {0xE4, 0xFFFD};
     icu_normalizer normalizer = ICU_NORMALIZER_CLOSED;
     icu_normalizer_defect defect = {7, 7, 7};
-    EXPECT(icu_normalizer_open_files(&normalizer, (const uint8_t *)data, sizeof data - 1, NULL, 0,
-        (const uint8_t *)table, sizeof table - 1, 2, &defect) == ICU_NORMALIZER_OK);
+    EXPECT(icu_normalizer_open_files(&normalizer, (const uint8_t *)data, sizeof data - 1,
+        (const uint8_t *)exclusions, sizeof exclusions - 1, (const uint8_t *)table, sizeof table - 1, 2, &defect)
+        == ICU_NORMALIZER_OK);
     for (enum side side = LAST; side <= FIRST; side++)
         for (size_t room = 0; room <= 6; room++) {
             size_t needed = 0;

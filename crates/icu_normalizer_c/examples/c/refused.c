@@ -44,8 +44,10 @@ static bool is_done(icu_normalizer_status status) {
     return status == ICU_NORMALIZER_OK;
 }
 
-static const char data[] = "00E4;;;0;;0061 0308\n0308;;;230;;\n0323;;;220;;\nFB01;;;0;;<compat> 0066 0069\n";
-static const char table[] = "0041 ; mapped ; 0061\n00AD ; ignored\n";
+static const char data[] = "00E4;;;0;;0061 0308\n0308;;;230;;\n0323;;;220;;\nFB01;;;0;;<compat> 0066 0069\n# EOF\n";
+static const char exclusions[] = "# EOF\n";
+static const char table[] = "0000..0040 ; valid\n0041 ; mapped ; 0061\n0042..00AC ; valid\n00AD ; ignored\n"
+    "00AE..10FFFF ; valid\n";
 
 /* A text of 1 + 2 * 40 characters: more marks than are kept without an allocation. */
 static void calls(icu_normalizer *normalizer) {
@@ -96,11 +98,12 @@ static void run(void) {
     bool is_open =
         is_done(icu_normalizer_open_records(&normalizer, records, 3, mapper_records, 2, codes, 2, &defect));
     if (is_open) calls(&normalizer);
-    is_open |= is_done(icu_normalizer_open_files(&normalizer, (const uint8_t *)data, sizeof data - 1, NULL, 0,
-        (const uint8_t *)table, sizeof table - 1, 0, &defect));
+    is_open |= is_done(icu_normalizer_open_files(&normalizer, (const uint8_t *)data, sizeof data - 1,
+        (const uint8_t *)exclusions, sizeof exclusions - 1, (const uint8_t *)table, sizeof table - 1, 0, &defect));
     if (is_open) calls(&normalizer);
     icu_normalizer other = ICU_NORMALIZER_CLOSED;
-    is_done(icu_normalizer_open_unicode_data(&other, (const uint8_t *)data, sizeof data - 1, NULL, 0));
+    is_done(icu_normalizer_open_unicode_data(&other, (const uint8_t *)data, sizeof data - 1,
+        (const uint8_t *)exclusions, sizeof exclusions - 1));
     EXPECT(defect.place == 7 && defect.source == 7 && defect.reason == 7);
     icu_normalizer_close(&normalizer);
     icu_normalizer_close(&other);

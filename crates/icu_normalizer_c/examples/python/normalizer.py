@@ -46,7 +46,7 @@ FILES = ("UnicodeData.txt", "CompositionExclusions.txt", "IdnaMappingTable.txt")
 def _check(status, defect=None):
     if status == OUT_OF_MEMORY:
         raise MemoryError
-    if status == WRONG_LINE:
+    if status == WRONG_LINE and defect:
         raise ValueError(f"{FILES[defect.source]}:{defect.place}: {TEXTS[status]}")
     if status == WRONG_RECORDS and defect:
         raise ValueError(f"{TEXTS[status]}: reason {defect.reason}, condition {defect.place}")
@@ -61,10 +61,14 @@ class Normalizer:
     Input is a `str`, or bytes of UTF-8, whose ill-formed parts read as U+FFFD.
     """
 
-    def __init__(self, library, unicode_data, exclusions, idna_table=b"", disallowed_limit=0x110000):
+    def __init__(self, library, unicode_data, exclusions, idna_table=None, disallowed_limit=0x110000):
         self._calls = ctypes.CDLL(library)
         self._handle, defect = _Handle(), _Defect()
-        files = *_array(unicode_data), *_array(exclusions), *_array(idna_table)
+        files = *_array(unicode_data), *_array(exclusions)
+        if idna_table is None:
+            _check(self._calls.icu_normalizer_open_unicode_data_nonnull(ctypes.byref(self._handle), *files))
+            return
+        files += _array(idna_table)
         opened = self._calls.icu_normalizer_open_files_nonnull(
             ctypes.byref(self._handle), *files, ctypes.c_uint32(disallowed_limit), ctypes.byref(defect)
         )

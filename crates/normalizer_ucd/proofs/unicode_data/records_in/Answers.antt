@@ -1,10 +1,8 @@
-use Rattle.std.proofs.Common.{◌≡◌, ◌+◌, ◌++◌, length, Ok, refl}
+use Rattle.std.proofs.Common.{◌≡◌, ◌+◌, ◌++◌, refl}
 use Rattle.std.specs.Option.{option_to_list}
 use Rattle.std.proofs.lemmas.Result.{err_from_is_err_and}
-use Rattle.std.proofs.lemmas.List.{length-map}
-use Rattle.normalizer_ucd.specs.FallibleReads.{Fails}
-use Rattle.normalizer_ucd.specs.UnicodeData.{records_in, read_line, closed_end, place}
-use Rattle.normalizer_ucd.proofs.Loop.{goes_on, ends, is_done, fails_on, fails_after, texts}
+use Rattle.normalizer_ucd.specs.UnicodeData.{records_in, read_line}
+use Rattle.normalizer_ucd.proofs.Loop.{goes_on, ends, is_done, fails_on, fails_after}
 use Rattle.normalizer_ucd.proofs.unicode_data.records_in.Goals as goal
 
 pub returns-in_err-next : goal.returns-in_err-next
@@ -33,15 +31,11 @@ returns-in_err-closed c =
     let e = c.in_err-closed.field-0.0 in
     let done = is_done (read_line c.args.exclusions.now) c.loop-index.records.items (c.loop-index.index + 1) c.loop-index.index
     c.loop-index.position c.args.lines.now _ c.loop-index-test.false c.loop-index.invariant in
-    let open_end : Fails e (closed_end (place (length (texts c.args.lines.now))) c.loop-index.position)
-    = rw (length-map c.args.lines.now (λ part. part.now)) c.in_err-closed.ensures in
-    rw (p.1, p.2) (fails_after e _ _ _ done (fails_on e _ _ open_end))
+    rw (p.1, p.2) (fails_after e _ _ _ done (fails_on e _ _ c.in_err-closed.ensures))
 
 pub returns : goal.returns
 unfolding records_in
 returns c =
     let done = is_done (read_line c.args.exclusions.now) c.loop-index.records.items (c.loop-index.index + 1) c.loop-index.index
     c.loop-index.position c.args.lines.now _ c.loop-index-test.false c.loop-index.invariant in
-    let end : closed_end (place (length (texts c.args.lines.now))) c.loop-index.position ≡ Ok tt
-    = rw (length-map c.args.lines.now (λ part. part.now)) c.in_ok-closed.ensures in
-    rw (done, end) refl
+    rw (done, c.in_ok-closed.ensures) refl

@@ -1,0 +1,50 @@
+-- Which files are whole. Unicode ends CompositionExclusions.txt by the line "# EOF", and UnicodeData.txt by its line
+-- for U+10FFFD. Its IdnaMappingTable.txt has no such line: its ranges are all code points.
+use Rattle.std.specs.Prelude.{ℕ, ◌==◌, ◌&&◌, ◌||◌, nat_eq, not, Bool, true, false, List, [], ◌∷◌, length, codes}
+use Rattle.std.specs.Prelude.{Result, Ok, Err, if◌then◌else◌}
+use Rattle.std.specs.Option.{option_and_then, option_map_or}
+use Rattle.std.specs.List.{after_last, ends_with}
+use Rattle.std.specs.Str.{bytes_eq}
+use Rattle.normalizer_ucd.specs.declared.error.LineFault.{LineFault}
+use Rattle.normalizer_ucd.specs.declared.error.Problem.TheVariants.{CutOff, NoEndMark}
+use Rattle.normalizer_ucd.specs.declared.error.UcdFile.{UcdFile}
+use Rattle.normalizer_ucd.specs.declared.error.UcdFile.TheVariants.{UnicodeData, CompositionExclusions, IdnaMappingTable}
+use Rattle.normalizer_ucd.specs.FallibleReads.{fault}
+use Rattle.normalizer_ucd.specs.Fields.{lines, trim_end, field, code_point}
+
+-- the end of the name of the last line of a range: "Last>"
+abbrev pub last_mark : List ℕ
+last_mark = 0x4C ∷ 0x61 ∷ 0x73 ∷ 0x74 ∷ 0x3E ∷ []
+
+-- a line feed ends the last line; an empty file has none
+abbrev pub ends_in_line_feed : List ℕ → Bool
+ends_in_line_feed file = (length file == 0) || ends_with nat_eq file (0x0A ∷ [])
+
+-- the last line with any text
+abbrev pub last_line : List ℕ → List ℕ
+last_line file = after_last (λ b. b == 0x0A) (trim_end file)
+
+-- and its number
+abbrev pub last_number : List ℕ → ℕ
+last_number file = length (lines (trim_end file))
+
+abbrev pub is_end_mark : List ℕ → Bool
+is_end_mark line = bytes_eq line (codes "# EOF")
+
+-- the line closes the range that ends at U+10FFFD
+abbrev pub closes_last_range : List ℕ → Bool
+closes_last_range line = option_map_or (λ code. code == 0x10FFFD) (option_and_then code_point (field line 0)) false
+    && option_map_or (λ name. ends_with nat_eq name last_mark) (field line 1) false
+
+-- a file may end with this line; a table's end is seen by its ranges
+abbrev pub may_end : UcdFile → List ℕ → Bool
+may_end UnicodeData line = is_end_mark line || closes_last_range line
+may_end CompositionExclusions line = is_end_mark line
+may_end IdnaMappingTable line = true
+
+-- the lines of a file that isn't cut off
+unfoldable pub whole_lines : UcdFile → List ℕ → Result (List (List ℕ)) LineFault
+whole_lines name file =
+    if not (ends_in_line_feed file) then Err (fault (record { file = name; line = length (lines file) }) CutOff)
+    else if may_end name (last_line file) then Ok (lines file)
+    else Err (fault (record { file = name; line = last_number file }) NoEndMark)
