@@ -6,3 +6,4 @@ pub mod FileReports
 pub mod Runs
 pub mod Versions
 pub mod Arguments
+pub mod DataDirectory

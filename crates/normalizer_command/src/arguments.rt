@@ -23,6 +23,12 @@ const ENCODING_HELP: &str =
     "utf-8 (if none is named), utf-16le or utf-16be: how the files are read, and forms and mapped lines \
     written; a byte order mark is text. Names and reports are UTF-8";
 
+/// Where the data are.
+const DIRECTORY_HELP: &str =
+    "The directory of UnicodeData.txt, CompositionExclusions.txt and, for map and validate, \
+    IdnaMappingTable.txt. If none is named, the one that the variable UNINORM_DATA names; else data/unicode beside the \
+    program, or ../share/uninorm from there, whichever is first to have a UnicodeData.txt";
+
 /// What the output and the status say.
 const AFTER_HELP: &str =
     "where prints FILE:LINE:BYTE: found U+0061, wanted U+00E4. Lines and bytes in a line count from 1; \
@@ -202,9 +208,10 @@ fn files<'a>(alloc: Global) -> Arg<'a> {
 }
 
 fn directory<'a>(alloc: Global) -> Arg<'a> {
-    Arg::new(alloc, "data").long("data").value_name("DIR").help(
-        "The directory of UnicodeData.txt, CompositionExclusions.txt and, for map and validate, IdnaMappingTable.txt",
-    )
+    Arg::new(alloc, "data")
+        .long("data")
+        .value_name("DIR")
+        .help(DIRECTORY_HELP)
 }
 
 fn encoding<'a>(alloc: Global) -> Arg<'a> {

@@ -3,6 +3,7 @@
 
 pub mod arguments;
 pub mod devices;
+pub mod directory;
 pub mod fault;
 mod files;
 pub mod run;

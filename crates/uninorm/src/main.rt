@@ -2,16 +2,18 @@
 //! form, and lines mapped or validated for domain names.
 #![tactic(auto)]
 
+mod data;
 mod standard;
 
+use data::directory;
 use normalizer_command::arguments::{FileRequest, Request, parsed};
 use normalizer_command::run::run;
 use normalizer_command::version::write_version;
 use normalizer_io::Output;
 use normalizer_replies::Command;
 use standard::{ErrorStream, Named};
-use std::alloc::{AllocError, Global};
 use std::env;
+use std::fmt::Display;
 use std::io::ErrorKind;
 use std::process::ExitCode;
 
@@ -45,8 +47,8 @@ fn arguments(rt: &HostRuntime) -> Result<Vec<String>, ErrorKind> {
 /// Does what the words request, the first of which is the name that the program was started by.
 fn by_words(rt: &HostRuntime, words: &Vec<String>) -> u8 {
     match parsed(rt.alloc(), words) {
-        Ok(Request::Files(request)) => over_files(rt, words, &request),
-        Ok(Request::Version(directory)) => version(rt, words, directory),
+        Ok(Request::Files(request)) => over_files(rt, &request),
+        Ok(Request::Version(directory)) => version(rt, directory),
         Ok(Request::Unclear(reason)) => failed(rt, reason),
         Err(error) => {
             let _ = error.print(rt);
@@ -55,11 +57,11 @@ fn by_words(rt: &HostRuntime, words: &Vec<String>) -> u8 {
     }
 }
 
-fn over_files(rt: &HostRuntime, words: &[String], request: &FileRequest<'_>) -> u8 {
-    let Ok(directory) = data_directory(rt.alloc(), words, request.directory) else {
-        return failed(rt, "out of memory");
-    };
-    over_names(rt, request.command, directory.as_str(), &request.names)
+fn over_files(rt: &HostRuntime, request: &FileRequest<'_>) -> u8 {
+    match directory(rt, request.directory) {
+        Ok(directory) => over_names(rt, request.command, directory.as_str(), &request.names),
+        Err(reason) => failed(rt, reason),
+    }
 }
 
 fn over_names(rt: &HostRuntime, command: Command, directory: &str, names: &[&str]) -> u8 {
@@ -74,36 +76,20 @@ fn over_names(rt: &HostRuntime, command: Command, directory: &str, names: &[&str
     )
 }
 
-fn version(rt: &HostRuntime, words: &[String], named: Option<&str>) -> u8 {
-    let Ok(directory) = data_directory(rt.alloc(), words, named) else {
-        return failed(rt, "out of memory");
-    };
-    write_version(
-        rt.alloc(),
-        directory.as_str(),
-        &Named(rt),
-        &mut Output(rt.stdout()),
-        &mut ErrorStream(rt),
-    )
-}
-
-/// The directory of data that is named, or the one beside the program, by the name that it was started by.
-fn data_directory(
-    alloc: Global,
-    words: &[String],
-    named: Option<&str>,
-) -> Result<String, AllocError> {
-    if let Some(directory) = named {
-        return String::from_str(alloc, directory);
-    }
-    let program = words.first().map_or("", |word| word.as_str());
-    match program.rsplit_once('/') {
-        Some((folder, _)) => format!(in alloc; "{folder}/data/unicode"),
-        None => String::from_str(alloc, "data/unicode"),
+fn version(rt: &HostRuntime, named: Option<&str>) -> u8 {
+    match directory(rt, named) {
+        Ok(directory) => write_version(
+            rt.alloc(),
+            directory.as_str(),
+            &Named(rt),
+            &mut Output(rt.stdout()),
+            &mut ErrorStream(rt),
+        ),
+        Err(reason) => failed(rt, reason),
     }
 }
 
-fn failed(rt: &HostRuntime, reason: &str) -> u8 {
+fn failed<R: Display + Drop>(rt: &HostRuntime, reason: R) -> u8 {
     let _ = eprintln!(rt; "uninorm: {reason}");
     FAILED
 }
