@@ -5,6 +5,7 @@ use Rattle.normal_forms.specs.declared.Form.TheVariants.{Decomposing, Composing}
 use Rattle.normal_forms.specs.Reading.{Reading}
 use Rattle.icu_normalizer.specs.Normalizers.{data_of}
 use Rattle.icu_normalizer.specs.ComposingNormalizers.{composing_data_of, pairs_of}
+use Rattle.icu_normalizer.specs.Forms.{MadeForm, form_by}
 use Rattle.normalizer_built.specs.declared.normalizer.Normalizer.{Normalizer}
 use Rattle.normalizer_built.specs.declared.normalizer.Normalizer.TheVariants as normalizer
 use Rattle.normalizer_tables.specs.Readings.{reading_by}
@@ -19,3 +20,8 @@ kind_by (normalizer.Composing n) = Composing
 abbrev pub reading_of : Normalizer → Reading
 reading_of (normalizer.Decomposing n) = reading_by (data_of n) Dropped []
 reading_of (normalizer.Composing n) = reading_by (composing_data_of n) Dropped (pairs_of n)
+
+-- both, and the characters that continue what comes before them
+abbrev pub made_by : Normalizer → MadeForm
+made_by (normalizer.Decomposing n) = form_by (data_of n) [] Decomposing
+made_by (normalizer.Composing n) = form_by (composing_data_of n) (pairs_of n) Composing

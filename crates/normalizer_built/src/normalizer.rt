@@ -1,10 +1,11 @@
 //! Normalizers to any form.
-ghost use Rattle.std.specs.Prelude.{◌≡◌, ◌++◌, ◌↔◌, IfOk, IfErr, IsOkUnless, IsTrue, OnOk, string_bytes};
+ghost use Rattle.std.specs.Prelude.{◌≡◌, ◌++◌, ◌↔◌, IfOk, IfErr, IsOk, IsOkUnless, IsTrue, OnOk, string_bytes};
 ghost use Rattle.normalizer_text.specs.Encodings.{Encoding};
 ghost use Rattle.normalizer_text.specs.EncodedForm.{encoded_form};
 ghost use Rattle.normalizer_text.specs.InputCut.{IsInputNormalized};
 ghost use Rattle.normalizer_text.specs.InputOffence.{IsInputOffenceOf};
-ghost use Rattle.normalizer_built.specs.Normalizers.{kind_by, reading_of};
+ghost use Rattle.icu_normalizer.specs.Forms.{HasShortUnits};
+ghost use Rattle.normalizer_built.specs.Normalizers.{kind_by, made_by, reading_of};
 
 use icu_normalizer::{ComposingNormalizer, DecomposingNormalizer, Offence};
 use normalizer_iterators::NormalizeError;
@@ -57,10 +58,11 @@ impl Normalizer {
     /// Returns whether bytes are well-formed and already normalized.
     ///
     /// # Errors
-    /// `Memory` if an allocation was refused.
+    /// `Memory` if an allocation was refused. None is made unless more than 17 characters are buffered at a time.
     pub fn is_normalized(&self, bytes: &[u8]) -> Result<bool, NormalizeError>
         ensures normalized { IfOk result (λ normalized. IsTrue normalized
             ↔ IsInputNormalized Encoding.Utf8 (reading_of self.now) (kind_by self.now) bytes.now) }
+        ensures short { HasShortUnits (made_by self.now) Encoding.Utf8 bytes.now → IsOk result }
         ensures errors { IfErr result (λ error. error ≡ NormalizeError.Memory) }
     {
         match self {
@@ -72,10 +74,11 @@ impl Normalizer {
     /// Returns the first place at which the bytes are ill-formed or not normalized.
     ///
     /// # Errors
-    /// `Memory` if an allocation was refused.
+    /// `Memory` if an allocation was refused. None is made unless more than 17 characters are buffered at a time.
     pub fn first_offence(&self, bytes: &[u8]) -> Result<Option<Offence>, NormalizeError>
         ensures offence { IfOk result (λ offence.
             IsInputOffenceOf Encoding.Utf8 (reading_of self.now) (kind_by self.now) bytes.now offence) }
+        ensures short { HasShortUnits (made_by self.now) Encoding.Utf8 bytes.now → IsOk result }
         ensures errors { IfErr result (λ error. error ≡ NormalizeError.Memory) }
     {
         match self {

@@ -1,7 +1,7 @@
 //! All that a source has left, and all of some bytes to a target.
 ghost use Rattle.std.specs.Prelude.{◌≡◌, ◌⊎◌, ◌<◌, length, IfOk, IfErr, IfSome, IsErrOf, OnOk, OnErr};
 ghost use Rattle.std.specs.Io.KnownBytes.{Appends, IsAtEnd};
-ghost use Rattle.normalizer_io.specs.Transfer.{AppendsFront};
+ghost use Rattle.normalizer_io.specs.Transfer.{AppendsFront, IsUnrefused};
 
 use crate::device::{Source, Target};
 use crate::outcome::TransferError;
@@ -19,6 +19,7 @@ pub fn read_all<R: Source>(alloc: Global, reader: &mut R) -> Result<Vec<u8>, Tra
     ensures end { OnOk result (IsAtEnd (R.bytes_left reader.new)) }
     ensures errors { IfErr result (λ error. (error ≡ TransferError.Read) ⊎ (error ≡ TransferError.Memory)) }
     ensures read { IsErrOf result TransferError.Read → R.refusal reader.old reader.new }
+    ensures memory { IsErrOf result TransferError.Memory → IsUnrefused R.refusal reader.old reader.new }
 {
     let mut chunk = vec![in alloc; 0u8; CHUNK]?;
     read_by(alloc, reader, &mut chunk)
@@ -35,6 +36,7 @@ fn read_by<R: Source>(
     ensures end { OnOk result (IsAtEnd (R.bytes_left reader.new)) }
     ensures errors { IfErr result (λ error. (error ≡ TransferError.Read) ⊎ (error ≡ TransferError.Memory)) }
     ensures read { IsErrOf result TransferError.Read → R.refusal reader.old reader.new }
+    ensures memory { IsErrOf result TransferError.Memory → IsUnrefused R.refusal reader.old reader.new }
 {
     let mut bytes = Vec::new(alloc);
     loop {

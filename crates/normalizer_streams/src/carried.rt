@@ -65,6 +65,7 @@ impl Carried {
         ensures errors { IfErr result (λ error. (error ≡ TransferError.Read) ⊎ (error ≡ TransferError.Memory)) }
         ensures read { IsErrOf result TransferError.Read → R.refusal reader.old reader.new }
         ensures unread { IsErrOf result TransferError.Read → Keeps (R.bytes_left reader.old) (R.bytes_left reader.new) }
+        ensures memory { IsErrOf result TransferError.Memory → reader.new ≡ reader.old }
         ensures ahead { OnOk result ((later : R) → R.refusal reader.new later → R.refusal reader.old later) }
     {
         let end = self.len + BLOCK;

@@ -1,10 +1,11 @@
 //! Normalizers over bytes in an encoding scheme.
-ghost use Rattle.std.specs.Prelude.{◌≡◌, ◌++◌, ◌↔◌, IfOk, IsOkUnless, IsTrue, OnOk};
+ghost use Rattle.std.specs.Prelude.{◌≡◌, ◌++◌, ◌↔◌, IfOk, IsOk, IsOkUnless, IsTrue, OnOk};
 ghost use Rattle.normalizer_text.specs.Encodings.{Encoding};
 ghost use Rattle.normalizer_text.specs.EncodedForm.{encoded_form};
 ghost use Rattle.normalizer_text.specs.InputCut.{IsInputNormalized};
 ghost use Rattle.normalizer_text.specs.InputOffence.{IsInputOffenceOf};
-ghost use Rattle.normalizer_built.specs.Normalizers.{kind_by, reading_of};
+ghost use Rattle.icu_normalizer.specs.Forms.{HasShortUnits};
+ghost use Rattle.normalizer_built.specs.Normalizers.{kind_by, made_by, reading_of};
 ghost use Rattle.normalizer_streams.specs.Schemes.{encoding_of, units_of};
 ghost use Rattle.normalizer_streams.specs.Streams.{form_by};
 
@@ -102,7 +103,7 @@ fn append_form_of_units(
 /// Returns whether bytes are well-formed and already normalized.
 ///
 /// # Errors
-/// `Memory` if an allocation was refused.
+/// `Memory` if an allocation was refused. In UTF-8 none is made unless more than 17 characters are buffered at a time.
 pub fn is_normalized(
     alloc: Global,
     scheme: EncodingScheme,
@@ -111,6 +112,8 @@ pub fn is_normalized(
 ) -> Result<bool, NormalizeError>
     ensures normalized { IfOk result (λ normalized. IsTrue normalized ↔ IsInputNormalized
         (encoding_of scheme) (reading_of normalizer.now) (kind_by normalizer.now) (units_of scheme bytes.now)) }
+    ensures short { scheme ≡ EncodingScheme.Utf8 → HasShortUnits (made_by normalizer.now) Encoding.Utf8 bytes.now →
+        IsOk result }
     ensures refused { IsOkUnless result NormalizeError.Memory }
 {
     match scheme {
@@ -133,7 +136,7 @@ fn are_normalized(normalizer: &Normalizer, units: &[u16]) -> Result<bool, Normal
 /// Returns the first place at which bytes are ill-formed or not normalized. It counts units.
 ///
 /// # Errors
-/// `Memory` if an allocation was refused.
+/// `Memory` if an allocation was refused. In UTF-8 none is made unless more than 17 characters are buffered at a time.
 pub fn first_offence(
     alloc: Global,
     scheme: EncodingScheme,
@@ -142,6 +145,8 @@ pub fn first_offence(
 ) -> Result<Option<Offence>, NormalizeError>
     ensures offence { IfOk result (IsInputOffenceOf
         (encoding_of scheme) (reading_of normalizer.now) (kind_by normalizer.now) (units_of scheme bytes.now)) }
+    ensures short { scheme ≡ EncodingScheme.Utf8 → HasShortUnits (made_by normalizer.now) Encoding.Utf8 bytes.now →
+        IsOk result }
     ensures refused { IsOkUnless result NormalizeError.Memory }
 {
     match scheme {

@@ -22,7 +22,7 @@ ghost use Rattle.std.specs.Prelude.{
   OnOk,
 };
 ghost use Rattle.std.specs.Io.KnownBytes.{Appends, IsAtEnd, Keeps};
-ghost use Rattle.normalizer_io.specs.Transfer.{AppendsFront};
+ghost use Rattle.normalizer_io.specs.Transfer.{AppendsFront, IsUnrefused};
 ghost use Rattle.normalizer_streams.specs.Streams.{
   form_by,
   may_continue,
@@ -74,6 +74,8 @@ pub fn write_form<R: Source, W: Target>(
         IsWrittenToRun scheme (form_by scheme normalizer.now) (may_continue normalizer.now)
         (R.bytes_left reader.old) (R.bytes_left reader.new) (W.bytes_taken writer.old) (W.bytes_taken writer.new) }
     ensures write { IsErrOf result TransferError.Write → W.refusal writer.old writer.new }
+    ensures read_ahead { ¬ IsErrOf result TransferError.Read → IsUnrefused R.refusal reader.old reader.new }
+    ensures ahead { ¬ IsErrOf result TransferError.Write → IsUnrefused W.refusal writer.old writer.new }
 {
     let mut carried = Carried::new(alloc);
     let mut buffers = FormBuffers::new(alloc);
@@ -113,7 +115,8 @@ fn write_settled<W: Target>(
         (W.bytes_taken writer.old) (W.bytes_taken writer.new) carried.old) }
     ensures errors { IfErr result (λ error. (error ≡ TransferError.Write) ⊎ (error ≡ TransferError.Memory)) }
     ensures write { IsErrOf result TransferError.Write → W.refusal writer.old writer.new }
-    ensures ahead { OnOk result ((later : W) → W.refusal writer.new later → W.refusal writer.old later) }
+    ensures memory { IsErrOf result TransferError.Memory → writer.new ≡ writer.old }
+    ensures ahead { OnOk result (IsUnrefused W.refusal writer.old writer.new) }
 {
     let from = searched.saturating_sub(LONGEST_SEQUENCE);
     let bytes = carried.bytes();
@@ -139,7 +142,8 @@ fn write_form_of<W: Target>(
         (AppendsFront (W.bytes_taken writer.old) (W.bytes_taken writer.new) (form_by scheme normalizer.now bytes.now)) }
     ensures errors { IfErr result (λ error. (error ≡ TransferError.Write) ⊎ (error ≡ TransferError.Memory)) }
     ensures write { IsErrOf result TransferError.Write → W.refusal writer.old writer.new }
-    ensures ahead { OnOk result ((later : W) → W.refusal writer.new later → W.refusal writer.old later) }
+    ensures memory { IsErrOf result TransferError.Memory → writer.new ≡ writer.old }
+    ensures ahead { OnOk result (IsUnrefused W.refusal writer.old writer.new) }
 {
     match buffers.form_of(scheme, normalizer, bytes) {
         Ok(form) => write_all(writer, form),
