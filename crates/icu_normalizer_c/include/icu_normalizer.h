@@ -17,7 +17,7 @@
      changed while the call runs.
    - A `bool` is 0 or 1.
    - A handle begins as ICU_NORMALIZER_CLOSED. A program may move it, but changes nothing in it, and uses one copy.
-   - A handle is given to one call at a time. If another call has it, a call may return IN_USE, but that isn't promised.
+   - A handle is given to one call at a time. With two at once anything may happen; mostly the second returns IN_USE.
      For several threads, give each a handle by icu_normalizer_share: they use the same data, at the same time.
    - A handle goes from one thread to another by a thread's start or join, a lock, or a sequentially consistent atomic.
    - No call is made in a signal handler, nor in the forked child of a process with threads.
