@@ -10,8 +10,9 @@ fn main() {
         Some(prefix) => PathBuf::from(prefix),
         None => installed(),
     };
-    let library = prefix.join("lib");
-    println!("cargo:rustc-link-search=native={}", library.display());
+    for library in ["lib", "lib64", "lib/x86_64-linux-gnu"] {
+        println!("cargo:rustc-link-search=native={}", prefix.join(library).display());
+    }
     println!("cargo:rustc-link-lib=static=icu_normalizer");
     println!("cargo:rustc-env=ICU_NORMALIZER_DATA={}", prefix.join("share/uninorm").display());
 }
