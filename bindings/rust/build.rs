@@ -14,7 +14,10 @@ fn main() {
         println!("cargo:rustc-link-search=native={}", prefix.join(library).display());
     }
     println!("cargo:rustc-link-lib=static=icu_normalizer");
-    println!("cargo:rustc-env=ICU_NORMALIZER_DATA={}", prefix.join("share/uninorm").display());
+    println!(
+        "cargo:rustc-env=ICU_NORMALIZER_DATA={}",
+        prefix.join("share/uninorm").display()
+    );
 }
 
 fn installed() -> PathBuf {
@@ -22,7 +25,11 @@ fn installed() -> PathBuf {
     let made = root.join("crates/icu_normalizer_c/out/libicu_normalizer_c.a");
     println!("cargo:rerun-if-changed={}", made.display());
     let room = PathBuf::from(env::var("OUT_DIR").unwrap()).join("installed");
-    let status = Command::new(root.join("tools/install")).arg("/usr").env("DESTDIR", &room).env_remove("LIBDIR").status();
+    let status = Command::new(root.join("tools/install"))
+        .arg("/usr")
+        .env("DESTDIR", &room)
+        .env_remove("LIBDIR")
+        .status();
     match status {
         Ok(status) if status.success() => room.join("usr"),
         _ => panic!("set ICU_NORMALIZER_PREFIX, or build the library first: `rt lib` in crates/icu_normalizer_c"),

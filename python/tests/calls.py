@@ -1,5 +1,6 @@
 """Tests the package: each result beside that of `unicodedata`, or known from outside."""
 import doctest
+import pathlib
 import sys
 import tempfile
 import threading
@@ -60,6 +61,13 @@ def errors():
     assert type(icu_normalizer.normalize("NFC", Text("a"))) is str
 
 
+def mapping():
+    small = icu_normalizer.Normalizer(pathlib.Path(__file__).parents[2] / "crates/uninorm/data")
+    assert small.map("A\u0308\u00AD\u0323") == "\u1EA1\u0308"
+    assert small.map("A\u0308\u00AD\u0323".encode()) == "\u1EA1\u0308".encode()
+    assert small.share().validate("\u1EA1") == "\u1EA1" and small.validate("\u00AD") == "\uFFFD"
+
+
 def threads():
     """Long texts, during which other threads run, by one normalizer and by shared ones."""
     text, wanted = 60000 * "a\u0308", 60000 * "\u00E4"
@@ -81,6 +89,7 @@ def threads():
 
 forms()
 errors()
+mapping()
 threads()
 failures, tried = doctest.testmod(icu_normalizer)
 sys.exit(bool(failures or not tried))

@@ -72,8 +72,20 @@ extern "C" {
         output_length: usize,
         needed: *mut usize,
     ) -> u32;
-    pub fn icu_normalizer_is_normalized_utf8_nonnull(h: *mut Handle, f: u32, i: *const u8, n: usize, r: *mut bool) -> u32;
-    pub fn icu_normalizer_is_normalized_utf16_nonnull(h: *mut Handle, f: u32, i: *const u16, n: usize, r: *mut bool) -> u32;
+    pub fn icu_normalizer_is_normalized_utf8_nonnull(
+        h: *mut Handle,
+        f: u32,
+        i: *const u8,
+        n: usize,
+        r: *mut bool,
+    ) -> u32;
+    pub fn icu_normalizer_is_normalized_utf16_nonnull(
+        h: *mut Handle,
+        f: u32,
+        i: *const u16,
+        n: usize,
+        r: *mut bool,
+    ) -> u32;
     pub fn icu_normalizer_split_utf8_nonnull(h: *mut Handle, f: u32, i: *const u8, n: usize, r: *mut usize) -> u32;
     pub fn icu_normalizer_split_utf16_nonnull(h: *mut Handle, f: u32, i: *const u16, n: usize, r: *mut usize) -> u32;
     pub fn icu_normalizer_first_mismatch_utf8_nonnull(
@@ -102,5 +114,9 @@ extern "C" {
 }
 
 impl Handle {
-    pub const CLOSED: Handle = Handle { normalizers: std::ptr::null_mut(), is_open: false, is_in_use: false };
+    pub const CLOSED: Handle = Handle {
+        normalizers: std::ptr::null_mut(),
+        is_open: false,
+        is_in_use: false,
+    };
 }

@@ -56,7 +56,10 @@ impl fmt::Display for Error {
         match self {
             Error::Line { file, line, reason } => write!(f, "{file}:{line}: the line is wrong, by reason {reason}"),
             Error::Records { reason, condition } => {
-                write!(f, "the records can't be built into tables, by reason {reason}, condition {condition}")
+                write!(
+                    f,
+                    "the records can't be built into tables, by reason {reason}, condition {condition}"
+                )
             }
         }
     }
@@ -69,19 +72,19 @@ fn out_of_memory(room: usize) -> ! {
 }
 
 /// A handle that is open. It may go to another thread: its data are counted atomically.
-pub(crate) struct Open(Handle);
+pub(crate) struct OpenHandle(Handle);
 
-unsafe impl Send for Open {}
+unsafe impl Send for OpenHandle {}
 
-impl Drop for Open {
+impl Drop for OpenHandle {
     fn drop(&mut self) {
         unsafe { ffi::icu_normalizer_close_nonnull(&mut self.0) }
     }
 }
 
-impl Open {
-    fn open(unicode_data: &[u8], exclusions: &[u8], idna_table: &[u8], limit: u32) -> Result<Open, Error> {
-        let mut open = Open(Handle::CLOSED);
+impl OpenHandle {
+    fn open(unicode_data: &[u8], exclusions: &[u8], idna_table: &[u8], limit: u32) -> Result<OpenHandle, Error> {
+        let mut open = OpenHandle(Handle::CLOSED);
         let mut defect = ffi::Defect::default();
         let status = unsafe {
             ffi::icu_normalizer_open_files_nonnull(
@@ -101,15 +104,22 @@ impl Open {
             ffi::WRONG_LINE => {
                 let files = ["UnicodeData.txt", "CompositionExclusions.txt", "IdnaMappingTable.txt"];
                 let file = files.get(defect.source as usize).copied().unwrap_or("");
-                Err(Error::Line { file, line: defect.place, reason: defect.reason })
+                Err(Error::Line {
+                    file,
+                    line: defect.place,
+                    reason: defect.reason,
+                })
             }
-            ffi::WRONG_RECORDS => Err(Error::Records { reason: defect.reason, condition: defect.place }),
+            ffi::WRONG_RECORDS => Err(Error::Records {
+                reason: defect.reason,
+                condition: defect.place,
+            }),
             _ => out_of_memory(unicode_data.len()),
         }
     }
 
-    fn shared(&mut self) -> Open {
-        let mut open = Open(Handle::CLOSED);
+    fn shared(&mut self) -> OpenHandle {
+        let mut open = OpenHandle(Handle::CLOSED);
         match unsafe { ffi::icu_normalizer_share_nonnull(&mut self.0, &mut open.0) } {
             ffi::OK => open,
             _ => out_of_memory(std::mem::size_of::<usize>()),
@@ -171,7 +181,13 @@ fn written<U: Copy>(
     loop {
         let mut needed = 0;
         let spare = made.spare_capacity_mut();
-        match call(rest.as_ptr(), rest.len(), spare.as_mut_ptr().cast(), spare.len(), &mut needed) {
+        match call(
+            rest.as_ptr(),
+            rest.len(),
+            spare.as_mut_ptr().cast(),
+            spare.len(),
+            &mut needed,
+        ) {
             ffi::OK => {
                 // The call wrote so many units.
                 unsafe { made.set_len(prefix.len() + needed) };
@@ -186,32 +202,34 @@ fn written<U: Copy>(
 }
 
 /// A handle that several threads may use, one at a time.
-pub(crate) struct SharedHandle(Mutex<Open>);
+pub(crate) struct SharedHandle(Mutex<OpenHandle>);
 
 impl SharedHandle {
     pub(crate) fn open(unicode_data: &[u8], exclusions: &[u8], table: &[u8], limit: u32) -> Result<Self, Error> {
-        Open::open(unicode_data, exclusions, table, limit).map(|open| SharedHandle(Mutex::new(open)))
+        OpenHandle::open(unicode_data, exclusions, table, limit).map(|open| SharedHandle(Mutex::new(open)))
     }
 
-    pub(crate) fn with<R>(&self, call: impl FnOnce(&mut Open) -> R) -> R {
+    pub(crate) fn with<R>(&self, call: impl FnOnce(&mut OpenHandle) -> R) -> R {
         call(&mut self.0.lock().unwrap_or_else(PoisonError::into_inner))
     }
 }
 
 impl Clone for SharedHandle {
     fn clone(&self) -> Self {
-        SharedHandle(Mutex::new(self.with(Open::shared)))
+        SharedHandle(Mutex::new(self.with(OpenHandle::shared)))
     }
 }
 
 /// Calls with this thread's handle over the data of this crate.
-pub(crate) fn with_own<R>(call: impl FnOnce(&mut Open) -> R) -> R {
+pub(crate) fn with_own<R>(call: impl FnOnce(&mut OpenHandle) -> R) -> R {
     static FIRST: OnceLock<SharedHandle> = OnceLock::new();
     thread_local! {
-        static OWN: RefCell<Option<Open>> = const { RefCell::new(None) };
+        static OWN: RefCell<Option<OpenHandle>> = const { RefCell::new(None) };
     }
     let first = || {
-        FIRST.get_or_init(|| SharedHandle::open(UNICODE_DATA, EXCLUSIONS, &[], 0).expect("the data of this crate are right"))
+        FIRST.get_or_init(|| {
+            SharedHandle::open(UNICODE_DATA, EXCLUSIONS, &[], 0).expect("the data of this crate are right")
+        })
     };
-    OWN.with(|own| call(own.borrow_mut().get_or_insert_with(|| first().with(Open::shared))))
+    OWN.with(|own| call(own.borrow_mut().get_or_insert_with(|| first().with(OpenHandle::shared))))
 }

@@ -80,33 +80,47 @@ impl Normalizers {
 
     /// Returns the normalizer to NFC.
     pub fn nfc(&self) -> ComposingNormalizerBorrowed<'_> {
-        ComposingNormalizerBorrowed(Borrowed { normalizers: Some(&self.0), form: NFC })
+        ComposingNormalizerBorrowed(Borrowed {
+            normalizers: Some(&self.0),
+            form: NFC,
+        })
     }
 
     /// Returns the normalizer to NFKC.
     pub fn nfkc(&self) -> ComposingNormalizerBorrowed<'_> {
-        ComposingNormalizerBorrowed(Borrowed { normalizers: Some(&self.0), form: NFKC })
+        ComposingNormalizerBorrowed(Borrowed {
+            normalizers: Some(&self.0),
+            form: NFKC,
+        })
     }
 
     /// Returns the normalizer to NFD.
     pub fn nfd(&self) -> DecomposingNormalizerBorrowed<'_> {
-        DecomposingNormalizerBorrowed(Borrowed { normalizers: Some(&self.0), form: NFD })
+        DecomposingNormalizerBorrowed(Borrowed {
+            normalizers: Some(&self.0),
+            form: NFD,
+        })
     }
 
     /// Returns the normalizer to NFKD.
     pub fn nfkd(&self) -> DecomposingNormalizerBorrowed<'_> {
-        DecomposingNormalizerBorrowed(Borrowed { normalizers: Some(&self.0), form: NFKD })
+        DecomposingNormalizerBorrowed(Borrowed {
+            normalizers: Some(&self.0),
+            form: NFKD,
+        })
     }
 
     /// Returns a text mapped by Unicode Technical Standard #46 and in NFC: ignored characters are dropped, disallowed
     /// ones become U+FFFD. Without a mapper there is none.
     pub fn map(&self, text: &str) -> Option<String> {
-        self.0.with(|handle| handle.mapped(ffi::icu_normalizer_map_utf8_nonnull, text))
+        self.0
+            .with(|handle| handle.mapped(ffi::icu_normalizer_map_utf8_nonnull, text))
     }
 
     /// Returns the same, with U+FFFD for ignored characters too. Mapped text is valid only if this leaves it unchanged.
     pub fn validate(&self, text: &str) -> Option<String> {
-        self.0.with(|handle| handle.mapped(ffi::icu_normalizer_validate_utf8_nonnull, text))
+        self.0
+            .with(|handle| handle.mapped(ffi::icu_normalizer_validate_utf8_nonnull, text))
     }
 }
 
@@ -118,7 +132,7 @@ struct Borrowed<'data> {
 }
 
 impl Borrowed<'_> {
-    fn with<R>(&self, call: impl FnOnce(&mut handle::Open, u32) -> R) -> R {
+    fn with<R>(&self, call: impl FnOnce(&mut handle::OpenHandle, u32) -> R) -> R {
         match self.normalizers {
             Some(normalizers) => normalizers.with(|handle| call(handle, self.form)),
             None => handle::with_own(|handle| call(handle, self.form)),
@@ -131,7 +145,10 @@ macro_rules! calls {
         impl $name<'_> {
             /// Returns the form of a text, borrowed if the text is already normalized.
             pub fn normalize<'t>(&self, text: &'t str) -> Cow<'t, str> {
-                match self.0.with(|handle, form| handle.form_of_utf8(form, text.as_bytes())) {
+                match self
+                    .0
+                    .with(|handle, form| handle.form_of_utf8(form, text.as_bytes()))
+                {
                     None => Cow::Borrowed(text),
                     Some(form) => Cow::Owned(form),
                 }
@@ -171,12 +188,14 @@ macro_rules! calls {
 
             /// Returns whether bytes are well-formed and already normalized.
             pub fn is_normalized_utf8(&self, bytes: &[u8]) -> bool {
-                self.0.with(|handle, form| handle.reported(ffi::icu_normalizer_is_normalized_utf8_nonnull, form, bytes))
+                self.0
+                    .with(|handle, form| handle.reported(ffi::icu_normalizer_is_normalized_utf8_nonnull, form, bytes))
             }
 
             /// Returns whether 16-bit units are well-formed and already normalized.
             pub fn is_normalized_utf16(&self, units: &[u16]) -> bool {
-                self.0.with(|handle, form| handle.reported(ffi::icu_normalizer_is_normalized_utf16_nonnull, form, units))
+                self.0
+                    .with(|handle, form| handle.reported(ffi::icu_normalizer_is_normalized_utf16_nonnull, form, units))
             }
 
             /// Returns the longest beginning that the form begins with, followed by the form of the rest, and the rest.
@@ -192,12 +211,15 @@ macro_rules! calls {
 
             /// Returns the same of 16-bit units.
             pub fn split_normalized_utf16<'t>(&self, units: &'t [u16]) -> (&'t [u16], &'t [u16]) {
-                let cut = self.0.with(|handle, form| handle.reported(ffi::icu_normalizer_split_utf16_nonnull, form, units));
+                let cut = self
+                    .0
+                    .with(|handle, form| handle.reported(ffi::icu_normalizer_split_utf16_nonnull, form, units));
                 units.split_at(cut)
             }
 
             fn cut(&self, bytes: &[u8]) -> usize {
-                self.0.with(|handle, form| handle.reported(ffi::icu_normalizer_split_utf8_nonnull, form, bytes))
+                self.0
+                    .with(|handle, form| handle.reported(ffi::icu_normalizer_split_utf8_nonnull, form, bytes))
             }
 
             /// Returns the first place where a text differs from its form.
@@ -223,12 +245,18 @@ pub struct ComposingNormalizerBorrowed<'data>(Borrowed<'data>);
 impl ComposingNormalizerBorrowed<'static> {
     /// Returns the normalizer to NFC, over the data of this crate.
     pub const fn new_nfc() -> Self {
-        ComposingNormalizerBorrowed(Borrowed { normalizers: None, form: NFC })
+        ComposingNormalizerBorrowed(Borrowed {
+            normalizers: None,
+            form: NFC,
+        })
     }
 
     /// Returns the normalizer to NFKC, over the data of this crate.
     pub const fn new_nfkc() -> Self {
-        ComposingNormalizerBorrowed(Borrowed { normalizers: None, form: NFKC })
+        ComposingNormalizerBorrowed(Borrowed {
+            normalizers: None,
+            form: NFKC,
+        })
     }
 }
 
@@ -241,12 +269,18 @@ pub struct DecomposingNormalizerBorrowed<'data>(Borrowed<'data>);
 impl DecomposingNormalizerBorrowed<'static> {
     /// Returns the normalizer to NFD, over the data of this crate.
     pub const fn new_nfd() -> Self {
-        DecomposingNormalizerBorrowed(Borrowed { normalizers: None, form: NFD })
+        DecomposingNormalizerBorrowed(Borrowed {
+            normalizers: None,
+            form: NFD,
+        })
     }
 
     /// Returns the normalizer to NFKD, over the data of this crate.
     pub const fn new_nfkd() -> Self {
-        DecomposingNormalizerBorrowed(Borrowed { normalizers: None, form: NFKD })
+        DecomposingNormalizerBorrowed(Borrowed {
+            normalizers: None,
+            form: NFKD,
+        })
     }
 }
 
