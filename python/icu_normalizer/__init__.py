@@ -22,6 +22,7 @@ from ._native import Normalizer as _Native
 from ._native import version
 
 __all__ = ["Mismatch", "Normalizer", "first_mismatch", "is_normalized", "normalize", "split", "version"]
+_NO_TABLE = b"0000..10FFFF ; valid\n"
 _DATA = pathlib.Path(__file__).resolve().parent / "data"
 
 
@@ -54,7 +55,7 @@ class Normalizer(_Native):
         def read():
             table = folder / "IdnaMappingTable.txt"
             needed = (folder / "UnicodeData.txt").read_bytes(), (folder / "CompositionExclusions.txt").read_bytes()
-            return *needed, table.read_bytes() if table.exists() else b"", disallowed_limit
+            return *needed, table.read_bytes() if table.exists() else _NO_TABLE, disallowed_limit
 
         return super().__new__(cls, read, Mismatch)
 

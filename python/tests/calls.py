@@ -9,7 +9,17 @@ import unicodedata
 import icu_normalizer
 
 FORMS = ("NFC", "NFD", "NFKC", "NFKD")
-TEXTS = ["", "a", "a\u0308", "e\u0301\u0323 \uFB01 \u1EC7\u212B \uAC01 \u1112\u1161\u11AB", 40 * "a\u0308", 30000 * "\u0390x ", 9000 * "\U0001D15E\xE4", 300 * "\xE4\xBD", "\xE4\xBD"]
+TEXTS = [
+    "",
+    "a",
+    "a\u0308",
+    "e\u0301\u0323 \uFB01 \u1EC7\u212B \uAC01 \u1112\u1161\u11AB",
+    "\xE4\xBD",
+    40 * "a\u0308",
+    300 * "\xE4\xBD",
+    9000 * "\U0001D15E\xE4",
+    30000 * "\u0390x ",
+]
 LONG = "a" + 40 * "\u0308" + "\u0323"
 
 
@@ -50,10 +60,11 @@ def errors():
     refused(LookupError, icu_normalizer.Normalizer().map, "a")
     refused(FileNotFoundError, icu_normalizer.Normalizer("/nowhere").normalize, "NFC", "a")
     with tempfile.TemporaryDirectory() as folder:
-        for name, content in (("UnicodeData.txt", "0041;A\n"), ("CompositionExclusions.txt", "")):
+        for name, content in (("UnicodeData.txt", "0041;A\n# EOF\n"), ("CompositionExclusions.txt", "# EOF\n")):
             with open(f"{folder}/{name}", "w") as file:
                 file.write(content)
-        assert "UnicodeData.txt:1: " in str(refused(ValueError, icu_normalizer.Normalizer(folder).normalize, "NFC", "a"))
+        wrong = icu_normalizer.Normalizer(folder)
+        assert "UnicodeData.txt:1: " in str(refused(ValueError, wrong.normalize, "NFC", "a"))
 
     class Text(str):
         pass

@@ -5,6 +5,9 @@ use std::cell::RefCell;
 use std::fmt;
 use std::sync::{Mutex, OnceLock, PoisonError};
 
+/// A table by which there is no mapper.
+pub(crate) const NO_TABLE: &[u8] = b"0000..10FFFF ; valid\n";
+
 const UNICODE_DATA: &[u8] = include_bytes!(concat!(env!("ICU_NORMALIZER_DATA"), "/UnicodeData.txt"));
 const EXCLUSIONS: &[u8] = include_bytes!(concat!(env!("ICU_NORMALIZER_DATA"), "/CompositionExclusions.txt"));
 
@@ -228,7 +231,7 @@ pub(crate) fn with_own<R>(call: impl FnOnce(&mut OpenHandle) -> R) -> R {
     }
     let first = || {
         FIRST.get_or_init(|| {
-            SharedHandle::open(UNICODE_DATA, EXCLUSIONS, &[], 0).expect("the data of this crate are right")
+            SharedHandle::open(UNICODE_DATA, EXCLUSIONS, NO_TABLE, 0).expect("the data of this crate are right")
         })
     };
     OWN.with(|own| call(own.borrow_mut().get_or_insert_with(|| first().with(OpenHandle::shared))))

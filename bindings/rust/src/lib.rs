@@ -61,7 +61,7 @@ impl Normalizers {
     /// # Errors
     /// What is wrong with the data.
     pub fn try_new(unicode_data: &[u8], exclusions: &[u8]) -> Result<Self, Error> {
-        Self::try_new_with_mapper(unicode_data, exclusions, &[], 0)
+        Self::try_new_with_mapper(unicode_data, exclusions, handle::NO_TABLE, 0)
     }
 
     /// Returns the normalizers, with a mapper by the bytes of `IdnaMappingTable.txt`, without its disallowed ranges of

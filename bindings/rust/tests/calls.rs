@@ -70,7 +70,7 @@ fn forms() {
 
 #[test]
 fn wrong_data_are_refused() {
-    let error = Normalizers::try_new(b"0041;A\n", b"").err().unwrap();
+    let error = Normalizers::try_new(b"0041;A\n# EOF\n", b"# EOF\n").err().unwrap();
     assert!(error.to_string().starts_with("UnicodeData.txt:1: "), "{error}");
 }
 
