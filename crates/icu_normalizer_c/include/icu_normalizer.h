@@ -5,15 +5,27 @@
        status = icu_normalizer_normalize_utf8(&normalizer, ICU_NORMALIZER_NFC, input, length, output, room, &needed);
        icu_normalizer_close(&normalizer);
 
-   Link libicu_normalizer_c.a and the toolchain's heap, c/liblibc_c.a in its folder. The program's malloc, realloc and
-   free come from one allocator, and align a block of each size to each power of two up to 16 that divides the size.
+   `tools/install PREFIX` installs the library: `cc prog.c $(pkg-config --cflags --libs icu_normalizer)`. The header
+   needs C99 or C++11.
 
    A pointer with a length is an array of that many units: bytes, or 16-bit units in the order of the machine. For an
-   array of none it may be null. Nothing is read or written outside the arrays. What is written to overlaps nothing else
-   that is passed. A handle is given to one call at a time, on the thread that opened it. Other pointers are never null.
+   array of none it may be null. Nothing is read or written outside the arrays.
+
+   What the library can't see, the program must establish:
+   - Other pointers are never null. Each pointer is aligned for its type, and an array has at most PTRDIFF_MAX bytes.
+   - What a call may write to, a handle among it, overlaps nothing else that is passed, and nothing of what is passed is
+     changed while the call runs.
+   - A `bool` is 0 or 1.
+   - A handle begins as ICU_NORMALIZER_CLOSED. A program may move it, but changes nothing in it, and uses one copy.
+   - A handle is given to one call at a time. With two at once anything may happen; mostly the second returns IN_USE.
+     For several threads, give each a handle by icu_normalizer_share: they use the same data, at the same time.
+   - A handle goes from one thread to another by a thread's start or join, a lock, or a sequentially consistent atomic.
+   - No call is made in a signal handler, nor in the forked child of a process with threads.
+   - The program's malloc, realloc and free come from one allocator, and align a block of each size to each power of
+     two up to 16 that divides the size.
 
    The functions of the library end in `_nonnull`: they take no null pointer, even for an array of none. Other languages
-   call those. */
+   call those, with any pointer that isn't null for an array of none. */
 #ifndef ICU_NORMALIZER_H
 #define ICU_NORMALIZER_H
 
@@ -25,14 +37,22 @@
 extern "C" {
 #endif
 
-/* Normalizers to the four forms and perhaps a mapper, or none. A program may move it, and changes nothing in it. */
+/* The version of this header. icu_normalizer_version() returns that of the library. */
+#define ICU_NORMALIZER_VERSION_MAJOR 0
+#define ICU_NORMALIZER_VERSION_MINOR 1
+#define ICU_NORMALIZER_VERSION_PATCH 0
+#define ICU_NORMALIZER_VERSION \
+    (ICU_NORMALIZER_VERSION_MAJOR << 16 | ICU_NORMALIZER_VERSION_MINOR << 8 | ICU_NORMALIZER_VERSION_PATCH)
+
+/* Normalizers to the four forms and perhaps a mapper, or none. */
 typedef struct icu_normalizer {
     void *normalizers;
     bool is_open;
+    bool is_in_use;
 } icu_normalizer;
 
-/* A handle that has no normalizers. */
-#define ICU_NORMALIZER_CLOSED {NULL, false}
+/* A handle that has no normalizers, to initialize one. */
+#define ICU_NORMALIZER_CLOSED {NULL, false, false}
 
 /* The four forms (Unicode Standard Annex #15, section 1.2). */
 typedef uint32_t icu_normalizer_form;
@@ -60,6 +80,8 @@ typedef uint32_t icu_normalizer_status;
 #define ICU_NORMALIZER_NO_MAPPER 7u
 /* A record is wrong by itself. */
 #define ICU_NORMALIZER_WRONG_RECORD 8u
+/* Another call has the handle, which the program must not do. */
+#define ICU_NORMALIZER_IN_USE 9u
 
 /* Returns what a status means, in English. */
 static inline const char *icu_normalizer_status_text(icu_normalizer_status status) {
@@ -73,6 +95,7 @@ static inline const char *icu_normalizer_status_text(icu_normalizer_status statu
         case ICU_NORMALIZER_WRONG_RECORDS: return "the records can't be built into tables";
         case ICU_NORMALIZER_NO_MAPPER: return "the normalizer has no mapper";
         case ICU_NORMALIZER_WRONG_RECORD: return "a record is wrong";
+        case ICU_NORMALIZER_IN_USE: return "another call uses the normalizer";
         default: return "no status has this number";
     }
 }
@@ -211,14 +234,52 @@ icu_normalizer_status icu_normalizer_validate_utf8_nonnull(icu_normalizer *norma
 icu_normalizer_status icu_normalizer_validate_utf16_nonnull(icu_normalizer *normalizer,
     const uint16_t *input, size_t input_length, uint16_t *output, size_t output_length, size_t *needed);
 
-/* Closes the handle, which then has no normalizers. A closed handle stays closed. */
-void icu_normalizer_close(icu_normalizer *normalizer);
+icu_normalizer_status icu_normalizer_share_nonnull(icu_normalizer *from, icu_normalizer *to);
+void icu_normalizer_close_nonnull(icu_normalizer *normalizer);
 
-/* ---- the same, for arrays that may be null if they have no units */
+/* Returns the version of the library, as ICU_NORMALIZER_VERSION. */
+uint32_t icu_normalizer_version(void);
+
+/* ---- the same, for arrays that may be null if they have no units, and the calls without arrays */
+
+/* Opens `to` by the data of `from`, which both then share: nothing is read or copied. What `to` had is closed. Each is
+   closed by itself, in any order and on any thread; the last one frees the data. Opening `from` again leaves `to` as it
+   is. On an error `to` keeps what it had: NOT_OPEN or IN_USE of `from`, IN_USE of `to`, OUT_OF_MEMORY. */
+static inline icu_normalizer_status icu_normalizer_share(icu_normalizer *from, icu_normalizer *to) {
+    if (from == to) return from->is_open ? ICU_NORMALIZER_OK : ICU_NORMALIZER_NOT_OPEN;
+    return icu_normalizer_share_nonnull(from, to);
+}
+
+/* Closes the handle, which then has no normalizers. A closed handle stays closed; null is ignored. */
+static inline void icu_normalizer_close(icu_normalizer *normalizer) {
+    if (normalizer) icu_normalizer_close_nonnull(normalizer);
+}
+
+/* Returns the version of Unicode that the first line of CompositionExclusions.txt or IdnaMappingTable.txt names, as
+   0x0F0000 for 15.0.0, or 0 if it names none. */
+static inline uint32_t icu_normalizer_unicode_version(const uint8_t *file, size_t length) {
+    uint32_t version = 0, number = 0, parts = 0;
+    bool is_number = false;
+    for (size_t place = 0; place < length && file[place] != '\n'; place++) {
+        uint8_t unit = file[place];
+        bool is_digit = '0' <= unit && unit <= '9';
+        if (is_digit) {
+            number = (is_number ? 10 * number : 0) + unit - '0';
+            if (number > 255) return 0;
+        } else if (is_number) {
+            version = version << 8 | number;
+            parts++;
+            if (parts == 3) return version;
+            if (unit != '.') version = parts = 0;
+        }
+        is_number = is_digit;
+    }
+    return parts == 2 && is_number ? version << 8 | number : 0;
+}
 
 /* Opens normalizers by the bytes of UnicodeData.txt and CompositionExclusions.txt, of any version of Unicode, without a
    mapper. What the handle had is closed. On an error the handle keeps what it had: WRONG_LINE, WRONG_RECORDS,
-   OUT_OF_MEMORY. */
+   OUT_OF_MEMORY, IN_USE. */
 static inline icu_normalizer_status icu_normalizer_open_unicode_data(icu_normalizer *normalizer,
     const uint8_t *unicode_data, size_t unicode_data_length,
     const uint8_t *exclusions, size_t exclusions_length) {
@@ -258,7 +319,11 @@ static inline icu_normalizer_status icu_normalizer_open_records(icu_normalizer *
 }
 
 /* Each call below ends with NOT_OPEN if the handle has no normalizers, else with UNKNOWN_FORM if no form has the
-   number. OUT_OF_MEMORY comes only if an allocation was refused. On any error, nothing is written but what is said. */
+   number. OUT_OF_MEMORY comes only if an allocation was refused. On any error, nothing is written but what is said. If
+   the input is already normalized, nothing is allocated, unless a run of marks in it is longer than 17.
+
+   With Unicode's own data a form in UTF-8 has at most 3 times the bytes of the input for NFC and NFD, and 11 times for
+   NFKC and NFKD; in UTF-16 3 times the units for NFC, 4 times for NFD and 18 times for NFKC and NFKD. */
 
 /* Writes the form of `input` to `output`. Each maximal ill-formed subpart of UTF-8, and each unpaired surrogate of
    UTF-16, reads as U+FFFD. `*needed` is how many units the form has: on success, and on BUFFER_TOO_SMALL. */

@@ -19,6 +19,12 @@ pub record Fills {X : Type 0} (units before after : List X) (count_before count 
   pub unwritten : OnErr outcome (after ≡ before)
   pub unreported : IfErr outcome (λ fault. fault ≢ BufferTooSmall → count ≡ count_before)
 
+-- the same, and the fault isn't `Memory` if memory suffices
+abbrev pub Writes : {X : Type 0} → (before after : List X) → (count_before count : ℕ) → (Suffices : Type 0)
+    → (units : List X) → Result ⊤ Fault → Type 0
+Writes before after count_before count Suffices units outcome =
+    Fills units before after count_before count outcome × (Suffices → ¬ IsErrOf outcome Memory)
+
 -- A value of this kind is reported. The only fault is `Memory`, which never comes over short runs, and then nothing is.
 pub record Reports {A : Type 0} (m : MadeForm) (e : Encoding) (units : List ℕ) (Is : A → Type 0) (before after : A)
     (outcome : Result ⊤ Fault) : Type 0 where

@@ -1,5 +1,6 @@
 -- What the calls of C do.
-use Rattle.std.specs.Prelude.{◌≡◌, ◌⊎◌, ◌↔◌, ℕ, ◌<◌, Bool, List, ⊤, Result, Err, Option, Some, None, IsTrue}
+use Rattle.std.specs.Prelude.{◌≡◌, ◌⊎◌, ◌↔◌, ℕ, ◌<◌, Bool, List, ⊤, Result, Ok, Err, Option, Some, None, IsTrue}
+use Rattle.normal_forms.specs.ShortRuns.{HasShortRuns}
 use Rattle.normalizer_tables.specs.declared.characters.IgnoredCharacters.{IgnoredCharacters}
 use Rattle.normalizer_text.specs.Encodings.{Encoding, encoded_in, decoded_in}
 use Rattle.normalizer_text.specs.EncodedForm.{encoded_form}
@@ -12,10 +13,10 @@ use Rattle.icu_normalizer.specs.declared.uts46.Uts46Mapper.{Uts46Mapper}
 use Rattle.icu_normalizer.specs.Mappers.{mapper_data_of}
 use Rattle.icu_normalizer.specs.Uts46.{MapperData}
 use Rattle.normalizer_handles.specs.declared.fault.Fault.{Fault}
-use Rattle.normalizer_handles.specs.declared.fault.Fault.TheVariants.{UnknownForm, NotOpen, NoMapper}
+use Rattle.normalizer_handles.specs.declared.fault.Fault.TheVariants.{UnknownForm, NoMapper}
 use Rattle.icu_normalizer_c.specs.declared.mismatch.Mismatch.{Mismatch}
 use Rattle.normalizer_handles.specs.declared.normalizers.Normalizers.{Normalizers}
-use Rattle.icu_normalizer_c.specs.Buffers.{Fills, Reports}
+use Rattle.icu_normalizer_c.specs.Buffers.{Reports, Writes}
 use Rattle.normalizer_handles.specs.FormNumbers.{last_form}
 use Rattle.normalizer_handles.specs.Made.{IsNumbered}
 use Rattle.icu_normalizer_c.specs.Mismatches.{mismatch_of}
@@ -27,22 +28,27 @@ AtForm n number Unchanged Is outcome =
     ((last_form < number) × (outcome ≡ Err UnknownForm) × Unchanged)
     ⊎ ((m : MadeForm) × IsNumbered n number m × Is m outcome)
 
--- a call at the normalizers of a handle, unless it has none
-abbrev pub OverHeld : Option Normalizers → (Unchanged : Type 0) → (Normalizers → Result ⊤ Fault → Type 0)
+-- a call at the normalizers of a handle, or the fault of a handle that has none
+abbrev pub OverHeld : Result Normalizers Fault → (Unchanged : Type 0) → (Normalizers → Result ⊤ Fault → Type 0)
     → Result ⊤ Fault → Type 0
-OverHeld None Unchanged Is outcome = (outcome ≡ Err NotOpen) × Unchanged
-OverHeld (Some n) Unchanged Is outcome = Is n outcome
+OverHeld (Err fault) Unchanged Is outcome = (outcome ≡ Err fault) × Unchanged
+OverHeld (Ok n) Unchanged Is outcome = Is n outcome
 
--- a call at a form of the normalizers of a handle, unless it has none
-abbrev pub Over : Option Normalizers → (number : ℕ) → (Unchanged : Type 0) → (MadeForm → Result ⊤ Fault → Type 0)
+-- a call at a form of the normalizers of a handle, or the fault of a handle that has none
+abbrev pub Over : Result Normalizers Fault → (number : ℕ) → (Unchanged : Type 0) → (MadeForm → Result ⊤ Fault → Type 0)
     → Result ⊤ Fault → Type 0
 Over h number Unchanged Is outcome = OverHeld h Unchanged (λ n. AtForm n number Unchanged Is) outcome
+
+-- the input needs no memory: it is well-formed and normalized, and has short runs
+abbrev pub NeedsNoMemory : Encoding → (input : List ℕ) → MadeForm → Type 0
+NeedsNoMemory e input m =
+    HasShortRuns m.has_class_form m.reading (decoded_in e input) × IsInputNormalized e m.reading m.form input
 
 -- the encoded form of the input goes to the buffer
 abbrev pub WritesForm : Encoding → (input before after : List ℕ) → (count_before count : ℕ) → MadeForm → Result ⊤ Fault
     → Type 0
 WritesForm e input before after count_before count m outcome =
-    Fills (encoded_form e m.reading m.form input) before after count_before count outcome
+    Writes before after count_before count (NeedsNoMemory e input m) (encoded_form e m.reading m.form input) outcome
 
 -- it is reported whether the input is well-formed and normalized
 abbrev pub ReportsNormalized : Encoding → (input : List ℕ) → (before after : Bool) → MadeForm → Result ⊤ Fault
@@ -69,7 +75,7 @@ AtMapper None Unchanged Is outcome = (outcome ≡ Err NoMapper) × Unchanged
 AtMapper (Some m) Unchanged Is outcome = Is (mapper_data_of m) outcome
 
 -- a call at the mapper of a handle, unless it has no normalizers or no mapper
-abbrev pub OverMapper : Option Normalizers → (Unchanged : Type 0) → (MapperData → Result ⊤ Fault → Type 0)
+abbrev pub OverMapper : Result Normalizers Fault → (Unchanged : Type 0) → (MapperData → Result ⊤ Fault → Type 0)
     → Result ⊤ Fault → Type 0
 OverMapper h Unchanged Is outcome = OverHeld h Unchanged (λ n. AtMapper n.mapper Unchanged Is) outcome
 
@@ -77,4 +83,4 @@ OverMapper h Unchanged Is outcome = OverHeld h Unchanged (λ n. AtMapper n.mappe
 abbrev pub WritesMapped : Encoding → IgnoredCharacters → (input before after : List ℕ) → (count_before count : ℕ)
     → MapperData → Result ⊤ Fault → Type 0
 WritesMapped e i input before after count_before count h outcome =
-    Fills (encoded_in e (mapped_in h i (decoded_in e input))) before after count_before count outcome
+    Writes before after count_before count ⊥ (encoded_in e (mapped_in h i (decoded_in e input))) outcome

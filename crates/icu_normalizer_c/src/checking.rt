@@ -92,7 +92,7 @@ impl<'a> Question for Cut<&'a [u16]> {
 /// Reports whether `input` is well-formed UTF-8 and normalized.
 ///
 /// # Errors
-/// `NotOpen`, `UnknownForm`, or `Memory`, which never comes over short runs. `reported` is then unchanged.
+/// `NotOpen`, `InUse`, `UnknownForm`, or `Memory`, which never comes over short runs. `reported` is then unchanged.
 #[unsafe(no_mangle)]
 pub extern "C" fn icu_normalizer_is_normalized_utf8_nonnull(
     alloc: Global,
@@ -111,7 +111,7 @@ pub extern "C" fn icu_normalizer_is_normalized_utf8_nonnull(
 /// Reports whether `input` is well-formed UTF-16 and normalized.
 ///
 /// # Errors
-/// `NotOpen`, `UnknownForm`, or `Memory`, which never comes over short runs. `reported` is then unchanged.
+/// `NotOpen`, `InUse`, `UnknownForm`, or `Memory`, which never comes over short runs. `reported` is then unchanged.
 #[unsafe(no_mangle)]
 pub extern "C" fn icu_normalizer_is_normalized_utf16_nonnull(
     alloc: Global,
@@ -131,7 +131,7 @@ pub extern "C" fn icu_normalizer_is_normalized_utf16_nonnull(
 /// with, followed by the form of the rest.
 ///
 /// # Errors
-/// `NotOpen`, `UnknownForm`, or `Memory`, which never comes over short runs. `reported` is then unchanged.
+/// `NotOpen`, `InUse`, `UnknownForm`, or `Memory`, which never comes over short runs. `reported` is then unchanged.
 #[unsafe(no_mangle)]
 pub extern "C" fn icu_normalizer_split_utf8_nonnull(
     alloc: Global,
@@ -151,7 +151,7 @@ pub extern "C" fn icu_normalizer_split_utf8_nonnull(
 /// with, followed by the form of the rest.
 ///
 /// # Errors
-/// `NotOpen`, `UnknownForm`, or `Memory`, which never comes over short runs. `reported` is then unchanged.
+/// `NotOpen`, `InUse`, `UnknownForm`, or `Memory`, which never comes over short runs. `reported` is then unchanged.
 #[unsafe(no_mangle)]
 pub extern "C" fn icu_normalizer_split_utf16_nonnull(
     alloc: Global,

@@ -8,4 +8,5 @@ mod mismatch;
 mod opening;
 mod question;
 mod text;
+mod version;
 mod writing;

@@ -28,7 +28,7 @@ impl<'a> Text for Mapped<&'a [u8]> {
     type Unit = u8;
 
     ghost at = { λ t Unchanged Is n. AtMapper n.mapper Unchanged (λ h.
-        Is (encoded_in Encoding.Utf8 (mapped_in h t.ignored (decoded_in Encoding.Utf8 t.input.now)))) };
+        Is ⊥ (encoded_in Encoding.Utf8 (mapped_in h t.ignored (decoded_in Encoding.Utf8 t.input.now)))) };
 
     fn write(
         &self,
@@ -49,7 +49,7 @@ impl<'a> Text for Mapped<&'a [u16]> {
     type Unit = u16;
 
     ghost at = { λ t Unchanged Is n. AtMapper n.mapper Unchanged (λ h.
-        Is (encoded_in Encoding.Utf16 (mapped_in h t.ignored (decoded_in Encoding.Utf16 t.input.now)))) };
+        Is ⊥ (encoded_in Encoding.Utf16 (mapped_in h t.ignored (decoded_in Encoding.Utf16 t.input.now)))) };
 
     fn write(
         &self,
@@ -70,8 +70,8 @@ impl<'a> Text for Mapped<&'a [u16]> {
 /// become U+FFFD. `needed` is then how many units there are.
 ///
 /// # Errors
-/// `NotOpen`, `NoMapper`, `Memory`, or `BufferTooSmall`, after which `needed` is how many units there are. `output` is
-/// then unchanged.
+/// `NotOpen`, `InUse`, `NoMapper`, `Memory`, or `BufferTooSmall`, after which `needed` is how many units there are.
+/// `output` is then unchanged.
 #[unsafe(no_mangle)]
 pub extern "C" fn icu_normalizer_map_utf8_nonnull(
     alloc: Global,
@@ -93,8 +93,8 @@ pub extern "C" fn icu_normalizer_map_utf8_nonnull(
 /// `needed` is then how many units there are. Mapped text is valid only if this leaves it unchanged.
 ///
 /// # Errors
-/// `NotOpen`, `NoMapper`, `Memory`, or `BufferTooSmall`, after which `needed` is how many units there are. `output` is
-/// then unchanged.
+/// `NotOpen`, `InUse`, `NoMapper`, `Memory`, or `BufferTooSmall`, after which `needed` is how many units there are.
+/// `output` is then unchanged.
 #[unsafe(no_mangle)]
 pub extern "C" fn icu_normalizer_validate_utf8_nonnull(
     alloc: Global,
@@ -116,8 +116,8 @@ pub extern "C" fn icu_normalizer_validate_utf8_nonnull(
 /// become U+FFFD. `needed` is then how many units there are.
 ///
 /// # Errors
-/// `NotOpen`, `NoMapper`, `Memory`, or `BufferTooSmall`, after which `needed` is how many units there are. `output` is
-/// then unchanged.
+/// `NotOpen`, `InUse`, `NoMapper`, `Memory`, or `BufferTooSmall`, after which `needed` is how many units there are.
+/// `output` is then unchanged.
 #[unsafe(no_mangle)]
 pub extern "C" fn icu_normalizer_map_utf16_nonnull(
     alloc: Global,
@@ -139,8 +139,8 @@ pub extern "C" fn icu_normalizer_map_utf16_nonnull(
 /// `needed` is then how many units there are. Mapped text is valid only if this leaves it unchanged.
 ///
 /// # Errors
-/// `NotOpen`, `NoMapper`, `Memory`, or `BufferTooSmall`, after which `needed` is how many units there are. `output` is
-/// then unchanged.
+/// `NotOpen`, `InUse`, `NoMapper`, `Memory`, or `BufferTooSmall`, after which `needed` is how many units there are.
+/// `output` is then unchanged.
 #[unsafe(no_mangle)]
 pub extern "C" fn icu_normalizer_validate_utf16_nonnull(
     alloc: Global,

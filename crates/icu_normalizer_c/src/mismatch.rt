@@ -95,7 +95,7 @@ impl<'a> Question for FirstMismatch<&'a [u16]> {
 /// character found there and the one expected. At an ill-formed sequence, U+FFFD is found.
 ///
 /// # Errors
-/// `NotOpen`, `UnknownForm`, or `Memory`, which never comes over short runs. `reported` is then unchanged.
+/// `NotOpen`, `InUse`, `UnknownForm`, or `Memory`, which never comes over short runs. `reported` is then unchanged.
 #[unsafe(no_mangle)]
 pub extern "C" fn icu_normalizer_first_mismatch_utf8_nonnull(
     alloc: Global,
@@ -115,7 +115,7 @@ pub extern "C" fn icu_normalizer_first_mismatch_utf8_nonnull(
 /// character found there and the one expected. At an ill-formed sequence, U+FFFD is found.
 ///
 /// # Errors
-/// `NotOpen`, `UnknownForm`, or `Memory`, which never comes over short runs. `reported` is then unchanged.
+/// `NotOpen`, `InUse`, `UnknownForm`, or `Memory`, which never comes over short runs. `reported` is then unchanged.
 #[unsafe(no_mangle)]
 pub extern "C" fn icu_normalizer_first_mismatch_utf16_nonnull(
     alloc: Global,

@@ -1,7 +1,7 @@
 //! Opening and closing.
-ghost use Rattle.std.specs.Prelude.{◌≡◌, [], None, Ok};
+ghost use Rattle.std.specs.Prelude.{◌≡◌, [], Ok};
 ghost use Rattle.normalizer_handles.specs.Defects.{IsStatusReporting};
-ghost use Rattle.normalizer_handles.specs.Handles.{held_normalizers};
+ghost use Rattle.normalizer_handles.specs.Handles.{held_normalizers, Closes, Shares};
 ghost use Rattle.normalizer_handles.specs.Opening.{both, of_idna_table, of_unicode_data, Opens};
 ghost use Rattle.normalizer_handles.specs.PlainRecords.{entries_of, mapper_entries_of};
 ghost use Rattle.normalizer_handles.specs.Status.{IsStatus};
@@ -16,7 +16,7 @@ use std::alloc::Global;
 /// had is closed.
 ///
 /// # Errors
-/// `Line`, `Records` or `Memory`. The handle then has what it had.
+/// `InUse`, `Line`, `Records` or `Memory`. The handle then has what it had.
 #[unsafe(no_mangle)]
 pub extern "C" fn icu_normalizer_open_unicode_data_nonnull(
     alloc: Global,
@@ -35,7 +35,7 @@ pub extern "C" fn icu_normalizer_open_unicode_data_nonnull(
 /// mapped there is no mapper. What the handle had is closed.
 ///
 /// # Errors
-/// `Line`, `Records` or `Memory`. The handle then has what it had. `defect` says where a file is wrong.
+/// `InUse`, `Line`, `Records` or `Memory`. The handle then has what it had. `defect` says where a file is wrong.
 #[unsafe(no_mangle)]
 pub extern "C" fn icu_normalizer_open_files_nonnull(
     alloc: Global,
@@ -66,8 +66,8 @@ pub extern "C" fn icu_normalizer_open_files_nonnull(
 /// `codes`. Without records of the mapper there is none. What the handle had is closed.
 ///
 /// # Errors
-/// `Record`, `MapperRecord`, `Records` or `Memory`. The handle then has what it had. `defect` says which record is
-/// wrong.
+/// `InUse`, `Record`, `MapperRecord`, `Records` or `Memory`. The handle then has what it had. `defect` says which
+/// record is wrong.
 #[unsafe(no_mangle)]
 pub extern "C" fn icu_normalizer_open_records_nonnull(
     alloc: Global,
@@ -85,10 +85,28 @@ pub extern "C" fn icu_normalizer_open_records_nonnull(
     status_reporting(outcome, defect)
 }
 
-/// Closes what the handle has, if it has normalizers.
+/// Opens `to` by the data of `from`, which both then share: nothing is read or copied. What `to` had is closed.
+///
+/// # Errors
+/// `NotOpen` or `InUse` of `from`, `InUse` of `to`, or `Memory`. `to` then has what it had.
 #[unsafe(no_mangle)]
-pub extern "C" fn icu_normalizer_close(alloc: Global, handle: &mut Handle)
-    ensures { held_normalizers handle.new ≡ None }
+pub extern "C" fn icu_normalizer_share_nonnull(
+    alloc: Global,
+    from: &mut Handle,
+    to: &mut Handle,
+) -> u32
+    ensures status { IsStatus result
+        (Shares (held_normalizers from.old) (held_normalizers to.old) (held_normalizers to.new)) }
+    ensures kept { held_normalizers from.new ≡ held_normalizers from.old }
 {
-    handle.take(alloc);
+    status(from.share(alloc, to))
+}
+
+/// Closes the handle, which then has no normalizers. The last handle over the same data frees them. A handle that
+/// another call has in use is unchanged.
+#[unsafe(no_mangle)]
+pub extern "C" fn icu_normalizer_close_nonnull(alloc: Global, handle: &mut Handle)
+    ensures { Closes (held_normalizers handle.old) (held_normalizers handle.new) }
+{
+    handle.close(alloc);
 }

@@ -57,11 +57,9 @@ fn report_over<Q: Question>(
         Reports m Q.encoding (Q.units question.now) (Q.is question.now m) reported.old reported.new) result }
     ensures kept { held_normalizers handle.new ≡ held_normalizers handle.old }
 {
-    let Some(normalizers) = handle.take(alloc) else {
-        return Err(Fault::NotOpen);
-    };
-    let outcome = report_at(&normalizers, form, question, reported);
-    handle.put(alloc, normalizers);
+    let owner = handle.take(alloc)?;
+    let outcome = report_at(&owner.normalizers, form, question, reported);
+    handle.put(alloc, owner);
     outcome
 }
 

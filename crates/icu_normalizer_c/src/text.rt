@@ -1,7 +1,7 @@
 //! Texts for the buffers of callers.
 ghost use Rattle.std.specs.Prelude.{◌≡◌, List, ⊤, Result};
 ghost use Rattle.normalizer_handles.specs.declared.fault.Fault.{Fault};
-ghost use Rattle.icu_normalizer_c.specs.Buffers.{Fills};
+ghost use Rattle.icu_normalizer_c.specs.Buffers.{Writes};
 ghost use Rattle.icu_normalizer_c.specs.Calls.{OverHeld};
 ghost use Rattle.normalizer_handles.specs.Handles.{held_normalizers};
 ghost use Rattle.normalizer_handles.specs.Status.{IsStatus};
@@ -14,8 +14,10 @@ use std::alloc::Global;
 pub(crate) trait Text {
     type Unit: Copy;
 
-    /// A call that makes the text, if there is its form or a mapper; of the text's units this is said.
-    ghost at: { Self → (Type 0) → (List Self.Unit → Result ⊤ Fault → Type 0) → Normalizers → Result ⊤ Fault → Type 0 };
+    /// A call that makes the text, if there is its form or a mapper; of when memory suffices and of the text's units
+    /// this is said.
+    ghost at: { Self → (Type 0) → (Type 0 → List Self.Unit → Result ⊤ Fault → Type 0) → Normalizers
+        → Result ⊤ Fault → Type 0 };
 
     fn write(
         &self,
@@ -25,7 +27,7 @@ pub(crate) trait Text {
         needed: &mut usize,
     ) -> Result<(), Fault>
         ensures { at self.now ((output.new ≡ output.old) × (needed.new ≡ needed.old))
-            (λ units. Fills units output.old output.new needed.old needed.new) normalizers.now result };
+            (Writes output.old output.new needed.old needed.new) normalizers.now result };
 }
 
 /// Writes a text that the normalizers of a handle make, and returns the status.
@@ -39,7 +41,7 @@ pub(crate) fn write<T: Text>(
     ensures status { IsStatus result (OverHeld (held_normalizers handle.old)
         ((output.new ≡ output.old) × (needed.new ≡ needed.old))
         (T.at text.now ((output.new ≡ output.old) × (needed.new ≡ needed.old))
-        (λ units. Fills units output.old output.new needed.old needed.new))) }
+        (Writes output.old output.new needed.old needed.new))) }
     ensures kept { held_normalizers handle.new ≡ held_normalizers handle.old }
 {
     status(write_over(alloc, handle, text, output, needed))
@@ -54,13 +56,11 @@ fn write_over<T: Text>(
 ) -> Result<(), Fault>
     ensures over { OverHeld (held_normalizers handle.old) ((output.new ≡ output.old) × (needed.new ≡ needed.old))
         (T.at text.now ((output.new ≡ output.old) × (needed.new ≡ needed.old))
-        (λ units. Fills units output.old output.new needed.old needed.new)) result }
+        (Writes output.old output.new needed.old needed.new)) result }
     ensures kept { held_normalizers handle.new ≡ held_normalizers handle.old }
 {
-    let Some(normalizers) = handle.take(alloc) else {
-        return Err(Fault::NotOpen);
-    };
-    let outcome = text.write(alloc, &normalizers, output, needed);
-    handle.put(alloc, normalizers);
+    let owner = handle.take(alloc)?;
+    let outcome = text.write(alloc, &owner.normalizers, output, needed);
+    handle.put(alloc, owner);
     outcome
 }

@@ -4,7 +4,7 @@ ghost use Rattle.std.specs.Cow.{cow_slice_items, cow_str_bytes, IsBorrowedSlice,
 ghost use Rattle.normalizer_text.specs.Encodings.{Encoding};
 ghost use Rattle.normalizer_text.specs.EncodedForm.{encoded_form};
 ghost use Rattle.icu_normalizer.specs.Owned.{ReturnsForm};
-ghost use Rattle.icu_normalizer_c.specs.Calls.{AtForm, Over, WritesForm};
+ghost use Rattle.icu_normalizer_c.specs.Calls.{AtForm, NeedsNoMemory, Over, WritesForm};
 ghost use Rattle.normalizer_handles.specs.Handles.{held_normalizers};
 ghost use Rattle.normalizer_handles.specs.Status.{IsStatus};
 ghost use Rattle.normalizer_handles.specs.Made.{made_by};
@@ -27,7 +27,8 @@ impl<'a> Text for Form<&'a [u8]> {
     type Unit = u8;
 
     ghost at = { λ t Unchanged Is n.
-        AtForm n t.form Unchanged (λ m. Is (encoded_form Encoding.Utf8 m.reading m.form t.input.now)) };
+        AtForm n t.form Unchanged (λ m.
+        Is (NeedsNoMemory Encoding.Utf8 t.input.now m) (encoded_form Encoding.Utf8 m.reading m.form t.input.now)) };
 
     fn write(
         &self,
@@ -45,7 +46,8 @@ impl<'a> Text for Form<&'a [u16]> {
     type Unit = u16;
 
     ghost at = { λ t Unchanged Is n.
-        AtForm n t.form Unchanged (λ m. Is (encoded_form Encoding.Utf16 m.reading m.form t.input.now)) };
+        AtForm n t.form Unchanged (λ m.
+        Is (NeedsNoMemory Encoding.Utf16 t.input.now m) (encoded_form Encoding.Utf16 m.reading m.form t.input.now)) };
 
     fn write(
         &self,
@@ -116,8 +118,8 @@ fn normalize_utf16<'t>(
 /// Writes the form of what `input` decodes to, in UTF-8. `needed` is then how many units the form has.
 ///
 /// # Errors
-/// `NotOpen`, `UnknownForm`, `Memory`, or `BufferTooSmall`, after which `needed` is how many units the form has.
-/// `output` is then unchanged.
+/// `NotOpen`, `InUse`, `UnknownForm`, `Memory`, which never comes for normalized input of short runs, or
+/// `BufferTooSmall`, after which `needed` is how many units the form has. `output` is then unchanged.
 #[unsafe(no_mangle)]
 pub extern "C" fn icu_normalizer_normalize_utf8_nonnull(
     alloc: Global,
@@ -138,8 +140,8 @@ pub extern "C" fn icu_normalizer_normalize_utf8_nonnull(
 /// Writes the form of what `input` decodes to, in UTF-16. `needed` is then how many units the form has.
 ///
 /// # Errors
-/// `NotOpen`, `UnknownForm`, `Memory`, or `BufferTooSmall`, after which `needed` is how many units the form has.
-/// `output` is then unchanged.
+/// `NotOpen`, `InUse`, `UnknownForm`, `Memory`, which never comes for normalized input of short runs, or
+/// `BufferTooSmall`, after which `needed` is how many units the form has. `output` is then unchanged.
 #[unsafe(no_mangle)]
 pub extern "C" fn icu_normalizer_normalize_utf16_nonnull(
     alloc: Global,

@@ -1,3 +1,4 @@
 mod AsBox
+mod Crosses
 mod MadeLemmas
 mod OpeningLemmas

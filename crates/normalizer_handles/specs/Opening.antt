@@ -1,5 +1,5 @@
 -- What a handle is opened by, and why it isn't.
-use Rattle.std.specs.Prelude.{◌≡◌, ◌⊎◌, ℕ, List, ⊤, Option, Some, Result, Ok, Err}
+use Rattle.std.specs.Prelude.{◌≡◌, ◌≢◌, ◌⊎◌, ℕ, List, ⊤, Result, Ok, Err}
 use Rattle.normalizer_builder.specs.Building.{IsSmallest}
 use Rattle.normalizer_records.specs.RecordValue.{RecordValue, Uts46RecordValue}
 use Rattle.normalizer_ucd.specs.declared.error.LineFault.{LineFault}
@@ -7,7 +7,7 @@ use Rattle.normalizer_ucd.specs.declared.idna_table.Disallowed.TheVariants.{Rang
 use Rattle.normalizer_ucd.specs.IdnaTable.{uts46_records_beside}
 use Rattle.normalizer_ucd.specs.UnicodeData.{records_of}
 use Rattle.normalizer_handles.specs.declared.fault.Fault.{Fault}
-use Rattle.normalizer_handles.specs.declared.fault.Fault.TheVariants.{Memory, Line, Records}
+use Rattle.normalizer_handles.specs.declared.fault.Fault.TheVariants.{Memory, Line, Records, InUse}
 use Rattle.normalizer_handles.specs.declared.normalizers.Normalizers.{Normalizers}
 use Rattle.normalizer_handles.specs.Made.{MakeBy, MapBy}
 
@@ -57,6 +57,12 @@ AreOf (Ok source) n = MakeBy n source.0 × MapBy n.mapper source.0 source.1
 AreOf (Err own) n = ⊥
 
 -- the handle has normalizers by the source, or what it had before
-abbrev pub Opens : Source → (before after : Option Normalizers) → Result ⊤ Fault → Type 0
-Opens source before after (Ok done) = (n : Normalizers) × (after ≡ Some n) × AreOf source n
-Opens source before after (Err fault) = (after ≡ before) × IsFaultOf source fault
+abbrev pub HoldsBy : Source → (before after : Result Normalizers Fault) → Result ⊤ Fault → Type 0
+HoldsBy source before after (Ok done) = (n : Normalizers) × (after ≡ Ok n) × AreOf source n
+HoldsBy source before after (Err fault) = (after ≡ before) × IsFaultOf source fault
+
+-- the same, unless a call has what the handle had
+abbrev pub Opens : Source → (before after : Result Normalizers Fault) → Result ⊤ Fault → Type 0
+Opens source before after outcome =
+    ((before ≡ Err InUse) × (outcome ≡ Err InUse) × (after ≡ before))
+    ⊎ ((before ≢ Err InUse) × HoldsBy source before after outcome)

@@ -6,7 +6,7 @@ use mir.Syntax.{Ty}
 use denote.RawPtr.{Ptr}
 use Rattle.std.specs.Coded.{coded_option}
 use Rattle.std.specs.Box.Ownership.{box_owns}
-use Rattle.normalizer_handles.specs.contracts.normalizers.Normalizers.{the_row}
+use Rattle.normalizer_handles.specs.contracts.owner.Owner.{the_row}
 
 abbrev pub slot_owns : (holds : Ty → Ptr → Fml) → Ptr → Option the_row.Denot → Fml
 slot_owns holds at None = ftrue

@@ -10,6 +10,7 @@ use Rattle.normalizer_handles.specs.declared.fault.Fault.TheVariants.{
   Memory,
   UnknownForm,
   NotOpen,
+  InUse,
   Line,
   Records,
   NoMapper,
@@ -27,6 +28,7 @@ number_of (Records error) = 6
 number_of NoMapper = 7
 number_of (Record index) = 8
 number_of (MapperRecord index) = 8
+number_of InUse = 9
 
 -- 0, or the number of the fault
 abbrev pub status_of : Result ⊤ Fault → ℕ

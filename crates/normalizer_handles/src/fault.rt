@@ -18,6 +18,8 @@ pub enum Fault {
     UnknownForm,
     /// The handle has no normalizers.
     NotOpen,
+    /// A call has the normalizers of the handle.
+    InUse,
     /// A line of a data file is wrong.
     Line(LineFault),
     /// The records can't be built.
@@ -44,6 +46,7 @@ impl Fault {
             Fault::Records(_) => 6,
             Fault::NoMapper => 7,
             Fault::Record(_) | Fault::MapperRecord(_) => 8,
+            Fault::InUse => 9,
         }
     }
 }

@@ -1,8 +1,10 @@
 //! What C keeps of normalizers that it opened.
-ghost use Rattle.std.specs.Prelude.{◌≡◌, ◌↔◌, Some, None, IsTrue, IsSome, MatchOption};
+ghost use Rattle.std.specs.Prelude.{◌≡◌, ◌↔◌, ◌≢◌, Some, None, Ok, Err, IsTrue, IsSome, MatchOption, MatchResult};
+ghost use Rattle.normalizer_handles.specs.declared.fault.Fault.TheVariants.{InUse, NotOpen};
 
 use crate::box_parts::Parts;
-use crate::normalizers::Normalizers;
+use crate::fault::Fault;
+use crate::owner::Owner;
 use crate::slot::Slot;
 use std::alloc::Global;
 
@@ -12,31 +14,44 @@ use std::alloc::Global;
 pub struct Handle {
     pub(crate) slot: Slot,
     is_open: bool,
+    /// Whether a call has what the handle had.
+    is_in_use: bool,
     ghost tells: { IsTrue is_open ↔ IsSome slot.value },
 }
 
 impl Handle {
-    ghost use Rattle.normalizer_handles.specs.Handles.{held_normalizers};
+    ghost use Rattle.normalizer_handles.specs.Handles.{held_in, held_normalizers, owned_by, Closes, Shares};
 
-    fn of(alloc: Global, value: Option<Box<Normalizers>>) -> Handle
-        ensures { MatchOption value (held_normalizers result ≡ None) (λ b. held_normalizers result ≡ Some b.value) }
+    fn of(alloc: Global, value: Option<Box<Owner>>, is_in_use: bool) -> Handle
+        ensures { MatchOption value (held_normalizers result ≡ held_in is_in_use None)
+            (λ b. held_normalizers result ≡ held_in is_in_use (Some b.value)) }
     {
         match value {
             Some(value) => Handle {
                 slot: Slot::of_parts(Parts::of(value)),
                 is_open: true,
+                is_in_use,
             },
             None => Handle {
                 slot: Slot::empty(alloc),
                 is_open: false,
+                is_in_use,
             },
         }
     }
 
-    fn into_box(self) -> Option<Box<Normalizers>>
-        ensures { MatchOption result (held_normalizers self ≡ None) (λ b. held_normalizers self ≡ Some b.value) }
+    /// Returns a handle that has no normalizers.
+    pub(crate) fn closed(alloc: Global) -> Handle
+        ensures { held_normalizers result ≡ Err NotOpen }
     {
-        let Handle { slot, is_open } = self;
+        Handle::of(alloc, None, false)
+    }
+
+    fn into_box(self) -> Option<Box<Owner>>
+        ensures { MatchOption result (held_normalizers self ≡ held_in self.is_in_use None)
+            (λ b. held_normalizers self ≡ held_in self.is_in_use (Some b.value)) }
+    {
+        let Handle { slot, is_open, .. } = self;
         if is_open {
             Some(slot.into_parts().into_box())
         } else {
@@ -44,33 +59,73 @@ impl Handle {
         }
     }
 
-    /// Puts normalizers into the handle, or none, and returns those that were there.
-    pub(crate) fn replace(
-        &mut self,
-        alloc: Global,
-        value: Option<Box<Normalizers>>,
-    ) -> Option<Box<Normalizers>>
-        ensures was { MatchOption result (held_normalizers self.old ≡ None)
-            (λ b. held_normalizers self.old ≡ Some b.value) }
-        ensures is { MatchOption value (held_normalizers self.new ≡ None)
-            (λ b. held_normalizers self.new ≡ Some b.value) }
+    /// Returns whether a call has what the handle had.
+    pub(crate) fn is_in_use(&self) -> bool
+        ensures { IsTrue result ↔ (held_normalizers self.now ≡ Err InUse) }
     {
-        std::mem::replace(self, Handle::of(alloc, value)).into_box()
+        self.is_in_use
     }
 
-    /// Takes the normalizers out of the handle.
-    pub fn take(&mut self, alloc: Global) -> Option<Box<Normalizers>>
-        ensures was { MatchOption result (held_normalizers self.old ≡ None)
-            (λ b. held_normalizers self.old ≡ Some b.value) }
-        ensures is { held_normalizers self.new ≡ None }
+    /// Takes the normalizers out of the handle, which is in use from then on.
+    ///
+    /// # Errors
+    /// `NotOpen` or `InUse`. The handle is then unchanged.
+    pub fn take(&mut self, alloc: Global) -> Result<Box<Owner>, Fault>
+        ensures was { MatchResult result (λ owner. held_normalizers self.old ≡ Ok (owned_by owner.value))
+            (λ fault. held_normalizers self.old ≡ Err fault) }
+        ensures is { MatchResult result (λ _. held_normalizers self.new ≡ Err InUse)
+            (λ _. held_normalizers self.new ≡ held_normalizers self.old) }
     {
-        self.replace(alloc, None)
+        if self.is_in_use {
+            return Err(Fault::InUse);
+        }
+        match std::mem::replace(self, Handle::of(alloc, None, true)).into_box() {
+            Some(owner) => Ok(owner),
+            None => {
+                *self = Handle::closed(alloc);
+                Err(Fault::NotOpen)
+            }
+        }
     }
 
     /// Puts normalizers into the handle, and drops those that were there.
-    pub fn put(&mut self, alloc: Global, normalizers: Box<Normalizers>)
-        ensures { held_normalizers self.new ≡ Some normalizers.value }
+    pub fn put(&mut self, alloc: Global, owner: Box<Owner>)
+        ensures { held_normalizers self.new ≡ Ok (owned_by owner.value) }
     {
-        self.replace(alloc, Some(normalizers));
+        std::mem::replace(self, Handle::of(alloc, Some(owner), false)).into_box();
     }
+
+    /// Drops the normalizers of the handle, if it has some. A handle in use stays so.
+    pub fn close(&mut self, alloc: Global)
+        ensures { Closes (held_normalizers self.old) (held_normalizers self.new) }
+    {
+        if !self.is_in_use {
+            std::mem::replace(self, Handle::closed(alloc)).into_box();
+        }
+    }
+
+    /// Puts a share in the normalizers of this handle into another, and drops those that were there.
+    ///
+    /// # Errors
+    /// `NotOpen`, `InUse` or `Memory`. The other handle then has what it had.
+    pub fn share(&mut self, alloc: Global, to: &mut Handle) -> Result<(), Fault>
+        ensures shares { Shares (held_normalizers self.old) (held_normalizers to.old) (held_normalizers to.new) result }
+        ensures kept { held_normalizers self.new ≡ held_normalizers self.old }
+    {
+        if to.is_in_use {
+            return Err(Fault::InUse);
+        }
+        let owner = self.take(alloc)?;
+        let another = owner.another(alloc);
+        self.put(alloc, owner);
+        to.put(alloc, another?);
+        Ok(())
+    }
+}
+
+fn crosses<T: Send>() {}
+
+/// Says that a handle may go to another thread.
+pub fn handle_crosses() {
+    crosses::<Handle>()
 }

@@ -8,12 +8,16 @@ mod form;
 mod handle;
 mod normalizers;
 mod opening;
+mod owner;
 mod plain_records;
 mod slot;
+#[cfg(test)]
+mod tests;
 
 pub use defect::{Defect, status_reporting};
 pub use fault::{Fault, status};
-pub use handle::Handle;
+pub use handle::{Handle, handle_crosses};
 pub use normalizers::{Normalizer, Normalizers};
 pub use opening::{open_files, open_records, open_unicode_data};
+pub use owner::Owner;
 pub use plain_records::{PlainMapperRecord, PlainRecord};

@@ -4,6 +4,7 @@ ghost use Rattle.normalizer_handles.specs.Handles.{held_normalizers};
 ghost use Rattle.normalizer_handles.specs.Made.{MakeBy, MapBy};
 ghost use Rattle.normalizer_handles.specs.Opening.{
   both,
+  HoldsBy,
   IsBuildFault,
   of_idna_table,
   of_unicode_data,
@@ -15,6 +16,7 @@ ghost use Rattle.normalizer_handles.specs.PlainRecords.{entries_of, mapper_entri
 use crate::fault::Fault;
 use crate::handle::Handle;
 use crate::normalizers::Normalizers;
+use crate::owner::Owner;
 use crate::plain_records::{PlainMapperRecord, PlainRecord, records_of_plain};
 use icu_normalizer::{Record, Records, Uts46Record};
 use normalizer_ucd::{Disallowed, records_of_unicode_data, uts46_records_beside_exclusions};
@@ -24,7 +26,7 @@ use std::alloc::Global;
 /// had is dropped.
 ///
 /// # Errors
-/// `Line`, `Records` or `Memory`. The handle then has what it had.
+/// `InUse`, `Line`, `Records` or `Memory`. The handle then has what it had.
 pub fn open_unicode_data(
     alloc: Global,
     handle: &mut Handle,
@@ -34,6 +36,9 @@ pub fn open_unicode_data(
     ensures { Opens (both (of_unicode_data unicode_data.now exclusions.now) (Ok []))
         (held_normalizers handle.old) (held_normalizers handle.new) result }
 {
+    if handle.is_in_use() {
+        return Err(Fault::InUse);
+    }
     let records = unicode_data_records(alloc, unicode_data, exclusions)?;
     open(alloc, handle, &records, &[])
 }
@@ -43,7 +48,7 @@ pub fn open_unicode_data(
 /// mapped there is no mapper. What the handle had is dropped.
 ///
 /// # Errors
-/// `Line`, `Records` or `Memory`. The handle then has what it had.
+/// `InUse`, `Line`, `Records` or `Memory`. The handle then has what it had.
 pub fn open_files(
     alloc: Global,
     handle: &mut Handle,
@@ -57,6 +62,9 @@ pub fn open_files(
         (of_idna_table exclusions.now idna_table.now disallowed_limit))
         (held_normalizers handle.old) (held_normalizers handle.new) result }
 {
+    if handle.is_in_use() {
+        return Err(Fault::InUse);
+    }
     let records = unicode_data_records(alloc, unicode_data, exclusions)?;
     let mapper = idna_table_records(alloc, exclusions, idna_table, disallowed_limit)?;
     open(alloc, handle, &records, &mapper)
@@ -66,7 +74,7 @@ pub fn open_files(
 /// `codes`. Without records of the mapper there is none. What the handle had is dropped.
 ///
 /// # Errors
-/// `Record`, `MapperRecord`, `Records` or `Memory`. The handle then has what it had.
+/// `InUse`, `Record`, `MapperRecord`, `Records` or `Memory`. The handle then has what it had.
 pub fn open_records(
     alloc: Global,
     handle: &mut Handle,
@@ -77,6 +85,9 @@ pub fn open_records(
     ensures { Opens (both (entries_of codes.now records.now) (mapper_entries_of codes.now mapper_records.now))
         (held_normalizers handle.old) (held_normalizers handle.new) result }
 {
+    if handle.is_in_use() {
+        return Err(Fault::InUse);
+    }
     let records = records_of_plain(alloc, codes, records)?;
     let mapper = records_of_plain(alloc, codes, mapper_records)?;
     open(alloc, handle, &records, &mapper)
@@ -111,16 +122,12 @@ fn open(
     records: &[Record],
     mapper: &[Uts46Record],
 ) -> Result<(), Fault>
-    ensures { Opens (Ok (records.now, mapper.now)) (held_normalizers handle.old) (held_normalizers handle.new) result }
+    ensures { HoldsBy (Ok (records.now, mapper.now)) (held_normalizers handle.old) (held_normalizers handle.new) result }
 {
     let normalizers = normalizers_of(alloc, records, mapper)?;
-    match Box::new(alloc, normalizers) {
-        Ok(normalizers) => {
-            handle.put(alloc, normalizers);
-            Ok(())
-        }
-        Err(_) => Err(Fault::Memory),
-    }
+    let owner = Owner::of(alloc, normalizers)?;
+    handle.put(alloc, owner);
+    Ok(())
 }
 
 fn normalizers_of(

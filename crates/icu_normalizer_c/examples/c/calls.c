@@ -279,9 +279,49 @@ static void parts_of_files(icu_normalizer *normalizer) {
         ICU_NORMALIZER_IDNA_MAPPING_TABLE, 24);
 }
 
+/* Handles over the same data, each opened and closed by itself. */
+static void sharing(icu_normalizer *normalizer) {
+    icu_normalizer other = ICU_NORMALIZER_CLOSED, third = ICU_NORMALIZER_CLOSED;
+    EXPECT(icu_normalizer_share(&other, &third) == ICU_NORMALIZER_NOT_OPEN);
+    EXPECT(icu_normalizer_share(&other, &other) == ICU_NORMALIZER_NOT_OPEN);
+    EXPECT(icu_normalizer_share(normalizer, normalizer) == ICU_NORMALIZER_OK);
+    unless_refused(icu_normalizer_share(normalizer, &other));
+    unless_refused(icu_normalizer_share(&other, &third));
+    utf8(&other);
+    icu_normalizer_close(&other);
+    utf8(&third);
+    utf8(normalizer);
+    unless_refused(icu_normalizer_share(&third, normalizer));
+    EXPECT(icu_normalizer_share(&other, &third) == ICU_NORMALIZER_NOT_OPEN);
+    utf8(&third);
+    icu_normalizer_close(&third);
+    utf8(normalizer);
+    /* As if another call had the handle: nothing changes. */
+    size_t number = 7;
+    other.is_in_use = true;
+    EXPECT(icu_normalizer_split_utf8(&other, ICU_NORMALIZER_NFC, NULL, 0, &number) == ICU_NORMALIZER_IN_USE);
+    EXPECT(icu_normalizer_open_unicode_data(&other, NULL, 0, NULL, 0) == ICU_NORMALIZER_IN_USE);
+    EXPECT(icu_normalizer_share(normalizer, &other) == ICU_NORMALIZER_IN_USE);
+    EXPECT(icu_normalizer_share(&other, normalizer) == ICU_NORMALIZER_IN_USE);
+    icu_normalizer_close(&other);
+    EXPECT(other.is_in_use && number == 7);
+    utf8(normalizer);
+    icu_normalizer_close(NULL);
+}
+
+static void versions(void) {
+    EXPECT(icu_normalizer_version() == ICU_NORMALIZER_VERSION);
+    EXPECT(icu_normalizer_unicode_version(bytes_of("# CompositionExclusions-15.1.0.txt\n0958\n"), 40) == 0x0F0100);
+    EXPECT(icu_normalizer_unicode_version(bytes_of("# IdnaMappingTable of 9.0.0"), 27) == 0x090000);
+    EXPECT(icu_normalizer_unicode_version(bytes_of("# 1.2\n# 15.0.0\n"), 15) == 0);
+    EXPECT(icu_normalizer_unicode_version(bytes_of("# 15.300.0\n"), 11) == 0);
+    EXPECT(icu_normalizer_unicode_version(NULL, 0) == 0);
+}
+
 int main(int count, char **words) {
     if (count != 2) failed("calls DIRECTORY", __LINE__);
     icu_normalizer normalizer = ICU_NORMALIZER_CLOSED;
+    versions();
     closed(&normalizer);
     EXPECT(icu_normalizer_open_unicode_data(&normalizer, bytes_of("00E4;\n"), 6, NULL, 0) != ICU_NORMALIZER_OK);
     closed(&normalizer);
@@ -298,6 +338,7 @@ int main(int count, char **words) {
     EXPECT(status == ICU_NORMALIZER_OK);
     utf8(&normalizer);
     utf16(&normalizer);
+    sharing(&normalizer);
     /* What is open stays open if the next data are wrong. */
     EXPECT(icu_normalizer_open_unicode_data(&normalizer, bytes_of("00E4;\n"), 6, NULL, 0) != ICU_NORMALIZER_OK);
     utf8(&normalizer);

@@ -104,9 +104,13 @@ static void run(void) {
     icu_normalizer other = ICU_NORMALIZER_CLOSED;
     is_done(icu_normalizer_open_unicode_data(&other, (const uint8_t *)data, sizeof data - 1,
         (const uint8_t *)exclusions, sizeof exclusions - 1));
+    icu_normalizer third = ICU_NORMALIZER_CLOSED;
+    if (is_open && is_done(icu_normalizer_share(&normalizer, &other)) && is_done(icu_normalizer_share(&other, &third)))
+        calls(&third);
     EXPECT(defect.place == 7 && defect.source == 7 && defect.reason == 7);
     icu_normalizer_close(&normalizer);
     icu_normalizer_close(&other);
+    icu_normalizer_close(&third);
 }
 
 int main(void) {

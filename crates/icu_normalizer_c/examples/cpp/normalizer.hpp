@@ -35,6 +35,13 @@ public:
     Normalizer(Normalizer &&other) noexcept : handle(other.handle) {
         other.handle = icu_normalizer ICU_NORMALIZER_CLOSED;
     }
+    // Another normalizer over the same data, for another thread.
+    Normalizer share() {
+        Normalizer other;
+        check(icu_normalizer_share(&handle, &other.handle));
+        return other;
+    }
+
     Normalizer(const Normalizer &) = delete;
     Normalizer &operator=(const Normalizer &) = delete;
     Normalizer &operator=(Normalizer &&) = delete;
@@ -102,6 +109,8 @@ public:
 
 private:
     icu_normalizer handle = ICU_NORMALIZER_CLOSED;
+
+    Normalizer() = default;
 
     static icu_normalizer_form number(NormalForm form) { return static_cast<icu_normalizer_form>(form); }
 

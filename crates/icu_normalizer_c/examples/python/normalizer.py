@@ -3,7 +3,7 @@ import ctypes
 from enum import IntEnum
 
 OK, BUFFER_TOO_SMALL, OUT_OF_MEMORY, UNKNOWN_FORM, NOT_OPEN = range(5)
-WRONG_LINE, WRONG_RECORDS, NO_MAPPER, WRONG_RECORD = range(5, 9)
+WRONG_LINE, WRONG_RECORDS, NO_MAPPER, WRONG_RECORD, IN_USE = range(5, 10)
 TEXTS = {
     UNKNOWN_FORM: "no form has this number",
     NOT_OPEN: "the normalizer isn't open",
@@ -11,6 +11,7 @@ TEXTS = {
     WRONG_RECORDS: "the records can't be built into tables",
     NO_MAPPER: "the normalizer has no mapper",
     WRONG_RECORD: "a record is wrong",
+    IN_USE: "another call uses the normalizer",
 }
 
 
@@ -22,7 +23,7 @@ class Form(IntEnum):
 
 
 class _Handle(ctypes.Structure):
-    _fields_ = [("normalizers", ctypes.c_void_p), ("is_open", ctypes.c_bool)]
+    _fields_ = [("normalizers", ctypes.c_void_p), ("is_open", ctypes.c_bool), ("is_in_use", ctypes.c_bool)]
 
 
 class Mismatch(ctypes.Structure):
@@ -75,7 +76,7 @@ class Normalizer:
         _check(opened, defect)
 
     def close(self):
-        self._calls.icu_normalizer_close(ctypes.byref(self._handle))
+        self._calls.icu_normalizer_close_nonnull(ctypes.byref(self._handle))
 
     def __enter__(self):
         return self

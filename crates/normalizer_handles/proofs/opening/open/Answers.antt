@@ -1,6 +1,6 @@
-use Rattle.std.proofs.Common.{Some, ap, ◌∙◌}
+use Rattle.std.proofs.Common.{Ok, ap, ◌∙◌}
 use Rattle.normalizer_handles.proofs.opening.open.Goals as goal
 
-pub returns-in-Ok : goal.returns-in-Ok
-returns-in-Ok c =
-    (c.in_ok-normalizers.normalizers, c.put.ensures ∙ ap (λ n. Some n) c.in-Ok.ensures.ok, c.in_ok-normalizers.ensures)
+pub returns : goal.returns
+returns c =
+    (c.in_ok-normalizers.normalizers, c.put.ensures ∙ ap (λ n. Ok n) c.in_ok-owner.ensures, c.in_ok-normalizers.ensures)

@@ -1,7 +1,8 @@
+use Rattle.std.proofs.Common.{rules}
 use Rattle.normalizer_handles.proofs.OpeningLemmas.{opens-both}
 use Rattle.normalizer_handles.proofs.opening.open_records.Goals as goal
 
 pub returns : goal.returns
 returns c =
     opens-both _ _ c.in_ok-records.records.items c.in_ok-mapper.mapper.items c.in_ok-records.ensures c.in_ok-mapper.ensures _ _ _
-    (rw (← c.deref.ensures.value, ← c.deref-2.ensures.value) c.open.ensures)
+    (search rules) (rw (c.deref.ensures.value, c.deref-2.ensures.value) at c.open.ensures)

@@ -1,8 +1,8 @@
-use Rattle.std.proofs.Common.{[], Ok, refl}
+use Rattle.std.proofs.Common.{rules, [], Ok, refl}
 use Rattle.normalizer_handles.proofs.OpeningLemmas.{opens-both}
 use Rattle.normalizer_handles.proofs.opening.open_unicode_data.Goals as goal
 
 pub returns : goal.returns
 returns c =
     opens-both _ (Ok []) c.in_ok-records.records.items [] c.in_ok-records.ensures refl _ _ _
-    (rw (← c.deref.ensures.value) c.open.ensures)
+    (search rules) (rw c.deref.ensures.value at c.open.ensures)

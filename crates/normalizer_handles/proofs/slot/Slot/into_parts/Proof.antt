@@ -3,7 +3,7 @@ use Rattle.std.specs.Prelude.{Option, Some, None, IsSome}
 use mathlib.Core.Bool.{false≢true}
 use Rattle.std.specs.Global.{Global}
 use denote.RawPtr.{Ptr}
-use Rattle.normalizer_handles.specs.contracts.normalizers.Normalizers.{the_row}
+use Rattle.normalizer_handles.specs.contracts.owner.Owner.{the_row}
 use Rattle.normalizer_handles.specs.contracts.slot.Slot as Slots
 use mathlib.Core.Path.{refl, sym, subst}
 use mathlib.Core.List.{List, [], ◌∷◌, ◌++◌}

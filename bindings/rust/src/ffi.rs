@@ -1,0 +1,122 @@
+//! The calls of icu_normalizer.h.
+use std::ffi::c_void;
+
+#[repr(C)]
+pub struct Handle {
+    normalizers: *mut c_void,
+    is_open: bool,
+    is_in_use: bool,
+}
+
+#[repr(C)]
+#[derive(Clone, Copy, Default)]
+pub struct Mismatch {
+    pub offset: usize,
+    pub found: u32,
+    pub expected: u32,
+    pub exists: bool,
+}
+
+#[repr(C)]
+#[derive(Clone, Copy, Default)]
+pub struct Defect {
+    pub place: usize,
+    pub source: u32,
+    pub reason: u32,
+}
+
+pub const OK: u32 = 0;
+pub const BUFFER_TOO_SMALL: u32 = 1;
+pub const OUT_OF_MEMORY: u32 = 2;
+pub const WRONG_LINE: u32 = 5;
+pub const WRONG_RECORDS: u32 = 6;
+pub const NO_MAPPER: u32 = 7;
+
+extern "C" {
+    pub fn icu_normalizer_open_files_nonnull(
+        handle: *mut Handle,
+        unicode_data: *const u8,
+        unicode_data_length: usize,
+        exclusions: *const u8,
+        exclusions_length: usize,
+        idna_table: *const u8,
+        idna_table_length: usize,
+        disallowed_limit: u32,
+        defect: *mut Defect,
+    ) -> u32;
+    pub fn icu_normalizer_share_nonnull(from: *mut Handle, to: *mut Handle) -> u32;
+    pub fn icu_normalizer_close_nonnull(handle: *mut Handle);
+    pub fn icu_normalizer_version() -> u32;
+}
+
+pub type Reports<U, R> = unsafe extern "C" fn(*mut Handle, u32, *const U, usize, *mut R) -> u32;
+pub type Writes<U> = unsafe extern "C" fn(*mut Handle, u32, *const U, usize, *mut U, usize, *mut usize) -> u32;
+pub type Maps<U> = unsafe extern "C" fn(*mut Handle, *const U, usize, *mut U, usize, *mut usize) -> u32;
+
+extern "C" {
+    pub fn icu_normalizer_normalize_utf8_nonnull(
+        handle: *mut Handle,
+        form: u32,
+        input: *const u8,
+        input_length: usize,
+        output: *mut u8,
+        output_length: usize,
+        needed: *mut usize,
+    ) -> u32;
+    pub fn icu_normalizer_normalize_utf16_nonnull(
+        handle: *mut Handle,
+        form: u32,
+        input: *const u16,
+        input_length: usize,
+        output: *mut u16,
+        output_length: usize,
+        needed: *mut usize,
+    ) -> u32;
+    pub fn icu_normalizer_is_normalized_utf8_nonnull(
+        h: *mut Handle,
+        f: u32,
+        i: *const u8,
+        n: usize,
+        r: *mut bool,
+    ) -> u32;
+    pub fn icu_normalizer_is_normalized_utf16_nonnull(
+        h: *mut Handle,
+        f: u32,
+        i: *const u16,
+        n: usize,
+        r: *mut bool,
+    ) -> u32;
+    pub fn icu_normalizer_split_utf8_nonnull(h: *mut Handle, f: u32, i: *const u8, n: usize, r: *mut usize) -> u32;
+    pub fn icu_normalizer_split_utf16_nonnull(h: *mut Handle, f: u32, i: *const u16, n: usize, r: *mut usize) -> u32;
+    pub fn icu_normalizer_first_mismatch_utf8_nonnull(
+        h: *mut Handle,
+        f: u32,
+        i: *const u8,
+        n: usize,
+        r: *mut Mismatch,
+    ) -> u32;
+    pub fn icu_normalizer_map_utf8_nonnull(
+        handle: *mut Handle,
+        input: *const u8,
+        input_length: usize,
+        output: *mut u8,
+        output_length: usize,
+        needed: *mut usize,
+    ) -> u32;
+    pub fn icu_normalizer_validate_utf8_nonnull(
+        handle: *mut Handle,
+        input: *const u8,
+        input_length: usize,
+        output: *mut u8,
+        output_length: usize,
+        needed: *mut usize,
+    ) -> u32;
+}
+
+impl Handle {
+    pub const CLOSED: Handle = Handle {
+        normalizers: std::ptr::null_mut(),
+        is_open: false,
+        is_in_use: false,
+    };
+}

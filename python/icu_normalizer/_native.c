@@ -1,0 +1,434 @@
+/* The calls of icu_normalizer.h for Python. */
+#define PY_SSIZE_T_CLEAN
+#include <Python.h>
+
+#include "icu_normalizer.h"
+
+#include <stdlib.h>
+#include <string.h>
+
+/* Up to this many units the form is written to the stack; from so many on, other Python threads run meanwhile. */
+#define SHORT 128
+#define LONG 65536
+
+typedef struct {
+    PyObject_HEAD icu_normalizer handle;
+    PyObject *read;     /* returns the data of the files, with which the first call opens the handle */
+    PyObject *mismatch; /* the type of mismatches */
+} Normalizer;
+
+typedef enum { NORMALIZE, MAP, VALIDATE } Call;
+
+/* A text: bytes, or an ASCII str, in UTF-8; any other str in UTF-16. */
+typedef struct {
+    PyObject *object;
+    const void *units;
+    size_t length;
+    bool is_wide;
+    uint16_t *made; /* the units, if the str hasn't them itself */
+    uint16_t own[2 * SHORT];
+} Text;
+
+static PyObject *failed(icu_normalizer_status status) {
+    if (status == ICU_NORMALIZER_OUT_OF_MEMORY) return PyErr_NoMemory();
+    PyObject *kind = status == ICU_NORMALIZER_NO_MAPPER ? PyExc_LookupError : PyExc_ValueError;
+    PyErr_SetString(kind, icu_normalizer_status_text(status));
+    return NULL;
+}
+
+static PyObject *failed_to_open(icu_normalizer_status status, const icu_normalizer_defect *defect) {
+    const char *files[] = {"UnicodeData.txt", "CompositionExclusions.txt", "IdnaMappingTable.txt"};
+    if (status == ICU_NORMALIZER_WRONG_LINE && defect->source < 3)
+        return PyErr_Format(PyExc_ValueError, "%s:%zu: %s", files[defect->source], defect->place,
+            icu_normalizer_reason_text(defect->reason));
+    if (status == ICU_NORMALIZER_WRONG_RECORDS)
+        return PyErr_Format(PyExc_ValueError, "%s: %s (%zu)", icu_normalizer_status_text(status),
+            icu_normalizer_reason_text(defect->reason), defect->place);
+    return failed(status);
+}
+
+static bool opened(Normalizer *self) {
+    PyObject *data = PyObject_CallNoArgs(self->read);
+    if (!data) return false;
+    const char *unicode_data, *exclusions, *table;
+    Py_ssize_t unicode_data_length, exclusions_length, table_length;
+    unsigned int limit;
+    icu_normalizer_defect defect = {0, 0, 0};
+    icu_normalizer_status status = ICU_NORMALIZER_NOT_OPEN;
+    bool is_read = PyArg_ParseTuple(data, "y#y#y#I", &unicode_data, &unicode_data_length, &exclusions,
+        &exclusions_length, &table, &table_length, &limit);
+    if (is_read) {
+        status = icu_normalizer_open_files(&self->handle, (const uint8_t *)unicode_data, (size_t)unicode_data_length,
+            (const uint8_t *)exclusions, (size_t)exclusions_length, (const uint8_t *)table, (size_t)table_length, limit,
+            &defect);
+        if (status) failed_to_open(status, &defect);
+    }
+    Py_DECREF(data);
+    return is_read && !status;
+}
+
+static inline bool is_open(Normalizer *self) {
+    return self->handle.is_open || opened(self);
+}
+
+static PyObject *forms[4]; /* their names, by their numbers */
+
+static bool form_of(PyObject *word, icu_normalizer_form *form) {
+    for (icu_normalizer_form number = 0; number < 4; number++)
+        if (word == forms[number]) return *form = number, true;
+    if (PyUnicode_Check(word))
+        for (icu_normalizer_form number = 0; number < 4; number++)
+            if (!PyUnicode_Compare(word, forms[number])) return *form = number, true;
+    if (!PyErr_Occurred()) PyErr_SetString(PyExc_ValueError, "the form is not NFC, NFD, NFKC or NFKD");
+    return false;
+}
+
+/* Writes the characters of a str as 16-bit units. Surrogates stay as they are. */
+static size_t widen(PyObject *str, uint16_t *units) {
+    Py_ssize_t length = PyUnicode_GET_LENGTH(str);
+    size_t count = 0;
+    if (PyUnicode_KIND(str) == PyUnicode_1BYTE_KIND) {
+        const Py_UCS1 *from = PyUnicode_1BYTE_DATA(str);
+        for (Py_ssize_t place = 0; place < length; place++) units[count++] = from[place];
+        return count;
+    }
+    const Py_UCS4 *from = PyUnicode_4BYTE_DATA(str);
+    for (Py_ssize_t place = 0; place < length; place++) {
+        Py_UCS4 c = from[place];
+        if (c > 0xFFFF) units[count++] = Py_UNICODE_HIGH_SURROGATE(c);
+        units[count++] = c > 0xFFFF ? Py_UNICODE_LOW_SURROGATE(c) : (uint16_t)c;
+    }
+    return count;
+}
+
+static bool text_of(PyObject *object, Text *text) {
+    text->object = object;
+    text->made = NULL;
+    text->is_wide = false;
+    if (PyBytes_Check(object)) {
+        text->units = PyBytes_AS_STRING(object);
+        text->length = (size_t)PyBytes_GET_SIZE(object);
+        return true;
+    }
+    if (!PyUnicode_Check(object)) {
+        PyErr_SetString(PyExc_TypeError, "a text is a str or bytes");
+        return false;
+    }
+    size_t length = (size_t)PyUnicode_GET_LENGTH(object);
+    text->units = PyUnicode_DATA(object);
+    text->length = length;
+    if (PyUnicode_IS_ASCII(object)) return true;
+    text->is_wide = true;
+    if (PyUnicode_KIND(object) == PyUnicode_2BYTE_KIND) return true;
+    uint16_t *units = text->own;
+    if (length > SHORT && !(units = text->made = PyMem_RawMalloc(4 * length))) return PyErr_NoMemory(), false;
+    text->units = units;
+    text->length = widen(object, units);
+    return true;
+}
+
+static void release_text(Text *text) {
+    PyMem_RawFree(text->made);
+}
+
+static size_t size_of(const Text *text) {
+    return text->is_wide ? sizeof(uint16_t) : 1;
+}
+
+static PyObject *object_of(const Text *text, const void *units, size_t length) {
+    if (PyBytes_Check(text->object)) return PyBytes_FromStringAndSize(units, (Py_ssize_t)length);
+    if (!text->is_wide) return PyUnicode_DecodeUTF8(units, (Py_ssize_t)length, NULL);
+    const uint16_t *wide = units;
+    unsigned surrogates = 0;
+    for (size_t place = 0; place < length; place++) surrogates |= (wide[place] & 0xF800) == 0xD800;
+    if (!surrogates) return PyUnicode_FromKindAndData(PyUnicode_2BYTE_KIND, units, (Py_ssize_t)length);
+    const uint16_t one = 1;
+    int order = *(const uint8_t *)&one ? -1 : 1;
+    return PyUnicode_DecodeUTF16(units, (Py_ssize_t)(length * sizeof(uint16_t)), NULL, &order);
+}
+
+/* The text itself, but for a subclass of str or bytes a copy. */
+static PyObject *same(const Text *text) {
+    if (PyUnicode_CheckExact(text->object) || PyBytes_CheckExact(text->object)) {
+        Py_INCREF(text->object);
+        return text->object;
+    }
+    return object_of(text, text->units, text->length);
+}
+
+static inline icu_normalizer_status call_of(icu_normalizer *handle, Call call, icu_normalizer_form form,
+    const Text *text, size_t from, void *output, size_t room, size_t *needed) {
+    size_t length = text->length - from;
+    if (text->is_wide) {
+        const uint16_t *units = (const uint16_t *)text->units + from;
+        switch (call) {
+            case MAP: return icu_normalizer_map_utf16(handle, units, length, output, room, needed);
+            case VALIDATE: return icu_normalizer_validate_utf16(handle, units, length, output, room, needed);
+            default: return icu_normalizer_normalize_utf16(handle, form, units, length, output, room, needed);
+        }
+    }
+    const uint8_t *bytes = (const uint8_t *)text->units + from;
+    switch (call) {
+        case MAP: return icu_normalizer_map_utf8(handle, bytes, length, output, room, needed);
+        case VALIDATE: return icu_normalizer_validate_utf8(handle, bytes, length, output, room, needed);
+        default: return icu_normalizer_normalize_utf8(handle, form, bytes, length, output, room, needed);
+    }
+}
+
+static icu_normalizer_status cut_of(icu_normalizer *handle, icu_normalizer_form form, const Text *text, size_t *cut) {
+    if (text->is_wide) return icu_normalizer_split_utf16(handle, form, text->units, text->length, cut);
+    return icu_normalizer_split_utf8(handle, form, text->units, text->length, cut);
+}
+
+static PyObject *short_result(Normalizer *self, Call call, icu_normalizer_form form, const Text *text) {
+    uint16_t output[18 * SHORT];
+    size_t needed, room = sizeof output / size_of(text);
+    icu_normalizer_status status = call_of(&self->handle, call, form, text, 0, output, room, &needed);
+    if (status == ICU_NORMALIZER_BUFFER_TOO_SMALL) return NULL;
+    if (status) return failed(status);
+    if (needed == text->length && !memcmp(output, text->units, needed * size_of(text))) return same(text);
+    return object_of(text, output, needed);
+}
+
+/* The result in memory of its own, or null if the text is its own form. */
+static icu_normalizer_status long_result(icu_normalizer *handle, Call call, icu_normalizer_form form, const Text *text,
+    char **output, size_t *length) {
+    size_t cut = 0, needed = 0, size = size_of(text);
+    *output = NULL;
+    if (call == NORMALIZE) {
+        icu_normalizer_status status = cut_of(handle, form, text, &cut);
+        if (status || cut == text->length) return status;
+    }
+    /* The form is what comes before the cut, followed by the form of the rest. */
+    size_t room = (text->length - cut) * (text->is_wide ? 4 : 3) + 64;
+    for (;;) {
+        char *larger = PyMem_RawRealloc(*output, (cut + room) * size);
+        if (!larger) return ICU_NORMALIZER_OUT_OF_MEMORY;
+        *output = larger;
+        icu_normalizer_status status = call_of(handle, call, form, text, cut, larger + cut * size, room, &needed);
+        *length = cut + needed;
+        if (!status) memcpy(larger, text->units, cut * size);
+        if (status != ICU_NORMALIZER_BUFFER_TOO_SMALL) return status;
+        room = needed;
+    }
+}
+
+static PyObject *result(Normalizer *self, Call call, icu_normalizer_form form, const Text *text) {
+    if (text->length <= SHORT) {
+        PyObject *made = short_result(self, call, form, text);
+        if (made || PyErr_Occurred()) return made;
+    }
+    char *output;
+    size_t length = 0;
+    icu_normalizer_status status;
+    icu_normalizer own = ICU_NORMALIZER_CLOSED;
+    if (text->length >= LONG && icu_normalizer_share(&self->handle, &own) == ICU_NORMALIZER_OK) {
+        Py_BEGIN_ALLOW_THREADS
+        status = long_result(&own, call, form, text, &output, &length);
+        icu_normalizer_close(&own);
+        Py_END_ALLOW_THREADS
+    } else {
+        status = long_result(&self->handle, call, form, text, &output, &length);
+    }
+    PyObject *made = status ? failed(status) : output ? object_of(text, output, length) : same(text);
+    PyMem_RawFree(output);
+    return made;
+}
+
+static PyObject *written(PyObject *it, Call call, icu_normalizer_form form, PyObject *object) {
+    Normalizer *self = (Normalizer *)it;
+    Text text;
+    if (!is_open(self) || !text_of(object, &text)) return NULL;
+    PyObject *made = result(self, call, form, &text);
+    release_text(&text);
+    return made;
+}
+
+/* The form and the text that are passed to a call of this name. */
+static bool is_passed(const char *name, Normalizer *self, PyObject *const *passed, Py_ssize_t count,
+    icu_normalizer_form *form, Text *text) {
+    if (count != 2) {
+        PyErr_Format(PyExc_TypeError, "%s() takes a form and a text", name);
+        return false;
+    }
+    return form_of(passed[0], form) && is_open(self) && text_of(passed[1], text);
+}
+
+static PyObject *normalize(PyObject *self, PyObject *const *passed, Py_ssize_t count) {
+    icu_normalizer_form form;
+    if (count != 2) {
+        PyErr_SetString(PyExc_TypeError, "normalize() takes a form and a text");
+        return NULL;
+    }
+    return form_of(passed[0], &form) ? written(self, NORMALIZE, form, passed[1]) : NULL;
+}
+
+static PyObject *map(PyObject *self, PyObject *text) {
+    return written(self, MAP, 0, text);
+}
+
+static PyObject *validate(PyObject *self, PyObject *text) {
+    return written(self, VALIDATE, 0, text);
+}
+
+static PyObject *is_normalized(PyObject *it, PyObject *const *passed, Py_ssize_t count) {
+    Normalizer *self = (Normalizer *)it;
+    icu_normalizer_form form;
+    Text text;
+    bool is = false;
+    if (!is_passed("is_normalized", self, passed, count, &form, &text)) return NULL;
+    icu_normalizer_status status = text.is_wide
+        ? icu_normalizer_is_normalized_utf16(&self->handle, form, text.units, text.length, &is)
+        : icu_normalizer_is_normalized_utf8(&self->handle, form, text.units, text.length, &is);
+    release_text(&text);
+    return status ? failed(status) : PyBool_FromLong(is);
+}
+
+/* How many characters or bytes of the text come before so many units. */
+static Py_ssize_t index_of(const Text *text, size_t units) {
+    if (!text->is_wide || PyUnicode_KIND(text->object) != PyUnicode_4BYTE_KIND) return (Py_ssize_t)units;
+    const Py_UCS4 *from = PyUnicode_4BYTE_DATA(text->object);
+    Py_ssize_t index = 0;
+    for (size_t before = 0; before < units; index++) before += from[index] > 0xFFFF ? 2 : 1;
+    return index;
+}
+
+static PyObject *first_mismatch(PyObject *it, PyObject *const *passed, Py_ssize_t count) {
+    Normalizer *self = (Normalizer *)it;
+    icu_normalizer_form form;
+    Text text;
+    icu_normalizer_mismatch mismatch = {0, 0, 0, false};
+    if (!is_passed("first_mismatch", self, passed, count, &form, &text)) return NULL;
+    icu_normalizer_status status = text.is_wide
+        ? icu_normalizer_first_mismatch_utf16(&self->handle, form, text.units, text.length, &mismatch)
+        : icu_normalizer_first_mismatch_utf8(&self->handle, form, text.units, text.length, &mismatch);
+    Py_ssize_t offset = index_of(&text, mismatch.offset);
+    release_text(&text);
+    if (status) return failed(status);
+    if (!mismatch.exists) Py_RETURN_NONE;
+    PyObject *found = PyUnicode_FromOrdinal((int)mismatch.found);
+    PyObject *expected = PyUnicode_FromOrdinal((int)mismatch.expected);
+    PyObject *made = found && expected ? PyObject_CallFunction(self->mismatch, "nOO", offset, found, expected) : NULL;
+    Py_XDECREF(found);
+    Py_XDECREF(expected);
+    return made;
+}
+
+static PyObject *split(PyObject *it, PyObject *const *passed, Py_ssize_t count) {
+    Normalizer *self = (Normalizer *)it;
+    icu_normalizer_form form;
+    Text text;
+    size_t cut = 0;
+    if (!is_passed("split", self, passed, count, &form, &text)) return NULL;
+    icu_normalizer_status status = cut_of(&self->handle, form, &text, &cut);
+    Py_ssize_t index = index_of(&text, cut);
+    release_text(&text);
+    if (status) return failed(status);
+    PyObject *prefix = PySequence_GetSlice(passed[1], 0, index);
+    PyObject *rest = PySequence_GetSlice(passed[1], index, PY_SSIZE_T_MAX);
+    PyObject *made = prefix && rest ? PyTuple_Pack(2, prefix, rest) : NULL;
+    Py_XDECREF(prefix);
+    Py_XDECREF(rest);
+    return made;
+}
+
+static PyObject *made_of(PyTypeObject *type, PyObject *read, PyObject *mismatch) {
+    allocfunc allocate = (allocfunc)PyType_GetSlot(type, Py_tp_alloc);
+    Normalizer *self = (Normalizer *)allocate(type, 0);
+    if (!self) return NULL;
+    self->handle = (icu_normalizer)ICU_NORMALIZER_CLOSED;
+    Py_INCREF(read);
+    Py_INCREF(mismatch);
+    self->read = read;
+    self->mismatch = mismatch;
+    return (PyObject *)self;
+}
+
+static PyObject *share(PyObject *it, PyObject *Py_UNUSED(nothing)) {
+    Normalizer *self = (Normalizer *)it;
+    if (!is_open(self)) return NULL;
+    PyObject *made = made_of(Py_TYPE(it), self->read, self->mismatch);
+    icu_normalizer_status status =
+        made ? icu_normalizer_share(&self->handle, &((Normalizer *)made)->handle) : ICU_NORMALIZER_OUT_OF_MEMORY;
+    if (!status) return made;
+    Py_XDECREF(made);
+    return failed(status);
+}
+
+static PyObject *create(PyTypeObject *type, PyObject *passed, PyObject *Py_UNUSED(named)) {
+    PyObject *read, *mismatch;
+    return PyArg_ParseTuple(passed, "OO", &read, &mismatch) ? made_of(type, read, mismatch) : NULL;
+}
+
+static void release(PyObject *it) {
+    Normalizer *self = (Normalizer *)it;
+    PyTypeObject *type = Py_TYPE(it);
+    icu_normalizer_close(&self->handle);
+    Py_XDECREF(self->read);
+    Py_XDECREF(self->mismatch);
+    ((freefunc)PyType_GetSlot(type, Py_tp_free))(it);
+    Py_DECREF(type);
+}
+
+#define FAST(function) ((PyCFunction)(void (*)(void))function)
+
+static PyMethodDef methods[] = {
+    {"normalize", FAST(normalize), METH_FASTCALL,
+        "normalize(form, text, /)\n--\n\nReturns the form of a text: NFC, NFD, NFKC or NFKD. A text that is already in "
+        "the form is returned itself."},
+    {"is_normalized", FAST(is_normalized), METH_FASTCALL,
+        "is_normalized(form, text, /)\n--\n\nReturns whether a text is well-formed and already in the form."},
+    {"first_mismatch", FAST(first_mismatch), METH_FASTCALL,
+        "first_mismatch(form, text, /)\n--\n\nReturns the first place where a text is ill-formed or differs from its "
+        "form, or None."},
+    {"split", FAST(split), METH_FASTCALL,
+        "split(form, text, /)\n--\n\nReturns the longest beginning that is well-formed and that the form begins with, "
+        "followed by the form of the rest, and the rest."},
+    {"_map", map, METH_O, NULL},
+    {"validate", validate, METH_O,
+        "validate(text, /)\n--\n\nReturns the same as map(), with U+FFFD for ignored characters too. Mapped text is "
+        "valid only if this leaves it unchanged."},
+    {"share", share, METH_NOARGS, "share()\n--\n\nReturns another normalizer over the same data."},
+    {NULL, NULL, 0, NULL},
+};
+
+static PyType_Slot slots[] = {
+    {Py_tp_methods, methods},
+    {Py_tp_new, create},
+    {Py_tp_dealloc, release},
+    {0, NULL},
+};
+
+static PyType_Spec spec = {
+    "icu_normalizer._native.Normalizer", sizeof(Normalizer), 0, Py_TPFLAGS_DEFAULT | Py_TPFLAGS_BASETYPE, slots};
+
+static PyObject *version(PyObject *Py_UNUSED(self), PyObject *Py_UNUSED(nothing)) {
+    uint32_t number = icu_normalizer_version();
+    return PyUnicode_FromFormat("%u.%u.%u", number >> 16, number >> 8 & 255, number & 255);
+}
+
+static PyMethodDef functions[] = {
+    {"version", version, METH_NOARGS, "version()\n--\n\nReturns the version of the library."},
+    {NULL, NULL, 0, NULL},
+};
+
+static int add_types(PyObject *module) {
+    const char *names[] = {"NFD", "NFC", "NFKD", "NFKC"};
+    for (int number = 0; number < 4; number++)
+        if (!forms[number] && !(forms[number] = PyUnicode_InternFromString(names[number]))) return -1;
+    PyObject *type = PyType_FromSpec(&spec);
+    if (!type) return -1;
+    int status = PyModule_AddObjectRef(module, "Normalizer", type);
+    Py_DECREF(type);
+    return status;
+}
+
+static PyModuleDef_Slot module_slots[] = {{Py_mod_exec, add_types}, {0, NULL}};
+static PyModuleDef module = {.m_base = PyModuleDef_HEAD_INIT,
+    .m_name = "icu_normalizer._native",
+    .m_methods = functions,
+    .m_slots = module_slots};
+
+PyMODINIT_FUNC PyInit__native(void) {
+    return PyModuleDef_Init(&module);
+}

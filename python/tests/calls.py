@@ -1,0 +1,106 @@
+"""Tests the package: each result beside that of `unicodedata`, or known from outside."""
+import doctest
+import pathlib
+import sys
+import tempfile
+import threading
+import unicodedata
+
+import icu_normalizer
+
+FORMS = ("NFC", "NFD", "NFKC", "NFKD")
+TEXTS = [
+    "",
+    "a",
+    "a\u0308",
+    "e\u0301\u0323 \uFB01 \u1EC7\u212B \uAC01 \u1112\u1161\u11AB",
+    "\xE4\xBD",
+    40 * "a\u0308",
+    300 * "\xE4\xBD",
+    9000 * "\U0001D15E\xE4",
+    30000 * "\u0390x ",
+]
+LONG = "a" + 40 * "\u0308" + "\u0323"
+
+
+def refused(error, call, *words):
+    try:
+        call(*words)
+    except error as it:
+        return it
+    sys.exit(f"{call} {words}: no {error}")
+
+
+def forms():
+    for form in FORMS:
+        for text in [*TEXTS, LONG]:
+            wanted = unicodedata.normalize(form, text)
+            is_same = wanted == text
+            assert icu_normalizer.normalize(form, text) == wanted, (form, text[:40])
+            assert icu_normalizer.normalize(form, text.encode()) == wanted.encode()
+            assert not is_same or icu_normalizer.normalize(form, text) is text
+            assert icu_normalizer.is_normalized(form, text) == is_same
+            assert (icu_normalizer.first_mismatch(form, text) is None) == is_same
+            prefix, rest = icu_normalizer.split(form, text)
+            assert prefix + rest == text and prefix + unicodedata.normalize(form, rest) == wanted
+    assert icu_normalizer.first_mismatch("NFC", "\u00E4\u00E4a\u0308") == (2, "a", "\u00E4")
+    assert icu_normalizer.first_mismatch("NFC", "\u00E4a\u0308".encode()).offset == 2
+    assert icu_normalizer.first_mismatch("NFC", "\U0001F600xa\u0308") == (2, "a", "\u00E4")
+    assert icu_normalizer.split("NFC", "\U0001F600xa\u0308") == ("\U0001F600x", "a\u0308")
+    assert icu_normalizer.normalize("NFC", b"a\xFFb") == "a\uFFFDb".encode()
+    assert icu_normalizer.split("NFC", b"ab\xFF") == (b"ab", b"\xFF")
+
+
+def errors():
+    refused(ValueError, icu_normalizer.normalize, "NFX", "a")
+    refused(ValueError, icu_normalizer.normalize, b"NFC", "a")
+    refused(TypeError, icu_normalizer.normalize, "NFC", 1)
+    refused(TypeError, icu_normalizer.normalize, "NFC")
+    assert icu_normalizer.normalize("NFC", "\uD800") == "\uFFFD" and not icu_normalizer.is_normalized("NFC", "\uD800")
+    refused(LookupError, icu_normalizer.Normalizer().map, "a")
+    refused(FileNotFoundError, icu_normalizer.Normalizer("/nowhere").normalize, "NFC", "a")
+    with tempfile.TemporaryDirectory() as folder:
+        for name, content in (("UnicodeData.txt", "0041;A\n# EOF\n"), ("CompositionExclusions.txt", "# EOF\n")):
+            with open(f"{folder}/{name}", "w") as file:
+                file.write(content)
+        wrong = icu_normalizer.Normalizer(folder)
+        assert "UnicodeData.txt:1: " in str(refused(ValueError, wrong.normalize, "NFC", "a"))
+
+    class Text(str):
+        pass
+
+    assert type(icu_normalizer.normalize("NFC", Text("a"))) is str
+
+
+def mapping():
+    small = icu_normalizer.Normalizer(pathlib.Path(__file__).parents[2] / "crates/uninorm/data")
+    assert small.map("A\u0308\u00AD\u0323") == "\u1EA1\u0308"
+    assert small.map("A\u0308\u00AD\u0323".encode()) == "\u1EA1\u0308".encode()
+    assert small.share().validate("\u1EA1") == "\u1EA1" and small.validate("\u00AD") == "\uFFFD"
+
+
+def threads():
+    """Long texts, during which other threads run, by one normalizer and by shared ones."""
+    text, wanted = 60000 * "a\u0308", 60000 * "\u00E4"
+    first = icu_normalizer.Normalizer()
+    wrong = []
+
+    def run(own):
+        for _ in range(10):
+            if own.normalize("NFC", text) != wanted or icu_normalizer.normalize("NFC", text) != wanted:
+                wrong.append(own)
+
+    every = [threading.Thread(target=run, args=(first.share() if place % 2 else first,)) for place in range(16)]
+    for thread in every:
+        thread.start()
+    for thread in every:
+        thread.join()
+    assert not wrong
+
+
+forms()
+errors()
+mapping()
+threads()
+failures, tried = doctest.testmod(icu_normalizer)
+sys.exit(bool(failures or not tried))

@@ -1,0 +1,75 @@
+"""Builds the wheel of icu_normalizer: `pip install --no-build-isolation ./python`. It needs only a C compiler.
+
+The library is taken from an installed one, whose prefix is ICU_NORMALIZER_PREFIX, or from what `tools/install` installs
+of the crate that `rt lib` built."""
+import base64
+import hashlib
+import os
+import pathlib
+import shlex
+import subprocess
+import sys
+import sysconfig
+import tempfile
+import zipfile
+
+HERE = pathlib.Path(__file__).resolve().parent
+NAME = "icu_normalizer"
+VERSION = "0.1.0"
+PYTHON = f"cp{sys.version_info.major}{sys.version_info.minor}"
+TAG = f"{PYTHON}-{PYTHON}-{sysconfig.get_platform().replace('-', '_').replace('.', '_')}"
+INFO = f"{NAME}-{VERSION}.dist-info"
+METADATA = f"""Metadata-Version: 2.1
+Name: {NAME}
+Version: {VERSION}
+Summary: Unicode normal forms by a proved library
+Requires-Python: >=3.10
+"""
+WHEEL = f"Wheel-Version: 1.0\nGenerator: {NAME}\nRoot-Is-Purelib: false\nTag: {TAG}\n"
+MODULE = f"_native{sysconfig.get_config_var('EXT_SUFFIX')}"
+FILES = ("UnicodeData.txt", "CompositionExclusions.txt", "LICENSE-UNICODE")
+
+
+def get_requires_for_build_wheel(config_settings=None):
+    return []
+
+
+def prefix_of_library(room):
+    if prefix := os.environ.get("ICU_NORMALIZER_PREFIX"):
+        return pathlib.Path(prefix)
+    environment = {**os.environ, "DESTDIR": f"{room}/installed"}
+    ran = subprocess.run([HERE.parent / "tools/install", "/usr"], env=environment)
+    if ran.returncode:
+        sys.exit("icu_normalizer: set ICU_NORMALIZER_PREFIX, or build the library first: `rt lib` in crates/icu_normalizer_c")
+    return pathlib.Path(room) / "installed/usr"
+
+
+def compiled(prefix, room):
+    module = f"{room}/{MODULE}"
+    compiler = shlex.split(os.environ.get("CC") or "cc")
+    headers = [f"-I{prefix}/include", f"-I{sysconfig.get_paths()['include']}"]
+    library = next(iter(prefix.glob("lib*/**/libicu_normalizer.a")))
+    words = ["-O2", "-shared", "-fPIC", "-fvisibility=hidden", "-Wall", "-Wextra", *headers]
+    subprocess.run([*compiler, *words, "-o", module, HERE / NAME / "_native.c", library], check=True)
+    return module
+
+
+def build_wheel(wheel_directory, config_settings=None, metadata_directory=None):
+    with tempfile.TemporaryDirectory() as room:
+        prefix = prefix_of_library(room)
+        content = {f"{NAME}/{it}": (HERE / NAME / it).read_bytes() for it in ("__init__.py", "__init__.pyi", "py.typed")}
+        content |= {f"{NAME}/data/{it}": (prefix / "share/uninorm" / it).read_bytes() for it in FILES}
+        content[f"{NAME}/{MODULE}"] = pathlib.Path(compiled(prefix, room)).read_bytes()
+    content |= {f"{INFO}/METADATA": METADATA.encode(), f"{INFO}/WHEEL": WHEEL.encode()}
+    name = f"{NAME}-{VERSION}-{TAG}.whl"
+    with zipfile.ZipFile(f"{wheel_directory}/{name}", "w", zipfile.ZIP_DEFLATED) as file:
+        for place, data in content.items():
+            file.writestr(place, data)
+        sums = {it: base64.urlsafe_b64encode(hashlib.sha256(data).digest()).rstrip(b"=") for it, data in content.items()}
+        lines = [f"{it},sha256={sums[it].decode()},{len(content[it])}" for it in content]
+        file.writestr(f"{INFO}/RECORD", "\n".join([*lines, f"{INFO}/RECORD,,", ""]))
+    return name
+
+
+def build_sdist(sdist_directory, config_settings=None):
+    sys.exit("icu_normalizer: there are wheels only")
