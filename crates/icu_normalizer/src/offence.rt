@@ -1,14 +1,41 @@
 //! The first place at which an input is not normalized: one search, on which every check is based.
 ghost use Rattle.std.specs.Prelude.{IfOk, IsOk, IsOkUnless};
+ghost use Rattle.normalizer_text.specs.InputCut.{QualifiesForInputCut};
 ghost use Rattle.icu_normalizer.specs.Checks.{IsLastingOffence};
 ghost use Rattle.icu_normalizer.specs.Forms.{HasShortUnits};
 ghost use Rattle.icu_normalizer.specs.inner.Offences.{IsCutUnlessNormalized};
 
 use crate::forming::Forming;
-use crate::writing::form_to;
+use crate::runs::kept_end;
+use crate::writing::write_changed;
 use normalizer_iterators::NormalizeError;
 use normalizer_text::Offence;
 use normalizer_text::check_sink::{Expected, IsNormalizedSink};
+
+/// The cut of the units, of which those before an end are kept, or nothing if they are well-formed and normalized.
+pub(crate) fn cut_after<U: Expected, N: Forming>(
+    normalizer: &N,
+    units: U,
+    kept: usize,
+) -> Result<Option<usize>, NormalizeError>
+    requires { let m = N.made_form normalizer.now in
+        QualifiesForInputCut U.encoding m.reading m.form (U.units units) kept }
+    ensures cut { IfOk result (IsCutUnlessNormalized
+        U.encoding (N.made_form normalizer.now).reading (N.made_form normalizer.now).form (U.units units)) }
+    ensures room { HasShortUnits (N.made_form normalizer.now) U.encoding (U.units units) → IsOk result }
+    ensures refused { IsOkUnless result NormalizeError.Memory }
+{
+    if kept == units.len() {
+        return Ok(None);
+    }
+    let rest = units.after(kept);
+    let mut expected = IsNormalizedSink::new(rest);
+    match write_changed(normalizer, rest, &mut expected) {
+        Ok(()) => Ok(None),
+        Err(NormalizeError::Sink) => Ok(Some(kept + (rest.len() - expected.remaining_len()))),
+        Err(NormalizeError::Memory) => Err(NormalizeError::Memory),
+    }
+}
 
 /// The cut of the units, or nothing if they are well-formed and normalized.
 pub(crate) fn cut_of<U: Expected, N: Forming>(
@@ -20,12 +47,8 @@ pub(crate) fn cut_of<U: Expected, N: Forming>(
     ensures room { HasShortUnits (N.made_form normalizer.now) U.encoding (U.units units) → IsOk result }
     ensures refused { IsOkUnless result NormalizeError.Memory }
 {
-    let mut expected = IsNormalizedSink::new(units);
-    match form_to(normalizer, units, &mut expected) {
-        Ok(()) => Ok(None),
-        Err(NormalizeError::Sink) => Ok(Some(units.len() - expected.remaining_len())),
-        Err(NormalizeError::Memory) => Err(NormalizeError::Memory),
-    }
+    let kept = kept_end(normalizer, units);
+    cut_after(normalizer, units, kept)
 }
 
 /// The first mismatch of the units, which lasts whatever is appended to them, or none if they are well-formed and

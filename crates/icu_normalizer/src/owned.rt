@@ -12,9 +12,9 @@ ghost use Rattle.icu_normalizer.specs.inner.WriteUnlessOwn.{WroteUnlessOwn};
 
 use crate::borrowed::NormalizerBorrowed;
 use crate::forming::Forming;
-use crate::offence::cut_of;
+use crate::offence::cut_after;
 use crate::runs::kept_end;
-use crate::writing::form_to;
+use crate::writing::write_changed;
 use normalizer_iterators::NormalizeError;
 use normalizer_text::check_sink::Expected;
 use normalizer_text::output::Output;
@@ -97,17 +97,10 @@ fn place_of_change<U: Expected, N: Forming>(
     ensures refused { IsOkUnless result NormalizeError.Memory }
 {
     let kept = kept_end(normalizer, units);
-    if kept == units.len() {
-        return Ok(None);
-    }
-    let rest = units.after(kept);
-    if has_unordered_marks(normalizer, rest) {
+    if has_unordered_marks(normalizer, units.after(kept)) {
         return Ok(Some(kept));
     }
-    match cut_of(normalizer, rest)? {
-        Some(place) => Ok(Some(kept + place)),
-        None => Ok(None),
-    }
+    cut_after(normalizer, units, kept)
 }
 
 /// Writes the form of units in two parts: what comes before the place as it is, and the form of the rest. Room for as
@@ -125,7 +118,7 @@ fn write_from_place<U: Units, N: Forming, O: Growing<U>>(
 {
     output.make_room(units.len())?;
     output.write_piece(units.before(place))?;
-    form_to(normalizer, units.after(place), output)
+    write_changed(normalizer, units.after(place), output)
 }
 
 /// Writes the form of the units, unless they are well-formed and normalized. A refused write is reported as `Memory`.

@@ -258,6 +258,21 @@ fn write_segments<U: Units, N: Forming, O: Output<U>>(
     Ok(())
 }
 
+/// Writes the form of what the units decode to, if nothing at their front is seen to stay.
+pub(crate) fn write_changed<U: Units, N: Forming, O: Output<U>>(
+    normalizer: &N,
+    units: U,
+    output: &mut O,
+) -> Result<(), NormalizeError>
+    ensures text { WritesUnits U.encoding O.Output (N.made_form normalizer.now) (U.units units)
+        output.old result output.new }
+    ensures room { HasShortUnits (N.made_form normalizer.now) U.encoding (U.units units) →
+        ¬ IsErrOf result NormalizeError.Memory }
+{
+    let mut buffers = normalizer.segment_buffers();
+    write_segments(normalizer, units, &mut buffers, output)
+}
+
 /// Writes the form of what the units decode to: runs, and the segments between them.
 fn write_parts<U: Units, N: Forming, O: Output<U>>(
     normalizer: &N,
@@ -273,8 +288,7 @@ fn write_parts<U: Units, N: Forming, O: Output<U>>(
     if position == units.len() {
         return Ok(());
     }
-    let mut buffers = normalizer.segment_buffers();
-    write_segments(normalizer, units.after(position), &mut buffers, output)
+    write_changed(normalizer, units.after(position), output)
 }
 
 /// Writes the form of what the units decode to. The output first receives the number of units.

@@ -72,6 +72,7 @@ module _ {I : Type 0} where
     pub came : (e : Extent) (rest : List ℕ) → WillYieldAfter (MayYield gives e) d marks ahead new rest → (y : List ℕ)
         × decomposition.WillYield (MayYield gives e) old y × (compose_after d starter [] y ≡ composite ∷ rest)
     pub short : YieldsShort gives d old → YieldsShort gives d new
+    pub long : decomposition.IsLong gives d new → decomposition.IsLong gives d old
     pub fewer : length marks + ahead_left ahead (decomposition.items_left left new) ≤ decomposition.items_left left old
 
   -- the same using data and pairs
@@ -83,3 +84,4 @@ module _ {I : Type 0} where
   -- a fault came: the runs that were to come were not short
   abbrev pub IsRefused : (I → Option ℕ → I → Type 0) → List Pair → Decomposition I → NormalizeError → Type 0
   IsRefused gives pairs old e = (e ≡ Memory) × (YieldsShort gives (reading_by old.characters Dropped pairs) old → ⊥)
+      × decomposition.IsLong gives (reading_by old.characters Dropped pairs) old

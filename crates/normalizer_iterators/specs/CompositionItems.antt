@@ -20,7 +20,7 @@ use Rattle.normalizer_iterators.specs.declared.error.NormalizeError.TheVariants.
 use Rattle.normalizer_iterators.specs.Composing.{WillYieldAfter, YieldsShort, ahead_left}
 use Rattle.normalizer_iterators.specs.DecompositionItems as decomposition
 use Rattle.normalizer_iterators.specs.Delegate.{Extent, MayYield, Source}
-use Rattle.normalizer_iterators.specs.NextItem.{CameFirst, YieldedFirst, YieldsNext}
+use Rattle.normalizer_iterators.specs.NextItem.{CameFirst, ComesOfLong, YieldedFirst, YieldsNext}
 use Rattle.normalizer_iterators.specs.StayingMarks.{staying_marks}
 
 -- if the data meet condition 14, the list of what a and c compose to is the lists of both, in canonical order
@@ -51,6 +51,10 @@ module _ {I : Type 0} where
   abbrev pub StaysShort : (I → Option ℕ → I → Type 0) → Composition I → Type 0
   StaysShort gives s = YieldsShort gives (pairing_by s) s.decomposed
 
+  -- the delegate may go on so that runs come that aren't short
+  abbrev pub IsLong : (I → Option ℕ → I → Type 0) → Composition I → Type 0
+  IsLong gives s = decomposition.IsLong gives (pairing_by s) s.decomposed
+
   -- nothing is to come
   abbrev pub IsEnded : Composition I → Type 0
   IsEnded s = (s.ahead ≡ None) × (staying_marks s.marks ≡ []) × decomposition.IsEnded s.decomposed
@@ -76,6 +80,8 @@ module _ {I : Type 0} where
     pub fault : IfErr r (λ e. e ≡ Memory)
     pub room : YieldsShort from.next_gives (reading_by old.characters Dropped pairs) old
         → IsOk r × StaysShort from.next_gives t
+    pub long : let d = reading_by old.characters Dropped pairs in MatchResult r (λ _. IsLong from.next_gives t
+        → decomposition.IsLong from.next_gives d old) (λ _. decomposition.IsLong from.next_gives d old)
     pub ends : OnErr r (IsEnded t)
     pub ready : CanCompose from.can_next from.remaining t
     pub fewer : items_left from.remaining t ≤ decomposition.items_left from.remaining old
@@ -86,6 +92,7 @@ module _ {I : Type 0} where
       (t : Composition I) : Type 0 where
     pub item : YieldsNext (WillYield (Spells from.next_gives)) (StaysShort from.next_gives) IsEnded s r t
     pub came : (e : Extent) → CameFirst (WillYield (MayYield from.next_gives e)) s r t
+    pub long : ComesOfLong (IsLong from.next_gives) s r t
     pub ready : CanCompose from.can_next from.remaining s → CanCompose from.can_next from.remaining t
     pub kept : (t.decomposed.characters ≡ s.decomposed.characters) × (t.pairs.now ≡ s.pairs.now)
     pub fewer : OnSome r (items_left from.remaining t < items_left from.remaining s)

@@ -1,6 +1,8 @@
 -- Iterators of characters that others read from.
-use Rattle.std.specs.Prelude.{◌≡◌, ℕ, ◌<◌, List, [], Option, MatchOption, OnSome, ⊤}
+use Rattle.std.specs.Prelude.{◌≡◌, ℕ, ◌<◌, Bool, List, [], Option, MatchOption, OnSome, ⊤}
 use Rattle.std.specs.Iterator.{Count, Drains, IsFinite, Yields, size}
+use Rattle.normal_forms.specs.Reading.{Reading}
+use Rattle.normal_forms.specs.ShortRuns.{HasShortRuns}
 use Rattle.std.specs.declared.iter.Iterator.{Ghosts}
 use Rattle.normalizer_text.specs.DecodingSteps.{Spells}
 
@@ -17,6 +19,11 @@ pub data Extent : Type 0 where
 abbrev pub MayYield : {I : Type 0} → (I → Option ℕ → I → Type 0) → Extent → I → List ℕ → Type 0
 MayYield {I = I} gives to_end it x = Drains gives it x
 MayYield {I = I} gives so_far it x = (after : I) × Yields gives it x after
+
+-- what an iterator may have yielded so far has no short runs
+abbrev pub HasYieldedLong : {I : Type 0} → (I → Option ℕ → I → Type 0) → (ℕ → Bool) → Reading → I → Type 0
+HasYieldedLong {I = I} gives has_class_form d it =
+    (x : List ℕ) × (after : I) × Yields gives it x after × ¬ HasShortRuns has_class_form d x
 
 -- what an iterator yields after the character that it yielded last; nothing if that was `None`
 abbrev pub ComesAfter : {I : Type 0} → (I → List ℕ → Type 0) → Option ℕ → I → List ℕ → Type 0

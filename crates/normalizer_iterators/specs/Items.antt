@@ -6,6 +6,7 @@ use Rattle.normal_forms.specs.Cut.{IsFront}
 use Rattle.normal_forms.specs.Reading.{Reading}
 use Rattle.normal_forms.specs.ShortRuns.{HasShortRuns}
 use Rattle.normalizer_text.specs.DecodingSteps.{Spells}
+use Rattle.normalizer_iterators.specs.Delegate.{HasYieldedLong}
 use Rattle.normalizer_iterators.specs.declared.error.NormalizeError.{NormalizeError}
 use Rattle.normalizer_iterators.specs.declared.error.NormalizeError.TheVariants.{Memory}
 
@@ -41,14 +42,15 @@ module _ {I S : Type 0} (source_gives : I → Option ℕ → I → Type 0)
     (gives : S → Option (Result ℕ NormalizeError) → S → Type 0) where
   -- characters that came up to the first `None` are the form of what the source yielded up to its own; other
   -- characters, as those before a fault, are the front of the form of what it yielded so far. A fault is `Memory`, and
-  -- then comes `None` forever.
-  pub record YieldsFormOfRun (form : List ℕ → List ℕ) (source : I) (it : S) : Type 0 where
+  -- then comes `None` forever; what the source yielded so far has no short runs.
+  pub record YieldsFormOfRun (has_class_form : ℕ → Bool) (d : Reading) (form : List ℕ → List ℕ) (source : I) (it : S)
+      : Type 0 where
     pub whole : (out : List ℕ) → Drains gives it (map Ok out) → (x : List ℕ)
         × Drains source_gives source x × (out ≡ form x)
     pub front : (out : List ℕ) (now : S) → Yields gives it (map Ok out) now → (x : List ℕ)
         × (source_now : I) × Yields source_gives source x source_now × IsFront out (form x)
     pub fault : (out : List ℕ) (e : NormalizeError) (now : S) → YieldsThen gives it (map Ok out) (Some (Err e)) now
-        → (e ≡ Memory) × HasEnded gives now
+        → (e ≡ Memory) × HasEnded gives now × HasYieldedLong source_gives has_class_form d source
 
   -- the form of each text that the source spells, unless memory is refused, which it never is over short runs
   pub record YieldsForm (has_class_form : ℕ → Bool) (d : Reading) (form : Reading → List ℕ → List ℕ) (source : I)
@@ -56,5 +58,5 @@ module _ {I S : Type 0} (source_gives : I → Option ℕ → I → Type 0)
     pub text : IfOk made (λ it. (x : List ℕ) → Spells source_gives source x → SpellsUnless gives Memory it (form d x))
     pub short : (x : List ℕ) → Spells source_gives source x → HasShortRuns has_class_form d x
         → IsOkAnd made (λ it. SpellsOk gives it (form d x))
-    pub run : IfOk made (YieldsFormOfRun (form d) source)
+    pub run : IfOk made (YieldsFormOfRun has_class_form d (form d) source)
     pub refused : IsOkUnless made Memory

@@ -1,6 +1,6 @@
 -- What a call of `next` of an iterator of normalized text yields, by what it has still to yield.
 use Rattle.std.specs.Prelude.{◌≡◌, ℕ, List, [], ◌∷◌, Option, None, Result, MatchOption, MatchResult, IfSome, IfErr}
-use Rattle.std.specs.Prelude.{IfOk, IsOk, OnErr}
+use Rattle.std.specs.Prelude.{IfOk, IsOk, OnErr, ⊤}
 use Rattle.normalizer_iterators.specs.declared.error.NormalizeError.{NormalizeError}
 use Rattle.normalizer_iterators.specs.declared.error.NormalizeError.TheVariants.{Memory}
 use Rattle.normalizer_iterators.specs.Delegate.{Extent, MayYield}
@@ -20,6 +20,12 @@ YieldedFirst WillYield out t c = (rest : List ℕ) × (out ≡ c ∷ rest) × Wi
 abbrev pub CameFirst : {S : Type 0} → (S → List ℕ → Type 0) → S → Option (Result ℕ NormalizeError) → S → Type 0
 CameFirst MayCome s r t =
     MatchOption r (MayCome s []) (λ item. IfOk item (λ c. (out : List ℕ) → MayCome t out → MayCome s (c ∷ out)))
+
+-- A call from s returned r and left t: if runs that aren't short may come from t, they may come from s, and so if there
+-- was a fault.
+abbrev pub ComesOfLong : {S : Type 0} → (S → Type 0) → S → Option (Result ℕ NormalizeError) → S → Type 0
+ComesOfLong IsLong s r t =
+    MatchOption r ⊤ (λ item. MatchResult item (λ _. IsLong t → IsLong s) (λ _. IsLong s))
 
 -- A call from s returned r and left t: the first character of what was to come, or None if nothing was; or the fault
 -- `Memory`. After a fault and after None nothing is to come, and None comes forever. If all runs that are to come are

@@ -18,7 +18,7 @@ ghost use Rattle.normalizer_iterators.specs.NextItem.{IsFormOfSource};
 ghost use Rattle.normalizer_iterators.specs.StayingMarks.{mark_count, staying_marks};
 ghost use Rattle.normalizer_iterators.specs.Composing.{ComposesStarterBy, HasVisitedBy, IsJoinBy};
 ghost use Rattle.normalizer_iterators.specs.Composing.{IsRefused};
-ghost use Rattle.normalizer_iterators.specs.inner.ReadingOn.{IfShortRuns};
+ghost use Rattle.normalizer_iterators.specs.inner.ReadingOn.{HasYieldedLongBy, IfShortRuns};
 
 use crate::composition::passing::{Given, is_at_passthrough, next_passthrough};
 use crate::decomposition::Decomposition;
@@ -67,6 +67,7 @@ impl<'data, I: Iterator<Item = char> + Drop> Composition<'data, I> {
       ComposesOn,
       CompositionSteps,
       HasListsOfBoth,
+      IsLong,
       StaysShort,
       WillYield,
       data_of_composition,
@@ -92,6 +93,8 @@ impl<'data, I: Iterator<Item = char> + Drop> Composition<'data, I> {
             (nfc (reading_by characters.entry ignored pairs.now)) delegate) }
         ensures short { IfOk result (λ it.
             IfShortRuns I.next_gives characters.entry ignored delegate (StaysShort I.next_gives it)) }
+        ensures long { IfOk result (λ it. IsLong I.next_gives it →
+            HasYieldedLongBy I.next_gives characters.entry ignored delegate) }
         ensures succeeds { IfShortRuns I.next_gives characters.entry ignored delegate (IsOk result) }
         ensures ready { IfOk result (CanCompose I.can_next I.remaining) }
         ensures kept { IfOk result (λ it.

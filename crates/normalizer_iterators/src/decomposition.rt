@@ -18,7 +18,8 @@ ghost use Rattle.normalizer_iterators.specs.WaitingList.{AgreesWith, ordered_tex
 ghost use Rattle.normalizer_iterators.specs.Waiting.{HasClassesOf};
 ghost use Rattle.normalizer_iterators.specs.Reads.{character_of, HasOwnWord, HasOwnWords};
 ghost use Rattle.normalizer_iterators.specs.inner.ReadingOn.{ReadsChunkAfter, ChunkDidNotFitAfter, IsWholeChunk};
-ghost use Rattle.normalizer_iterators.specs.inner.ReadingOn.{IfShortRuns};
+ghost use Rattle.normalizer_iterators.specs.inner.ReadingOn.{HasYieldedLongBy, IfShortRuns};
+ghost use Rattle.normalizer_tables.specs.Pairs.{Pair};
 
 use crate::error::NormalizeError;
 use crate::pending::{PendingChar, read_from};
@@ -54,6 +55,7 @@ impl<'data, I: Iterator<Item = char> + Drop> Decomposition<'data, I> {
       CanDecompose,
       DecompositionSteps,
       IsEnded,
+      IsLong,
       StaysShort,
       WillYield,
       item_of,
@@ -100,6 +102,9 @@ impl<'data, I: Iterator<Item = char> + Drop> Decomposition<'data, I> {
             (nfd (reading_by characters.entry ignored [])) delegate) }
         ensures short { IfOk result (λ it.
             IfShortRuns I.next_gives characters.entry ignored delegate (StaysShort I.next_gives it)) }
+        ensures long { (pairs : List Pair) → IfOk result (λ it.
+            IsLong I.next_gives (reading_by characters.entry Dropped pairs) it →
+            HasYieldedLongBy I.next_gives characters.entry ignored delegate) }
         ensures succeeds { IfShortRuns I.next_gives characters.entry ignored delegate (IsOk result) }
         ensures ready { IfOk result (CanDecompose I.can_next I.remaining) }
         ensures kept { IfOk result (λ it. (it.characters ≡ characters.entry) × (it.ignored ≡ ignored)) }

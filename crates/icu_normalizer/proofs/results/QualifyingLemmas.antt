@@ -1,8 +1,10 @@
 -- Places that qualify for the cut, one counted from another.
-use Rattle.std.proofs.Common.{◌≡◌, ℕ, ◌+◌, List, [], ◌++◌, length, take, drop, sym, ap, subst, ◌∙◌, append_assoc, arith, inl, inr, drop_of_length-le, length-drop, take-append-drop}
-use Rattle.std.specs.Prelude.{Bool}
+use Rattle.std.proofs.Common.{◌≡◌, ℕ, ◌+◌, ◌-◌, List, [], ◌++◌, length, take, drop, sym, ap, subst, ◌∙◌, append_assoc, arith, inl, inr, drop_of_length-le, length-drop, take-append-drop}
+use Rattle.std.specs.Prelude.{Bool, Result, Ok, Err, Option, Some, None, IfOk}
+use Rattle.icu_normalizer.specs.inner.Offences.{IsCutUnlessNormalized, QualifiesUnlessNormalized}
 use Rattle.std.proofs.Math.Nat.{eq-zero-or-pos}
 use Rattle.std.proofs.Math.Seq.{take-add}
+use Rattle.std.proofs.lemmas.Bool.{cases_lt}
 use Rattle.std.proofs.lemmas.List.{drop-drop}
 use Rattle.normal_forms.specs.Reading.{Reading}
 use Rattle.normal_forms.specs.declared.Form.{Form}
@@ -13,7 +15,7 @@ use Rattle.normal_forms.proofs.cuts.PlaceLemmas.{form_of_nothing}
 use Rattle.normal_forms.proofs.forms.ListLemmas.{append_cancel}
 use Rattle.normalizer_text.specs.DecodingSteps.{IsWellFormed}
 use Rattle.normalizer_text.specs.Encodings.{Encoding, first_in, decoded_in}
-use Rattle.normalizer_text.specs.InputCut.{IsInputNormalized, QualifiesForInputCut}
+use Rattle.normalizer_text.specs.InputCut.{IsInputCut, IsInputNormalized, QualifiesForInputCut}
 use Rattle.normalizer_text.proofs.inputs.InputBoundaryLemmas.{IsWellFormed-append, IsWellFormed-nil, IsWellFormed-rest, decoded-parts}
 use Rattle.normalizer_text.proofs.inputs.InputCutLemmas.{normalized_from_rest, zero_input_qualifies}
 use Rattle.normalizer_text.proofs.steps.StepLemmas.{decoded-append, decoded-nil}
@@ -34,6 +36,12 @@ module _ (e : Encoding) (d : Reading) (form : Form) (units : List ℕ) where
           keeps = ap (λ l. l ++ normal_form d form (decoded_in e (drop end units))) (sym part.1.own) ∙ sym (form-parts part.0);
         }
   ]
+
+  -- a cut qualifies for itself
+  pub qualifies-from_cut : {E : Type 0} (r : Result (Option ℕ) E) → IfOk r (IsCutUnlessNormalized e d form units) → IfOk r (QualifiesUnlessNormalized e d form units)
+  qualifies-from_cut (Ok (Some place)) cut = (cut.0, cut.1.qualifies)
+  qualifies-from_cut (Ok None) own = own
+  qualifies-from_cut (Err fault) h = tt
 
   module _ (n : ℕ) (front : QualifiesForInputCut e d form units n) where
     -- a place that qualifies after one that does
@@ -60,6 +68,22 @@ module _ (e : Encoding) (d : Reading) (form : Form) (units : List ℕ) where
           (front.keeps ∙ own.own ∙ decoded-parts e units n front.well_formed);
     }
 
+    -- a later place that qualifies does so in the rest
+    qualifies-of_rest : (place : ℕ) → QualifiesForInputCut e d form units (n + place) → QualifiesForInputCut e d form (drop n units) place
+    qualifies-of_rest place all =
+        let x : List ℕ = decoded_in e (take n units) in
+        let y : List ℕ = decoded_in e (take place (drop n units)) in
+        let text : decoded_in e (take (n + place) units) ≡ x ++ y =
+        ap (decoded_in e) (take-add n place units) ∙ decoded-append e (take n units) (take place (drop n units)) front.well_formed in
+        record {
+          within = omega (arith, front.within, all.within, length-drop n units);
+          well_formed = IsWellFormed-rest e (take n units) (take place (drop n units)) front.well_formed (subst (IsWellFormed (first_in e)) (take-add n place units) all.well_formed);
+          keeps = append_cancel x (y ++ normal_form d form (decoded_in e (drop place (drop n units)))) (normal_form d form (decoded_in e (drop n units)))
+              (ap (λ l. x ++ (y ++ normal_form d form (decoded_in e l))) (drop-drop place n units)
+              ∙ sym (append_assoc x y (normal_form d form (decoded_in e (drop (n + place) units))))
+              ∙ ap (λ l. l ++ normal_form d form (decoded_in e (drop (n + place) units))) (sym text) ∙ all.keeps ∙ sym front.keeps);
+        }
+
     -- nothing comes after the last place
     pub normalized-whole : n ≡ length units → IsInputNormalized e d form units
     normalized-whole all =
@@ -78,6 +102,20 @@ module _ (e : Encoding) (d : Reading) (form : Form) (units : List ℕ) where
 
       pub qualifies-in_rest : (place : ℕ) → QualifiesForInputCut e d form rest place → QualifiesForInputCut e d form units (n + place)
       qualifies-in_rest place there = qualifies-after place (subst (λ l. QualifiesForInputCut e d form l place) is there)
+
+      pub IsInputCut-of_rest : (place : ℕ) → IsInputCut e d form rest place → IsInputCut e d form units (n + place)
+      IsInputCut-of_rest place cut = record {
+        qualifies = qualifies-in_rest place cut.qualifies;
+        greatest = λ m there.
+            elim (cases_lt m n) [
+              | inl before ↦ omega arith
+              | inr after ↦
+                  let sum : n + (m - n) ≡ m = omega arith in
+                  let later = qualifies-of_rest (m - n) (subst (QualifiesForInputCut e d form units) (sym sum) there) in
+                  let bound = cut.greatest (m - n) (subst (λ l. QualifiesForInputCut e d form l (m - n)) (sym is) later) in
+                  omega arith
+            ];
+      }
 
       pub HasShortRuns-of_rest : (f : ℕ → Bool) → HasShortRuns f d (decoded_in e units) → HasShortRuns f d (decoded_in e rest)
       HasShortRuns-of_rest f short =

@@ -17,10 +17,11 @@ use Rattle.normalizer_iterators.specs.Composing.{composed_ahead, ahead_left, Yie
 use Rattle.normalizer_iterators.specs.CompositionItems.{ComposesOn, CompositionSteps, WillYield, items_left, pairing_by}
 use Rattle.normalizer_iterators.proofs.composing.DecomposedMarks.{HasShortMarkRuns-rest}
 use Rattle.normalizer_iterators.proofs.items.DecompositionLemmas.{items_left-ended}
+use Rattle.normalizer_iterators.proofs.items.LongRuns.{IsLong-next}
 use Rattle.normalizer_iterators.proofs.composing.StarterLemmas.{YieldsShort-end, YieldsShort-next, YieldsShort-no_fault}
 use Rattle.normalizer_tables.specs.Readings.{reading_by}
 use Rattle.normalizer_tables.specs.declared.characters.IgnoredCharacters.TheVariants.{Dropped}
-use Rattle.normalizer_iterators.proofs.composing.CompositionLemmas.{Becomes, WillYield-by, WillYield-parts, WillYield-end, StaysShort-by, items_left-by, CameFirst-composed, IsEnded-parts}
+use Rattle.normalizer_iterators.proofs.composing.CompositionLemmas.{Becomes, IsLong-by, long_by, WillYield-by, WillYield-parts, WillYield-end, StaysShort-by, items_left-by, CameFirst-composed, IsEnded-parts}
 
 module _ {I : Type 0} (from : Source I) where
   module _ (s : Composition I) (before : s.ahead ≡ None) (none : staying_marks s.marks ≡ []) where
@@ -62,6 +63,8 @@ module _ {I : Type 0} (from : Source I) where
           };
           came = λ e. CameFirst-composed from s t e n (reading_by n.characters Dropped s.pairs.now) c r (on.came e)
               (λ y out h composed. may_come (MayYield from.next_gives e) (c ∷ y) out (step.came e y h) (compose_by_starters-starter d c y starter ∙ same_after y ∙ composed));
+          long = long_by from _ _ _ r
+              (λ h. IsLong-next from d s.decomposed c n step (subst (λ k. decomposition.IsLong from.next_gives (reading_by k Dropped s.pairs.now) n) step.kept.0 h)) on.long;
           ready = λ _. on.ready;
           kept = (on.kept.0 ∙ step.kept.0, on.kept.1);
           fewer = omega (arith, on.fewer, step.fewer, left_in_source);
@@ -79,6 +82,7 @@ module _ {I : Type 0} (from : Source I) where
           stays = λ h. cc (step.item.stays h.2);
         };
         came = λ k. tt;
+        long = step.long (pairing_by s);
         ready = step.ready;
         kept = parts.kept;
         fewer = omega (arith, step.fewer, left_in_source, items_left-by from s t [] None parts);
@@ -98,6 +102,7 @@ module _ {I : Type 0} (from : Source I) where
               stays = λ h. refl;
             };
             came = λ e. may_come (MayYield from.next_gives e) [] [] (step.came e) (compose_by_starters-nil d);
+            long = tt;
             ready = step.ready;
             kept = parts.kept;
             fewer = tt;
@@ -133,6 +138,7 @@ module _ {I : Type 0} (from : Source I) where
                 let b = WillYield-parts from (MayYield from.next_gives e) s t [] None parts out h in
                 let y = on.came e b.unread b.source in
                 may_come (MayYield from.next_gives e) y.0 (c ∷ out) y.1 (y.2 ∙ ap (λ l. c ∷ l) (sym b.text));
+            long = λ h. on.long (IsLong-by from s t [] None parts h);
             ready = λ _. on.ready;
             kept = parts.kept;
             fewer = omega (arith, on.fewer, left_in_source, items_left-by from s t [] None parts);
@@ -160,6 +166,7 @@ module _ {I : Type 0} (from : Source I) where
                 let b = WillYield-parts from (MayYield from.next_gives e) s t [] None parts out h in
                 may_come (MayYield from.next_gives e) (c ∷ b.unread) (c ∷ out) (step.came e b.unread b.source)
                 (compose_by_starters-mark d c b.unread mark ∙ ap (λ l. c ∷ l) (sym b.text));
+            long = λ h. IsLong-next from d s.decomposed c t.decomposed step (IsLong-by from s t [] None parts h);
             ready = step.ready;
             kept = parts.kept;
             fewer = omega (arith, step.fewer, left_in_source, items_left-by from s t [] None parts);

@@ -10,10 +10,10 @@ use Rattle.normalizer_iterators.specs.declared.error.NormalizeError.{NormalizeEr
 use Rattle.normalizer_iterators.specs.declared.error.NormalizeError.TheVariants.{Memory}
 use Rattle.normalizer_iterators.specs.DecompositionItems as decomposition
 use Rattle.normalizer_iterators.specs.Delegate.{Extent, MayYield, Source}
-use Rattle.normalizer_iterators.specs.NextItem.{CameFirst, YieldedFirst}
+use Rattle.normalizer_iterators.specs.NextItem.{CameFirst, ComesOfLong, YieldedFirst}
 use Rattle.normalizer_iterators.specs.StayingMarks.{staying_marks}
 use Rattle.normalizer_iterators.specs.Composing.{composed_ahead, ahead_left, WillYieldAfter, YieldsShort, ComposesStarter}
-use Rattle.normalizer_iterators.specs.CompositionItems.{CanCompose, ComposesOn, CompositionSteps, IsEnded, StaysShort, WillYield, items_left, pairing_by}
+use Rattle.normalizer_iterators.specs.CompositionItems.{CanCompose, ComposesOn, CompositionSteps, IsEnded, IsLong, StaysShort, WillYield, items_left, pairing_by}
 use Rattle.normal_forms.proofs.composing.ComposeLemmas.{compose_by_starters-nil}
 use Rattle.normalizer_iterators.proofs.items.DecompositionLemmas.{ended, items_left-ended}
 use Rattle.normalizer_iterators.proofs.items.ProgressLemmas.{MakesProgress-fewer}
@@ -82,6 +82,19 @@ module _ {I : Type 0} (from : Source I) where
   pub StaysShort-by : (s t : Composition I) (front : List ℕ) (behind : Option ℕ) → Becomes s front behind t → YieldsShort from.next_gives (pairing_by s) t.decomposed → StaysShort from.next_gives t
   StaysShort-by s t front behind parts h = short_by (pairing_by t) (pairing_by s) t.decomposed (pairing_by-kept s t parts.kept) h
 
+  pub IsLong-by : (s t : Composition I) (front : List ℕ) (behind : Option ℕ) → Becomes s front behind t → IsLong from.next_gives t → decomposition.IsLong from.next_gives (pairing_by s) t.decomposed
+  IsLong-by s t front behind parts h = subst (λ k. decomposition.IsLong from.next_gives k t.decomposed) (pairing_by-kept s t parts.kept) h
+
+  -- the same of another state before
+  pub long_by : (A B C : Type 0) (r : Result ℕ NormalizeError) → (B → C) → MatchResult r (λ _. A → B) (λ _. B) → MatchResult r (λ _. A → C) (λ _. C)
+  long_by A B C (Ok c) back on = λ h. back (on h)
+  long_by A B C (Err e) back on = back on
+
+  ComesOfLong-by : (s u : Composition I) (r : Option (Result ℕ NormalizeError)) (t : Composition I) → (IsLong from.next_gives u → IsLong from.next_gives s)
+      → ComesOfLong (IsLong from.next_gives) u r t → ComesOfLong (IsLong from.next_gives) s r t
+  ComesOfLong-by s u None t back on = tt
+  ComesOfLong-by s u (Some r) t back on = long_by _ _ _ r back on
+
   pub items_left-by : (s t : Composition I) (front : List ℕ) (behind : Option ℕ) → Becomes s front behind t → items_left from.remaining t ≡ length front + ahead_left behind (decomposition.items_left from.remaining t.decomposed)
   items_left-by s t front behind parts = rw (parts.marks, parts.ahead) refl
 
@@ -103,6 +116,7 @@ module _ {I : Type 0} (from : Source I) where
     came = λ e rest h. composes.came e rest (WillYield-parts (MayYield from.next_gives e) s t marks ahead parts rest h);
     fault = tt;
     room = λ h. (refl, StaysShort-by s t marks ahead parts (composes.short h));
+    long = λ h. composes.long (IsLong-by s t marks ahead parts h);
     ends = tt;
     ready = ready;
     fewer = omega (arith, composes.fewer, items_left-by s t marks ahead parts);
@@ -110,12 +124,13 @@ module _ {I : Type 0} (from : Source I) where
   }
 
   pub ComposesOn-fault : (starter : ℕ) (s t : Composition I) (e : NormalizeError) → Becomes s [] None t → decomposition.IsEnded t.decomposed → e ≡ Memory
-      → (YieldsShort from.next_gives (pairing_by s) s.decomposed → ⊥) → ComposesOn from starter s.decomposed s.pairs.now (Err e) t
-  ComposesOn-fault starter s t e parts end memory long = record {
+      → (YieldsShort from.next_gives (pairing_by s) s.decomposed → ⊥) → decomposition.IsLong from.next_gives (pairing_by s) s.decomposed → ComposesOn from starter s.decomposed s.pairs.now (Err e) t
+  ComposesOn-fault starter s t e parts end memory long far = record {
     first = λ y h. WillYield-end s t parts end;
     came = λ e. tt;
     fault = memory;
     room = λ h. absurd (long h);
+    long = far;
     ends = IsEnded-parts s t parts end;
     ready = rw end.0 tt;
     fewer = omega (arith, items_left-by s t [] None parts, items_left-ended from t.decomposed end);
@@ -145,6 +160,7 @@ module _ {I : Type 0} (from : Source I) where
             subst (λ n. WillYieldAfter (MayYield from.next_gives e) d (staying_marks t.marks) s.ahead n out) same.decomposed
             (WillYield-parts (MayYield from.next_gives e) s t (staying_marks t.marks) s.ahead parts out h) in
             record { unread = b.unread; source = b.source; text = ap (λ l. c ∷ l) b.text ∙ ap (λ l. l ++ composed_ahead d s.ahead b.unread) (sym front) };
+        long = λ h. subst (λ n. decomposition.IsLong from.next_gives (pairing_by s) n) same.decomposed (IsLong-by s t (staying_marks t.marks) s.ahead parts h);
         ready = λ h. rw same.decomposed h;
         kept = parts.kept;
         fewer = omega (arith, ap length front, items_left-by s t (staying_marks t.marks) s.ahead parts, ap (λ n. ahead_left s.ahead (decomposition.items_left from.remaining n)) same.decomposed);
@@ -171,6 +187,7 @@ module _ {I : Type 0} (from : Source I) where
           source = h;
           text = sym (ap (λ b. staying_marks s.marks ++ composed_ahead d b y) is ∙ ap (λ l. l ++ compose_after d a [] y) none ∙ composed);
         });
+        long = on.long;
         ready = λ _. on.ready;
         kept = on.kept;
         fewer = omega (arith, on.fewer, ap length none, ap (λ b. ahead_left b (decomposition.items_left from.remaining s.decomposed)) is);
@@ -209,6 +226,8 @@ module _ {I : Type 0} (from : Source I) where
         stays = λ h. step.item.stays (same.ahead ∙ h.0, none_left, subst decomposition.IsEnded (sym same.decomposed) h.2);
       };
       came = λ e. CameFirst-by (WillYield (MayYield from.next_gives e)) s u r t (without_marks_back (MayYield from.next_gives e)) (step.came e);
+      long = ComesOfLong-by s u r t
+          (λ h. subst (λ n. decomposition.IsLong from.next_gives (pairing_by s) n) same.decomposed (IsLong-by s u [] s.ahead without_marks h)) step.long;
       ready = λ h. step.ready (rw same.decomposed h);
       kept = (step.kept.0 ∙ without_marks.kept.0, step.kept.1 ∙ same.pairs);
       fewer = subst (λ n. OnSome r (items_left from.remaining t < n)) as_many step.fewer;

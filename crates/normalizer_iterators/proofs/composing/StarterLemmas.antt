@@ -15,6 +15,7 @@ use Rattle.normalizer_iterators.specs.MarkRuns.{leading_marks, HasShortMarkRuns}
 use Rattle.normalizer_iterators.specs.StayingMarks.{mark_count, staying_marks, BlocksBelow}
 use Rattle.normalizer_iterators.specs.Composing.{YieldsShort, ComposesStarter}
 use Rattle.normalizer_iterators.proofs.items.DecompositionLemmas.{items_left-ended, nothing_comes}
+use Rattle.normalizer_iterators.proofs.items.LongRuns.{IsLong-ended, IsLongAfter-any, IsLongAfter-next, leading_fits, some_decomposed}
 use Rattle.normalizer_iterators.proofs.composing.MarkLemmas.{join-starter}
 use Rattle.normalizer_iterators.proofs.passthrough.PassthroughItemLemmas.{compose_after-boundary}
 use Rattle.normalizer_iterators.proofs.composing.DecomposedMarks.{leading_marks-mark, HasShortMarkRuns-leading, HasShortMarkRuns-tail}
@@ -27,6 +28,7 @@ pub record ComposedSoFar {I : Type 0} (from : Source I) (d : Reading) (starter :
   pub came : (e : Extent) (y : List ℕ) → decomposition.WillYield (MayYield from.next_gives e) now y → (all : List ℕ) × decomposition.WillYield (MayYield from.next_gives e) old all
       × (compose_after d starter [] all ≡ compose_after d composite (staying_marks marks) y)
   pub short : YieldsShort from.next_gives d old → (h : YieldsShort from.next_gives d now) × (length (staying_marks marks) + leading_marks d h.unread ≤ buffer_limit)
+  pub long : decomposition.IsLongAfter from.next_gives d (length (staying_marks marks)) now → decomposition.IsLong from.next_gives d old
   pub blocking : BlocksBelow d marks
   pub in_use : mark_count marks ≡ length (staying_marks marks)
   pub ready : decomposition.CanDecompose from.can_next from.remaining now
@@ -66,6 +68,7 @@ module _ {I : Type 0} (from : Source I) (d : Reading) where
     text = λ all h. (all, ap (λ p. compose_after d starter p all) (sym none), h);
     came = λ e y h. (y, h, ap (λ p. compose_after d starter p y) (sym none));
     short = λ h. (h, omega (arith, ap length none, HasShortMarkRuns-leading d h.unread h.runs));
+    long = λ h. subst (λ n. decomposition.IsLongAfter from.next_gives d n old) (ap length none) h;
     blocking = blocking;
     in_use = omega (arith, ap length none);
     ready = ready;
@@ -89,6 +92,9 @@ module _ {I : Type 0} (from : Source I) (d : Reading) where
             let b = before.short h in
             let n = YieldsShort-next now c next step b.0 in
             (n.0, room_after_join d composite (staying_marks marks) c r n.0.unread joins n.0.runs (omega (arith, b.1, ap (leading_marks d) n.1)));
+        long = λ h.
+            before.long (IsLongAfter-next from d now c next step (length (staying_marks marks)) (length (staying_marks marks))
+            (λ y runs room. room_after_join d composite (staying_marks marks) c r y joins (HasShortMarkRuns-tail d c y runs) room) h);
         blocking = before.blocking;
         in_use = before.in_use;
         ready = step.ready before.ready;
@@ -118,6 +124,9 @@ module _ {I : Type 0} (from : Source I) (d : Reading) where
             let b = before.short h in
             let n = YieldsShort-next now c next step b.0 in
             (n.0, omega (arith, b.1, ap (leading_marks d) n.1, leading_marks-mark d c n.0.unread mark));
+        long = λ h.
+            before.long (IsLongAfter-next from d now c next step (length (staying_marks marks)) (length (staying_marks after))
+            (λ y runs room. omega (arith, one_more, leading_marks-mark d c y mark)) h);
         blocking = blocking;
         in_use = omega (arith, before.in_use);
         ready = step.ready before.ready;
@@ -133,6 +142,19 @@ module _ {I : Type 0} (from : Source I) (d : Reading) where
       let b = before.short h in
       let n = YieldsShort-next now c next step b.0 in
       omega (arith, before.in_use, b.1, ap (leading_marks d) n.1, leading_marks-mark d c n.0.unread mark)
+
+  pub ComposedSoFar-long : (starter : ℕ) (old : Decomposition I) (composite : ℕ) (now : Decomposition I) (marks : StayingMarks) (c : ℕ) (next : Decomposition I)
+      → ComposedSoFar from d starter old composite now marks → decomposition.DecompositionSteps from now (Some (Ok c)) next → IsMark d c → buffer_limit ≤ mark_count marks
+      → decomposition.IsLong from.next_gives d old
+  ComposedSoFar-long starter old composite now marks c next before step mark full =
+      let more = some_decomposed from next in
+      let come = step.long more.0 more.1 in
+      before.long (record { out = c ∷ more.0; comes = come.0; long = λ short runs room. omega (arith, before.in_use, leading_marks-mark d c more.0 mark) })
+
+  -- a fault comes of runs that aren't short
+  pub ComposedSoFar-fault : (starter : ℕ) (old : Decomposition I) (composite : ℕ) (now : Decomposition I) (marks : StayingMarks) (e : NormalizeError) (next : Decomposition I)
+      → ComposedSoFar from d starter old composite now marks → decomposition.DecompositionSteps from now (Some (Err e)) next → decomposition.IsLong from.next_gives d old
+  ComposedSoFar-fault starter old composite now marks e next before step = before.long (IsLongAfter-any from d now (length (staying_marks marks)) (step.long d))
 
   pub ComposesStarter-starts : (starter : ℕ) (old : Decomposition I) (composite : ℕ) (now : Decomposition I) (marks : StayingMarks) (c : ℕ) (next : Decomposition I) (after : StayingMarks)
       → ComposedSoFar from d starter old composite now marks → decomposition.DecompositionSteps from now (Some (Ok c)) next
@@ -154,6 +176,7 @@ module _ {I : Type 0} (from : Source I) (d : Reading) where
               b.2 ∙ compose_after-starter d composite (staying_marks marks) c h.unread apart starts ∙ ap (λ l. composite ∷ l) (sym h.text),
             );
         short = λ h. (YieldsShort-next now c next step (before.short h).0).0;
+        long = λ h. before.long (IsLongAfter-next from d now c next step (length (staying_marks marks)) 0 (leading_fits from d (length (staying_marks marks)) c) h);
         fewer = omega (arith, before.fewer, step.fewer);
       })
 
@@ -183,6 +206,7 @@ module _ {I : Type 0} (from : Source I) (d : Reading) where
               (sym (h.text ∙ ap (λ y. staying_marks marks ++ compose_by_starters d y) none ∙ ap (λ l. staying_marks marks ++ l) (compose_by_starters-nil d) ∙ append-nil (staying_marks marks))),
         );
     short = λ h. YieldsShort-end now next step (before.short h).0;
+    long = λ h. absurd (IsLong-ended from d next step.item.ends h);
     fewer = omega (arith, before.fewer, items_left-ended from next step.item.ends);
   }
 
@@ -203,5 +227,6 @@ module _ {I : Type 0} (from : Source I) (d : Reading) where
           b.2 ∙ compose_after-boundary d composite (staying_marks marks) h.unread (begins (MayYield from.next_gives e) h.unread h.source) ∙ ap (λ l. composite ∷ l) (sym h.text),
         );
     short = λ h. (before.short h).0;
+    long = λ h. before.long (IsLongAfter-any from d now (length (staying_marks marks)) h);
     fewer = before.fewer;
   }

@@ -1,9 +1,13 @@
 -- The steps of a decomposition.
-use Rattle.std.proofs.Common.{◌≡◌, ℕ, ◌+◌, ◌*◌, List, [], ◌∷◌, length, refl, ap, ◌∙◌, subst, arith, sym, Option, Some, None, IfSome, IfOk, IfErr, Ok, Err, Result}
+use Rattle.std.proofs.Common.{◌≡◌, ℕ, ◌+◌, ◌*◌, List, [], ◌∷◌, ◌++◌, length, option_to_list, refl, ap, ◌∙◌, subst, arith, sym, Option, Some, None, IfSome, IfOk, IfErr, Ok, Err, Result}
 use Rattle.std.specs.Iterator.{Count, size, IsFinite}
 use Rattle.normal_forms.specs.Forms.{nfd}
+use Rattle.normal_forms.specs.Reading.{Reading}
+use Rattle.normal_forms.specs.ShortRuns.{HasShortRuns}
 use Rattle.normalizer_text.specs.DecodingSteps.{Spells}
-use Rattle.normalizer_tables.specs.Characters.{class_of, has_class_form}
+use Rattle.normalizer_tables.specs.Characters.{Characters, class_of, has_class_form}
+use Rattle.normalizer_tables.specs.Readings.{reading_by}
+use Rattle.normalizer_tables.specs.declared.characters.IgnoredCharacters.{IgnoredCharacters}
 use Rattle.normalizer_iterators.specs.declared.decomposition.Decomposition.{Decomposition}
 use Rattle.normalizer_iterators.specs.declared.error.NormalizeError.{NormalizeError}
 use Rattle.normalizer_iterators.specs.declared.pending.PendingChar.{PendingChar}
@@ -11,14 +15,15 @@ use Rattle.normalizer_iterators.specs.declared.waiting.WaitingList.{WaitingList}
 use Rattle.normalizer_iterators.specs.Reads.{character_of}
 use Rattle.normalizer_iterators.proofs.reads.LazyLemmas.{at_boundary-parts}
 use Rattle.normalizer_iterators.specs.declared.error.NormalizeError.TheVariants.{Memory}
-use Rattle.normalizer_iterators.specs.DecompositionItems.{CanDecompose, DecompositionSteps, IsEnded, StaysShort, WillYield, items_left, pending_of, reading_of}
+use Rattle.normalizer_iterators.specs.DecompositionItems.{AreShort, CanDecompose, ComesShortBefore, DecompositionSteps, IsEnded, IsLong, StaysShort, WillYield, items_left, pending_of, reading_of}
 use Rattle.normalizer_iterators.specs.Delegate.{HasRead, IsReadyAfter, MayYield, Source}
+use Rattle.normalizer_iterators.specs.Delegate.Extent.{so_far}
 use Rattle.normalizer_iterators.specs.LazyReading.{longest_list}
 use Rattle.normalizer_iterators.specs.inner.ReadingOn.{ReadsChunk, ChunkDidNotFit}
 use Rattle.normalizer_iterators.specs.ToCome.{IsToCome, AreShortToCome, reads_left}
 use Rattle.normalizer_iterators.specs.WaitingList.{ordered_text}
 use Rattle.normalizer_iterators.proofs.items.ToComeLemmas.{nfd-nil, IsToCome-front, IsToCome-back, IsToCome-none, IsToCome-ended, AreShortToCome-ended}
-use Rattle.normalizer_iterators.proofs.items.ToComeLemmas.{IsToCome-chunk, came_chunk, AreShortToCome-chunk, short_chunk_fits, chunk_size}
+use Rattle.normalizer_iterators.proofs.items.ToComeLemmas.{IsToCome-chunk, came_chunk, AreShortToCome-chunk, long_chunk, short_behind_chunk, short_chunk_fits, chunk_size}
 
 -- what a value says of the variant that it is
 pub at_some : {X : Type 0} (o : Option X) (P : X → Type 0) → IfSome o P → (x : X) → o ≡ Some x → P x
@@ -52,6 +57,34 @@ module _ {I : Type 0} (from : Source I) where
   pub nothing_comes : (Comes : I → List ℕ → Type 0) (s : Decomposition I) (out : List ℕ) → IsEnded s → WillYield Comes s out → out ≡ []
   nothing_comes Comes s out end h = IsToCome-none Comes (nfd (reading_of s)) (pending_of s) s.delegate (ordered_text s.waiting) out (nfd-nil (reading_of s)) end.0 end.1 h
 
+  -- what may come before a step has the data that come after it
+  before_kept : (s t : Decomposition I) (c : ℕ) → t.characters ≡ s.characters → t.ignored ≡ s.ignored
+      → ((out : List ℕ) (later : IsToCome (MayYield from.next_gives so_far) (nfd (reading_of s)) (pending_of t) t.delegate (ordered_text t.waiting) out)
+      → (comes : WillYield (MayYield from.next_gives so_far) s (c ∷ out))
+      × (AreShort from.next_gives s (c ∷ out) comes → HasShortRuns (has_class_form s.characters) (reading_of s) (option_to_list (pending_of t) ++ later.unread))) → ComesShortBefore from.next_gives s c t
+  before_kept s t c characters ignored base =
+      let Q : Characters → IgnoredCharacters → Type 0
+      = λ k g. (out : List ℕ) (later : IsToCome (MayYield from.next_gives so_far) (nfd (reading_by k g [])) (pending_of t) t.delegate (ordered_text t.waiting) out)
+      → (comes : WillYield (MayYield from.next_gives so_far) s (c ∷ out))
+      × (AreShort from.next_gives s (c ∷ out) comes → HasShortRuns (has_class_form k) (reading_by k g []) (option_to_list (pending_of t) ++ later.unread)) in
+      subst (λ k. Q k t.ignored) (sym characters) (subst (λ g. Q s.characters g) (sym ignored) base)
+
+  before_front : (s t : Decomposition I) (c : ℕ) → t.pending ≡ s.pending → t.delegate ≡ s.delegate → ordered_text s.waiting ≡ c ∷ ordered_text t.waiting
+      → (out : List ℕ) (later : IsToCome (MayYield from.next_gives so_far) (nfd (reading_of s)) (pending_of t) t.delegate (ordered_text t.waiting) out)
+      → (comes : WillYield (MayYield from.next_gives so_far) s (c ∷ out))
+      × (AreShort from.next_gives s (c ∷ out) comes → HasShortRuns (has_class_form s.characters) (reading_of s) (option_to_list (pending_of t) ++ later.unread))
+  unfolding IsToCome-back
+  before_front s t c pending delegate front out =
+      let Q : Option PendingChar → I → Type 0
+      = λ p u. (later : IsToCome (MayYield from.next_gives so_far) (nfd (reading_of s)) (character_of p) u (ordered_text t.waiting) out)
+      → (comes : WillYield (MayYield from.next_gives so_far) s (c ∷ out))
+      × (AreShort from.next_gives s (c ∷ out) comes → HasShortRuns (has_class_form s.characters) (reading_of s) (option_to_list (character_of p) ++ later.unread)) in
+      let base : Q s.pending s.delegate = λ later. (
+        IsToCome-back (MayYield from.next_gives so_far) (nfd (reading_of s)) (pending_of s) s.delegate (ordered_text s.waiting) (ordered_text t.waiting) out c front later,
+        λ short. short,
+      ) in
+      subst (λ p. Q p t.delegate) (sym pending) (subst (λ u. Q s.pending u) (sym delegate) base)
+
   -- a buffered character is yielded
   pub Steps-front : (s t : Decomposition I) (c : ℕ) → t.characters ≡ s.characters → t.ignored ≡ s.ignored → t.pending ≡ s.pending → t.delegate ≡ s.delegate
       → ordered_text s.waiting ≡ c ∷ ordered_text t.waiting → DecompositionSteps from s (Some (Ok c)) t
@@ -67,6 +100,7 @@ module _ {I : Type 0} (from : Source I) where
     };
     came = λ e out h.
         IsToCome-back (MayYield from.next_gives e) (nfd (reading_of s)) (pending_of s) s.delegate (ordered_text s.waiting) (ordered_text t.waiting) out c front (rw (characters, ignored, pending, delegate) at h);
+    long = before_kept s t c characters ignored (before_front s t c pending delegate front);
     ready = λ h. rw (pending, delegate) h;
     kept = (characters, ignored);
     fewer = rw (pending, delegate) (omega (arith, ap length front));
@@ -86,6 +120,7 @@ module _ {I : Type 0} (from : Source I) where
       stays = λ h. refl;
     };
     came = λ e. ended (MayYield from.next_gives e) s before empty;
+    long = tt;
     ready = λ h. rw after tt;
     kept = (characters, ignored);
     fewer = tt;
@@ -106,6 +141,37 @@ module _ {I : Type 0} (from : Source I) where
     items_left-pending : items_left from.remaining s ≡ longest_list * (size (from.remaining s.delegate) + 1)
     items_left-pending =
         ap (λ l. length l + longest_list * reads_left (pending_of s) (size (from.remaining s.delegate))) empty ∙ ap (λ p. 0 + longest_list * reads_left p (size (from.remaining s.delegate))) pending ∙ omega arith
+
+    before_chunk : (t : Decomposition I) (first : ℕ) → ReadsChunk from (has_class_form s.characters) (reading_of s) c s.delegate first (pending_of t) t.delegate t.waiting
+        → (out : List ℕ) (later : IsToCome (MayYield from.next_gives so_far) (nfd (reading_of s)) (pending_of t) t.delegate (ordered_text t.waiting) out)
+        → (comes : WillYield (MayYield from.next_gives so_far) s (first ∷ out))
+        × (AreShort from.next_gives s (first ∷ out) comes → HasShortRuns (has_class_form s.characters) (reading_of s) (option_to_list (pending_of t) ++ later.unread))
+    before_chunk t first r out later =
+        let f = has_class_form s.characters in
+        let d = reading_of s in
+        let Q : Option ℕ → Type 0
+        = λ o. (comes : IsToCome (MayYield from.next_gives so_far) (nfd d) o s.delegate (ordered_text s.waiting) (first ∷ out))
+        × (HasShortRuns f d (option_to_list o ++ comes.unread) → HasShortRuns f d (option_to_list (pending_of t) ++ later.unread)) in
+        subst Q (sym pending) (
+          came_chunk from f d s.suits so_far c s.delegate t.delegate first (pending_of t) t.waiting (ordered_text s.waiting) out empty (s.at_boundary c pending) r later,
+          short_behind_chunk from f d s.suits c s.delegate t.delegate first (pending_of t) t.waiting (ordered_text s.waiting) out empty (s.at_boundary c pending) r later,
+        )
+
+    -- it didn't fit
+    long_chunk_to_come : ChunkDidNotFit from.next_gives (has_class_form s.characters) (reading_of s) c s.delegate → (d : Reading) → IsLong from.next_gives d s
+    long_chunk_to_come long d =
+        let f = has_class_form s.characters in
+        let e = reading_of s in
+        let Q : Option ℕ → Type 0
+        = λ o. (out : List ℕ) × (comes : IsToCome (MayYield from.next_gives so_far) (nfd e) o s.delegate (ordered_text s.waiting) out)
+        × (HasShortRuns f e (option_to_list o ++ comes.unread) → ⊥) in
+        let base : Q (Some c) = (
+          ordered_text s.waiting ++ nfd e (c ∷ long.read),
+          record { unread = long.read; source = (long.delegate_after, long.run); text = refl },
+          long_chunk from f e c s.delegate (s.at_boundary c pending) long,
+        ) in
+        let h : Q (pending_of s) = subst Q (sym pending) base in
+        record { out = h.0; comes = h.1; long = λ short marks room. h.2 short }
 
     pub Steps-chunk : (t : Decomposition I) (first : ℕ) → t.characters ≡ s.characters → t.ignored ≡ s.ignored
         → ReadsChunk from (has_class_form s.characters) (reading_of s) c s.delegate first (pending_of t) t.delegate t.waiting → DecompositionSteps from s (Some (Ok first)) t
@@ -129,6 +195,7 @@ module _ {I : Type 0} (from : Source I) where
           subst (λ p. IsToCome (MayYield from.next_gives e) (nfd (reading_of s)) p s.delegate (ordered_text s.waiting) (first ∷ out)) (sym pending)
           (came_chunk from (has_class_form s.characters) (reading_of s) s.suits e c s.delegate t.delegate first (pending_of t) t.waiting (ordered_text s.waiting) out empty
           (s.at_boundary c pending) r (rw (characters, ignored) at h));
+      long = before_kept s t first characters ignored (before_chunk t first r);
       ready = λ h. r.ready;
       kept = (characters, ignored);
       fewer = omega (arith, items_left-pending, chunk_size from (has_class_form s.characters) (reading_of s) s.suits c s.delegate t.delegate first (pending_of t) t.waiting r);
@@ -145,6 +212,7 @@ module _ {I : Type 0} (from : Source I) where
         stays = λ h. cc (h.0, pending);
       };
       came = λ e. tt;
+      long = long_chunk_to_come long;
       ready = λ h. rw after tt;
       kept = (characters, ignored);
       fewer = omega (arith, items_left-pending, items_left-ended t (after, empty_after));

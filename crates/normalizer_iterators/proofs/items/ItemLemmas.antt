@@ -7,7 +7,7 @@ use Rattle.normal_forms.specs.Forms.{nfd}
 use Rattle.normal_forms.specs.Reading.{Reading}
 use Rattle.normal_forms.specs.ShortRuns.{HasShortRuns}
 use Rattle.normalizer_text.specs.DecodingSteps.{Spells}
-use Rattle.normalizer_iterators.specs.DecompositionItems.{WillYield, StaysShort, IsEnded, DecompositionSteps, pending_of, reading_of}
+use Rattle.normalizer_iterators.specs.DecompositionItems.{WillYield, StaysShort, IsEnded, IsLong, DecompositionSteps}
 use Rattle.normalizer_iterators.specs.CompositionItems as composition
 use Rattle.normalizer_iterators.specs.CompositionItems.{CompositionSteps, pairing_by}
 use Rattle.normalizer_iterators.specs.StayingMarks.{staying_marks}
@@ -17,9 +17,10 @@ use Rattle.normalizer_iterators.specs.declared.decomposition.Decomposition.{Deco
 use Rattle.normalizer_iterators.specs.declared.error.NormalizeError.{NormalizeError}
 use Rattle.normalizer_iterators.specs.declared.error.NormalizeError.TheVariants.{Memory}
 use Rattle.normalizer_iterators.specs.Composing.{composed_ahead}
-use Rattle.normalizer_iterators.specs.Delegate.{ComesAfter, Extent, MayYield, Source}
+use Rattle.normalizer_iterators.specs.Delegate.{Extent, MayYield, Source, HasYieldedLong}
 use Rattle.normalizer_iterators.specs.Delegate.Extent.{to_end, so_far}
-use Rattle.normalizer_iterators.specs.NextItem.{CameFirst, YieldsNext, IsFormOfSource}
+use Rattle.normalizer_iterators.specs.NextItem.{CameFirst, ComesOfLong, YieldsNext, IsFormOfSource}
+use Rattle.normalizer_iterators.proofs.items.LongRuns.{ComesOfLong-decomposition, some_decomposed}
 use Rattle.normalizer_iterators.specs.Items.{Answers, YieldsForm, YieldsFormOfRun, HasEnded, SpellsOk, SpellsUnless}
 
 -- ---- the next item of an iterator
@@ -152,15 +153,21 @@ module _ {I : Type 0} (from : Source I) where
 module _ {I S : Type 0} (source_gives : I → Option ℕ → I → Type 0) (MayCome : Extent → S → List ℕ → Type 0) (WillYield : S → List ℕ → Type 0) (StaysShort IsEnded : S → Type 0)
     (steps : S → Option (Result ℕ NormalizeError) → S → Type 0)
     (item : (s : S) (r : Option (Result ℕ NormalizeError)) (t : S) → steps s r t → YieldsNext WillYield StaysShort IsEnded s r t)
-    (came : (s : S) (r : Option (Result ℕ NormalizeError)) (t : S) → steps s r t → (e : Extent) → CameFirst (MayCome e) s r t) where
+    (came : (s : S) (r : Option (Result ℕ NormalizeError)) (t : S) → steps s r t → (e : Extent) → CameFirst (MayCome e) s r t)
+    (IsLong : S → Type 0) (long : (s : S) (r : Option (Result ℕ NormalizeError)) (t : S) → steps s r t → ComesOfLong IsLong s r t) where
   -- what may come after a run may come before it, after what the run yielded
   may_come_before : (e : Extent) (s : S) (xs : List ℕ) (t : S) (out : List ℕ) → Yields steps s (map Ok xs) t → MayCome e t out → MayCome e s (xs ++ out)
   may_come_before e s [] t out run h = subst (λ u. MayCome e u out) (sym run) h
   may_come_before e s (x ∷ xs) t out run h = came s (Some (Ok x)) run.0 run.1 e (xs ++ out) (may_come_before e run.0 xs t out run.2 h)
 
-  YieldsFormOfRun-made : ((s : S) → (out : List ℕ) × MayCome so_far s out) → (form : List ℕ → List ℕ) (source : I) (it : S) → IsFormOfSource source_gives MayCome form source it
-      → YieldsFormOfRun source_gives steps form source it
-  YieldsFormOfRun-made some form source it is = record {
+  -- and so may runs that aren't short
+  IsLong-before : (s : S) (xs : List ℕ) (t : S) → Yields steps s (map Ok xs) t → IsLong t → IsLong s
+  IsLong-before s [] t run h = subst IsLong (sym run) h
+  IsLong-before s (x ∷ xs) t run h = long s (Some (Ok x)) run.0 run.1 (IsLong-before run.0 xs t run.2 h)
+
+  YieldsFormOfRun-made : ((s : S) → (out : List ℕ) × MayCome so_far s out) → (f : ℕ → Bool) (d : Reading) (form : List ℕ → List ℕ) (source : I) (it : S)
+      → IsFormOfSource source_gives MayCome form source it → (IsLong it → HasYieldedLong source_gives f d source) → YieldsFormOfRun source_gives steps f d form source it
+  YieldsFormOfRun-made some f d form source it is begins = record {
     whole = λ out run.
         let (after, all) = run in
         let (last, yields, end) = all in
@@ -174,46 +181,42 @@ module _ {I S : Type 0} (source_gives : I → Option ℕ → I → Type 0) (MayC
     fault = λ out e now all.
         let (last, yields, step) = all in
         let gave = item last (Some (Err e)) now step in
-        (gave.fault, HasEnded-ended WillYield StaysShort IsEnded steps item now gave.ends);
+        (gave.fault, HasEnded-ended WillYield StaysShort IsEnded steps item now gave.ends, begins (IsLong-before it out last yields (long last (Some (Err e)) now step)));
   }
 
 module _ {I : Type 0} (from : Source I) where
-  behind_may_come : (pending : Option ℕ) (u : I) → ComesAfter (MayYield from.next_gives so_far) pending u []
-  behind_may_come None u = refl
-  behind_may_come (Some c) u = (u, refl)
-
-  some_decomposed : (s : Decomposition I) → (out : List ℕ) × WillYield (MayYield from.next_gives so_far) s out
-  some_decomposed s = (
-    ordered_text s.waiting ++ nfd (reading_of s) (option_to_list (pending_of s) ++ []),
-    record { unread = []; source = behind_may_come (pending_of s) s.delegate; text = refl },
-  )
-
   some_composed : (s : Composition I) → (out : List ℕ) × composition.WillYield (MayYield from.next_gives so_far) s out
   some_composed s =
-      let y = some_decomposed s.decomposed in (
+      let y = some_decomposed from s.decomposed in (
         staying_marks s.marks ++ composed_ahead (pairing_by s) s.ahead y.0,
         record { unread = y.0; source = y.1; text = refl },
       )
 
-  pub YieldsFormOfRun-decomposition : (form : List ℕ → List ℕ) (source : I) (it : Decomposition I) → IsFormOfSource from.next_gives (λ e. WillYield (MayYield from.next_gives e)) form source it
-      → YieldsFormOfRun from.next_gives (DecompositionSteps from) form source it
-  YieldsFormOfRun-decomposition =
+  pub YieldsFormOfRun-decomposition : (e : Reading) (f : ℕ → Bool) (d : Reading) (form : List ℕ → List ℕ) (source : I) (it : Decomposition I)
+      → IsFormOfSource from.next_gives (λ e. WillYield (MayYield from.next_gives e)) form source it → (IsLong from.next_gives e it → HasYieldedLong from.next_gives f d source)
+      → YieldsFormOfRun from.next_gives (DecompositionSteps from) f d form source it
+  YieldsFormOfRun-decomposition e =
       YieldsFormOfRun-made from.next_gives (λ e. WillYield (MayYield from.next_gives e)) (WillYield (Spells from.next_gives)) (StaysShort from.next_gives) IsEnded (DecompositionSteps from)
-      (λ s r t step. step.item) (λ s r t step. step.came) some_decomposed
+      (λ s r t step. step.item) (λ s r t step. step.came) (IsLong from.next_gives e) (ComesOfLong-decomposition from e) (some_decomposed from)
 
-  pub YieldsFormOfRun-composition : (form : List ℕ → List ℕ) (source : I) (it : Composition I) → IsFormOfSource from.next_gives (λ e. composition.WillYield (MayYield from.next_gives e)) form source it
-      → YieldsFormOfRun from.next_gives (CompositionSteps from) form source it
+  pub YieldsFormOfRun-composition : (f : ℕ → Bool) (d : Reading) (form : List ℕ → List ℕ) (source : I) (it : Composition I)
+      → IsFormOfSource from.next_gives (λ e. composition.WillYield (MayYield from.next_gives e)) form source it → (composition.IsLong from.next_gives it → HasYieldedLong from.next_gives f d source)
+      → YieldsFormOfRun from.next_gives (CompositionSteps from) f d form source it
   YieldsFormOfRun-composition =
       YieldsFormOfRun-made from.next_gives (λ e. composition.WillYield (MayYield from.next_gives e)) (composition.WillYield (Spells from.next_gives)) (composition.StaysShort from.next_gives) composition.IsEnded
-      (CompositionSteps from) (λ s r t step. step.item) (λ s r t step. step.came) some_composed
+      (CompositionSteps from) (λ s r t step. step.item) (λ s r t step. step.came) (composition.IsLong from.next_gives) (λ s r t step. step.long) some_composed
 
 -- ---- the result of a constructor
+
+pub IfOk-both : {A E : Type 0} (r : Result A E) (P Q : A → Type 0) → IfOk r P → IfOk r Q → IfOk r (λ x. P x × Q x)
+IfOk-both (Ok x) P Q p q = (p, q)
+IfOk-both (Err e) P Q p q = tt
 
 module _ {I S : Type 0} (source_gives : I → Option ℕ → I → Type 0) (WillYield : S → List ℕ → Type 0) (StaysShort : S → Type 0) (steps : S → Option (Result ℕ NormalizeError) → S → Type 0)
     (unless : (s : S) (x : List ℕ) → WillYield s x → SpellsUnless steps Memory s x) (always : (s : S) (x : List ℕ) → WillYield s x → StaysShort s → SpellsOk steps s x) (f : ℕ
     → Bool) (d : Reading) (form : Reading → List ℕ → List ℕ) (source : I) where
   -- the runs of a text may be short by any reading that has the same lists
-  pub YieldsForm-made : (IsMade : S → Type 0) → ((it : S) → IsMade it → YieldsFormOfRun source_gives steps (form d) source it)
+  pub YieldsForm-made : (IsMade : S → Type 0) → ((it : S) → IsMade it → YieldsFormOfRun source_gives steps f d (form d) source it)
       → (IsShort : List ℕ → Type 0) → ((x : List ℕ) → HasShortRuns f d x → IsShort x) → (made : Result S NormalizeError)
       → IfOk made (λ it. (x : List ℕ) → Spells source_gives source x → WillYield it (form d x)) → IfOk made (λ it. (x : List ℕ) → Spells source_gives source x → IsShort x → StaysShort it)
       → ((x : List ℕ) → Spells source_gives source x → IsShort x → IsOk made) → IfOk made IsMade → IsOkUnless made Memory

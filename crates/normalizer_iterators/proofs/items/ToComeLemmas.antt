@@ -1,6 +1,6 @@
 -- What is still to come of an iterator, from one step to the next.
 use Rattle.std.proofs.Common.{◌≡◌, ℕ, ◌+◌, ◌*◌, ◌<◌, ◌≤◌, Bool, false, List, [], ◌∷◌, ◌++◌, length, refl, sym, ap, ◌∙◌, subst, arith, Option, Some, None, IfSome, MatchOption, option_to_list}
-use Rattle.std.proofs.lemmas.List.{length-append}
+use Rattle.std.proofs.lemmas.List.{append-nil, length-append}
 use Rattle.std.specs.Iterator.{size}
 use Rattle.normal_forms.specs.Reading.{Reading}
 use Rattle.normal_forms.specs.Decomposition.{expand}
@@ -11,7 +11,8 @@ use Rattle.normal_forms.proofs.ordering.OrderLemmas.{order-nil, length-order}
 use Rattle.normal_forms.proofs.boundaries.ChunkLemmas.{nfd-before_chunk, nfd-chunk, HasShortRuns-rest, leading_fits, chunk_fits}
 use Rattle.normalizer_text.specs.DecodingSteps.{Spells}
 use Rattle.normalizer_iterators.specs.declared.waiting.WaitingList.{WaitingList}
-use Rattle.normalizer_iterators.specs.Delegate.{ComesAfter, Extent, MayYield, Source}
+use Rattle.normalizer_iterators.specs.Delegate.{ComesAfter, Extent, MayYield, Source, HasYieldedLong}
+use Rattle.normalizer_iterators.specs.Delegate.Extent.{so_far}
 use Rattle.normalizer_iterators.specs.LazyReading.{SuitsLazyReading, longest_list}
 use Rattle.normalizer_iterators.specs.inner.ReadingOn.{ReadsOn, DidNotFit, ReadsChunk, ChunkDidNotFit}
 use Rattle.normalizer_iterators.specs.ToCome.{IsToCome, AreShortToCome, reads_left}
@@ -24,7 +25,7 @@ unfolding nfd expand
 nfd-nil d = order-nil d
 
 -- what was read last, with what comes after it, begins with a starter
-begins_chunk : (f : ℕ → Bool) (d : Reading) → SuitsLazyReading f d → {I : Type 0} (Comes : I → List ℕ → Type 0) (pending : Option ℕ) (u : I) (rest : List ℕ)
+pub begins_chunk : (f : ℕ → Bool) (d : Reading) → SuitsLazyReading f d → {I : Type 0} (Comes : I → List ℕ → Type 0) (pending : Option ℕ) (u : I) (rest : List ℕ)
     → IfSome pending (λ c. continues f d c ≡ false) → ComesAfter Comes pending u rest → BeginsChunk d (option_to_list pending ++ rest)
 begins_chunk f d suits Comes None u [] at_boundary source = tt
 begins_chunk f d suits Comes None u (c ∷ rest) at_boundary source = cc
@@ -48,7 +49,7 @@ module _ {I : Type 0} (Comes : I → List ℕ → Type 0) where
     record { unread = h.unread; source = h.source; text = refl },
   )
 
-  pub IsToCome-back : (form : List ℕ → List ℕ) (pending : Option ℕ) (u : I) (front behind rest : List ℕ) (c : ℕ) → front ≡ c ∷ behind → IsToCome Comes form pending u behind rest
+  unfoldable pub IsToCome-back : (form : List ℕ → List ℕ) (pending : Option ℕ) (u : I) (front behind rest : List ℕ) (c : ℕ) → front ≡ c ∷ behind → IsToCome Comes form pending u behind rest
       → IsToCome Comes form pending u front (c ∷ rest)
   IsToCome-back form pending u front behind rest c e h = record {
     unread = h.unread;
@@ -96,6 +97,18 @@ module _ {I : Type 0} (from : Source I) (f : ℕ → Bool) (d : Reading) where
             ∙ ap (λ l. l ++ nfd d behind) (sym (r.text ∙ reordered-nothing d w (expand d r.read) front open_marks))),
       )
 
+  -- runs that aren't short were in what the delegate yielded, from its start on
+  pub HasYieldedLong-start : SuitsLazyReading f d → (delegate u : I) (w b : WaitingList) (pending : Option ℕ) (out : List ℕ) → ordered_text w ≡ [] → unordered_text w ≡ []
+      → ReadsOn from f d delegate w pending u b → (h : IsToCome (MayYield from.next_gives so_far) (nfd d) pending u (ordered_text b) out)
+      → ((x : List ℕ) → out ≡ nfd d x → HasShortRuns f d x → HasShortRuns f d (option_to_list pending ++ h.unread) → ⊥) → HasYieldedLong from.next_gives f d delegate
+  HasYieldedLong-start suits delegate u w b pending out front open_marks r h long =
+      let behind = option_to_list pending ++ h.unread in
+      let all = MayYield-then from.next_gives so_far delegate r.read pending u h.unread r.run h.source in
+      let text : out ≡ nfd d (r.read ++ behind) =
+      h.text ∙ sym (nfd-before_chunk d r.read behind (begins_chunk f d suits (MayYield from.next_gives so_far) pending u h.unread r.at_boundary h.source)
+      ∙ ap (λ l. l ++ nfd d behind) (sym (r.text ∙ reordered-nothing d w (expand d r.read) front open_marks))) in
+      (r.read ++ behind, all.0, all.1, λ short. long (r.read ++ behind) text short (HasShortRuns-rest f d r.read behind short))
+
   pub AreShortToCome-start : (delegate u : I) (w b : WaitingList) (pending : Option ℕ) (x : List ℕ) → ReadsOn from f d delegate w pending u b → Spells from.next_gives delegate x
       → HasShortRuns f d x → AreShortToCome from.next_gives f d pending u
   AreShortToCome-start delegate u w b pending x r spells short =
@@ -123,7 +136,7 @@ module _ {I : Type 0} (from : Source I) (f : ℕ → Bool) (d : Reading) where
         record { unread = parts.0; source = parts.2; text = refl },
       )
 
-  pub came_chunk : SuitsLazyReading f d → (e : Extent) (c : ℕ) (delegate u : I) (first : ℕ) (pending : Option ℕ) (b : WaitingList) (front rest : List ℕ) → front ≡ [] → continues f d c ≡ false
+  unfoldable pub came_chunk : SuitsLazyReading f d → (e : Extent) (c : ℕ) (delegate u : I) (first : ℕ) (pending : Option ℕ) (b : WaitingList) (front rest : List ℕ) → front ≡ [] → continues f d c ≡ false
       → ReadsChunk from f d c delegate first pending u b → IsToCome (MayYield from.next_gives e) (nfd d) pending u (ordered_text b) rest
       → IsToCome (MayYield from.next_gives e) (nfd d) (Some c) delegate front (first ∷ rest)
   came_chunk suits e c delegate u first pending b front rest none at_boundary r h =
@@ -135,6 +148,20 @@ module _ {I : Type 0} (from : Source I) (f : ℕ → Bool) (d : Reading) where
             ∙ nfd-chunk d c first r.others r.read behind r.members starter (begins_chunk f d suits (MayYield from.next_gives e) pending u h.unread r.at_boundary h.source)
             ∙ ap (λ l. first ∷ (l ++ nfd d behind)) (sym r.text) ∙ ap (λ l. first ∷ l) (sym h.text));
       }
+
+  -- if the runs that come with it are short, so are those after it
+  pub short_behind_chunk : (suits : SuitsLazyReading f d) (c : ℕ) (delegate u : I) (first : ℕ) (pending : Option ℕ) (b : WaitingList) (front rest : List ℕ) (none : front ≡ [])
+      (at_boundary : continues f d c ≡ false) (r : ReadsChunk from f d c delegate first pending u b) (h : IsToCome (MayYield from.next_gives so_far) (nfd d) pending u (ordered_text b) rest)
+      → HasShortRuns f d (c ∷ (came_chunk suits so_far c delegate u first pending b front rest none at_boundary r h).unread) → HasShortRuns f d (option_to_list pending ++ h.unread)
+  unfolding came_chunk
+  short_behind_chunk suits c delegate u first pending b front rest none at_boundary r h short = HasShortRuns-rest f d (c ∷ r.read) (option_to_list pending ++ h.unread) short
+
+  -- what didn't fit has no short runs
+  pub long_chunk : (c : ℕ) (delegate : I) → continues f d c ≡ false → (long : ChunkDidNotFit from.next_gives f d c delegate) → HasShortRuns f d (c ∷ long.read) → ⊥
+  long_chunk c delegate at_boundary long short =
+      let first = (at_boundary-parts f d c at_boundary) in
+      let fits = chunk_fits f d c first.1 first.2 long.read [] (subst (λ l. HasShortRuns f d (c ∷ l)) (sym (append-nil long.read)) short) at_boundary first.3 long.continuing in
+      omega (arith, long.too_long, fits, ap length first.3, length-append first.2 (expand d long.read))
 
   pub AreShortToCome-chunk : (c : ℕ) (delegate u : I) (first : ℕ) (pending : Option ℕ) (b : WaitingList) → ReadsChunk from f d c delegate first pending u b
       → AreShortToCome from.next_gives f d (Some c) delegate → AreShortToCome from.next_gives f d pending u

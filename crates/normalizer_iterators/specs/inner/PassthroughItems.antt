@@ -14,8 +14,8 @@ use Rattle.normalizer_iterators.specs.declared.decomposition.Decomposition.{Deco
 use Rattle.normalizer_iterators.specs.declared.composition.passing.Given.{Given}
 use Rattle.normalizer_iterators.specs.declared.composition.passing.Given.TheVariants.{Itself, FirstMember}
 use Rattle.normalizer_iterators.specs.declared.error.NormalizeError.{NormalizeError}
-use Rattle.normalizer_iterators.specs.DecompositionItems.{CanDecompose, DecompositionSteps, StaysShort, WillYield}
-use Rattle.normalizer_iterators.specs.DecompositionItems.{items_left, pending_of}
+use Rattle.normalizer_iterators.specs.DecompositionItems.{CanDecompose, DecompositionSteps, IsLong, StaysShort}
+use Rattle.normalizer_iterators.specs.DecompositionItems.{WillYield, items_left, pending_of}
 use Rattle.normalizer_iterators.specs.Delegate.{Extent, MayYield, Source}
 use Rattle.normalizer_iterators.specs.LazyComposing.{IsComposingPassthrough, IsNormalizedApartIn, SuitsLazyComposing}
 use Rattle.normalizer_iterators.specs.WaitingList.{ordered_text}
@@ -46,6 +46,8 @@ module _ {I : Type 0} where
         × WillYield (MayYield from.next_gives e) s y × (compose_by_starters (reading_by s.characters Dropped pairs) y
         ≡ c ∷ compose_by_starters (reading_by s.characters Dropped pairs) rest)
     pub short : StaysShort from.next_gives s → StaysShort from.next_gives t
+    pub long : let d = reading_by s.characters Dropped pairs in
+        IsLong from.next_gives d t → IsLong from.next_gives d s
     pub ready : CanDecompose from.can_next from.remaining t
     pub at_passed : IsAtPassthrough pairs t
     pub kept : t.characters ≡ s.characters

@@ -13,7 +13,7 @@ use Rattle.normalizer_tables.specs.Readings.{reading_by}
 use Rattle.normalizer_text.specs.DecodingSteps.{Spells}
 use Rattle.normalizer_iterators.specs.declared.waiting.WaitingList.{WaitingList}
 use Rattle.normalizer_iterators.specs.WaitingList.{ordered_text, unordered_text, item_count, reordered_text, AgreesWith}
-use Rattle.normalizer_iterators.specs.Delegate.{HasRead, IsReadyAfter, Source}
+use Rattle.normalizer_iterators.specs.Delegate.{HasRead, HasYieldedLong, IsReadyAfter, Source}
 use Rattle.normalizer_iterators.specs.LazyReading.{HasClassesFrom}
 
 -- by each reading that has the classes of the data: these characters were added, and classes are still right
@@ -29,6 +29,10 @@ abbrev pub IfShortRuns : {I : Type 0} → (I → Option ℕ → I → Type 0) �
     → Type 0
 IfShortRuns gives s ignored it P =
     (x : List ℕ) → Spells gives it x → HasShortRuns (has_class_form s) (reading_by s ignored []) x → P
+
+-- what an iterator may have yielded so far has no short runs
+abbrev pub HasYieldedLongBy : {I : Type 0} → (I → Option ℕ → I → Type 0) → Characters → IgnoredCharacters → I → Type 0
+HasYieldedLongBy gives s ignored it = HasYieldedLong gives (has_class_form s) (reading_by s ignored []) it
 
 -- characters that continue were read from a delegate, and are buffered in order; then one after a boundary, or None
 pub record ReadsOn {I : Type 0} (from : Source I)

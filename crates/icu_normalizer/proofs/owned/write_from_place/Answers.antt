@@ -14,4 +14,4 @@ returns g c =
     let room = rw c.in_ok-make_room.was at c.make_room.ensures in
     let took = rw c.in_ok-write_piece.was at c.write_piece.ensures in
     written_from_cut g.O.Output.text_taken c.requires _ _ _ _ c.before-2.ensures c.after.ensures
-    (took.written.appends ∙ ap (λ l. l ++ g.U.Units.units c.before-2.result) room) c.form_to.ensures.text.written
+    (took.written.appends ∙ ap (λ l. l ++ g.U.Units.units c.before-2.result) room) c.write_changed.ensures.text.written

@@ -23,9 +23,9 @@ after-requires g c = (WroteUpTo-first (rw c.in_ok-position.was at c.write_run.en
 pub returns-clause-text : goal.returns-clause-text
 returns-clause-text g c =
     let first = WroteUpTo-first (rw c.in_ok-position.was at c.write_run.ensures.none) (rw c.in_ok-position.was at c.write_run.ensures.part) in
-    WritesText-rest first c.after.ensures c.write_segments.ensures.text
+    WritesText-rest first c.after.ensures c.write_changed.ensures.text
 
 pub returns-clause-room : goal.returns-clause-room
 returns-clause-room g c = λ short.
     let first = WroteUpTo-first (rw c.in_ok-position.was at c.write_run.ensures.none) (rw c.in_ok-position.was at c.write_run.ensures.part) in
-    c.write_segments.ensures.room (HasShortRuns-behind first c.after.ensures short)
+    c.write_changed.ensures.room (HasShortRuns-behind first c.after.ensures short)

@@ -8,7 +8,7 @@ use Rattle.normal_forms.specs.Boundary.{BeginsAtBoundary}
 use Rattle.normalizer_iterators.specs.LazyComposing.{SuitsLazyComposing}
 use Rattle.normalizer_iterators.proofs.passthrough.PassthroughItemLemmas.{IsAtPassthrough-stands, BeginsAtBoundary-to_come}
 use Rattle.normalizer_iterators.proofs.composing.StarterLemmas.{YieldsShort-no_fault, ComposedSoFar-none, ComposedSoFar-joined, ComposedSoFar-stays, ComposedSoFar-no_room, ComposesStarter-starts}
-use Rattle.normalizer_iterators.proofs.composing.StarterLemmas.{ComposesStarter-ends, ComposesStarter-passes}
+use Rattle.normalizer_iterators.proofs.composing.StarterLemmas.{ComposedSoFar-fault, ComposedSoFar-long, ComposesStarter-ends, ComposesStarter-passes}
 use Rattle.normalizer_iterators.proofs.composition.compose_starter.Goals as goal
 
 known_class : (s old : Characters) → old ≡ s → (given : ClassedChar) → given.class ≡ class_of old given.character → given.class ≡ class_of s given.character
@@ -20,8 +20,11 @@ loop-bounds-init g c =
 
 pub returns-in-Err-clause-err : goal.returns-in-Err-clause-err
 returns-in-Err-clause-err g c =
-    let step = rw c.in-Err.is at c.in-Some.ensures.steps in
-    (step.item.fault, λ h. YieldsShort-no_fault g.I.Iterator _ _ _ _ step (c.loop-bounds.invariant.short h).0)
+    let step = rw c.in-Err.is at c.in-Some.ensures.steps in (
+      step.item.fault,
+      λ h. YieldsShort-no_fault g.I.Iterator _ _ _ _ step (c.loop-bounds.invariant.short h).0,
+      ComposedSoFar-fault g.I.Iterator _ _ _ _ _ _ _ _ c.loop-bounds.invariant step,
+    )
 
 pub loop-bounds-preserved-in-Ok-Joined : goal.loop-bounds-preserved-in-Ok-Joined
 loop-bounds-preserved-in-Ok-Joined g c =
@@ -55,8 +58,11 @@ returns-in-Err-visit-clause-err g c =
     let step = rw c.in-Ok.is at c.in-Some.ensures.steps in
     let class = known_class c.args.decomposed.now.characters _ c.loop-bounds.invariant.kept c.in-Ok.given (rw c.in-Ok.is at c.in-Some.ensures.class) in
     let full = c.in-Err-visit.ensures.err in
-    let mark : IsMark (reading_by c.args.decomposed.now.characters Dropped c.args.pairs.now) c.in-Ok.given.character = omega (arith, class, full.1) in
-    (refl, ComposedSoFar-no_room g.I.Iterator _ _ _ _ _ _ c.in-Ok.given.character _ c.loop-bounds.invariant step mark full.0)
+    let mark : IsMark (reading_by c.args.decomposed.now.characters Dropped c.args.pairs.now) c.in-Ok.given.character = omega (arith, class, full.1) in (
+      refl,
+      ComposedSoFar-no_room g.I.Iterator _ _ _ _ _ _ c.in-Ok.given.character _ c.loop-bounds.invariant step mark full.0,
+      ComposedSoFar-long g.I.Iterator _ _ _ _ _ _ c.in-Ok.given.character _ c.loop-bounds.invariant step mark full.0,
+    )
 
 pub returns-in_default-clause-ok : goal.returns-in_default-clause-ok
 returns-in_default-clause-ok g c =

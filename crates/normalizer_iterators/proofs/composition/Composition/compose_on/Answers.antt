@@ -11,4 +11,4 @@ pub returns-in-Err : goal.returns-in-Err
 returns-in-Err g c =
     let fault = c.in-Err.ensures.err in
     ComposesOn-fault g.I.Iterator c.args.starter c.args.self.now _ _
-    (record { kept = (c.stop.ensures.kept.0 ∙ c.in-Err.ensures.kept, refl); marks = c.clear.ensures.staying; ahead = refl }) c.stop.ensures.ended fault.0 fault.1
+    (record { kept = (c.stop.ensures.kept.0 ∙ c.in-Err.ensures.kept, refl); marks = c.clear.ensures.staying; ahead = refl }) c.stop.ensures.ended fault.0 fault.1 fault.2

@@ -1,4 +1,5 @@
-use Rattle.std.proofs.Common.{◌++◌, None, ap, sym, ◌∙◌, []}
+use Rattle.std.proofs.Common.{◌++◌, None, ap, sym, subst, ◌∙◌, []}
+use Rattle.normalizer_iterators.specs.DecompositionItems as decomposition
 use Rattle.normal_forms.specs.Forms.{nfd}
 use Rattle.normal_forms.specs.CompositionByStarters.{compose_by_starters}
 use Rattle.normalizer_tables.specs.Characters.{has_class_form}
@@ -37,6 +38,12 @@ returns-clause-came g c = λ e out h.
           ∙ ap (compose_by_starters (reading_by s Dropped pairs)) source.2
           ∙ sym (nfc-reading_by s ignored pairs c.requires.composing.starters source.0),
     )
+
+pub returns-clause-long : goal.returns-clause-long
+returns-clause-long g c = λ h.
+    let pairs = c.args.pairs.now in
+    c.in_ok-over.ensures.long pairs
+    (subst (λ k. decomposition.IsLong g.I.Iterator.next_gives (reading_by k Dropped pairs) c.in_ok-over.field-0) c.in_ok-over.ensures.kept.0 h)
 
 pub returns-clause-short : goal.returns-clause-short
 returns-clause-short g c = λ x spelled runs.

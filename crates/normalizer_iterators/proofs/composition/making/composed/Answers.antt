@@ -4,11 +4,12 @@ use Rattle.normal_forms.specs.ShortRuns.{HasShortRuns}
 use Rattle.normalizer_tables.specs.Characters.{has_class_form}
 use Rattle.normalizer_tables.specs.Readings.{reading_by}
 use Rattle.normalizer_text.specs.DecodingSteps.{Spells}
-use Rattle.normalizer_iterators.specs.Delegate.{MayYield}
+use Rattle.normalizer_iterators.specs.Delegate.{HasYieldedLong, MayYield}
+use Rattle.normalizer_iterators.specs.declared.composition.Composition.{Composition}
 use Rattle.normalizer_iterators.specs.NextItem.{IsFormOfSource}
-use Rattle.normalizer_iterators.specs.CompositionItems.{WillYield, StaysShort, CompositionSteps}
+use Rattle.normalizer_iterators.specs.CompositionItems.{WillYield, StaysShort, IsLong, CompositionSteps}
 use Rattle.normalizer_iterators.proofs.composing.ComposingLemmas.{HasShortRuns-reading_by}
-use Rattle.normalizer_iterators.proofs.items.ItemLemmas.{YieldsForm-made, YieldsFormOfRun-composition, SpellsOk-composition, SpellsUnless-composition}
+use Rattle.normalizer_iterators.proofs.items.ItemLemmas.{IfOk-both, YieldsForm-made, YieldsFormOfRun-composition, SpellsOk-composition, SpellsUnless-composition}
 use Rattle.normalizer_iterators.proofs.composition.making.composed.Goals as goal
 
 pub returns-clause-form : goal.returns-clause-form
@@ -16,8 +17,12 @@ returns-clause-form g c =
     let gives = g.I.Iterator.next_gives in
     let s = c.args.characters in
     let made = c.over.ensures in
+    let d = reading_by s c.args.ignored c.args.pairs.now in
+    let came : Composition g.row.I.Denot → Type 0 = IsFormOfSource gives (λ e. WillYield (MayYield gives e)) (nfc d) c.args.delegate in
+    let long : Composition g.row.I.Denot → Type 0 = λ it. IsLong gives it → HasYieldedLong gives (has_class_form s) (reading_by s c.args.ignored []) c.args.delegate in
     YieldsForm-made gives (WillYield (Spells gives)) (StaysShort gives) (CompositionSteps g.I.Iterator) (SpellsUnless-composition g.I.Iterator) (SpellsOk-composition g.I.Iterator)
     (has_class_form s) (reading_by s c.args.ignored c.args.pairs.now) nfc c.args.delegate
-    (IsFormOfSource gives (λ e. WillYield (MayYield gives e)) (nfc (reading_by s c.args.ignored c.args.pairs.now)) c.args.delegate)
-    (YieldsFormOfRun-composition g.I.Iterator (nfc (reading_by s c.args.ignored c.args.pairs.now)) c.args.delegate) (HasShortRuns (has_class_form s) (reading_by s c.args.ignored []))
-    (HasShortRuns-reading_by (has_class_form s) s c.args.ignored c.args.pairs.now) c.over.result made.text made.short made.succeeds made.came made.refused
+    (λ it. came it × long it) (λ it known. YieldsFormOfRun-composition g.I.Iterator (has_class_form s) d (nfc d) c.args.delegate it known.0
+    (λ h. let (x, after, run, far) = known.1 h in (x, after, run, λ short. far (HasShortRuns-reading_by (has_class_form s) s c.args.ignored c.args.pairs.now x short))))
+    (HasShortRuns (has_class_form s) (reading_by s c.args.ignored []))
+    (HasShortRuns-reading_by (has_class_form s) s c.args.ignored c.args.pairs.now) c.over.result made.text made.short made.succeeds (IfOk-both c.over.result came long made.came made.long) made.refused
