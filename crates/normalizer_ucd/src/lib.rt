@@ -4,6 +4,7 @@
 mod error;
 mod exclusions;
 mod idna_table;
+pub mod laws;
 mod lines;
 mod stated;
 mod unicode_data;

@@ -1,0 +1,155 @@
+-- The mapper's records of IdnaMappingTable.txt are sorted by character.
+use Rattle.std.proofs.Common.{◌≡◌, ℕ, zero, suc, ◌+◌, ◌-◌, ◌≤◌, List, [], ◌∷◌, ◌++◌, Bool, true, false}
+use Rattle.std.proofs.Common.{Option, Some, None, Result, Ok, Err, refl, subst, arith}
+use Rattle.std.specs.Prelude.{if◌then◌else◌, nat_lt, ◌==◌, length}
+use Rattle.std.specs.Option.{option_to_list}
+use Rattle.std.specs.List.{flat_map, range_with_len}
+use Rattle.std.proofs.lemmas.Bool.{ltb-false}
+use Rattle.normalizer_records.specs.Faults.{AreMapperRising}
+use Rattle.normalizer_records.specs.RecordValue.{Status, Uts46RecordValue}
+use Rattle.normalizer_ucd.specs.declared.error.LineFault.{LineFault}
+use Rattle.normalizer_ucd.specs.declared.error.Place.{Place}
+use Rattle.normalizer_ucd.specs.declared.error.Problem.TheVariants as problems
+use Rattle.normalizer_ucd.specs.declared.error.UcdFile.TheVariants as files
+use Rattle.normalizer_ucd.specs.declared.idna_table.Covered.{Covered}
+use Rattle.normalizer_ucd.specs.declared.idna_table.Disallowed.{Disallowed}
+use Rattle.normalizer_ucd.specs.FallibleReads.{◌>>=◌, fault, read_each}
+use Rattle.normalizer_ucd.specs.Fields.{data_of, is_scalar_value, lines}
+use Rattle.normalizer_ucd.specs.IdnaTable.{RangeStatus, end_of, entries_at, entries_of, first_of, full_end, last_of, name_of}
+use Rattle.normalizer_ucd.specs.IdnaTable.{place, range_status, ranges_in, read_fields, read_line, start, status_of}
+use Rattle.normalizer_ucd.specs.IdnaTable.{uts46_records_beside, uts46_records_in, uts46_records_of}
+use Rattle.normalizer_ucd.specs.Versions.{agree, stated_in}
+use Rattle.normalizer_ucd.specs.Wholes.{whole_lines}
+use Rattle.normalizer_ucd.proofs.RisingLemmas.{bound, from_less, joined, parts_of_ok, AreWithin, IsWithin, read_within, rising}
+
+abbrev character : Uts46RecordValue → ℕ
+character r = r.c
+
+abbrev AreRanges : ℕ → ℕ → List RangeStatus → Type 0
+AreRanges = IsWithin (λ r. r.first) (λ r. r.end)
+
+-- where a range ends
+chosen : (late early empty : Bool) (e f g : LineFault) (last end : ℕ) →
+    (if late then Err e else if early then Err f else if empty then Err g else Ok last) ≡ Ok end →
+    (late ≡ false) × (empty ≡ false) × (last ≡ end)
+chosen true early empty e f g last end h = absurd (cc)
+chosen false true empty e f g last end h = absurd (cc)
+chosen false false true e f g last end h = absurd (cc)
+chosen false false false e f g last end h = (refl, refl, cc)
+
+ends : (at : Place) (next first last end : ℕ) → end_of at next first last ≡ Ok end → (next ≤ first) × (first + 1 ≤ end)
+ends at next first last end h =
+    let all = chosen (nat_lt first next) (nat_lt next first) (nat_lt last first) (fault at problems.Order)
+        (fault at problems.Gap) (fault at problems.Order) (last + 1) end h in
+    let after : next ≤ first = ltb-false first next all.0 in
+    let fits : first ≤ last = ltb-false last first all.1 in
+    let is = all.2 in
+    (after, omega arith)
+
+of_status : (next first end : ℕ) (status : Option Status) → next ≤ first → first + 1 ≤ end →
+    AreRanges next end (option_to_list (range_status first end status))
+of_status next first end None after fits = omega arith
+of_status next first end (Some status) after fits = (after, omega arith, omega arith)
+
+fields_within : (choice : Disallowed) (at : Place) (next end : ℕ) (line : List ℕ) (found : Option RangeStatus) →
+    read_fields choice at next line ≡ Ok (end, found) → AreRanges next end (option_to_list found)
+unfolding read_fields
+fields_within choice at next end line found h =
+    let first = bound (first_of at line) _ _ h in
+    let last = bound (last_of at line) _ _ first.then_is in
+    let ended = bound (end_of at next first.value last.value) _ _ last.then_is in
+    let name = bound (name_of at line) _ _ ended.then_is in
+    let status = bound (status_of choice at line first.value last.value name.value) _ _ name.then_is in
+    let both = parts_of_ok ended.value end (range_status first.value ended.value status.value) found status.then_is in
+    let within = ends at next first.value last.value ended.value ended.is in
+    subst (λ (f : Option RangeStatus). AreRanges next end (option_to_list f)) both.1
+    (subst (λ (e : ℕ). AreRanges next e (option_to_list (range_status first.value ended.value status.value))) both.0
+    (of_status next first.value ended.value status.value within.0 within.1))
+
+abbrev covered_by : ℕ → ℕ × Option RangeStatus → Result (Covered × Option RangeStatus) LineFault
+covered_by n read = Ok (record { end = read.0; line = n }, read.1)
+
+blank_or : (blank : Bool) (n : ℕ) (covered next : Covered) (found : Option RangeStatus)
+    (read : Result (ℕ × Option RangeStatus) LineFault) →
+    (if blank then Ok (covered, None) else (read >>= covered_by n)) ≡ Ok (next, found) →
+    ((end : ℕ) (f : Option RangeStatus) → read ≡ Ok (end, f) → AreRanges covered.end end (option_to_list f)) →
+    AreRanges covered.end next.end (option_to_list found)
+blank_or true n covered next found read h of_read =
+    let both = parts_of_ok covered next None found h in
+    subst (λ (f : Option RangeStatus). AreRanges covered.end next.end (option_to_list f)) both.1
+    (subst (λ (q : Covered). covered.end ≤ q.end) both.0 (omega arith))
+blank_or false n covered next found read h of_read =
+    let fields = bound read (covered_by n) _ h in
+    let made : Covered = record { end = fields.value.0; line = n } in
+    let both = parts_of_ok made next fields.value.1 found fields.then_is in
+    subst (λ (f : Option RangeStatus). AreRanges covered.end next.end (option_to_list f)) both.1
+    (subst (λ (q : Covered). AreRanges covered.end q.end (option_to_list fields.value.1)) both.0
+    (of_read fields.value.0 fields.value.1 fields.is))
+
+line_within : (choice : Disallowed) (n : ℕ) (covered next : Covered) (line : List ℕ) (found : Option RangeStatus) →
+    read_line choice n covered line ≡ Ok (next, found) → AreRanges covered.end next.end (option_to_list found)
+unfolding read_line
+line_within choice n covered next line found h =
+    blank_or (length (data_of line) == 0) n covered next found (read_fields choice (place n) covered.end (data_of line)) h
+    (λ end f. fields_within choice (place n) covered.end end (data_of line) f)
+
+-- the record of a character, if it is one, and those of what follows
+first_or_none : (scalar : Bool) (status : Status) (c m : ℕ) (later : List Uts46RecordValue) →
+    AreWithin character (c + 1) m later →
+    AreWithin character c m ((if scalar then record { c = c; status = status } ∷ [] else []) ++ later)
+first_or_none true status c m later h = (omega arith, omega arith, h)
+first_or_none false status c m later h = from_less character (λ r. r.c + 1) c (c + 1) m later h (omega arith)
+
+all_within : (status : Status) (count first end : ℕ) → end ≡ first + count →
+    AreWithin character first end (flat_map (entries_at status) (range_with_len first count))
+all_within status zero first end is = omega arith
+all_within status (suc count) first end is =
+    first_or_none (is_scalar_value first) status first end (flat_map (entries_at status) (range_with_len (first + 1) count))
+    (all_within status count (first + 1) end (omega arith))
+
+of_ranges : (n m : ℕ) (ranges : List RangeStatus) → AreRanges n m ranges →
+    AreWithin character n m (flat_map entries_of ranges)
+unfolding entries_of
+of_ranges n m [] h = h
+of_ranges n m (r ∷ ranges) h =
+    joined character (λ e. e.c + 1) n r.end m (entries_of r) (flat_map entries_of ranges)
+    (from_less character (λ e. e.c + 1) n r.first r.end (entries_of r)
+    (all_within r.status (r.end - r.first) r.first r.end (let le : r.first ≤ r.end = h.1 in omega arith)) h.0)
+    (of_ranges r.end m ranges h.2)
+
+of_lines : (choice : Disallowed) (parts : List (List ℕ)) (ranges : List RangeStatus) →
+    ranges_in choice parts ≡ Ok ranges → AreMapperRising (flat_map entries_of ranges)
+unfolding ranges_in
+of_lines choice parts ranges h =
+    let read = bound (read_each (read_line choice) 1 start parts) _ _ h in
+    let full = bound (full_end read.value.0) _ _ read.then_is in
+    let same : read.value.1 ≡ ranges = cc in
+    let within : AreRanges 0 read.value.0.end read.value.1 =
+        read_within (λ r. r.first) (λ r. r.end) (λ c. c.end) (read_line choice) (line_within choice) 1 start
+        read.value.0 parts read.value.1 (let e = read.is in cc) in
+    subst (λ (rs : List RangeStatus). AreMapperRising (flat_map entries_of rs)) same
+    (rising character 0 read.value.0.end (flat_map entries_of read.value.1)
+    (of_ranges 0 read.value.0.end read.value.1 within))
+
+in_lines : (choice : Disallowed) (parts : List (List ℕ)) (records : List Uts46RecordValue) →
+    uts46_records_in choice parts ≡ Ok records → AreMapperRising records
+unfolding uts46_records_in
+in_lines choice parts records h =
+    let ranges = bound (ranges_in choice parts) _ _ h in
+    let made : flat_map entries_of ranges.value ≡ records = cc in
+    subst AreMapperRising made (of_lines choice parts ranges.value ranges.is)
+
+pub mapper_records_are_rising : (choice : Disallowed) (table : List ℕ) (records : List Uts46RecordValue) →
+    uts46_records_of choice table ≡ Ok records → AreMapperRising records
+unfolding uts46_records_of
+mapper_records_are_rising choice table records h =
+    let parts = bound (whole_lines files.IdnaMappingTable table) _ _ h in
+    in_lines choice parts.value records parts.then_is
+
+pub records_beside_are_rising : (exclusions table : List ℕ) (choice : Disallowed) (records : List Uts46RecordValue) →
+    uts46_records_beside exclusions choice table ≡ Ok records → AreMapperRising records
+unfolding uts46_records_beside
+records_beside_are_rising exclusions table choice records h =
+    let parts = bound (whole_lines files.IdnaMappingTable table) _ _ h in
+    let same = bound (agree (stated_in (lines exclusions)) files.IdnaMappingTable (stated_in parts.value)) _ _ parts.then_is in
+    in_lines choice parts.value records same.then_is
