@@ -15,7 +15,7 @@ import zipfile
 
 HERE = pathlib.Path(__file__).resolve().parent
 NAME = "icu_normalizer"
-VERSION = "0.1.0"
+VERSION = "1.0.0"
 PYTHON = f"cp{sys.version_info.major}{sys.version_info.minor}"
 TAG = f"{PYTHON}-{PYTHON}-{sysconfig.get_platform().replace('-', '_').replace('.', '_')}"
 INFO = f"{NAME}-{VERSION}.dist-info"

@@ -35,7 +35,7 @@ fn mapping() {
 
 #[test]
 fn forms() {
-    assert_eq!(version(), [0, 1, 0]);
+    assert_eq!(version(), [1, 0, 0]);
     assert!(matches!(NFC.normalize("abc"), Cow::Borrowed("abc")));
     assert!(matches!(NFC.normalize(""), Cow::Borrowed("")));
     assert_eq!(NFC.normalize("a\u{308}"), "\u{E4}");

@@ -38,8 +38,8 @@ extern "C" {
 #endif
 
 /* The version of this header. icu_normalizer_version() returns that of the library. */
-#define ICU_NORMALIZER_VERSION_MAJOR 0
-#define ICU_NORMALIZER_VERSION_MINOR 1
+#define ICU_NORMALIZER_VERSION_MAJOR 1
+#define ICU_NORMALIZER_VERSION_MINOR 0
 #define ICU_NORMALIZER_VERSION_PATCH 0
 #define ICU_NORMALIZER_VERSION \
     (ICU_NORMALIZER_VERSION_MAJOR << 16 | ICU_NORMALIZER_VERSION_MINOR << 8 | ICU_NORMALIZER_VERSION_PATCH)
