@@ -3,9 +3,9 @@
 //! each file. A row without `=` sets the data of later questions (`normalizer_row_data`); `questions` has the words of
 //! the others.
 //!
-//! `before ROW..` compares the rows once each, and `again ROW..` the last of them three times, so that a script can
-//! refuse each growth of memory of the second time. `before-marks 17 FORM` and `again-marks 17 FORM` do so for the
-//! items of a letter with this many marks. `refused` has what the status then says.
+//! `call NAME ROW..` makes one call that the question of the last row is about, as `normalize_to`, once the other rows
+//! have set the data; `before NAME ROW..` does all that comes before the call, and `after NAME ROW..` compares the row
+//! after it. So a script can refuse each growth of memory of the call alone. `refused` has what the status then says.
 #![tactic(auto)]
 
 mod comparison;
@@ -14,7 +14,7 @@ mod refused;
 
 use comparison::{row_count, what_differs, without_comment};
 use normalizer_row_data::setting::Setting;
-use refused::Stage;
+use normalizer_row_words::stage::Stage;
 use std::process::ExitCode;
 use std::{env, fs, io};
 
@@ -33,14 +33,9 @@ fn status(rt: &HostRuntime) -> io::Result<u8> {
         names.push(argument.as_str())?;
     }
     match names.as_slice() {
-        ["before", rows @ ..] => Ok(refused::status(rt.alloc(), Stage::Before, rows)),
-        ["again", rows @ ..] => Ok(refused::status(rt.alloc(), Stage::Again, rows)),
-        ["before-marks", count, form] => {
-            Ok(refused::marks_status(rt.alloc(), Stage::Before, count, form))
-        }
-        ["again-marks", count, form] => {
-            Ok(refused::marks_status(rt.alloc(), Stage::Again, count, form))
-        }
+        ["before", call, rows @ ..] => Ok(refused::status(rt.alloc(), Stage::Before, call, rows)),
+        ["call", call, rows @ ..] => Ok(refused::status(rt.alloc(), Stage::Call, call, rows)),
+        ["after", call, rows @ ..] => Ok(refused::status_after(rt.alloc(), call, rows)),
         files => compared(rt, files),
     }
 }

@@ -26,6 +26,7 @@ pub fn answer(setting: &mut Setting<'_>, question: &[&str]) -> Answer {
         "head" => decoding::head(alloc, rest),
         "every" => decoding::every(alloc, rest),
         "ranges" => parts::ranges(alloc, rest),
+        "pairs" => parts::pairs(alloc, rest),
         "said" if matches!(rest, ["build"]) => record_questions::said(setting),
         _ => of_data(alloc, setting.held()?, name, rest),
     }

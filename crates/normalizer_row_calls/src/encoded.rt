@@ -1,4 +1,6 @@
 //! What the calls of a normalizer return for an input, in each of the three encodings.
+ghost use Rattle.std.specs.Iterator.{IsFinite};
+
 use icu_normalizer::{NormalizeError, Offence, Utf8Chars, Utf16Chars};
 use normalizer_row_data::normalizer::Normalizer;
 use normalizer_row_words::fault::Fault;
@@ -28,11 +30,16 @@ pub trait Encoded: Copy {
     /// The form as it is returned, and whether it is borrowed.
     fn form(self, alloc: Global, normalizer: &Normalizer) -> Result<(Vec<char>, bool), Fault>;
 
-    /// Whether the form is written to a sink after what is there. A refused write leaves a beginning of it.
+    /// Whether the form is returned. This allocates nothing else.
+    fn is_returned(self, normalizer: &Normalizer, form: &[char]) -> Result<bool, Fault>;
+
+    /// Whether the form is written to a sink after what is there. A refused write leaves a beginning of it. Besides the
+    /// sink this allocates nothing else.
     fn is_written(
         self,
         alloc: Global,
         normalizer: &Normalizer,
+        before: &str,
         form: &[char],
     ) -> Result<bool, Fault>;
 
@@ -80,7 +87,7 @@ fn places<E: Encoded>(
     input: E,
     form: &[char],
 ) -> Result<(usize, Option<Offence>), Fault> {
-    if input.is_written(alloc, normalizer, form)? && input.is_yielded(normalizer, form)? {
+    if input.is_written(alloc, normalizer, BEFORE, form)? && input.is_yielded(normalizer, form)? {
         Ok((input.cut(normalizer)?, input.offence(normalizer)?))
     } else {
         Err(Fault::Divided)
@@ -178,21 +185,41 @@ macro_rules! yielded {
 /// What a sink holds before the form is written to it.
 const BEFORE: &str = "held: ";
 
-/// Whether a sink holds all of the form, or after a fault a beginning of it.
-fn holds(written: Result<(), NormalizeError>, sink: &str, form: &[char]) -> Result<bool, Fault> {
-    let Some(after) = sink.strip_prefix(BEFORE) else {
-        return Ok(false);
-    };
-    let is_beginning = after
-        .chars()
-        .zip(form.iter().copied())
-        .all(|(found, wanted)| found == wanted);
-    let count = after.chars().count();
+/// Whether a sink with these characters holds all of the form after what was there, or after a fault a beginning of it.
+fn holds<I: Iterator<Item = char> + Drop>(
+    written: Result<(), NormalizeError>,
+    mut sink: I,
+    before: &str,
+    form: &[char],
+) -> Result<bool, Fault>
+    requires can { I.can_next sink }
+    requires ends { IsFinite (I.remaining sink) }
+{
+    for wanted in before.chars() {
+        if sink.next() != Some(wanted) {
+            return Ok(false);
+        }
+    }
     match written {
-        Ok(()) => Ok(is_beginning && count == form.len()),
-        Err(_) if is_beginning && count <= form.len() => Err(Fault::Memory),
+        Ok(()) => Ok(sink.eq(form.iter().copied())),
+        Err(_) if is_beginning(sink, form) => Err(Fault::Memory),
         Err(_) => Ok(false),
     }
+}
+
+/// Whether characters are a beginning of a form.
+fn is_beginning<I: Iterator<Item = char> + Drop>(characters: I, form: &[char]) -> bool
+    requires can { I.can_next characters }
+    requires ends { IsFinite (I.remaining characters) }
+{
+    let mut left = form;
+    for found in characters {
+        match left {
+            [wanted, rest @ ..] if *wanted == found => left = rest,
+            _ => return false,
+        }
+    }
+    true
 }
 
 fn characters(alloc: Global, form: &CowStr<'_, Global>) -> Result<(Vec<char>, bool), Fault> {
@@ -209,18 +236,21 @@ impl Encoded for &str {
         characters(alloc, &called!(normalizer, normalize(self))?)
     }
 
+    fn is_returned(self, normalizer: &Normalizer, form: &[char]) -> Result<bool, Fault> {
+        let found = called!(normalizer, normalize(self))?;
+        Ok(found.as_str().chars().eq(form.iter().copied()))
+    }
+
     fn is_written(
         self,
         alloc: Global,
         normalizer: &Normalizer,
+        before: &str,
         form: &[char],
     ) -> Result<bool, Fault> {
-        let mut sink = String::from_str(alloc, BEFORE)?;
-        holds(
-            called!(normalizer, normalize_to(self, &mut sink)),
-            &sink,
-            form,
-        )
+        let mut sink = String::from_str(alloc, before)?;
+        let written = called!(normalizer, normalize_to(self, &mut sink));
+        holds(written, sink.chars(), before, form)
     }
 
     fn is_yielded(self, normalizer: &Normalizer, form: &[char]) -> Result<bool, Fault> {
@@ -258,18 +288,21 @@ impl Encoded for &[u8] {
         characters(alloc, &called!(normalizer, normalize_utf8(self))?)
     }
 
+    fn is_returned(self, normalizer: &Normalizer, form: &[char]) -> Result<bool, Fault> {
+        let found = called!(normalizer, normalize_utf8(self))?;
+        Ok(found.as_str().chars().eq(form.iter().copied()))
+    }
+
     fn is_written(
         self,
         alloc: Global,
         normalizer: &Normalizer,
+        before: &str,
         form: &[char],
     ) -> Result<bool, Fault> {
-        let mut sink = String::from_str(alloc, BEFORE)?;
-        holds(
-            called!(normalizer, normalize_utf8_to(self, &mut sink)),
-            &sink,
-            form,
-        )
+        let mut sink = String::from_str(alloc, before)?;
+        let written = called!(normalizer, normalize_utf8_to(self, &mut sink));
+        holds(written, sink.chars(), before, form)
     }
 
     fn is_yielded(self, normalizer: &Normalizer, form: &[char]) -> Result<bool, Fault> {
@@ -307,15 +340,22 @@ impl Encoded for &[u16] {
         ))
     }
 
+    fn is_returned(self, normalizer: &Normalizer, form: &[char]) -> Result<bool, Fault> {
+        let found = called!(normalizer, normalize_utf16(self))?;
+        let units = found.as_slice();
+        Ok(is_utf16(units) && Utf16Chars::new(units).eq(form.iter().copied()))
+    }
+
     fn is_written(
         self,
         alloc: Global,
         normalizer: &Normalizer,
+        before: &str,
         form: &[char],
     ) -> Result<bool, Fault> {
-        let mut sink: Vec<u16> = BEFORE.encode_utf16().collect(alloc)?;
+        let mut sink: Vec<u16> = before.encode_utf16().collect(alloc)?;
         let written = called!(normalizer, normalize_utf16_to(self, &mut sink));
-        holds(written, &text_of_units(alloc, &sink)?, form)
+        Ok(is_utf16(&sink) && holds(written, Utf16Chars::new(&sink), before, form)?)
     }
 
     fn is_yielded(self, normalizer: &Normalizer, form: &[char]) -> Result<bool, Fault> {
@@ -334,6 +374,16 @@ impl Encoded for &[u16] {
     fn offence(self, normalizer: &Normalizer) -> Result<Option<Offence>, NormalizeError> {
         called!(normalizer, first_offence_utf16(self))
     }
+}
+
+/// Whether units are the UTF-16 of a text.
+fn is_utf16(units: &[u16]) -> bool {
+    for item in char::decode_utf16(units.iter().copied()) {
+        if item.is_err() {
+            return false;
+        }
+    }
+    true
 }
 
 /// The text of units, if these are its UTF-16.

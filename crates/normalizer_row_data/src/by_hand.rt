@@ -38,7 +38,7 @@ impl Drop for Part {
 }
 
 /// Second character, first character and composite.
-type Pair = (char, char, char);
+pub type Pair = (char, char, char);
 
 /// Reads a row that sets a part of data, or removes one.
 pub fn read_row(alloc: Global, row: &[&str]) -> Result<(), Fault> {
@@ -219,20 +219,23 @@ fn next_pairs(
     row: &[&str],
 ) -> Result<Option<Vec<Pair>>, Fault> {
     match row {
-        ["pairs", characters @ ..] => with_pairs(Vec::new(alloc), characters),
-        ["pair", characters @ ..] => with_pairs(found.unwrap_or(Vec::new(alloc)), characters),
+        ["pairs", characters @ ..] => Ok(Some(with_pairs(Vec::new(alloc), characters)?)),
+        ["pair", characters @ ..] => {
+            let pairs = found.unwrap_or(Vec::new(alloc));
+            Ok(Some(with_pairs(pairs, characters)?))
+        }
         ["no", "pairs"] => Ok(None),
         _ => Ok(found),
     }
 }
 
 /// Pairs, and further ones of three characters each.
-fn with_pairs(mut pairs: Vec<Pair>, characters: &[&str]) -> Result<Option<Vec<Pair>>, Fault> {
+pub fn with_pairs(mut pairs: Vec<Pair>, characters: &[&str]) -> Result<Vec<Pair>, Fault> {
     for three in characters.chunks(3) {
         let [second, first, composite] = three else {
             return Err(Fault::Unreadable);
         };
         pairs.push((character(second)?, character(first)?, character(composite)?))?;
     }
-    Ok(Some(pairs))
+    Ok(pairs)
 }

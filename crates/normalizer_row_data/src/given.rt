@@ -29,15 +29,13 @@ pub enum Given<'a> {
 impl<'a> Given<'a> {
     /// What a row sets.
     pub fn read(alloc: Global, row: &'a str) -> Result<Given<'a>, Fault> {
-        match words(alloc, row)?.as_slice() {
-            ["record", c, rest @ ..] => {
-                Ok(Given::Record(record_of(alloc, character(c)?, rest)?))
-            }
-            ["mapper", c, rest @ ..] => Ok(Given::MapperRecord(mapper_record_of(
-                alloc,
-                character(c)?,
-                rest,
-            )?)),
+        Given::of_words(alloc, row, &words(alloc, row)?)
+    }
+
+    fn of_words(alloc: Global, row: &'a str, words: &[&str]) -> Result<Given<'a>, Fault> {
+        match words {
+            ["record", c, rest @ ..] => Given::read_record(alloc, c, rest),
+            ["mapper", c, rest @ ..] => Given::read_mapper_record(alloc, c, rest),
             ["records", set] => Given::read_set(alloc, set),
             ["records", range, rest @ ..] => Given::read_records(alloc, range, rest),
             ["data", "none"] => Ok(Given::NoRows),
@@ -46,6 +44,15 @@ impl<'a> Given<'a> {
                 Ok(Given::Row(row))
             }
         }
+    }
+
+    fn read_record(alloc: Global, c: &str, words: &[&str]) -> Result<Given<'a>, Fault> {
+        Ok(Given::Record(record_of(alloc, character(c)?, words)?))
+    }
+
+    fn read_mapper_record(alloc: Global, c: &str, words: &[&str]) -> Result<Given<'a>, Fault> {
+        let record = mapper_record_of(alloc, character(c)?, words)?;
+        Ok(Given::MapperRecord(record))
     }
 
     fn read_set(alloc: Global, set: &str) -> Result<Given<'a>, Fault> {

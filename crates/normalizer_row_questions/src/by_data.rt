@@ -16,6 +16,7 @@ use normalizer_row_words::fault::{Answer, Fault};
 use normalizer_row_words::input::text;
 use normalizer_row_words::items::{are, collected};
 use normalizer_row_words::printing::spelled_all;
+use normalizer_row_words::stage::Stage;
 use std::alloc::Global;
 
 /// The NFD of a text over data that are checked once and then used unchecked.
@@ -44,6 +45,57 @@ fn is_unchecked_form(held: &Held, text: &str, form: &[char]) -> Result<bool, Fau
     };
     check_nfd_data(words, tables)?;
     are(Decomposition::new(text.chars(), words, tables)?, form)
+}
+
+/// Takes the items over data that are checked once, once the form is known.
+pub fn make_unchecked(
+    alloc: Global,
+    held: &Held,
+    characters: &[&str],
+    stage: Stage,
+) -> Result<(), Fault> {
+    let text = text(alloc, characters)?;
+    let form = unchecked_form(alloc, held, text.as_bytes())?;
+    if !stage.is_call() || is_unchecked_form(held, &text, &form)? {
+        Ok(())
+    } else {
+        Err(Fault::Divided)
+    }
+}
+
+/// Makes the normalizer to a form over what the records build, once it is built.
+pub fn make_normalizer(
+    alloc: Global,
+    setting: &Setting<'_>,
+    form: &str,
+    stage: Stage,
+) -> Result<(), Fault> {
+    let form = form_named(form)?;
+    let built = Records::build(alloc, setting.records(), setting.mapper())?;
+    if stage.is_call() {
+        make_over_built(&built, form)?;
+    }
+    Ok(())
+}
+
+fn make_over_built(built: &Built, form: NormalForm) -> Result<(), Fault>
+    requires { AreBuilt (data_in built.now) }
+{
+    match form {
+        NormalForm::Nfd => {
+            let _normalizer = nfd_normalizer(built)?;
+        }
+        NormalForm::Nfc => {
+            let _normalizer = nfc_normalizer(built)?;
+        }
+        NormalForm::Nfkd => {
+            let _normalizer = nfkd_normalizer(built)?;
+        }
+        NormalForm::Nfkc => {
+            let _normalizer = nfkc_normalizer(built)?;
+        }
+    }
+    Ok(())
 }
 
 /// The form of a text by the records, in one call.

@@ -87,7 +87,8 @@ pub fn said(alloc: Global, held: &Held, question: &[&str]) -> Answer {
     }
 }
 
-fn refusal(held: &Held, name: &str) -> Result<Option<DataError>, Fault> {
+/// Why a constructor refuses data, if it does.
+pub fn refusal(held: &Held, name: &str) -> Result<Option<DataError>, Fault> {
     Ok(match name {
         "mapper" => Uts46Mapper::try_new(held).err(),
         "pairs" => CanonicalComposition::try_new_unstable(held).err(),

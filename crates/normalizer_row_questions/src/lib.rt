@@ -9,3 +9,4 @@ pub mod parts;
 pub mod plain_program;
 pub mod properties;
 pub mod record_questions;
+pub mod single;

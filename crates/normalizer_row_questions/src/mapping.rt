@@ -4,8 +4,9 @@ use icu_normalizer::uts46::Uts46Mapper;
 use normalizer_row_data::held::Held;
 use normalizer_row_words::fault::{Answer, Fault};
 use normalizer_row_words::input::text;
-use normalizer_row_words::items::collected;
+use normalizer_row_words::items::{are, collected};
 use normalizer_row_words::printing::{spelled_all, spelled_bool};
+use normalizer_row_words::stage::Stage;
 use normalizer_row_words::words::character;
 use std::alloc::Global;
 
@@ -22,6 +23,48 @@ fn asked_of(alloc: Global, mapper: &Uts46Mapper, name: &str, question: &[&str]) 
         ("map", _) => mapped(alloc, mapper, &text(alloc, question)?),
         ("validate", _) => validated(alloc, mapper, &text(alloc, question)?),
         _ => Err(Fault::Unreadable),
+    }
+}
+
+/// Makes the iterator of `map` or `validate` over a text, and takes its items.
+pub fn make(
+    alloc: Global,
+    held: &Held,
+    name: &str,
+    question: &[&str],
+    stage: Stage,
+) -> Result<(), Fault> {
+    let mapper = Uts46Mapper::try_new(held)?;
+    let text = text(alloc, question)?;
+    match name {
+        "map" => make_mapped(alloc, &mapper, &text, stage),
+        "validate" => make_validated(alloc, &mapper, &text, stage),
+        _ => Err(Fault::Unreadable),
+    }
+}
+
+fn make_mapped(alloc: Global, mapper: &Uts46Mapper, text: &str, stage: Stage) -> Result<(), Fault> {
+    let mapper = mapper.as_borrowed();
+    let wanted = collected(alloc, mapper.map_normalize(text.chars())?)?;
+    if !stage.is_call() || are(mapper.map_normalize(text.chars())?, &wanted)? {
+        Ok(())
+    } else {
+        Err(Fault::Divided)
+    }
+}
+
+fn make_validated(
+    alloc: Global,
+    mapper: &Uts46Mapper,
+    text: &str,
+    stage: Stage,
+) -> Result<(), Fault> {
+    let mapper = mapper.as_borrowed();
+    let wanted = collected(alloc, mapper.normalize_validate(text.chars())?)?;
+    if !stage.is_call() || are(mapper.normalize_validate(text.chars())?, &wanted)? {
+        Ok(())
+    } else {
+        Err(Fault::Divided)
     }
 }
 

@@ -1,13 +1,15 @@
 //! What parts of data hold before any check. `joined 0061 0308 = 00E4`, `never-second 0301 = yes`: what pairs compose
 //! to, whether a character is second in none. `blocks nfd = 3`: how many blocks of words. `lists nfd = 0065 | 1D157`:
 //! the lists. `same nfd nfkd = yes`: whether words are equal. `copies = yes`: whether each part equals its copy.
-//! `ranges 0..5 1 6 2 = accepted`: whether words of ranges are made.
+//! `ranges 0..5 1 6 2 = accepted`: whether words of ranges are made; `pairs 0308 0041 00C4 = accepted`: pairs.
 use crate::data::{data_named, table_named};
 use icu_normalizer::{CanonicalCompositions, CodePointTable, DecompositionTables, TableError};
-use normalizer_row_data::by_hand::numbers;
+use normalizer_row_data::by_hand::{numbers, with_pairs};
 use normalizer_row_data::held::Held;
 use normalizer_row_words::fault::{Answer, Fault};
 use normalizer_row_words::printing::{Spelled, spelled_all, spelled_bool};
+use normalizer_row_words::ranges::Range;
+use normalizer_row_words::stage::Stage;
 use normalizer_row_words::words::{character, hexadecimal};
 use normalizer_tables::{block_count, compose, is_never_second};
 use std::alloc::Global;
@@ -78,14 +80,20 @@ pub fn same(alloc: Global, held: &Held, question: &[&str]) -> Answer {
 
 /// Whether each part that is held equals its copy.
 pub fn copies(alloc: Global, held: &Held) -> Answer {
-    let are_equal = is_copied(&held.canonical)?
-        && is_copied(&held.compatibility)?
-        && is_copied(&held.mapper)?
-        && is_copied(&held.tables)?
-        && is_copied(&held.supplementary)?
-        && is_copied(&held.pairs)?
-        && is_copied(&held.supplement)?;
-    spelled_bool(alloc, are_equal)
+    spelled_bool(alloc, are_copied(held)?)
+}
+
+/// Whether each part that is held equals its copy.
+pub fn are_copied(held: &Held) -> Result<bool, Fault> {
+    Ok(
+        is_copied(&held.canonical)?
+            && is_copied(&held.compatibility)?
+            && is_copied(&held.mapper)?
+            && is_copied(&held.tables)?
+            && is_copied(&held.supplementary)?
+            && is_copied(&held.pairs)?
+            && is_copied(&held.supplement)?,
+    )
 }
 
 fn is_copied<T: Clone + PartialEq + Drop>(part: &Option<T>) -> Result<bool, Fault> {
@@ -95,8 +103,7 @@ fn is_copied<T: Clone + PartialEq + Drop>(part: &Option<T>) -> Result<bool, Faul
     }
 }
 
-/// Whether words of these ranges are made, or why not.
-pub fn ranges(alloc: Global, question: &[&str]) -> Answer {
+fn ranges_of(alloc: Global, question: &[&str]) -> Result<Vec<Range>, Fault> {
     let mut ranges = Vec::new(alloc);
     for two in question.chunks(2) {
         let [range, word] = two else {
@@ -105,7 +112,38 @@ pub fn ranges(alloc: Global, question: &[&str]) -> Answer {
         let (first, last) = numbers(range)?;
         ranges.push((first, last, hexadecimal(word)?))?;
     }
-    match CodePointTable::from_ranges(ranges, 0) {
+    Ok(ranges)
+}
+
+/// Makes words of ranges, once these are read.
+pub fn make_ranges(alloc: Global, question: &[&str], stage: Stage) -> Result<(), Fault> {
+    let ranges = ranges_of(alloc, question)?;
+    if stage.is_call() {
+        let _table = CodePointTable::from_ranges(ranges, 0)?;
+    }
+    Ok(())
+}
+
+/// Makes pairs, once these are read.
+pub fn make_pairs(alloc: Global, question: &[&str], stage: Stage) -> Result<(), Fault> {
+    let pairs = with_pairs(Vec::new(alloc), question)?;
+    if stage.is_call() {
+        let _pairs = CanonicalCompositions::from_pairs(pairs)?;
+    }
+    Ok(())
+}
+
+/// Whether pairs are made.
+pub fn pairs(alloc: Global, question: &[&str]) -> Answer {
+    match CanonicalCompositions::from_pairs(with_pairs(Vec::new(alloc), question)?) {
+        Ok(_) => Ok(String::from_str(alloc, "accepted")?),
+        Err(error) => Err(Fault::from(error)),
+    }
+}
+
+/// Whether words of these ranges are made, or why not.
+pub fn ranges(alloc: Global, question: &[&str]) -> Answer {
+    match CodePointTable::from_ranges(ranges_of(alloc, question)?, 0) {
         Ok(_) => Ok(String::from_str(alloc, "accepted")?),
         Err(TableError::Memory) => Err(Fault::Memory),
         Err(error) => Ok(format!(in alloc; "{error}")?),

@@ -7,4 +7,5 @@ pub mod items;
 pub mod printing;
 pub mod ranges;
 pub mod record_rows;
+pub mod stage;
 pub mod words;

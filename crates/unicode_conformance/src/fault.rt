@@ -10,6 +10,8 @@ use thiserror::Error;
 pub enum Fault {
     #[error("the arguments or a line of the test file can't be read")]
     Unreadable,
+    #[error("the test file is cut off: its last line is not `# EOF`")]
+    CutOff,
     #[error("{0}")]
     File(#[from] UcdError),
     #[error("{0}")]

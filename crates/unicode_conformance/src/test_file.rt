@@ -1,4 +1,4 @@
-//! `NormalizationTest.txt`: a line has a text, its NFC, its NFD, its NFKC and its NFKD.
+//! `NormalizationTest.txt`: a line has a text, its NFC, its NFD, its NFKC and its NFKD. The last line is `# EOF`.
 use crate::comparison::{Tally, compare};
 use crate::fault::Fault;
 use crate::normalizer::{Form, Normalizer};
@@ -16,8 +16,14 @@ pub struct Line {
     nfkd: String,
 }
 
-/// The lines of a test file.
+/// The last line of a test file that is whole.
+const LAST: &str = "# EOF";
+
+/// The lines of a test file, unless it is cut off.
 pub fn lines(alloc: Global, file: &str) -> Result<Vec<Line>, Fault> {
+    if file.lines().last() != Some(LAST) {
+        return Err(Fault::CutOff);
+    }
     let mut lines = Vec::new(alloc);
     let mut is_of_characters = false;
     for line in file.lines() {
