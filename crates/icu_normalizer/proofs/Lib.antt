@@ -4,3 +4,14 @@ pub mod passthrough
 pub mod segments
 pub mod written_forms
 pub mod results
+pub use Rattle.normal_forms.proofs.forms.AlikeReadings
+pub use Rattle.normalizer_iterators.proofs.items.FallibleRuns
+pub use Rattle.normalizer_text.proofs.inputs.InputCutLemmas
+pub use Rattle.normalizer_text.proofs.rules.EncodingLemmas
+pub use Rattle.normalizer_text.proofs.rules.EncodingRules
+pub use Rattle.normalizer_text.proofs.rules.StrLemmas
+pub use Rattle.normalizer_text.proofs.rules.Utf16Lemmas
+pub use Rattle.normalizer_text.proofs.rules.Utf8Lemmas
+pub use Rattle.normalizer_text.proofs.steps.BackLemmas
+pub use Rattle.normalizer_text.proofs.steps.StepBoundaries
+pub use Rattle.normalizer_text.proofs.steps.StepLemmas

@@ -15,7 +15,10 @@
 //! - [`harfbuzz`]: traits for shapers.
 //! - [`provider`]: data, markers and their trait.
 //! - [`sink`]: sinks of text, in UTF-8 or UTF-16.
-//! - [`laws`]: theorems about records and the data that they build.
+//! - [`laws`]: theorems about records and the data that they build; [`record_laws`] and [`iterator_laws`] have more.
+//!
+//! A crate that lists this one can cite the definitions that its contracts speak of, also those of the crates below:
+//! `specs/Lib.antt` and `proofs/Lib.antt` pass them on.
 //!
 //! # Examples
 //! ```rust
@@ -55,14 +58,17 @@ mod writing;
 pub use borrowed::{ComposingNormalizerBorrowed, DecomposingNormalizerBorrowed};
 pub use composing_normalizer::ComposingNormalizer;
 pub use decomposing_normalizer::DecomposingNormalizer;
-pub use normalizer_builder::{Built, Records};
+pub use normalizer_builder::{Built, Records, laws as record_laws};
 pub use normalizer_conditions::check_nfd_data;
-pub use normalizer_iterators::{Composition, Decomposition, NormalizeError};
+pub use normalizer_iterators::{
+    Composition, Decomposition, NormalizeError, collected, laws as iterator_laws,
+};
 pub use normalizer_records::{BuildError, Record, Uts46Record, Uts46Status};
+pub use normalizer_tables::characters::IgnoredCharacters;
 pub use normalizer_tables::{
     CanonicalCompositions, CodePointTable, DataError, DataMarker, DataMarkerInfo, DataProvider,
     DecompositionData, DecompositionTables, NonRecursiveDecompositionSupplement, NormalizerNfcV1,
     NormalizerNfdDataV1, NormalizerNfdSupplementV1, NormalizerNfdTablesV1, NormalizerNfkdDataV1,
     NormalizerNfkdTablesV1, NormalizerUts46DataV1, Scalars16, Scalars24, TableError,
 };
-pub use normalizer_text::{Offence, Utf8Chars, Utf16Chars, sink};
+pub use normalizer_text::{Chars, Offence, Step, Units, Utf8Chars, Utf16Chars, sink};

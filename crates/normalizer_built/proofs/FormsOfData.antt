@@ -1,19 +1,19 @@
 -- The forms of normalizers over built data are those of the records.
 use Rattle.std.proofs.Common.{◌≡◌, ℕ, List, []}
-use Rattle.normal_forms.specs.Forms.{normal_form}
-use Rattle.normal_forms.proofs.forms.AlikeReadings.{nfc-alike, nfd-alike}
-use Rattle.normalizer_packing.specs.declared.Packed.{Packed}
-use Rattle.normalizer_tables.specs.declared.entry.Kind.TheVariants as kind
-use Rattle.normalizer_packing.specs.ReadBack.{characters_of}
-use Rattle.normalizer_records.specs.declared.records.Mappings.TheVariants.{Canonical, All}
-use Rattle.normalizer_records.specs.RecordValue.{RecordValue, Uts46RecordValue}
-use Rattle.normalizer_builder.specs.Building.{MeansRecords}
+use Rattle.icu_normalizer.specs.NormalForms.{normal_form}
+use Rattle.icu_normalizer.proofs.AlikeReadings.{nfc-alike, nfd-alike}
+use Rattle.icu_normalizer.specs.Packed.{Packed}
+use Rattle.icu_normalizer.specs.Kind.TheVariants as kind
+use Rattle.icu_normalizer.specs.ReadBack.{characters_of}
+use Rattle.icu_normalizer.specs.Mappings.TheVariants.{Canonical, All}
+use Rattle.icu_normalizer.specs.RecordValue.{RecordValue, Uts46RecordValue}
+use Rattle.icu_normalizer.specs.Building.{MeansRecords}
 use Rattle.normalizer_built.specs.declared.NormalForm.{NormalForm}
 use Rattle.normalizer_built.specs.declared.NormalForm.TheVariants.{Nfd, Nfc, Nfkd, Nfkc}
-use Rattle.normalizer_builder.specs.RecordedReading.{recorded_reading}
+use Rattle.icu_normalizer.specs.RecordedReading.{recorded_reading}
 use Rattle.normalizer_built.specs.RecordedForms.{form_of_data, recorded_form}
-use Rattle.normalizer_tables.specs.Readings.{reading_by}
-use Rattle.normalizer_tables.specs.declared.characters.IgnoredCharacters.TheVariants.{Dropped}
+use Rattle.icu_normalizer.specs.Readings.{reading_by}
+use Rattle.icu_normalizer.specs.IgnoredCharacters.TheVariants.{Dropped}
 
 pub form_of_data-recorded : (records : List RecordValue) (uts46 : List Uts46RecordValue) (p : Packed) → MeansRecords records uts46 p → (form : NormalForm) (x : List ℕ)
     → form_of_data p form x ≡ recorded_form records form x

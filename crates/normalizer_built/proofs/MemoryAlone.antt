@@ -1,7 +1,7 @@
 -- Constructors refuse no data that were built.
 use Rattle.std.proofs.Common.{◌≡◌, ◌⊎◌, inl, inr, Result, Ok, Err, IfErr, IsOkUnless}
-use Rattle.normalizer_tables.specs.declared.provider.DataError.{DataError}
-use Rattle.normalizer_tables.specs.declared.provider.DataError.TheVariants as error
+use Rattle.icu_normalizer.specs.DataError.{DataError}
+use Rattle.icu_normalizer.specs.DataError.TheVariants as error
 
 -- what is not refused for the data themselves is refused by `Memory`
 pub memory_alone : (Refuses : DataError → Type 0) (e : DataError) → ¬ Refuses e → (e ≡ error.Memory) ⊎ Refuses e → e ≡ error.Memory

@@ -1,16 +1,16 @@
 -- What a mapper makes of texts (UTS #46, section 4).
 use Rattle.std.specs.Prelude.{◌==◌, ◌&&◌, not, ℕ, Bool, List, bytes_eq, unwrap_or}
 use Rattle.std.specs.List.{list_any}
-use Rattle.normal_forms.specs.Forms.{nfc}
-use Rattle.normal_forms.specs.Reading.{Reading}
-use Rattle.normalizer_tables.specs.declared.characters.IgnoredCharacters.{IgnoredCharacters}
-use Rattle.normalizer_tables.specs.declared.characters.IgnoredCharacters.TheVariants.{Replaced}
-use Rattle.normalizer_tables.specs.Ignored.{ignored_list}
-use Rattle.normalizer_tables.specs.Pairs.{pair_of}
-use Rattle.normalizer_tables.specs.Readings.{reading_by}
-use Rattle.normalizer_records.specs.RecordValue.{RecordValue, Uts46RecordValue}
-use Rattle.normalizer_records.specs.Meaning.{mapper_list, pairs_of}
-use Rattle.normalizer_builder.specs.RecordedClasses.{mapper_class_of}
+use Rattle.icu_normalizer.specs.NormalForms.{nfc}
+use Rattle.icu_normalizer.specs.Reading.{Reading}
+use Rattle.icu_normalizer.specs.IgnoredCharacters.{IgnoredCharacters}
+use Rattle.icu_normalizer.specs.IgnoredCharacters.TheVariants.{Replaced}
+use Rattle.icu_normalizer.specs.Ignored.{ignored_list}
+use Rattle.icu_normalizer.specs.Pairs.{pair_of}
+use Rattle.icu_normalizer.specs.Readings.{reading_by}
+use Rattle.icu_normalizer.specs.RecordValue.{RecordValue, Uts46RecordValue}
+use Rattle.icu_normalizer.specs.Meaning.{mapper_list, pairs_of}
+use Rattle.icu_normalizer.specs.RecordedClasses.{mapper_class_of}
 use Rattle.icu_normalizer.specs.Uts46.{MapperData}
 
 -- the text mapped using data, in NFC: ignored characters are dropped, for mapping, or read as U+FFFD, for validation

@@ -1,15 +1,15 @@
 -- Normalizers to any form.
 use Rattle.std.specs.Prelude.{[]}
-use Rattle.normal_forms.specs.declared.Form.{Form}
-use Rattle.normal_forms.specs.declared.Form.TheVariants.{Decomposing, Composing}
-use Rattle.normal_forms.specs.Reading.{Reading}
+use Rattle.icu_normalizer.specs.Form.{Form}
+use Rattle.icu_normalizer.specs.Form.TheVariants.{Decomposing, Composing}
+use Rattle.icu_normalizer.specs.Reading.{Reading}
 use Rattle.icu_normalizer.specs.Normalizers.{data_of}
 use Rattle.icu_normalizer.specs.ComposingNormalizers.{composing_data_of, pairs_of}
 use Rattle.icu_normalizer.specs.Forms.{MadeForm, form_by}
 use Rattle.normalizer_built.specs.declared.normalizer.Normalizer.{Normalizer}
 use Rattle.normalizer_built.specs.declared.normalizer.Normalizer.TheVariants as normalizer
-use Rattle.normalizer_tables.specs.Readings.{reading_by}
-use Rattle.normalizer_tables.specs.declared.characters.IgnoredCharacters.TheVariants.{Dropped}
+use Rattle.icu_normalizer.specs.Readings.{reading_by}
+use Rattle.icu_normalizer.specs.IgnoredCharacters.TheVariants.{Dropped}
 
 -- the form that a normalizer makes
 abbrev pub kind_by : Normalizer → Form

@@ -1,16 +1,16 @@
 -- What a provider holds for the normal forms and for the mapper, and what is made of it.
 use Rattle.std.specs.Prelude.{◌≡◌, List, Option, Result, []}
-use Rattle.normal_forms.specs.declared.Form.{Form}
-use Rattle.normal_forms.specs.declared.Form.TheVariants.{Decomposing, Composing}
-use Rattle.normal_forms.specs.Reading.{Reading}
-use Rattle.normalizer_tables.specs.Characters.{Characters}
-use Rattle.normalizer_tables.specs.Data.{Decompositions, Lists}
-use Rattle.normalizer_tables.specs.declared.provider.DataError.{DataError}
-use Rattle.normalizer_tables.specs.declared.provider.DataMarkerInfo.{DataMarkerInfo}
-use Rattle.normalizer_tables.specs.declared.provider.DataMarkerInfo.TheVariants as marker
-use Rattle.normalizer_tables.specs.Pairs.{Pair}
-use Rattle.normalizer_tables.specs.Readings.{reading_by}
-use Rattle.normalizer_tables.specs.declared.characters.IgnoredCharacters.TheVariants.{Dropped}
+use Rattle.icu_normalizer.specs.Form.{Form}
+use Rattle.icu_normalizer.specs.Form.TheVariants.{Decomposing, Composing}
+use Rattle.icu_normalizer.specs.Reading.{Reading}
+use Rattle.icu_normalizer.specs.Characters.{Characters}
+use Rattle.icu_normalizer.specs.Data.{Decompositions, Lists}
+use Rattle.icu_normalizer.specs.DataError.{DataError}
+use Rattle.icu_normalizer.specs.DataMarkerInfo.{DataMarkerInfo}
+use Rattle.icu_normalizer.specs.DataMarkerInfo.TheVariants as marker
+use Rattle.icu_normalizer.specs.Pairs.{Pair}
+use Rattle.icu_normalizer.specs.Readings.{reading_by}
+use Rattle.icu_normalizer.specs.IgnoredCharacters.TheVariants.{Dropped}
 use Rattle.icu_normalizer.specs.Acceptance.{nfd_data, nfkd_data, AcceptsHeld, RefusesHeld}
 use Rattle.icu_normalizer.specs.Acceptance.{SuitsDecomposing, RefusesToDecompose}
 use Rattle.icu_normalizer.specs.ComposingAcceptance.{SuitsComposing, RefusesToCompose, with_pairs}

@@ -1,15 +1,15 @@
 -- The normal forms by plain records of characters, and over data.
 use Rattle.std.specs.Prelude.{ℕ, List, []}
-use Rattle.normal_forms.specs.declared.Form.TheVariants.{Decomposing, Composing}
-use Rattle.normal_forms.specs.Forms.{nfc, nfd, normal_form}
-use Rattle.normalizer_tables.specs.Readings.{reading_by}
-use Rattle.normalizer_tables.specs.declared.characters.IgnoredCharacters.TheVariants.{Dropped}
-use Rattle.normalizer_packing.specs.declared.Packed.{Packed}
-use Rattle.normalizer_tables.specs.declared.entry.Kind.TheVariants as kind
-use Rattle.normalizer_packing.specs.ReadBack.{characters_of}
-use Rattle.normalizer_records.specs.declared.records.Mappings.TheVariants.{Canonical, All}
-use Rattle.normalizer_records.specs.RecordValue.{RecordValue}
-use Rattle.normalizer_builder.specs.RecordedReading.{recorded_reading}
+use Rattle.icu_normalizer.specs.Form.TheVariants.{Decomposing, Composing}
+use Rattle.icu_normalizer.specs.NormalForms.{nfc, nfd, normal_form}
+use Rattle.icu_normalizer.specs.Readings.{reading_by}
+use Rattle.icu_normalizer.specs.IgnoredCharacters.TheVariants.{Dropped}
+use Rattle.icu_normalizer.specs.Packed.{Packed}
+use Rattle.icu_normalizer.specs.Kind.TheVariants as kind
+use Rattle.icu_normalizer.specs.ReadBack.{characters_of}
+use Rattle.icu_normalizer.specs.Mappings.TheVariants.{Canonical, All}
+use Rattle.icu_normalizer.specs.RecordValue.{RecordValue}
+use Rattle.icu_normalizer.specs.RecordedReading.{recorded_reading}
 use Rattle.normalizer_built.specs.declared.NormalForm.{NormalForm}
 use Rattle.normalizer_built.specs.declared.NormalForm.TheVariants.{Nfd, Nfc, Nfkd, Nfkc}
 

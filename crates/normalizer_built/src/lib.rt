@@ -3,19 +3,20 @@
 #![tactic(auto)]
 
 ghost use Rattle.std.specs.Prelude.{◌≡◌, IfOk, IsOkUnless};
-ghost use Rattle.normalizer_tables.specs.declared.entry.Kind.TheVariants.{Canonical, Compatibility, Mapper};
-ghost use Rattle.normalizer_packing.specs.ReadBack.{characters_of};
+ghost use Rattle.icu_normalizer.specs.Kind.TheVariants.{Canonical, Compatibility, Mapper};
+ghost use Rattle.icu_normalizer.specs.ReadBack.{characters_of};
 ghost use Rattle.icu_normalizer.specs.ComposingNormalizers.{composing_data_of, pairs_of};
 ghost use Rattle.icu_normalizer.specs.Mappers.{mapper_data_of};
 ghost use Rattle.icu_normalizer.specs.Normalizers.{data_of};
-ghost use Rattle.normalizer_builder.specs.Built.{AreBuilt, data_in};
+ghost use Rattle.icu_normalizer.specs.Built.{AreBuilt, data_in};
 
+use icu_normalizer::record_laws::{
+    data_that_meet_conditions_are_accepted, what_is_built_is_accepted,
+};
 use icu_normalizer::uts46::Uts46Mapper;
-use icu_normalizer::{ComposingNormalizer, DecomposingNormalizer};
-use normalizer_builder::Built;
-use normalizer_builder::laws::{data_that_meet_conditions_are_accepted, what_is_built_is_accepted};
-use normalizer_iterators::NormalizeError;
-use normalizer_tables::DataError;
+use icu_normalizer::{
+    Built, ComposingNormalizer, DataError, DecomposingNormalizer, NormalizeError,
+};
 
 mod mapping;
 mod normalizer;

@@ -2,13 +2,12 @@
 ghost use Rattle.std.specs.Prelude.{◌≡◌, ◌==◌, ℕ, List, IfOk, IsOkUnless, bytes_eq};
 ghost use Rattle.std.specs.List.{list_any};
 ghost use Rattle.std.specs.Iterator.{IsFinite};
-ghost use Rattle.normalizer_text.specs.DecodingSteps.{Spells};
+ghost use Rattle.icu_normalizer.specs.DecodingSteps.{Spells};
 ghost use Rattle.icu_normalizer.specs.Mappers.{mapper_data_of_borrowed};
 ghost use Rattle.normalizer_built.specs.Mapping.{is_valid, mapped_in};
 
 use icu_normalizer::uts46::Uts46MapperBorrowed;
-use normalizer_iterators::{NormalizeError, collected};
-use normalizer_tables::characters::IgnoredCharacters;
+use icu_normalizer::{IgnoredCharacters, NormalizeError, collected};
 use std::alloc::Global;
 
 /// Returns the text that an iterator yields, mapped and in NFC: ignored characters are dropped, or replaced by U+FFFD

@@ -1,14 +1,13 @@
 //! Normalizers to any form.
 ghost use Rattle.std.specs.Prelude.{◌≡◌, ◌++◌, ◌↔◌, IfOk, IfErr, IsOk, IsOkUnless, IsTrue, OnOk, string_bytes};
-ghost use Rattle.normalizer_text.specs.Encodings.{Encoding};
-ghost use Rattle.normalizer_text.specs.EncodedForm.{encoded_form};
-ghost use Rattle.normalizer_text.specs.InputCut.{IsInputNormalized};
-ghost use Rattle.normalizer_text.specs.InputOffence.{IsInputOffenceOf};
+ghost use Rattle.icu_normalizer.specs.Encodings.{Encoding};
+ghost use Rattle.icu_normalizer.specs.EncodedForm.{encoded_form};
+ghost use Rattle.icu_normalizer.specs.InputCut.{IsInputNormalized};
+ghost use Rattle.icu_normalizer.specs.InputOffence.{IsInputOffenceOf};
 ghost use Rattle.icu_normalizer.specs.Forms.{HasShortUnits};
 ghost use Rattle.normalizer_built.specs.Normalizers.{kind_by, made_by, reading_of};
 
-use icu_normalizer::{ComposingNormalizer, DecomposingNormalizer, Offence};
-use normalizer_iterators::NormalizeError;
+use icu_normalizer::{ComposingNormalizer, DecomposingNormalizer, NormalizeError, Offence};
 use std::alloc::Global;
 
 /// A normalizer of either kind.

@@ -3,7 +3,7 @@ ghost use Rattle.std.specs.Prelude.{◌≡◌, ◌⊎◌, IfOk, IfErr};
 ghost use Rattle.icu_normalizer.specs.ComposingAcceptance.{SuitsComposing};
 ghost use Rattle.icu_normalizer.specs.Mappers.{mapper_data_of};
 ghost use Rattle.icu_normalizer.specs.Uts46.{uts46_data};
-ghost use Rattle.normalizer_tables.specs.Held.{AcceptsHeld};
+ghost use Rattle.icu_normalizer.specs.Held.{AcceptsHeld};
 ghost use Rattle.normalizer_built.specs.Normalizers.{kind_by, reading_of};
 ghost use Rattle.normalizer_built.specs.Providers.{
   held_for_forms,
@@ -18,10 +18,10 @@ ghost use Rattle.normalizer_built.specs.Providers.{
 use crate::NormalForm;
 use crate::normalizer::Normalizer;
 use icu_normalizer::uts46::Uts46Mapper;
-use icu_normalizer::{ComposingNormalizer, DecomposingNormalizer};
-use normalizer_tables::{
-    DataError, DataProvider, NormalizerNfcV1, NormalizerNfdDataV1, NormalizerNfdTablesV1,
-    NormalizerNfkdDataV1, NormalizerNfkdTablesV1, NormalizerUts46DataV1,
+use icu_normalizer::{
+    ComposingNormalizer, DataError, DataProvider, DecomposingNormalizer, NormalizerNfcV1,
+    NormalizerNfdDataV1, NormalizerNfdTablesV1, NormalizerNfkdDataV1, NormalizerNfkdTablesV1,
+    NormalizerUts46DataV1,
 };
 
 /// What holds the data for the normal forms.

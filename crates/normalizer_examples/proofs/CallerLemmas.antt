@@ -8,16 +8,16 @@ use Rattle.std.proofs.lemmas.List.Elements.{contains_decides, Decides-contains}
 use Rattle.std.specs.Str.{IsCharBoundary, IsUtf8}
 use Rattle.std.proofs.lemmas.Str.{chars-append, IsCharBoundary-from_take}
 use Rattle.std.proofs.Math.Seq.{take-append_seam, drop-append_seam}
-use Rattle.normal_forms.specs.Reading.{IsText}
-use Rattle.normal_forms.specs.declared.Form.TheVariants.{Composing}
-use Rattle.normal_forms.specs.Forms.{normal_form, IsNormalized}
-use Rattle.normal_forms.specs.Equivalence.{EquivalentTexts}
-use Rattle.normalizer_text.specs.Encodings.{Encoding}
-use Rattle.normalizer_text.proofs.rules.StrLemmas.{decoded-chars, IsUtf8-IsWellFormed}
-use Rattle.normalizer_text.proofs.steps.StepLemmas.{decoded-IsText}
-use Rattle.normalizer_text.specs.declared.offence.Offence.{Offence}
-use Rattle.normalizer_text.specs.InputCut.{IsInputNormalized}
-use Rattle.normalizer_text.proofs.inputs.InputCutLemmas.{input_cut_unique, is_normalized_iff_input_cut}
+use Rattle.icu_normalizer.specs.Reading.{IsText}
+use Rattle.icu_normalizer.specs.Form.TheVariants.{Composing}
+use Rattle.icu_normalizer.specs.NormalForms.{normal_form, IsNormalized}
+use Rattle.icu_normalizer.specs.Equivalence.{EquivalentTexts}
+use Rattle.icu_normalizer.specs.Encodings.{Encoding}
+use Rattle.icu_normalizer.proofs.StrLemmas.{decoded-chars, IsUtf8-IsWellFormed}
+use Rattle.icu_normalizer.proofs.StepLemmas.{decoded-IsText}
+use Rattle.icu_normalizer.specs.Offence.{Offence}
+use Rattle.icu_normalizer.specs.InputCut.{IsInputNormalized}
+use Rattle.icu_normalizer.proofs.InputCutLemmas.{input_cut_unique, is_normalized_iff_input_cut}
 use Rattle.icu_normalizer.specs.Checks.{IsLastingOffenceOfText, IsSplitAtCut, IsTextSplitAtCut}
 use Rattle.icu_normalizer.specs.Forms.{MadeForm}
 use Rattle.icu_normalizer.specs.Owned.{IsFormOf}

@@ -1,9 +1,9 @@
 -- Labels of domain names (UTS #46, section 4).
 use Rattle.std.specs.Prelude.{◌≡◌, ℕ, List}
 use Rattle.std.specs.List.{Contains}
-use Rattle.normal_forms.specs.Forms.{nfc}
-use Rattle.normalizer_tables.specs.declared.characters.IgnoredCharacters.TheVariants.{Dropped, Replaced}
-use Rattle.normalizer_tables.specs.Readings.{reading_by}
+use Rattle.icu_normalizer.specs.NormalForms.{nfc}
+use Rattle.icu_normalizer.specs.IgnoredCharacters.TheVariants.{Dropped, Replaced}
+use Rattle.icu_normalizer.specs.Readings.{reading_by}
 use Rattle.icu_normalizer.specs.Uts46.{MapperData}
 
 -- a text mapped: ignored characters are dropped

@@ -1,8 +1,8 @@
 -- What a report of the first mismatch shows.
 use Rattle.std.specs.Prelude.{◌≡◌, ◌≢◌, ℕ, List, ◌∷◌, ◌++◌, length, encode_utf8_all, ⊤}
-use Rattle.normal_forms.specs.Forms.{nfc}
-use Rattle.normal_forms.specs.Reading.{Reading}
-use Rattle.normalizer_text.specs.declared.offence.Offence.{Offence}
+use Rattle.icu_normalizer.specs.NormalForms.{nfc}
+use Rattle.icu_normalizer.specs.Reading.{Reading}
+use Rattle.icu_normalizer.specs.Offence.{Offence}
 use Rattle.normalizer_examples.specs.declared.reports.Refusal.{Refusal}
 use Rattle.normalizer_examples.specs.declared.reports.Refusal.TheVariants.{Differs, Memory}
 

@@ -1,7 +1,7 @@
 -- The normal forms by the files of the Unicode Character Database.
 use Rattle.std.specs.Prelude.{◌≡◌, ℕ, List, [], Ok}
-use Rattle.normalizer_records.specs.RecordValue.{RecordValue}
-use Rattle.normalizer_builder.specs.Building.{IsSmallest}
+use Rattle.icu_normalizer.specs.RecordValue.{RecordValue}
+use Rattle.icu_normalizer.specs.Building.{IsSmallest}
 use Rattle.normalizer_ucd.specs.FallibleReads.{Fails}
 use Rattle.normalizer_ucd.specs.UnicodeData.{records_of}
 use Rattle.normalizer_built.specs.RecordedForms.{recorded_form}

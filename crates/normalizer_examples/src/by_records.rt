@@ -1,31 +1,30 @@
 //! Normalizing text with data built from plain records.
 ghost use Rattle.std.specs.Prelude.{◌≡◌, IfOk, IsOkUnless, MatchResult};
-ghost use Rattle.normalizer_tables.specs.declared.entry.Kind.TheVariants.{Canonical};
-ghost use Rattle.normalizer_packing.specs.ReadBack.{characters_of};
-ghost use Rattle.normalizer_text.specs.Utf8.{decoded_utf8};
+ghost use Rattle.icu_normalizer.specs.Kind.TheVariants.{Canonical};
+ghost use Rattle.icu_normalizer.specs.ReadBack.{characters_of};
+ghost use Rattle.icu_normalizer.specs.Utf8.{decoded_utf8};
 ghost use Rattle.icu_normalizer.specs.Properties as properties;
-ghost use Rattle.normalizer_builder.specs.Building.{IsSmallest};
-ghost use Rattle.normalizer_builder.specs.Built.{AreBuilt, data_in};
+ghost use Rattle.icu_normalizer.specs.Building.{IsSmallest};
+ghost use Rattle.icu_normalizer.specs.Built.{AreBuilt, data_in};
 ghost use Rattle.normalizer_built.specs.RecordedForms.{form_of_data, recorded_form};
 
 use crate::{nfc_of_bytes, nfd_of_bytes};
 use icu_normalizer::properties::{
     CanonicalCombiningClassMap, CanonicalComposition, CanonicalDecomposition,
 };
-use icu_normalizer::{DataError, NormalizeError};
-use normalizer_builder::laws::{data_that_meet_conditions_are_accepted, what_is_built_is_accepted};
-use normalizer_builder::{Built, Records};
+use icu_normalizer::record_laws::{
+    data_that_meet_conditions_are_accepted, what_is_built_is_accepted,
+};
+use icu_normalizer::{BuildError, Built, DataError, NormalizeError, Record, Records, Uts46Record};
 use normalizer_built::{
     NormalForm, nfc_normalizer, nfd_normalizer, nfkc_normalizer, nfkd_normalizer,
 };
-use normalizer_records::{BuildError, Record, Uts46Record};
 use std::alloc::Global;
 
 /// Returns the normal form, by plain records, of the text that bytes decode to. Records of the mapper don't affect it.
 ///
 /// # Errors
 /// The smallest fault of the records, or `Memory`.
-#[tactic(auto, unfolding(normalizer_builder::specs::Building::IsSmallest))]
 pub fn form_by_records(
     alloc: Global,
     records: &[Record],

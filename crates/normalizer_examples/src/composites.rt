@@ -1,10 +1,10 @@
 //! Pairs of characters, composed.
 ghost use Rattle.std.specs.Prelude.{◌≡◌, ◌++◌, [], IfOk, IfSome};
-ghost use Rattle.normal_forms.specs.Order.{order};
+ghost use Rattle.icu_normalizer.specs.Order.{order};
 ghost use Rattle.icu_normalizer.specs.ComposingNormalizers.{composing_data_of_borrowed};
-ghost use Rattle.normalizer_tables.specs.Characters.{list_of};
-ghost use Rattle.normalizer_tables.specs.Readings.{reading_by};
-ghost use Rattle.normalizer_tables.specs.declared.characters.IgnoredCharacters.TheVariants.{Dropped};
+ghost use Rattle.icu_normalizer.specs.Characters.{list_of};
+ghost use Rattle.icu_normalizer.specs.Readings.{reading_by};
+ghost use Rattle.icu_normalizer.specs.IgnoredCharacters.TheVariants.{Dropped};
 
 use icu_normalizer::{ComposingNormalizerBorrowed, NormalizeError};
 

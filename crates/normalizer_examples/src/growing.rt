@@ -1,6 +1,6 @@
 //! A text in NFC that grows.
 ghost use Rattle.std.specs.Prelude.{◌≡◌, ◌++◌, chars, string_bytes, IfOk, IsOkUnless, OnOk};
-ghost use Rattle.normal_forms.specs.Forms.{nfc};
+ghost use Rattle.icu_normalizer.specs.NormalForms.{nfc};
 ghost use Rattle.icu_normalizer.specs.Forms.{composed_by};
 
 use icu_normalizer::{ComposingNormalizerBorrowed, NormalizeError};

@@ -1,9 +1,9 @@
 //! Identifiers: texts that are normalized (UAX #31, normalized identifiers).
 ghost use Rattle.std.specs.Prelude.{◌≡◌, ◌↔◌, chars, IfOk, IsOkUnless, IsTrue, MatchOption};
-ghost use Rattle.normal_forms.specs.declared.Form.TheVariants.{Composing};
-ghost use Rattle.normal_forms.specs.Forms.{IsNormalized};
-ghost use Rattle.normalizer_text.specs.Encodings.{Encoding};
-ghost use Rattle.normalizer_text.specs.InputCut.{IsInputNormalized};
+ghost use Rattle.icu_normalizer.specs.Form.TheVariants.{Composing};
+ghost use Rattle.icu_normalizer.specs.NormalForms.{IsNormalized};
+ghost use Rattle.icu_normalizer.specs.Encodings.{Encoding};
+ghost use Rattle.icu_normalizer.specs.InputCut.{IsInputNormalized};
 ghost use Rattle.icu_normalizer.specs.Forms.{composed_by};
 
 use icu_normalizer::{ComposingNormalizerBorrowed, NormalizeError};

@@ -1,6 +1,6 @@
 //! Keys of an index in which equivalent texts are equal.
 ghost use Rattle.std.specs.Prelude.{◌↔◌, chars, IfOk, IsOkUnless, IsTrue};
-ghost use Rattle.normal_forms.specs.Equivalence.{EquivalentTexts};
+ghost use Rattle.icu_normalizer.specs.Equivalence.{EquivalentTexts};
 ghost use Rattle.icu_normalizer.specs.Forms.{composed_by};
 
 use icu_normalizer::{ComposingNormalizerBorrowed, NormalizeError};

@@ -3,9 +3,8 @@ ghost use Rattle.std.specs.Prelude.{◌≡◌, ◌↔◌, chars, IfOk, IsOkUnles
 ghost use Rattle.icu_normalizer.specs.Mappers.{mapper_data_of_borrowed};
 ghost use Rattle.normalizer_examples.specs.Labels.{mapped_text, IsLabel};
 
-use icu_normalizer::NormalizeError;
 use icu_normalizer::uts46::Uts46MapperBorrowed;
-use normalizer_iterators::collected;
+use icu_normalizer::{NormalizeError, collected};
 use std::alloc::Global;
 
 /// Returns the mapped text, if that is a label.

@@ -3,16 +3,16 @@
 
 ghost use Rattle.std.specs.Prelude.{◌≡◌, ◌⊎◌, ℕ, List, IfOk, IfErr, IsOk, IsOkUnless, chars, [], None};
 ghost use Rattle.std.specs.Iterator.{IsFinite};
-ghost use Rattle.normal_forms.specs.Forms.{nfc, nfd};
-ghost use Rattle.normal_forms.specs.ShortRuns.{HasShortRuns};
-ghost use Rattle.normalizer_tables.specs.declared.provider.DataMarkerInfo.TheVariants as marker;
-ghost use Rattle.normalizer_tables.specs.Characters.{has_class_form, Characters, characters_from};
-ghost use Rattle.normalizer_tables.specs.NfdData.{nfd_conditions, nfd_loaded};
-ghost use Rattle.normalizer_tables.specs.Pairs.{Pair};
-ghost use Rattle.normalizer_conditions.specs.Refusals.{RefusesFirstFailing};
-ghost use Rattle.normalizer_tables.specs.Readings.{reading_by};
-ghost use Rattle.normalizer_tables.specs.declared.characters.IgnoredCharacters.TheVariants.{Dropped};
-ghost use Rattle.normalizer_text.specs.Utf8.{decoded_utf8};
+ghost use Rattle.icu_normalizer.specs.NormalForms.{nfc, nfd};
+ghost use Rattle.icu_normalizer.specs.ShortRuns.{HasShortRuns};
+ghost use Rattle.icu_normalizer.specs.DataMarkerInfo.TheVariants as marker;
+ghost use Rattle.icu_normalizer.specs.Characters.{has_class_form, Characters, characters_from};
+ghost use Rattle.icu_normalizer.specs.NfdData.{nfd_conditions, nfd_loaded};
+ghost use Rattle.icu_normalizer.specs.Pairs.{Pair};
+ghost use Rattle.icu_normalizer.specs.Refusals.{RefusesFirstFailing};
+ghost use Rattle.icu_normalizer.specs.Readings.{reading_by};
+ghost use Rattle.icu_normalizer.specs.IgnoredCharacters.TheVariants.{Dropped};
+ghost use Rattle.icu_normalizer.specs.Utf8.{decoded_utf8};
 ghost use Rattle.icu_normalizer.specs.Acceptance.{nfkd_data, AcceptsHeld, RefusesHeld};
 ghost use Rattle.icu_normalizer.specs.ComposingAcceptance.{with_pairs, RefusesToCompose, SuitsComposing};
 ghost use Rattle.icu_normalizer.specs.ComposingNormalizers.{
@@ -20,7 +20,7 @@ ghost use Rattle.icu_normalizer.specs.ComposingNormalizers.{
   pairs_of_borrowed,
 };
 ghost use Rattle.icu_normalizer.specs.Normalizers.{data_of_borrowed};
-ghost use Rattle.normalizer_iterators.specs.Items.{SpellsOk, SpellsUnless};
+ghost use Rattle.icu_normalizer.specs.Items.{SpellsOk, SpellsUnless};
 ghost use Rattle.normalizer_examples.specs.Last.{last_of};
 ghost use Rattle.normalizer_examples.specs.IteratorRuns.{IsFormOfDrained};
 
@@ -39,15 +39,14 @@ pub use by_records::{
     built_combining_classes, built_composition, built_decomposition, form_by_records,
 };
 pub use by_unicode_data::{UnicodeFault, form_by_unicode_data};
+use icu_normalizer::iterator_laws::{text_comes_unless_a_fault_does, text_comes_without_faults};
 use icu_normalizer::{
     ComposingNormalizer, ComposingNormalizerBorrowed, DataError, DataProvider,
     DecomposingNormalizerBorrowed, Decomposition, DecompositionData, DecompositionTables,
     NormalizeError, NormalizerNfcV1, NormalizerNfdTablesV1, NormalizerNfkdDataV1,
-    NormalizerNfkdTablesV1, Utf8Chars, check_nfd_data,
+    NormalizerNfkdTablesV1, Utf8Chars, check_nfd_data, collected,
 };
 pub use normalizer_built::{NormalForm, built_mapper};
-use normalizer_iterators::collected;
-use normalizer_iterators::laws::{text_comes_unless_a_fault_does, text_comes_without_faults};
 use std::alloc::Global;
 
 /// Returns the NFD of the text that bytes decode to.

@@ -1,7 +1,7 @@
 //! Reports of the first mismatch of a text.
 ghost use Rattle.std.specs.Prelude.{◌≡◌, chars, MatchResult};
-ghost use Rattle.normal_forms.specs.declared.Form.TheVariants.{Composing};
-ghost use Rattle.normal_forms.specs.Forms.{IsNormalized};
+ghost use Rattle.icu_normalizer.specs.Form.TheVariants.{Composing};
+ghost use Rattle.icu_normalizer.specs.NormalForms.{IsNormalized};
 ghost use Rattle.icu_normalizer.specs.Forms.{composed_by};
 ghost use Rattle.normalizer_examples.specs.Reports.{Reports};
 

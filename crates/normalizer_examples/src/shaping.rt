@@ -1,6 +1,6 @@
 //! What a shaper does with the properties of characters, whichever type implements them.
 ghost use Rattle.std.specs.Prelude.{◌≡◌, ◌==◌, ◌<◌, Some, None, MatchOption, if◌then◌else◌};
-ghost use Rattle.normalizer_tables.specs.Pairs.{pair_of};
+ghost use Rattle.icu_normalizer.specs.Pairs.{pair_of};
 ghost use Rattle.icu_normalizer.specs.ClassData.{combining_class};
 ghost use Rattle.icu_normalizer.specs.Properties.{
   classes_of,

@@ -1,16 +1,16 @@
 //! Normal forms written to sinks.
 ghost use Rattle.std.specs.Prelude.{◌≡◌, ◌++◌, IfOk, IsErrOf, IsOkUnless, OnOk, chars, encode_utf8_all, string_bytes, []};
-ghost use Rattle.normal_forms.specs.declared.Form.TheVariants.{Composing, Decomposing};
-ghost use Rattle.normal_forms.specs.Forms.{normal_form};
-ghost use Rattle.normalizer_text.specs.Utf8.{decoded_utf8};
-ghost use Rattle.normalizer_text.specs.Utf16.{decoded_utf16, encode_utf16_all};
+ghost use Rattle.icu_normalizer.specs.Form.TheVariants.{Composing, Decomposing};
+ghost use Rattle.icu_normalizer.specs.NormalForms.{normal_form};
+ghost use Rattle.icu_normalizer.specs.Utf8.{decoded_utf8};
+ghost use Rattle.icu_normalizer.specs.Utf16.{decoded_utf16, encode_utf16_all};
 ghost use Rattle.icu_normalizer.specs.ComposingNormalizers.{
   composing_data_of_borrowed,
   pairs_of_borrowed,
 };
 ghost use Rattle.icu_normalizer.specs.Normalizers.{data_of_borrowed};
-ghost use Rattle.normalizer_tables.specs.Readings.{reading_by};
-ghost use Rattle.normalizer_tables.specs.declared.characters.IgnoredCharacters.TheVariants.{Dropped};
+ghost use Rattle.icu_normalizer.specs.Readings.{reading_by};
+ghost use Rattle.icu_normalizer.specs.IgnoredCharacters.TheVariants.{Dropped};
 
 use icu_normalizer::sink::Write;
 use icu_normalizer::{ComposingNormalizerBorrowed, DecomposingNormalizerBorrowed, NormalizeError};

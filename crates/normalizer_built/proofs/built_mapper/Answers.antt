@@ -1,7 +1,7 @@
-use Rattle.normalizer_tables.specs.declared.provider.DataMarkerInfo.TheVariants.{NormalizerUts46DataV1}
+use Rattle.icu_normalizer.specs.DataMarkerInfo.TheVariants.{NormalizerUts46DataV1}
 use Rattle.icu_normalizer.specs.ComposingAcceptance.{RefusesToCompose}
-use Rattle.normalizer_tables.specs.declared.entry.Kind.TheVariants.{Mapper}
-use Rattle.normalizer_packing.specs.ReadBack.{characters_of}
+use Rattle.icu_normalizer.specs.Kind.TheVariants.{Mapper}
+use Rattle.icu_normalizer.specs.ReadBack.{characters_of}
 use Rattle.normalizer_built.proofs.MemoryAlone.{IsOkUnless-memory}
 use Rattle.normalizer_built.proofs.built_mapper.Goals as goal
 

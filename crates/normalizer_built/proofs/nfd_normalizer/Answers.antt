@@ -1,7 +1,7 @@
-use Rattle.normalizer_tables.specs.declared.provider.DataMarkerInfo.TheVariants.{NormalizerNfdDataV1}
+use Rattle.icu_normalizer.specs.DataMarkerInfo.TheVariants.{NormalizerNfdDataV1}
 use Rattle.icu_normalizer.specs.Acceptance.{RefusesToDecompose}
-use Rattle.normalizer_tables.specs.declared.entry.Kind.TheVariants.{Canonical}
-use Rattle.normalizer_packing.specs.ReadBack.{characters_of}
+use Rattle.icu_normalizer.specs.Kind.TheVariants.{Canonical}
+use Rattle.icu_normalizer.specs.ReadBack.{characters_of}
 use Rattle.normalizer_built.proofs.MemoryAlone.{memory_alone}
 use Rattle.normalizer_built.proofs.nfd_normalizer.Goals as goal
 

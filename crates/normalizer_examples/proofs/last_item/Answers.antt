@@ -1,5 +1,5 @@
 use Rattle.std.proofs.Common.{rules, ◌++◌, ◌∷◌, [], append_assoc, append-nil, sym, ap, ◌∙◌}
-use Rattle.normalizer_iterators.specs.declared.error.NormalizeError.TheVariants.{Memory}
+use Rattle.icu_normalizer.specs.NormalizeError.TheVariants.{Memory}
 use Rattle.normalizer_examples.specs.Last.{last_of}
 use Rattle.normalizer_examples.proofs.LastLemmas.{last_of-push}
 use Rattle.normalizer_examples.proofs.last_item.Goals as goal

@@ -1,6 +1,6 @@
 use Rattle.std.proofs.Common.{◌≡◌, ◌++◌, ℕ, List}
-use Rattle.normalizer_iterators.specs.Items.{SpellsOk, SpellsUnless}
-use Rattle.normalizer_iterators.specs.declared.error.NormalizeError.TheVariants.{Memory}
+use Rattle.icu_normalizer.specs.Items.{SpellsOk, SpellsUnless}
+use Rattle.icu_normalizer.specs.NormalizeError.TheVariants.{Memory}
 use Rattle.normalizer_examples.specs.Last.{last_of}
 use Rattle.normalizer_examples.proofs.last_item.Given as goal
 

@@ -1,4 +1,4 @@
-use Rattle.normalizer_iterators.proofs.items.FallibleRuns.{IsOkUnless-run}
+use Rattle.icu_normalizer.proofs.FallibleRuns.{IsOkUnless-run}
 use Rattle.normalizer_examples.proofs.RunLemmas.{IfOk-run}
 use Rattle.normalizer_examples.proofs.nfc_of_characters.Goals as goal
 

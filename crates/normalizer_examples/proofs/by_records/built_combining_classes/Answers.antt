@@ -1,4 +1,4 @@
-use Rattle.normalizer_tables.specs.declared.provider.DataMarkerInfo.TheVariants.{NormalizerNfdDataV1}
+use Rattle.icu_normalizer.specs.DataMarkerInfo.TheVariants.{NormalizerNfdDataV1}
 use Rattle.icu_normalizer.specs.ClassData.{RefusesClasses}
 use Rattle.normalizer_built.proofs.MemoryAlone.{IsOkUnless-memory}
 use Rattle.normalizer_examples.proofs.by_records.built_combining_classes.Goals as goal

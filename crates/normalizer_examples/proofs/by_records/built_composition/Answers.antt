@@ -1,4 +1,4 @@
-use Rattle.normalizer_tables.specs.declared.provider.DataMarkerInfo.TheVariants.{NormalizerNfcV1}
+use Rattle.icu_normalizer.specs.DataMarkerInfo.TheVariants.{NormalizerNfcV1}
 use Rattle.icu_normalizer.specs.PairData.{RefusesPairs}
 use Rattle.normalizer_built.proofs.MemoryAlone.{IsOkUnless-memory}
 use Rattle.normalizer_examples.proofs.by_records.built_composition.Goals as goal

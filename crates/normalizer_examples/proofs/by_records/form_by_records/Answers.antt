@@ -1,4 +1,5 @@
-use Rattle.std.proofs.Common.{◌∙◌}
+use Rattle.std.proofs.Common.{rules, ◌∙◌}
+use Rattle.icu_normalizer.specs.Building.{IsSmallest}
 use Rattle.normalizer_built.proofs.FormsOfData.{form_of_data-recorded}
 use Rattle.normalizer_examples.proofs.by_records.form_by_records.Goals as goal
 
@@ -7,3 +8,7 @@ form_by_built-requires c = (c.args.records.now, c.args.uts46.now, c.in_ok-built.
 
 pub returns-in-Ok : goal.returns-in-Ok
 returns-in-Ok c = c.in-Ok.ensures.form ∙ form_of_data-recorded c.args.records.now c.args.uts46.now c.in_ok-built.built.packed c.in_ok-built.ensures.means c.args.form _
+
+pub returns : goal.returns
+unfolding IsSmallest
+returns c = search rules

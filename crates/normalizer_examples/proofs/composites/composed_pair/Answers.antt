@@ -1,4 +1,4 @@
-use Rattle.normalizer_tables.specs.declared.characters.IgnoredCharacters.TheVariants.{Dropped}
+use Rattle.icu_normalizer.specs.IgnoredCharacters.TheVariants.{Dropped}
 use Rattle.normalizer_examples.proofs.composites.composed_pair.Goals as goal
 
 pub returns : goal.returns

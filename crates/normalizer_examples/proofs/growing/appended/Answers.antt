@@ -1,7 +1,7 @@
 use Rattle.std.proofs.Common.{ap, ◌∙◌}
 use Rattle.std.specs.Prelude.{chars, string_bytes}
 use Rattle.std.proofs.lemmas.Str.{chars-append, IsUtf8-string_bytes}
-use Rattle.normal_forms.specs.Forms.{nfc, normal_form}
+use Rattle.icu_normalizer.specs.NormalForms.{nfc, normal_form}
 use Rattle.icu_normalizer.specs.Forms.{composed_by}
 use Rattle.normalizer_examples.proofs.CallerLemmas.{appended_form, seam_of_parts}
 use Rattle.normalizer_examples.proofs.growing.appended.Goals as goal

@@ -1,6 +1,6 @@
 use Rattle.std.proofs.Common.{ap, ◌∙◌}
 use Rattle.std.specs.Prelude.{chars}
-use Rattle.normal_forms.specs.Forms.{normal_form}
+use Rattle.icu_normalizer.specs.NormalForms.{normal_form}
 use Rattle.normalizer_examples.proofs.growing.form_of.Goals as goal
 
 pub returns-in-Ok-clause-form : goal.returns-in-Ok-clause-form
