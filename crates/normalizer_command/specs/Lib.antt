@@ -7,4 +7,5 @@ pub mod Runs
 pub mod Versions
 pub mod Arguments
 pub mod Messages
+pub mod CommandLine
 pub mod DataDirectory
