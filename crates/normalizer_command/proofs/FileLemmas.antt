@@ -1,11 +1,12 @@
 -- Files, one after another, as a loop does.
-use Rattle.std.proofs.Common.{◌≡◌, ℕ, ◌+◌, ◌<◌, ◌≤◌, List, [], ◌∷◌, length, get_or, drop, map, suc, Result, Bor, ap, refl, arith}
+use Rattle.std.proofs.Common.{◌≡◌, ℕ, ◌+◌, ◌<◌, ◌≤◌, List, [], ◌∷◌, length, get_or, drop, map, suc, Result, Ok, Err, IfErr, Bor, ap, refl, arith}
 use Rattle.std.specs.Prelude.{IsErrOf}
 use Rattle.std.proofs.Math.Seq.{drop-cons}
 use Rattle.std.proofs.Math.ListN.{drop_of_length-le}
 use Rattle.normalizer_io.specs.declared.outcome.Answer.{Answer}
 use Rattle.normalizer_command.specs.declared.fault.Fault.{Fault}
-use Rattle.normalizer_command.specs.declared.fault.Fault.TheVariants.{Write}
+use Rattle.normalizer_command.specs.declared.fault.Fault.TheVariants.{Open, Read, Write, Memory, Line, Records}
+use Rattle.normalizer_command.specs.FileFaults.{IsFileFault}
 use Rattle.normalizer_command.specs.Devices.{Devices}
 use Rattle.normalizer_command.specs.Outcomes.{AreDone, IsDone, State}
 use Rattle.normalizer_replies.specs.Works.{Work}
@@ -37,3 +38,14 @@ pub is_done : {W : Type 0} (d : Devices W) (w : Work) (names : List (Bor (List �
     → length names ≤ i → AreDone d w (texts (drop i names)) s s
 unfolding AreDone
 is_done d w names i s le = rw (drop_of_length-le names le) refl
+
+-- a fault of what is done with all that was read
+pub fault_of_reply : (Refused Written AllRead Unrefused : Type 0) (r : Result Answer Fault) → AllRead
+    → IfErr r (IsFileFault (λ _. ⊥) ⊥ Written Unrefused) → IfErr r (IsFileFault (λ _. ⊥) Refused Written (AllRead × Unrefused))
+fault_of_reply Refused Written AllRead Unrefused (Ok answer) read why = tt
+fault_of_reply Refused Written AllRead Unrefused (Err (Open kind)) read why = why
+fault_of_reply Refused Written AllRead Unrefused (Err Read) read why = absurd why
+fault_of_reply Refused Written AllRead Unrefused (Err Write) read why = why
+fault_of_reply Refused Written AllRead Unrefused (Err Memory) read why = (read, why)
+fault_of_reply Refused Written AllRead Unrefused (Err (Line fault)) read why = why
+fault_of_reply Refused Written AllRead Unrefused (Err (Records error)) read why = why

@@ -1,1 +1,2 @@
 pub mod FileLemmas
+pub mod ArgumentLemmas

@@ -1,6 +1,8 @@
 -- Faults of what the program calls, and when a file fails so.
-use Rattle.std.specs.Prelude.{⊤}
+use Rattle.std.specs.Prelude.{ℕ, List, Option, ◌⊎◌}
+use Rattle.std.specs.Io.KnownBytes.{IsAtEnd}
 use Rattle.std.specs.declared.io.ErrorKind.{ErrorKind}
+use Rattle.normalizer_io.specs.Transfer.{IsUnrefused}
 use Rattle.normalizer_io.specs.declared.outcome.TransferError.{TransferError}
 use Rattle.normalizer_io.specs.declared.outcome.TransferError.TheVariants as transfer
 use Rattle.normalizer_records.specs.declared.records.BuildError.{BuildError}
@@ -23,11 +25,17 @@ abbrev pub fault_of_records : BuildError → Fault
 fault_of_records build_error.Memory = Memory
 fault_of_records error = Records error
 
--- when a file may fail so: it can't be opened, or a read of it or a write was refused, or memory was
-abbrev pub IsFileFault : (cannot_open : ErrorKind → Type 0) (read_refused write_refused : Type 0) → Fault → Type 0
-IsFileFault cannot_open read_refused write_refused (Open kind) = cannot_open kind
-IsFileFault cannot_open read_refused write_refused Read = read_refused
-IsFileFault cannot_open read_refused write_refused Write = write_refused
-IsFileFault cannot_open read_refused write_refused Memory = ⊤
-IsFileFault cannot_open read_refused write_refused (Line fault) = ⊥
-IsFileFault cannot_open read_refused write_refused (Records error) = ⊥
+-- When a file may fail so: it can't be opened, or a read of it or a write was refused, or memory was. That memory was
+-- refused can't be stated; `no_other` says what excludes the other reasons then.
+abbrev pub IsFileFault : (cannot_open : ErrorKind → Type 0) (read_refused write_refused no_other : Type 0) → Fault
+    → Type 0
+IsFileFault cannot_open read_refused write_refused no_other (Open kind) = cannot_open kind
+IsFileFault cannot_open read_refused write_refused no_other Read = read_refused
+IsFileFault cannot_open read_refused write_refused no_other Write = write_refused
+IsFileFault cannot_open read_refused write_refused no_other Memory = no_other
+IsFileFault cannot_open read_refused write_refused no_other (Line fault) = ⊥
+IsFileFault cannot_open read_refused write_refused no_other (Records error) = ⊥
+
+-- a source was read to its end, or no read of it was refused
+abbrev pub IsReadUnrefused : {S : Type 0} → (left : Option (List ℕ)) → (refusal : S → S → Type 0) → S → S → Type 0
+IsReadUnrefused left refusal before after = IsAtEnd left ⊎ IsUnrefused refusal before after

@@ -6,4 +6,6 @@ pub mod FileReports
 pub mod Runs
 pub mod Versions
 pub mod Arguments
+pub mod Messages
+pub mod CommandLine
 pub mod DataDirectory

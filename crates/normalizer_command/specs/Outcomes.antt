@@ -1,7 +1,7 @@
 -- What becomes of files, one after another.
 use Rattle.std.specs.Prelude.{◌≡◌, ◌⊎◌, ℕ, List, [], ◌∷◌, Option, Result, Ok, Err, IfOk, IfErr, IfSome, IsErrOf, nat_lt, if◌then◌else◌}
 use Rattle.std.specs.Io.KnownBytes.{Appends}
-use Rattle.normalizer_io.specs.Transfer.{AppendsFront}
+use Rattle.normalizer_io.specs.Transfer.{AppendsFront, IsUnrefused}
 use Rattle.normalizer_io.specs.declared.outcome.Answer.{Answer}
 use Rattle.normalizer_io.specs.declared.outcome.Answer.TheVariants.{Done, No}
 use Rattle.normalizer_command.specs.declared.fault.Fault.{Fault}
@@ -58,13 +58,14 @@ Leaves (OfForm task.Write scheme m) fault Unwritten CutOff = CutOff
 Leaves other Write Unwritten CutOff = CutOff
 Leaves other fault Unwritten CutOff = Unwritten
 
--- One file: its reply is written, or a report says why it failed. A source of 2^64 - 1 bytes may count as refused.
+-- One file: its reply is written, or a report says why it failed. A source of 2^64 - 1 bytes may count as refused. If
+-- memory was, the file was opened, and no write was refused.
 pub record IsDone {W : Type 0} (d : Devices W) (w : Work) (name : List ℕ) (s t : State W)
     (outcome : Result Answer Fault) : Type 0 where
   pub done : IfOk outcome (IsWritten w name (d.bytes_of name) (d.taken s.writer) (d.taken t.writer))
   pub why : IfErr outcome
       (IsFileFault (d.cannot_open name) (d.read_refused name ⊎ IsEndless (d.bytes_of name))
-      (d.write_refused s.writer t.writer))
+      (d.write_refused s.writer t.writer) (d.opened name × IsUnrefused d.write_refused s.writer t.writer))
   pub left : IfErr outcome (λ fault. Leaves w fault (t.writer ≡ s.writer)
       (IsCutOff w name (d.bytes_of name) (d.taken s.writer) (d.taken t.writer)))
   pub untold : IfOk outcome (λ _. t.told ≡ s.told)

@@ -22,15 +22,13 @@ pub record RunsByFiles {W : Type 0} (d : Devices W) (command : Command) (directo
   pub recorded : AreRecorded unicode_data exclusions table records uts46
   pub done : AreDone d (work_by records uts46 command) names s t
 
--- there are no data: a report says so of one of the files, or of their directory; nothing is written; the status is 2
+-- there are no data: a report says so of one of the files; nothing is written; the status is 2
 pub record LacksData {W : Type 0} (d : Devices W) (command : Command) (directory : List ℕ) (s t : State W)
     : Type 0 where
-  pub name : List ℕ
   pub file : UcdFile
-  pub named : (name ≡ path_of directory file) ⊎ (name ≡ directory)
   pub fault : Fault
   pub why : IsDataFault d directory command file fault
-  pub told : Tells s.told t.told (name, fault)
+  pub told : Tells s.told t.told (path_of directory file, fault)
   pub unwritten : t.writer ≡ s.writer
   pub status : t.status ≡ 2
 

@@ -75,7 +75,7 @@ IsFaultOf unicode_data exclusions table file Write = ⊥
 -- why a file of a directory can't be read
 abbrev pub IsReadFault : {W : Type 0} → Devices W → (directory : List ℕ) → UcdFile → Fault → Type 0
 IsReadFault d directory file fault =
-    IsFileFault (d.cannot_open (path_of directory file)) (d.read_refused (path_of directory file)) ⊥ fault
+    IsFileFault (d.cannot_open (path_of directory file)) (d.read_refused (path_of directory file)) ⊥ ⊤ fault
 
 -- why there are no data: this file of the directory can't be read, or the bytes of the files make none
 abbrev pub IsDataFault : {W : Type 0} → Devices W → (directory : List ℕ) → Command → UcdFile → Fault → Type 0

@@ -1,5 +1,5 @@
 -- What is written of versions.
-use Rattle.std.specs.Prelude.{◌≡◌, ◌≢◌, ◌⊎◌, ◌==◌, not, ℕ, List, [], ◌∷◌, ◌++◌, codes, take_while, IfSome}
+use Rattle.std.specs.Prelude.{◌≡◌, ◌≢◌, ◌⊎◌, ◌==◌, not, ℕ, List, [], ◌∷◌, ◌++◌, codes, take_while, IfSome, ⊤}
 use Rattle.std.specs.Io.KnownBytes.{Appends}
 use Rattle.normalizer_io.specs.Transfer.{AppendsFront}
 use Rattle.normalizer_ucd.specs.declared.error.UcdFile.{UcdFile}
@@ -43,15 +43,13 @@ pub record IsVersionWritten {W : Type 0} (d : Devices W) (directory : List ℕ) 
 
 -- a report says why they aren't
 pub record IsVersionRefused {W : Type 0} (d : Devices W) (directory : List ℕ) (s t : State W) : Type 0 where
-  pub name : List ℕ
   pub file : UcdFile
-  pub named : (name ≡ path_of directory file) ⊎ (name ≡ directory)
   pub fault : Fault
   pub why : IsFileFault (d.cannot_open (path_of directory file)) (d.read_refused (path_of directory file))
-      (d.write_refused s.writer t.writer) fault
+      (d.write_refused s.writer t.writer) ⊤ fault
   pub cut : fault ≡ Write → IsVersionCutOff d directory s.writer t.writer
   pub unwritten : fault ≢ Write → t.writer ≡ s.writer
-  pub told : Tells s.told t.told (name, fault)
+  pub told : Tells s.told t.told (path_of directory file, fault)
   pub status : t.status ≡ 2
 
 abbrev pub IsVersionRun : {W : Type 0} → Devices W → (directory : List ℕ) → State W → State W → Type 0

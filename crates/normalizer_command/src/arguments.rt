@@ -1,10 +1,55 @@
 //! The words that the program is started with.
-ghost use Rattle.std.specs.Prelude.{◌≡◌, ◌↔◌, Some};
+ghost use Rattle.std.specs.Prelude.{
+  ◌≡◌,
+  ◌↔◌,
+  ◌∷◌,
+  ℕ,
+  List,
+  Some,
+  map,
+  option_copied,
+  string_bytes,
+  false,
+  true,
+  IfErr,
+  IfNone,
+  IfOk,
+  IfSome,
+  OnErr,
+  OnSome,
+};
+ghost use Rattle.clap.specs.Matches.{found_of};
+ghost use Rattle.clap.specs.Simple.{app_of, matches_of};
+ghost use Rattle.clap.specs.Walk.{rows_of, rule_of};
+ghost use Rattle.clap.specs.Takes.{takes};
+ghost use Rattle.clap.specs.Values.{kind_of};
+ghost use Rattle.clap.specs.declared.error.kind.ErrorKind.TheVariants.{OutOfMemory};
+ghost use Rattle.normalizer_command.specs.CommandLine.{
+  after_rule,
+  directory_rule,
+  encoding_rule,
+  uninorm,
+  version_rule,
+  with_options,
+  word_rule,
+};
 ghost use Rattle.normalizer_built.specs.declared.NormalForm.{NormalForm};
 ghost use Rattle.normalizer_streams.specs.declared.scheme.EncodingScheme.{EncodingScheme};
 ghost use Rattle.normalizer_replies.specs.declared.mapping.MapperTask.{MapperTask};
 ghost use Rattle.normalizer_replies.specs.declared.reply.Task.{Task};
-ghost use Rattle.normalizer_command.specs.Arguments.{NamesForm, NamesMapperTask, NamesScheme, NamesTask};
+ghost use Rattle.normalizer_replies.specs.declared.worker.Command.{Command as FileCommand};
+ghost use Rattle.normalizer_command.specs.Arguments.{
+  or_input,
+  AreKnown,
+  AsksFor,
+  IsCommandWord,
+  IsScheme,
+  NamesForm,
+  NamesMapperTask,
+  NamesScheme,
+  NamesTask,
+  Requests,
+};
 
 use clap::{Arg, ArgAction, ArgMatches, Command, Error};
 use normalizer_built::NormalForm;
@@ -39,8 +84,19 @@ const AFTER_HELP: &str =
     The forms are written while a file is read; the other commands read each file whole first.\n\
     Status: 0; check and where: 1 if a file isn't in the form; validate: 1 if a line isn't valid; 2 if a file failed.";
 
+/// The message if the command is unknown.
+const UNKNOWN_COMMAND: &str =
+    "the command is none of nfc, nfd, nfkc, nfkd, check, where, map and validate";
+
+/// The message if there is no command.
+const NO_COMMAND: &str =
+    "a command is missing: nfc, nfd, nfkc, nfkd, check, where, map or validate";
+
 /// The message if a command that needs a form has none.
 const NO_FORM: &str = "a form is missing: nfc, nfd, nfkc or nfkd";
+
+/// The message if the encoding is none of those that are known.
+const NO_ENCODING: &str = "the encoding is none of utf-8, utf-16le and utf-16be";
 
 /// What the words request.
 #[derive(Drop)]
@@ -68,63 +124,131 @@ pub struct FileRequest<'a> {
 ///
 /// # Errors
 /// The help if the words request it, or what is wrong with them, or that memory was refused.
-pub fn parsed<'a>(alloc: Global, words: &'a [String]) -> Result<Request<'a>, Error> {
-    let matches = command(alloc)?.try_get_matches_from(words)?;
+pub fn parsed<'a>(alloc: Global, words: &'a [String]) -> Result<Request<'a>, Error>
+    ensures requested { IfOk result (Requests (matches_of uninorm (map string_bytes words.now))) }
+    ensures taken { IfErr result (λ error. takes uninorm (map string_bytes words.now) ≡ true →
+        kind_of error ≡ OutOfMemory) }
+{
+    let matches = matches(alloc, words)?;
     Ok(request_of(alloc, &matches)?)
 }
 
-fn request_of<'a>(alloc: Global, matches: &ArgMatches<'a>) -> Result<Request<'a>, AllocError> {
+/// What the words hold, by argument.
+fn matches<'a>(alloc: Global, words: &'a [String]) -> Result<ArgMatches<'a>, Error>
+    ensures rows { IfOk result (λ m. rows_of (found_of m) ≡ matches_of uninorm (map string_bytes words.now)) }
+    ensures taken { IfErr result (λ error. takes uninorm (map string_bytes words.now) ≡ true →
+        kind_of error ≡ OutOfMemory) }
+{
+    command(alloc)?.try_get_matches_from(words)
+}
+
+/// What the words request, by argument.
+fn request_of<'a>(alloc: Global, matches: &ArgMatches<'a>) -> Result<Request<'a>, AllocError>
+    ensures { IfOk result (Requests (rows_of (found_of matches.now))) }
+{
     let directory = matches.get_str("data");
+    let (word, encoding) = (matches.get_str("command"), matches.get_str("encoding"));
+    if let Some(reason) = unknown(word, encoding) {
+        return Ok(Request::Unclear(reason));
+    }
     if matches.get_flag("version") {
         return Ok(Request::Version(directory));
     }
-    let names = matches.get_strs("file").unwrap_or(&[]);
-    match command_of(matches, names) {
-        Ok((command, names)) => over_files(alloc, command, directory, names),
+    let after = matches.get_strs("file").unwrap_or(&[]);
+    match command_of(word.unwrap_or(""), after, encoding) {
+        Ok((command, names)) => Ok(Request::Files(FileRequest {
+            command,
+            directory,
+            names: or_input(alloc, names)?,
+        })),
         Err(reason) => Ok(Request::Unclear(reason)),
     }
 }
 
-/// The command, and the names of its files, or what is missing.
-fn command_of<'n, 'a>(
-    matches: &ArgMatches<'a>,
-    names: &'n [&'a str],
-) -> Result<(FileCommand, &'n [&'a str]), &'static str> {
-    let scheme = matches
-        .get_str("encoding")
-        .and_then(|word| scheme_named(word))
-        .unwrap_or(EncodingScheme::Utf8);
-    let word = matches.get_str("command").unwrap_or("");
-    if let Some(task) = mapper_task_named(word) {
-        return Ok((FileCommand::OfMapper(task, scheme), names));
+/// What is unknown of the words of a command and of an encoding, if they are there.
+fn unknown(word: Option<&str>, encoding: Option<&str>) -> Option<&'static str>
+    ensures known { IfNone result (AreKnown (option_copied word.entry) (option_copied encoding.entry)) }
+    ensures unknown { OnSome result (AreKnown (option_copied word.entry) (option_copied encoding.entry) → ⊥) }
+{
+    if let Some(word) = word {
+        if !is_command(word) {
+            return Some(UNKNOWN_COMMAND);
+        }
     }
-    match (task_named(word), form_named(word), names) {
-        (Some(task), _, [form, names @ ..]) => match form_named(form) {
-            Some(form) => Ok((FileCommand::OfForm(task, scheme, form), names)),
-            None => Err(NO_FORM),
-        },
-        (Some(_), _, []) => Err(NO_FORM),
-        (None, Some(form), names) => Ok((FileCommand::OfForm(Task::Write, scheme, form), names)),
-        (None, None, _) => Err("a command is missing: see --help"),
+    scheme_of(encoding).err()
+}
+
+/// Whether the word is one of a command.
+fn is_command(word: &str) -> bool
+    ensures yes { result ≡ true → IsCommandWord word.now }
+    ensures no { result ≡ false → IsCommandWord word.now → ⊥ }
+{
+    if mapper_task_named(word).is_some() {
+        return true;
+    }
+    if task_named(word).is_some() {
+        return true;
+    }
+    form_named(word).is_some()
+}
+
+/// The command of a word and those after it, and the names of its files, or what is wrong.
+fn command_of<'n, 'a>(
+    word: &str,
+    after: &'n [&'a str],
+    encoding: Option<&str>,
+) -> Result<(FileCommand, &'n [&'a str]), &'static str>
+    ensures asked { IfOk result (λ found. AsksFor word.now (map (λ name. name.now) after.now) (option_copied encoding.entry)
+        found.0 (map (λ name. name.now) found.1.now)) }
+    ensures unclear { OnErr result ((command : FileCommand) (names : List (List ℕ)) →
+        AsksFor word.now (map (λ name. name.now) after.now) (option_copied encoding.entry) command names → ⊥) }
+{
+    let scheme = scheme_of(encoding)?;
+    if let Some(task) = mapper_task_named(word) {
+        return Ok((FileCommand::OfMapper(task, scheme), after));
+    }
+    if let Some(form) = form_named(word) {
+        return Ok((FileCommand::OfForm(Task::Write, scheme, form), after));
+    }
+    let Some(task) = task_named(word) else {
+        return Err(NO_COMMAND);
+    };
+    let (form, names) = form_first(after).ok_or(NO_FORM)?;
+    Ok((FileCommand::OfForm(task, scheme, form), names))
+}
+
+/// The form that is named first, and what is after its name.
+fn form_first<'n, 'a>(words: &'n [&'a str]) -> Option<(NormalForm, &'n [&'a str])>
+    ensures form { IfSome result (λ found. (first : List ℕ) × NamesForm found.0 first
+        × (map (λ name. name.now) words.now ≡ first ∷ map (λ name. name.now) found.1.now)) }
+    ensures none { IfNone result ((form : NormalForm) (first : List ℕ) (names : List (List ℕ)) →
+        NamesForm form first → map (λ name. name.now) words.now ≡ first ∷ names → ⊥) }
+{
+    let (first, names) = words.split_first()?;
+    Some((form_named(first)?, names))
+}
+
+/// The encoding scheme of this name, or UTF-8 if none is named.
+fn scheme_of(encoding: Option<&str>) -> Result<EncodingScheme, &'static str>
+    ensures named { IfOk result (IsScheme (option_copied encoding.entry)) }
+    ensures unclear { OnErr result ((scheme : EncodingScheme) → IsScheme (option_copied encoding.entry) scheme → ⊥) }
+{
+    match encoding {
+        Some(word) => scheme_named(word).ok_or(NO_ENCODING),
+        None => Ok(EncodingScheme::Utf8),
     }
 }
 
-fn over_files<'a>(
-    alloc: Global,
-    command: FileCommand,
-    directory: Option<&'a str>,
-    named: &[&'a str],
-) -> Result<Request<'a>, AllocError> {
-    let mut names = Vec::new(alloc);
-    if named.is_empty() {
-        names.push("-")?;
+/// The names, or that of standard input if there are none.
+fn or_input<'a>(alloc: Global, names: &[&'a str]) -> Result<Vec<&'a str>, AllocError>
+    ensures { IfOk result (λ all. map (λ name. name.now) all.items ≡ or_input (map (λ name. name.now) names.now)) }
+{
+    let mut all = Vec::new(alloc);
+    if names.is_empty() {
+        all.push("-")?;
     }
-    names.extend_from_slice(named)?;
-    Ok(Request::Files(FileRequest {
-        command,
-        directory,
-        names,
-    }))
+    all.extend_from_slice(names)?;
+    Ok(all)
 }
 
 /// The command of the mapper.
@@ -172,7 +296,10 @@ fn form_named(word: &str) -> Option<NormalForm>
     }
 }
 
-fn command<'a>(alloc: Global) -> Result<Command<'a>, AllocError> {
+/// The arguments of the program.
+fn command<'a>(alloc: Global) -> Result<Command<'a>, AllocError>
+    ensures { IfOk result (λ command. app_of command ≡ uninorm) }
+{
     let command = Command::new(alloc, "uninorm")
         .about("Writes the normal forms of text (Unicode Standard Annex #15)")
         .after_help(AFTER_HELP)
@@ -181,25 +308,28 @@ fn command<'a>(alloc: Global) -> Result<Command<'a>, AllocError> {
     with_options(alloc, command)
 }
 
-fn with_options<'a>(alloc: Global, command: Command<'a>) -> Result<Command<'a>, AllocError> {
+fn with_options<'a>(alloc: Global, command: Command<'a>) -> Result<Command<'a>, AllocError>
+    ensures { IfOk result (λ all. app_of all ≡ with_options (app_of command.entry)) }
+{
     command
         .arg(directory(alloc))?
         .arg(encoding(alloc))?
         .arg(version(alloc))
 }
 
-fn word<'a>(alloc: Global) -> Arg<'a> {
+fn word<'a>(alloc: Global) -> Arg<'a>
+    ensures rule { rule_of result ≡ word_rule }
+    ensures local { result.global ≡ false }
+{
     Arg::new(alloc, "command")
         .value_name("COMMAND")
         .help(WORD_HELP)
-        .value_parser([
-            "nfc", "nfd", "nfkc", "nfkd", "check", "where", "map", "validate",
-        ]
-        .as_slice())
-        .hide_possible_values(true)
 }
 
-fn files<'a>(alloc: Global) -> Arg<'a> {
+fn files<'a>(alloc: Global) -> Arg<'a>
+    ensures rule { rule_of result ≡ after_rule }
+    ensures local { result.global ≡ false }
+{
     Arg::new(alloc, "file")
         .value_name("FILE")
         .action(ArgAction::Append)
@@ -207,23 +337,30 @@ fn files<'a>(alloc: Global) -> Arg<'a> {
         .help("Files; standard input if there are none, or for -")
 }
 
-fn directory<'a>(alloc: Global) -> Arg<'a> {
+fn directory<'a>(alloc: Global) -> Arg<'a>
+    ensures rule { rule_of result ≡ directory_rule }
+    ensures local { result.global ≡ false }
+{
     Arg::new(alloc, "data")
         .long("data")
         .value_name("DIR")
         .help(DIRECTORY_HELP)
 }
 
-fn encoding<'a>(alloc: Global) -> Arg<'a> {
+fn encoding<'a>(alloc: Global) -> Arg<'a>
+    ensures rule { rule_of result ≡ encoding_rule }
+    ensures local { result.global ≡ false }
+{
     Arg::new(alloc, "encoding")
         .long("encoding")
         .value_name("ENCODING")
-        .value_parser(["utf-8", "utf-16le", "utf-16be"].as_slice())
-        .hide_possible_values(true)
         .help(ENCODING_HELP)
 }
 
-fn version<'a>(alloc: Global) -> Arg<'a> {
+fn version<'a>(alloc: Global) -> Arg<'a>
+    ensures rule { rule_of result ≡ version_rule }
+    ensures local { result.global ≡ false }
+{
     Arg::new(alloc, "version")
         .long("version")
         .short('V')

@@ -1,9 +1,10 @@
 //! What the program reads from, and what it reports failures to.
-ghost use Rattle.std.specs.Prelude.{◌≡◌, ℕ, List, Option, IfOk, IfErr};
+ghost use Rattle.std.specs.Prelude.{◌≡◌, ℕ, List, Option, IfOk, IfErr, OnOk};
 ghost use Rattle.std.specs.declared.io.ErrorKind.{ErrorKind};
 ghost use Rattle.normalizer_command.specs.FileReports.{Report, Tells};
+ghost use Rattle.normalizer_command.specs.Messages.{report_of};
 
-use crate::fault::Fault;
+use crate::message::Message;
 use normalizer_io::Source;
 use std::io::ErrorKind;
 
@@ -18,6 +19,9 @@ pub trait Inputs {
     /// Holds if the file of a name can't be opened, for this reason.
     ghost cannot_open: { Self → List ℕ → ErrorKind → Type 0 };
 
+    /// Holds if the file of a name was opened.
+    ghost opened: { Self → List ℕ → Type 0 };
+
     /// Holds if a read of the file of a name was refused.
     ghost read_refused: { Self → List ℕ → Type 0 };
 
@@ -29,6 +33,7 @@ pub trait Inputs {
         ensures bytes { IfOk result (λ input. Self.Input.bytes_left input ≡ bytes_of self.now name.now) }
         ensures reads { IfOk result (λ input. (later : Self.Input) → Self.Input.refusal input later →
             read_refused self.now name.now) }
+        ensures opens { OnOk result (opened self.now name.now) }
         ensures fault { IfErr result (cannot_open self.now name.now) };
 }
 
@@ -37,7 +42,7 @@ pub trait Reports {
     /// The reports so far, if they are known.
     ghost reports: { Self → Option (List Report) };
 
-    /// Reports why a file failed.
-    fn report(&mut self, name: &str, fault: Fault)
-        ensures { Tells (reports self.old) (reports self.new) (name.now, fault) };
+    /// Reports a file that failed.
+    fn report(&mut self, message: Message<'_>)
+        ensures { Tells (reports self.old) (reports self.new) (report_of message.entry) };
 }

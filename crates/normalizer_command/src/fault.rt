@@ -1,5 +1,6 @@
 //! Why a file failed.
 ghost use Rattle.std.specs.Prelude.{◌≡◌};
+ghost use Rattle.normalizer_command.specs.Messages.{text_of_fault};
 ghost use Rattle.normalizer_command.specs.FileFaults.{fault_of_file, fault_of_records, fault_of_transfer};
 
 use normalizer_io::TransferError;
@@ -28,6 +29,8 @@ pub enum Fault {
 }
 
 impl fmt::Display for Fault {
+    ghost output = { text_of_fault };
+
     fn fmt<W: fmt::Write>(&self, f: &mut fmt::Formatter<W>) -> fmt::Result {
         match self {
             Fault::Open(ErrorKind::NotFound) => f.write_str("no such file or directory"),
@@ -38,25 +41,6 @@ impl fmt::Display for Fault {
             Fault::Line(fault) => write!(f, "line {}: {}", fault.place.line, fault.problem),
             Fault::Records(error) => write!(f, "{error}"),
         }
-    }
-}
-
-/// The report of a file: its name, and why it failed. A refused write is reported of standard output.
-#[derive(Clone, Copy)]
-pub struct Message<'a> {
-    /// The name of the file.
-    pub name: &'a str,
-    /// Why it failed.
-    pub fault: Fault,
-}
-
-impl fmt::Display for Message<'_> {
-    fn fmt<W: fmt::Write>(&self, f: &mut fmt::Formatter<W>) -> fmt::Result {
-        let name = match self.fault {
-            Fault::Write => "standard output",
-            _ => self.name,
-        };
-        write!(f, "{name}: {}", self.fault)
     }
 }
 

@@ -2,17 +2,18 @@
 ghost use Rattle.std.specs.Prelude.{◌≡◌, ◌≢◌, ◌↔◌, ◌⊎◌, ℕ, IsTrue, List, map, IfOk, IfErr, IsErrOf};
 ghost use Rattle.std.specs.Io.KnownBytes.{Appends};
 ghost use Rattle.normalizer_io.specs.declared.outcome.Answer.{Answer};
-ghost use Rattle.normalizer_io.specs.Transfer.{AppendsFront};
+ghost use Rattle.normalizer_io.specs.Transfer.{AppendsFront, IsUnrefused};
 ghost use Rattle.normalizer_replies.specs.Replies.{IsReply};
 ghost use Rattle.normalizer_streams.specs.Streams.{IsEndless};
 ghost use Rattle.normalizer_command.specs.Devices.{devices};
-ghost use Rattle.normalizer_command.specs.FileFaults.{IsFileFault};
+ghost use Rattle.normalizer_command.specs.FileFaults.{IsFileFault, IsReadUnrefused};
 ghost use Rattle.normalizer_command.specs.Outcomes.{AreDone, IsCutOff, IsWritten, Leaves, greater, state, status_of};
 ghost use Rattle.normalizer_command.specs.FileReports.{Tells};
 ghost use Rattle.normalizer_replies.specs.Works.{Does, RepliesAtEnd, Work};
 
 use crate::devices::{Inputs, Reports};
 use crate::fault::Fault;
+use crate::message::Message;
 use normalizer_io::{Answer, Source, Target, read_all, write_all};
 use normalizer_replies::{Task, Worker};
 use normalizer_streams::write_form;
@@ -30,7 +31,8 @@ pub(crate) fn over_files<I: Inputs, W: Target, R: Reports>(
 ) -> u8
     ensures { (w : Work) → Does worker.now w →
         AreDone
-        (devices (I.bytes_of inputs.now) (I.cannot_open inputs.now) (I.read_refused inputs.now) W.bytes_taken W.refusal)
+        (devices (I.bytes_of inputs.now) (I.cannot_open inputs.now) (I.opened inputs.now) (I.read_refused inputs.now)
+        W.bytes_taken W.refusal)
         w (map (λ name. name.now) names.now)
         (state writer.old (R.reports reports.old) 0) (state writer.new (R.reports reports.new) result) }
 {
@@ -58,7 +60,8 @@ fn over_file<I: Inputs, W: Target>(
         (IsWritten w name.now (I.bytes_of inputs.now name.now) (W.bytes_taken writer.old) (W.bytes_taken writer.new)) }
     ensures why { IfErr result (IsFileFault (I.cannot_open inputs.now name.now)
         (I.read_refused inputs.now name.now ⊎ IsEndless (I.bytes_of inputs.now name.now))
-        (W.refusal writer.old writer.new)) }
+        (W.refusal writer.old writer.new)
+        (I.opened inputs.now name.now × IsUnrefused W.refusal writer.old writer.new)) }
     ensures left { (w : Work) → Does worker.now w →
         IfErr result (λ fault. Leaves w fault (writer.new ≡ writer.old)
         (IsCutOff w name.now (I.bytes_of inputs.now name.now) (W.bytes_taken writer.old) (W.bytes_taken writer.new))) }
@@ -78,7 +81,9 @@ fn over_input<S: Source, W: Target>(
     ensures done { (w : Work) → Does worker.now w → IfOk result
         (IsWritten w name.now (S.bytes_left input.old) (W.bytes_taken writer.old) (W.bytes_taken writer.new)) }
     ensures why { IfErr result (IsFileFault (λ _. ⊥)
-        (S.refusal input.old input.new ⊎ IsEndless (S.bytes_left input.old)) (W.refusal writer.old writer.new)) }
+        (S.refusal input.old input.new ⊎ IsEndless (S.bytes_left input.old)) (W.refusal writer.old writer.new)
+        (IsReadUnrefused (S.bytes_left input.new) S.refusal input.old input.new
+        × IsUnrefused W.refusal writer.old writer.new)) }
     ensures left { (w : Work) → Does worker.now w →
         IfErr result (λ fault. Leaves w fault (writer.new ≡ writer.old)
         (IsCutOff w name.now (S.bytes_left input.old) (W.bytes_taken writer.old) (W.bytes_taken writer.new))) }
@@ -103,8 +108,9 @@ fn write_reply<S: Source, W: Target>(
     requires { RepliesAtEnd worker.now }
     ensures done { (w : Work) → Does worker.now w → IfOk result
         (IsWritten w name.now (S.bytes_left input.old) (W.bytes_taken writer.old) (W.bytes_taken writer.new)) }
-    ensures why { IfErr result (IsFileFault (λ _. ⊥) (S.refusal input.old input.new)
-        (W.refusal writer.old writer.new)) }
+    ensures why { IfErr result (IsFileFault (λ _. ⊥) (S.refusal input.old input.new) (W.refusal writer.old writer.new)
+        (IsReadUnrefused (S.bytes_left input.new) S.refusal input.old input.new
+        × IsUnrefused W.refusal writer.old writer.new)) }
     ensures cut { (w : Work) → Does worker.now w → IsErrOf result Fault.Write →
         IsCutOff w name.now (S.bytes_left input.old) (W.bytes_taken writer.old) (W.bytes_taken writer.new) }
     ensures unwritten { IfErr result (λ fault. fault ≢ Fault.Write → writer.new ≡ writer.old) }
@@ -125,7 +131,8 @@ fn write_reply_to<W: Target>(
     ensures done { (w : Work) → Does worker.now w → IfOk result (λ answer. (output : List ℕ)
         × IsReply w name.now bytes.now answer output
         × Appends (W.bytes_taken writer.old) (W.bytes_taken writer.new) output) }
-    ensures why { IfErr result (IsFileFault (λ _. ⊥) ⊥ (W.refusal writer.old writer.new)) }
+    ensures why { IfErr result (IsFileFault (λ _. ⊥) ⊥ (W.refusal writer.old writer.new)
+        (IsUnrefused W.refusal writer.old writer.new)) }
     ensures cut { (w : Work) → Does worker.now w → IsErrOf result Fault.Write → (answer : Answer) × (output : List ℕ)
         × IsReply w name.now bytes.now answer output
         × AppendsFront (W.bytes_taken writer.old) (W.bytes_taken writer.new) output }
@@ -142,7 +149,11 @@ fn tell<R: Reports>(reports: &mut R, name: &str, outcome: Result<Answer, Fault>)
     ensures told { IfErr outcome (λ fault. Tells (R.reports reports.old) (R.reports reports.new) (name.now, fault)) }
 {
     if let Err(fault) = outcome {
-        reports.report(name, fault);
+        reports.report(Message {
+            directory: None,
+            name,
+            fault,
+        });
     }
 }
 

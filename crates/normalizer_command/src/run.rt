@@ -13,7 +13,8 @@ ghost use Rattle.normalizer_replies.specs.Works.{work_by};
 use crate::devices::{Inputs, Reports};
 use crate::fault::Fault;
 use crate::files::over_files;
-use crate::unicode_files::{DataFault, built, path, read_files};
+use crate::message::Message;
+use crate::unicode_files::{DataFault, built, name_of, read_files};
 use normalizer_builder::Built;
 use normalizer_io::Target;
 use normalizer_iterators::NormalizeError;
@@ -34,14 +35,15 @@ pub fn run<I: Inputs, W: Target, R: Reports>(
     reports: &mut R,
 ) -> u8
     ensures { IsRun
-        (devices (I.bytes_of inputs.now) (I.cannot_open inputs.now) (I.read_refused inputs.now) W.bytes_taken W.refusal)
+        (devices (I.bytes_of inputs.now) (I.cannot_open inputs.now) (I.opened inputs.now) (I.read_refused inputs.now)
+        W.bytes_taken W.refusal)
         command directory.now (map (λ name. name.now) names.now)
         (state writer.old (R.reports reports.old) 0) (state writer.new (R.reports reports.new) result) }
 {
     match run_by_files(alloc, command, directory, names, inputs, writer, reports) {
         Ok(status) => status,
         Err(error) => {
-            tell(alloc, directory, error, reports);
+            tell(directory, error, reports);
             2
         }
     }
@@ -58,11 +60,13 @@ fn run_by_files<I: Inputs, W: Target, R: Reports>(
     reports: &mut R,
 ) -> Result<u8, DataFault>
     ensures done { IfOk result (λ status. RunsByFiles
-        (devices (I.bytes_of inputs.now) (I.cannot_open inputs.now) (I.read_refused inputs.now) W.bytes_taken W.refusal)
+        (devices (I.bytes_of inputs.now) (I.cannot_open inputs.now) (I.opened inputs.now) (I.read_refused inputs.now)
+        W.bytes_taken W.refusal)
         command directory.now (map (λ name. name.now) names.now)
         (state writer.old (R.reports reports.old) 0) (state writer.new (R.reports reports.new) status)) }
     ensures fault { IfErr result (λ e. IsDataFault
-        (devices (I.bytes_of inputs.now) (I.cannot_open inputs.now) (I.read_refused inputs.now) W.bytes_taken W.refusal)
+        (devices (I.bytes_of inputs.now) (I.cannot_open inputs.now) (I.opened inputs.now) (I.read_refused inputs.now)
+        W.bytes_taken W.refusal)
         directory.now command e.file e.fault) }
     ensures unwritten { OnErr result (writer.new ≡ writer.old) }
     ensures untold { OnErr result (reports.new ≡ reports.old) }
@@ -91,7 +95,8 @@ fn over_data<I: Inputs, W: Target, R: Reports>(
     requires { AreBuilt (data_in «data».now) }
     ensures done { (records : List RecordValue) (uts46 : List Uts46RecordValue) →
         Builds records uts46 (data_in «data».now) → IfOk result (λ status. AreDone
-        (devices (I.bytes_of inputs.now) (I.cannot_open inputs.now) (I.read_refused inputs.now) W.bytes_taken W.refusal)
+        (devices (I.bytes_of inputs.now) (I.cannot_open inputs.now) (I.opened inputs.now) (I.read_refused inputs.now)
+        W.bytes_taken W.refusal)
         (work_by records uts46 command) (map (λ name. name.now) names.now)
         (state writer.old (R.reports reports.old) 0) (state writer.new (R.reports reports.new) status)) }
     ensures unwritten { OnErr result (writer.new ≡ writer.old) }
@@ -101,13 +106,13 @@ fn over_data<I: Inputs, W: Target, R: Reports>(
     Ok(over_files(alloc, &worker, inputs, names, writer, reports))
 }
 
-/// Reports which of Unicode's files failed, and why. (Its directory is named if there is no memory for its path.)
-pub(crate) fn tell<R: Reports>(alloc: Global, directory: &str, error: DataFault, reports: &mut R)
-    ensures { (name : List ℕ) × ((name ≡ path_of directory.now error.file) ⊎ (name ≡ directory.now))
-        × Tells (R.reports reports.old) (R.reports reports.new) (name, error.fault) }
+/// Reports which of Unicode's files in a directory failed, and why.
+pub(crate) fn tell<R: Reports>(directory: &str, error: DataFault, reports: &mut R)
+    ensures { Tells (R.reports reports.old) (R.reports reports.new) (path_of directory.now error.file, error.fault) }
 {
-    match path(alloc, directory, error.file) {
-        Ok(path) => reports.report(path.as_str(), error.fault),
-        Err(_) => reports.report(directory, error.fault),
-    }
+    reports.report(Message {
+        directory: Some(directory),
+        name: name_of(error.file),
+        fault: error.fault,
+    });
 }

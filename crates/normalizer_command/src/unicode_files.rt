@@ -1,5 +1,5 @@
 //! The data of a directory of Unicode's files.
-ghost use Rattle.std.specs.Prelude.{◌≡◌, List, IfOk, IfErr, IfSome, string_bytes};
+ghost use Rattle.std.specs.Prelude.{◌≡◌, List, ⊤, IfOk, IfErr, IfSome, string_bytes};
 ghost use Rattle.std.specs.Option.{option_map};
 ghost use Rattle.normalizer_builder.specs.Built.{data_in};
 ghost use Rattle.normalizer_command.specs.UnicodeFiles.{
@@ -37,14 +37,15 @@ pub(crate) struct DataFault {
 }
 
 /// The path of a file in a directory.
-pub(crate) fn path(alloc: Global, directory: &str, file: UcdFile) -> Result<String, AllocError>
+fn path(alloc: Global, directory: &str, file: UcdFile) -> Result<String, AllocError>
     ensures { IfOk result (λ path. string_bytes path ≡ path_of directory.now file) }
 {
     let name = name_of(file);
     format!(in alloc; "{directory}/{name}")
 }
 
-fn name_of(file: UcdFile) -> &'static str
+/// The name of a file.
+pub(crate) fn name_of(file: UcdFile) -> &'static str
     ensures { result.now ≡ name_of file }
 {
     match file {
@@ -72,7 +73,7 @@ pub(crate) fn read_files<I: Inputs>(
     ensures files { IfOk result (λ r. AreFiles (I.bytes_of inputs.now) directory.now command
         r.unicode_data.items r.exclusions.items (option_map (λ v. v.items) r.table)) }
     ensures fault { IfErr result (λ e. IsFileFault (I.cannot_open inputs.now (path_of directory.now e.file))
-        (I.read_refused inputs.now (path_of directory.now e.file)) ⊥ e.fault) }
+        (I.read_refused inputs.now (path_of directory.now e.file)) ⊥ ⊤ e.fault) }
 {
     let unicode_data = read_file(alloc, inputs, directory, UcdFile::UnicodeData)?;
     let exclusions = read_file(alloc, inputs, directory, UcdFile::CompositionExclusions)?;
@@ -94,7 +95,7 @@ fn read_table<I: Inputs>(
     ensures table { IfOk result (λ t. IsTable (I.bytes_of inputs.now) directory.now command
         (option_map (λ v. v.items) t)) }
     ensures fault { IfErr result (λ e. IsFileFault (I.cannot_open inputs.now (path_of directory.now e.file))
-        (I.read_refused inputs.now (path_of directory.now e.file)) ⊥ e.fault) }
+        (I.read_refused inputs.now (path_of directory.now e.file)) ⊥ ⊤ e.fault) }
 {
     match command {
         Command::OfForm(..) => Ok(None),
@@ -114,26 +115,27 @@ pub(crate) fn read_file<I: Inputs>(
 ) -> Result<Vec<u8>, DataFault>
     ensures bytes { IfOk result (λ v. IsFile (I.bytes_of inputs.now) directory.now file v.items) }
     ensures fault { IfErr result (λ e. IsFileFault (I.cannot_open inputs.now (path_of directory.now e.file))
-        (I.read_refused inputs.now (path_of directory.now e.file)) ⊥ e.fault) }
+        (I.read_refused inputs.now (path_of directory.now e.file)) ⊥ ⊤ e.fault) }
 {
-    match read(alloc, inputs, directory, file) {
+    let Ok(path) = path(alloc, directory, file) else {
+        return Err(DataFault {
+            file,
+            fault: Fault::Memory,
+        });
+    };
+    match read(alloc, inputs, path.as_str()) {
         Ok(bytes) => Ok(bytes),
         Err(fault) => Err(DataFault { file, fault }),
     }
 }
 
-fn read<I: Inputs>(
-    alloc: Global,
-    inputs: &I,
-    directory: &str,
-    file: UcdFile,
-) -> Result<Vec<u8>, Fault>
-    ensures bytes { IfOk result (λ v. IsFile (I.bytes_of inputs.now) directory.now file v.items) }
-    ensures fault { IfErr result (IsFileFault (I.cannot_open inputs.now (path_of directory.now file))
-        (I.read_refused inputs.now (path_of directory.now file)) ⊥) }
+/// The bytes of a file.
+fn read<I: Inputs>(alloc: Global, inputs: &I, path: &str) -> Result<Vec<u8>, Fault>
+    ensures bytes { IfOk result (λ v. IfSome (I.bytes_of inputs.now path.now) (λ all. v.items ≡ all)) }
+    ensures fault { IfErr result (IsFileFault (I.cannot_open inputs.now path.now) (I.read_refused inputs.now path.now) ⊥
+        (I.opened inputs.now path.now)) }
 {
-    let path = path(alloc, directory, file)?;
-    let mut input = inputs.open(path.as_str())?;
+    let mut input = inputs.open(path)?;
     Ok(read_all(alloc, &mut input)?)
 }
 

@@ -1,5 +1,5 @@
 //! The versions of the program and of its data.
-ghost use Rattle.std.specs.Prelude.{◌≡◌, ◌≢◌, ◌==◌, ◌≤◌, length, not, IfErr, IfOk, IsErrOf, OnOk};
+ghost use Rattle.std.specs.Prelude.{◌≡◌, ◌≢◌, ◌==◌, ◌≤◌, length, not, ⊤, IfErr, IfOk, IsErrOf, OnOk};
 ghost use Rattle.std.specs.List.{prefix_len};
 ghost use Rattle.std.specs.Io.KnownBytes.{Appends};
 ghost use Rattle.normalizer_io.specs.Transfer.{AppendsFront};
@@ -33,13 +33,14 @@ pub fn write_version<I: Inputs, W: Target, R: Reports>(
     reports: &mut R,
 ) -> u8
     ensures { IsVersionRun
-        (devices (I.bytes_of inputs.now) (I.cannot_open inputs.now) (I.read_refused inputs.now) W.bytes_taken W.refusal)
+        (devices (I.bytes_of inputs.now) (I.cannot_open inputs.now) (I.opened inputs.now) (I.read_refused inputs.now)
+        W.bytes_taken W.refusal)
         directory.now (state writer.old (R.reports reports.old) 0) (state writer.new (R.reports reports.new) result) }
 {
     match version_written(alloc, directory, inputs, writer) {
         Ok(()) => 0,
         Err(error) => {
-            tell(alloc, directory, error, reports);
+            tell(directory, error, reports);
             2
         }
     }
@@ -53,12 +54,14 @@ fn version_written<I: Inputs, W: Target>(
     writer: &mut W,
 ) -> Result<(), DataFault>
     ensures written { OnOk result (IsVersionAppended
-        (devices (I.bytes_of inputs.now) (I.cannot_open inputs.now) (I.read_refused inputs.now) W.bytes_taken W.refusal)
+        (devices (I.bytes_of inputs.now) (I.cannot_open inputs.now) (I.opened inputs.now) (I.read_refused inputs.now)
+        W.bytes_taken W.refusal)
         directory.now writer.old writer.new) }
     ensures why { IfErr result (λ e. IsFileFault (I.cannot_open inputs.now (path_of directory.now e.file))
-        (I.read_refused inputs.now (path_of directory.now e.file)) (W.refusal writer.old writer.new) e.fault) }
+        (I.read_refused inputs.now (path_of directory.now e.file)) (W.refusal writer.old writer.new) ⊤ e.fault) }
     ensures cut { IfErr result (λ e. e.fault ≡ Fault.Write → IsVersionCutOff
-        (devices (I.bytes_of inputs.now) (I.cannot_open inputs.now) (I.read_refused inputs.now) W.bytes_taken W.refusal)
+        (devices (I.bytes_of inputs.now) (I.cannot_open inputs.now) (I.opened inputs.now) (I.read_refused inputs.now)
+        W.bytes_taken W.refusal)
         directory.now writer.old writer.new) }
     ensures unwritten { IfErr result (λ e. e.fault ≢ Fault.Write → writer.new ≡ writer.old) }
 {
@@ -74,7 +77,7 @@ fn version_written<I: Inputs, W: Target>(
 fn text_written<W: Target>(alloc: Global, exclusions: &[u8], writer: &mut W) -> Result<(), Fault>
     ensures written { OnOk result
         (Appends (W.bytes_taken writer.old) (W.bytes_taken writer.new) (version_text exclusions.now)) }
-    ensures why { IfErr result (IsFileFault (λ _. ⊥) ⊥ (W.refusal writer.old writer.new)) }
+    ensures why { IfErr result (IsFileFault (λ _. ⊥) ⊥ (W.refusal writer.old writer.new) ⊤) }
     ensures cut { IsErrOf result Fault.Write →
         AppendsFront (W.bytes_taken writer.old) (W.bytes_taken writer.new) (version_text exclusions.now) }
     ensures unwritten { IfErr result (λ fault. fault ≢ Fault.Write → writer.new ≡ writer.old) }

@@ -2,7 +2,7 @@
 ghost use Rattle.std.specs.Prelude.{None, ⊤};
 
 use normalizer_command::devices::{Inputs, Reports};
-use normalizer_command::fault::{Fault, Message};
+use normalizer_command::message::Message;
 use normalizer_io::{DeviceError, Input, Source};
 use std::fs::{self, File};
 use std::io::{self, ErrorKind, Stdin};
@@ -39,6 +39,8 @@ impl Inputs for Named<'_> {
 
     ghost cannot_open = { λ _ _ _. ⊤ };
 
+    ghost opened = { λ _ _. ⊤ };
+
     ghost read_refused = { λ _ _. ⊤ };
 
     fn open(&self, name: &str) -> Result<Stream, ErrorKind> {
@@ -68,8 +70,7 @@ pub(crate) struct ErrorStream<'a>(pub(crate) &'a HostRuntime);
 impl Reports for ErrorStream<'_> {
     ghost reports = { λ _. None };
 
-    fn report(&mut self, name: &str, fault: Fault) {
-        let message = Message { name, fault };
+    fn report(&mut self, message: Message<'_>) {
         let _ = eprintln!(self.0; "uninorm: {message}");
     }
 }

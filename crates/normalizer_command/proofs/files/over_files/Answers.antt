@@ -8,7 +8,7 @@ pub returns-then-is_refused_write : goal.returns-then-is_refused_write
 returns-then-is_refused_write g c = λ w does.
     let outcome = c.over_file-outcome.result in
     let d = devices (g.I.Inputs.bytes_of c.args.inputs.now) (g.I.Inputs.cannot_open c.args.inputs.now)
-    (g.I.Inputs.read_refused c.args.inputs.now) g.W.Target.bytes_taken g.W.Target.refusal in
+    (g.I.Inputs.opened c.args.inputs.now) (g.I.Inputs.read_refused c.args.inputs.now) g.W.Target.bytes_taken g.W.Target.refusal in
     let done : IsDone d w (name_at c.args.names.now c.loop-name.name-index)
     (state c.loop-name.writer (g.R.Reports.reports c.loop-name.reports) c.loop-name.status)
     (state c.over_file-outcome.new.writer (g.R.Reports.reports c.tell.new.reports) c.greater-status.result) outcome
@@ -28,7 +28,7 @@ pub loop-name-preserved : goal.loop-name-preserved
 loop-name-preserved g c = λ w does end rest.
     let outcome = c.over_file-outcome.result in
     let d = devices (g.I.Inputs.bytes_of c.args.inputs.now) (g.I.Inputs.cannot_open c.args.inputs.now)
-    (g.I.Inputs.read_refused c.args.inputs.now) g.W.Target.bytes_taken g.W.Target.refusal in
+    (g.I.Inputs.opened c.args.inputs.now) (g.I.Inputs.read_refused c.args.inputs.now) g.W.Target.bytes_taken g.W.Target.refusal in
     let done : IsDone d w (name_at c.args.names.now c.loop-name.name-index)
     (state c.loop-name.writer (g.R.Reports.reports c.loop-name.reports) c.loop-name.status)
     (state c.over_file-outcome.new.writer (g.R.Reports.reports c.tell.new.reports) c.greater-status.result) outcome

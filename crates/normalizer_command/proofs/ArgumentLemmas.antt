@@ -1,0 +1,106 @@
+-- What words ask for, by what each is found to name.
+use Rattle.std.proofs.Common.{◌≡◌, ◌∷◌, ℕ, List, [], Option, Some, None, Result, Ok, Err, Bor, map, true, refl, option_map, unwrap_or, IfOk, IfErr, IfSome, is_some, false, sym, ◌↔◌, ap, inl, inr, ◌∙◌}
+use Rattle.clap.proofs.OnLiterals.{clap_on_literals}
+use Rattle.clap.specs.Matches.{found_of}
+use Rattle.clap.specs.Simple.{App, HasMatchesOf, is_simple, matches_of}
+use Rattle.clap.specs.Takes.{takes}
+use Rattle.clap.specs.Values.{kind_of}
+use Rattle.clap.specs.Walk.{Text, rows_of}
+use Rattle.clap.specs.declared.error.kind.ErrorKind.TheVariants.{OutOfMemory}
+use Rattle.clap.specs.declared.parser.matches.ArgMatches.{ArgMatches}
+use Rattle.clap.specs.declared.error.Error.{Error}
+use Rattle.normalizer_built.specs.declared.NormalForm.{NormalForm}
+use Rattle.normalizer_streams.specs.declared.scheme.EncodingScheme.{EncodingScheme}
+use Rattle.normalizer_replies.specs.declared.mapping.MapperTask.{MapperTask}
+use Rattle.normalizer_replies.specs.declared.reply.Task.{Task}
+use Rattle.normalizer_replies.specs.declared.reply.Task.TheVariants.{Write, Check, Locate}
+use Rattle.normalizer_replies.specs.declared.worker.Command.{Command}
+use Rattle.normalizer_replies.specs.declared.worker.Command.TheVariants.{OfForm, OfMapper}
+use Rattle.normalizer_command.specs.Arguments.{AreKnown, AsksFor, IsCommandWord, IsScheme, NamesForm, NamesMapperTask, NamesTask}
+use Rattle.normalizer_command.specs.CommandLine.{uninorm}
+
+differ : false ≡ true → ⊥
+differ e = let e = e in cc
+
+-- a task that is followed by a form
+pub asks_after : (task : Task) (word : List ℕ) (after names : List (List ℕ)) (encoding : Option (List ℕ)) (scheme : EncodingScheme) (form : NormalForm)
+    → NamesTask task word → ((first : List ℕ) × NamesForm form first × (after ≡ first ∷ names)) → IsScheme encoding scheme
+    → AsksFor word after encoding (OfForm task scheme form) names
+asks_after Write word after names encoding scheme form named first in_scheme = absurd named
+asks_after Check word after names encoding scheme form named first in_scheme = (named, first, in_scheme)
+asks_after Locate word after names encoding scheme form named first in_scheme = (named, first, in_scheme)
+
+-- a word that names nothing
+pub asks_for_nothing : (word : List ℕ) (after : List (List ℕ)) (encoding : Option (List ℕ)) → ((task : MapperTask) → NamesMapperTask task word → ⊥)
+    → ((form : NormalForm) → NamesForm form word → ⊥) → ((task : Task) → NamesTask task word → ⊥)
+    → (command : Command) (names : List (List ℕ)) → AsksFor word after encoding command names → ⊥
+asks_for_nothing word after encoding mapper form task (OfMapper t scheme) names asked = mapper t asked.0
+asks_for_nothing word after encoding mapper form task (OfForm Write scheme f) names asked = form f asked.0
+asks_for_nothing word after encoding mapper form task (OfForm Check scheme f) names asked = task Check asked.0
+asks_for_nothing word after encoding mapper form task (OfForm Locate scheme f) names asked = task Locate asked.0
+
+-- a value that a search by a word found, or missed
+pub found : {T : Type 0} {Names : T → Type 0} (result : Option T) → ((x : T) → (result ≡ Some x) ↔ Names x) → is_some result ≡ true
+    → (x : T) × Names x
+found (Some x) = λ names yes. (x, (names x).0 refl)
+found None = λ names yes. absurd (differ yes)
+
+pub missed : {T : Type 0} {Names : T → Type 0} (result : Option T) → ((x : T) → (result ≡ Some x) ↔ Names x) → is_some result ≡ false
+    → (x : T) → Names x → ⊥
+missed (Some y) = λ names no x named. differ (sym no)
+missed None = λ names no x named. let some : is_some (Some x) ≡ false = ap is_some (sym ((names x).1 named)) in differ (sym some)
+
+-- what is asked for has known words
+known_word : (word : Option (List ℕ)) (after : List (List ℕ)) (encoding : Option (List ℕ)) (command : Command) (names : List (List ℕ))
+    → AsksFor (unwrap_or word []) after encoding command names → IfSome word IsCommandWord
+known_word None after encoding command names asked = tt
+known_word (Some word) after encoding (OfMapper t scheme) names asked = inl (t, asked.0)
+known_word (Some word) after encoding (OfForm Write scheme f) names asked = inr (inr (f, asked.0))
+known_word (Some word) after encoding (OfForm Check scheme f) names asked = inr (inl (Check, asked.0))
+known_word (Some word) after encoding (OfForm Locate scheme f) names asked = inr (inl (Locate, asked.0))
+
+known_scheme : (word : List ℕ) (after : List (List ℕ)) (encoding : Option (List ℕ)) (command : Command) (names : List (List ℕ))
+    → AsksFor word after encoding command names → (scheme : EncodingScheme) × IsScheme encoding scheme
+known_scheme word after encoding (OfMapper t scheme) names asked = (scheme, asked.2)
+known_scheme word after encoding (OfForm Write scheme f) names asked = (scheme, asked.2)
+known_scheme word after encoding (OfForm Check scheme f) names asked = (scheme, asked.2)
+known_scheme word after encoding (OfForm Locate scheme f) names asked = (scheme, asked.2)
+
+pub asks_by_known_words : (word : Option (List ℕ)) (after : List (List ℕ)) (encoding : Option (List ℕ)) (command : Command) (names : List (List ℕ))
+    → AsksFor (unwrap_or word []) after encoding command names → AreKnown word encoding
+asks_by_known_words word after encoding command names asked =
+    (known_word word after encoding command names asked, known_scheme (unwrap_or word []) after encoding command names asked)
+
+pub known_by : (word word' encoding encoding' : Option (List ℕ)) → word ≡ word' → encoding ≡ encoding' → AreKnown word encoding → AreKnown word' encoding'
+known_by word word' encoding encoding' e f known = rw (← e, ← f) known
+
+pub asks_the_same : (word word' : List ℕ) (after after' : List (List ℕ)) (encoding encoding' : Option (List ℕ)) (command : Command) (names : List (List ℕ))
+    → word ≡ word' → after ≡ after' → encoding ≡ encoding' → AsksFor word after encoding command names → AsksFor word' after' encoding' command names
+asks_the_same word word' after after' encoding encoding' command names e f g asked = rw (← e, ← f, ← g) asked
+
+-- a value or another, behind references
+pub now_or : {T : Type 0} (found : Option (Bor T)) (other : Bor T) → (unwrap_or found other).now ≡ unwrap_or (option_map (λ x. x.now) found) other.now
+now_or (Some x) other = refl
+now_or None other = refl
+
+pub list_or : {T : Type 0} (found : Option (Bor (List (Bor T)))) (other : Bor (List (Bor T)))
+    → map (λ x. x.now) (unwrap_or found other).now ≡ unwrap_or (option_map (λ xs. map (λ x. x.now) xs.now) found) (map (λ x. x.now) other.now)
+list_or (Some x) other = refl
+list_or None other = refl
+
+is_simple_uninorm : is_simple uninorm ≡ true
+unfolding clap_on_literals
+is_simple_uninorm = refl
+
+-- the matches of the program's arguments
+pub rows_are : (a : App) (words : List Text) (r : Result ArgMatches Error) → a ≡ uninorm → IfOk r (HasMatchesOf a words)
+    → IfOk r (λ m. rows_of (found_of m) ≡ matches_of uninorm words)
+rows_are a words (Ok m) e has = (rw e at has is_simple_uninorm).0
+rows_are a words (Err x) e has = tt
+
+-- words that they take are refused only for memory
+pub taken_are : (a : App) (words : List Text) (r : Result ArgMatches Error) → a ≡ uninorm
+    → IfErr r (λ error. takes a words ≡ true → kind_of error ≡ OutOfMemory)
+    → IfErr r (λ error. takes uninorm words ≡ true → kind_of error ≡ OutOfMemory)
+taken_are a words (Ok m) e passes = tt
+taken_are a words (Err x) e passes = λ taken. passes (ap (λ b. takes b words) e ∙ taken)
