@@ -1,3 +1,4 @@
+pub mod Covers
 pub mod Cuts
 pub mod Heads
 pub mod Loop

@@ -41,7 +41,7 @@ module _ {X : Type 0} (first end : X → ℕ) where
   -- what is read of each part is within what is read before and after it
   pub read_within : {S A : Type 0} (at : S → ℕ) (read : ℕ → S → A → Result (S × Option X) LineFault) →
       ((n : ℕ) (s t : S) (a : A) (found : Option X) → read n s a ≡ Ok (t, found) →
-          IsWithin (at s) (at t) (option_to_list found)) →
+      IsWithin (at s) (at t) (option_to_list found)) →
       (n : ℕ) (s t : S) (parts : List A) (xs : List X) → read_each read n s parts ≡ Ok (t, xs) → IsWithin (at s) (at t) xs
   unfolding read_each
   read_within {S} at read step n s t [] xs h =

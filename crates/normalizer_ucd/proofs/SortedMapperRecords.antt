@@ -40,7 +40,7 @@ chosen false false false e f g last end h = (refl, refl, cc)
 ends : (at : Place) (next first last end : ℕ) → end_of at next first last ≡ Ok end → (next ≤ first) × (first + 1 ≤ end)
 ends at next first last end h =
     let all = chosen (nat_lt first next) (nat_lt next first) (nat_lt last first) (fault at problems.Order)
-        (fault at problems.Gap) (fault at problems.Order) (last + 1) end h in
+    (fault at problems.Gap) (fault at problems.Order) (last + 1) end h in
     let after : next ≤ first = ltb-false first next all.0 in
     let fits : first ≤ last = ltb-false last first all.1 in
     let is = all.2 in
@@ -125,8 +125,8 @@ of_lines choice parts ranges h =
     let full = bound (full_end read.value.0) _ _ read.then_is in
     let same : read.value.1 ≡ ranges = cc in
     let within : AreRanges 0 read.value.0.end read.value.1 =
-        read_within (λ r. r.first) (λ r. r.end) (λ c. c.end) (read_line choice) (line_within choice) 1 start
-        read.value.0 parts read.value.1 (let e = read.is in cc) in
+    read_within (λ r. r.first) (λ r. r.end) (λ c. c.end) (read_line choice) (line_within choice) 1 start
+    read.value.0 parts read.value.1 (let e = read.is in cc) in
     subst (λ (rs : List RangeStatus). AreMapperRising (flat_map entries_of rs)) same
     (rising character 0 read.value.0.end (flat_map entries_of read.value.1)
     (of_ranges 0 read.value.0.end read.value.1 within))

@@ -42,7 +42,7 @@ steps : (at : Place) (position next : Position) (code : ℕ) (part : Part) → s
     Steps position next code
 steps at position next code part h =
     let both = chosen (nat_lt code position.next) (beq position.is_open (is_last part)) (fault at problems.Order)
-        (fault at problems.Range) (record { next = code + 1; is_open = is_first part; line = at.line }) next h in
+    (fault at problems.Range) (record { next = code + 1; is_open = is_first part; line = at.line }) next h in
     record { after = ltb-false code position.next both.0; next_is = let e = both.1 in cc }
 
 -- what a line that is for one character records is of it; other lines record nothing

@@ -1,8 +1,8 @@
 -- IdnaMappingTable.txt: what is done with the characters of each range (Unicode Technical Standard #46, section 5).
-use Rattle.std.specs.Prelude.{ℕ, ◌+◌, ◌-◌, ◌==◌, nat_lt, Bool, true, List, [], ◌∷◌, length, codes}
+use Rattle.std.specs.Prelude.{ℕ, ◌+◌, ◌-◌, ◌==◌, ◌<◌, ◌≤◌, Contains, IsSomeAnd, nat_lt, Bool, true, List, [], ◌∷◌, length, codes}
 use Rattle.std.specs.Prelude.{Option, Some, None, Result, Ok, Err, if◌then◌else◌}
 use Rattle.std.specs.Str.{bytes_eq}
-use Rattle.std.specs.Option.{ok_or, option_map}
+use Rattle.std.specs.Option.{ok_or, option_and_then, option_map}
 use Rattle.std.specs.List.{flat_map, list_any, before_first, after_first, range_with_len}
 use Rattle.normalizer_records.specs.RecordValue.{Uts46RecordValue, Status, MapsTo, IsIgnored, IsDisallowed}
 use Rattle.normalizer_ucd.specs.declared.error.LineFault.{LineFault}
@@ -15,7 +15,7 @@ use Rattle.normalizer_ucd.specs.declared.idna_table.StatusName.{StatusName}
 use Rattle.normalizer_ucd.specs.declared.idna_table.StatusName.TheVariants as names
 use Rattle.normalizer_ucd.specs.FallibleReads.{◌>>=◌, fault, read_each}
 use Rattle.normalizer_ucd.specs.declared.idna_table.Covered.{Covered}
-use Rattle.normalizer_ucd.specs.Fields.{lines, data_of, code_point, is_scalar_value, characters}
+use Rattle.normalizer_ucd.specs.Fields.{lines, data_of, field, code_point, is_scalar_value, characters}
 use Rattle.normalizer_ucd.specs.UnicodeData.{field_of}
 use Rattle.normalizer_ucd.specs.Versions.{agree, stated_in}
 use Rattle.normalizer_ucd.specs.Wholes.{whole_lines}
@@ -129,7 +129,7 @@ read_line choice n covered line =
       read ← read_fields choice (place n) covered.end (data_of line)
       Ok (record { end = read.0; line = n }, read.1)
 
--- the ranges are all code points
+-- no code point is left after the lines
 abbrev pub full_end : Covered → Result (Unit {0}) LineFault
 full_end covered = if covered.end == 0x110000 then Ok tt else Err (fault (place covered.line) problems.TooShort)
 
@@ -146,6 +146,16 @@ entries_at status c = if is_scalar_value c then record { c = c; status = status 
 -- a record for each character of a range
 unfoldable pub entries_of : RangeStatus → List Uts46RecordValue
 entries_of r = flat_map (entries_at r.status) (range_with_len r.first (r.end - r.first))
+
+-- the range of the first field has the code point
+abbrev pub Lists : List ℕ → ℕ → Type 0
+Lists line c =
+    IsSomeAnd (option_and_then (λ text. code_point (before_stop text)) (field (data_of line) 0)) (λ first. first ≤ c)
+    × IsSomeAnd (option_and_then (λ text. code_point (last_text text)) (field (data_of line) 0)) (λ last. c ≤ last)
+
+-- each code point is listed by a line
+abbrev pub ListsAll : List (List ℕ) → Type 0
+ListsAll parts = (c : ℕ) → c < 0x110000 → (line : List ℕ) × Contains parts line × Lists line c
 
 -- the records that the lines of a table say
 unfoldable pub uts46_records_in : Disallowed → List (List ℕ) → Result (List Uts46RecordValue) LineFault

@@ -26,7 +26,9 @@ ghost use Rattle.normalizer_ucd.specs.IdnaTable.{
   uts46_records_beside,
   uts46_records_in,
   uts46_records_of,
+  ListsAll,
 };
+ghost use Rattle.normalizer_ucd.specs.Fields.{lines};
 ghost use Rattle.normalizer_ucd.specs.FallibleReads.{Gives};
 
 use crate::error::{Place, Problem, UcdError, UcdFile};
@@ -98,7 +100,8 @@ pub fn uts46_records_of_idna_table(
     table: &[u8],
     disallowed: Disallowed,
 ) -> Result<Vec<Uts46Record>, UcdError>
-    ensures { Gives (λ v. v.items) result (uts46_records_of disallowed table.now) }
+    ensures records { Gives (λ v. v.items) result (uts46_records_of disallowed table.now) }
+    ensures whole { OnOk result (ListsAll (lines table.now)) }
 {
     let lines = whole_lines(alloc, UcdFile::IdnaMappingTable, table)?;
     uts46_records_in(alloc, disallowed, &lines)
@@ -116,7 +119,9 @@ pub fn uts46_records_beside_exclusions(
     table: &[u8],
     disallowed: Disallowed,
 ) -> Result<Vec<Uts46Record>, UcdError>
-    ensures { Gives (λ v. v.items) result (uts46_records_beside composition_exclusions.now disallowed table.now) }
+    ensures records { Gives (λ v. v.items) result
+        (uts46_records_beside composition_exclusions.now disallowed table.now) }
+    ensures whole { OnOk result (ListsAll (lines table.now)) }
 {
     let parts = whole_lines(alloc, UcdFile::IdnaMappingTable, table)?;
     let listed = lines(alloc, composition_exclusions)?;
