@@ -18,7 +18,8 @@ pub use normalizer_builder::laws::{
 /// A decomposing normalizer makes the decomposing form, using its data, which satisfy the hypotheses of the laws of that
 /// form.
 pub fn laws_hold_of_decomposing<'a>(normalizer: &DecomposingNormalizerBorrowed<'a>)
-    ensures form { ⟦<DecomposingForm<'a> as Forming>⟧.made_form normalizer.now.form ≡ decomposed_by normalizer.now }
+    ensures form { ⟦<DecomposingForm<'a> as Forming>⟧.made_form normalizer.now.form
+        ≡ decomposed_by normalizer.now }
     ensures laws { SuitsTexts (decomposed_by normalizer.now).reading Decomposing }
 {}
 

@@ -190,7 +190,8 @@ fn read_marks<U: Units>(
         ≡ reordered_text d waiting.new []) }
     ensures classes { OnOk result (AgreesWith (reading_by characters.now ignored []) waiting.new) }
     ensures room { HasRoomForMarks characters.now ignored waiting.old
-        (decoded_in U.encoding (drop position (U.units units))) → IsOk result × (item_count waiting.new ≤ buffer_limit) }
+        (decoded_in U.encoding (drop position (U.units units)))
+        → IsOk result × (item_count waiting.new ≤ buffer_limit) }
 {
     let mut place = position;
     while place < units.len() {
