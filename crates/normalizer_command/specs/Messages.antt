@@ -1,5 +1,6 @@
 -- What is printed of a file that failed.
-use Rattle.std.specs.Prelude.{ℕ, List, ◌∷◌, ◌++◌, codes, Option, Some, None, option_map, option_copied}
+use Rattle.std.specs.Prelude.{ℕ, List, ◌∷◌, ◌++◌, codes, decimal, Option, Some, None, option_map, option_copied}
+use Rattle.normalizer_ucd.specs.Messages.{text_of_problem}
 use Rattle.std.specs.declared.io.ErrorKind.TheVariants.{NotFound}
 use Rattle.normalizer_command.specs.FileReports.{Report}
 use Rattle.normalizer_command.specs.declared.fault.Fault.{Fault}
@@ -22,7 +23,8 @@ text_of_fault (Open kind) = None
 text_of_fault Read = Some (codes "it can't be read")
 text_of_fault Write = Some (codes "it can't be written")
 text_of_fault Memory = Some (codes "out of memory")
-text_of_fault (Line fault) = None
+text_of_fault (Line fault) =
+    Some (codes "line " ++ (decimal fault.place.line ++ (codes ": " ++ text_of_problem fault.problem)))
 text_of_fault (Records error) = None
 
 -- what a report is of: the file, or standard output if a write was refused
