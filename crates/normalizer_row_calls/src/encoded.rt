@@ -196,8 +196,9 @@ fn holds<I: Iterator<Item = char> + Drop>(
     requires ends { IsFinite (I.remaining sink) }
 {
     for wanted in before.chars() {
-        if sink.next() != Some(wanted) {
-            return Ok(false);
+        match sink.next() {
+            Some(found) if found == wanted => {}
+            _ => return Ok(false),
         }
     }
     match written {
