@@ -1,6 +1,4 @@
 //! What the calls of a normalizer return for an input, in each of the three encodings.
-ghost use Rattle.std.specs.Iterator.{IsFinite};
-
 use icu_normalizer::{NormalizeError, Offence, Utf8Chars, Utf16Chars};
 use normalizer_row_data::normalizer::Normalizer;
 use normalizer_row_words::fault::Fault;
@@ -34,7 +32,7 @@ pub trait Encoded: Copy {
     fn is_returned(self, normalizer: &Normalizer, form: &[char]) -> Result<bool, Fault>;
 
     /// Whether the form is written to a sink after what is there. A refused write leaves a beginning of it. Besides the
-    /// sink this allocates nothing else.
+    /// sink, and a text of 16-bit units, this allocates nothing else.
     fn is_written(
         self,
         alloc: Global,
@@ -185,41 +183,26 @@ macro_rules! yielded {
 /// What a sink holds before the form is written to it.
 const BEFORE: &str = "held: ";
 
-/// Whether a sink with these characters holds all of the form after what was there, or after a fault a beginning of it.
-fn holds<I: Iterator<Item = char> + Drop>(
+/// Whether a sink holds all of the form after what was there, or after a fault a beginning of it.
+fn holds(
     written: Result<(), NormalizeError>,
-    mut sink: I,
+    sink: &str,
     before: &str,
     form: &[char],
-) -> Result<bool, Fault>
-    requires can { I.can_next sink }
-    requires ends { IsFinite (I.remaining sink) }
-{
-    for wanted in before.chars() {
-        if sink.next() != Some(wanted) {
-            return Ok(false);
-        }
-    }
+) -> Result<bool, Fault> {
+    let Some(after) = sink.strip_prefix(before) else {
+        return Ok(false);
+    };
+    let is_beginning = after
+        .chars()
+        .zip(form.iter().copied())
+        .all(|(found, wanted)| found == wanted);
+    let count = after.chars().count();
     match written {
-        Ok(()) => Ok(sink.eq(form.iter().copied())),
-        Err(_) if is_beginning(sink, form) => Err(Fault::Memory),
+        Ok(()) => Ok(is_beginning && count == form.len()),
+        Err(_) if is_beginning && count <= form.len() => Err(Fault::Memory),
         Err(_) => Ok(false),
     }
-}
-
-/// Whether characters are a beginning of a form.
-fn is_beginning<I: Iterator<Item = char> + Drop>(characters: I, form: &[char]) -> bool
-    requires can { I.can_next characters }
-    requires ends { IsFinite (I.remaining characters) }
-{
-    let mut left = form;
-    for found in characters {
-        match left {
-            [wanted, rest @ ..] if *wanted == found => left = rest,
-            _ => return false,
-        }
-    }
-    true
 }
 
 fn characters(alloc: Global, form: &CowStr<'_, Global>) -> Result<(Vec<char>, bool), Fault> {
@@ -250,7 +233,7 @@ impl Encoded for &str {
     ) -> Result<bool, Fault> {
         let mut sink = String::from_str(alloc, before)?;
         let written = called!(normalizer, normalize_to(self, &mut sink));
-        holds(written, sink.chars(), before, form)
+        holds(written, &sink, before, form)
     }
 
     fn is_yielded(self, normalizer: &Normalizer, form: &[char]) -> Result<bool, Fault> {
@@ -302,7 +285,7 @@ impl Encoded for &[u8] {
     ) -> Result<bool, Fault> {
         let mut sink = String::from_str(alloc, before)?;
         let written = called!(normalizer, normalize_utf8_to(self, &mut sink));
-        holds(written, sink.chars(), before, form)
+        holds(written, &sink, before, form)
     }
 
     fn is_yielded(self, normalizer: &Normalizer, form: &[char]) -> Result<bool, Fault> {
@@ -355,7 +338,7 @@ impl Encoded for &[u16] {
     ) -> Result<bool, Fault> {
         let mut sink: Vec<u16> = before.encode_utf16().collect(alloc)?;
         let written = called!(normalizer, normalize_utf16_to(self, &mut sink));
-        Ok(is_utf16(&sink) && holds(written, Utf16Chars::new(&sink), before, form)?)
+        holds(written, &text_of_units(alloc, &sink)?, before, form)
     }
 
     fn is_yielded(self, normalizer: &Normalizer, form: &[char]) -> Result<bool, Fault> {
@@ -388,7 +371,10 @@ fn is_utf16(units: &[u16]) -> bool {
 
 /// The text of units, if these are its UTF-16.
 fn text_of_units(alloc: Global, units: &[u16]) -> Result<String, Fault> {
-    let text: String = Utf16Chars::new(units).collect(alloc)?;
+    let mut text = String::new(alloc);
+    for c in Utf16Chars::new(units) {
+        text.push(c)?;
+    }
     if text.encode_utf16().eq(units.iter().copied()) {
         Ok(text)
     } else {
