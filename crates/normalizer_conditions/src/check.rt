@@ -2,11 +2,17 @@
 ghost use Rattle.std.specs.Prelude.{◌≡◌, ◌↔◌, ◌≤◌, IsTrue, IsOk, IfErr, All};
 ghost use Rattle.std.specs.Char.{IsScalar};
 ghost use Rattle.std.specs.List.{Contains, list_any};
-ghost use Rattle.normalizer_tables.specs.Conditions.{IsFirstFailing, IsMet, IsPlaceOfFirstFailing};
+ghost use Rattle.normalizer_tables.specs.Conditions.{IsFirstFailing, IsMet};
 ghost use Rattle.normalizer_conditions.specs.Refusals.{RefusesFirstFailing};
 ghost use Rattle.normalizer_tables.specs.Table.{code_points};
 ghost use Rattle.normalizer_tables.specs.declared.condition.Condition.TheVariants as condition;
-ghost use Rattle.normalizer_conditions.specs.inner.Walk.{IsEndOfEqualWords, IsMetApart, IsMetAt, is_asked_of_words};
+ghost use Rattle.normalizer_conditions.specs.inner.Walk.{
+  is_asked_of_words,
+  IsEndOfEqualWords,
+  IsMetApart,
+  IsMetAt,
+  IsPlaceOfFirstFailing,
+};
 
 use crate::check::met::{is_met_apart, is_met_at};
 use crate::loaded::LoadedData;

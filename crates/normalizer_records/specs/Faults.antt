@@ -220,13 +220,3 @@ IsFirstRefusal records uts46 (Some e) =
 -- the first refusal, unless memory was refused
 abbrev pub IsRefusal : List RecordValue → List Uts46RecordValue → BuildError → Type 0
 IsRefusal records uts46 e = (e ≡ Memory) ⊎ IsFirstRefusal records uts46 (Some e)
-
--- the smallest of those past the second that are so
-abbrev pub first_among : Bool → Bool → Bool → Bool → Bool → Option BuildError
-first_among class mapping chain long pair =
-    if class then Some Class
-    else if mapping then Some Mapping
-    else if chain then Some Chain
-    else if long then Some Length
-    else if pair then Some Pair
-    else None

@@ -1,5 +1,6 @@
 -- What the contracts of private functions alone cite.
 pub mod Chains
 pub mod CutLists
+pub mod FirstFaults
 pub mod Lookup
 pub mod SortedPairs

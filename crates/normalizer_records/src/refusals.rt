@@ -5,10 +5,10 @@ ghost use Rattle.std.specs.List.{list_any};
 ghost use Rattle.std.specs.Ordering.{nat_cmp};
 ghost use Rattle.normalizer_records.specs.inner.Chains.{IsSetOf};
 ghost use Rattle.normalizer_records.specs.inner.CutLists.{HasRoom, IsOfSome};
+ghost use Rattle.normalizer_records.specs.inner.FirstFaults.{first_among};
 ghost use Rattle.normalizer_records.specs.Faults.{
   AreMapperRising,
   AreRising,
-  first_among,
   has_fixed_fault,
   HasLongList,
   HasWrongClass,

@@ -74,12 +74,6 @@ IsMet d SurrogateClasses = (n : ℕ) → is_surrogate n ≡ true → is_class_fo
 IsMet d WordClasses = (n : ℕ) → IsScalar n → IsSoundClass n (word_of d.characters n)
 IsMet d PairOrder = IfSome d.pairs AreSoundPairs
 
--- the place of the first condition that fails, or their number if none does
-pub record IsPlaceOfFirstFailing (holds : Condition → Type 0) (conditions : List Condition) (place : ℕ) : Type 0 where
-  pub within : place ≤ length conditions
-  pub before : AllWithin holds conditions 0 place
-  pub fails : (c : Condition) → slice_get conditions place ≡ Some c → ¬ holds c
-
 -- no condition of the list fails, or this one does, and none before it
 unfoldable pub IsFirstFailing : {C : Type 0} → (C → Type 0) → List C → Option C → Type 0
 IsFirstFailing holds conditions None = All holds conditions

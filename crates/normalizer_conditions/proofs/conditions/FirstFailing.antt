@@ -12,9 +12,9 @@ use Rattle.std.specs.Char.{IsScalar}
 use Rattle.normalizer_tables.specs.declared.condition.Condition.{Condition}
 use Rattle.normalizer_tables.specs.declared.condition.Condition.TheVariants.{Hangul}
 use Rattle.normalizer_tables.specs.CharacterConditions.{IsSoundHangul}
-use Rattle.normalizer_tables.specs.Conditions.{IsFirstFailing, IsMet, IsPlaceOfFirstFailing}
+use Rattle.normalizer_tables.specs.Conditions.{IsFirstFailing, IsMet}
 use Rattle.normalizer_tables.specs.Loaded.{Loaded}
-use Rattle.normalizer_conditions.specs.inner.Walk.{is_asked_of_words, IsMetApart, IsMetAt}
+use Rattle.normalizer_conditions.specs.inner.Walk.{is_asked_of_words, IsMetApart, IsMetAt, IsPlaceOfFirstFailing}
 use Rattle.normalizer_tables.proofs.lists.ListedLemmas.{drop_member}
 use Rattle.normalizer_conditions.proofs.conditions.LoadedLemmas.{IsMet-parts, IsMetAt-unasked}
 

@@ -1,5 +1,6 @@
 -- How the check goes over the numbers, from one word that isn't 0 to the next, and what it checks of all others before.
-use Rattle.std.specs.Prelude.{◌≡◌, ℕ, ◌+◌, ◌-◌, ◌/◌, ◌<◌, ◌≤◌, Bool, true, false, List, [], All, IfSome}
+use Rattle.std.specs.Prelude.{◌≡◌, ℕ, ◌+◌, ◌-◌, ◌/◌, ◌<◌, ◌≤◌, Bool, true, false, List, [], All, IfSome, Some, length, slice_get}
+use Rattle.std.specs.List.{AllWithin}
 use Rattle.std.specs.Char.{IsScalar}
 use Rattle.normalizer_tables.specs.declared.condition.Bounds.{Bounds}
 use Rattle.normalizer_tables.specs.declared.condition.Condition.{Condition}
@@ -74,3 +75,9 @@ is_asked_of_words FdfaForms = true
 is_asked_of_words Steps = true
 is_asked_of_words WordClasses = true
 is_asked_of_words _ = false
+
+-- the place of the first condition that fails, or their number if none does
+pub record IsPlaceOfFirstFailing (holds : Condition → Type 0) (conditions : List Condition) (place : ℕ) : Type 0 where
+  pub within : place ≤ length conditions
+  pub before : AllWithin holds conditions 0 place
+  pub fails : (c : Condition) → slice_get conditions place ≡ Some c → ¬ holds c

@@ -7,12 +7,13 @@ use Rattle.std.specs.Ordering.{nat_cmp}
 use Rattle.std.proofs.lemmas.List.Elements.{All-cons, All-contains}
 use Rattle.std.proofs.lemmas.List.Folds.{Any-from_list_any, list_any_at}
 use Rattle.normalizer_records.specs.Meaning.{status_of}
+use Rattle.normalizer_records.specs.inner.FirstFaults.{first_among}
 use Rattle.normalizer_records.specs.inner.Chains.{IsSetOf}
 use Rattle.std.proofs.lemmas.Bool.{true≢false}
 use Rattle.normalizer_records.specs.declared.records.BuildError.{BuildError}
 use Rattle.normalizer_records.specs.declared.records.BuildError.TheVariants.{Order, Fixed, Class, Mapping, Chain, Length, Pair, Unfit, TableFull, Memory}
 use Rattle.normalizer_records.specs.RecordValue.{RecordValue, Uts46RecordValue}
-use Rattle.normalizer_records.specs.Faults.{HasFault, has_fixed_fault, has_mapping_fault, HasClassFault, HasLengthFault, HasPairFault, first_among, rank_of, IsFirstRefusal, HasOrderFault}
+use Rattle.normalizer_records.specs.Faults.{HasFault, has_fixed_fault, has_mapping_fault, HasClassFault, HasLengthFault, HasPairFault, rank_of, IsFirstRefusal, HasOrderFault}
 use Rattle.normalizer_records.specs.Faults.{HasChainFault, AreRising, AreMapperRising, IsAsked, IsOnLongChain, mapped_to}
 
 some_rank : (e : BuildError) → 0 < rank_of e

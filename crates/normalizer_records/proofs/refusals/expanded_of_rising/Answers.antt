@@ -1,10 +1,11 @@
 use Rattle.std.proofs.Common.{◌≡◌, ◌↔◌, ℕ, Bool, false, List, All, Contains, length, IsTrue, None, inr, sym, subst}
 use Rattle.normalizer_records.specs.declared.records.BuildError.TheVariants.{Pair}
 use Rattle.normalizer_records.specs.RecordValue.{RecordValue, Uts46RecordValue}
-use Rattle.normalizer_records.specs.Faults.{AreRising, AreMapperRising, first_among, has_fixed_fault, has_mapping_fault, HasChainFault, HasFault, HasLongList, HasPairFault, HasWrongClass, IsAsked}
+use Rattle.normalizer_records.specs.Faults.{AreRising, AreMapperRising, has_fixed_fault, has_mapping_fault, HasChainFault, HasFault, HasLongList, HasPairFault, HasWrongClass, IsAsked}
 use Rattle.normalizer_records.specs.Faults.{IsFirstRefusal}
 use Rattle.normalizer_records.specs.Recorded.{recorded_characters}
 use Rattle.normalizer_records.specs.inner.CutLists.{IsOfSome}
+use Rattle.normalizer_records.specs.inner.FirstFaults.{first_among}
 use Rattle.normalizer_records.proofs.checked_lists.OrLemmas.{iff_trans}
 use Rattle.normalizer_records.proofs.record_faults.PairFaultLemmas.{decides}
 use Rattle.normalizer_records.proofs.record_faults.RefusalLemmas.{first_among-is}
