@@ -8,9 +8,9 @@ use thiserror::Error;
 /// Why nothing more is compared.
 #[derive(Debug, Drop, Error)]
 pub enum Fault {
-    #[error("the arguments or a line of the test file can't be read")]
+    #[error("the arguments or a line of NormalizationTest.txt can't be read")]
     Unreadable,
-    #[error("the test file is cut off: its last line is not `# EOF`")]
+    #[error("NormalizationTest.txt is cut off: its last line is not `# EOF`")]
     CutOff,
     #[error("{0}")]
     File(#[from] UcdError),
