@@ -1,6 +1,6 @@
 -- What an iterator yields whose calls may fail: the characters of a text, a fault, the end.
 use Rattle.std.specs.Prelude.{◌≡◌, ℕ, Bool, List, [], ◌∷◌, map, Option, Some, None, Result, Ok, Err, All, MatchOption}
-use Rattle.std.specs.Prelude.{MatchResult, IfOk, IsOkAnd, IsOkUnless}
+use Rattle.std.specs.Prelude.{MatchResult, IfOk, IfErr, IsOkAnd}
 use Rattle.std.specs.Iterator.{Drains, Yields, YieldsThen}
 use Rattle.normal_forms.specs.Cut.{IsFront}
 use Rattle.normal_forms.specs.Reading.{Reading}
@@ -52,11 +52,12 @@ module _ {I S : Type 0} (source_gives : I → Option ℕ → I → Type 0)
     pub fault : (out : List ℕ) (e : NormalizeError) (now : S) → YieldsThen gives it (map Ok out) (Some (Err e)) now
         → (e ≡ Memory) × HasEnded gives now × HasYieldedLong source_gives has_class_form d source
 
-  -- the form of each text that the source spells, unless memory is refused, which it never is over short runs
+  -- The form of each text that the source spells, unless memory is refused, which it never is over short runs. If it is
+  -- refused when the iterator is made, what the source yielded then has no short runs.
   pub record YieldsForm (has_class_form : ℕ → Bool) (d : Reading) (form : Reading → List ℕ → List ℕ) (source : I)
       (made : Result S NormalizeError) : Type 0 where
     pub text : IfOk made (λ it. (x : List ℕ) → Spells source_gives source x → SpellsUnless gives Memory it (form d x))
     pub short : (x : List ℕ) → Spells source_gives source x → HasShortRuns has_class_form d x
         → IsOkAnd made (λ it. SpellsOk gives it (form d x))
     pub run : IfOk made (YieldsFormOfRun has_class_form d (form d) source)
-    pub refused : IsOkUnless made Memory
+    pub refused : IfErr made (λ e. (e ≡ Memory) × HasYieldedLong source_gives has_class_form d source)

@@ -1,6 +1,6 @@
 //! Composing text character by character (The Unicode Standard, D117, D120 and D121).
 ghost use Rattle.std.specs.Prelude.{◌≡◌, ◌<◌, ◌≤◌, ℕ, List, [], Option, None, IfErr, OnErr, IfOk};
-ghost use Rattle.std.specs.Prelude.{IsOk, IsOkUnless};
+ghost use Rattle.std.specs.Prelude.{IsOk};
 ghost use Rattle.std.specs.Iterator.{at_most, IsFinite, MakesProgress};
 ghost use Rattle.normal_forms.specs.Forms.{nfc};
 ghost use Rattle.normal_forms.specs.CompositionByStarters.{join};
@@ -99,7 +99,8 @@ impl<'data, I: Iterator<Item = char> + Drop> Composition<'data, I> {
         ensures ready { IfOk result (CanCompose I.can_next I.remaining) }
         ensures kept { IfOk result (λ it.
             (data_of_composition it ≡ characters.entry) × (pairs_of_composition it ≡ pairs.now)) }
-        ensures refused { IsOkUnless result NormalizeError.Memory }
+        ensures refused { IfErr result (λ e. (e ≡ NormalizeError.Memory)
+            × HasYieldedLongBy I.next_gives characters.entry ignored delegate) }
     {
         let marks = StayingMarks::new(characters.allocator());
         Ok(Composition {

@@ -1,6 +1,6 @@
 //! Decomposing text character by character (The Unicode Standard, D118 and D119).
 ghost use Rattle.std.specs.Prelude.{◌≡◌, ℕ, List, [], None, false, Ok, IfOk, IfErr, IfSome, OnOk, OnErr, IsOk};
-ghost use Rattle.std.specs.Prelude.{IsOkUnless, IsTrue};
+ghost use Rattle.std.specs.Prelude.{IsTrue};
 ghost use Rattle.std.specs.Option.{ForSome};
 ghost use Rattle.std.specs.Iterator.{at_most, IsFinite, MakesProgress};
 ghost use Rattle.normal_forms.specs.Forms.{nfd};
@@ -108,7 +108,8 @@ impl<'data, I: Iterator<Item = char> + Drop> Decomposition<'data, I> {
         ensures succeeds { IfShortRuns I.next_gives characters.entry ignored delegate (IsOk result) }
         ensures ready { IfOk result (CanDecompose I.can_next I.remaining) }
         ensures kept { IfOk result (λ it. (it.characters ≡ characters.entry) × (it.ignored ≡ ignored)) }
-        ensures refused { IsOkUnless result NormalizeError.Memory }
+        ensures refused { IfErr result (λ e. (e ≡ NormalizeError.Memory)
+            × HasYieldedLongBy I.next_gives characters.entry ignored delegate) }
     {
         let mut waiting = WaitingList::new(characters.allocator());
         let first = read_from(&characters, 0, delegate.next());

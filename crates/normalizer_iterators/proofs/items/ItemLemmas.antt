@@ -1,5 +1,5 @@
 -- What an iterator of normalized text yields, by what it has still to yield.
-use Rattle.std.proofs.Common.{◌≡◌, ℕ, Bool, IfOk, IsOk, IsOkUnless, List, [], ◌∷◌, ◌++◌, map, Option, Some}
+use Rattle.std.proofs.Common.{◌≡◌, ℕ, Bool, IfOk, IfErr, IsOk, List, [], ◌∷◌, ◌++◌, map, Option, Some}
 use Rattle.std.proofs.Common.{None, Result, Ok, Err, All, MatchOption, MatchResult, option_to_list, refl, sym, ap, subst, append-nil, ◌∙◌}
 use Rattle.std.proofs.lemmas.List.Elements.{All-nil, All-cons, All-head, All-tail}
 use Rattle.std.specs.Iterator.{Yields}
@@ -219,7 +219,7 @@ module _ {I S : Type 0} (source_gives : I → Option ℕ → I → Type 0) (Will
   pub YieldsForm-made : (IsMade : S → Type 0) → ((it : S) → IsMade it → YieldsFormOfRun source_gives steps f d (form d) source it)
       → (IsShort : List ℕ → Type 0) → ((x : List ℕ) → HasShortRuns f d x → IsShort x) → (made : Result S NormalizeError)
       → IfOk made (λ it. (x : List ℕ) → Spells source_gives source x → WillYield it (form d x)) → IfOk made (λ it. (x : List ℕ) → Spells source_gives source x → IsShort x → StaysShort it)
-      → ((x : List ℕ) → Spells source_gives source x → IsShort x → IsOk made) → IfOk made IsMade → IsOkUnless made Memory
+      → ((x : List ℕ) → Spells source_gives source x → IsShort x → IsOk made) → IfOk made IsMade → IfErr made (λ e. (e ≡ Memory) × HasYieldedLong source_gives f d source)
       → YieldsForm source_gives steps f d form source made
   YieldsForm-made IsMade ran IsShort is_short (Ok it) text short succeeds came refused = record {
     text = λ x h. unless it (form d x) (text x h);

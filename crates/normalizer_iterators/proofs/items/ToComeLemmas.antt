@@ -120,6 +120,15 @@ module _ {I : Type 0} (from : Source I) (f : ℕ → Bool) (d : Reading) where
       let parts = spelled_behind from.next_gives delegate long.read long.delegate_after x long.run spells in
       omega (arith, long.too_long, leading_fits f d long.read parts.0 (subst (HasShortRuns f d) parts.1 short) long.continuing)
 
+  -- what did not fit is a run that isn't short
+  pub long_start : (delegate : I) (w : WaitingList) → item_count w ≡ 0 → DidNotFit from.next_gives f d delegate w → HasYieldedLong from.next_gives f d delegate
+  long_start delegate w none long = (
+    long.read,
+    long.delegate_after,
+    long.run,
+    λ short. omega (arith, long.too_long, leading_fits f d long.read [] (subst (HasShortRuns f d) (sym (append-nil long.read)) short) long.continuing),
+  )
+
   -- ---- the pending character and those that continue it are read
 
   pub IsToCome-chunk : SuitsLazyReading f d → (c : ℕ) (delegate u : I) (first : ℕ) (pending : Option ℕ) (b : WaitingList) (front out : List ℕ) → front ≡ [] → continues f d c ≡ false

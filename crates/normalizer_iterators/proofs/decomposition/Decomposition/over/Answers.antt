@@ -1,4 +1,4 @@
-use Rattle.std.proofs.Common.{◌≡◌, false, [], arith, subst, sym}
+use Rattle.std.proofs.Common.{◌≡◌, false, [], arith, refl, subst, sym}
 use Rattle.normal_forms.specs.Forms.{nfd}
 use Rattle.normalizer_tables.specs.declared.characters.IgnoredCharacters.TheVariants.{Dropped}
 use Rattle.normalizer_iterators.specs.MarkRuns.{HasShortMarkRuns}
@@ -12,7 +12,7 @@ use Rattle.normalizer_iterators.specs.Reads.{character_of}
 use Rattle.normalizer_iterators.specs.WaitingList.{AgreesWith}
 use Rattle.normalizer_iterators.proofs.items.DecompositionLemmas.{at_some}
 use Rattle.normalizer_iterators.proofs.reads.ReadingLemmas.{HasRead-as, IsReadyAfter-next}
-use Rattle.normalizer_iterators.proofs.items.ToComeLemmas.{HasYieldedLong-start, IsToCome-start, came_start, AreShortToCome-start, short_start_fits}
+use Rattle.normalizer_iterators.proofs.items.ToComeLemmas.{HasYieldedLong-start, IsToCome-start, came_start, AreShortToCome-start, short_start_fits, long_start}
 use Rattle.normalizer_iterators.proofs.decomposition.Decomposition.over.Goals as goal
 
 pub read_on-requires-clause-ready : goal.read_on-requires-clause-ready
@@ -65,6 +65,13 @@ returns-clause-succeeds g c = λ x spells short.
     absurd
     (short_start_fits g.I.Iterator (has_class_form c.args.characters) _ c.args.delegate _ x c.new-waiting.ensures.held
     (c.in-Err.ensures.err _ read) spells short)
+
+pub returns-clause-refused : goal.returns-clause-refused
+returns-clause-refused g c =
+    let read =
+    HasRead-as g.I.Iterator _ _ _ _ c.read_from-first.ensures.character c.next.ensures.steps
+    (c.next.ensures.goes.on c.requires.ends) in
+    (refl, long_start g.I.Iterator (has_class_form c.args.characters) _ c.args.delegate _ c.new-waiting.ensures.held (c.in-Err.ensures.err _ read))
 
 pub returns-in-Ok-clause-ready : goal.returns-in-Ok-clause-ready
 returns-in-Ok-clause-ready g c =
