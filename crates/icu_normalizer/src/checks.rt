@@ -31,7 +31,8 @@ impl<F: Forming> NormalizerBorrowed<F> {
     ///
     /// # Examples
     /// ```rust
-    /// normalizer.is_normalized(text)
+    /// assert!(rt; normalizer.is_normalized("\u{E4}b")?);
+    /// assert!(rt; !normalizer.is_normalized("a\u{308}b")?);
     /// ```
     pub fn is_normalized(&self, text: &str) -> Result<bool, NormalizeError>
         ensures { ChecksText (F.made_form self.now.form) (chars text.now) result }
@@ -69,11 +70,9 @@ impl<F: Forming> NormalizerBorrowed<F> {
     ///
     /// # Examples
     /// ```rust
-    /// match normalizer.first_offence(text) {
-    ///     Ok(None) => Ok(text),
-    ///     Ok(Some(offence)) => Err(Refusal::Differs(offence)),
-    ///     Err(_) => Err(Refusal::Memory),
-    /// }
+    /// let mismatch = normalizer.first_offence("ba\u{308}")?;
+    /// assert!(rt; mismatch.is_some_and(|it| (it.place, it.found, it.wanted) == (1, 'a', '\u{E4}')));
+    /// assert!(rt; normalizer.first_offence("b\u{E4}")?.is_none());
     /// ```
     pub fn first_offence(&self, text: &str) -> Result<Option<Offence>, NormalizeError>
         ensures { FindsOffenceOfText (F.made_form self.now.form) (chars text.now) result }

@@ -54,7 +54,8 @@ impl CanonicalCombiningClassMap {
     ///
     /// # Examples
     /// ```rust
-    /// CanonicalCombiningClassMap::try_new_unstable(built)
+    /// let classes = CanonicalCombiningClassMap::try_new_unstable(data)?;
+    /// assert_eq!(rt; classes.as_borrowed().get_u8('\u{308}'), 230);
     /// ```
     pub fn try_new_unstable<P>(provider: &P) -> Result<Self, DataError>
     where

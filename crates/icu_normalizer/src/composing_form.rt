@@ -60,7 +60,8 @@ impl<'a> NormalizerBorrowed<ComposingForm<'a>> {
     ///
     /// # Examples
     /// ```rust
-    /// collected(alloc, normalizer.normalize_iter(Utf8Chars::new(bytes))?)
+    /// let form = collected(alloc, normalizer.normalize_iter("a\u{308}b".chars())?)?;
+    /// assert_eq!(rt; form.as_slice(), ['\u{E4}', 'b'].as_slice());
     /// ```
     pub fn normalize_iter<I: Iterator<Item = char> + Drop>(
         &self,

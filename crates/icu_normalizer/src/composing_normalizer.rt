@@ -45,7 +45,8 @@ impl ComposingNormalizer {
     ///
     /// # Examples
     /// ```rust
-    /// let normalizer = ComposingNormalizer::try_new_nfc_unstable(&data).ok()?;
+    /// let normalizer = ComposingNormalizer::try_new_nfc_unstable(&data)?;
+    /// assert!(rt; *normalizer.as_borrowed().normalize("a\u{308}")? == *"\u{E4}");
     /// ```
     pub fn try_new_nfc_unstable<P>(provider: &P) -> Result<Self, DataError>
     where
@@ -76,11 +77,6 @@ impl ComposingNormalizer {
     /// - `FutureExtension` if the tables have more items than the limit.
     /// - `Invalid`, with the lowest-numbered condition that fails, if the data break one (`docs/CONDITIONS.md`).
     /// - `Memory` if a load was refused memory. The check itself takes none.
-    ///
-    /// # Examples
-    /// ```rust
-    /// let normalizer = ComposingNormalizer::try_new_nfkc_unstable(provider)?;
-    /// ```
     pub fn try_new_nfkc_unstable<P>(provider: &P) -> Result<Self, DataError>
     where
         P: DataProvider<NormalizerNfkdDataV1>

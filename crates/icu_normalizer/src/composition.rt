@@ -32,7 +32,11 @@ impl CanonicalComposition {
     ///
     /// # Examples
     /// ```rust
-    /// CanonicalComposition::try_new_unstable(built)
+    /// let composition = CanonicalComposition::try_new_unstable(data)?;
+    /// assert_eq!(rt;
+    ///     composition.as_borrowed().compose('a', '\u{308}'),
+    ///     Some('\u{E4}')
+    /// );
     /// ```
     pub fn try_new_unstable<P>(provider: &P) -> Result<Self, DataError>
     where

@@ -49,7 +49,8 @@ impl<'a> NormalizerBorrowed<DecomposingForm<'a>> {
     ///
     /// # Examples
     /// ```rust
-    /// collected(alloc, normalizer.normalize_iter(Utf8Chars::new(bytes))?)
+    /// let form = collected(alloc, normalizer.normalize_iter("\u{E4}b".chars())?)?;
+    /// assert_eq!(rt; form.as_slice(), ['a', '\u{308}', 'b'].as_slice());
     /// ```
     pub fn normalize_iter<I: Iterator<Item = char> + Drop>(
         &self,

@@ -44,7 +44,9 @@ impl CanonicalDecomposition {
     ///
     /// # Examples
     /// ```rust
-    /// CanonicalDecomposition::try_new_unstable(built)
+    /// let decomposition = CanonicalDecomposition::try_new_unstable(data)?;
+    /// let step = decomposition.as_borrowed().decompose('\u{E4}');
+    /// assert!(rt; step == Decomposed::Expansion('a', '\u{308}'));
     /// ```
     pub fn try_new_unstable<P>(provider: &P) -> Result<Self, DataError>
     where

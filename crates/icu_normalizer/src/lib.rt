@@ -22,12 +22,13 @@
 //!
 //! # Examples
 //! ```rust
-//! let data = Records::build(alloc, &records, &[]).ok()?;
-//! let normalizer = ComposingNormalizer::try_new_nfc_unstable(&data).ok()?;
-//! let mut form = String::new(alloc);
-//! normalizer.as_borrowed().normalize_to(text, &mut form).ok()?;
+//! let data = Records::build(alloc, &records, &[])?;
+//! let normalizer = ComposingNormalizer::try_new_nfc_unstable(&data)?;
+//! assert!(rt; *normalizer.as_borrowed().normalize("a\u{308}")? == *"\u{E4}");
 //! ```
-//! The README has it whole, and `docs/GUIDE.md` an example for each task.
+//! In examples `rt` is the `HostRuntime` of `main`, and `alloc` is `rt.alloc()`. The README has a whole function, and
+//! `docs/GUIDE.md` a whole program and an example for each task. Names end in `_unstable` as ICU4X's do: traits of data
+//! may still change.
 #![tactic(auto)]
 
 mod borrowed;

@@ -200,7 +200,8 @@ impl<F: Forming> NormalizerBorrowed<F> {
     ///
     /// # Examples
     /// ```rust
-    /// let key = normalizer.normalize(text)?;
+    /// let form = normalizer.normalize("a\u{308}b")?;
+    /// assert!(rt; *form == *"\u{E4}b");
     /// ```
     pub fn normalize<'t>(&self, text: &'t str) -> Result<CowStr<'t, Global>, NormalizeError>
         ensures { ReturnsFormOfText (F.made_form self.now.form) (chars text.now) result }

@@ -51,7 +51,9 @@ impl<F: Forming> NormalizerBorrowed<F> {
     ///
     /// # Examples
     /// ```rust
-    /// let (kept, rest) = normalizer.split_normalized(&text)?;
+    /// let (prefix, rest) = normalizer.split_normalized("ba\u{308}")?;
+    /// assert_eq!(rt; prefix, "b");
+    /// assert_eq!(rt; rest, "a\u{308}");
     /// ```
     pub fn split_normalized<'t>(&self, text: &'t str) -> Result<(&'t str, &'t str), NormalizeError>
         ensures { AnswersOf (F.made_form self.now.form) (chars text.now)

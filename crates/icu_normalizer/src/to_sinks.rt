@@ -24,7 +24,8 @@ impl<F: Forming> NormalizerBorrowed<F> {
     /// # Examples
     /// ```rust
     /// let mut form = String::new(alloc);
-    /// normalizer.normalize_to(text, &mut form)?;
+    /// normalizer.normalize_to("a\u{308}b", &mut form)?;
+    /// assert_eq!(rt; form.as_str(), "\u{E4}b");
     /// ```
     pub fn normalize_to<W: Write>(&self, text: &str, sink: &mut W) -> Result<(), NormalizeError>
         ensures { WritesForm Encoding.Utf8 W.text_taken W.refusal W.refusal_effect (F.made_form self.now.form)
@@ -46,7 +47,8 @@ impl<F: Forming> NormalizerBorrowed<F> {
     /// # Examples
     /// ```rust
     /// let mut form = String::new(alloc);
-    /// normalizer.normalize_utf8_to(bytes, &mut form)?;
+    /// normalizer.normalize_utf8_to(b"a\xCC\x88\xFF", &mut form)?;
+    /// assert_eq!(rt; form.as_str(), "\u{E4}\u{FFFD}");
     /// ```
     pub fn normalize_utf8_to<W: Write>(
         &self,
@@ -72,7 +74,8 @@ impl<F: Forming> NormalizerBorrowed<F> {
     /// # Examples
     /// ```rust
     /// let mut form = Vec::new(alloc);
-    /// normalizer.normalize_utf16_to(units, &mut form)?;
+    /// normalizer.normalize_utf16_to(&[0x61, 0x308, 0x62], &mut form)?;
+    /// assert_eq!(rt; form.as_slice(), [0xE4, 0x62].as_slice());
     /// ```
     pub fn normalize_utf16_to<W: Write16>(
         &self,

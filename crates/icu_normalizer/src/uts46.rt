@@ -130,7 +130,11 @@ impl<'a> Uts46MapperBorrowed<'a> {
     ///
     /// # Examples
     /// ```rust
-    /// let mapped = collected(alloc, mapper.map_normalize(text.chars())?)?;
+    /// let mapped = collected(
+    ///     alloc,
+    ///     mapper.as_borrowed().map_normalize("\u{C4}b".chars())?,
+    /// )?;
+    /// assert_eq!(rt; mapped.as_slice(), ['\u{E4}', 'b'].as_slice());
     /// ```
     pub fn map_normalize<I: Iterator<Item = char> + Drop>(
         &self,

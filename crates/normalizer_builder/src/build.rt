@@ -27,8 +27,9 @@ impl Records {
     ///
     /// # Examples
     /// ```rust
-    /// let data = Records::build(alloc, &records, &[]).ok()?;
-    /// let normalizer = ComposingNormalizer::try_new_nfc_unstable(&data).ok()?;
+    /// let data = Records::build(alloc, &records, &[])?;
+    /// let normalizer = ComposingNormalizer::try_new_nfc_unstable(&data)?;
+    /// assert!(rt; *normalizer.as_borrowed().normalize("a\u{308}")? == *"\u{E4}");
     /// ```
     pub fn build(
         alloc: Global,

@@ -4,6 +4,8 @@
 #[cfg(test)]
 mod delegates;
 #[cfg(test)]
+mod documented;
+#[cfg(test)]
 mod over_rows;
 #[cfg(test)]
 mod packing;

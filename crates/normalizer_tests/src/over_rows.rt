@@ -3,7 +3,7 @@ use icu_normalizer::{Built, ComposingNormalizer, DecomposingNormalizer, Records}
 use normalizer_rows::{mapper_records, records};
 use std::alloc::Global;
 
-fn built(alloc: Global) -> Option<Built> {
+pub(crate) fn built(alloc: Global) -> Option<Built> {
     let records = records(alloc).ok()?;
     let mapper = mapper_records(alloc).ok()?;
     Records::build(alloc, &records, &mapper).ok()

@@ -64,13 +64,9 @@ struct Position {
 ///
 /// # Examples
 /// ```rust
-/// match records_of_unicode_data(alloc, unicode_data, exclusions) {
-///     Ok(records) => match form_by_records(alloc, &records, &[], form, bytes) {
-///         Ok(text) => Ok(text),
-///         Err(fault) => Err(UnicodeFault::Records(fault)),
-///     },
-///     Err(fault) => Err(UnicodeFault::File(fault)),
-/// }
+/// let unicode_data = b"00E4;;Ll;0;L;0061 0308;;;;N;;;;;\n0308;;Mn;230;NSM;;;;;N;;;;;\n# EOF\n";
+/// let records = records_of_unicode_data(alloc, unicode_data, b"# EOF\n")?;
+/// assert_eq!(rt; records.len(), 2);
 /// ```
 #[tactic(auto, unfolding(crate::specs::UnicodeData::records_of))]
 pub fn records_of_unicode_data(
