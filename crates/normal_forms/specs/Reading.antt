@@ -1,5 +1,5 @@
 -- What the data say of each character (The Unicode Standard, sections 3.7 and 3.11).
-use Rattle.std.specs.Prelude.{◌≡◌, ℕ, ◌<◌, Bool, List, [], ◌∷◌, Option, All, ◌==◌}
+use Rattle.std.specs.Prelude.{◌≡◌, ℕ, ◌<◌, Bool, List, [], ◌∷◌, Option, None, All, ◌==◌}
 use Rattle.std.specs.Char.{IsScalar}
 
 -- `list c` is the full decomposition of c (D64), whether its marks are in canonical order or not; `class c` its
@@ -25,6 +25,10 @@ IsMark d c = 0 < d.class c
 -- c has no decomposition mapping: it decomposes to itself (D64)
 abbrev pub ReadsAsItself : Reading → ℕ → Type 0
 ReadsAsItself d c = d.list c ≡ c ∷ []
+
+-- no pair has c second (D114)
+abbrev pub IsSecondInNoPair : Reading → ℕ → Type 0
+IsSecondInNoPair d c = (a : ℕ) → d.pair a c ≡ None
 
 -- a list of Unicode scalar values (D76)
 abbrev pub IsText : List ℕ → Type 0

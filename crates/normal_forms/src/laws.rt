@@ -4,14 +4,14 @@
 ghost use Rattle.std.specs.Prelude.{◌≡◌, ◌≢◌, ℕ, ◌≤◌, ◌<◌, ◌⊎◌, ◌+◌, ◌-◌, ◌↔◌, Bool, true, false, Option, Some, None};
 ghost use Rattle.std.specs.Prelude.{List, [], ◌∷◌, ◌++◌, length, take, drop, slice_get, All};
 ghost use Rattle.std.specs.List.{AllPass};
-ghost use Rattle.normal_forms.specs.Reading.{Reading, IsStarter, IsMark, IsText};
+ghost use Rattle.normal_forms.specs.Reading.{Reading, IsStarter, IsMark, IsSecondInNoPair, IsText, ReadsAsItself};
 ghost use Rattle.normal_forms.specs.Alike.{AreAlike};
 ghost use Rattle.normal_forms.specs.Decomposition.{expand};
 ghost use Rattle.normal_forms.specs.Boundary.{BeginsWithStarter, BeginsAtBoundary};
 ghost use Rattle.normal_forms.specs.Chunks.{BeginsChunk};
 ghost use Rattle.normal_forms.specs.MarkRun.{compose_marks, IsLastBelow};
 ghost use Rattle.normal_forms.specs.ShortRuns.{continues, leading_length, buffer_limit, HasShortRuns};
-ghost use Rattle.normal_forms.specs.Order.{InOrder, order};
+ghost use Rattle.normal_forms.specs.Order.{EndsUpTo, InOrder, order};
 ghost use Rattle.normal_forms.specs.Composition.{compose, is_blocked};
 ghost use Rattle.normal_forms.specs.CompositionByStarters.{is_above, compose_after, compose_by_starters};
 ghost use Rattle.normal_forms.specs.Forms.{Form, Decomposing, Composing, nfd, nfc, normal_form, IsNormalized};
@@ -190,6 +190,14 @@ pub fn passthrough_run()
     ensures composing { (d : Reading) → HasStarterResults d → (u run v : List ℕ) →
         All (λ c. (nfc d (c ∷ []) ≡ c ∷ []) × BeginsAtBoundary d (d.list c)) run → BeginsAtBoundary d (expand d v) →
         nfc d (u ++ (run ++ v)) ≡ nfc d u ++ (run ++ nfc d v) }
+{}
+
+/// A mark that is its own list stays at the end of a text, and changes nothing before it, if its class isn't below that of
+/// the last character of the form before it, and if it is second in no pair (for the composing form).
+pub fn mark_at_end()
+    ensures { (d : Reading) (form : Form) → SuitsForm d form → (x : List ℕ) (m : ℕ) → ReadsAsItself d m → IsMark d m →
+        (form ≡ Composing → IsSecondInNoPair d m) → EndsUpTo d (d.class m) (normal_form d form x) →
+        normal_form d form (x ++ m ∷ []) ≡ normal_form d form x ++ m ∷ [] }
 {}
 
 /// The decomposing form may be read lazily: first what comes before the first chunk, in order; then for each chunk the

@@ -2,7 +2,7 @@
 use Rattle.std.proofs.Common.{◌≡◌, ℕ, ◌⊎◌, true, false, nat_lt, List, [], ◌∷◌, ◌++◌, Option, Some, None, refl, sym, ap, subst, ◌∙◌, arith, inl, inr, append_assoc, append-nil, eq-eqb, ne_eqb}
 use Rattle.std.proofs.lemmas.Bool.{cond-true, cond-false, cond_both, cases_eq, and_parts, ltb-true}
 use Rattle.std.specs.List.{list_all}
-use Rattle.normal_forms.specs.Reading.{Reading, IsStarter, IsMark, ReadsAsItself}
+use Rattle.normal_forms.specs.Reading.{Reading, IsStarter, IsMark, IsSecondInNoPair, ReadsAsItself}
 use Rattle.normal_forms.specs.Reading.{is_starter}
 use Rattle.normal_forms.specs.Decomposition.{expand}
 use Rattle.normal_forms.specs.Order.{order}
@@ -16,10 +16,6 @@ use Rattle.normal_forms.proofs.ordering.ExpandLemmas.{AreSelf, expand-append, ex
 -- the composing form by starters
 unfoldable pub composed_form : Reading → List ℕ → List ℕ
 composed_form d x = compose_by_starters d (nfd d x)
-
--- no pair has s second
-abbrev pub IsSecondInNoPair : Reading → ℕ → Type 0
-IsSecondInNoPair d s = (a : ℕ) → d.pair a s ≡ None
 
 pub starter_or_mark : (d : Reading) (c : ℕ) → IsStarter d c ⊎ IsMark d c
 starter_or_mark d c = elim (cases_eq (d.class c) 0) [ inl starter ↦ inl starter | inr other ↦ inr (omega arith) ]

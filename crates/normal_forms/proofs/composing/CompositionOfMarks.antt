@@ -92,7 +92,7 @@ is_above-push d (e ∷ p) m c marks ordered =
           and_right _ _ (rest ∙ shut) ∙ sym shut
     ]
 
-cases_last : (p : List ℕ) → (p ≡ []) ⊎ ((front : List ℕ) × (last : ℕ) × (p ≡ front ++ last ∷ []))
+pub cases_last : (p : List ℕ) → (p ≡ []) ⊎ ((front : List ℕ) × (last : ℕ) × (p ≡ front ++ last ∷ []))
 cases_last [] = inl refl
 cases_last (m ∷ p) =
     elim (cases_last p) [

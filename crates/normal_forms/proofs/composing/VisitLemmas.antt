@@ -1,7 +1,7 @@
 -- The composition by visits to a working list is the composition by starters; without pairs both change nothing.
 use Rattle.std.proofs.Common.{◌≡◌, ℕ, true, not, ◌&&◌, if◌then◌else◌, List, [], ◌∷◌, ◌++◌, Some, None, refl, sym, ap, ◌∙◌, inl, inr, append_assoc, append-nil}
 use Rattle.std.proofs.lemmas.Bool.{lt-ltb, le-ltb, lt-leb, le-leb, cases_lt, or_left, or_right}
-use Rattle.normal_forms.specs.Reading.{Reading, IsStarter, IsMark}
+use Rattle.normal_forms.specs.Reading.{Reading, IsStarter, IsMark, IsSecondInNoPair}
 use Rattle.normal_forms.specs.Decomposition.{expand}
 use Rattle.normal_forms.specs.Order.{is_reorderable, insert, order}
 use Rattle.normal_forms.specs.Composition.{is_blocked, joined, visit, compose_from, compose}
@@ -9,7 +9,7 @@ use Rattle.normal_forms.specs.CompositionByStarters.{is_above, join, compose_aft
 use Rattle.normal_forms.specs.Forms.{Form, Decomposing, Composing, nfd, nfc, normal_form}
 use Rattle.normal_forms.specs.Hypotheses.{HasStarterResults, HasFullLists, HasFaithfulResults, HasNonemptyLists, SuitsForm}
 use Rattle.normal_forms.proofs.ordering.OrderLemmas.{AreMarks}
-use Rattle.normal_forms.proofs.composing.ComposeLemmas.{composed_form, IsSecondInNoPair, starter_or_mark, is_starter-true, is_starter-false, AreMarks-push}
+use Rattle.normal_forms.proofs.composing.ComposeLemmas.{composed_form, starter_or_mark, is_starter-true, is_starter-false, AreMarks-push}
 use Rattle.normal_forms.proofs.composing.ComposeLemmas.{join-some, join-none, compose_after-nil, compose_after-cases, compose_after-starter, compose_after-mark}
 use Rattle.normal_forms.proofs.composing.ComposeLemmas.{compose_by_starters-nil, compose_by_starters-starter, compose_by_starters-mark}
 

@@ -1,32 +1,24 @@
 -- One more character: what a text has in common with the form of a longer text it has with its own form.
-use Rattle.std.proofs.Common.{◌≡◌, ◌≢◌, ℕ, ◌<◌, ◌⊎◌, ◌&&◌, nat_lt, List, [], ◌∷◌, ◌++◌, length, None, if◌then◌else◌, refl, sym, ap, subst, ◌∙◌, arith}
-use Rattle.std.proofs.Common.{inl, inr, lt-ltb, eq-eqb, ne_eqb, append_assoc, append-nil, length-append}
+use Rattle.std.proofs.Common.{◌≡◌, ◌≢◌, ℕ, ◌⊎◌, List, [], ◌∷◌, ◌++◌, length, refl, sym, ap, subst, ◌∙◌, arith}
+use Rattle.std.proofs.Common.{inl, inr, eq-eqb, ne_eqb, append_assoc, append-nil, length-append}
 use Rattle.std.proofs.Math.Nat.{eq-zero-or-pos}
 use Rattle.std.proofs.lemmas.Bool.{cond-true, cond-false}
 use Rattle.std.specs.List.{AllByRecursion}
-use Rattle.normal_forms.specs.Reading.{Reading, IsStarter, IsMark, ReadsAsItself}
+use Rattle.normal_forms.specs.Reading.{Reading, IsStarter, ReadsAsItself}
 use Rattle.normal_forms.specs.Decomposition.{expand}
 use Rattle.normal_forms.specs.Order.{order, of_class}
 use Rattle.normal_forms.specs.Forms.{nfd}
-use Rattle.normal_forms.specs.CompositionByStarters.{is_above, join, compose_after, compose_by_starters}
+use Rattle.normal_forms.specs.CompositionByStarters.{join, compose_after, compose_by_starters}
 use Rattle.normal_forms.specs.Cut.{IsFront}
 use Rattle.normal_forms.specs.Hypotheses.{HasFullLists, HasFaithfulResults}
 use Rattle.normal_forms.proofs.forms.ListLemmas.{split_append, AllByRecursion-append, AllByRecursion-front, AllByRecursion-rest}
 use Rattle.normal_forms.proofs.ordering.OrderLemmas.{AreMarks, AreMarksBelow, AreAbove, IsOrdered, IsOrdered-order, order-push, order-append_cancel, order-order, order-absorb, of_class-order, of_class-append}
 use Rattle.normal_forms.proofs.ordering.ExpandLemmas.{AreSelf, expand-append, expand_of_self, AreSelf-expand, AreSelf-order, AreSelf-nfd, nfd-append}
 use Rattle.normal_forms.proofs.composing.ComposeLemmas.{composed_form, join-some, compose_after-nil, compose_after-join, compose_after-starter}
-use Rattle.normal_forms.proofs.composing.ComposeLemmas.{compose_after-mark, compose_by_starters-nil, compose_by_starters-starter, compose_by_starters-mark}
-use Rattle.normal_forms.proofs.composing.ComposeLemmas.{compose_by_starters-marks, order-expand-compose, composed_form-composed_form, cases_Option}
+use Rattle.normal_forms.proofs.composing.ComposeLemmas.{compose_after-mark, compose_by_starters-starter, compose_by_starters-mark}
+use Rattle.normal_forms.proofs.composing.ComposeLemmas.{order-expand-compose, composed_form-composed_form, cases_Option}
+use Rattle.normal_forms.proofs.composing.InsertedCharacter.{AllByRecursion-both, IsLater, compose_after-later, compose_by_starters-later, compose_by_starters-put}
 use Rattle.normal_forms.proofs.cuts.CutLemmas.{front_of_form}
-
--- what holds of a member because two things hold of it
-AllByRecursion-both : (P Q R : ℕ → Type 0) → ((m : ℕ) → P m → Q m → R m) → (x : List ℕ) → AllByRecursion P x → AllByRecursion Q x → AllByRecursion R x
-AllByRecursion-both P Q R both [] a b = tt
-AllByRecursion-both P Q R both (m ∷ x) a b = (both m a.0 b.0, AllByRecursion-both P Q R both x a.1 b.1)
-
--- m reads as itself and has a class above that of k
-abbrev IsLater : Reading → ℕ → ℕ → Type 0
-IsLater d k m = ReadsAsItself d m × (d.class k < d.class m)
 
 -- m reads as itself and has another class than k
 abbrev IsOther : Reading → ℕ → ℕ → Type 0
@@ -34,59 +26,6 @@ IsOther d k m = ReadsAsItself d m × (d.class m ≢ d.class k)
 
 others_of_later : (d : Reading) (k : ℕ) (x : List ℕ) → AllByRecursion (IsLater d k) x → AllByRecursion (IsOther d k) x
 others_of_later d k x later = AllByRecursion-both _ _ _ (λ m a b. (a.0, λ e. omega arith)) x later later
-
--- ---- after a starter and the marks p and q: characters of classes above that of k join and stay alike, whether k is
--- buffered between p and q or not
-
-is_above-later : (d : Reading) (k : ℕ) (p q : List ℕ) (c : ℕ) → d.class k < d.class c → is_above d (p ++ k ∷ q) c ≡ is_above d (p ++ q) c
-unfolding is_above
-is_above-later d k [] q c h = ap (λ b. b && is_above d q c) (lt-ltb (d.class k) (d.class c) h)
-is_above-later d k (m ∷ p) q c h = ap (λ b. nat_lt (d.class m) (d.class c) && b) (is_above-later d k p q c h)
-
-join-later : (d : Reading) (k a : ℕ) (p q : List ℕ) (c : ℕ) → d.class k < d.class c → join d a (p ++ k ∷ q) c ≡ join d a (p ++ q) c
-unfolding join
-join-later d k a p q c h = ap (λ b. if b then d.pair a c else None) (is_above-later d k p q c h)
-
-record ComposeAlike (d : Reading) (k a : ℕ) (p q y : List ℕ) : Type 0 where
-  first : ℕ
-  rest : List ℕ
-  without_k : compose_after d a (p ++ q) y ≡ first ∷ (p ++ (q ++ rest))
-  with_k : compose_after d a (p ++ k ∷ q) y ≡ first ∷ (p ++ k ∷ (q ++ rest))
-  later : AllByRecursion (IsLater d k) rest
-
-compose_after-later : (d : Reading) (k a : ℕ) (p q y : List ℕ) → AllByRecursion (IsLater d k) y → ComposeAlike d k a p q y
-compose_after-later d k a p q [] later =
-    record {
-      first = a;
-      rest = [];
-      without_k = cc (compose_after-nil d a (p ++ q), append-nil q);
-      with_k = cc (compose_after-nil d a (p ++ k ∷ q), append-nil q);
-      later = tt;
-    }
-compose_after-later d k a p q (c ∷ y) later =
-    let same = join-later d k a p q c later.0.1 in
-    elim (cases_Option (join d a (p ++ q) c)) [
-      | inl none ↦
-          let mark : IsMark d c = omega arith in
-          let alike = compose_after-later d k a p (q ++ c ∷ []) y later.1 in
-          let waits = append_assoc q (c ∷ []) alike.rest in
-          record {
-            first = alike.first;
-            rest = c ∷ alike.rest;
-            without_k = cc (compose_after-mark d a (p ++ q) c y none mark, append_assoc p q (c ∷ []));
-            with_k = cc (compose_after-mark d a (p ++ k ∷ q) c y (same ∙ none) mark, append_assoc p (k ∷ q) (c ∷ []));
-            later = (later.0, alike.later);
-          }
-      | inr some ↦
-          let alike = compose_after-later d k some.0 p q y later.1 in
-          record {
-            first = alike.first;
-            rest = alike.rest;
-            without_k = compose_after-join d a (p ++ q) c some.0 y some.1 ∙ alike.without_k;
-            with_k = compose_after-join d a (p ++ k ∷ q) c some.0 y (same ∙ some.1) ∙ alike.with_k;
-            later = alike.later;
-          }
-    ]
 
 -- ---- the composition of a text with k put into it begins as that of the text; after the next character, each reads as
 -- itself and has another class than k
@@ -156,35 +95,12 @@ compose_after-put_first d k a p y marks p_self later last =
           }
     ]
 
--- k comes after x
-compose_after-put : (d : Reading) (k a : ℕ) (p x y : List ℕ) → AreMarks d p → AreSelf d p → AreSelf d x → AllByRecursion (IsLater d k) y → (IsStarter d k → y ≡ [])
-    → SharesFront d k (compose_after d a p (x ++ k ∷ y)) (compose_after d a p (x ++ y))
-unfolding AreMarks AreSelf
-compose_after-put d k a p [] y marks p_self self later last = compose_after-put_first d k a p y marks p_self later last
-compose_after-put d k a p (c ∷ x) y marks p_self self later last =
-    elim (cases_Option (join d a p c)) [
-      | inl none ↦
-          elim (eq-zero-or-pos (d.class c)) [
-            | inl starter ↦
-                SharesFront-behind d k (a ∷ p) _ _ _ _ (compose_after-starter d a p c (x ++ k ∷ y) none starter) (compose_after-starter d a p c (x ++ y) none starter)
-                (compose_after-put d k c [] x y tt tt self.1 later last)
-            | inr mark ↦
-                let one_more_mark = AllByRecursion-append _ p (c ∷ []) marks (mark, tt) in
-                let one_more_self = AllByRecursion-append _ p (c ∷ []) p_self (self.0, tt) in
-                SharesFront-behind d k [] _ _ _ _ (compose_after-mark d a p c (x ++ k ∷ y) none mark) (compose_after-mark d a p c (x ++ y) none mark)
-                (compose_after-put d k a (p ++ c ∷ []) x y one_more_mark one_more_self self.1 later last)
-          ]
-      | inr some ↦
-          SharesFront-behind d k [] _ _ _ _ (compose_after-join d a p c some.0 (x ++ k ∷ y) some.1) (compose_after-join d a p c some.0 (x ++ y) some.1)
-          (compose_after-put d k some.0 p x y marks p_self self.1 later last)
-    ]
-
-compose_by_starters-put : (d : Reading) (k : ℕ) (x y : List ℕ) → AreSelf d x → AllByRecursion (IsLater d k) y → (IsStarter d k → y ≡ [])
+-- so wherever k is put
+SharesFront-put : (d : Reading) (k : ℕ) (x y : List ℕ) → AreSelf d x → AllByRecursion (IsLater d k) y → (IsStarter d k → y ≡ [])
     → SharesFront d k (compose_by_starters d (x ++ k ∷ y)) (compose_by_starters d (x ++ y))
-unfolding AreMarks AreSelf
-compose_by_starters-put d k [] y self later last =
-    let marks = AllByRecursion-both _ _ (IsMark d) (λ m a b. omega arith) y later later in
-    let stays : compose_by_starters d y ≡ y = cc (append-nil y, compose_by_starters-marks d y [] marks, compose_by_starters-nil d) in
+SharesFront-put d k x y self later last =
+    compose_by_starters-put d k y (SharesFront d k) (SharesFront-behind d k) (λ a p marks p_self. compose_after-put_first d k a p y marks p_self later last)
+    (let stays = compose_by_starters-later d k y later in
     record {
       front = [];
       next = k;
@@ -197,16 +113,8 @@ compose_by_starters-put d k [] y self later last =
           ];
       shorter_parts = stays;
       others = others_of_later d k y later;
-    }
-compose_by_starters-put d k (c ∷ x) y self later last =
-    elim (eq-zero-or-pos (d.class c)) [
-      | inl starter ↦
-          SharesFront-behind d k [] _ _ _ _ (compose_by_starters-starter d c (x ++ k ∷ y) starter) (compose_by_starters-starter d c (x ++ y) starter)
-          (compose_after-put d k c [] x y tt tt self.1 later last)
-      | inr mark ↦
-          SharesFront-behind d k (c ∷ []) _ _ _ _ (compose_by_starters-mark d c (x ++ k ∷ y) mark) (compose_by_starters-mark d c (x ++ y) mark)
-          (compose_by_starters-put d k x y self.1 later last)
-    ]
+    })
+    x self
 
 -- the append lemma: one more character after a text in order
 compose_by_starters-push : (d : Reading) (k : ℕ) (y : List ℕ) → AreSelf d y → IsOrdered d y → SharesFront d k (compose_by_starters d (order d (y ++ k ∷ []))) (compose_by_starters d y)
@@ -216,7 +124,7 @@ compose_by_starters-push d k y self ordered =
     let parts_self = subst (AreSelf d) at.parts self in
     let later = AllByRecursion-both _ _ (IsLater d k) (λ m s a. (s, a)) behind (AllByRecursion-rest _ front behind parts_self) at.above in
     SharesFront-behind d k [] _ _ _ _ (ap (compose_by_starters d) at.put) (ap (compose_by_starters d) at.parts)
-    (compose_by_starters-put d k front behind (AllByRecursion-front _ front behind parts_self) later at.starter_last)
+    (SharesFront-put d k front behind (AllByRecursion-front _ front behind parts_self) later at.starter_last)
 
 -- a front of the longer is a front of the shorter, or only others come after it
 front_or_others : (d : Reading) (k : ℕ) (longer shorter q s : List ℕ) → SharesFront d k longer shorter → longer ≡ q ++ s → IsFront q shorter ⊎ AllByRecursion (IsOther d k) s
