@@ -1,3 +1,4 @@
+pub mod EachCharacter
 pub mod RequiredConditions
 pub mod Refusals
 pub mod inner

@@ -6,13 +6,8 @@ ghost use Rattle.normalizer_tables.specs.Conditions.{IsFirstFailing, IsMet};
 ghost use Rattle.normalizer_conditions.specs.Refusals.{RefusesFirstFailing};
 ghost use Rattle.normalizer_tables.specs.Table.{code_points};
 ghost use Rattle.normalizer_tables.specs.declared.condition.Condition.TheVariants as condition;
-ghost use Rattle.normalizer_conditions.specs.inner.Walk.{
-  is_asked_of_words,
-  IsEndOfEqualWords,
-  IsMetApart,
-  IsMetAt,
-  IsPlaceOfFirstFailing,
-};
+ghost use Rattle.normalizer_conditions.specs.inner.Walk.{is_asked_of_words, IsEndOfEqualWords, IsMetApart, IsPlaceOfFirstFailing};
+ghost use Rattle.normalizer_conditions.specs.EachCharacter.{IsMetAt};
 
 use crate::check::met::{is_met_apart, is_met_at};
 use crate::loaded::LoadedData;
@@ -24,6 +19,7 @@ use normalizer_tables::read::read_character;
 use normalizer_tables::word::is_hangul_syllable;
 use normalizer_tables::{DataError, DataMarkerInfo};
 
+pub mod breaking;
 mod lists;
 mod met;
 mod numbers;

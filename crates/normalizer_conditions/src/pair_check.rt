@@ -42,7 +42,7 @@ pub(crate) fn have_composable_members(
 }
 
 #[tactic(auto, unfolding(normalizer_tables::specs::Characters::has_class_form))]
-fn is_composable(data: &CharacterData<'_>, character: char) -> bool
+pub(crate) fn is_composable(data: &CharacterData<'_>, character: char) -> bool
     ensures { IsTrue result ↔ IsComposable data.now character }
 {
     let word = data.word_of(character);

@@ -2,3 +2,4 @@
 pub mod LookupLemmas
 pub mod PairFaultLemmas
 pub mod RefusalLemmas
+pub mod FirstLemmas

@@ -1,3 +1,4 @@
+pub mod AtFault
 pub mod RecordValue
 pub mod Equal
 pub mod EqualLaws

@@ -1,6 +1,7 @@
 -- What the contracts of private functions alone cite.
 pub mod Chains
 pub mod CutLists
+pub mod Findings
 pub mod FirstFaults
 pub mod Lookup
 pub mod SortedPairs

@@ -57,7 +57,7 @@ fn has_fixed_mapper_record(uts46: &[Uts46Record]) -> bool
     uts46.iter().any(|record| is_fixed_for_mapper(record))
 }
 
-fn is_fixed(c: char) -> bool
+pub(crate) fn is_fixed(c: char) -> bool
     ensures { result ≡ is_fixed c }
 {
     c == '\u{FFFD}' || is_in_hangul_jamo(c) || is_hangul_syllable(c as u32)
@@ -70,7 +70,7 @@ fn is_in_hangul_jamo(c: char) -> bool
     '\u{1100}' <= c && c <= '\u{11FF}'
 }
 
-fn is_fixed_for_mapper(record: &Uts46Record) -> bool
+pub(crate) fn is_fixed_for_mapper(record: &Uts46Record) -> bool
     ensures { result ≡ is_fixed_for_mapper record.now }
 {
     let is_filler = '\u{115F}' <= record.c && record.c <= '\u{1160}';
@@ -105,7 +105,7 @@ fn has_bad_status(uts46: &[Uts46Record]) -> bool
     uts46.iter().any(|record| is_bad_status(&record.status))
 }
 
-fn is_bad_mapping(record: &Record) -> bool
+pub(crate) fn is_bad_mapping(record: &Record) -> bool
     ensures { result ≡ is_bad_mapping record.now }
 {
     let is_bad = if record.compatibility {
@@ -138,7 +138,7 @@ fn has_zero(mapping: &[char]) -> bool
     mapping.iter().any(|&member| member == '\0')
 }
 
-fn is_bad_status(status: &Uts46Status) -> bool
+pub(crate) fn is_bad_status(status: &Uts46Status) -> bool
     ensures { result ≡ is_bad_status (status_of status.now) }
 {
     match status {

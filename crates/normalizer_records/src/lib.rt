@@ -1,6 +1,7 @@
 //! Plain records of characters: what they mean, and what may be wrong with them.
 #![tactic(auto)]
 
+mod at_fault;
 mod chains;
 mod cut_lists;
 mod expansion;
@@ -14,6 +15,7 @@ mod recorded;
 mod records;
 mod refusals;
 
+pub use at_fault::{RecordAtFault, first_at_fault};
 pub use lookup::{canonical_mapping_of, class_of, recorded_step};
 pub use pair_list::pairs;
 pub use records::{BuildError, Mappings, Record, Uts46Record, Uts46Status};

@@ -17,7 +17,8 @@ ghost use Rattle.normalizer_records.specs.Faults.{
   IsWrong,
   is_long,
 };
-ghost use Rattle.normalizer_records.specs.Meaning.{class_of};
+ghost use Rattle.normalizer_records.specs.AtFault.{HasLongOwnList, HasWrongOwnClass};
+ghost use Rattle.normalizer_records.specs.Meaning.{class_of, mapper_list};
 ghost use Rattle.normalizer_records.specs.Recorded.{IsOfCharacters, entry_for};
 
 use crate::cut_lists::{cut_list, cut_mapper_list};
@@ -165,6 +166,46 @@ fn mapped_faults(records: &[Record], c: char, mapped: &Option<Vec<char>>) -> Lis
             length: false,
         },
     }
+}
+
+/// The faults that the class of a character and its canonical and compatibility lists show.
+pub(crate) fn own_faults(
+    alloc: Global,
+    records: &[Record],
+    c: char,
+) -> Result<ListFaults, AllocError>
+    requires { AreRising records.now }
+    ensures class { IfOk result (λ faults. IsTrue faults.class ↔ HasWrongOwnClass records.now c) }
+    ensures length { IfOk result (λ faults. IsTrue faults.length ↔ HasLongOwnList records.now c) }
+{
+    let canonical = cut_list(alloc, records, Mappings::Canonical, c)?;
+    let compatibility = cut_list(alloc, records, Mappings::All, c)?;
+    let class = class_of(records, c);
+    let own = list_faults(records, c, 0 < class, &canonical);
+    let other = list_faults(records, c, 0 < class, &compatibility);
+    Ok(ListFaults {
+        class: (class == 255) | (own.class | other.class),
+        length: own.length | other.length,
+    })
+}
+
+/// The faults that the mapper's list of a character shows.
+pub(crate) fn mapper_faults(
+    alloc: Global,
+    records: &[Record],
+    uts46: &[Uts46Record],
+    c: char,
+) -> Result<ListFaults, AllocError>
+    requires records { AreRising records.now }
+    requires mapper { AreMapperRising uts46.now }
+    ensures class { IfOk result (λ faults. IsTrue faults.class
+        ↔ IsSomeAnd (mapper_list records.now uts46.now c) (IsWrong records.now c false)) }
+    ensures length { IfOk result (λ faults. IsTrue faults.length
+        ↔ IsSomeAnd (mapper_list records.now uts46.now c) IsTooLong) }
+{
+    let canonical = cut_list(alloc, records, Mappings::Canonical, c)?;
+    let mapper = cut_mapper_list(alloc, records, uts46, c, &canonical)?;
+    Ok(mapped_faults(records, c, &mapper))
 }
 
 /// What records say of a character, and the faults that its lists show. A list that is too long is cut.

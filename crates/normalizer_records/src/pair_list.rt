@@ -14,7 +14,7 @@ use normalizer_tables::special::fixed_list_of;
 use std::alloc::{AllocError, Global};
 
 /// The pair of a record: second, first, and what they compose to.
-fn pair_of_record(record: &Record) -> Option<(char, char, char)>
+pub(crate) fn pair_of_record(record: &Record) -> Option<(char, char, char)>
     ensures { result ≡ pair_of_record record.now }
 {
     if !record.compatibility && !record.excluded && fixed_list_of(record.c).is_none() {
@@ -33,7 +33,10 @@ fn pair_of_mapping(c: char, mapping: &[char]) -> Option<(char, char, char)>
     }
 }
 
-fn unsorted_pairs(alloc: Global, records: &[Record]) -> Result<Vec<(char, char, char)>, AllocError>
+pub(crate) fn unsorted_pairs(
+    alloc: Global,
+    records: &[Record],
+) -> Result<Vec<(char, char, char)>, AllocError>
     ensures { IfOk result (λ v. v.items ≡ pairs_of records.now) }
 {
     let mut pairs = Vec::new(alloc);

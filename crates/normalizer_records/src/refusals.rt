@@ -46,7 +46,7 @@ fn mapped_to(uts46: &[Uts46Record], c: char) -> &[char]
 }
 
 /// Whether a character, or one that the mapper maps it to, is one of these.
-fn is_among(long: &BTreeSet<char>, uts46: &[Uts46Record], c: char) -> bool
+pub(crate) fn is_among(long: &BTreeSet<char>, uts46: &[Uts46Record], c: char) -> bool
     requires { AreMapperRising uts46.now }
     ensures { result ≡ list_any (contains nat_cmp long.now) (c ∷ mapped_to (status_of uts46.now c)) }
 {

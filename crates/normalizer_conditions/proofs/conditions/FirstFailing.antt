@@ -14,7 +14,8 @@ use Rattle.normalizer_tables.specs.declared.condition.Condition.TheVariants.{Han
 use Rattle.normalizer_tables.specs.CharacterConditions.{IsSoundHangul}
 use Rattle.normalizer_tables.specs.Conditions.{IsFirstFailing, IsMet}
 use Rattle.normalizer_tables.specs.Loaded.{Loaded}
-use Rattle.normalizer_conditions.specs.inner.Walk.{is_asked_of_words, IsMetApart, IsMetAt, IsPlaceOfFirstFailing}
+use Rattle.normalizer_conditions.specs.inner.Walk.{is_asked_of_words, IsMetApart, IsPlaceOfFirstFailing}
+use Rattle.normalizer_conditions.specs.EachCharacter.{IsMetAt}
 use Rattle.normalizer_tables.proofs.lists.ListedLemmas.{drop_member}
 use Rattle.normalizer_conditions.proofs.conditions.LoadedLemmas.{IsMet-parts, IsMetAt-unasked}
 

@@ -10,7 +10,8 @@ use Rattle.normalizer_tables.specs.declared.condition.Condition.TheVariants.{Wor
 use Rattle.normalizer_conditions.specs.RequiredConditions.{AreAcceptedPairs, composing_conditions, decomposing_conditions, IsAccepted, pair_conditions}
 use Rattle.normalizer_tables.specs.Characters.{Characters}
 use Rattle.normalizer_tables.specs.Conditions.{IsMet}
-use Rattle.normalizer_conditions.specs.inner.Walk.{IsMetApart, IsMetAt, KeepsPlainBoundary, is_asked_of_words}
+use Rattle.normalizer_conditions.specs.inner.Walk.{IsMetApart, KeepsPlainBoundary, is_asked_of_words}
+use Rattle.normalizer_conditions.specs.EachCharacter.{IsMetAt}
 use Rattle.normalizer_tables.specs.Loaded.{bounds_of_cap, characters_and_pairs, characters_loaded, Loaded}
 use Rattle.normalizer_tables.specs.PairConditions.{KeepsBoundary, KeepsRoundTrip}
 use Rattle.normalizer_tables.specs.Pairs.{Pair}

@@ -12,7 +12,8 @@ use Rattle.normalizer_tables.specs.Loaded.{Loaded}
 use Rattle.normalizer_tables.specs.PairConditions.{KeepsBoundary, is_taken_as_boundary}
 use Rattle.normalizer_tables.specs.Pairs.{Pair, IsNeverSecond, is_vowel_or_trailing_jamo, listed_result, pair_of}
 use Rattle.normalizer_tables.specs.StepConditions.{AvoidsFdfa}
-use Rattle.normalizer_conditions.specs.inner.Walk.{IsEndOfEqualWords, IsMetApart, IsMetAt, KeepsPlainBoundary}
+use Rattle.normalizer_conditions.specs.inner.Walk.{IsEndOfEqualWords, IsMetApart, KeepsPlainBoundary}
+use Rattle.normalizer_conditions.specs.EachCharacter.{IsMetAt}
 use Rattle.normalizer_tables.specs.Words.{is_plain}
 use Rattle.normalizer_tables.proofs.conditions.ConditionLemmas.{class_of-plain, HasSoundStep-plain, IsOrderedList-plain, IsSoundClass-none, IsSoundWord-plain}
 use Rattle.normalizer_tables.proofs.conditions.ConditionLemmas.{itself_reads_in_full, list_read-plain, plain-no_class_form, read-plain, syllable-scalar}

@@ -16,7 +16,8 @@ use Rattle.normalizer_tables.specs.CharacterConditions.{is_composing_jamo, IsPla
 use Rattle.normalizer_tables.specs.Loaded.{Loaded}
 use Rattle.normalizer_tables.specs.PairConditions.{is_taken_as_boundary, KeepsBoundary, KeepsRoundTrip, RoundTrips}
 use Rattle.normalizer_tables.specs.StepConditions.{AvoidsFdfa}
-use Rattle.normalizer_conditions.specs.inner.Walk.{IsMetAt, IsSyllableAfter}
+use Rattle.normalizer_conditions.specs.inner.Walk.{IsSyllableAfter}
+use Rattle.normalizer_conditions.specs.EachCharacter.{IsMetAt}
 use Rattle.normalizer_tables.specs.Hangul.{is_hangul_syllable, hangul_decomposition}
 use Rattle.normalizer_tables.specs.HangulComposition.{compose_hangul}
 use Rattle.normalizer_tables.specs.Pairs.{Pair, is_vowel_or_trailing_jamo, pair_of}

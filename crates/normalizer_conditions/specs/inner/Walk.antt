@@ -1,5 +1,5 @@
 -- How the check goes over the numbers, from one word that isn't 0 to the next, and what it checks of all others before.
-use Rattle.std.specs.Prelude.{◌≡◌, ℕ, ◌+◌, ◌-◌, ◌/◌, ◌<◌, ◌≤◌, Bool, true, false, List, [], All, IfSome, Some, length, slice_get}
+use Rattle.std.specs.Prelude.{◌≡◌, ℕ, ◌+◌, ◌-◌, ◌/◌, ◌<◌, ◌≤◌, Bool, true, false, List, IfSome, Some, length, slice_get}
 use Rattle.std.specs.List.{AllWithin}
 use Rattle.std.specs.Char.{IsScalar}
 use Rattle.normalizer_tables.specs.declared.condition.Bounds.{Bounds}
@@ -7,15 +7,13 @@ use Rattle.normalizer_tables.specs.declared.condition.Condition.{Condition}
 use Rattle.normalizer_tables.specs.declared.condition.Condition.TheVariants.{Words, Members, Order, Passthrough}
 use Rattle.normalizer_tables.specs.declared.condition.Condition.TheVariants.{RoundTrip, SafeBeginning, FdfaForms}
 use Rattle.normalizer_tables.specs.declared.condition.Condition.TheVariants.{Steps, WordClasses}
-use Rattle.normalizer_tables.specs.Characters.{Characters, list_of, word_of}
-use Rattle.normalizer_tables.specs.CharacterConditions.{IsOrderedList, IsPlainStarter, IsSoundClass, IsSoundWord}
-use Rattle.normalizer_tables.specs.CharacterConditions.{ReadsToItself}
+use Rattle.normalizer_tables.specs.Characters.{Characters, word_of}
 use Rattle.normalizer_tables.specs.Conditions.{IsMet}
 use Rattle.normalizer_tables.specs.Hangul.{is_hangul_syllable, n_count, s_base}
 use Rattle.normalizer_tables.specs.Loaded.{Loaded}
-use Rattle.normalizer_tables.specs.PairConditions.{KeepsBoundary, KeepsRoundTrip}
+use Rattle.normalizer_tables.specs.PairConditions.{KeepsBoundary}
 use Rattle.normalizer_tables.specs.Pairs.{Pair}
-use Rattle.normalizer_tables.specs.StepConditions.{AvoidsFdfa, HasSoundStep}
+use Rattle.normalizer_tables.specs.StepConditions.{AvoidsFdfa}
 use Rattle.normalizer_tables.specs.Table.{code_points}
 use Rattle.normalizer_tables.specs.Words.{is_plain}
 
@@ -49,19 +47,6 @@ IsMetApart d FdfaForms = (n : ℕ) → (IsScalar n → ⊥) → AvoidsFdfa d.cha
 IsMetApart d Steps = Unit {0}
 IsMetApart d WordClasses = Unit {0}
 IsMetApart d c = IsMet d c
-
--- what a condition says of a character, if it says something of each
-unfoldable pub IsMetAt : Loaded → Condition → ℕ → Type 0
-IsMetAt d Words n = IsSoundWord d.characters n
-IsMetAt d Members n = All (ReadsToItself d.characters) (list_of d.characters [] n)
-IsMetAt d Order n = IsOrderedList d.characters n
-IsMetAt d Passthrough n = n < d.bounds.decomposition → IsPlainStarter d.characters n
-IsMetAt d RoundTrip n = IfSome d.pairs (λ pairs. KeepsRoundTrip d.characters d.bounds pairs n)
-IsMetAt d SafeBeginning n = IfSome d.pairs (λ pairs. KeepsBoundary d.characters d.bounds pairs n)
-IsMetAt d FdfaForms n = AvoidsFdfa d.characters n
-IsMetAt d Steps n = IfSome d.supplement (λ t. HasSoundStep d.characters t n)
-IsMetAt d WordClasses n = IsSoundClass n (word_of d.characters n)
-IsMetAt d c n = Unit {0}
 
 -- a condition says something of each character
 unfoldable pub is_asked_of_words : Condition → Bool

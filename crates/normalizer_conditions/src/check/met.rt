@@ -2,7 +2,8 @@
 ghost use Rattle.std.specs.Prelude.{◌↔◌, IsTrue};
 ghost use Rattle.normalizer_tables.specs.Conditions.{IsMet};
 ghost use Rattle.normalizer_tables.specs.Read.{IsRead};
-ghost use Rattle.normalizer_conditions.specs.inner.Walk.{IsMetApart, IsMetAt};
+ghost use Rattle.normalizer_conditions.specs.inner.Walk.{IsMetApart};
+ghost use Rattle.normalizer_conditions.specs.EachCharacter.{IsMetAt};
 
 use crate::check::lists::is_ordered_list;
 use crate::check::numbers::{
@@ -54,7 +55,7 @@ pub fn is_met_apart(data: &LoadedData<'_>, condition: Condition) -> bool
 }
 
 /// Whether a condition is met, as far as it says something of a character.
-#[tactic(auto, unfolding(crate::specs::inner::Walk::IsMetAt))]
+#[tactic(auto, unfolding(crate::specs::EachCharacter::IsMetAt))]
 pub fn is_met_at(data: &LoadedData<'_>, condition: Condition, read: &ReadCharacter<'_>) -> bool
     requires { IsRead data.now.characters read.now }
     ensures { IsTrue result ↔ IsMetAt data.now condition read.now.character }

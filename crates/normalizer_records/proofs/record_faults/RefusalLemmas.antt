@@ -1,6 +1,6 @@
 -- The first refusal, one after another.
-use Rattle.std.proofs.Common.{◌≡◌, ℕ, ◌+◌, ◌<◌, ◌↔◌, Bool, true, false, List, ◌∷◌, get_or, refl, Option, Some, IsTrue, if◌then◌else◌, sym}
-use Rattle.std.proofs.Common.{◌∙◌, arith, suc, length}
+use Rattle.std.proofs.Common.{◌≡◌, ℕ, ◌+◌, ◌<◌, ◌↔◌, Bool, true, false, not, List, ◌∷◌, get_or, refl, Option, Some, IsTrue, if◌then◌else◌, sym}
+use Rattle.std.proofs.Common.{◌∙◌, arith, suc, length, inl, inr}
 use Rattle.std.specs.BTreeSet.{BTreeSet, contains}
 use Rattle.std.specs.List.{list_any}
 use Rattle.std.specs.Ordering.{nat_cmp}
@@ -9,7 +9,7 @@ use Rattle.std.proofs.lemmas.List.Folds.{Any-from_list_any, list_any_at}
 use Rattle.normalizer_records.specs.Meaning.{status_of}
 use Rattle.normalizer_records.specs.inner.FirstFaults.{first_among}
 use Rattle.normalizer_records.specs.inner.Chains.{IsSetOf}
-use Rattle.std.proofs.lemmas.Bool.{true≢false}
+use Rattle.std.proofs.lemmas.Bool.{cases_lt, true≢false}
 use Rattle.normalizer_records.specs.declared.records.BuildError.{BuildError}
 use Rattle.normalizer_records.specs.declared.records.BuildError.TheVariants.{Order, Fixed, Class, Mapping, Chain, Length, Pair, Unfit, TableFull, Memory}
 use Rattle.normalizer_records.specs.RecordValue.{RecordValue, Uts46RecordValue}
@@ -69,6 +69,14 @@ module _ (records : List RecordValue) (uts46 : List Uts46RecordValue) where
   unfolding HasFault IsFirstRefusal
   order_first h = (h, none_at_all)
 
+  -- if records don't rise, that is the refusal
+  pub order_alone : (e : BuildError) → HasOrderFault records uts46 → IsFirstRefusal records uts46 (Some e) → e ≡ Order
+  unfolding HasFault IsFirstRefusal
+  order_alone e fault first = elim (cases_lt (rank_of Order) (rank_of e)) [
+    | inl above ↦ absurd (first.1 Order above fault)
+    | inr low ↦ let some = some_rank e in same_rank e Order (omega arith) (omega arith)
+  ]
+
   pub fixed_first : AreRising records → AreMapperRising uts46 → has_fixed_fault records uts46 ≡ true → IsFirstRefusal records uts46 (Some Fixed)
   unfolding HasFault IsFirstRefusal
   fixed_first rising mapper h = (h, no_order_fault rising mapper)
@@ -92,3 +100,10 @@ module _ (records : List RecordValue) (uts46 : List Uts46RecordValue) (long : BT
     where
       never : (k d : ℕ) → k < length (c ∷ mapped_to (status_of uts46 c)) → IsOnLongChain records (get_or (c ∷ mapped_to (status_of uts46 c)) k d) → ⊥
       never k d within on = true≢false (sym (list_any_at (contains nat_cmp long) (c ∷ mapped_to (status_of uts46 c)) k d within ((is (get_or (c ∷ mapped_to (status_of uts46 c)) k d)).1 on)) ∙ h)
+
+  pub decides_asked : (b : Bool) → b ≡ among → IsTrue (not b) ↔ IsAsked records uts46 c
+  decides_asked true is = (
+    λ e. absurd (true≢false (sym e)),
+    λ checked. absurd (true≢false (sym ((not_asked (sym is) (Unit {0})).1 (checked, tt)))),
+  )
+  decides_asked false is = (λ _. ((asked (sym is) (Unit {0}) true (λ _. tt, λ _. refl)).0 refl).0, λ _. refl)

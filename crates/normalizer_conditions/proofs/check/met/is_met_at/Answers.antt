@@ -1,4 +1,4 @@
-use Rattle.normalizer_conditions.specs.inner.Walk.{IsMetAt}
+use Rattle.normalizer_conditions.specs.EachCharacter.{IsMetAt}
 use Rattle.normalizer_conditions.proofs.words.FdfaWords.{AvoidsFdfa-word}
 use Rattle.normalizer_conditions.proofs.check.met.is_met_at.Goals as goal
 
