@@ -1,3 +1,5 @@
+pub mod MemoryAlone
+pub mod PackedForms
 pub mod property_data
 pub mod acceptance
 pub mod passthrough

@@ -1,14 +1,14 @@
 //! Unicode normalization forms NFC, NFD, NFKC and NFKD (Unicode Standard Annex #15), over data that callers supply and
 //! that are checked. No Unicode data come with the crate.
 //!
-//! [`ComposingNormalizer`] makes NFC and NFKC, [`DecomposingNormalizer`] NFD and NFKD; their borrowed types have the
-//! calls. Inputs are `&str`, bytes that may not be UTF-8 and 16-bit units that may not be UTF-16 (ill-formed sequences
-//! read as U+FFFD), and iterators of `char`. Checks never return 'maybe'. Forms are returned, borrowed if the input is
-//! already normalized, or written to a [`sink`].
+//! [`ComposingNormalizer`] makes NFC and NFKC, [`DecomposingNormalizer`] NFD and NFKD, [`AnyNormalizer`] any of the
+//! four; their borrowed types have the calls. Inputs are `&str`, bytes that may not be UTF-8 and 16-bit units that may
+//! not be UTF-16 (ill-formed sequences read as U+FFFD), and iterators of `char`. Checks never return 'maybe'. Forms are
+//! returned, borrowed if the input is already normalized, or written to a [`sink`].
 //!
-//! Data come from a [`DataProvider`]. [`Records::build`] makes one from plain records of characters. Constructors check
-//! all data against written conditions (`docs/CONDITIONS.md`) and refuse data that break one. All promises hold for all
-//! data that pass.
+//! Data come from a [`DataProvider`]. [`Records::build`] makes one from plain records of characters, and
+//! [`normalizer_to`] a normalizer over it to the form that the records mean. Constructors check all data against
+//! written conditions (`docs/CONDITIONS.md`) and refuse data that break one. All promises hold for all data that pass.
 //!
 //! - [`properties`]: canonical combining classes, the pairs that compose, and single decomposition steps.
 //! - [`uts46`]: the mapper of UTS #46.
@@ -31,8 +31,10 @@
 //! may still change.
 #![tactic(auto)]
 
+mod any_normalizer;
 mod borrowed;
 mod boundaries;
+mod by_records;
 mod checks;
 mod combining_class;
 mod composing_form;
@@ -43,8 +45,10 @@ mod decomposing_normalizer;
 mod decomposition;
 mod forming;
 pub mod harfbuzz;
+mod held_forms;
 mod kept;
 pub mod laws;
+mod mapping;
 mod offence;
 mod owned;
 pub mod properties;
@@ -56,9 +60,13 @@ mod unchecked;
 pub mod uts46;
 mod writing;
 
+pub use any_normalizer::{AnyNormalizer, AnyNormalizerBorrowed, NormalForm};
 pub use borrowed::{ComposingNormalizerBorrowed, DecomposingNormalizerBorrowed};
+pub use by_records::{built_mapper, normalizer_to};
 pub use composing_normalizer::ComposingNormalizer;
 pub use decomposing_normalizer::DecomposingNormalizer;
+pub use held_forms::{FormData, MappingData};
+pub use mapping::{is_valid, mapped};
 pub use normalizer_builder::{Built, Records, laws as record_laws};
 pub use normalizer_conditions::check_nfd_data;
 pub use normalizer_iterators::{
