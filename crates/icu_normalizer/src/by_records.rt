@@ -26,7 +26,8 @@ use normalizer_tables::DataError;
 /// # Examples
 /// ```rust
 /// let normalizer = normalizer_to(&built, NormalForm::Nfc)?;
-/// let form = normalizer.as_borrowed().normalize(text)?;
+/// let form = normalizer.as_borrowed().normalize("\u{1100}\u{1161}")?;
+/// assert!(rt; *form == *"\u{AC00}");
 /// ```
 pub fn normalizer_to(built: &Built, form: NormalForm) -> Result<AnyNormalizer, NormalizeError>
     requires { AreBuilt (data_in built.now) }

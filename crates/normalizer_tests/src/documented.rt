@@ -6,7 +6,7 @@ use icu_normalizer::properties::{
 use icu_normalizer::uts46::Uts46Mapper;
 use icu_normalizer::{
     Built, ComposingNormalizer, ComposingNormalizerBorrowed, DataError,
-    DecomposingNormalizerBorrowed, NormalizeError, Records, collected,
+    DecomposingNormalizerBorrowed, NormalForm, NormalizeError, Records, collected, normalizer_to,
 };
 use normalizer_ucd::records_of_unicode_data;
 use std::alloc::Global;
@@ -119,7 +119,16 @@ fn read(rt: &impl Abort, alloc: Global) -> Result<(), Fail> {
     Ok(())
 }
 
+fn any_form(rt: &impl Abort, alloc: Global) -> Result<(), Fail> {
+    let built = Records::build(alloc, &[], &[])?;
+    let normalizer = normalizer_to(&built, NormalForm::Nfc)?;
+    let form = normalizer.as_borrowed().normalize("\u{1100}\u{1161}")?;
+    assert!(rt; *form == *"\u{AC00}");
+    Ok(())
+}
+
 #[test]
 fn calls_that_read_and_build(rt: HostRuntime) -> Result<(), Fail> {
-    read(&rt, rt.alloc())
+    read(&rt, rt.alloc())?;
+    any_form(&rt, rt.alloc())
 }
