@@ -15,7 +15,7 @@ ghost use Rattle.icu_normalizer.specs.BoundaryBefore.{HasBoundaryBefore};
 ghost use Rattle.icu_normalizer.specs.Forms.{composing_by, decomposing_by, form_in, form_of, HasShortUnits, MadeForm};
 ghost use Rattle.icu_normalizer.specs.inner.Offences.{IsFirstOrNone};
 ghost use Rattle.icu_normalizer.specs.inner.PassthroughRuns.{IsKeptSegment, CanFollowMark, CanPassThrough};
-ghost use Rattle.icu_normalizer.specs.inner.PassthroughRuns.{IsOwnListOfClass};
+ghost use Rattle.icu_normalizer.specs.inner.PassthroughRuns.{composing_class, IsOwnListOfClass};
 ghost use Rattle.icu_normalizer.specs.inner.WrittenParts.{NothingOffered, WritesText};
 
 use crate::composing_form::ComposingForm;
@@ -24,6 +24,7 @@ use crate::kept::{KeptSegment, composite_of, kept_segment};
 use crate::writing::{first_item, write_items};
 use normalizer_iterators::{MarkRun, NormalizeError, SegmentBuffers};
 use normalizer_tables::characters::IgnoredCharacters;
+use normalizer_tables::may_be_second;
 use normalizer_tables::members::Members;
 use normalizer_tables::word::{is_backward_combining, is_non_round_trip};
 use normalizer_text::output::Output;
@@ -42,7 +43,7 @@ pub trait Forming {
     /// The bound below which each is so, as a starter.
     ghost bound: { Self → ℕ };
 
-    /// Whether the last one is held back if another one follows.
+    /// Whether the last starter is held back, with the marks after it, if a character follows that doesn't pass.
     ghost held_back: { Bool };
 
     /// Which characters begin a new part.
@@ -61,7 +62,7 @@ pub trait Forming {
     fn passthrough_bound(&self) -> u32
         ensures { result ≡ bound self.now };
 
-    /// Whether a character that passes may be changed by what follows it.
+    /// Whether a starter that passes may be changed by what follows it.
     fn holds_back(&self) -> bool
         ensures { result ≡ held_back };
 
@@ -127,13 +128,13 @@ pub trait Forming {
     /// Returns the allocator of the data.
     fn allocator(&self) -> Global;
 
-    /// Characters that pass with class 0 are normalized apart, those that pass with another may follow marks of lower
-    /// classes, and those below the bound pass; what `begins` accepts is normalized apart from what comes before.
+    /// Characters that pass with class 0 are normalized apart, those that pass with another may follow characters of
+    /// classes up to it, and those below the bound pass; what `begins` accepts is normalized apart from what comes before.
     fn passthrough_is_normalized_apart(&self)
         ensures apart { (c : ℕ) → IsScalar c → passthrough_class self.now c ≡ Some 0 →
             CanPassThrough (made_form self.now).reading (made_form self.now).form held_back c }
         ensures follow { (c k : ℕ) → IsScalar c → passthrough_class self.now c ≡ Some k → 0 < k →
-            CanFollowMark (made_form self.now).reading (made_form self.now).form held_back c k }
+            CanFollowMark (made_form self.now).reading (made_form self.now).form c k }
         ensures begins { (c : ℕ) → IsScalar c → beginning self.now c ≡ true →
             HasBoundaryBefore (made_form self.now).reading (made_form self.now).form c }
         ensures below { (c : ℕ) → c < bound self.now → passthrough_class self.now c ≡ Some 0 };
@@ -231,7 +232,7 @@ impl<'a> Forming for DecomposingForm<'a> {
 impl<'a> Forming for ComposingForm<'a> {
     ghost made_form = { composing_by };
 
-    ghost passthrough_class = { λ f c. if is_composing_passthrough f.characters f.bounds c then Some 0 else None };
+    ghost passthrough_class = { λ f c. composing_class f.characters f.bounds f.pairs.now c };
 
     ghost bound = { λ f. f.bounds.composition };
 
@@ -239,9 +240,15 @@ impl<'a> Forming for ComposingForm<'a> {
 
     ghost beginning = { λ f c. is_composing_passthrough f.characters f.bounds c };
 
+    #[tactic(auto, unfolding(crate::specs::inner::PassthroughRuns::class_if_alone, crate::specs::inner::PassthroughRuns::composing_class))]
     fn passthrough_class(&self, character: char) -> Option<u8> {
         if self.begins(character) {
-            Some(0)
+            return Some(0);
+        }
+        let word = self.characters.word_of(character);
+        let class = self.characters.class_of_itself(character, word)?;
+        if class > 0 && !may_be_second(self.pairs, character) {
+            Some(class)
         } else {
             None
         }

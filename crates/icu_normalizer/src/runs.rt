@@ -109,8 +109,8 @@ pub(crate) fn front_segment<U: Units, N: Forming>(normalizer: &N, units: U, firs
     }
 }
 
-/// Returns the end of the front of the units that is passed on as it is: of a run, without the last character if it may
-/// compose with what follows, and without the marks at its end if what follows may be ordered among them.
+/// Returns the end of the front of the units that is passed on as it is: of a run, without the last starter and the
+/// marks after it if it may compose with what follows, and without these marks if what follows may be ordered among them.
 pub(crate) fn passthrough_end<U: Units, N: Forming>(normalizer: &N, units: U) -> usize
     ensures handed { IsPassthroughEnd (N.passthrough_class normalizer.now) (N.beginning normalizer.now) N.held_back
         U.encoding (U.units units) result }
@@ -123,8 +123,8 @@ pub(crate) fn passthrough_end<U: Units, N: Forming>(normalizer: &N, units: U) ->
         return run.end;
     }
     if normalizer.holds_back() {
-        return match units.before(run.end).last_step() {
-            Some(step) => run.end - step.width,
+        return match units.before(run.marks).last_step() {
+            Some(step) => run.marks - step.width,
             None => 0,
         };
     }

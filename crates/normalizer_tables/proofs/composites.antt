@@ -2,3 +2,4 @@
 pub mod BucketLemmas
 pub mod PairLemmas
 pub mod SingleComposites
+pub mod SecondLemmas

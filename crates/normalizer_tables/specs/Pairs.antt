@@ -1,6 +1,7 @@
 -- The pairs of characters that have a primary composite (The Unicode Standard, D114), Hangul ones included.
 use Rattle.std.specs.Prelude.{◌≡◌, ℕ, Bool, true, ◌&&◌, ◌||◌, ◌==◌, nat_eq, nat_lt, List, AllPairs, find, Option}
 use Rattle.std.specs.Prelude.{None, if◌then◌else◌, slice_index_or}
+use Rattle.std.specs.List.{list_any}
 use Rattle.std.specs.Option.{option_map}
 use Rattle.std.specs.Int.{is_in_range}
 use Rattle.normalizer_tables.specs.HangulComposition.{compose_hangul}
@@ -42,6 +43,14 @@ pair_of pairs first second =
 -- no character composes with this one after it
 unfoldable pub IsNeverSecond : List Pair → ℕ → Type 0
 IsNeverSecond pairs second = (first : ℕ) → pair_of pairs first second ≡ None
+
+-- a listed pair has this second
+unfoldable pub is_listed_second : List Pair → ℕ → Bool
+is_listed_second pairs second = list_any (λ p. p.0 == second) pairs
+
+-- some character may compose with this one after it: it is a vowel or trailing jamo, or a listed pair has it second
+unfoldable pub may_be_second : List Pair → ℕ → Bool
+may_be_second pairs second = is_vowel_or_trailing_jamo second || is_listed_second pairs second
 
 -- the pair at a place
 unfoldable pub pair_at : List Pair → ℕ → Pair

@@ -20,8 +20,8 @@ mod table;
 pub mod word;
 
 pub use pairs::{
-    CanonicalCompositions, compose, has_no_jamo_second, is_never_second, is_rising, pair_at,
-    pair_count,
+    CanonicalCompositions, compose, has_no_jamo_second, is_never_second, is_rising, may_be_second,
+    pair_at, pair_count,
 };
 pub use provider::{
     DataError, DataMarker, DataMarkerInfo, DataProvider, DecompositionData, DecompositionTables,

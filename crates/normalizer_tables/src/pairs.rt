@@ -1,19 +1,22 @@
 //! The pairs of characters that compose.
-ghost use Rattle.std.specs.Prelude.{◌≡◌, ◌↔◌, ◌<◌, length, slice_get, All, false, ℕ, IfOk, IsOkUnless, IsTrue};
+ghost use Rattle.std.specs.Prelude.{◌≡◌, ◌↔◌, ◌<◌, ◌||◌, length, slice_get, All, false, ℕ, IfOk, IsOkUnless, IsTrue};
 ghost use Rattle.normalizer_tables.specs.Pairs.{
   is_before,
   is_of,
   is_vowel_or_trailing_jamo,
   listed_result,
+  may_be_second,
   pair_of,
   AreRising,
   IsNeverSecond,
 };
 
 mod buckets;
+mod seconds;
 
 use crate::hangul::{compose_hangul, is_never_hangul_second};
 use crate::pairs::buckets::PairBuckets;
+use crate::pairs::seconds::Seconds;
 use crate::table::TableError;
 use std::alloc::AllocError;
 use std::marker::Model;
@@ -21,7 +24,7 @@ use std::marker::Model;
 /// The pairs of characters that compose: a list of triples of second character, first character and result.
 pub struct CanonicalCompositions {
     pairs: PairBuckets,
-    /// Look-ups of a second halve a list that rises, and scan another.
+    seconds: Seconds,
     is_rising: bool,
 }
 
@@ -30,6 +33,7 @@ impl Drop for CanonicalCompositions {
     fn drop(self) {
         let CanonicalCompositions {
             pairs: _pairs,
+            seconds: _seconds,
             is_rising: _is_rising,
         } = self;
     }
@@ -38,12 +42,13 @@ impl Drop for CanonicalCompositions {
 impl Model for CanonicalCompositions {
     ghost use Rattle.std.specs.Prelude.{◌≡◌, ◌↔◌, ℕ, List, IsTrue};
     ghost use Rattle.normalizer_tables.specs.Pairs.{AreRising};
+    ghost use Rattle.normalizer_tables.specs.inner.Seconds.{AreBitsOf};
 
     ghost Value = { List (ℕ × ℕ × ℕ) };
 
     ghost view = { λ c. c.pairs };
 
-    ghost invariant = { λ c. IsTrue c.is_rising ↔ AreRising c.pairs };
+    ghost invariant = { λ c. (IsTrue c.is_rising ↔ AreRising c.pairs) × AreBitsOf c.seconds c.pairs };
 }
 
 impl CanonicalCompositions {
@@ -57,19 +62,20 @@ impl CanonicalCompositions {
         ensures refused { IsOkUnless result TableError.Memory }
     {
         let is_rising = are_rising(&pairs);
+        let seconds = Seconds::of_pairs(*pairs.allocator(), &pairs)?;
         let pairs = PairBuckets::from_pairs(pairs)?;
-        Ok(CanonicalCompositions { pairs, is_rising })
+        Ok(CanonicalCompositions {
+            pairs,
+            seconds,
+            is_rising,
+        })
     }
 
     /// Whether no pair has this second.
     fn is_never_listed_second(&self, second: char) -> bool
         ensures { IsTrue result ↔ ((first : ℕ) → listed_result self.now first second ≡ None) }
     {
-        if self.is_rising {
-            has_no_second_by_halving(self.pairs.as_slice(), second)
-        } else {
-            has_no_second(&self.pairs, second)
-        }
+        !self.seconds.has(second)
     }
 }
 
@@ -97,6 +103,16 @@ pub fn is_never_second(pairs: &CanonicalCompositions, second: char) -> bool
     } else {
         pairs.is_never_listed_second(second)
     }
+}
+
+/// Returns whether some character may compose with this one after it: whether it is a vowel or trailing jamo, or a
+/// listed pair has it second.
+#[tactic(auto, unfolding(crate::specs::Pairs::may_be_second))]
+#[inline(always)]
+pub fn may_be_second(pairs: &CanonicalCompositions, second: char) -> bool
+    ensures { result ≡ may_be_second pairs.now second }
+{
+    is_vowel_or_trailing_jamo(second) || pairs.seconds.has(second)
 }
 
 /// Returns whether the list strictly rises by second, then by first.
@@ -162,6 +178,7 @@ impl Clone for CanonicalCompositions {
     fn clone(&self) -> Result<Self, AllocError> {
         Ok(CanonicalCompositions {
             pairs: self.pairs.clone()?,
+            seconds: self.seconds.clone()?,
             is_rising: self.is_rising,
         })
     }
@@ -171,31 +188,6 @@ fn are_rising(pairs: &[(char, char, char)]) -> bool
     ensures { IsTrue result ↔ AreRising pairs.now }
 {
     pairs.is_sorted_by(|pair, next| is_before(pair, next.0, next.1))
-}
-
-/// Whether no pair has this second.
-#[tactic(auto, using(std::proofs::lemmas::Option::get_or_from_slice_get), unfolding(crate::specs::Pairs::pair_at))]
-fn has_no_second(pairs: &PairBuckets, second: char) -> bool
-    ensures { IsTrue result ↔ ((first : ℕ) → listed_result pairs.now first second ≡ None) }
-{
-    for place in 0..pairs.len() {
-        if pairs.at(place).0 == second {
-            return false;
-        }
-    }
-    true
-}
-
-/// Whether no pair of a list that rises has this second.
-fn has_no_second_by_halving(pairs: &[(char, char, char)], second: char) -> bool
-    requires { AreRising pairs.now }
-    ensures { IsTrue result ↔ ((first : ℕ) → listed_result pairs.now first second ≡ None) }
-{
-    let place = pairs.partition_point(|pair| pair.0 < second);
-    match pairs.get(place) {
-        Some(pair) if pair.0 == second => false,
-        _ => true,
-    }
 }
 
 #[tactic(auto, unfolding(crate::specs::Pairs::is_before))]

@@ -1,22 +1,24 @@
 -- Characters that are passed on as they are, and runs of them.
-use Rattle.std.proofs.Common.{◌≡◌, ℕ, ◌<◌, inl, inr, Bool, true, false, List, [], ◌∷◌, ◌++◌, refl, sym, ap, subst, ◌∙◌, append_assoc, append-nil, arith}
+use Rattle.std.proofs.Common.{◌≡◌, ℕ, ◌<◌, ◌⊎◌, inl, inr, Bool, true, false, List, [], ◌∷◌, ◌++◌, length, drop, refl, sym, ap, subst, ◌∙◌, append_assoc, append-nil, arith, length-append}
 use Rattle.std.specs.Char.{IsScalar}
-use Rattle.std.specs.Prelude.{All, nat_lt, ◌||◌, ◌&&◌, ◌≤◌, not, Option, Some, None, if◌then◌else◌}
+use Rattle.std.specs.Prelude.{nat_lt, ◌||◌, ◌&&◌, ◌≤◌, not, option_and_then, Option, Some, None, if◌then◌else◌}
 use lib.Utf8.{scalar}
-use Rattle.std.proofs.lemmas.Bool.{cases_lt, cond-false, cond-true, le-ltb, lt-ltb}
-use Rattle.std.proofs.lemmas.List.Elements.{All-head, All-tail}
-use Rattle.normal_forms.specs.Reading.{Reading, ReadsAsItself, IsStarter}
+use Rattle.std.proofs.lemmas.Bool.{and_parts, cases_Bool, cases_lt, cond-false, cond-true, cond_both, le-ltb, lt-ltb, ltb-true}
+use Rattle.std.proofs.lemmas.List.{drop_at}
+use Rattle.std.proofs.lemmas.Option.{option_and_then_some}
+use Rattle.normal_forms.specs.Reading.{Reading, ReadsAsItself, IsSecondInNoPair, IsStarter}
 use Rattle.normal_forms.specs.Boundary.{BeginsWithStarter}
-use Rattle.normal_forms.specs.Hypotheses.{HasStarterResults}
+use Rattle.normal_forms.specs.Hypotheses.{HasStarterResults, SuitsForm}
 use Rattle.normal_forms.specs.Decomposition.{expand}
-use Rattle.normal_forms.specs.Order.{order, insert}
+use Rattle.normal_forms.specs.Order.{order, insert, EndsUpTo}
 use Rattle.normal_forms.specs.Composition.{compose, compose_from}
 use Rattle.normal_forms.specs.declared.Form.{Form}
 use Rattle.normal_forms.specs.declared.Form.TheVariants.{Decomposing, Composing}
 use Rattle.normal_forms.specs.Forms.{normal_form, nfd, nfc, IsNormalized}
 use Rattle.normal_forms.proofs.boundaries.BoundaryLemmas.{nfd-boundary, BeginsWithStarter-expand, BeginsAtBoundary-expand}
 use Rattle.normal_forms.proofs.forms.LawLemmas.{nfc-boundary}
-use Rattle.normal_forms.proofs.ordering.OrderLemmas.{insert-nil, insert-stays, is_reorderable-rising, order-at_starter, order-cons}
+use Rattle.normal_forms.proofs.composing.InsertedCharacter.{normal_form-mark}
+use Rattle.normal_forms.proofs.ordering.OrderLemmas.{order-at_starter}
 use Rattle.normalizer_tables.specs.declared.characters.IgnoredCharacters.TheVariants.{Dropped}
 use Rattle.normalizer_tables.specs.declared.condition.Bounds.{Bounds}
 use Rattle.normalizer_tables.specs.declared.condition.Condition.TheVariants.{SafeBeginning}
@@ -27,26 +29,35 @@ use Rattle.normalizer_tables.specs.Characters.{Characters, class_of, class_of_it
 use Rattle.normalizer_tables.specs.declared.word.WordReading.{WordReading}
 use Rattle.normalizer_tables.specs.declared.word.WordReading.TheVariants.{Ignored, Itself, ClassForm, SpecialForm}
 use Rattle.normalizer_tables.specs.declared.word.WordReading.TheVariants.{TwoCharacters, HangulSyllable, Fdfa, OneCharacter, Listed}
-use Rattle.normalizer_tables.specs.Pairs.{Pair}
-use Rattle.normalizer_tables.specs.Words.{is_backward_combining, is_non_round_trip}
+use Rattle.normalizer_tables.specs.Pairs.{Pair, may_be_second}
+use Rattle.normalizer_tables.specs.Words.{class_of_word, is_backward_combining, is_class_form, is_non_round_trip}
 use Rattle.normalizer_tables.specs.Readings.{reading_by}
 use Rattle.normalizer_tables.specs.Passthrough.{IsPassthroughBelow}
+use Rattle.normalizer_tables.proofs.composites.SecondLemmas.{pair_of-none}
 use Rattle.normalizer_tables.proofs.words.CharacterLemmas.{list_of-reads}
 use Rattle.normalizer_tables.proofs.words.WordLemmas.{class_of-class_form, class_of-itself}
 use Rattle.icu_normalizer.specs.Serving.{ServesDecomposing}
 use Rattle.normalizer_iterators.specs.LazyComposing.{SuitsLazyComposing}
 use Rattle.normalizer_iterators.proofs.passthrough.PassthroughItemLemmas.{BeginsAtBoundary-apart}
 use Rattle.icu_normalizer.specs.BoundaryBefore.{HasBoundaryBefore}
-use Rattle.icu_normalizer.specs.inner.PassthroughRuns.{Divides, CanFollowMark, CanPassThrough}
+use Rattle.icu_normalizer.specs.inner.PassthroughRuns.{class_if_alone, composing_class, Divides, CanFollowMark, CanPassThrough}
 
 -- a starter that reads as itself is normalized apart from what comes after it too
 CanPassThrough-itself : (d : Reading) (c : ℕ) → ReadsAsItself d c → IsStarter d c → CanPassThrough d Decomposing false c
 unfolding normal_form nfd expand order insert
 CanPassThrough-itself d c itself starter = record {
+  starter = starter;
   own = ap (λ l. order d (l ++ [])) itself;
   begins = λ front x. nfd-boundary d front (c ∷ x)
       (BeginsWithStarter-expand d c x (λ none. let no : [] ≡ c ∷ [] = sym none ∙ itself in cc) (subst (BeginsWithStarter d) (sym itself) starter));
   ends = λ _ x. ap (λ l. order d (l ++ expand d x)) itself ∙ order-at_starter d [] c (expand d x) starter;
+}
+
+-- a mark that reads as itself stays at the end of a text, if the form composes it with nothing before it
+CanFollowMark-itself : (d : Reading) (form : Form) → SuitsForm d form → (c k : ℕ) → ReadsAsItself d c → d.class c ≡ k → 0 < k → (form ≡ Composing → IsSecondInNoPair d c) → CanFollowMark d form c k
+CanFollowMark-itself d form suits c k itself class mark second = record {
+  class = class;
+  stays = λ x ends. normal_form-mark d form suits x c itself (omega (arith, class)) second (subst (λ n. EndsUpTo d n (normal_form d form x)) (sym class) ends);
 }
 
 module _ (s : Characters) (bound : ℕ) (c : ℕ) where
@@ -90,10 +101,12 @@ module _ (s : Characters) (bound : ℕ) (c : ℕ) where
     ]
 
     -- and one with another class
-    pub CanFollowMark-decomposed : (k : ℕ) → decomposed_class ≡ Some k → 0 < k → CanFollowMark (reading_by s Dropped []) Decomposing false c k
-    CanFollowMark-decomposed k is mark = elim (cases_lt c bound) [
+    pub CanFollowMark-decomposed : SuitsForm (reading_by s Dropped []) Decomposing → (k : ℕ) → decomposed_class ≡ Some k → 0 < k → CanFollowMark (reading_by s Dropped []) Decomposing c k
+    CanFollowMark-decomposed suits k is mark = elim (cases_lt c bound) [
       | inl low ↦ let none : Some 0 ≡ Some k = sym (low_class low) ∙ is in let same : 0 ≡ k = cc in absurd (omega arith)
-      | inr high ↦ let known = of_itself k (high_class k high is) in record { free = refl; decomposing = refl; itself = known.0; class = known.1 }
+      | inr high ↦
+          let known = of_itself k (high_class k high is) in
+          CanFollowMark-itself (reading_by s Dropped []) Decomposing suits c k known.0 known.1 mark (λ no. absurd (cc))
     ]
 
 not-true : (b : Bool) → not b ≡ true → b ≡ false
@@ -146,6 +159,11 @@ unfolding is_composing_passthrough
 below_is_passed s b c below =
     ap (λ l. l || (not (is_non_round_trip (word_of s c)) && not (is_backward_combining (word_of s c)))) (lt-ltb c b.composition below)
 
+-- without class form a character is a starter
+class-no_form : (s : Characters) (c : ℕ) → has_class_form s c ≡ false → class_of s c ≡ 0
+unfolding has_class_form class_of class_of_word
+class-no_form s c none = cond_both (scalar c) (class_of_word (word_of s c)) 0 (λ k. k ≡ 0) (λ _. cond-false (is_class_form (word_of s c)) _ 0 none) (λ _. refl)
+
 -- a character that a composing loop passes
 pub CanPassThrough-passed : (s : Characters) (b : Bounds) (pairs : List Pair) → SuitsLazyComposing s b pairs → (c : ℕ) → IsScalar c → is_composing_passthrough s b c ≡ true
     → CanPassThrough (reading_by s Dropped pairs) Composing true c
@@ -154,28 +172,51 @@ CanPassThrough-passed s b pairs suits c scalar passed =
     let d = reading_by s Dropped pairs in
     let apart = suits.apart Dropped c (record { scalar = scalar; passed = passed }) in
     record {
+      starter = class-no_form s c apart.at_boundary;
       own = apart.form;
       begins = λ front x. nfc-boundary d suits.starters front (c ∷ x) (BeginsAtBoundary-expand d c x apart.are_nonempty (BeginsAtBoundary-apart (has_class_form s) d c apart));
       ends = λ no. absurd (cc);
     }
 
-module _ (s : Characters) (b : Bounds) (c : ℕ) where
-  -- with which class a character passes when text is composed: never as a mark
-  abbrev composed_class : Option ℕ
-  composed_class = if is_composing_passthrough s b c then Some 0 else None
+module _ (s : Characters) (b : Bounds) (pairs : List Pair) (c : ℕ) where
+  class_when : (passed : Bool) (other : Option ℕ) (k : ℕ) → (if passed then Some 0 else other) ≡ Some k → ((k ≡ 0) × (passed ≡ true)) ⊎ (other ≡ Some k)
+  class_when true other k is = inl ((let same : 0 ≡ k = cc in sym same), refl)
+  class_when false other k is = inr is
 
-  class_when : (passed : Bool) (k : ℕ) → (if passed then Some 0 else None) ≡ Some k → (passed ≡ true) × (k ≡ 0)
-  class_when true k is = (refl, (let same : 0 ≡ k = cc in sym same))
-  class_when false k is = absurd (cc)
+  -- what it says that a character passes as a mark
+  alone : (k : ℕ) → option_and_then (class_if_alone pairs c) (class_of_itself (reading_of_word s c)) ≡ Some k
+      → (class_of_itself (reading_of_word s c) ≡ Some k) × (0 < k) × (may_be_second pairs c ≡ false)
+  unfolding class_if_alone
+  alone k is = option_and_then_some (class_if_alone pairs c) (class_of_itself (reading_of_word s c)) k is (λ j own passes. elim (cases_Bool (nat_lt 0 j && not (may_be_second pairs c))) [
+    | inl true_of_both ↦
+        let same : Some j ≡ Some k = sym (cond-true (nat_lt 0 j && not (may_be_second pairs c)) (Some j) None true_of_both) ∙ passes in
+        let equal : j ≡ k = cc in
+        let parts = and_parts (nat_lt 0 j) (not (may_be_second pairs c)) true_of_both in
+        (own ∙ same, subst (λ n. 0 < n) equal (ltb-true 0 j parts.0), not-true (may_be_second pairs c) parts.1)
+    | inr other ↦ absurd (let none : None ≡ Some k = sym (cond-false (nat_lt 0 j && not (may_be_second pairs c)) (Some j) None other) ∙ passes in cc)
+  ])
 
-  pub composed_low_class : c < b.composition → composed_class ≡ Some 0
-  composed_low_class low = cond-true (is_composing_passthrough s b c) (Some 0) None (below_is_passed s b c low)
+  pub composed_low_class : c < b.composition → composing_class s b pairs c ≡ Some 0
+  unfolding composing_class
+  composed_low_class low = cond-true (is_composing_passthrough s b c) (Some 0) _ (below_is_passed s b c low)
 
-  pub CanPassThrough-composed : (pairs : List Pair) → SuitsLazyComposing s b pairs → IsScalar c → composed_class ≡ Some 0 → CanPassThrough (reading_by s Dropped pairs) Composing true c
-  CanPassThrough-composed pairs suits scalar is = CanPassThrough-passed s b pairs suits c scalar (class_when (is_composing_passthrough s b c) 0 is).0
+  pub CanPassThrough-composed : SuitsLazyComposing s b pairs → IsScalar c → composing_class s b pairs c ≡ Some 0 → CanPassThrough (reading_by s Dropped pairs) Composing true c
+  unfolding composing_class
+  CanPassThrough-composed suits scalar is = elim (class_when (is_composing_passthrough s b c) _ 0 is) [
+    | inl passed ↦ CanPassThrough-passed s b pairs suits c scalar passed.1
+    | inr mark ↦ absurd (let known = alone 0 mark in omega (arith, known.1))
+  ]
 
-  pub CanFollowMark-composed : (pairs : List Pair) (k : ℕ) → composed_class ≡ Some k → 0 < k → CanFollowMark (reading_by s Dropped pairs) Composing true c k
-  CanFollowMark-composed pairs k is mark = let none = (class_when (is_composing_passthrough s b c) k is).1 in absurd (omega arith)
+  pub CanFollowMark-composed : SuitsForm (reading_by s Dropped pairs) Composing → IsScalar c → (k : ℕ) → composing_class s b pairs c ≡ Some k → 0 < k
+      → CanFollowMark (reading_by s Dropped pairs) Composing c k
+  unfolding composing_class
+  CanFollowMark-composed suits scalar k is some = elim (class_when (is_composing_passthrough s b c) _ k is) [
+    | inl passed ↦ absurd (omega (arith, passed.0))
+    | inr mark ↦
+        let known = alone k mark in
+        let itself = of_itself s 0 c scalar k known.0 in
+        CanFollowMark-itself (reading_by s Dropped pairs) Composing suits c k itself.0 itself.1 some (λ _. pair_of-none pairs c known.2)
+  ]
 
 module _ (d : Reading) (form : Form) where
   pub normal_form-nil : (form : Form) → normal_form d form [] ≡ []
@@ -199,23 +240,6 @@ module _ (d : Reading) (form : Form) where
       subst (λ k. normal_form d form (front ++ k ∷ read) ≡ normal_form d form front ++ normal_form d form (k ∷ read)) same (begins front read)
 
   module _ (held_back : Bool) where
-    -- a run, and what is normalized apart from what comes before it
-    run_then : (run y : List ℕ) → All (CanPassThrough d form held_back) run → ((front : List ℕ) → normal_form d form (front ++ y) ≡ normal_form d form front ++ normal_form d form y)
-        → normal_form d form (run ++ y) ≡ run ++ normal_form d form y
-    run_then [] y all apart = refl
-    run_then (c ∷ []) y all apart = apart (c ∷ []) ∙ ap (λ l. l ++ normal_form d form y) (All-head (CanPassThrough d form held_back) c [] all).own
-    run_then (c ∷ e ∷ run) y all apart =
-        let rest = All-tail (CanPassThrough d form held_back) c (e ∷ run) all in
-        (All-head (CanPassThrough d form held_back) e run rest).begins (c ∷ []) (run ++ y)
-        ∙ ap (λ l. l ++ normal_form d form (e ∷ run ++ y)) (All-head (CanPassThrough d form held_back) c (e ∷ run) all).own
-        ∙ ap (λ l. c ∷ l) (run_then (e ∷ run) y rest apart)
-
-    -- a run is normalized
-    pub IsNormalized-run : (run : List ℕ) → All (CanPassThrough d form held_back) run → IsNormalized d form run
-    IsNormalized-run run all =
-        ap (normal_form d form) (sym (append-nil run)) ∙ run_then run [] all (λ front. Divides-end front [] [] refl)
-        ∙ ap (λ l. run ++ l) (normal_form-nil form) ∙ append-nil run
-
     -- what comes after a character of which nothing is held back is normalized apart
     pub Divides-after : held_back ≡ false → (c : ℕ) → CanPassThrough d form held_back c → (front x rest : List ℕ) → Divides d form (front ++ (x ++ c ∷ [])) rest
     Divides-after free c may front x rest read unread is =
@@ -227,28 +251,26 @@ module _ (d : Reading) (form : Form) where
         ∙ ap (λ l. l ++ f read)
         (ap (λ l. f (front ++ x) ++ l) (sym may.own) ∙ sym (may.begins (front ++ x) []) ∙ ap f (append_assoc front x (c ∷ [])))
 
--- a mark that may follow stays before a text in form that begins with a mark of no lower class, or that is normalized apart
-module _ (d : Reading) (form : Form) (held_back : Bool) (c k : ℕ) (may : CanFollowMark d form held_back c k) where
-  form_of_mark : (y : List ℕ) → nfd d (c ∷ y) ≡ insert d c (nfd d y)
-  unfolding nfd expand
-  form_of_mark y = ap (λ l. order d (l ++ expand d y)) may.itself ∙ order-cons d c (expand d y)
+-- ---- how texts end
 
-  as_nfd : (y : List ℕ) → normal_form d form y ≡ nfd d y
-  unfolding normal_form
-  as_nfd y = ap (λ f. normal_form d f y) may.decomposing
+same_last : (x y : List ℕ) (a b : ℕ) → x ++ a ∷ [] ≡ y ++ b ∷ [] → a ≡ b
+same_last x y a b is =
+    let long : length x ≡ length y = omega (arith, ap length is, length-append x (a ∷ []), length-append y (b ∷ [])) in
+    let last : a ∷ [] ≡ b ∷ [] =
+    sym (drop_at x (a ∷ []) (length x) refl) ∙ ap (drop (length x)) is ∙ ap (λ n. drop n (y ++ b ∷ [])) long ∙ drop_at y (b ∷ []) (length y) refl in
+    cc
 
-  mark_before : (y : List ℕ) → IsNormalized d form y → insert d c y ≡ c ∷ y → IsNormalized d form (c ∷ y)
-  mark_before y own stays = as_nfd (c ∷ y) ∙ form_of_mark y ∙ ap (insert d c) (sym (as_nfd y) ∙ own) ∙ stays
+pub EndsUpTo-none : (d : Reading) (k : ℕ) → EndsUpTo d k []
+EndsUpTo-none d k front last is = absurd (omega (arith, ap length is, length-append front (last ∷ [])))
 
-  pub IsNormalized-mark : IsNormalized d form (c ∷ [])
-  IsNormalized-mark = mark_before [] (normal_form-nil d form form) (insert-nil d c)
+pub EndsUpTo-more : (d : Reading) (x : List ℕ) (c k : ℕ) → d.class c ≡ k → EndsUpTo d k (x ++ c ∷ [])
+EndsUpTo-more d x c k class front last is = omega (arith, class, ap d.class (same_last x front c last is))
 
-  pub IsNormalized-mark_before : (e m : ℕ) (y : List ℕ) → CanFollowMark d form held_back e m → k ≤ m → IsNormalized d form (e ∷ y) → IsNormalized d form (c ∷ e ∷ y)
-  IsNormalized-mark_before e m y next rising own =
-      let mine = may.class in
-      let its = next.class in
-      mark_before (e ∷ y) own (insert-stays d c e y (is_reorderable-rising d c e (omega (arith, mine, its))))
+-- a character that passes with class j after one of class `last` stays at the end of a text that is normalized
+module _ (d : Reading) (form : Form) (x : List ℕ) (own : IsNormalized d form x) (c j : ℕ) where
+  pub IsNormalized-starter : (held_back : Bool) → CanPassThrough d form held_back c → IsNormalized d form (x ++ c ∷ [])
+  IsNormalized-starter held_back may = may.begins x [] ∙ ap (λ l. l ++ normal_form d form (c ∷ [])) own ∙ ap (λ l. x ++ l) may.own
 
-  pub IsNormalized-before_starter : (e : ℕ) (y : List ℕ) → CanPassThrough d form held_back e → IsNormalized d form (e ∷ y) → IsNormalized d form (c ∷ e ∷ y)
-  IsNormalized-before_starter e y next own =
-      next.begins (c ∷ []) y ∙ ap (λ l. l ++ normal_form d form (e ∷ y)) IsNormalized-mark ∙ ap (λ l. c ∷ l) own
+  pub IsNormalized-mark : CanFollowMark d form c j → (last : ℕ) → last ≤ j → EndsUpTo d last x → IsNormalized d form (x ++ c ∷ [])
+  IsNormalized-mark may last rising ends =
+      may.stays x (λ front end is. let low = ends front end (sym own ∙ is) in omega arith) ∙ ap (λ l. l ++ c ∷ []) own

@@ -1,6 +1,6 @@
 -- Runs and segments are normalized apart from what comes after them, and runs are normalized.
 use Rattle.std.proofs.Common.{◌≡◌, ℕ, zero, suc, ◌-◌, ◌<◌, ◌≤◌, Bool, true, false, List, [], ◌∷◌, ◌++◌, length, take, drop, map, refl, sym, ap, subst, ◌∙◌}
-use Rattle.std.proofs.Common.{arith, length-drop, length-take-le, inl, inr}
+use Rattle.std.proofs.Common.{append_assoc, append-nil, arith, length-drop, length-take-le, inl, inr}
 use Rattle.std.specs.Char.{IsScalar}
 use Rattle.std.specs.Prelude.{All, ◌⊎◌, ◌≢◌, ◌&&◌, Option, Some}
 use Rattle.std.proofs.lemmas.Bool.{cases_lt, cases_Bool, true≢false, cond-true, cond-false, eq-eqb}
@@ -11,6 +11,7 @@ use Rattle.std.proofs.lemmas.List.Elements.{All-nil, All-cons, All-head, All-tai
 use Rattle.normal_forms.specs.Reading.{Reading}
 use Rattle.normal_forms.specs.declared.Form.{Form}
 use Rattle.normal_forms.specs.Forms.{IsNormalized}
+use Rattle.normal_forms.specs.Order.{EndsUpTo}
 use Rattle.normalizer_text.specs.declared.decoding_step.Step.{Step}
 use Rattle.normalizer_text.specs.Encodings.{Encoding, first_in, decoded_in}
 use Rattle.normalizer_text.specs.DecodingSteps.{read, replacement_step, steps, width_of, IsLastStep}
@@ -24,7 +25,7 @@ use Rattle.normalizer_text.specs.InputCut.{IsInputNormalized}
 use Rattle.icu_normalizer.specs.BoundaryBefore.{HasBoundaryBefore}
 use Rattle.icu_normalizer.specs.inner.PassthroughRuns.{Divides, HasHeldBack, IsPassthroughEnd, IsPart, IsRunEnd, IsSegmentEnd, CanFollowMark, CanPassThrough, IsPassthroughTo, replacement}
 use Rattle.icu_normalizer.specs.inner.PassthroughRuns.{class_after, class_of_step, next_class}
-use Rattle.icu_normalizer.proofs.passthrough.PassthroughLemmas.{Divides-after, Divides-end, Divides-next, IsNormalized-before_starter, IsNormalized-mark, IsNormalized-mark_before, IsNormalized-run, normal_form-nil}
+use Rattle.icu_normalizer.proofs.passthrough.PassthroughLemmas.{Divides-after, Divides-end, Divides-next, EndsUpTo-more, EndsUpTo-none, IsNormalized-mark, IsNormalized-starter, normal_form-nil}
 use Rattle.icu_normalizer.proofs.passthrough.RunSteps.{IsRun-le, IsPassthroughTo-held, class_after-ends, class_of_step-passed, next_class-passed, next_held}
 
 -- ---- an error is read as U+FFFD
@@ -113,71 +114,46 @@ module _ (passed : ℕ → Option ℕ) (e : Encoding) where
       (all_right ss j k (All-tail (λ s. s.is_error ≡ true → s.character ≡ replacement) s ss known) rest))
 
   module _ (d : Reading) (form : Form) (held_back : Bool) (law : (c : ℕ) → IsScalar c → passed c ≡ Some 0 → CanPassThrough d form held_back c)
-      (marks_law : (c k : ℕ) → IsScalar c → passed c ≡ Some k → 0 < k → CanFollowMark d form held_back c k) where
+      (marks_law : (c k : ℕ) → IsScalar c → passed c ≡ Some k → 0 < k → CanFollowMark d form c k) where
     can_pass_through : (s : Step) → IsScalar s.character → class_of_step passed s ≡ Some 0 → CanPassThrough d form held_back s.character
     can_pass_through s scalar is = law s.character scalar (class_of_step-passed passed s 0 is).1
 
-    may_follow : (s : Step) (k : ℕ) → IsScalar s.character → class_of_step passed s ≡ Some k → 0 < k → CanFollowMark d form held_back s.character k
+    may_follow : (s : Step) (k : ℕ) → IsScalar s.character → class_of_step passed s ≡ Some k → 0 < k → CanFollowMark d form s.character k
     may_follow s k scalar is mark = marks_law s.character k scalar (class_of_step-passed passed s k is).1 mark
 
     abbrev text : List Step → List ℕ
     text ss = map (λ s. s.character) ss
 
-    all_may_pass : (ss : List Step) → All IsScalar (text ss) → All (λ s. class_of_step passed s ≡ Some 0) ss → All (CanPassThrough d form held_back) (text ss)
-    all_may_pass [] scalars pass = All-nil (CanPassThrough d form held_back)
-    all_may_pass (s ∷ ss) scalars pass = All-cons (CanPassThrough d form held_back) s.character (text ss)
-        (can_pass_through s (All-head IsScalar s.character (text ss) scalars) (All-head (λ s. class_of_step passed s ≡ Some 0) s ss pass))
-        (all_may_pass ss (All-tail IsScalar s.character (text ss) scalars) (All-tail (λ s. class_of_step passed s ≡ Some 0) s ss pass))
-
-    -- a mark before steps that pass after it, and are normalized
-    own_mark : (s : Step) (j : ℕ) (ss : List Step) (k : ℕ) → CanFollowMark d form held_back s.character j → All IsScalar (text ss) → class_after passed j ss ≡ Some k
-        → IsNormalized d form (text ss) → IsNormalized d form (text (s ∷ ss))
-    unfolding class_after
-    own_mark s j [] k may scalars pass own = IsNormalized-mark d form held_back s.character j may
-    own_mark s j (t ∷ ss) k may scalars pass own = option_and_then_some (λ i. class_after passed i ss) (next_class passed j t) k pass (λ i next rest.
-        let known = next_class-passed passed j t i next in
-        let scalar = All-head IsScalar t.character (text ss) scalars in
-        elim (eq-zero-or-pos i) [
-          | inl none ↦ IsNormalized-before_starter d form held_back s.character j may t.character (text ss) (can_pass_through t scalar (known.0 ∙ ap (λ n. Some n) none)) own
-          | inr some ↦ IsNormalized-mark_before d form held_back s.character j may t.character i (text ss) (may_follow t i scalar known.0 some) (rises i j known.1 some) own
-        ])
-      where
-        rises : (i j : ℕ) → (i ≡ 0) ⊎ (j ≤ i) → 0 < i → j ≤ i
-        rises i j (inl least) some = absurd (omega arith)
-        rises i j (inr rising) some = rising
-
-    -- steps that pass are normalized, if nothing is held back
-    own_free : held_back ≡ false → (ss : List Step) (last k : ℕ) → All IsScalar (text ss) → class_after passed last ss ≡ Some k → IsNormalized d form (text ss)
-    unfolding class_after
-    own_free free [] last k scalars pass = normal_form-nil d form form
-    own_free free (s ∷ ss) last k scalars pass = option_and_then_some (λ j. class_after passed j ss) (next_class passed last s) k pass (λ j next rest.
-        let is = (next_class-passed passed last s j next).0 in
-        let scalar = All-head IsScalar s.character (text ss) scalars in
-        let others = All-tail IsScalar s.character (text ss) scalars in
-        let own = own_free free ss j k others rest in
+    -- a step that passes stays at the end of a text that is normalized and ends with a character of class up to `last`
+    own_step : (x : List ℕ) (s : Step) (last j : ℕ) → IsScalar s.character → next_class passed last s ≡ Some j → IsNormalized d form x → EndsUpTo d last x
+        → IsNormalized d form (x ++ s.character ∷ []) × (d.class s.character ≡ j)
+    own_step x s last j scalar next own ends =
+        let known = next_class-passed passed last s j next in
         elim (eq-zero-or-pos j) [
-          | inl none ↦ (can_pass_through s scalar (is ∙ ap (λ n. Some n) none)).ends free (text ss) ∙ ap (λ l. s.character ∷ l) own
-          | inr some ↦ own_mark s j ss k (may_follow s j scalar is some) others rest own
-        ])
+          | inl none ↦
+              let may = can_pass_through s scalar (known.0 ∙ ap (λ n. Some n) none) in
+              (IsNormalized-starter d form x own s.character j held_back may, may.starter ∙ sym none)
+          | inr some ↦
+              let may = may_follow s j scalar known.0 some in
+              (IsNormalized-mark d form x own s.character j may last (rises known.1 some) ends, may.class)
+        ]
+      where
+        rises : (j ≡ 0) ⊎ (last ≤ j) → 0 < j → last ≤ j
+        rises (inl least) some = absurd (omega arith)
+        rises (inr rising) some = rising
 
-    -- if something is held back, no mark passes
-    all_starters : held_back ≡ true → (ss : List Step) (last k : ℕ) → All IsScalar (text ss) → class_after passed last ss ≡ Some k → All (λ s. class_of_step passed s ≡ Some 0) ss
+    -- so do steps that pass
+    own_after : (x : List ℕ) (ss : List Step) (last k : ℕ) → All IsScalar (text ss) → class_after passed last ss ≡ Some k → IsNormalized d form x → EndsUpTo d last x
+        → IsNormalized d form (x ++ text ss)
     unfolding class_after
-    all_starters held [] last k scalars pass = All-nil (λ s. class_of_step passed s ≡ Some 0)
-    all_starters held (s ∷ ss) last k scalars pass = option_and_then_some (λ j. class_after passed j ss) (next_class passed last s) k pass (λ j next rest.
-        let is = (next_class-passed passed last s j next).0 in
-        All-cons (λ s. class_of_step passed s ≡ Some 0) s ss
-        (elim (eq-zero-or-pos j) [
-          | inl none ↦ is ∙ ap (λ n. Some n) none
-          | inr some ↦ absurd (true≢false (sym held ∙ (may_follow s j (All-head IsScalar s.character (text ss) scalars) is some).free))
-        ])
-        (all_starters held ss j k (All-tail IsScalar s.character (text ss) scalars) rest))
+    own_after x [] last k scalars pass own ends = subst (IsNormalized d form) (sym (append-nil x)) own
+    own_after x (s ∷ ss) last k scalars pass own ends = option_and_then_some (λ j. class_after passed j ss) (next_class passed last s) k pass (λ j next rest.
+        let here = own_step x s last j (All-head IsScalar s.character (text ss) scalars) next own ends in
+        subst (IsNormalized d form) (append_assoc x (s.character ∷ []) (text ss))
+        (own_after (x ++ s.character ∷ []) ss j k (All-tail IsScalar s.character (text ss) scalars) rest here.0 (EndsUpTo-more d x s.character j here.1)))
 
-    own_steps : (ss : List Step) (last k : ℕ) → All IsScalar (text ss) → class_after passed last ss ≡ Some k → IsNormalized d form (text ss)
-    own_steps ss last k scalars pass = elim (cases_Bool held_back) [
-      | inl held ↦ IsNormalized-run d form held_back (text ss) (all_may_pass ss scalars (all_starters held ss last k scalars pass))
-      | inr free ↦ own_free free ss last k scalars pass
-    ]
+    own_steps : (ss : List Step) (k : ℕ) → All IsScalar (text ss) → class_after passed 0 ss ≡ Some k → IsNormalized d form (text ss)
+    own_steps ss k scalars pass = own_after [] ss 0 k scalars pass (normal_form-nil d form form) (EndsUpTo-none d 0)
 
     module _ (units : List ℕ) where
       -- characters that all pass are well-formed and normalized
@@ -191,12 +167,8 @@ module _ (passed : ℕ → Option ℕ) (e : Encoding) where
         pub own_run : IsInputNormalized e d form (take end units)
         own_run = record {
           well_formed = all_right (steps (first_in e) (take end units)) 0 last (steps-right (take end units)) passed_steps;
-          own = own_steps (steps (first_in e) (take end units)) 0 last (decoded-IsText e (take end units)) passed_steps;
+          own = own_steps (steps (first_in e) (take end units)) last (decoded-IsText e (take end units)) passed_steps;
         }
-
-        starters_before : held_back ≡ true → All (λ s. class_of_step passed s ≡ Some 0) to.boundary.before
-        starters_before held = All-same (λ s. class_of_step passed s ≡ Some 0) _ _ (sym same_steps)
-            (all_starters held (steps (first_in e) (take end units)) 0 last (decoded-IsText e (take end units)) passed_steps)
 
         -- a run up to the end of the units, or to a place where a character begins a new part
         pub IsPart-run : 0 < end → (end < length units → IsScalar (first_in e (drop end units)).character → HasBoundaryBefore d form (first_in e (drop end units)).character) → IsPart e d form units end
@@ -236,16 +208,16 @@ module _ (passed : ℕ → Option ℕ) (e : Encoding) where
       passed_to_end marks end len length_is h all some =
           let to = h.run.to_end in (IsPart-run end h.last to some (λ more. absurd (omega (arith, length_is))), own_run end h.last to)
 
-      -- all but the last character, if that is held back
-      pub passed_held : held_back ≡ true → (marks end : ℕ) → IsRunEnd passed e units marks end → (front : List ℕ) → front ≡ take end units → (s : Step) → IsLastStep (first_in e) front s
-          → 0 < end - s.width → IsOwnPart (end - s.width)
-      passed_held back marks end h front is s last some =
-          let to = h.run.to_end in
-          let starters = starters_before end h.last to back in
+      -- what comes before the last starter, if that is held back
+      pub passed_held : (marks end : ℕ) → IsRunEnd passed e units marks end → (front : List ℕ) → front ≡ take marks units → (s : Step) → IsLastStep (first_in e) front s
+          → 0 < marks - s.width → IsOwnPart (marks - s.width)
+      passed_held marks end h front is s last some =
+          let to = h.run.to_marks in
           let last' = subst (λ us. IsLastStep (first_in e) us s) is last in
-          let held = IsPassthroughTo-held passed e units end h.last to starters s last' in (
-            IsPart-run (end - s.width) 0 held some (λ more scalar. (can_pass_through (first_in e (drop (end - s.width) units)) scalar (next_held passed e units end h.last to starters s last' more)).begins),
-            own_run (end - s.width) 0 held,
+          let held = IsPassthroughTo-held passed e units marks to s last' in (
+            IsPart-run (marks - s.width) held.0 held.1 some
+                (λ more scalar. (can_pass_through (first_in e (drop (marks - s.width) units)) scalar (next_held passed e units marks to s last' more)).begins),
+            own_run (marks - s.width) held.0 held.1,
           )
 
       -- all of it, if the next character begins a new part
@@ -261,16 +233,19 @@ module _ (passed : ℕ → Option ℕ) (e : Encoding) where
 -- ---- the part of a run that is passed on
 
 module _ (passed : ℕ → Option ℕ) (e : Encoding) (units : List ℕ) (marks run : ℕ) (is_run : IsRunEnd passed e units marks run) where
-  pub HasHeldBack-last : (front : List ℕ) → front ≡ take run units → (s : Step) → IsLastStep (first_in e) front s → HasHeldBack e units run (run - s.width)
-  HasHeldBack-last front is s last =
-      let here : IsLastStep (first_in e) (take run units) s = subst (λ us. IsLastStep (first_in e) us s) is last in
-      let fits = here.fits in
-      inr (s, here, omega (arith, length-take-le run units (IsRun-le passed e units marks run is_run.last is_run.run).1))
+  marks_within : length (take marks units) ≡ marks
+  marks_within = let bounds = IsRun-le passed e units marks run is_run.last is_run.run in length-take-le marks units (omega (arith, bounds.0, bounds.1))
 
-  pub HasHeldBack-none : (front : List ℕ) → front ≡ take run units → front ≡ [] → HasHeldBack e units run 0
+  pub HasHeldBack-last : (front : List ℕ) → front ≡ take marks units → (s : Step) → IsLastStep (first_in e) front s → HasHeldBack e units marks (marks - s.width)
+  HasHeldBack-last front is s last =
+      let here : IsLastStep (first_in e) (take marks units) s = subst (λ us. IsLastStep (first_in e) us s) is last in
+      let fits = here.fits in
+      inr (s, here, omega (arith, marks_within))
+
+  pub HasHeldBack-none : (front : List ℕ) → front ≡ take marks units → front ≡ [] → HasHeldBack e units marks 0
   HasHeldBack-none front is none =
-      let empty : length (take run units) ≡ 0 = ap length (sym is ∙ none) in
-      inl (omega (arith, empty, length-take-le run units (IsRun-le passed e units marks run is_run.last is_run.run).1), refl)
+      let empty : length (take marks units) ≡ 0 = ap length (sym is ∙ none) in
+      inl (omega (arith, empty, marks_within), refl)
 
 module _ (passed : ℕ → Option ℕ) (beginning : ℕ → Bool) (held_back : Bool) (e : Encoding) (units : List ℕ) (marks run : ℕ) (is_run : IsRunEnd passed e units marks run) where
   pub IsPassthroughEnd-to_end : (len : ℕ) → len ≡ length units → run ≡ len → IsPassthroughEnd passed beginning held_back e units run
@@ -285,7 +260,7 @@ module _ (passed : ℕ → Option ℕ) (beginning : ℕ → Bool) (held_back : B
   }
 
   module _ (len : ℕ) (length_is : len ≡ length units) (goes_on : run ≢ len) where
-    pub IsPassthroughEnd-held : held_back ≡ true → (end : ℕ) → HasHeldBack e units run end → IsPassthroughEnd passed beginning held_back e units end
+    pub IsPassthroughEnd-held : held_back ≡ true → (end : ℕ) → HasHeldBack e units marks end → IsPassthroughEnd passed beginning held_back e units end
     IsPassthroughEnd-held held end back = record {
       marks = marks;
       run = run;

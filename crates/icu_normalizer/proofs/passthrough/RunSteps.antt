@@ -51,6 +51,14 @@ module _ (passed : ℕ → Option ℕ) where
   unfolding class_after
   class_after-one s last k is = ap (option_and_then (λ i. Some i)) is
 
+  -- the last of some steps
+  class_after-last : (ss : List Step) (s : Step) (last k : ℕ) → class_after passed last (ss ++ s ∷ []) ≡ Some k → (j : ℕ) × (class_after passed last ss ≡ Some j) × (class_of_step passed s ≡ Some k)
+  unfolding class_after
+  class_after-last [] s last k is = option_and_then_some (λ i. Some i) (next_class passed last s) k is (λ j next same. (last, refl, (next_class-passed last s k (next ∙ same)).0))
+  class_after-last (t ∷ ss) s last k is = option_and_then_some (λ i. class_after passed i (ss ++ s ∷ [])) (next_class passed last t) k is (λ i next rest.
+      let later = class_after-last ss s i k rest in
+      (later.0, ap (option_and_then (λ n. class_after passed n ss)) next ∙ later.1, later.2))
+
   -- starters, after a starter
   class_after-starters : (ss : List Step) → All (λ s. class_of_step passed s ≡ Some 0) ss → class_after passed 0 ss ≡ Some 0
   unfolding class_after
@@ -170,49 +178,48 @@ module _ (passed : ℕ → Option ℕ) (e : Encoding) (units : List ℕ) where
           (All-nil (λ t. class_of_step passed t ≢ Some 0)));
     }
 
-  -- without the last of the characters
-  module _ (end class : ℕ) (to : IsPassthroughTo passed e units end class) (starters : All (λ t. class_of_step passed t ≡ Some 0) to.boundary.before) (s : Step)
-      (last : IsLastStep (first_in e) (take end units) s) where
-    size : length (take end units) ≡ end
-    size = length-take-le end units (boundary-le e units end to.boundary)
+  -- without the last of the characters, a starter
+  module _ (end : ℕ) (to : IsPassthroughTo passed e units end 0) (s : Step) (last : IsLastStep (first_in e) (take end units) s) where
+    abbrev front : List ℕ
+    front = take (length (take end units) - s.width) (take end units)
 
-    all_pass : All (λ t. class_of_step passed t ≡ Some 0) (steps (first_in e) (take (length (take end units) - s.width) (take end units)) ++ s ∷ [])
-    all_pass = All-same (λ t. class_of_step passed t ≡ Some 0) _ _ (sym last.last ∙ (steps-parts e units end to.boundary).0) starters
+    abbrev before : List Step
+    before = steps (first_in e) front
 
-    pub IsPassthroughTo-held : IsPassthroughTo passed e units (end - s.width) 0
-    IsPassthroughTo-held =
-        let front : List ℕ = take (length (take end units) - s.width) (take end units) in
-        let before : List Step = steps (first_in e) front in
-        record {
-          boundary = record {
-            before = before;
-            after = s ∷ steps (first_in e) (drop end units);
-            apart = steps-take-drop e units end to.boundary
-                ∙ ap (λ l. l ++ steps (first_in e) (drop end units)) last.last
-                ∙ append_assoc before (s ∷ []) (steps (first_in e) (drop end units));
-            taken = width_of-steps e front
-                ∙ length-take-le (length (take end units) - s.width) (take end units) (omega arith) ∙ ap (λ n. n - s.width) size;
-          };
-          pass = class_after-starters passed before (All-same (λ t. class_of_step passed t ≡ Some 0) _ _ (sym (take_at before (s ∷ []) (length before) refl))
-              (All-take (λ t. class_of_step passed t ≡ Some 0) (length before) (before ++ s ∷ []) all_pass));
-        }
+    held : (j : ℕ) × (class_after passed 0 before ≡ Some j) × (class_of_step passed s ≡ Some 0)
+    held = class_after-last passed before s 0 0 (ap (class_after passed 0) (sym last.last ∙ (steps-parts e units end to.boundary).0) ∙ to.pass)
 
-    -- the last one passes, and comes next
+    pub IsPassthroughTo-held : (class : ℕ) × IsPassthroughTo passed e units (end - s.width) class
+    IsPassthroughTo-held = (
+      held.0,
+      record {
+        boundary = record {
+          before = before;
+          after = s ∷ steps (first_in e) (drop end units);
+          apart = steps-take-drop e units end to.boundary
+              ∙ ap (λ l. l ++ steps (first_in e) (drop end units)) last.last
+              ∙ append_assoc before (s ∷ []) (steps (first_in e) (drop end units));
+          taken = width_of-steps e front
+              ∙ length-take-le (length (take end units) - s.width) (take end units) (omega arith)
+              ∙ ap (λ n. n - s.width) (length-take-le end units (boundary-le e units end to.boundary));
+        };
+        pass = held.1;
+      },
+    )
+
+    -- it passes, and comes next
     pub next_held : end - s.width < length units → class_of_step passed (first_in e (drop (end - s.width) units)) ≡ Some 0
     unfolding IsPassthroughTo-held
     next_held more =
-        let before : List Step = steps (first_in e) (take (length (take end units) - s.width) (take end units)) in
+        let place = IsPassthroughTo-held.1.boundary in
         let rest = drop (end - s.width) units in
         let behind : steps (first_in e) rest ≡ s ∷ steps (first_in e) (drop end units) =
         append_cancel_left before _ _
-        (ap (λ l. l ++ steps (first_in e) rest) (sym (steps-parts e units (end - s.width) IsPassthroughTo-held.boundary).0)
-        ∙ sym (steps-take-drop e units (end - s.width) IsPassthroughTo-held.boundary)
-        ∙ IsPassthroughTo-held.boundary.apart) in
+        (ap (λ l. l ++ steps (first_in e) rest) (sym (steps-parts e units (end - s.width) place).0)
+        ∙ sym (steps-take-drop e units (end - s.width) place)
+        ∙ place.apart) in
         let first : steps (first_in e) rest ≡ first_in e rest ∷ steps (first_in e) (drop (first_in e rest).width rest) =
         steps-some e rest (omega (arith, length-drop (end - s.width) units)) in
         let same : first_in e rest ∷ steps (first_in e) (drop (first_in e rest).width rest) ≡ s ∷ steps (first_in e) (drop end units) = sym first ∙ behind in
         let is : first_in e rest ≡ s = cc in
-        let of_last : All (λ t. class_of_step passed t ≡ Some 0) (s ∷ []) =
-        All-same (λ t. class_of_step passed t ≡ Some 0) _ _ (sym (drop_at before (s ∷ []) (length before) refl))
-        (All-drop (λ t. class_of_step passed t ≡ Some 0) (length before) (before ++ s ∷ []) all_pass) in
-        ap (class_of_step passed) is ∙ All-head (λ t. class_of_step passed t ≡ Some 0) s [] of_last
+        ap (class_of_step passed) is ∙ held.2

@@ -1,12 +1,18 @@
 -- Text whose form is made in parts: runs of characters that are passed on as they are, and what is between them.
-use Rattle.std.specs.Prelude.{◌≡◌, ◌≢◌, ℕ, ◌+◌, ◌<◌, ◌⊎◌, Bool, true, false, ◌||◌, ◌==◌, nat_le, if◌then◌else◌}
+use Rattle.std.specs.Prelude.{◌≡◌, ◌≢◌, ℕ, ◌+◌, ◌<◌, ◌⊎◌, Bool, true, false, not, ◌||◌, ◌&&◌, ◌==◌, nat_le, nat_lt}
+use Rattle.std.specs.Prelude.{if◌then◌else◌}
 use Rattle.std.specs.Prelude.{List, [], ◌∷◌, ◌++◌, length, take, drop, All, Option, Some, None, option_and_then}
-use Rattle.normal_forms.specs.Reading.{Reading, ReadsAsItself}
+use Rattle.normal_forms.specs.Reading.{Reading, IsStarter, ReadsAsItself}
 use Rattle.normal_forms.specs.declared.Form.{Form}
-use Rattle.normal_forms.specs.declared.Form.TheVariants.{Composing, Decomposing}
+use Rattle.normal_forms.specs.declared.Form.TheVariants.{Composing}
 use Rattle.normal_forms.specs.Forms.{normal_form, IsNormalized}
 use Rattle.normal_forms.specs.Boundary.{BeginsWithStarter}
 use Rattle.normal_forms.specs.Cut.{IsFront}
+use Rattle.normal_forms.specs.Order.{EndsUpTo}
+use Rattle.normalizer_tables.specs.declared.condition.Bounds.{Bounds}
+use Rattle.normalizer_tables.specs.Characters.{Characters, class_of_itself, reading_of_word}
+use Rattle.normalizer_tables.specs.PairConditions.{is_composing_passthrough}
+use Rattle.normalizer_tables.specs.Pairs.{Pair, may_be_second}
 use Rattle.normalizer_text.specs.declared.decoding_step.Step.{Step}
 use Rattle.normalizer_text.specs.Encodings.{Encoding, first_in, encoded_in, decoded_in}
 use Rattle.normalizer_text.specs.DecodingSteps.{IsBoundary, IsLastStep}
@@ -21,22 +27,33 @@ Divides d form front rest = (read unread : List ℕ) → rest ≡ read ++ unread
 -- c may be passed on as it is: it is already normalized, and a text that begins with it is normalized apart from what
 -- comes before. What comes after it is so too, unless it is held back.
 pub record CanPassThrough (d : Reading) (form : Form) (held_back : Bool) (c : ℕ) : Type 0 where
+  pub starter : IsStarter d c
   pub own : IsNormalized d form (c ∷ [])
   pub begins : HasBoundaryBefore d form c
   pub ends : held_back ≡ false → (x : List ℕ) → normal_form d form (c ∷ x) ≡ c ∷ normal_form d form x
 
--- c, a mark of class k, may be passed on as it is after a mark of a class up to k, and after a starter: text is
--- decomposed, and c reads as itself
-pub record CanFollowMark (d : Reading) (form : Form) (held_back : Bool) (c k : ℕ) : Type 0 where
-  pub free : held_back ≡ false
-  pub decomposing : form ≡ Decomposing
-  pub itself : ReadsAsItself d c
+-- c, a mark of class k, may be passed on as it is after a character of a class up to k: it stays at the end of a text
+-- whose form ends with one
+pub record CanFollowMark (d : Reading) (form : Form) (c k : ℕ) : Type 0 where
   pub class : d.class c ≡ k
+  pub stays : (x : List ℕ) → EndsUpTo d k (normal_form d form x)
+      → normal_form d form (x ++ c ∷ []) ≡ normal_form d form x ++ c ∷ []
 
 -- c is its own list, and has the class k
 pub record IsOwnListOfClass (d : Reading) (c k : ℕ) : Type 0 where
   pub itself : ReadsAsItself d c
   pub class : d.class c ≡ k
+
+-- the class k of c, if c is a mark and composes with nothing before it
+unfoldable pub class_if_alone : List Pair → ℕ → ℕ → Option ℕ
+class_if_alone pairs c k = if nat_lt 0 k && not (may_be_second pairs c) then Some k else None
+
+-- the class with which c passes where text is composed: 0 if a composing loop passes it, else its own, if it is its own
+-- list and composes with nothing before it
+unfoldable pub composing_class : Characters → Bounds → List Pair → ℕ → Option ℕ
+composing_class s b pairs c =
+    if is_composing_passthrough s b c then Some 0
+    else option_and_then (class_if_alone pairs c) (class_of_itself (reading_of_word s c))
 
 -- U+FFFD, as which errors read, never passes
 abbrev pub replacement : ℕ
@@ -78,20 +95,20 @@ pub record IsRunEnd (passed : ℕ → Option ℕ) (e : Encoding) (units : List �
   pub run : IsRun passed e units marks end last
   pub stops : end < length units → next_class passed last (first_in e (drop end units)) ≡ None
 
--- the run is empty, or only its last character comes after the place
+-- what ends with the last starter of a run is empty, or only that starter comes after the place
 abbrev pub HasHeldBack : Encoding → List ℕ → ℕ → ℕ → Type 0
-HasHeldBack e units run end =
-    ((run ≡ 0) × (end ≡ 0)) ⊎ ((s : Step) × IsLastStep (first_in e) (take run units) s × (end + s.width ≡ run))
+HasHeldBack e units marks end =
+    ((marks ≡ 0) × (end ≡ 0)) ⊎ ((s : Step) × IsLastStep (first_in e) (take marks units) s × (end + s.width ≡ marks))
 
--- the part of a run that is passed on: all of it if the units end; all but the last character if that is held back; all
--- but the marks at its end, unless the next character begins a new part
+-- the part of a run that is passed on: all of it if the units end; what comes before the last starter if that is held
+-- back; all but the marks at its end, unless the next character begins a new part
 pub record IsPassthroughEnd (passed : ℕ → Option ℕ) (beginning : ℕ → Bool) (held_back : Bool) (e : Encoding)
     (units : List ℕ) (end : ℕ) : Type 0 where
   pub marks : ℕ
   pub run : ℕ
   pub is_run : IsRunEnd passed e units marks run
   pub all : run ≡ length units → end ≡ run
-  pub held : run < length units → held_back ≡ true → HasHeldBack e units run end
+  pub held : run < length units → held_back ≡ true → HasHeldBack e units marks end
   pub apart : run < length units → held_back ≡ false → beginning (first_in e (drop run units)).character ≡ true
       → end ≡ run
   pub with_marks : run < length units → held_back ≡ false

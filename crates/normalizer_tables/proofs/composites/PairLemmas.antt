@@ -70,22 +70,3 @@ All-listed_result P (p ∷ pairs) first second result all found = elim (cases_Bo
       subst P (λ i. (same.0 i, same.1 i, value i)) (all 0 p (omega arith))
   | inr other ↦ All-listed_result P pairs first second result (All-tail P p pairs all) (rw other at found)
 ]
-
--- ---- in pairs that rise, those before the place where a second belongs have smaller ones, and the others don't
-
-pub IsPartitionedBy-second : (pairs : List Pair) (second : ℕ) → AreRising pairs → IsPartitionedBy (λ p. nat_lt p.0 second) pairs
-unfolding is_before
-IsPartitionedBy-second pairs second rising i j d le within later = let order = rising i j d in grind (arith, nat_tests)
-
-module _ (pairs : List Pair) (second at : ℕ) (rising : AreRising pairs) (is : IsPartitionPoint (λ p. nat_lt p.0 second ≡ true) (λ p. nat_lt p.0 second ≡ false) pairs at) where
-  -- the pair there has the second
-  pub second-found : (p : Pair) → at < length pairs → p ≡ get_or pairs at p → p.0 ≡ second → listed_result pairs p.1 second ≡ Some p.2
-  unfolding pair_at
-  second-found p within read same = listed_result-first pairs p.1 second at p (slice_get_read pairs (length pairs) at p refl within read) (is_of_from p p.1 second same refl)
-      (λ j below. is_of_other _ p.1 second (let low = is.0 j (0, 0, 0) (omega arith) below in grind (arith, nat_tests)))
-
-  -- it has another one, or there is none
-  pub second-missing : ((d : Pair) → at < length pairs → (get_or pairs at d).0 ≢ second) → (first : ℕ) → listed_result pairs first second ≡ None
-  unfolding pair_at is_before
-  second-missing other first = listed_result-none pairs first second (λ k inside. is_of_other _ first second
-      (let d : Pair = (0, 0, 0) in let before = is.0 k d in let behind = is.1 at d in let after = rising at k d in let differs = other d in grind (arith, nat_tests)))

@@ -21,7 +21,7 @@ returns-in-Some-clause-handed g c =
 pub returns-in-Some-clause-part : goal.returns-in-Some-clause-part
 returns-in-Some-clause-part g c =
     let law = c.passthrough_is_normalized_apart.ensures in
-    passed_held _ _ _ _ _ law.apart law.follow _ (sym c.if-holds_back.ensures) _ _ c.run_end-run.ensures _ c.before-then-holds_back.ensures _ c.in-Some.ensures
+    passed_held _ _ _ _ _ law.apart law.follow _ _ _ c.run_end-run.ensures _ c.before-then-holds_back.ensures _ c.in-Some.ensures
 
 pub returns-in-None-clause-handed : goal.returns-in-None-clause-handed
 returns-in-None-clause-handed g c =

@@ -2,13 +2,13 @@ use Rattle.icu_normalizer.proofs.passthrough.PassthroughLemmas.{CanFollowMark-co
 use Rattle.icu_normalizer.proofs.forming.ComposingFormForming.passthrough_is_normalized_apart.Goals as goal
 
 pub returns-clause-apart : goal.returns-clause-apart
-returns-clause-apart c = λ n. CanPassThrough-composed _ _ n _ c.args.self.now.serves.composing
+returns-clause-apart c = λ n. CanPassThrough-composed _ _ _ n c.args.self.now.serves.composing
 
 pub returns-clause-follow : goal.returns-clause-follow
-returns-clause-follow c = λ n k scalar is mark. CanFollowMark-composed _ _ n _ k is mark
+returns-clause-follow c = λ n k scalar. CanFollowMark-composed _ _ _ n c.args.self.now.serves.laws.laws scalar k
 
 pub returns-clause-below : goal.returns-clause-below
-returns-clause-below c = λ n. composed_low_class _ _ n
+returns-clause-below c = λ n. composed_low_class _ _ _ n
 
 pub returns-clause-begins : goal.returns-clause-begins
 returns-clause-begins c = λ n scalar passed. (CanPassThrough-passed _ _ _ c.args.self.now.serves.composing n scalar passed).begins

@@ -5,7 +5,7 @@ pub returns-clause-apart : goal.returns-clause-apart
 returns-clause-apart c = λ n scalar. CanPassThrough-decomposed _ _ n scalar c.args.self.now.serves.passthrough
 
 pub returns-clause-follow : goal.returns-clause-follow
-returns-clause-follow c = λ n k scalar. CanFollowMark-decomposed _ _ n scalar k
+returns-clause-follow c = λ n k scalar. CanFollowMark-decomposed _ _ n scalar c.args.self.now.serves.laws.laws k
 
 pub returns-clause-below : goal.returns-clause-below
 returns-clause-below c = λ n. low_class _ _ n

@@ -1,6 +1,0 @@
-use Rattle.std.proofs.Common.{◌≢◌, ◌<◌, ℕ}
-use Rattle.normalizer_tables.specs.Pairs.{pair_at}
-use Rattle.normalizer_tables.proofs.pairs.has_no_second.Given as goal
-
-abbrev pub invariant-loop-place : goal.invariant-loop-place
-invariant-loop-place l = (k : ℕ) → k < l.place → (pair_at l.pairs k).0 ≢ l.second
