@@ -1,6 +1,7 @@
 pub mod AcceptedData
 pub mod BuiltMeaning
 pub mod EntriesOfRecords
+pub mod FaultLemmas
 pub mod FirstUnmet
 pub mod NoRefusal
 pub mod OneAnswer

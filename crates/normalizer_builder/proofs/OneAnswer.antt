@@ -38,7 +38,7 @@ module _ (records : List RecordValue) (uts46 : List Uts46RecordValue) where
   IsSmallest-refusal e (inr h) = h
 
   -- what becomes of records that aren't refused: too many items, or data, and the first requirement that they don't meet
-  abbrev Becomes : Option (Option Demand) → Type 0
+  abbrev pub Becomes : Option (Option Demand) → Type 0
   Becomes None = HasTooManyItems records uts46
   Becomes (Some o) = (p : Packed) × PacksRecords records uts46 p × IsFirstUnmet records p o
 
@@ -47,7 +47,7 @@ module _ (records : List RecordValue) (uts46 : List Uts46RecordValue) where
       let few = subst (λ (es : List EntryValue). needed_items es ≤ item_limit) (same_entries records uts46 packs.entries h.entries packs.made h.made) packs.packs.within in
       omega (arith, few, h.full)
 
-  one_outcome : (v w : Option (Option Demand)) → Becomes v → Becomes w → v ≡ w
+  pub one_outcome : (v w : Option (Option Demand)) → Becomes v → Becomes w → v ≡ w
   one_outcome None None h k = refl
   one_outcome None (Some o) h k = absurd (too_many k.0 k.1 h)
   one_outcome (Some o) None h k = absurd (too_many h.0 h.1 k)

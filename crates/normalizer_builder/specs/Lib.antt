@@ -1,3 +1,4 @@
+pub mod AtFault
 pub mod Accepted
 pub mod Building
 pub mod Built

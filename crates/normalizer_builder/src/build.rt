@@ -49,7 +49,7 @@ impl Records {
 }
 
 /// Data that pack records, of what is packed of them.
-fn packed_of(
+pub(crate) fn packed_of(
     alloc: Global,
     records: &[Record],
     uts46: &[Uts46Record],

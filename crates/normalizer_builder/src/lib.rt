@@ -1,6 +1,7 @@
 //! Builds normalization data from plain records.
 #![tactic(auto)]
 
+mod at_fault;
 mod build;
 mod built;
 mod demand;

@@ -73,7 +73,7 @@ fn first_failing_of_kind(packed: &Packed, kind: Kind) -> Option<Condition>
 }
 
 /// All that constructors load with the data of one kind.
-fn loaded_of(packed: &Packed, kind: Kind) -> LoadedData<'_>
+pub(crate) fn loaded_of(packed: &Packed, kind: Kind) -> LoadedData<'_>
     ensures { result ≡ loaded_of packed.now kind }
 {
     let characters = characters_of(packed, kind);
@@ -86,7 +86,7 @@ fn loaded_of(packed: &Packed, kind: Kind) -> LoadedData<'_>
 }
 
 /// What the data of one kind say of characters.
-fn characters_of(packed: &Packed, kind: Kind) -> CharacterData<'_>
+pub(crate) fn characters_of(packed: &Packed, kind: Kind) -> CharacterData<'_>
     ensures { result ≡ characters_of packed.now kind }
 {
     let supplementary = &packed.supplementary_tables;
@@ -118,7 +118,7 @@ fn keeps_mappings(records: &[Record], packed: &Packed) -> bool
 }
 
 /// Whether one step of a character is the mapping that is recorded of it.
-fn keeps_mapping(records: &[Record], packed: &Packed, character: char) -> bool
+pub(crate) fn keeps_mapping(records: &[Record], packed: &Packed, character: char) -> bool
     requires { AreRising records.now }
     ensures { IsTrue result ↔ KeepsMapping records.now packed.now character }
 {
