@@ -1,0 +1,9 @@
+-- Reading and writing, as laws on lists.
+pub mod Fields
+pub mod FileLaws
+pub mod Items
+pub mod Loops
+pub mod NumberLoops
+pub mod RunLemmas
+pub mod RunLoops
+pub mod RunRanges

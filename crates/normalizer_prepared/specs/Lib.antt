@@ -1,0 +1,6 @@
+pub mod Bytes
+pub mod Files
+pub mod Prepared
+pub mod Reading
+pub mod Runs
+pub mod inner

@@ -1,0 +1,26 @@
+//! Prepared data: the data of all markers in one small file, which is read without being trusted.
+#![tactic(auto)]
+
+mod fault;
+mod items;
+mod numbers;
+mod prepare;
+mod provider;
+mod reading;
+mod run;
+mod sums;
+mod tables;
+mod writing;
+
+pub use fault::{Fault, PreparedError};
+pub use prepare::prepared_data;
+pub use provider::PreparedData;
+
+/// The letters NORM, as the number that begins a file.
+const MAGIC: u32 = 0x4D52_4F4E;
+
+/// The version of the format.
+const VERSION: u32 = 1;
+
+/// How many bytes are before the data.
+const HEADER_LENGTH: usize = 20;
