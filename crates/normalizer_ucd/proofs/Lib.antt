@@ -6,3 +6,4 @@ pub mod RangeLemmas
 pub mod RisingLemmas
 pub mod SortedMapperRecords
 pub mod SortedRecords
+pub mod Stating

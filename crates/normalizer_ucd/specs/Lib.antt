@@ -3,6 +3,7 @@ pub mod Fields
 pub mod IdnaTable
 pub mod FallibleReads
 pub mod Messages
+pub mod RecordPlaces
 pub mod UnicodeData
 pub mod Versions
 pub mod Wholes

@@ -292,7 +292,7 @@ fn after_stops(text: &[u8]) -> &[u8]
     }
 }
 
-fn last_text(text: &[u8]) -> &[u8]
+pub(crate) fn last_text(text: &[u8]) -> &[u8]
     ensures { result.now ≡ last_text text.now }
 {
     if has_stop(text) {

@@ -1,4 +1,4 @@
-use Rattle.std.proofs.Common.{◌≡◌, None, Some}
+use Rattle.std.proofs.Common.{None, Some}
 use Rattle.normalizer_builder.specs.AtFault.{IsFirstUnfit}
 use Rattle.normalizer_builder.specs.Building.{IsSmallest}
 use Rattle.normalizer_builder.proofs.NoRefusal.{rising}

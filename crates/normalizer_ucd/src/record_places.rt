@@ -1,0 +1,98 @@
+//! The line of a file that states a record.
+ghost use Rattle.std.specs.Prelude.{◌≡◌, IfOk, map};
+ghost use Rattle.normalizer_ucd.specs.Fields.{lines};
+ghost use Rattle.normalizer_ucd.specs.RecordPlaces.{
+  first_code,
+  first_stating,
+  last_code,
+  place_of_record,
+  states,
+};
+
+use crate::error::{Place, UcdFile};
+use crate::idna_table::last_text;
+use crate::lines::{before_first, code_point, data_of, field, lines};
+use normalizer_records::RecordAtFault;
+use std::alloc::{AllocError, Global};
+
+/// Returns the line that states a record: the first line of `UnicodeData.txt` for its character or, for a record of the
+/// mapper, the first line of `IdnaMappingTable.txt` whose range has it. There is none if no line does.
+///
+/// # Errors
+/// If an allocation is refused.
+#[tactic(auto, unfolding(crate::specs::RecordPlaces::place_of_record))]
+pub fn place_of_record(
+    alloc: Global,
+    unicode_data: &[u8],
+    idna_table: &[u8],
+    fault: RecordAtFault,
+) -> Result<Option<Place>, AllocError>
+    ensures { IfOk result (λ place. place ≡ place_of_record unicode_data.now idna_table.now fault) }
+{
+    match fault {
+        RecordAtFault::OfCharacter(_) => {
+            place_in(alloc, UcdFile::UnicodeData, unicode_data, fault)
+        }
+        RecordAtFault::OfMapper(_) => place_in(alloc, UcdFile::IdnaMappingTable, idna_table, fault),
+    }
+}
+
+fn place_in(
+    alloc: Global,
+    name: UcdFile,
+    file: &[u8],
+    fault: RecordAtFault,
+) -> Result<Option<Place>, AllocError>
+    ensures { IfOk result (λ place. place ≡ first_stating name fault 1 (lines file.now)) }
+{
+    let parts = lines(alloc, file)?;
+    Ok(first_stating(name, fault, &parts))
+}
+
+/// The first line that is for the character of the record.
+fn first_stating(name: UcdFile, fault: RecordAtFault, lines: &[&[u8]]) -> Option<Place>
+    ensures { result ≡ first_stating name fault 1 (map (λ line. line.now) lines.now) }
+{
+    for (index, line) in lines.iter().enumerate() {
+        if states(fault, line) {
+            return Some(Place {
+                file: name,
+                line: index + 1,
+            });
+        }
+    }
+    None
+}
+
+/// Whether a line is for the character of the record.
+#[tactic(auto, unfolding(crate::specs::RecordPlaces::states))]
+fn states(fault: RecordAtFault, line: &[u8]) -> bool
+    ensures { result ≡ states fault line.now }
+{
+    match fault {
+        RecordAtFault::OfCharacter(c) => {
+            let code = field(data_of(line), 0).and_then(|text| code_point(text));
+            code.is_some_and(|code| code == c as u32)
+        }
+        RecordAtFault::OfMapper(c) => {
+            first_code(line).is_some_and(|first| first <= c as u32)
+                && last_code(line).is_some_and(|last| c as u32 <= last)
+        }
+    }
+}
+
+/// The first code point of field 0.
+fn first_code(line: &[u8]) -> Option<u32>
+    ensures { result ≡ first_code line.now }
+{
+    let text = field(data_of(line), 0)?;
+    code_point(before_first(text, b'.'))
+}
+
+/// The last code point of field 0.
+fn last_code(line: &[u8]) -> Option<u32>
+    ensures { result ≡ last_code line.now }
+{
+    let text = field(data_of(line), 0)?;
+    code_point(last_text(text))
+}
