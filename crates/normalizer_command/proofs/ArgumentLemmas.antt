@@ -1,43 +1,47 @@
 -- What words ask for, by what each is found to name.
-use Rattle.std.proofs.Common.{◌≡◌, ◌∷◌, ℕ, List, [], Option, Some, None, Result, Ok, Err, Bor, map, true, refl, option_map, unwrap_or, IfOk, IfErr, IfSome, is_some, false, sym, ◌↔◌, ap, inl, inr, ◌∙◌}
+use Rattle.std.proofs.Common.{◌≡◌, ◌∷◌, ℕ, List, [], Option, Some, None, Result, Ok, Err, Bor, Bool, codes, map, subst, true, refl, option_map, unwrap_or, IfOk, IfErr, IfSome, is_some, false, sym, ◌↔◌, ap, inl, inr, ◌∙◌}
 use Rattle.clap.proofs.OnLiterals.{clap_on_literals}
-use Rattle.clap.specs.Matches.{found_of}
+use Rattle.clap.proofs.WalkLemmas.{one_text-rows}
+use Rattle.clap.specs.Matches.{found_of, one_text}
+use Rattle.clap.specs.declared.parser.matches.Found.{Found}
 use Rattle.clap.specs.Simple.{App, HasMatchesOf, is_simple, matches_of}
 use Rattle.clap.specs.Takes.{takes}
 use Rattle.clap.specs.Values.{kind_of}
-use Rattle.clap.specs.Walk.{Text, rows_of}
+use Rattle.clap.specs.Walk.{Text, one_of, rows_of}
 use Rattle.clap.specs.declared.error.kind.ErrorKind.TheVariants.{OutOfMemory}
 use Rattle.clap.specs.declared.parser.matches.ArgMatches.{ArgMatches}
 use Rattle.clap.specs.declared.error.Error.{Error}
 use Rattle.normalizer_built.specs.declared.NormalForm.{NormalForm}
+use Rattle.normalizer_streams.specs.declared.ill_formed.ErrorMode.{ErrorMode}
+use Rattle.normalizer_streams.specs.declared.ill_formed.ErrorMode.TheVariants.{Fatal, Replacement}
 use Rattle.normalizer_streams.specs.declared.scheme.EncodingScheme.{EncodingScheme}
 use Rattle.normalizer_replies.specs.declared.mapping.MapperTask.{MapperTask}
 use Rattle.normalizer_replies.specs.declared.reply.Task.{Task}
 use Rattle.normalizer_replies.specs.declared.reply.Task.TheVariants.{Write, Check, Locate}
 use Rattle.normalizer_replies.specs.declared.worker.Command.{Command}
 use Rattle.normalizer_replies.specs.declared.worker.Command.TheVariants.{OfForm, OfMapper}
-use Rattle.normalizer_command.specs.Arguments.{AreKnown, AsksFor, IsCommandWord, IsScheme, NamesForm, NamesMapperTask, NamesTask}
+use Rattle.normalizer_command.specs.Arguments.{AreKnown, AsksFor, IsCommandWord, IsMode, IsScheme, NamesForm, NamesMapperTask, NamesTask}
 use Rattle.normalizer_command.specs.CommandLine.{uninorm}
 
 differ : false ≡ true → ⊥
 differ e = let e = e in cc
 
 -- a task that is followed by a form
-pub asks_after : (task : Task) (word : List ℕ) (after names : List (List ℕ)) (encoding : Option (List ℕ)) (scheme : EncodingScheme) (form : NormalForm)
+pub asks_after : (task : Task) (word : List ℕ) (after names : List (List ℕ)) (encoding : Option (List ℕ)) (mode : ErrorMode) (scheme : EncodingScheme) (form : NormalForm)
     → NamesTask task word → ((first : List ℕ) × NamesForm form first × (after ≡ first ∷ names)) → IsScheme encoding scheme
-    → AsksFor word after encoding (OfForm task scheme form) names
-asks_after Write word after names encoding scheme form named first in_scheme = absurd named
-asks_after Check word after names encoding scheme form named first in_scheme = (named, first, in_scheme)
-asks_after Locate word after names encoding scheme form named first in_scheme = (named, first, in_scheme)
+    → AsksFor word after encoding mode (OfForm task scheme form) names
+asks_after (Write m) word after names encoding mode scheme form named first in_scheme = absurd named
+asks_after Check word after names encoding mode scheme form named first in_scheme = (named, first, in_scheme)
+asks_after Locate word after names encoding mode scheme form named first in_scheme = (named, first, in_scheme)
 
 -- a word that names nothing
 pub asks_for_nothing : (word : List ℕ) (after : List (List ℕ)) (encoding : Option (List ℕ)) → ((task : MapperTask) → NamesMapperTask task word → ⊥)
     → ((form : NormalForm) → NamesForm form word → ⊥) → ((task : Task) → NamesTask task word → ⊥)
-    → (command : Command) (names : List (List ℕ)) → AsksFor word after encoding command names → ⊥
-asks_for_nothing word after encoding mapper form task (OfMapper t scheme) names asked = mapper t asked.0
-asks_for_nothing word after encoding mapper form task (OfForm Write scheme f) names asked = form f asked.0
-asks_for_nothing word after encoding mapper form task (OfForm Check scheme f) names asked = task Check asked.0
-asks_for_nothing word after encoding mapper form task (OfForm Locate scheme f) names asked = task Locate asked.0
+    → (mode : ErrorMode) (command : Command) (names : List (List ℕ)) → AsksFor word after encoding mode command names → ⊥
+asks_for_nothing word after encoding mapper form task mode (OfMapper t scheme) names asked = mapper t asked.0
+asks_for_nothing word after encoding mapper form task mode (OfForm (Write m) scheme f) names asked = form f asked.0
+asks_for_nothing word after encoding mapper form task mode (OfForm Check scheme f) names asked = task Check asked.0
+asks_for_nothing word after encoding mapper form task mode (OfForm Locate scheme f) names asked = task Locate asked.0
 
 -- a value that a search by a word found, or missed
 pub found : {T : Type 0} {Names : T → Type 0} (result : Option T) → ((x : T) → (result ≡ Some x) ↔ Names x) → is_some result ≡ true
@@ -51,32 +55,32 @@ missed (Some y) = λ names no x named. differ (sym no)
 missed None = λ names no x named. let some : is_some (Some x) ≡ false = ap is_some (sym ((names x).1 named)) in differ (sym some)
 
 -- what is asked for has known words
-known_word : (word : Option (List ℕ)) (after : List (List ℕ)) (encoding : Option (List ℕ)) (command : Command) (names : List (List ℕ))
-    → AsksFor (unwrap_or word []) after encoding command names → IfSome word IsCommandWord
-known_word None after encoding command names asked = tt
-known_word (Some word) after encoding (OfMapper t scheme) names asked = inl (t, asked.0)
-known_word (Some word) after encoding (OfForm Write scheme f) names asked = inr (inr (f, asked.0))
-known_word (Some word) after encoding (OfForm Check scheme f) names asked = inr (inl (Check, asked.0))
-known_word (Some word) after encoding (OfForm Locate scheme f) names asked = inr (inl (Locate, asked.0))
+known_word : (word : Option (List ℕ)) (after : List (List ℕ)) (encoding : Option (List ℕ)) (mode : ErrorMode) (command : Command) (names : List (List ℕ))
+    → AsksFor (unwrap_or word []) after encoding mode command names → IfSome word IsCommandWord
+known_word None after encoding mode command names asked = tt
+known_word (Some word) after encoding mode (OfMapper t scheme) names asked = inl (t, asked.0)
+known_word (Some word) after encoding mode (OfForm (Write m) scheme f) names asked = inr (inr (f, asked.0))
+known_word (Some word) after encoding mode (OfForm Check scheme f) names asked = inr (inl (Check, asked.0))
+known_word (Some word) after encoding mode (OfForm Locate scheme f) names asked = inr (inl (Locate, asked.0))
 
-known_scheme : (word : List ℕ) (after : List (List ℕ)) (encoding : Option (List ℕ)) (command : Command) (names : List (List ℕ))
-    → AsksFor word after encoding command names → (scheme : EncodingScheme) × IsScheme encoding scheme
-known_scheme word after encoding (OfMapper t scheme) names asked = (scheme, asked.2)
-known_scheme word after encoding (OfForm Write scheme f) names asked = (scheme, asked.2)
-known_scheme word after encoding (OfForm Check scheme f) names asked = (scheme, asked.2)
-known_scheme word after encoding (OfForm Locate scheme f) names asked = (scheme, asked.2)
+known_scheme : (word : List ℕ) (after : List (List ℕ)) (encoding : Option (List ℕ)) (mode : ErrorMode) (command : Command) (names : List (List ℕ))
+    → AsksFor word after encoding mode command names → (scheme : EncodingScheme) × IsScheme encoding scheme
+known_scheme word after encoding mode (OfMapper t scheme) names asked = (scheme, asked.2)
+known_scheme word after encoding mode (OfForm (Write m) scheme f) names asked = (scheme, asked.2)
+known_scheme word after encoding mode (OfForm Check scheme f) names asked = (scheme, asked.2)
+known_scheme word after encoding mode (OfForm Locate scheme f) names asked = (scheme, asked.2)
 
-pub asks_by_known_words : (word : Option (List ℕ)) (after : List (List ℕ)) (encoding : Option (List ℕ)) (command : Command) (names : List (List ℕ))
-    → AsksFor (unwrap_or word []) after encoding command names → AreKnown word encoding
-asks_by_known_words word after encoding command names asked =
-    (known_word word after encoding command names asked, known_scheme (unwrap_or word []) after encoding command names asked)
+pub asks_by_known_words : (word : Option (List ℕ)) (after : List (List ℕ)) (encoding : Option (List ℕ)) (mode : ErrorMode) (command : Command) (names : List (List ℕ))
+    → AsksFor (unwrap_or word []) after encoding mode command names → AreKnown word encoding
+asks_by_known_words word after encoding mode command names asked =
+    (known_word word after encoding mode command names asked, known_scheme (unwrap_or word []) after encoding mode command names asked)
 
 pub known_by : (word word' encoding encoding' : Option (List ℕ)) → word ≡ word' → encoding ≡ encoding' → AreKnown word encoding → AreKnown word' encoding'
 known_by word word' encoding encoding' e f known = rw (← e, ← f) known
 
-pub asks_the_same : (word word' : List ℕ) (after after' : List (List ℕ)) (encoding encoding' : Option (List ℕ)) (command : Command) (names : List (List ℕ))
-    → word ≡ word' → after ≡ after' → encoding ≡ encoding' → AsksFor word after encoding command names → AsksFor word' after' encoding' command names
-asks_the_same word word' after after' encoding encoding' command names e f g asked = rw (← e, ← f, ← g) asked
+pub asks_the_same : (word word' : List ℕ) (after after' : List (List ℕ)) (encoding encoding' : Option (List ℕ)) (mode : ErrorMode) (command : Command) (names : List (List ℕ))
+    → word ≡ word' → after ≡ after' → encoding ≡ encoding' → AsksFor word after encoding mode command names → AsksFor word' after' encoding' mode command names
+asks_the_same word word' after after' encoding encoding' mode command names e f g asked = rw (← e, ← f, ← g) asked
 
 -- a value or another, behind references
 pub now_or : {T : Type 0} (found : Option (Bor T)) (other : Bor T) → (unwrap_or found other).now ≡ unwrap_or (option_map (λ x. x.now) found) other.now
@@ -104,3 +108,13 @@ pub taken_are : (a : App) (words : List Text) (r : Result ArgMatches Error) → 
     → IfErr r (λ error. takes uninorm words ≡ true → kind_of error ≡ OutOfMemory)
 taken_are a words (Ok m) e passes = tt
 taken_are a words (Err x) e passes = λ taken. passes (ap (λ b. takes b words) e ∙ taken)
+
+-- what the flag of `--strict` says
+pub mode_is : (f : Found) (is_strict : Bool) (mode : ErrorMode) → (one_text f (codes "strict") ≡ None → is_strict ≡ false) → (one_text f (codes "strict") ≡ Some (codes "false") → is_strict ≡ false)
+    → (one_text f (codes "strict") ≡ Some (codes "true") → is_strict ≡ true) → (is_strict ≡ true → mode ≡ Fatal) → (is_strict ≡ false → mode ≡ Replacement)
+    → IsMode (one_of (codes "strict") (rows_of f)) mode
+mode_is f true mode none other value strict not_strict =
+    subst (IsMode (one_of (codes "strict") (rows_of f))) (sym (strict refl))
+    ((λ e. differ (sym (none (one_text-rows f (codes "strict") ∙ e)))), (λ e. differ (sym (other (one_text-rows f (codes "strict") ∙ e)))))
+mode_is f false mode none other value strict not_strict =
+    subst (IsMode (one_of (codes "strict") (rows_of f))) (sym (not_strict refl)) (λ e. differ (value (one_text-rows f (codes "strict") ∙ e)))

@@ -1,11 +1,12 @@
 -- Files, one after another, as a loop does.
 use Rattle.std.proofs.Common.{◌≡◌, ℕ, ◌+◌, ◌<◌, ◌≤◌, List, [], ◌∷◌, length, get_or, drop, map, suc, Result, Ok, Err, IfErr, Bor, ap, refl, arith}
 use Rattle.std.specs.Prelude.{IsErrOf}
+use Rattle.std.specs.declared.io.ErrorKind.{ErrorKind}
 use Rattle.std.proofs.Math.Seq.{drop-cons}
 use Rattle.std.proofs.Math.ListN.{drop_of_length-le}
-use Rattle.normalizer_io.specs.declared.outcome.Answer.{Answer}
+use Rattle.normalizer_replies.specs.declared.reply.Answer.{Answer}
 use Rattle.normalizer_command.specs.declared.fault.Fault.{Fault}
-use Rattle.normalizer_command.specs.declared.fault.Fault.TheVariants.{Open, Read, Write, Memory, Line, Records}
+use Rattle.normalizer_command.specs.declared.fault.Fault.TheVariants.{Open, Read, Write, Memory, Line, Records, IllFormed, Replaced}
 use Rattle.normalizer_command.specs.FileFaults.{IsFileFault}
 use Rattle.normalizer_command.specs.Devices.{Devices}
 use Rattle.normalizer_command.specs.Outcomes.{AreDone, IsDone, State}
@@ -49,3 +50,19 @@ fault_of_reply Refused Written AllRead Unrefused (Err Write) read why = why
 fault_of_reply Refused Written AllRead Unrefused (Err Memory) read why = (read, why)
 fault_of_reply Refused Written AllRead Unrefused (Err (Line fault)) read why = why
 fault_of_reply Refused Written AllRead Unrefused (Err (Records error)) read why = why
+fault_of_reply Refused Written AllRead Unrefused (Err (IllFormed scheme at)) read why = why
+fault_of_reply Refused Written AllRead Unrefused (Err (Replaced count)) read why = why
+
+-- a fault of an open file is one of the file
+pub fault_of_open_file : (Cannot : ErrorKind → Type 0) (Refused Refused' Written Unrefused Unrefused' : Type 0) (r : Result Answer Fault)
+    → (Refused → Refused') → (Unrefused → Unrefused')
+    → IfErr r (IsFileFault (λ _. ⊥) Refused Written Unrefused) → IfErr r (IsFileFault Cannot Refused' Written Unrefused')
+fault_of_open_file Cannot Refused Refused' Written Unrefused Unrefused' (Ok answer) f g why = tt
+fault_of_open_file Cannot Refused Refused' Written Unrefused Unrefused' (Err (Open kind)) f g why = absurd why
+fault_of_open_file Cannot Refused Refused' Written Unrefused Unrefused' (Err Read) f g why = f why
+fault_of_open_file Cannot Refused Refused' Written Unrefused Unrefused' (Err Write) f g why = why
+fault_of_open_file Cannot Refused Refused' Written Unrefused Unrefused' (Err Memory) f g why = g why
+fault_of_open_file Cannot Refused Refused' Written Unrefused Unrefused' (Err (Line fault)) f g why = why
+fault_of_open_file Cannot Refused Refused' Written Unrefused Unrefused' (Err (Records error)) f g why = why
+fault_of_open_file Cannot Refused Refused' Written Unrefused Unrefused' (Err (IllFormed scheme at)) f g why = why
+fault_of_open_file Cannot Refused Refused' Written Unrefused Unrefused' (Err (Replaced count)) f g why = why

@@ -1,2 +1,3 @@
 pub mod FileLemmas
 pub mod ArgumentLemmas
+pub mod WriteLemmas

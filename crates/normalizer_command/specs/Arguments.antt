@@ -3,6 +3,8 @@ use Rattle.std.specs.Prelude.{◌≡◌, ◌≢◌, ◌⊎◌, ℕ, List, [], �
 use Rattle.clap.specs.Walk.{Row, all_of, first_of, one_of}
 use Rattle.normalizer_built.specs.declared.NormalForm.{NormalForm}
 use Rattle.normalizer_built.specs.declared.NormalForm.TheVariants.{Nfd, Nfc, Nfkd, Nfkc}
+use Rattle.normalizer_streams.specs.declared.ill_formed.ErrorMode.{ErrorMode}
+use Rattle.normalizer_streams.specs.declared.ill_formed.ErrorMode.TheVariants.{Fatal, Replacement}
 use Rattle.normalizer_streams.specs.declared.scheme.ByteOrder.TheVariants.{Big, Little}
 use Rattle.normalizer_streams.specs.declared.scheme.EncodingScheme.{EncodingScheme}
 use Rattle.normalizer_streams.specs.declared.scheme.EncodingScheme.TheVariants.{Utf8, Utf16}
@@ -24,7 +26,7 @@ NamesForm Nfkd word = word ≡ codes "nfkd"
 
 -- the word of a task that is followed by that of a form
 abbrev pub NamesTask : Task → List ℕ → Type 0
-NamesTask Write word = ⊥
+NamesTask (Write mode) word = ⊥
 NamesTask Check word = word ≡ codes "check"
 NamesTask Locate word = word ≡ codes "where"
 
@@ -55,19 +57,25 @@ AreKnown word encoding = IfSome word IsCommandWord × ((scheme : EncodingScheme)
 
 -- A word and those after it ask for a command over named files: FORM NAMES, check FORM NAMES, where FORM NAMES,
 -- map NAMES or validate NAMES.
-abbrev pub AsksFor : (word : List ℕ) (after : List (List ℕ)) (encoding : Option (List ℕ)) → Command
+abbrev pub AsksFor : (word : List ℕ) (after : List (List ℕ)) (encoding : Option (List ℕ)) (mode : ErrorMode) → Command
     → (names : List (List ℕ)) → Type 0
-AsksFor word after encoding (OfMapper task scheme) names =
+AsksFor word after encoding mode (OfMapper task scheme) names =
     NamesMapperTask task word × (after ≡ names) × IsScheme encoding scheme
-AsksFor word after encoding (OfForm Write scheme form) names =
-    NamesForm form word × (after ≡ names) × IsScheme encoding scheme
-AsksFor word after encoding (OfForm task scheme form) names = NamesTask task word
+AsksFor word after encoding mode (OfForm (Write m) scheme form) names =
+    NamesForm form word × (after ≡ names) × IsScheme encoding scheme × (m ≡ mode)
+AsksFor word after encoding mode (OfForm task scheme form) names = NamesTask task word
     × ((first : List ℕ) × NamesForm form first × (after ≡ first ∷ names)) × IsScheme encoding scheme
+
+-- ill-formed input is fatal if the flag of `--strict` is set
+abbrev pub IsMode : (flag : Option (List ℕ)) → ErrorMode → Type 0
+IsMode flag Fatal = (flag ≢ None) × (flag ≢ Some (codes "false"))
+IsMode flag Replacement = flag ≢ Some (codes "true")
 
 -- the same by what the words hold, by argument
 abbrev pub Asks : List Row → Command → (names : List (List ℕ)) → Type 0
-Asks rows command names = AsksFor (unwrap_or (first_of (codes "command") rows) [])
-    (unwrap_or (all_of (codes "file") rows) []) (first_of (codes "encoding") rows) command names
+Asks rows command names = (mode : ErrorMode) × IsMode (one_of (codes "strict") rows) mode
+    × AsksFor (unwrap_or (first_of (codes "command") rows) []) (unwrap_or (all_of (codes "file") rows) [])
+    (first_of (codes "encoding") rows) mode command names
 
 -- no word of a command or of an encoding is unknown
 abbrev pub HasKnownWords : List Row → Type 0

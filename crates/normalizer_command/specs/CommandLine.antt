@@ -28,8 +28,12 @@ encoding_rule = record (new_rule (codes "encoding")) { long = Some (codes "encod
 abbrev pub version_rule : Rule
 version_rule = record (new_rule (codes "version")) { long = Some (codes "version"); short = Some 86; action = Some SetTrue }
 
+-- --strict
+abbrev pub strict_rule : Rule
+strict_rule = record (new_rule (codes "strict")) { long = Some (codes "strict"); action = Some SetTrue }
+
 abbrev pub with_options : App → App
-with_options a = with_rule (with_rule (with_rule a directory_rule) encoding_rule) version_rule
+with_options a = with_rule (with_rule (with_rule (with_rule a directory_rule) encoding_rule) strict_rule) version_rule
 
 abbrev pub uninorm : App
 uninorm = with_options (with_rule (with_rule (new_app (codes "uninorm")) word_rule) after_rule)

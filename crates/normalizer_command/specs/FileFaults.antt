@@ -10,7 +10,7 @@ use Rattle.normalizer_records.specs.declared.records.BuildError.TheVariants as b
 use Rattle.normalizer_ucd.specs.declared.error.UcdError.{UcdError}
 use Rattle.normalizer_ucd.specs.declared.error.UcdError.TheVariants as ucd
 use Rattle.normalizer_command.specs.declared.fault.Fault.{Fault}
-use Rattle.normalizer_command.specs.declared.fault.Fault.TheVariants.{Open, Read, Write, Memory, Line, Records}
+use Rattle.normalizer_command.specs.declared.fault.Fault.TheVariants.{Open, Read, Write, Memory, Line, Records, IllFormed, Replaced}
 
 abbrev pub fault_of_transfer : TransferError → Fault
 fault_of_transfer transfer.Read = Read
@@ -35,6 +35,8 @@ IsFileFault cannot_open read_refused write_refused no_other Write = write_refuse
 IsFileFault cannot_open read_refused write_refused no_other Memory = no_other
 IsFileFault cannot_open read_refused write_refused no_other (Line fault) = ⊥
 IsFileFault cannot_open read_refused write_refused no_other (Records error) = ⊥
+IsFileFault cannot_open read_refused write_refused no_other (IllFormed scheme at) = ⊥
+IsFileFault cannot_open read_refused write_refused no_other (Replaced count) = ⊥
 
 -- a source was read to its end, or no read of it was refused
 abbrev pub IsReadUnrefused : {S : Type 0} → (left : Option (List ℕ)) → (refusal : S → S → Type 0) → S → S → Type 0

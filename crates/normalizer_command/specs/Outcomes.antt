@@ -1,11 +1,13 @@
 -- What becomes of files, one after another.
-use Rattle.std.specs.Prelude.{◌≡◌, ◌⊎◌, ℕ, List, [], ◌∷◌, Option, Result, Ok, Err, IfOk, IfErr, IfSome, IsErrOf, nat_lt, if◌then◌else◌}
+use Rattle.std.specs.Prelude.{◌≡◌, ◌⊎◌, ◌==◌, ℕ, List, [], ◌∷◌, Option, Some, None, Result, Ok, Err, IfOk, IfErr, IfSome, IsErrOf}
+use Rattle.std.specs.Prelude.{MatchOption, nat_lt, if◌then◌else◌}
 use Rattle.std.specs.Io.KnownBytes.{Appends}
 use Rattle.normalizer_io.specs.Transfer.{AppendsFront, IsUnrefused}
-use Rattle.normalizer_io.specs.declared.outcome.Answer.{Answer}
-use Rattle.normalizer_io.specs.declared.outcome.Answer.TheVariants.{Done, No}
+use Rattle.normalizer_replies.specs.declared.reply.Answer.{Answer}
+use Rattle.normalizer_replies.specs.declared.reply.Answer.TheVariants.{Done, No, Ended}
+use Rattle.normalizer_streams.specs.declared.ill_formed.Ending.TheVariants.{Whole, Stopped}
 use Rattle.normalizer_command.specs.declared.fault.Fault.{Fault}
-use Rattle.normalizer_command.specs.declared.fault.Fault.TheVariants.{Open, Write}
+use Rattle.normalizer_command.specs.declared.fault.Fault.TheVariants.{IllFormed, Open, Replaced, Write}
 use Rattle.normalizer_replies.specs.declared.reply.Task.TheVariants as task
 use Rattle.normalizer_streams.specs.Streams.{IsEndless}
 use Rattle.normalizer_command.specs.Devices.{Devices}
@@ -40,11 +42,22 @@ abbrev pub IsCutOff : Work → (name : List ℕ) → (bytes before after : Optio
 IsCutOff w name bytes before after =
     (answer : Answer) × (output : List ℕ) × Replies w name bytes answer output × AppendsFront before after output
 
--- the exit status after a file: 0, or 1 if it isn't in the form, or 2 if it failed
+-- the exit status after a file: 0, or 1 if it isn't in the form or had ill-formed sequences that were replaced, or 2 if it
+-- failed or one was fatal
 abbrev pub status_of : Result Answer Fault → ℕ
 status_of (Ok Done) = 0
 status_of (Ok No) = 1
+status_of (Ok (Ended scheme (Whole count))) = if count == 0 then 0 else 1
+status_of (Ok (Ended scheme (Stopped at))) = 2
 status_of (Err fault) = 2
+
+-- what is reported of a file
+abbrev pub fault_told : Result Answer Fault → Option Fault
+fault_told (Ok Done) = None
+fault_told (Ok No) = None
+fault_told (Ok (Ended scheme (Whole count))) = if count == 0 then None else Some (Replaced count)
+fault_told (Ok (Ended scheme (Stopped at))) = Some (IllFormed scheme at)
+fault_told (Err fault) = Some fault
 
 -- the greater of two
 abbrev pub greater : ℕ → ℕ → ℕ
@@ -53,23 +66,22 @@ greater a b = if nat_lt a b then b else a
 -- What work leaves that fails so: nothing is written, or a front of the reply is. A form is written while its file is
 -- read, another reply only then.
 abbrev pub Leaves : Work → Fault → (Unwritten CutOff : Type 0) → Type 0
-Leaves (OfForm task.Write scheme m) (Open kind) Unwritten CutOff = Unwritten
-Leaves (OfForm task.Write scheme m) fault Unwritten CutOff = CutOff
+Leaves (OfForm (task.Write mode) scheme m) (Open kind) Unwritten CutOff = Unwritten
+Leaves (OfForm (task.Write mode) scheme m) fault Unwritten CutOff = CutOff
 Leaves other Write Unwritten CutOff = CutOff
 Leaves other fault Unwritten CutOff = Unwritten
 
--- One file: its reply is written, or a report says why it failed. A source of 2^64 - 1 bytes may count as refused. If
--- memory was, the file was opened, and no write was refused.
+-- One file: its reply is written, or a report says why it failed. A report also says what was ill-formed in a form. A
+-- source of 2^64 - 1 bytes may count as refused. If memory was, the file was opened, and no read or write was refused.
 pub record IsDone {W : Type 0} (d : Devices W) (w : Work) (name : List ℕ) (s t : State W)
     (outcome : Result Answer Fault) : Type 0 where
   pub done : IfOk outcome (IsWritten w name (d.bytes_of name) (d.taken s.writer) (d.taken t.writer))
   pub why : IfErr outcome
       (IsFileFault (d.cannot_open name) (d.read_refused name ⊎ IsEndless (d.bytes_of name))
-      (d.write_refused s.writer t.writer) (d.opened name × IsUnrefused d.write_refused s.writer t.writer))
+      (d.write_refused s.writer t.writer) (d.unrefused name × IsUnrefused d.write_refused s.writer t.writer))
   pub left : IfErr outcome (λ fault. Leaves w fault (t.writer ≡ s.writer)
       (IsCutOff w name (d.bytes_of name) (d.taken s.writer) (d.taken t.writer)))
-  pub untold : IfOk outcome (λ _. t.told ≡ s.told)
-  pub told : IfErr outcome (λ fault. Tells s.told t.told (name, fault))
+  pub told : MatchOption (fault_told outcome) (t.told ≡ s.told) (λ fault. Tells s.told t.told (name, fault))
   pub status : t.status ≡ greater s.status (status_of outcome)
 
 -- each file in turn, and none after a refused write

@@ -12,7 +12,7 @@ use Rattle.normalizer_ucd.specs.UnicodeData.{records_of}
 use Rattle.normalizer_command.specs.Devices.{Devices}
 use Rattle.normalizer_command.specs.FileFaults.{IsFileFault}
 use Rattle.normalizer_command.specs.declared.fault.Fault.{Fault}
-use Rattle.normalizer_command.specs.declared.fault.Fault.TheVariants.{Open, Read, Write, Memory, Line, Records}
+use Rattle.normalizer_command.specs.declared.fault.Fault.TheVariants.{Open, Read, Write, Memory, Line, Records, IllFormed, Replaced}
 use Rattle.normalizer_replies.specs.declared.worker.Command.{Command}
 use Rattle.normalizer_replies.specs.declared.worker.Command.TheVariants.{OfForm, OfMapper}
 
@@ -71,6 +71,8 @@ IsFaultOf unicode_data exclusions table file Memory = ⊤
 IsFaultOf unicode_data exclusions table file (Open kind) = ⊥
 IsFaultOf unicode_data exclusions table file Read = ⊥
 IsFaultOf unicode_data exclusions table file Write = ⊥
+IsFaultOf unicode_data exclusions table file (IllFormed scheme at) = ⊥
+IsFaultOf unicode_data exclusions table file (Replaced count) = ⊥
 
 -- why a file of a directory can't be read
 abbrev pub IsReadFault : {W : Type 0} → Devices W → (directory : List ℕ) → UcdFile → Fault → Type 0

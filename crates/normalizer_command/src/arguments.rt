@@ -28,12 +28,14 @@ ghost use Rattle.normalizer_command.specs.CommandLine.{
   after_rule,
   directory_rule,
   encoding_rule,
+  strict_rule,
   uninorm,
   version_rule,
   with_options,
   word_rule,
 };
 ghost use Rattle.normalizer_built.specs.declared.NormalForm.{NormalForm};
+ghost use Rattle.normalizer_streams.specs.declared.ill_formed.ErrorMode.{ErrorMode};
 ghost use Rattle.normalizer_streams.specs.declared.scheme.EncodingScheme.{EncodingScheme};
 ghost use Rattle.normalizer_replies.specs.declared.mapping.MapperTask.{MapperTask};
 ghost use Rattle.normalizer_replies.specs.declared.reply.Task.{Task};
@@ -54,7 +56,7 @@ ghost use Rattle.normalizer_command.specs.Arguments.{
 use clap::{Arg, ArgAction, ArgMatches, Command, Error};
 use normalizer_built::NormalForm;
 use normalizer_replies::{Command as FileCommand, MapperTask, Task};
-use normalizer_streams::{ByteOrder, EncodingScheme};
+use normalizer_streams::{ByteOrder, EncodingScheme, ErrorMode};
 use std::alloc::{AllocError, Global};
 
 /// What the commands do.
@@ -67,6 +69,10 @@ const WORD_HELP: &str =
 const ENCODING_HELP: &str =
     "utf-8 (if none is named), utf-16le or utf-16be: how the files are read, and forms and mapped lines \
     written; a byte order mark is text. Names and reports are UTF-8";
+
+/// What `--strict` does.
+const STRICT_HELP: &str =
+    "End a file at its first ill-formed sequence, which fails. Else a form has U+FFFD for each, and a     report says how many a file had";
 
 /// Where the data are.
 const DIRECTORY_HELP: &str =
@@ -82,7 +88,8 @@ const AFTER_HELP: &str =
     disallowed ones. A line is valid if mapping leaves it as it is, and it has no ignored or disallowed character \
     and no U+FFFD; Punycode, STD3 rules, hyphens, joiners and bidi are not checked. validate prints FILE:LINE: invalid.\n\
     The forms are written while a file is read; the other commands read each file whole first.\n\
-    Status: 0; check and where: 1 if a file isn't in the form; validate: 1 if a line isn't valid; 2 if a file failed.";
+    Status: 0; 1 if ill-formed sequences were replaced in a form, if a file isn't in the form (check, where) or a line \
+    isn't valid (validate); 2 if a file failed.";
 
 /// The message if the command is unknown.
 const UNKNOWN_COMMAND: &str =
@@ -155,7 +162,8 @@ fn request_of<'a>(alloc: Global, matches: &ArgMatches<'a>) -> Result<Request<'a>
         return Ok(Request::Version(directory));
     }
     let after = matches.get_strs("file").unwrap_or(&[]);
-    match command_of(word.unwrap_or(""), after, encoding) {
+    let mode = mode_of(matches.get_flag("strict"));
+    match command_of(word.unwrap_or(""), after, encoding, mode) {
         Ok((command, names)) => Ok(Request::Files(FileRequest {
             command,
             directory,
@@ -197,18 +205,19 @@ fn command_of<'n, 'a>(
     word: &str,
     after: &'n [&'a str],
     encoding: Option<&str>,
+    mode: ErrorMode,
 ) -> Result<(FileCommand, &'n [&'a str]), &'static str>
     ensures asked { IfOk result (λ found. AsksFor word.now (map (λ name. name.now) after.now) (option_copied encoding.entry)
-        found.0 (map (λ name. name.now) found.1.now)) }
-    ensures unclear { OnErr result ((command : FileCommand) (names : List (List ℕ)) →
-        AsksFor word.now (map (λ name. name.now) after.now) (option_copied encoding.entry) command names → ⊥) }
+        mode found.0 (map (λ name. name.now) found.1.now)) }
+    ensures unclear { OnErr result ((mode : ErrorMode) (command : FileCommand) (names : List (List ℕ)) →
+        AsksFor word.now (map (λ name. name.now) after.now) (option_copied encoding.entry) mode command names → ⊥) }
 {
     let scheme = scheme_of(encoding)?;
     if let Some(task) = mapper_task_named(word) {
         return Ok((FileCommand::OfMapper(task, scheme), after));
     }
     if let Some(form) = form_named(word) {
-        return Ok((FileCommand::OfForm(Task::Write, scheme, form), after));
+        return Ok((FileCommand::OfForm(Task::Write(mode), scheme, form), after));
     }
     let Some(task) = task_named(word) else {
         return Err(NO_COMMAND);
@@ -236,6 +245,18 @@ fn scheme_of(encoding: Option<&str>) -> Result<EncodingScheme, &'static str>
     match encoding {
         Some(word) => scheme_named(word).ok_or(NO_ENCODING),
         None => Ok(EncodingScheme::Utf8),
+    }
+}
+
+/// What becomes of ill-formed sequences, by the flag `--strict`.
+fn mode_of(is_strict: bool) -> ErrorMode
+    ensures strict { is_strict ≡ true → result ≡ ErrorMode.Fatal }
+    ensures other { is_strict ≡ false → result ≡ ErrorMode.Replacement }
+{
+    if is_strict {
+        ErrorMode::Fatal
+    } else {
+        ErrorMode::Replacement
     }
 }
 
@@ -314,6 +335,7 @@ fn with_options<'a>(alloc: Global, command: Command<'a>) -> Result<Command<'a>, 
     command
         .arg(directory(alloc))?
         .arg(encoding(alloc))?
+        .arg(strict(alloc))?
         .arg(version(alloc))
 }
 
@@ -355,6 +377,16 @@ fn encoding<'a>(alloc: Global) -> Arg<'a>
         .long("encoding")
         .value_name("ENCODING")
         .help(ENCODING_HELP)
+}
+
+fn strict<'a>(alloc: Global) -> Arg<'a>
+    ensures rule { rule_of result ≡ strict_rule }
+    ensures local { result.global ≡ false }
+{
+    Arg::new(alloc, "strict")
+        .long("strict")
+        .action(ArgAction::SetTrue)
+        .help(STRICT_HELP)
 }
 
 fn version<'a>(alloc: Global) -> Arg<'a>

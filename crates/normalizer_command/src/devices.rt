@@ -1,6 +1,7 @@
 //! What the program reads from, and what it reports failures to.
-ghost use Rattle.std.specs.Prelude.{◌≡◌, ℕ, List, Option, IfOk, IfErr, OnOk};
+ghost use Rattle.std.specs.Prelude.{◌≡◌, ℕ, List, Option, IfOk, IfErr};
 ghost use Rattle.std.specs.declared.io.ErrorKind.{ErrorKind};
+ghost use Rattle.normalizer_command.specs.FileFaults.{IsReadUnrefused};
 ghost use Rattle.normalizer_command.specs.FileReports.{Report, Tells};
 ghost use Rattle.normalizer_command.specs.Messages.{report_of};
 
@@ -19,8 +20,8 @@ pub trait Inputs {
     /// Holds if the file of a name can't be opened, for this reason.
     ghost cannot_open: { Self → List ℕ → ErrorKind → Type 0 };
 
-    /// Holds if the file of a name was opened.
-    ghost opened: { Self → List ℕ → Type 0 };
+    /// Holds if the file of a name was opened, and no read of it was refused.
+    ghost unrefused: { Self → List ℕ → Type 0 };
 
     /// Holds if a read of the file of a name was refused.
     ghost read_refused: { Self → List ℕ → Type 0 };
@@ -28,12 +29,13 @@ pub trait Inputs {
     /// Opens the file of this name; `-` is standard input.
     ///
     /// # Errors
-    /// Why it can't be opened.
+    /// Why it can't be opened: `Deadlock` if it is the output too, `InvalidData` if its name is not UTF-8.
     fn open(&self, name: &str) -> Result<Self::Input, ErrorKind>
         ensures bytes { IfOk result (λ input. Self.Input.bytes_left input ≡ bytes_of self.now name.now) }
         ensures reads { IfOk result (λ input. (later : Self.Input) → Self.Input.refusal input later →
             read_refused self.now name.now) }
-        ensures opens { OnOk result (opened self.now name.now) }
+        ensures succeeds { IfOk result (λ input. (later : Self.Input) → IsReadUnrefused (Self.Input.bytes_left later)
+            Self.Input.refusal input later → unrefused self.now name.now) }
         ensures fault { IfErr result (cannot_open self.now name.now) };
 }
 

@@ -6,12 +6,13 @@ ghost use Rattle.normalizer_command.specs.FileFaults.{fault_of_file, fault_of_re
 use normalizer_io::TransferError;
 use normalizer_iterators::NormalizeError;
 use normalizer_records::BuildError;
+use normalizer_streams::{EncodingScheme, Position};
 use normalizer_ucd::{LineFault, UcdError};
 use std::alloc::{AllocError, AllocFailed};
 use std::fmt;
 use std::io::ErrorKind;
 
-/// Why a file failed.
+/// Why a file failed, or what was done to it.
 #[derive(Clone, Copy, PartialEq, Eq)]
 pub enum Fault {
     /// It can't be opened.
@@ -26,6 +27,10 @@ pub enum Fault {
     Line(LineFault),
     /// The records of the data files can't be built.
     Records(BuildError),
+    /// An ill-formed sequence of this encoding scheme begins at this position, and was fatal.
+    IllFormed(EncodingScheme, Position),
+    /// So many ill-formed sequences were written as U+FFFD.
+    Replaced(usize),
 }
 
 impl fmt::Display for Fault {
@@ -34,12 +39,17 @@ impl fmt::Display for Fault {
     fn fmt<W: fmt::Write>(&self, f: &mut fmt::Formatter<W>) -> fmt::Result {
         match self {
             Fault::Open(ErrorKind::NotFound) => f.write_str("no such file or directory"),
+            Fault::Open(ErrorKind::Deadlock) => f.write_str("it is the output too"),
+            Fault::Open(ErrorKind::InvalidData) => f.write_str("its name is not UTF-8"),
             Fault::Open(kind) => write!(f, "{kind}"),
             Fault::Read => f.write_str("it can't be read"),
             Fault::Write => f.write_str("it can't be written"),
             Fault::Memory => f.write_str("out of memory"),
             Fault::Line(fault) => write!(f, "line {}: {}", fault.place.line, fault.problem),
             Fault::Records(error) => write!(f, "{error}"),
+            Fault::IllFormed(EncodingScheme::Utf8, _) => f.write_str("ill-formed UTF-8"),
+            Fault::IllFormed(EncodingScheme::Utf16(_), _) => f.write_str("ill-formed UTF-16"),
+            Fault::Replaced(count) => write!(f, "ill-formed sequences replaced by U+FFFD: {count}"),
         }
     }
 }

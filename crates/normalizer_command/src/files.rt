@@ -1,22 +1,32 @@
 //! A command over files.
-ghost use Rattle.std.specs.Prelude.{◌≡◌, ◌≢◌, ◌↔◌, ◌⊎◌, ℕ, IsTrue, List, map, IfOk, IfErr, IsErrOf};
+ghost use Rattle.std.specs.Prelude.{◌≡◌, ◌≢◌, ◌↔◌, ◌⊎◌, ℕ, IsTrue, List, map, IfOk, IfErr, IsErrOf, MatchOption};
+ghost use Rattle.normalizer_streams.specs.declared.scheme.EncodingScheme.{EncodingScheme};
 ghost use Rattle.std.specs.Io.KnownBytes.{Appends};
-ghost use Rattle.normalizer_io.specs.declared.outcome.Answer.{Answer};
+ghost use Rattle.normalizer_replies.specs.declared.reply.Answer.{Answer};
 ghost use Rattle.normalizer_io.specs.Transfer.{AppendsFront, IsUnrefused};
 ghost use Rattle.normalizer_replies.specs.Replies.{IsReply};
 ghost use Rattle.normalizer_streams.specs.Streams.{IsEndless};
 ghost use Rattle.normalizer_command.specs.Devices.{devices};
 ghost use Rattle.normalizer_command.specs.FileFaults.{IsFileFault, IsReadUnrefused};
-ghost use Rattle.normalizer_command.specs.Outcomes.{AreDone, IsCutOff, IsWritten, Leaves, greater, state, status_of};
+ghost use Rattle.normalizer_command.specs.Outcomes.{
+  fault_told,
+  greater,
+  state,
+  status_of,
+  AreDone,
+  IsCutOff,
+  IsWritten,
+  Leaves,
+};
 ghost use Rattle.normalizer_command.specs.FileReports.{Tells};
 ghost use Rattle.normalizer_replies.specs.Works.{Does, RepliesAtEnd, Work};
 
 use crate::devices::{Inputs, Reports};
 use crate::fault::Fault;
 use crate::message::Message;
-use normalizer_io::{Answer, Source, Target, read_all, write_all};
-use normalizer_replies::{Task, Worker};
-use normalizer_streams::write_form;
+use normalizer_io::{Source, Target, read_all, write_all};
+use normalizer_replies::{Answer, Task, Worker};
+use normalizer_streams::{EncodingScheme, Ending, write_form};
 use std::alloc::Global;
 
 /// Does a worker's work with each file in turn, up to a refused write, and returns the exit status: the greatest of
@@ -31,7 +41,7 @@ pub(crate) fn over_files<I: Inputs, W: Target, R: Reports>(
 ) -> u8
     ensures { (w : Work) → Does worker.now w →
         AreDone
-        (devices (I.bytes_of inputs.now) (I.cannot_open inputs.now) (I.opened inputs.now) (I.read_refused inputs.now)
+        (devices (I.bytes_of inputs.now) (I.cannot_open inputs.now) (I.unrefused inputs.now) (I.read_refused inputs.now)
         W.bytes_taken W.refusal)
         w (map (λ name. name.now) names.now)
         (state writer.old (R.reports reports.old) 0) (state writer.new (R.reports reports.new) result) }
@@ -61,7 +71,7 @@ fn over_file<I: Inputs, W: Target>(
     ensures why { IfErr result (IsFileFault (I.cannot_open inputs.now name.now)
         (I.read_refused inputs.now name.now ⊎ IsEndless (I.bytes_of inputs.now name.now))
         (W.refusal writer.old writer.new)
-        (I.opened inputs.now name.now × IsUnrefused W.refusal writer.old writer.new)) }
+        (I.unrefused inputs.now name.now × IsUnrefused W.refusal writer.old writer.new)) }
     ensures left { (w : Work) → Does worker.now w →
         IfErr result (λ fault. Leaves w fault (writer.new ≡ writer.old)
         (IsCutOff w name.now (I.bytes_of inputs.now name.now) (W.bytes_taken writer.old) (W.bytes_taken writer.new))) }
@@ -89,9 +99,9 @@ fn over_input<S: Source, W: Target>(
         (IsCutOff w name.now (S.bytes_left input.old) (W.bytes_taken writer.old) (W.bytes_taken writer.new))) }
 {
     match worker {
-        Worker::OfForm(Task::Write, scheme, normalizer) => {
-            write_form(alloc, *scheme, normalizer, input, writer)?;
-            Ok(Answer::Done)
+        Worker::OfForm(Task::Write(mode), scheme, normalizer) => {
+            let ending = write_form(alloc, *scheme, *mode, normalizer, input, writer)?;
+            Ok(Answer::Ended(*scheme, ending))
         }
         _ => write_reply(alloc, worker, name, input, writer),
     }
@@ -143,17 +153,44 @@ fn write_reply_to<W: Target>(
     Ok(reply.answer)
 }
 
-/// Reports why a file failed, if it did.
+/// Reports why a file failed, if it did, and what was ill-formed in it.
 fn tell<R: Reports>(reports: &mut R, name: &str, outcome: Result<Answer, Fault>)
-    ensures untold { IfOk outcome (λ _. R.reports reports.new ≡ R.reports reports.old) }
-    ensures told { IfErr outcome (λ fault. Tells (R.reports reports.old) (R.reports reports.new) (name.now, fault)) }
+    ensures { MatchOption (fault_told outcome) (R.reports reports.new ≡ R.reports reports.old)
+        (λ fault. Tells (R.reports reports.old) (R.reports reports.new) (name.now, fault)) }
 {
-    if let Err(fault) = outcome {
-        reports.report(Message {
+    match fault_told(outcome) {
+        Some(fault) => reports.report(Message {
             directory: None,
             name,
             fault,
-        });
+        }),
+        None => {}
+    }
+}
+
+/// What is reported of a file.
+fn fault_told(outcome: Result<Answer, Fault>) -> Option<Fault>
+    ensures { result ≡ fault_told outcome }
+{
+    match outcome {
+        Ok(Answer::Done | Answer::No) => None,
+        Ok(Answer::Ended(scheme, ending)) => fault_of_ending(scheme, ending),
+        Err(fault) => Some(fault),
+    }
+}
+
+fn fault_of_ending(scheme: EncodingScheme, ending: Ending) -> Option<Fault>
+    ensures { result ≡ fault_told (Ok (Answer.Ended scheme ending)) }
+{
+    match ending {
+        Ending::Whole(count) => {
+            if count == 0 {
+                None
+            } else {
+                Some(Fault::Replaced(count))
+            }
+        }
+        Ending::Stopped(at) => Some(Fault::IllFormed(scheme, at)),
     }
 }
 
@@ -170,7 +207,17 @@ fn status_of(outcome: Result<Answer, Fault>) -> u8
     match outcome {
         Ok(Answer::Done) => 0,
         Ok(Answer::No) => 1,
+        Ok(Answer::Ended(_, ending)) => status_of_ending(ending),
         Err(_) => 2,
+    }
+}
+
+fn status_of_ending(ending: Ending) -> u8
+    ensures { (scheme : EncodingScheme) → result ≡ status_of (Ok (Answer.Ended scheme ending)) }
+{
+    match ending {
+        Ending::Whole(count) => { if count == 0 { 0 } else { 1 } }
+        Ending::Stopped(_) => 2,
     }
 }
 

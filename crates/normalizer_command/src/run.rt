@@ -35,7 +35,7 @@ pub fn run<I: Inputs, W: Target, R: Reports>(
     reports: &mut R,
 ) -> u8
     ensures { IsRun
-        (devices (I.bytes_of inputs.now) (I.cannot_open inputs.now) (I.opened inputs.now) (I.read_refused inputs.now)
+        (devices (I.bytes_of inputs.now) (I.cannot_open inputs.now) (I.unrefused inputs.now) (I.read_refused inputs.now)
         W.bytes_taken W.refusal)
         command directory.now (map (λ name. name.now) names.now)
         (state writer.old (R.reports reports.old) 0) (state writer.new (R.reports reports.new) result) }
@@ -60,12 +60,12 @@ fn run_by_files<I: Inputs, W: Target, R: Reports>(
     reports: &mut R,
 ) -> Result<u8, DataFault>
     ensures done { IfOk result (λ status. RunsByFiles
-        (devices (I.bytes_of inputs.now) (I.cannot_open inputs.now) (I.opened inputs.now) (I.read_refused inputs.now)
+        (devices (I.bytes_of inputs.now) (I.cannot_open inputs.now) (I.unrefused inputs.now) (I.read_refused inputs.now)
         W.bytes_taken W.refusal)
         command directory.now (map (λ name. name.now) names.now)
         (state writer.old (R.reports reports.old) 0) (state writer.new (R.reports reports.new) status)) }
     ensures fault { IfErr result (λ e. IsDataFault
-        (devices (I.bytes_of inputs.now) (I.cannot_open inputs.now) (I.opened inputs.now) (I.read_refused inputs.now)
+        (devices (I.bytes_of inputs.now) (I.cannot_open inputs.now) (I.unrefused inputs.now) (I.read_refused inputs.now)
         W.bytes_taken W.refusal)
         directory.now command e.file e.fault) }
     ensures unwritten { OnErr result (writer.new ≡ writer.old) }
@@ -95,7 +95,7 @@ fn over_data<I: Inputs, W: Target, R: Reports>(
     requires { AreBuilt (data_in «data».now) }
     ensures done { (records : List RecordValue) (uts46 : List Uts46RecordValue) →
         Builds records uts46 (data_in «data».now) → IfOk result (λ status. AreDone
-        (devices (I.bytes_of inputs.now) (I.cannot_open inputs.now) (I.opened inputs.now) (I.read_refused inputs.now)
+        (devices (I.bytes_of inputs.now) (I.cannot_open inputs.now) (I.unrefused inputs.now) (I.read_refused inputs.now)
         W.bytes_taken W.refusal)
         (work_by records uts46 command) (map (λ name. name.now) names.now)
         (state writer.old (R.reports reports.old) 0) (state writer.new (R.reports reports.new) status)) }

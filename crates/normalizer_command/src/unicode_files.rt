@@ -133,7 +133,7 @@ pub(crate) fn read_file<I: Inputs>(
 fn read<I: Inputs>(alloc: Global, inputs: &I, path: &str) -> Result<Vec<u8>, Fault>
     ensures bytes { IfOk result (λ v. IfSome (I.bytes_of inputs.now path.now) (λ all. v.items ≡ all)) }
     ensures fault { IfErr result (IsFileFault (I.cannot_open inputs.now path.now) (I.read_refused inputs.now path.now) ⊥
-        (I.opened inputs.now path.now)) }
+        (I.unrefused inputs.now path.now)) }
 {
     let mut input = inputs.open(path)?;
     Ok(read_all(alloc, &mut input)?)

@@ -2,8 +2,8 @@
 use Rattle.std.proofs.Common.{◌≡◌, ℕ, List, [], Result, Ok, Err, IfOk, refl, ap, ◌∙◌}
 use Rattle.std.specs.Prelude.{◌↔◌}
 use Rattle.icu_normalizer.specs.Uts46.{MapperData}
-use Rattle.normalizer_io.specs.declared.outcome.Answer.{Answer}
-use Rattle.normalizer_io.specs.declared.outcome.Answer.TheVariants.{Done}
+use Rattle.normalizer_replies.specs.declared.reply.Answer.{Answer}
+use Rattle.normalizer_replies.specs.declared.reply.Answer.TheVariants.{Done}
 use Rattle.normalizer_streams.specs.declared.scheme.EncodingScheme.{EncodingScheme}
 use Rattle.normalizer_streams.specs.Schemes.{encoded_by}
 use Rattle.normalizer_iterators.specs.declared.error.NormalizeError.{NormalizeError}

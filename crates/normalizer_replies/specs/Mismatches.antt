@@ -1,24 +1,13 @@
 -- What is written of the first mismatch of a file.
-use Rattle.std.specs.Prelude.{◌≡◌, ℕ, ◌+◌, ◌-◌, ◌*◌, ◌==◌, not, true, List, [], ◌∷◌, ◌++◌, codes, count_by, decimal, length}
-use Rattle.std.specs.Prelude.{Option, Some, None, replicate, reverse, take, take_while}
+use Rattle.std.specs.Prelude.{◌≡◌, ℕ, ◌-◌, true, List, [], ◌∷◌, ◌++◌, codes, decimal, length}
+use Rattle.std.specs.Prelude.{Option, Some, None, replicate, take}
 use Rattle.std.specs.Fmt.{digits}
 use Rattle.normalizer_text.specs.declared.offence.Offence.{Offence}
 use Rattle.normalizer_streams.specs.declared.scheme.EncodingScheme.{EncodingScheme}
-use Rattle.normalizer_streams.specs.Schemes.{unit_len, units_of}
-use Rattle.normalizer_io.specs.declared.outcome.Answer.{Answer}
-use Rattle.normalizer_io.specs.declared.outcome.Answer.TheVariants.{Done, No}
-
--- the number of a line, from 1, after the units before a place: lines end with U+000A
-abbrev pub line_after : List ℕ → ℕ
-line_after front = count_by (λ u. u == 0x0A) front + 1
-
--- how many units of its line come before the place
-abbrev pub units_before : List ℕ → ℕ
-units_before front = length (take_while (λ u. not (u == 0x0A)) (reverse front))
-
--- the number of a byte in its line, from 1
-abbrev pub byte_after : EncodingScheme → List ℕ → ℕ
-byte_after s front = units_before front * unit_len s + 1
+use Rattle.normalizer_streams.specs.Positions.{byte_after, line_after}
+use Rattle.normalizer_streams.specs.Schemes.{units_of}
+use Rattle.normalizer_replies.specs.declared.reply.Answer.{Answer}
+use Rattle.normalizer_replies.specs.declared.reply.Answer.TheVariants.{Done, No}
 
 -- upper-case hexadecimal digits, at least four with zeros in front (The Unicode Standard, appendix A)
 abbrev pub code_point_digits : ℕ → List ℕ

@@ -4,9 +4,12 @@ use Rattle.normalizer_text.specs.EncodedForm.{encoded_form}
 use Rattle.normalizer_text.specs.InputCut.{IsInputNormalized}
 use Rattle.normalizer_text.specs.InputOffence.{IsInputOffenceOf}
 use Rattle.normalizer_text.specs.declared.offence.Offence.{Offence}
-use Rattle.normalizer_io.specs.declared.outcome.Answer.{Answer}
-use Rattle.normalizer_io.specs.declared.outcome.Answer.TheVariants.{Done, No}
+use Rattle.normalizer_replies.specs.declared.reply.Answer.{Answer}
+use Rattle.normalizer_replies.specs.declared.reply.Answer.TheVariants.{Done, No, Ended}
 use Rattle.normalizer_streams.specs.declared.scheme.EncodingScheme.{EncodingScheme}
+use Rattle.normalizer_streams.specs.IllFormed.{Ends}
+use Rattle.normalizer_streams.specs.declared.ill_formed.Ending.{Ending}
+use Rattle.normalizer_streams.specs.declared.ill_formed.ErrorMode.{ErrorMode}
 use Rattle.normalizer_streams.specs.Schemes.{bytes_of, decoded_by, encoded_by, encoding_of, units_of}
 use Rattle.normalizer_replies.specs.declared.mapping.MapperTask.{MapperTask}
 use Rattle.normalizer_replies.specs.declared.mapping.MapperTask.TheVariants.{Map, Validate}
@@ -21,13 +24,21 @@ use Rattle.normalizer_replies.specs.Works.{Work, OfForm, OfMapper}
 abbrev pub IsInForm : EncodingScheme → Making → List ℕ → Type 0
 IsInForm s m input = IsInputNormalized (encoding_of s) m.reading m.form (units_of s input)
 
+-- The text of a file that is to be written in the form ends so. The output is the form of what is written of it.
+pub record IsReplyOfWrite (mode : ErrorMode) (s : EncodingScheme) (m : Making) (input : List ℕ) (ending : Ending) (output : List ℕ)
+    : Type 0 where
+  pub text : List ℕ
+  pub ends : Ends s mode input text ending
+  pub form : output ≡ bytes_of s (encoded_form (encoding_of s) m.reading m.form (units_of s text))
+
 -- the form of what the bytes decode to, as they are encoded; the name on a line if they aren't in the form; or the line
 -- of their first mismatch
 abbrev pub IsReplyOfForm : Task → EncodingScheme → Making → (name input : List ℕ) → Answer → (output : List ℕ) → Type 0
-IsReplyOfForm Write s m name input answer output =
-    (answer ≡ Done) × (output ≡ bytes_of s (encoded_form (encoding_of s) m.reading m.form (units_of s input)))
+IsReplyOfForm (Write mode) s m name input (Ended scheme ending) output = (scheme ≡ s) × IsReplyOfWrite mode s m input ending output
+IsReplyOfForm (Write mode) s m name input other output = ⊥
 IsReplyOfForm Check s m name input Done output = IsInForm s m input × (output ≡ [])
 IsReplyOfForm Check s m name input No output = (¬ IsInForm s m input) × (output ≡ line_of name)
+IsReplyOfForm Check s m name input (Ended scheme ending) output = ⊥
 IsReplyOfForm Locate s m name input answer output = (mismatch : Option Offence)
     × IsInputOffenceOf (encoding_of s) m.reading m.form (units_of s input) mismatch
     × TellsMismatch s name input mismatch answer output

@@ -32,5 +32,5 @@ Does (worker.OfMapper task scheme n) (OfMapper task' scheme' m) =
 
 -- it reads a file to its end before it writes, as for all but writing a form
 abbrev pub RepliesAtEnd : Worker → Type 0
-RepliesAtEnd (worker.OfForm task.Write scheme n) = ⊥
+RepliesAtEnd (worker.OfForm (task.Write mode) scheme n) = ⊥
 RepliesAtEnd other = ⊤

@@ -8,5 +8,5 @@ mod reply;
 mod worker;
 
 pub use mapping::MapperTask;
-pub use reply::{Reply, Task};
+pub use reply::{Answer, Reply, Task};
 pub use worker::{Command, Worker, worker_for};

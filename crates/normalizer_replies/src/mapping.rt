@@ -6,10 +6,9 @@ ghost use Rattle.normalizer_replies.specs.Making.{mapping_of, Mapping, Maps};
 ghost use Rattle.normalizer_replies.specs.Replies.{IsReplyOfLines, IsReplyOfMapper};
 ghost use Rattle.normalizer_replies.specs.inner.EachLine.{feed_unless, replies_to, reply_to};
 
-use crate::reply::Reply;
+use crate::reply::{Answer, Reply};
 use icu_normalizer::uts46::{Uts46Mapper, Uts46MapperBorrowed};
 use normalizer_built::{is_valid, mapped};
-use normalizer_io::Answer;
 use normalizer_iterators::NormalizeError;
 use normalizer_streams::EncodingScheme;
 use normalizer_tables::characters::IgnoredCharacters::Dropped;

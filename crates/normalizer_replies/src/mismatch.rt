@@ -1,13 +1,7 @@
 //! The line that is written of a mismatch.
 ghost use Rattle.std.specs.Prelude.{◌≡◌, ◌≤◌, IfOk, length, string_bytes};
-ghost use Rattle.normalizer_replies.specs.Mismatches.{
-  byte_after,
-  code_point_digits,
-  line_after,
-  mismatch_line,
-  position,
-  units_before,
-};
+ghost use Rattle.normalizer_replies.specs.Mismatches.{code_point_digits, mismatch_line, position};
+ghost use Rattle.normalizer_streams.specs.Positions.{byte_after, line_after, units_before};
 
 use icu_normalizer::Offence;
 use normalizer_streams::EncodingScheme;

@@ -1,5 +1,6 @@
 //! What is done with a file.
 ghost use Rattle.std.specs.Prelude.{◌≡◌, ◌≢◌, IfOk, IsOkUnless, string_bytes};
+ghost use Rattle.normalizer_streams.specs.declared.ill_formed.ErrorMode.{ErrorMode};
 ghost use Rattle.normalizer_replies.specs.Lines.{line_of};
 ghost use Rattle.normalizer_replies.specs.Making.{Making, Makes};
 ghost use Rattle.normalizer_replies.specs.Mismatches.{TellsMismatch};
@@ -8,16 +9,26 @@ ghost use Rattle.normalizer_replies.specs.Replies.{IsReplyOfForm};
 use crate::mismatch::mismatch_line;
 use icu_normalizer::Offence;
 use normalizer_built::Normalizer;
-use normalizer_io::Answer;
 use normalizer_iterators::NormalizeError;
-use normalizer_streams::{EncodingScheme, first_offence, is_normalized};
+use normalizer_streams::{EncodingScheme, Ending, ErrorMode, first_offence, is_normalized};
 use std::alloc::{AllocError, Global};
+
+/// What comes of a file.
+#[derive(Clone, Copy, Debug, PartialEq, Eq)]
+pub enum Answer {
+    /// All is as it is to be.
+    Done,
+    /// It isn't.
+    No,
+    /// Its form was written, in this encoding scheme, up to this ending.
+    Ended(EncodingScheme, Ending),
+}
 
 /// What is done with a file.
 #[derive(Clone, Copy, Debug, PartialEq, Eq)]
 pub enum Task {
     /// Its form is written.
-    Write,
+    Write(ErrorMode),
     /// Its name is written if it isn't in the form.
     Check,
     /// Its first mismatch with its form is written.
@@ -43,13 +54,13 @@ impl Task {
         name: &str,
         bytes: &[u8],
     ) -> Result<Reply, NormalizeError>
-        requires { self ≢ Task.Write }
+        requires { (mode : ErrorMode) → self ≢ Task.Write mode }
         ensures reply { (m : Making) → Makes normalizer.now m →
             IfOk result (λ r. IsReplyOfForm self scheme m name.now bytes.now r.answer r.output.items) }
         ensures refused { IsOkUnless result NormalizeError.Memory }
     {
         match self {
-            Task::Write => unreachable!(),
+            Task::Write(_) => unreachable!(),
             Task::Check => {
                 if is_normalized(alloc, scheme, normalizer, bytes)? {
                     Ok(Reply {

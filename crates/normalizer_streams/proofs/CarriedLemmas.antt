@@ -5,7 +5,7 @@ use Rattle.std.proofs.lemmas.List.{drop-take, take-append-drop, take-take}
 use Rattle.std.specs.Io.KnownBytes.{Consumes, IsAtEnd}
 use Rattle.normalizer_streams.specs.inner.Moves.{Carries}
 
-take-sum : (n m : ℕ) (xs : List ℕ) → take (n + m) xs ≡ take n xs ++ take m (drop n xs)
+pub take-sum : (n m : ℕ) (xs : List ℕ) → take (n + m) xs ≡ take n xs ++ take m (drop n xs)
 take-sum n m xs =
     sym (take-append-drop n (take (n + m) xs)) ∙ ap (λ x. x ++ drop n (take (n + m) xs)) (take-take n (n + m) xs (omega arith))
     ∙ ap (λ x. take n xs ++ x) (drop-take n m xs)

@@ -39,10 +39,10 @@ module _ (scheme : EncodingScheme) (continues : ℕ → Bool) (bytes : List ℕ)
       }
 
   -- the bytes are one run if the front that was searched is, and the rest has no division
-  pub IsRun-more : (n from : ℕ) → from ≡ n - 4 → IsRun scheme continues (take n bytes) → ((place : ℕ) → from ≤ place → IsDivision scheme continues bytes place → ⊥) → IsRun scheme continues bytes
+  pub IsRun-more : (n from : ℕ) → from ≡ n - 4 → IsRun scheme continues (take n bytes) → ((place : ℕ) → 0 < place → from ≤ place → IsDivision scheme continues bytes place → ⊥) → IsRun scheme continues bytes
   IsRun-more n from far old none = λ place positive i. ⊎_elim
       (λ before. old place positive (IsDivision-front n place (omega arith) i))
-      (λ after. none place after i)
+      (λ after. none place positive after i)
       (cases_lt place from)
 
   -- what comes after the last division is one run

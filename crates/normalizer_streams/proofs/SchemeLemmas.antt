@@ -1,6 +1,6 @@
 -- Units of bytes, in parts.
 use Rattle.std.proofs.Common.{◌≡◌, ℕ, zero, suc, ◌+◌, ◌*◌, ◌<◌, ◌≤◌, ◌%◌, Bool, true, false, List, [], ◌∷◌, ◌++◌, length, take, drop, get_or, min, refl, sym, ap, ◌∙◌, arith}
-use Rattle.std.specs.Prelude.{◌&&◌}
+use Rattle.std.specs.Prelude.{◌&&◌, ◌==◌}
 use Rattle.std.proofs.Math.Seq.{drop-cons, take-nil}
 use Rattle.std.proofs.Math.ListN.{drop_of_length-le}
 use Rattle.std.proofs.lemmas.List.{take_all}
@@ -33,6 +33,10 @@ is_single-unpaired u false e h = absurd (true≢false (rw e at h))
 single : (u : ℕ) → (unpaired_step u).is_error ≡ false → is_single u ≡ true
 single u h = is_single-unpaired u (is_single u) refl h
 
+drop_nil : (n : ℕ) → drop {A = ℕ} n [] ≡ []
+drop_nil zero = refl
+drop_nil (suc n) = refl
+
 module _ (order : ByteOrder) where
   pub units-cons : (bytes : List ℕ) (place a b : ℕ) → place + 1 < length bytes → a ≡ get_or bytes place 0 → b ≡ get_or bytes (place + 1) 0
       → units_of_pairs order (drop place bytes) ≡ unit_of order a b ∷ units_of_pairs order (drop (place + 2) bytes)
@@ -51,7 +55,7 @@ module _ (order : ByteOrder) where
       let none : drop (place + 2) bytes ≡ [] = drop_of_length-le bytes (omega arith) in
       rw none (ap (units_of_pairs order) one)
 
-  units-front : (bytes : List ℕ) (n : ℕ) → units_of_pairs order (take (2 * n) bytes) ≡ take n (units_of_pairs order bytes)
+  pub units-front : (bytes : List ℕ) (n : ℕ) → units_of_pairs order (take (2 * n) bytes) ≡ take n (units_of_pairs order bytes)
   units-front bytes zero = refl
   units-front [] (suc n) = let e : 2 * suc n ≡ suc (suc (2 * n)) = omega arith in rw e refl
   units-front (a ∷ []) (suc n) =
@@ -60,6 +64,23 @@ module _ (order : ByteOrder) where
   units-front (a ∷ b ∷ bytes) (suc n) =
       let e : 2 * suc n ≡ suc (suc (2 * n)) = omega arith in
       rw e (ap (λ x. unit_of order a b ∷ x) (units-front bytes n))
+
+  pub units-back : (bytes : List ℕ) (n : ℕ) → units_of_pairs order (drop (2 * n) bytes) ≡ drop n (units_of_pairs order bytes)
+  units-back bytes zero = refl
+  units-back [] (suc n) = let e : 2 * suc n ≡ suc (suc (2 * n)) = omega arith in rw e refl
+  units-back (a ∷ []) (suc n) =
+      let e : 2 * suc n ≡ suc (suc (2 * n)) = omega arith in
+      rw e (ap (units_of_pairs order) (drop_nil (suc (2 * n))) ∙ sym (drop_nil n))
+  units-back (a ∷ b ∷ bytes) (suc n) =
+      let e : 2 * suc n ≡ suc (suc (2 * n)) = omega arith in
+      rw e (units-back bytes n)
+
+  -- a unit begins within the bytes
+  pub units-within : (bytes : List ℕ) (n : ℕ) → n < length (units_of_pairs order bytes) → 2 * n < length bytes
+  units-within [] n lt = absurd (omega arith)
+  units-within (a ∷ []) n lt = omega arith
+  units-within (a ∷ b ∷ bytes) zero lt = omega arith
+  units-within (a ∷ b ∷ bytes) (suc n) lt = let less : 2 * n < length bytes = units-within bytes n (omega arith) in omega arith
 
   pairs-append : (front rest : List ℕ) → length front % 2 ≡ 0 → units_of_pairs order (front ++ rest) ≡ units_of_pairs order front ++ units_of_pairs order rest
   pairs-append [] rest even = refl
@@ -92,6 +113,9 @@ module _ (order : ByteOrder) where
   pairs-cut (a ∷ b ∷ []) n far = ap (λ x. first_of_utf16 (units_of_pairs order x)) (take_all n (a ∷ b ∷ []) (omega arith))
   pairs-cut (a ∷ b ∷ c ∷ []) n far = ap (λ x. first_of_utf16 (units_of_pairs order x)) (take_all n (a ∷ b ∷ c ∷ []) (omega arith))
   pairs-cut (a ∷ b ∷ c ∷ d ∷ bytes) n far = absurd (omega (arith, far))
+
+pub even-double : (n len : ℕ) → len ≡ 2 * n → (len % 2 == 0) ≡ true
+even-double n len same = eq-eqb _ _ (omega (arith, same))
 
 pub units-append : (scheme : EncodingScheme) (front rest : List ℕ) → is_aligned scheme (length front) ≡ true
     → units_of scheme (front ++ rest) ≡ units_of scheme front ++ units_of scheme rest

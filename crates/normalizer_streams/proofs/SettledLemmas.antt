@@ -10,14 +10,35 @@ use Rattle.normalizer_text.specs.Encodings.{Encoding, first_in, decoded_in, enco
 use Rattle.normalizer_text.proofs.rules.EncodingRules.{HasTrails-first}
 use Rattle.normalizer_text.proofs.rules.EncodingLemmas.{encoded_in-append}
 use Rattle.normalizer_text.proofs.steps.BackLemmas.{boundary-at}
-use Rattle.normalizer_text.proofs.steps.StepBoundaries.{decoded-take-drop}
+use Rattle.normalizer_text.proofs.steps.StepBoundaries.{decoded-take-drop, steps-take-drop}
 use Rattle.normalizer_text.proofs.steps.StepLemmas.{decoded-some}
+use Rattle.normalizer_text.specs.DecodingSteps.{steps}
 use Rattle.normalizer_text.specs.EncodedForm.{encoded_form}
 use Rattle.icu_normalizer.specs.BoundaryBefore.{HasBoundaryBefore}
 use Rattle.normalizer_streams.specs.declared.scheme.EncodingScheme.{EncodingScheme}
 use Rattle.normalizer_streams.specs.Schemes.{bytes_of, encoding_of, first_by, is_aligned, units_of}
 use Rattle.normalizer_streams.specs.inner.Moves.{IsSettled}
-use Rattle.normalizer_streams.proofs.SchemeLemmas.{bytes-append, first-extends, units-append, units-some}
+use Rattle.normalizer_streams.proofs.SchemeLemmas.{bytes-append, units-append, units-some}
+
+-- a unit that begins a whole character can't come after the first one of a step
+leads : (e : Encoding) (units : List ℕ) (place : ℕ) → place < length units → (first_in e (drop place units)).is_error ≡ false → trails_in e (slice_index units place) ≡ false
+leads e units place within right = false_from_ne_true (trails_in e (slice_index units place)) (λ trail.
+    let rest = drop place units in
+    let some : 0 < length rest = omega (arith, length-drop place units) in
+    let plus : place + 0 ≡ place = omega arith in
+    let one = (HasTrails-first e).alone rest some (ap (trails_in e) (get_or-drop place units 0 0 ∙ ap (λ i. get_or units i 0) plus) ∙ trail) in
+    true≢false (sym (ap (λ s. s.is_error) one) ∙ right))
+
+-- so it begins a step
+steps-divided : (e : Encoding) (front rest : List ℕ) → 0 < length rest → (first_in e rest).is_error ≡ false → steps (first_in e) (front ++ rest) ≡ steps (first_in e) front ++ steps (first_in e) rest
+steps-divided e front rest some right =
+    let units = front ++ rest in
+    let place = length front in
+    let after : drop place units ≡ rest = drop-append_seam front rest in
+    let before : take place units ≡ front = take-append_seam front rest in
+    let within : place < length units = omega (arith, length-append front rest) in
+    let boundary = boundary-at e units place within (leads e units place within (ap (λ x. (first_in e x).is_error) after ∙ right)) in
+    steps-take-drop e units place boundary ∙ ap (λ x. steps (first_in e) x ++ steps (first_in e) (drop place units)) before ∙ ap (λ x. steps (first_in e) front ++ steps (first_in e) x) after
 
 module _ (e : Encoding) (d : Reading) (form : Form) where
   -- the form of units is divided before a character that begins a new part
@@ -28,10 +49,7 @@ module _ (e : Encoding) (d : Reading) (form : Form) where
       let first = first_in e in
       let rest = drop place units in
       let some : 0 < length rest = omega (arith, length-drop place units) in
-      let plus : place + 0 ≡ place = omega arith in
-      let lead : trails_in e (slice_index units place) ≡ false = false_from_ne_true (trails_in e (slice_index units place)) (λ trail.
-      let one = (HasTrails-first e).alone rest some (ap (trails_in e) (get_or-drop place units 0 0 ∙ ap (λ i. get_or units i 0) plus) ∙ trail) in
-      true≢false (sym (ap (λ s. s.is_error) one) ∙ right)) in
+      let lead = leads e units place within right in
       let front = decoded_in e (take place units) in
       let c = (first rest).character in
       let x = decoded_in e (drop (first rest).width rest) in
@@ -57,23 +75,27 @@ module _ (e : Encoding) (d : Reading) (form : Form) where
 abbrev pub form_in : EncodingScheme → Reading → Form → List ℕ → List ℕ
 form_in scheme d form bytes = bytes_of scheme (encoded_form (encoding_of scheme) d form (units_of scheme bytes))
 
-pub IsSettled-character : (scheme : EncodingScheme) (d : Reading) (form : Form) (bytes : List ℕ) (place : ℕ) → place < length bytes → is_aligned scheme place ≡ true
-    → (first_by scheme (drop place bytes)).is_error ≡ false → HasBoundaryBefore d form (first_by scheme (drop place bytes)).character → IsSettled (form_in scheme d form) bytes place
-IsSettled-character scheme d form bytes place within aligned right apart = record {
-  within = omega arith;
-  apart = λ next.
-      let e = encoding_of scheme in
-      let front = take place bytes in
-      let rest = drop place bytes in
-      let some : 0 < length rest = omega (arith, length-drop place bytes) in
-      let more : 0 < length (rest ++ next) = omega (arith, some, length-append rest next) in
-      let size : length front ≡ place = omega (arith, length-take place bytes) in
-      let whole : bytes ++ next ≡ front ++ (rest ++ next) = ap (λ x. x ++ next) (sym (take-append-drop place bytes)) ∙ append_assoc front rest next in
-      let units : units_of scheme (bytes ++ next) ≡ units_of scheme front ++ units_of scheme (rest ++ next) =
-      ap (units_of scheme) whole ∙ units-append scheme front (rest ++ next) (ap (is_aligned scheme) size ∙ aligned) in
-      let same = first-extends scheme rest next some right in
-      let parts = encoded_form-append e d form (units_of scheme front) (units_of scheme (rest ++ next)) (units-some scheme (rest ++ next) more)
-      (ap (λ s. s.is_error) same ∙ right) (subst (λ s. HasBoundaryBefore d form s.character) (sym same) apart) in
-      ap (λ x. bytes_of scheme (encoded_form e d form x)) units ∙ ap (bytes_of scheme) parts
-      ∙ bytes-append scheme (encoded_form e d form (units_of scheme front)) (encoded_form e d form (units_of scheme (rest ++ next)));
-}
+pub IsSettled-character : (scheme : EncodingScheme) (d : Reading) (form : Form) (bytes : List ℕ) (place : ℕ) → 0 < place → place < length bytes → is_aligned scheme place ≡ true
+    → (first_by scheme (drop place bytes)).is_error ≡ false → HasBoundaryBefore d form (first_by scheme (drop place bytes)).character → IsSettled scheme (form_in scheme d form) bytes place
+IsSettled-character scheme d form bytes place positive within aligned right apart =
+    let e = encoding_of scheme in
+    let front = take place bytes in
+    let bytes_after = drop place bytes in
+    let size : length front ≡ place = omega (arith, length-take place bytes) in
+    let whole : is_aligned scheme (length front) ≡ true = ap (is_aligned scheme) size ∙ aligned in
+    record {
+      positive = positive;
+      within = within;
+      divided = record {
+        aligned = whole;
+        begins = record { some = omega (arith, length-drop place bytes); whole = right };
+        apart = λ rest alike.
+            let parts = encoded_form-append e d form (units_of scheme front) (units_of scheme rest) (units-some scheme rest alike.some)
+            (ap (λ s. s.is_error) alike.same ∙ right) (subst (λ s. HasBoundaryBefore d form s.character) (sym alike.same) apart) in
+            ap (λ x. bytes_of scheme (encoded_form e d form x)) (units-append scheme front rest whole) ∙ ap (bytes_of scheme) parts
+            ∙ bytes-append scheme (encoded_form e d form (units_of scheme front)) (encoded_form e d form (units_of scheme rest));
+        steps_apart = λ rest alike.
+            ap (steps (first_in e)) (units-append scheme front rest whole)
+            ∙ steps-divided e (units_of scheme front) (units_of scheme rest) (units-some scheme rest alike.some) (ap (λ s. s.is_error) alike.same ∙ right);
+      };
+    }

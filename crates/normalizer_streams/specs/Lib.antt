@@ -1,3 +1,5 @@
+pub mod IllFormed
+pub mod Positions
 pub mod Schemes
 pub mod Streams
 pub mod inner

@@ -9,6 +9,9 @@ use Rattle.icu_normalizer.specs.Normalizers.{data_of}
 use Rattle.normalizer_built.specs.Normalizers.{kind_by, reading_of}
 use Rattle.normalizer_io.specs.Transfer.{AppendsFront}
 use Rattle.normalizer_built.specs.declared.normalizer.Normalizer.{Normalizer}
+use Rattle.normalizer_streams.specs.IllFormed.{Ends}
+use Rattle.normalizer_streams.specs.declared.ill_formed.Ending.{Ending}
+use Rattle.normalizer_streams.specs.declared.ill_formed.ErrorMode.{ErrorMode}
 use Rattle.normalizer_streams.specs.Schemes.{bytes_of, encoding_of, first_by, is_aligned, units_of}
 use Rattle.normalizer_streams.specs.declared.scheme.EncodingScheme.{EncodingScheme}
 use Rattle.normalizer_built.specs.declared.normalizer.Normalizer.TheVariants as normalizer
@@ -18,17 +21,24 @@ abbrev pub form_by : EncodingScheme → Normalizer → List ℕ → List ℕ
 form_by scheme n bytes = bytes_of scheme (encoded_form (encoding_of scheme) (reading_of n) (kind_by n) (units_of scheme bytes))
 
 -- By the bytes that are left in a source, if it reports them, and by those that a target took before and after: the
--- target took the form of all of them.
-pub record IsFormWritten (form : List ℕ → List ℕ) (left before after : Option (List ℕ)) : Type 0 where
+-- target took the form of what is to be written of them.
+pub record IsFormWritten (scheme : EncodingScheme) (mode : ErrorMode) (form : List ℕ → List ℕ)
+    (left before after : Option (List ℕ)) (ending : Ending) : Type 0 where
   pub input : List ℕ
   pub whole : IfSome left (λ all. input ≡ all)
-  pub output : Appends before after (form input)
+  pub text : List ℕ
+  pub ends : Ends scheme mode input text ending
+  pub output : Appends before after (form text)
 
--- the target took a beginning of the form of all of them
-pub record IsFormCutOff (form : List ℕ → List ℕ) (left before after : Option (List ℕ)) : Type 0 where
+-- the target took a beginning of it
+pub record IsFormCutOff (scheme : EncodingScheme) (mode : ErrorMode) (form : List ℕ → List ℕ)
+    (left before after : Option (List ℕ)) : Type 0 where
   pub input : List ℕ
   pub whole : IfSome left (λ all. input ≡ all)
-  pub output : AppendsFront before after (form input)
+  pub text : List ℕ
+  pub ending : Ending
+  pub ends : Ends scheme mode input text ending
+  pub output : AppendsFront before after (form text)
 
 -- the character may continue what comes before it, as the words of a normalizer say
 abbrev pub may_continue : Normalizer → ℕ → Bool

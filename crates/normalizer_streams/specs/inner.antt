@@ -1,2 +1,4 @@
 -- What the contracts of private functions alone cite.
+pub mod Errors
 pub mod Moves
+pub mod Watches

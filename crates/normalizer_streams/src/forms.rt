@@ -34,6 +34,10 @@ impl FormBuffers {
         }
     }
 
+    pub(crate) fn allocator(&self) -> Global {
+        self.alloc
+    }
+
     /// Returns the form of the text that bytes decode to, in the same scheme.
     ///
     /// # Errors

@@ -4,10 +4,15 @@
 
 mod carried;
 mod forms;
+mod ill_formed;
+mod position;
 mod scheme;
 mod settled;
 mod stream;
+mod watch;
 
 pub use forms::{first_offence, is_normalized};
+pub use ill_formed::{Ending, ErrorMode};
+pub use position::Position;
 pub use scheme::{ByteOrder, EncodingScheme};
 pub use stream::write_form;

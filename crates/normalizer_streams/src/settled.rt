@@ -9,22 +9,22 @@ ghost use Rattle.normalizer_streams.specs.inner.Moves.{IsSettled};
 use crate::scheme::EncodingScheme;
 use normalizer_built::Normalizer;
 
-/// Returns the last settled place after the first `from` bytes, if there is one.
+/// Returns the last settled place that isn't among the first `from` bytes or at the beginning, if there is one.
 pub(crate) fn last_settled(
     scheme: EncodingScheme,
     normalizer: &Normalizer,
     bytes: &[u8],
     from: usize,
 ) -> Option<usize>
-    ensures settled { IfSome result (IsSettled (form_by scheme normalizer.now) bytes.now) }
+    ensures settled { IfSome result (IsSettled scheme (form_by scheme normalizer.now) bytes.now) }
     ensures aligned { IfSome result (λ place. is_aligned scheme place ≡ true) }
-    ensures none { IfNone result ((place : ℕ) → from ≤ place →
+    ensures none { IfNone result ((place : ℕ) → 0 < place → from ≤ place →
         IsDivision scheme (may_continue normalizer.now) bytes.now place → ⊥) }
     ensures last { IfSome result (λ last. (place : ℕ) → last < place →
         IsDivision scheme (may_continue normalizer.now) bytes.now place → ⊥) }
 {
     let mut place = bytes.len();
-    while place > from {
+    while place > from.max(1) {
         place -= 1;
         if is_settled(scheme, normalizer, bytes, place) {
             return Some(place);
@@ -35,8 +35,9 @@ pub(crate) fn last_settled(
 
 /// Whether a whole character is at the place, with a boundary before it.
 fn is_settled(scheme: EncodingScheme, normalizer: &Normalizer, bytes: &[u8], place: usize) -> bool
-    requires { place < length bytes.now }
-    ensures settled { result ≡ true → IsSettled (form_by scheme normalizer.now) bytes.now place }
+    requires positive { 0 < place }
+    requires within { place < length bytes.now }
+    ensures settled { result ≡ true → IsSettled scheme (form_by scheme normalizer.now) bytes.now place }
     ensures aligned { result ≡ true → is_aligned scheme place ≡ true }
     ensures missed { result ≡ false → IsDivision scheme (may_continue normalizer.now) bytes.now place → ⊥ }
 {

@@ -17,12 +17,17 @@ ghost use Rattle.std.specs.Prelude.{
   vec_len,
   IfErr,
   IfOk,
+  IfSome,
   IsErrOf,
+  MatchOption,
   OnErr,
   OnOk,
 };
 ghost use Rattle.std.specs.Io.KnownBytes.{Appends, IsAtEnd, Keeps};
 ghost use Rattle.normalizer_io.specs.Transfer.{AppendsFront, IsUnrefused};
+ghost use Rattle.normalizer_streams.specs.declared.ill_formed.ErrorMode.{ErrorMode};
+ghost use Rattle.normalizer_streams.specs.declared.watch.Stop.{Stop};
+ghost use Rattle.normalizer_streams.specs.declared.watch.Watch.{Watch};
 ghost use Rattle.normalizer_streams.specs.Streams.{
   form_by,
   may_continue,
@@ -32,12 +37,15 @@ ghost use Rattle.normalizer_streams.specs.Streams.{
   IsRun,
   IsWrittenToRun,
 };
-ghost use Rattle.normalizer_streams.specs.inner.Moves.{Carries, IsCutAnyway, Moves};
+ghost use Rattle.normalizer_streams.specs.inner.Moves.{IsCut, IsPassed, Passes, Stops};
+ghost use Rattle.normalizer_streams.specs.inner.Watches.{text_in, IsNoted, Joins, Watches};
 
 use crate::carried::Carried;
 use crate::forms::FormBuffers;
+use crate::ill_formed::{Ending, ErrorMode};
 use crate::scheme::EncodingScheme;
 use crate::settled::last_settled;
+use crate::watch::{Stop, Watch};
 use normalizer_built::Normalizer;
 use normalizer_io::{Source, Target, TransferError, write_all};
 use std::alloc::Global;
@@ -46,8 +54,9 @@ use std::alloc::Global;
 const LONGEST_SEQUENCE: usize = 4;
 
 /// Reads to the end, and writes the form of the text that all the bytes decode to, in the same scheme. Each maximal
-/// ill-formed subpart reads as U+FFFD. What no later byte can change is written after each block of 32 KiB at most, so
-/// that only a run of characters without a boundary between them takes more memory.
+/// ill-formed subpart is written as U+FFFD, and counted. If ill-formed input is fatal, the text ends before the first
+/// such sequence, whose position is returned, and nothing more is read. What no later byte can change is written after
+/// each block of 32 KiB at most, so that only a run of characters without a boundary between them takes more memory.
 ///
 /// # Errors
 /// - `Read` if a read was refused, or the source has no end: after 2^64 - 1 blocks.
@@ -59,14 +68,15 @@ const LONGEST_SEQUENCE: usize = 4;
 pub fn write_form<R: Source, W: Target>(
     alloc: Global,
     scheme: EncodingScheme,
+    mode: ErrorMode,
     normalizer: &Normalizer,
     reader: &mut R,
     writer: &mut W,
-) -> Result<(), TransferError>
-    ensures form { OnOk result (IsFormWritten (form_by scheme normalizer.now)
+) -> Result<Ending, TransferError>
+    ensures form { IfOk result (IsFormWritten scheme mode (form_by scheme normalizer.now)
         (R.bytes_left reader.old) (W.bytes_taken writer.old) (W.bytes_taken writer.new)) }
-    ensures end { OnOk result (IsAtEnd (R.bytes_left reader.new)) }
-    ensures front { OnErr result (IsFormCutOff (form_by scheme normalizer.now)
+    ensures end { IfOk result (λ ending. (count : ℕ) → ending ≡ Ending.Whole count → IsAtEnd (R.bytes_left reader.new)) }
+    ensures front { OnErr result (IsFormCutOff scheme mode (form_by scheme normalizer.now)
         (R.bytes_left reader.old) (W.bytes_taken writer.old) (W.bytes_taken writer.new)) }
     ensures read { IsErrOf result TransferError.Read →
         R.refusal reader.old reader.new ⊎ IsEndless (R.bytes_left reader.old) }
@@ -79,40 +89,61 @@ pub fn write_form<R: Source, W: Target>(
 {
     let mut carried = Carried::new(alloc);
     let mut buffers = FormBuffers::new(alloc);
+    let mut watch = Watch::new(mode);
     // A loop is proved to end, so this one counts its blocks.
     for _ in 0..u64::MAX {
         let searched = carried.bytes().len();
         if !carried.read_block(reader)? {
-            return write_form_of(scheme, normalizer, carried.bytes(), &mut buffers, writer);
+            let stop = write_piece(
+                scheme,
+                normalizer,
+                carried.bytes(),
+                &mut watch,
+                &mut buffers,
+                writer,
+            )?;
+            return Ok(watch.ending(stop));
         }
-        write_settled(
+        let stop = write_settled(
             scheme,
             normalizer,
             &mut carried,
             searched,
+            &mut watch,
             &mut buffers,
             writer,
         )?;
+        if let Some(stop) = stop {
+            return Ok(Ending::Stopped(stop.position));
+        }
     }
     Err(TransferError::Read)
 }
 
 /// Writes the form of what is settled of the bytes that are carried, and keeps the rest. All places up to `searched`
-/// but for the last few have been searched.
+/// but for the last few have been searched. Returns the place at which the text ends, if it does.
 fn write_settled<W: Target>(
     scheme: EncodingScheme,
     normalizer: &Normalizer,
     carried: &mut Carried,
     searched: usize,
+    watch: &mut Watch,
     buffers: &mut FormBuffers,
     writer: &mut W,
-) -> Result<(), TransferError>
-    ensures moved { (left : Option (List ℕ)) → OnOk result (Moves (form_by scheme normalizer.now)
-        left left (W.bytes_taken writer.old) (W.bytes_taken writer.new) carried.old carried.new) }
+) -> Result<Option<Stop>, TransferError>
+    ensures moved { IfOk result (λ stop. (mode : ErrorMode) (passed written : List ℕ) →
+        IsPassed scheme (form_by scheme normalizer.now) passed written carried.old →
+        Watches scheme mode watch.old passed → MatchOption stop
+        (Passes scheme mode (form_by scheme normalizer.now) watch.new (W.bytes_taken writer.old) (W.bytes_taken writer.new)
+        passed written carried.old carried.new)
+        (λ stop. (next : List ℕ) → Stops scheme mode (form_by scheme normalizer.now) stop.position
+        (W.bytes_taken writer.old) (W.bytes_taken writer.new) passed written carried.old next)) }
     ensures run { IsRun scheme (may_continue normalizer.now) (take searched carried.old) →
         OnOk result (IsRun scheme (may_continue normalizer.now) carried.new) }
-    ensures front { OnErr result (IsCutAnyway (form_by scheme normalizer.now)
-        (W.bytes_taken writer.old) (W.bytes_taken writer.new) carried.old) }
+    ensures front { OnErr result ((mode : ErrorMode) (passed written next : List ℕ) →
+        IsPassed scheme (form_by scheme normalizer.now) passed written carried.old →
+        Watches scheme mode watch.old passed → IsCut scheme mode (form_by scheme normalizer.now)
+        (W.bytes_taken writer.old) (W.bytes_taken writer.new) passed written (carried.old ++ next)) }
     ensures errors { IfErr result (λ error. (error ≡ TransferError.Write) ⊎ (error ≡ TransferError.Memory)) }
     ensures write { IsErrOf result TransferError.Write → W.refusal writer.old writer.new }
     ensures memory { IsErrOf result TransferError.Memory → writer.new ≡ writer.old }
@@ -121,11 +152,50 @@ fn write_settled<W: Target>(
     let from = searched.saturating_sub(LONGEST_SEQUENCE);
     let bytes = carried.bytes();
     let Some(place) = last_settled(scheme, normalizer, bytes, from) else {
-        return Ok(());
+        return Ok(None);
     };
-    write_form_of(scheme, normalizer, &bytes[..place], buffers, writer)?;
+    let stop = write_piece(scheme, normalizer, &bytes[..place], watch, buffers, writer)?;
     carried.remove_front(place);
-    Ok(())
+    Ok(stop)
+}
+
+/// Writes the form of a piece, up to where the text ends, which it returns.
+fn write_piece<W: Target>(
+    scheme: EncodingScheme,
+    normalizer: &Normalizer,
+    piece: &[u8],
+    watch: &mut Watch,
+    buffers: &mut FormBuffers,
+    writer: &mut W,
+) -> Result<Option<Stop>, TransferError>
+    ensures noted { IfOk result (λ stop. (mode : ErrorMode) (passed : List ℕ) → Joins scheme passed piece.now →
+        Watches scheme mode watch.old passed → IsNoted scheme mode watch.new passed piece.now stop) }
+    ensures form { IfOk result (λ stop. Appends (W.bytes_taken writer.old) (W.bytes_taken writer.new)
+        (form_by scheme normalizer.now (text_in piece.now stop))) }
+    ensures front { IsErrOf result TransferError.Write → (stop : Option Stop) × (noted : Watch)
+        × ((mode : ErrorMode) (passed : List ℕ) → Joins scheme passed piece.now → Watches scheme mode watch.old passed →
+        IsNoted scheme mode noted passed piece.now stop)
+        × AppendsFront (W.bytes_taken writer.old) (W.bytes_taken writer.new)
+        (form_by scheme normalizer.now (text_in piece.now stop)) }
+    ensures errors { IfErr result (λ error. (error ≡ TransferError.Write) ⊎ (error ≡ TransferError.Memory)) }
+    ensures write { IsErrOf result TransferError.Write → W.refusal writer.old writer.new }
+    ensures memory { IsErrOf result TransferError.Memory → writer.new ≡ writer.old }
+    ensures ahead { OnOk result (IsUnrefused W.refusal writer.old writer.new) }
+{
+    let stop = watch.note(buffers.allocator(), scheme, piece)?;
+    write_form_of(scheme, normalizer, text_in(piece, stop), buffers, writer)?;
+    Ok(stop)
+}
+
+/// The part of a piece whose form is written.
+fn text_in(piece: &[u8], stop: Option<Stop>) -> &[u8]
+    requires { IfSome stop (λ stop. stop.place ≤ length piece.now) }
+    ensures { result.now ≡ text_in piece.now stop }
+{
+    match stop {
+        None => piece,
+        Some(stop) => &piece[..stop.place],
+    }
 }
 
 /// Writes the form of some bytes.

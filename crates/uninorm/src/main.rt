@@ -4,21 +4,24 @@
 
 mod data;
 mod standard;
+mod words;
 
 use data::directory;
 use normalizer_command::arguments::{FileRequest, Request, parsed};
 use normalizer_command::run::run;
 use normalizer_command::version::write_version;
-use normalizer_io::Output;
-use normalizer_replies::Command;
-use standard::{ErrorStream, Named};
-use std::env;
+use standard::{ErrorStream, Named, Printed};
+use std::alloc::AllocError;
+use std::cell::Cell;
 use std::fmt::Display;
-use std::io::ErrorKind;
 use std::process::ExitCode;
+use words::arguments;
 
 /// The exit status of a run that fails.
 const FAILED: u8 = 2;
+
+/// The exit status if nobody reads the output any more: that of a program which SIGPIPE ends.
+const CLOSED: u8 = 141;
 
 fn main(rt: HostRuntime) -> ExitCode {
     ExitCode::from(by_arguments(&rt))
@@ -27,27 +30,15 @@ fn main(rt: HostRuntime) -> ExitCode {
 /// Does what the arguments request, and returns the exit status.
 fn by_arguments(rt: &HostRuntime) -> u8 {
     match arguments(rt) {
-        Ok(words) => by_words(rt, &words),
-        Err(ErrorKind::OutOfMemory) => failed(rt, "out of memory"),
-        Err(_) => failed(rt, "an argument is not UTF-8"),
-    }
-}
-
-/// The words, the first of which is the name that the program was started by.
-fn arguments(rt: &HostRuntime) -> Result<Vec<String>, ErrorKind> {
-    match env::args(rt) {
-        Ok(arguments) => match arguments.collect(rt.alloc()) {
-            Ok(words) => Ok(words),
-            Err(_) => Err(ErrorKind::OutOfMemory),
-        },
-        Err(error) => Err(error.kind()),
+        Ok(words) => by_words(rt, &words.all, &words.unclear),
+        Err(AllocError) => failed(rt, "out of memory"),
     }
 }
 
 /// Does what the words request, the first of which is the name that the program was started by.
-fn by_words(rt: &HostRuntime, words: &Vec<String>) -> u8 {
+fn by_words(rt: &HostRuntime, words: &Vec<String>, unclear: &[String]) -> u8 {
     match parsed(rt.alloc(), words) {
-        Ok(Request::Files(request)) => over_files(rt, &request),
+        Ok(Request::Files(request)) => over_files(rt, &request, unclear),
         Ok(Request::Version(directory)) => version(rt, directory),
         Ok(Request::Unclear(reason)) => failed(rt, reason),
         Err(error) => {
@@ -57,36 +48,49 @@ fn by_words(rt: &HostRuntime, words: &Vec<String>) -> u8 {
     }
 }
 
-fn over_files(rt: &HostRuntime, request: &FileRequest<'_>) -> u8 {
+fn over_files(rt: &HostRuntime, request: &FileRequest<'_>, unclear: &[String]) -> u8 {
     match directory(rt, request.directory) {
-        Ok(directory) => over_names(rt, request.command, directory.as_str(), &request.names),
+        Ok(directory) => over_names(rt, request, directory.as_str(), &Named::new(rt, unclear)),
         Err(reason) => failed(rt, reason),
     }
 }
 
-fn over_names(rt: &HostRuntime, command: Command, directory: &str, names: &[&str]) -> u8 {
-    run(
+fn over_names(
+    rt: &HostRuntime,
+    request: &FileRequest<'_>,
+    directory: &str,
+    inputs: &Named<'_>,
+) -> u8 {
+    let closed = Cell::new(false);
+    let status = run(
         rt.alloc(),
-        command,
+        request.command,
         directory,
-        names,
-        &Named(rt),
-        &mut Output(rt.stdout()),
-        &mut ErrorStream(rt),
-    )
+        &request.names,
+        inputs,
+        &mut Printed::new(rt, &closed),
+        &mut ErrorStream::new(rt, &closed),
+    );
+    if closed.get() { CLOSED } else { status }
 }
 
 fn version(rt: &HostRuntime, named: Option<&str>) -> u8 {
     match directory(rt, named) {
-        Ok(directory) => write_version(
-            rt.alloc(),
-            directory.as_str(),
-            &Named(rt),
-            &mut Output(rt.stdout()),
-            &mut ErrorStream(rt),
-        ),
+        Ok(directory) => version_of(rt, directory.as_str()),
         Err(reason) => failed(rt, reason),
     }
+}
+
+fn version_of(rt: &HostRuntime, directory: &str) -> u8 {
+    let closed = Cell::new(false);
+    let status = write_version(
+        rt.alloc(),
+        directory,
+        &Named::new(rt, &[]),
+        &mut Printed::new(rt, &closed),
+        &mut ErrorStream::new(rt, &closed),
+    );
+    if closed.get() { CLOSED } else { status }
 }
 
 fn failed<R: Display + Drop>(rt: &HostRuntime, reason: R) -> u8 {

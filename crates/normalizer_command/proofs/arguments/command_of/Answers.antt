@@ -3,7 +3,7 @@ use Rattle.normalizer_command.proofs.ArgumentLemmas.{asks_after, asks_for_nothin
 use Rattle.normalizer_command.proofs.arguments.command_of.Goals as goal
 
 pub returns-clause-asked : goal.returns-clause-asked
-returns-clause-asked c = asks_after _ _ _ _ _ _ _ (search rules) (search rules) (search rules)
+returns-clause-asked c = asks_after _ _ _ _ _ _ _ _ (search rules) (search rules) (search rules)
 
 pub returns-in_default-task_named-clause-unclear : goal.returns-in_default-task_named-clause-unclear
 returns-in_default-task_named-clause-unclear c = asks_for_nothing _ _ _

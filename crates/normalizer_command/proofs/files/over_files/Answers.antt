@@ -8,7 +8,7 @@ pub returns-then-is_refused_write : goal.returns-then-is_refused_write
 returns-then-is_refused_write g c = λ w does.
     let outcome = c.over_file-outcome.result in
     let d = devices (g.I.Inputs.bytes_of c.args.inputs.now) (g.I.Inputs.cannot_open c.args.inputs.now)
-    (g.I.Inputs.opened c.args.inputs.now) (g.I.Inputs.read_refused c.args.inputs.now) g.W.Target.bytes_taken g.W.Target.refusal in
+    (g.I.Inputs.unrefused c.args.inputs.now) (g.I.Inputs.read_refused c.args.inputs.now) g.W.Target.bytes_taken g.W.Target.refusal in
     let done : IsDone d w (name_at c.args.names.now c.loop-name.name-index)
     (state c.loop-name.writer (g.R.Reports.reports c.loop-name.reports) c.loop-name.status)
     (state c.over_file-outcome.new.writer (g.R.Reports.reports c.tell.new.reports) c.greater-status.result) outcome
@@ -16,8 +16,7 @@ returns-then-is_refused_write g c = λ w does.
       done = c.over_file-outcome.ensures.done w does;
       why = c.over_file-outcome.ensures.why;
       left = c.over_file-outcome.ensures.left w does;
-      untold = c.tell.ensures.untold;
-      told = c.tell.ensures.told;
+      told = c.tell.ensures;
       status = rw (← c.status_of.ensures) c.greater-status.ensures;
     } in
     c.loop-name.invariant w does _
@@ -28,7 +27,7 @@ pub loop-name-preserved : goal.loop-name-preserved
 loop-name-preserved g c = λ w does end rest.
     let outcome = c.over_file-outcome.result in
     let d = devices (g.I.Inputs.bytes_of c.args.inputs.now) (g.I.Inputs.cannot_open c.args.inputs.now)
-    (g.I.Inputs.opened c.args.inputs.now) (g.I.Inputs.read_refused c.args.inputs.now) g.W.Target.bytes_taken g.W.Target.refusal in
+    (g.I.Inputs.unrefused c.args.inputs.now) (g.I.Inputs.read_refused c.args.inputs.now) g.W.Target.bytes_taken g.W.Target.refusal in
     let done : IsDone d w (name_at c.args.names.now c.loop-name.name-index)
     (state c.loop-name.writer (g.R.Reports.reports c.loop-name.reports) c.loop-name.status)
     (state c.over_file-outcome.new.writer (g.R.Reports.reports c.tell.new.reports) c.greater-status.result) outcome
@@ -36,8 +35,7 @@ loop-name-preserved g c = λ w does end rest.
       done = c.over_file-outcome.ensures.done w does;
       why = c.over_file-outcome.ensures.why;
       left = c.over_file-outcome.ensures.left w does;
-      untold = c.tell.ensures.untold;
-      told = c.tell.ensures.told;
+      told = c.tell.ensures;
       status = rw (← c.status_of.ensures) c.greater-status.ensures;
     } in
     c.loop-name.invariant w does end

@@ -1,65 +1,114 @@
-use Rattle.std.proofs.Common.{◌≡◌, length, ap, rules, arith, inr, ◌^◌, ◌-◌}
+use Rattle.std.proofs.Common.{◌≡◌, ◌<◌, ◌++◌, Err, length, ap, rules, arith, inr, refl, subst, sym, ⊎_elim, ◌^◌, ◌-◌}
 use Rattle.std.proofs.KnownBytes.{Keeps-refl}
 use Rattle.std.proofs.Math.Seq.{take-append_seam}
-use Rattle.normalizer_streams.specs.Streams.{form_by, may_continue}
-use Rattle.normalizer_streams.proofs.MoveLemmas.{IsCut-anyway, IsCut-end, IsCutAnyway-none, IsFormCutOff-moved, IsFormWritten-end, IsWrittenToRun-refused, Moves-block, Moves-read, Moves-trans, OnErr-after, OnErr-always, OnOk-after, read_is_within}
+use Rattle.normalizer_streams.specs.Streams.{form_by, may_continue, IsFormCutOff}
+use Rattle.normalizer_streams.proofs.MoveLemmas.{rest_of, IsCut-none, IsFormCutOff-cut, IsFormCutOff-last, IsFormWritten-ended, IsFormWritten-stopped, IsWrittenToRun-refused, Moves-block, Moves-none, Moves-read, OnErr-always, read_is_within}
+use Rattle.normalizer_streams.proofs.PassLemmas.{Joins-carried}
 use Rattle.normalizer_streams.proofs.stream.write_form.Goals as goal
+
+pub loop-init : goal.loop-init
+loop-init g c = record {
+  moves = Moves-none c.args.scheme c.args.mode (form_by c.args.scheme c.args.normalizer.now) _ _ c.new-carried.result c.new-carried.ensures;
+  counted = omega arith;
+  watches = c.new-watch.ensures c.args.scheme;
+  run = λ place positive i. absurd (omega (arith, i.within, ap length c.new-carried.ensures));
+  read = λ later h. h;
+  write = λ later h. h;
+}
 
 pub returns-in_err-read_block-clause-front : goal.returns-in_err-read_block-clause-front
 returns-in_err-read_block-clause-front g c =
     let form = form_by c.args.scheme c.args.normalizer.now in
-    OnErr-always _ (IsFormCutOff-moved form _ _ _ _ _ _ c.loop.invariant.moves (IsCut-anyway form _ _ _ _ (IsCutAnyway-none form _ _)))
+    let at = c.loop.invariant in
+    OnErr-always _ (IsFormCutOff-cut c.args.scheme c.args.mode form _ _ _ _ _ c.loop.carried at.moves
+    (IsCut-none c.args.scheme c.args.mode form c.args.mode refl c.loop.watch _ at.moves.passed at.moves.written c.loop.carried _ at.moves.is_passed at.watches))
+
+pub returns-in_err-stop-clause-front : goal.returns-in_err-stop-clause-front
+returns-in_err-stop-clause-front g c =
+    let scheme = c.args.scheme in
+    let mode = c.args.mode in
+    let form = form_by scheme c.args.normalizer.now in
+    let at = c.loop.invariant in
+    let block = c.in_ok-read_block.ensures.carries in
+    let carried = c.read_block.new.self in
+    let left = g.R.Source.bytes_left c.args.reader.now in
+    let before = g.W.Target.bytes_taken c.args.writer.now in
+    let after = g.W.Target.bytes_taken c.write_piece.new.writer in
+    let moves = Moves-read scheme mode form _ _ _ _ _ _ _ _ at.moves block in
+    let cut : IsFormCutOff scheme mode form left before after = ⊎_elim
+    (λ refused.
+    let piece = rw c.bytes.ensures at (c.in_err-stop.ensures.front (ap (λ e. Err e) refused)) in
+    IsFormCutOff-last scheme mode form _ _ _ _ _ carried piece.1 moves (block.end c.if-not-branch.true) piece.0
+    (piece.2 mode at.moves.passed (Joins-carried scheme form at.moves.passed at.moves.written carried moves.is_passed) at.watches) piece.3)
+    (λ refused. subst (λ w. IsFormCutOff scheme mode form left before (g.W.Target.bytes_taken w)) (sym (c.in_err-stop.ensures.memory (ap (λ e. Err e) refused)))
+    (IsFormCutOff-cut scheme mode form _ _ _ _ _ carried moves
+    (IsCut-none scheme mode form mode refl c.loop.watch _ at.moves.passed at.moves.written carried _ moves.is_passed at.watches)))
+    c.in_err-stop.ensures.errors in
+    OnErr-always _ cut
 
 pub returns-then-not-branch-clause-form : goal.returns-then-not-branch-clause-form
 returns-then-not-branch-clause-form g c =
-    let form = form_by c.args.scheme c.args.normalizer.now in
+    let scheme = c.args.scheme in
+    let mode = c.args.mode in
+    let form = form_by scheme c.args.normalizer.now in
+    let at = c.loop.invariant in
     let block = c.in_ok-read_block.ensures.carries in
-    let moves = Moves-trans form _ _ _ _ _ _ _ _ _ c.loop.invariant.moves (Moves-read form _ _ _ _ _ block.more block.consumed block.appended) in
-    OnOk-after _ (λ written. IsFormWritten-end form _ _ _ _ _ _ moves (block.end c.if-not-branch.true) written)
-    (rw c.bytes.ensures at c.write_form_of.ensures.form)
+    let carried = c.read_block.new.self in
+    let moves = Moves-read scheme mode form _ _ _ _ _ _ _ _ at.moves block in
+    let noted = rw c.bytes.ensures at c.in_ok-stop.ensures.noted in
+    IsFormWritten-ended scheme mode form _ _ _ _ _ carried c.write_piece.new.watch moves (block.end c.if-not-branch.true) c.in_ok-stop.stop c.ending.result c.ending.ensures.whole c.ending.ensures.stopped
+    (noted mode at.moves.passed (Joins-carried scheme form at.moves.passed at.moves.written carried moves.is_passed) at.watches) (rw c.bytes.ensures at c.in_ok-stop.ensures.form)
 
-pub returns-then-not-branch-clause-front : goal.returns-then-not-branch-clause-front
-returns-then-not-branch-clause-front g c =
+pub returns-in_err-stop-2-clause-front : goal.returns-in_err-stop-2-clause-front
+returns-in_err-stop-2-clause-front g c =
     let form = form_by c.args.scheme c.args.normalizer.now in
-    let block = c.in_ok-read_block.ensures.carries in
-    let moves = Moves-trans form _ _ _ _ _ _ _ _ _ c.loop.invariant.moves (Moves-read form _ _ _ _ _ block.more block.consumed block.appended) in
-    OnErr-after _ (λ front. IsFormCutOff-moved form _ _ _ _ _ _ moves (IsCut-end form _ _ _ _ (block.end c.if-not-branch.true) front))
-    (rw c.bytes.ensures at c.write_form_of.ensures.front)
+    let at = c.loop.invariant in
+    let moves = Moves-read c.args.scheme c.args.mode form _ _ _ _ _ _ _ _ at.moves c.in_ok-read_block.ensures.carries in
+    OnErr-always _ (IsFormCutOff-cut c.args.scheme c.args.mode form _ _ _ _ _ c.read_block.new.self moves
+    (c.in_err-stop-2.ensures.front c.args.mode at.moves.passed at.moves.written (rest_of (g.R.Source.bytes_left c.read_block.new.reader)) moves.is_passed at.watches))
 
-pub returns-in_err-write_settled-clause-front : goal.returns-in_err-write_settled-clause-front
-returns-in_err-write_settled-clause-front g c =
+pub returns-in-Some-clause-form : goal.returns-in-Some-clause-form
+returns-in-Some-clause-form g c =
     let form = form_by c.args.scheme c.args.normalizer.now in
-    let block = c.in_ok-read_block.ensures.carries in
-    let moves = Moves-trans form _ _ _ _ _ _ _ _ _ c.loop.invariant.moves (Moves-read form _ _ _ _ _ block.more block.consumed block.appended) in
-    OnErr-always _ (IsFormCutOff-moved form _ _ _ _ _ _ moves (IsCut-anyway form _ _ _ _ c.in_err-write_settled.ensures.front))
+    let at = c.loop.invariant in
+    let moves = Moves-read c.args.scheme c.args.mode form _ _ _ _ _ _ _ _ at.moves c.in_ok-read_block.ensures.carries in
+    let moved = rw c.in-Some.is at c.in_ok-stop-2.ensures.moved in
+    IsFormWritten-stopped c.args.scheme c.args.mode form _ _ _ _ _ c.read_block.new.self c.in-Some.stop moves (moved c.args.mode at.moves.passed at.moves.written moves.is_passed at.watches)
 
 pub loop-preserved : goal.loop-preserved
 loop-preserved g c =
     let form = form_by c.args.scheme c.args.normalizer.now in
+    let at = c.loop.invariant in
     let block = c.in_ok-read_block.ensures.carries in
     let size : length c.bytes-searched.result.now ≡ length c.loop.carried = ap length c.bytes-searched.ensures in
-    let next = Moves-block form _ _ _ _ _ _ _ _ _ _ c.loop.counter c.loop.invariant.moves c.loop.invariant.counted block c.if-not-branch.false (c.in_ok-write_settled.ensures.moved _) in
+    let moves = Moves-read c.args.scheme c.args.mode form _ _ _ _ _ _ _ _ at.moves block in
+    let moved = rw c.in_default.is at c.in_ok-stop-2.ensures.moved in
+    let next = Moves-block c.args.scheme c.args.mode form _ _ _ _ _ _ _ _ _ _ c.loop.counter c.write_settled.new.watch at.moves at.counted block c.if-not-branch.false
+    (moved c.args.mode at.moves.passed at.moves.written moves.is_passed at.watches) in
     record {
       moves = next.0;
       counted = next.1;
-      run = c.in_ok-write_settled.ensures.run (rw (block.appended, size, take-append_seam c.loop.carried block.more) c.loop.invariant.run);
-      read = λ later h. c.loop.invariant.read later (c.in_ok-read_block.ensures.ahead later h);
-      write = λ later h. c.loop.invariant.write later (c.in_ok-write_settled.ensures.ahead later h);
+      watches = next.2;
+      run = c.in_ok-stop-2.ensures.run (rw (block.appended, size, take-append_seam c.loop.carried block.more) at.run);
+      read = λ later h. at.read later (c.in_ok-read_block.ensures.ahead later h);
+      write = λ later h. at.write later (c.in_ok-stop-2.ensures.ahead later h);
     }
 
 pub returns-clause-front : goal.returns-clause-front
 returns-clause-front g c =
     let form = form_by c.args.scheme c.args.normalizer.now in
-    IsFormCutOff-moved form _ _ _ _ _ _ c.loop.invariant.moves (IsCut-anyway form _ _ _ _ (IsCutAnyway-none form _ _))
+    let at = c.loop.invariant in
+    IsFormCutOff-cut c.args.scheme c.args.mode form _ _ _ _ _ c.loop.carried at.moves
+    (IsCut-none c.args.scheme c.args.mode form c.args.mode refl c.loop.watch _ at.moves.passed at.moves.written c.loop.carried _ at.moves.is_passed at.watches)
 
 pub returns-clause-read : goal.returns-clause-read
 returns-clause-read g c = λ _. inr (read_is_within _ _ c.loop.invariant.moves.read (2 ^ 64 - 1) c.loop.invariant.moves.consumed (omega arith))
 
 pub returns-in_err-read_block-clause-so_far : goal.returns-in_err-read_block-clause-so_far
 returns-in_err-read_block-clause-so_far g c = λ refused.
-    IsWrittenToRun-refused (form_by c.args.scheme c.args.normalizer.now) c.args.scheme (may_continue c.args.normalizer.now) _ _ _ _ _ _ c.loop.invariant.moves c.loop.invariant.run
+    IsWrittenToRun-refused c.args.scheme c.args.mode (form_by c.args.scheme c.args.normalizer.now) (may_continue c.args.normalizer.now) _ _ _ _ _ _ c.loop.invariant.moves c.loop.invariant.run
     (c.in_err-read_block.ensures.unread (search rules))
 
 pub returns-clause-so_far : goal.returns-clause-so_far
 returns-clause-so_far g c = λ _.
-    IsWrittenToRun-refused (form_by c.args.scheme c.args.normalizer.now) c.args.scheme (may_continue c.args.normalizer.now) _ _ _ _ _ _ c.loop.invariant.moves c.loop.invariant.run (Keeps-refl _)
+    IsWrittenToRun-refused c.args.scheme c.args.mode (form_by c.args.scheme c.args.normalizer.now) (may_continue c.args.normalizer.now) _ _ _ _ _ _ c.loop.invariant.moves c.loop.invariant.run (Keeps-refl _)

@@ -1,26 +1,45 @@
-use Rattle.std.proofs.Common.{arith}
-use Rattle.normalizer_streams.specs.Streams.{form_by, may_continue}
-use Rattle.normalizer_streams.proofs.MoveLemmas.{IsCutAnyway-settled, Moves-none, Moves-settled, OnErr-always}
+use Rattle.std.proofs.Common.{ℕ, List, ◌++◌, Err, ap, arith, refl, subst, sym, ⊎_elim}
+use Rattle.normalizer_streams.specs.Streams.{form_by, may_continue, IsRun}
+use Rattle.normalizer_streams.specs.inner.Moves.{IsCut, IsPassed}
+use Rattle.normalizer_streams.specs.inner.Watches.{Watches}
+use Rattle.normalizer_streams.specs.declared.ill_formed.ErrorMode.{ErrorMode}
+use Rattle.normalizer_streams.proofs.MoveLemmas.{IsCut-none, IsCut-settled, Moved-settled, OnErr-always, Passes-none}
+use Rattle.normalizer_streams.proofs.PassLemmas.{Joins-front}
 use Rattle.normalizer_streams.proofs.ContinuedRuns.{IsRun-last, IsRun-more}
 use Rattle.normalizer_streams.proofs.stream.write_settled.Goals as goal
 
-pub returns-in_err-write_form_of-clause-front : goal.returns-in_err-write_form_of-clause-front
-returns-in_err-write_form_of-clause-front g c =
-    let settled = rw c.bytes-bytes.ensures at c.in-Some.ensures.settled in
-    let front = rw c.bytes-bytes.ensures at c.in_err-write_form_of.ensures.front in
-    OnErr-always _ (IsCutAnyway-settled (form_by c.args.scheme c.args.normalizer.now) _ _ _ _ settled front)
-
 pub returns-in_default-clause-moved : goal.returns-in_default-clause-moved
-returns-in_default-clause-moved g c = λ left. Moves-none (form_by c.args.scheme c.args.normalizer.now) left _ _
+returns-in_default-clause-moved g c = λ mode passed written p h. Passes-none c.args.scheme mode (form_by c.args.scheme c.args.normalizer.now) _ _ passed written _ p h
 
 pub returns-in_default-clause-run : goal.returns-in_default-clause-run
 returns-in_default-clause-run g c = λ old. IsRun-more c.args.scheme (may_continue c.args.normalizer.now) _ c.args.searched c.saturating_sub-from.result (omega arith) old (rw c.bytes-bytes.ensures at c.in_default.ensures.none)
 
-pub returns-clause-moved : goal.returns-clause-moved
-returns-clause-moved g c = λ left.
+pub returns-in_err-stop-clause-front : goal.returns-in_err-stop-clause-front
+returns-in_err-stop-clause-front g c =
+    let scheme = c.args.scheme in
+    let form = form_by scheme c.args.normalizer.now in
+    let carried = c.args.carried.now in
     let settled = rw c.bytes-bytes.ensures at c.in-Some.ensures.settled in
-    let written = rw c.bytes-bytes.ensures at c.in_ok-write_form_of.ensures.form in
-    Moves-settled (form_by c.args.scheme c.args.normalizer.now) left _ _ _ _ c.in-Some.place settled written c.remove_front.ensures
+    let before = g.W.Target.bytes_taken c.args.writer.now in
+    let after = g.W.Target.bytes_taken c.write_piece.new.writer in
+    let cut : (mode : ErrorMode) (passed written next : List ℕ) → IsPassed scheme form passed written carried → Watches scheme mode c.args.watch.now passed
+    → IsCut scheme mode form before after passed written (carried ++ next) = λ mode passed written next p h. ⊎_elim
+    (λ refused.
+    let piece = rw c.bytes-bytes.ensures at (c.in_err-stop.ensures.front (ap (λ e. Err e) refused)) in
+    IsCut-settled scheme mode form piece.1 _ _ passed written carried c.in-Some.place p settled piece.0 (piece.2 mode passed (Joins-front scheme form passed written carried c.in-Some.place p settled) h) piece.3 next)
+    (λ refused. subst (λ w. IsCut scheme mode form before (g.W.Target.bytes_taken w) passed written (carried ++ next)) (sym (c.in_err-stop.ensures.memory (ap (λ e. Err e) refused)))
+    (IsCut-none scheme mode form mode refl c.args.watch.now before passed written carried next p h))
+    c.in_err-stop.ensures.errors in
+    OnErr-always _ cut
+
+pub returns-clause-moved : goal.returns-clause-moved
+returns-clause-moved g c = λ mode passed written p h.
+    let form = form_by c.args.scheme c.args.normalizer.now in
+    let settled = rw c.bytes-bytes.ensures at c.in-Some.ensures.settled in
+    let noted = rw c.bytes-bytes.ensures at c.in_ok-stop.ensures.noted in
+    let written_is = rw c.bytes-bytes.ensures at c.in_ok-stop.ensures.form in
+    Moved-settled c.args.scheme mode form c.write_piece.new.watch _ _ passed written _ c.in-Some.place p settled c.in_ok-stop.stop _ c.remove_front.ensures
+    (noted mode passed (Joins-front c.args.scheme form passed written _ c.in-Some.place p settled) h) written_is
 
 pub returns-clause-run : goal.returns-clause-run
 returns-clause-run g c = λ old.

@@ -1,0 +1,144 @@
+-- The first ill-formed sequence of units and of bytes, and how many there are.
+use Rattle.std.proofs.Common.{◌≡◌, ℕ, zero, suc, ◌+◌, ◌*◌, ◌-◌, ◌^◌, ◌<◌, ◌≤◌, ◌⊎◌, inl, inr, Bool, true, false, cond, min, List, [], ◌∷◌, ◌++◌, length, take, drop, refl, sym, ap, subst, ◌∙◌, arith, length-drop, length-take, take-append-drop}
+use Rattle.std.specs.Prelude.{All, count_by, Option, Some, None, IfSome}
+use Rattle.std.proofs.lemmas.Bool.{cases_Bool}
+use Rattle.std.proofs.lemmas.List.{drop-drop, drop_all, take_all}
+use Rattle.std.proofs.lemmas.List.Elements.{All-nil, All-cons, All-head, All-same, All-tail}
+use Rattle.std.proofs.lemmas.List.Sums.{sum_by-append, sum_by-cons}
+use Rattle.normalizer_text.specs.DecodingSteps.{steps, IsWellFormed}
+use Rattle.normalizer_text.specs.Encodings.{Encoding, first_in}
+use Rattle.normalizer_text.specs.InputCut.{IsErrorAt}
+use Rattle.normalizer_text.specs.declared.decoding_step.Step.{Step}
+use Rattle.normalizer_text.proofs.inputs.InputBoundaryLemmas.{IsWellFormed-append, IsWellFormed-nil}
+use Rattle.normalizer_text.proofs.rules.EncodingRules.{IsDecoding-first}
+use Rattle.normalizer_text.proofs.steps.StepLemmas.{IsRight, rest-shorter, steps-nil, steps-some, steps-take}
+use Rattle.normalizer_streams.specs.declared.scheme.EncodingScheme.{EncodingScheme}
+use Rattle.normalizer_streams.specs.declared.scheme.EncodingScheme.TheVariants.{Utf8, Utf16}
+use Rattle.normalizer_streams.specs.IllFormed.{steps_by, ill_formed, IsFirstIllFormed, IsWellFormedBy}
+use Rattle.normalizer_streams.specs.Schemes.{encoding_of, units_of, unit_len}
+use Rattle.normalizer_streams.specs.inner.Errors.{IsFirstErrorAt}
+use Rattle.normalizer_streams.proofs.CarriedLemmas.{take-sum}
+use Rattle.normalizer_streams.proofs.SchemeLemmas.{even-double, units-back, units-front, units-within}
+
+abbrev pub count_errors : List Step → ℕ
+count_errors ss = count_by (λ s. s.is_error) ss
+
+pub no_errors : (ss : List Step) → All IsRight ss → count_errors ss ≡ 0
+no_errors [] all = refl
+no_errors (s ∷ ss) all =
+    sum_by-cons (λ (x : Step). cond x.is_error 1 0) s ss
+    ∙ ap (λ b. cond b 1 0 + count_errors ss) (All-head IsRight s ss all) ∙ omega (arith, no_errors ss (All-tail IsRight s ss all))
+
+pub count_errors-append : (a b : List Step) → count_errors (a ++ b) ≡ count_errors a + count_errors b
+count_errors-append a b = sum_by-append (λ (x : Step). cond x.is_error 1 0) a b
+
+pub one-most : (b : Bool) → cond b 1 0 ≤ 1
+one-most true = omega arith
+one-most false = omega arith
+
+module _ (e : Encoding) where
+  -- the step in front alone
+  one-step : (us : List ℕ) → 0 < length us → steps (first_in e) (take (first_in e us).width us) ≡ first_in e us ∷ []
+  one-step us some =
+      let w = (first_in e us).width in
+      let none : w - w ≡ 0 = omega arith in
+      steps-take e us w some (omega arith) ∙ ap (λ k. first_in e us ∷ steps (first_in e) (take k (drop w us))) none ∙ ap (λ x. first_in e us ∷ x) (steps-nil e)
+
+  -- one step more
+  pub well_formed-more : (us : List ℕ) (n : ℕ) → n < length us → IsWellFormed (first_in e) (take n us) → (first_in e (drop n us)).is_error ≡ false
+      → IsWellFormed (first_in e) (take (n + (first_in e (drop n us)).width) us)
+  well_formed-more us n within front right =
+      let rest = drop n us in
+      let some : 0 < length rest = omega (arith, length-drop n us) in
+      let one = All-same IsRight _ _ (one-step rest some) (All-cons IsRight _ [] right (All-nil IsRight)) in
+      subst (IsWellFormed (first_in e)) (sym (take-sum n (first_in e rest).width us)) (IsWellFormed-append e (take n us) (take (first_in e rest).width rest) front one)
+
+  -- the errors from a place on are those of its step, and those after it
+  pub errors-step : (us : List ℕ) (n : ℕ) (s : Step) → n < length us → s ≡ first_in e (drop n us)
+      → count_errors (steps (first_in e) (drop n us)) ≡ cond s.is_error 1 0 + count_errors (steps (first_in e) (drop (n + s.width) us))
+  errors-step us n s within is =
+      let some : 0 < length (drop n us) = omega (arith, length-drop n us) in
+      let w = (first_in e (drop n us)).width in
+      let rest : drop w (drop n us) ≡ drop (n + s.width) us = drop-drop w n us ∙ ap (λ t. drop (n + t.width) us) (sym is) in
+      ap count_errors (steps-some e (drop n us) some)
+      ∙ sum_by-cons (λ (x : Step). cond x.is_error 1 0) (first_in e (drop n us)) (steps (first_in e) (drop w (drop n us)))
+      ∙ ap (λ t. cond t.is_error 1 0 + count_errors (steps (first_in e) (drop w (drop n us)))) (sym is)
+      ∙ ap (λ x. cond s.is_error 1 0 + count_errors (steps (first_in e) x)) rest
+
+  pub errors-end : (us : List ℕ) (n : ℕ) → length us ≤ n → count_errors (steps (first_in e) (drop n us)) ≡ 0
+  errors-end us n le = ap (λ x. count_errors (steps (first_in e) x)) (drop_all n us le) ∙ ap count_errors (steps-nil e)
+
+  -- units are well-formed, or have a first ill-formed sequence
+  pub find_error : (us : List ℕ) → IsWellFormed (first_in e) us ⊎ ((place : ℕ) × IsFirstErrorAt e us place)
+  find_error us = by (length us) us (omega arith)
+    where
+      by : (n : ℕ) (us : List ℕ) → length us ≤ n → IsWellFormed (first_in e) us ⊎ ((place : ℕ) × IsFirstErrorAt e us place)
+      by n [] h = inl (IsWellFormed-nil e)
+      by zero (u ∷ us) h = absurd (omega arith)
+      by (suc n) (u ∷ us) h =
+          let us' = u ∷ us in
+          let w = (first_in e us').width in
+          let some : 0 < length us' = omega arith in
+          elim (cases_Bool (first_in e us').is_error) [
+            | inl error ↦ inr (0, record { before = IsWellFormed-nil e; here = record { within = some; error = error } })
+            | inr right ↦
+                let front = All-same IsRight _ _ (one-step us' some) (All-cons IsRight _ [] right (All-nil IsRight)) in
+                elim (by n (drop w us') (rest-shorter e us' n some h)) [
+                  | inl rest ↦ inl (subst (IsWellFormed (first_in e)) (take-append-drop w us') (IsWellFormed-append e (take w us') (drop w us') front rest))
+                  | inr found ↦
+                      let place = found.0 in
+                      let f = found.1 in inr (
+                        w + place,
+                        record {
+                          before = subst (IsWellFormed (first_in e)) (sym (take-sum w place us')) (IsWellFormed-append e (take w us') (take place (drop w us')) front f.before);
+                          here = record {
+                            within = omega (arith, f.here.within, length-drop w us');
+                            error = ap (λ x. (first_in e x).is_error) (sym (drop-drop place w us')) ∙ f.here.error;
+                          };
+                        },
+                      )
+                ]
+          ]
+
+-- a first ill-formed sequence of units, in bytes
+pub first_ill_formed-at : (scheme : EncodingScheme) (bytes : List ℕ) (n place : ℕ) → IsFirstErrorAt (encoding_of scheme) (units_of scheme bytes) n → place ≡ n * unit_len scheme
+    → (place ≤ length bytes) × IsFirstIllFormed scheme bytes (take place bytes)
+first_ill_formed-at Utf8 bytes n place f is =
+    let same : place ≡ n = omega arith in
+    subst (λ k. (k ≤ length bytes) × IsFirstIllFormed Utf8 bytes (take k bytes)) (sym same) (
+      omega (arith, f.here.within),
+      record {
+        rest = drop n bytes;
+        parts = sym (take-append-drop n bytes);
+        aligned = refl;
+        well_formed = f.before;
+        some = omega (arith, f.here.within, length-drop n bytes);
+        error = f.here.error;
+      },
+    )
+first_ill_formed-at (Utf16 order) bytes n place f is =
+    let same : place ≡ 2 * n = omega arith in
+    let within : 2 * n < length bytes = units-within order bytes n f.here.within in
+    subst (λ k. (k ≤ length bytes) × IsFirstIllFormed (Utf16 order) bytes (take k bytes)) (sym same) (
+      omega arith,
+      record {
+        rest = drop (2 * n) bytes;
+        parts = sym (take-append-drop (2 * n) bytes);
+        aligned = even-double n (length (take (2 * n) bytes)) (omega (arith, length-take (2 * n) bytes));
+        well_formed = subst (IsWellFormed (first_in Encoding.Utf16)) (sym (units-front order bytes n)) f.before;
+        some = omega (arith, length-drop (2 * n) bytes);
+        error = ap (λ x. (first_in Encoding.Utf16 x).is_error) (units-back order bytes n) ∙ f.here.error;
+      },
+    )
+
+pub first_ill_formed-utf8 : (bytes : List ℕ) (place : Option ℕ) → IfSome place (IsFirstErrorAt Encoding.Utf8 bytes)
+    → IfSome place (λ place. (place ≤ length bytes) × IsFirstIllFormed Utf8 bytes (take place bytes))
+first_ill_formed-utf8 bytes None f = tt
+first_ill_formed-utf8 bytes (Some place) f = first_ill_formed-at Utf8 bytes place place f (omega arith)
+
+-- bytes are well-formed, or have a first ill-formed sequence
+pub find_ill_formed : (scheme : EncodingScheme) (bytes : List ℕ) → IsWellFormedBy scheme bytes ⊎ ((front : List ℕ) × IsFirstIllFormed scheme bytes front)
+find_ill_formed scheme bytes = elim (find_error (encoding_of scheme) (units_of scheme bytes)) [
+  | inl none ↦ inl none
+  | inr found ↦ inr (take (found.0 * unit_len scheme) bytes, (first_ill_formed-at scheme bytes found.0 (found.0 * unit_len scheme) found.1 refl).1)
+]

@@ -1,0 +1,36 @@
+use Rattle.std.proofs.Common.{◌<◌, ◌+◌, length, arith, ap, subst, sym, take, ◌∙◌}
+use Rattle.std.proofs.lemmas.List.{take_all}
+use Rattle.normalizer_text.specs.DecodingSteps.{IsWellFormed}
+use Rattle.normalizer_text.specs.Encodings.{first_in}
+use Rattle.normalizer_text.proofs.inputs.InputBoundaryLemmas.{IsWellFormed-nil}
+use Rattle.normalizer_text.proofs.steps.StepBoundaries.{step-some}
+use Rattle.normalizer_streams.proofs.ErrorLemmas.{well_formed-more}
+use Rattle.normalizer_streams.proofs.ill_formed.first_error.Goals as goal
+
+pub loop-place-init : goal.loop-place-init
+loop-place-init g c = record { within = omega arith; front = IsWellFormed-nil g.U.Units.encoding }
+
+pub overflow_add-place : goal.overflow_add-place
+overflow_add-place g c =
+    omega (arith, c.len.ensures, step-some g.U.Units.encoding (g.U.Units.units c.args.units) c.loop-place.place c.step_at-step.result (omega (arith, c.len.ensures)) c.step_at-step.ensures)
+
+pub loop-place-smaller : goal.loop-place-smaller
+loop-place-smaller g c =
+    omega (arith, c.len.ensures, step-some g.U.Units.encoding (g.U.Units.units c.args.units) c.loop-place.place c.step_at-step.result (omega (arith, c.len.ensures)) c.step_at-step.ensures)
+
+pub loop-place-preserved : goal.loop-place-preserved
+loop-place-preserved g c =
+    let units = g.U.Units.units c.args.units in
+    let e = g.U.Units.encoding in
+    let within : c.loop-place.place < length units = omega (arith, c.len.ensures) in
+    let takes = step-some e units c.loop-place.place c.step_at-step.result within c.step_at-step.ensures in
+    record {
+      within = omega (arith, takes);
+      front = subst (λ s. IsWellFormed (first_in e) (take (c.loop-place.place + s.width) units)) (sym c.step_at-step.ensures)
+          (well_formed-more e units c.loop-place.place within c.loop-place.invariant.front (sym (ap (λ s. s.is_error) c.step_at-step.ensures) ∙ c.if-step.false));
+    }
+
+pub returns-clause-none : goal.returns-clause-none
+returns-clause-none g c =
+    let units = g.U.Units.units c.args.units in
+    subst (IsWellFormed (first_in g.U.Units.encoding)) (take_all c.loop-place.place units (omega (arith, c.len.ensures))) c.loop-place.invariant.front
