@@ -2,3 +2,4 @@
 pub mod Blocks
 pub mod Buckets
 pub mod Members
+pub mod TableSets
