@@ -3,6 +3,7 @@ ghost use Rattle.std.specs.Prelude.{◌≡◌, ◌<◌, ◌||◌, ◌∷◌, [],
 ghost use Rattle.std.specs.Prelude.{◌≤◌, drop, length, IsTrue, IsOk, IsOkUnless, IsErrOf, Option, Some, None};
 ghost use Rattle.std.specs.Prelude.{if◌then◌else◌};
 ghost use Rattle.std.specs.Char.{IsScalar};
+ghost use Rattle.normalizer_sets.specs.CharacterSets.{has};
 ghost use Rattle.normal_forms.specs.Decomposition.{expand};
 ghost use Rattle.normal_forms.specs.ShortRuns.{buffer_limit};
 ghost use Rattle.normalizer_conditions.specs.RequiredConditions.{SuitsTexts};
@@ -23,6 +24,7 @@ use crate::decomposing_form::DecomposingForm;
 use crate::kept::{KeptSegment, composite_of, kept_segment};
 use crate::writing::{first_item, write_items};
 use normalizer_iterators::{MarkRun, NormalizeError, SegmentBuffers};
+use normalizer_sets::CharacterSet;
 use normalizer_tables::characters::IgnoredCharacters;
 use normalizer_tables::may_be_second;
 use normalizer_tables::members::Members;
@@ -53,6 +55,10 @@ pub trait Forming {
     /// the class before is greater.
     fn passthrough_class(&self, character: char) -> Option<u8>
         ensures { result ≡ passthrough_class self.now character };
+
+    /// Returns a set of characters that are passed on, with class 0. They aren't looked up.
+    fn passing(&self) -> &CharacterSet
+        ensures { (c : ℕ) → has result.now c ≡ true → passthrough_class self.now c ≡ Some 0 };
 
     /// Returns the class of a character, if it is its own list.
     fn class_of_itself(&self, character: char) -> Option<u8>
@@ -163,6 +169,10 @@ impl<'a> Forming for DecomposingForm<'a> {
         self.characters.class_of_itself(character, word)
     }
 
+    fn passing(&self) -> &CharacterSet {
+        self.characters.plain()
+    }
+
     fn class_of_itself(&self, character: char) -> Option<u8> {
         let word = self.characters.word_of(character);
         self.characters.class_of_itself(character, word)
@@ -252,6 +262,11 @@ impl<'a> Forming for ComposingForm<'a> {
         } else {
             None
         }
+    }
+
+    #[tactic(auto, unfolding(normalizer_tables::specs::PairConditions::is_composing_passthrough, normalizer_tables::specs::TableSets::has_no_flag))]
+    fn passing(&self) -> &CharacterSet {
+        self.characters.unflagged()
     }
 
     fn class_of_itself(&self, character: char) -> Option<u8> {

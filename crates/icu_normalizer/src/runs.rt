@@ -8,9 +8,6 @@ ghost use Rattle.icu_normalizer.specs.inner.PassthroughRuns.{IsRunEnd, IsSegment
 use crate::forming::Forming;
 use normalizer_text::{Chars, Step, Units};
 
-/// U+FFFD, as which errors read.
-const REPLACEMENT: u32 = char::REPLACEMENT_CHARACTER as u32;
-
 /// A run of characters that are passed on as they are: where the marks at its end begin, and where it ends.
 #[derive(Clone, Copy)]
 struct Run {
@@ -47,10 +44,8 @@ fn next_class<N: Forming>(normalizer: &N, last: u8, step: Step) -> Option<u8>
 fn run_end<U: Units, N: Forming>(normalizer: &N, units: U) -> Run
     ensures { IsRunEnd (N.passthrough_class normalizer.now) U.encoding (U.units units) result.marks result.end }
 {
-    normalizer.passthrough_is_normalized_apart();
-    units.low_units_are_of_low_characters();
-    let limit = units.low_unit(normalizer.passthrough_bound().min(REPLACEMENT));
-    let mut end = units.end_of_below(0, limit);
+    let passing = normalizer.passing();
+    let mut end = units.end_of_members(0, passing);
     let mut marks = end;
     let mut last = 0;
     while end < units.len() {
@@ -59,7 +54,7 @@ fn run_end<U: Units, N: Forming>(normalizer: &N, units: U) -> Run
             return Run { marks, end };
         };
         if class == 0 {
-            end = units.end_of_below(end + step.width, limit);
+            end = units.end_of_members(end + step.width, passing);
             marks = end;
         } else {
             end += step.width;

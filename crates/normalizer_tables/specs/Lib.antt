@@ -21,6 +21,7 @@ pub mod SpecialLists
 pub mod StepConditions
 pub mod Steps
 pub mod Table
+pub mod TableSets
 pub mod Passthrough
 pub mod Words
 pub mod inner

@@ -3,3 +3,4 @@ pub mod Blocks
 pub mod Buckets
 pub mod Members
 pub mod Seconds
+pub mod TableSets

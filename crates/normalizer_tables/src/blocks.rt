@@ -3,9 +3,12 @@ ghost use Rattle.std.specs.Prelude.{◌≡◌, ◌+◌, ◌≤◌, ◌<◌, IfOk
 ghost use Rattle.std.specs.Cmp.Lexicographic.{pointwise};
 ghost use Rattle.normalizer_tables.specs.Table.{block_count};
 ghost use Rattle.normalizer_tables.specs.inner.Blocks.{AreFrom, AreLeft, IsBlockOf, IsJoined, IsKnown, IsNumbered, IsRun};
+ghost use Rattle.normalizer_tables.specs.TableSets.{IsSetWithout};
+ghost use Rattle.normalizer_tables.specs.inner.TableSets.{HasPlacesWithout};
 ghost use Rattle.normalizer_tables.specs.Ranges.{word_in, words_of, IsRangeList};
 ghost use Rattle.normalizer_tables.specs.Table.{code_points, IsNextWithWord};
 
+use normalizer_sets::{CharacterSet, WORDS};
 use std::alloc::{AllocError, Global};
 use std::marker::Model;
 
@@ -99,6 +102,23 @@ impl Blocks {
         }
         None
     }
+
+    /// The set of the characters whose words have none of these bits. Each block is tested once.
+    pub(crate) fn characters_without(&self, bits: u32) -> Result<CharacterSet, AllocError>
+        ensures { (above : ℕ) →
+            IfOk result (IsSetWithout bits (record { words = self.now; past = above })) }
+    {
+        let alloc = self.allocator();
+        let mut kept = Vec::with_capacity(alloc, self.blocks.len())?;
+        for block in 0..self.blocks.len() {
+            kept.push(places_without(&self.blocks[block], bits))?;
+        }
+        let mut words = Vec::with_capacity(alloc, WORDS)?;
+        for place in 0..WORDS {
+            words.push(kept[self.numbers[place] as usize])?;
+        }
+        Ok(CharacterSet::from_words(words))
+    }
 }
 
 impl Clone for Blocks {
@@ -147,6 +167,19 @@ fn number_of(blocks: &[[u32; 64]], block: &[u32; 64]) -> Option<usize>
     ensures { result ≡ position (pointwise nat_eq block.now) blocks.now }
 {
     blocks.iter().position(|kept| block == kept)
+}
+
+/// The places of a block whose words have none of the bits, as a bit each.
+fn places_without(block: &[u32; 64], bits: u32) -> u64
+    ensures { HasPlacesWithout bits block.now result }
+{
+    let mut places = 0u64;
+    for place in 0..BLOCK {
+        if block[place as usize] & bits == 0 {
+            places |= 1 << place;
+        }
+    }
+    places
 }
 
 /// The number of the block of 64 numbers from one on, and the ranges that don't end among them. `known` is a word with

@@ -1,6 +1,9 @@
 //! What decomposition data say of each character.
-ghost use Rattle.std.specs.Prelude.{◌≡◌, ◌≢◌, ◌↔◌, ◌≤◌, ◌∷◌, [], ℕ, List, Option, IfErr, IfOk, IfSome, IsTrue};
+ghost use Rattle.std.specs.Prelude.{◌≡◌, ◌≢◌, ◌↔◌, ◌≤◌, ◌∷◌, ◌&&◌, [], ℕ, List, Option, IfErr, IfOk, IfSome, IsTrue};
 ghost use Rattle.std.specs.Option.{option_copied};
+ghost use Rattle.normalizer_sets.specs.CharacterSets.{has, may_have};
+ghost use Rattle.normalizer_tables.specs.TableSets.{has_no_flag};
+ghost use Rattle.normalizer_tables.specs.Words.{is_plain};
 ghost use Rattle.normalizer_tables.specs.Ignored.{ignored_list, Dropped};
 ghost use Rattle.normalizer_tables.specs.Data.{lists_or_none};
 ghost use Rattle.normalizer_tables.specs.Characters.{
@@ -29,6 +32,7 @@ use crate::provider::{DecompositionData, DecompositionTables};
 use crate::scalars::Scalars16;
 use crate::special::fixed_list_of;
 use crate::word::{FLAGS, WordReading, class_of_word, is_class_form, is_plain, read};
+use normalizer_sets::CharacterSet;
 use std::alloc::Global;
 use std::marker::Model;
 
@@ -180,6 +184,24 @@ impl<'a> CharacterData<'a> {
     {
         let decompositions = self.decompositions;
         decompositions.passthrough_cap
+    }
+
+    /// Returns the characters of the Basic Multilingual Plane, but U+FFFD, whose words have nothing but flags.
+    #[tactic(auto, unfolding(crate::specs::Characters::word_of))]
+    pub fn plain(&self) -> &'a CharacterSet
+        ensures { (n : ℕ) → has result.now n ≡ (may_have n && is_plain (word_of self.now n)) }
+    {
+        let decompositions = self.decompositions;
+        decompositions.table.plain()
+    }
+
+    /// Returns the characters of the Basic Multilingual Plane, but U+FFFD, whose words have no flag.
+    #[tactic(auto, unfolding(crate::specs::Characters::word_of))]
+    pub fn unflagged(&self) -> &'a CharacterSet
+        ensures { (n : ℕ) → has result.now n ≡ (may_have n && has_no_flag (word_of self.now n)) }
+    {
+        let decompositions = self.decompositions;
+        decompositions.table.unflagged()
     }
 
     /// Returns the tables of lists.

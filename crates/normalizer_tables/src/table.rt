@@ -1,5 +1,9 @@
 //! The code point table: a 32-bit word for every number.
-ghost use Rattle.std.specs.Prelude.{◌≡◌, ◌↔◌, ◌≤◌, IfOk, IsErrOf, IsTrue};
+ghost use Rattle.std.specs.Prelude.{◌≡◌, ◌↔◌, ◌≤◌, ◌&&◌, ℕ, nat_eq, IfOk, IsErrOf, IsTrue};
+ghost use Rattle.std.specs.Cmp.Lexicographic.{pointwise};
+ghost use Rattle.normalizer_sets.specs.CharacterSets.{has, may_have};
+ghost use Rattle.normalizer_tables.specs.TableSets.{has_no_flag};
+ghost use Rattle.normalizer_tables.specs.Words.{is_plain};
 ghost use Rattle.normalizer_tables.specs.Table.{block_count};
 ghost use Rattle.normalizer_tables.specs.Ranges.{IsComplete, IsRangeList, IsTableOf};
 ghost use Rattle.normalizer_tables.specs.inner.Blocks.{is_range};
@@ -7,6 +11,8 @@ ghost use Rattle.std.specs.List.{list_all};
 ghost use Rattle.normalizer_tables.specs.Table.{word_at, code_points, IsNextWithWord};
 
 use crate::blocks::Blocks;
+use crate::word::FLAGS;
+use normalizer_sets::CharacterSet;
 use std::alloc::{AllocError, Global};
 use std::marker::Model;
 use thiserror::Error;
@@ -34,23 +40,25 @@ impl From<AllocError> for TableError {
 
 /// A 32-bit word for every number: one for each code point, and one for all numbers above 0x10FFFF. Tables are equal
 /// exactly if each number has the same word in both.
-#[derive(Drop, PartialEq, Eq)]
+#[derive(Drop)]
 pub struct CodePointTable {
     words: Blocks,
     past: u32,
+    /// The characters whose words have nothing but flags.
+    plain: CharacterSet,
+    /// The characters whose words have no flag.
+    unflagged: CharacterSet,
 }
 
 impl Model for CodePointTable {
     ghost use Rattle.normalizer_tables.specs.Table.{Table};
-    ghost use Rattle.normalizer_tables.specs.Ranges.{IsComplete};
+    ghost use Rattle.normalizer_tables.specs.inner.TableSets.{HasSets};
 
     ghost Value = { Table };
 
     ghost view = { λ t. record { words = t.words; past = t.past } };
 
-    ghost inverse = { λ t. record { words = t.words; past = t.past } };
-
-    ghost invariant = { λ t. IsComplete (record { words = t.words; past = t.past }) };
+    ghost invariant = { λ t. HasSets (record { words = t.words; past = t.past }) t.plain t.unflagged };
 }
 
 impl CodePointTable {
@@ -74,7 +82,14 @@ impl CodePointTable {
             return Err(TableError::Ranges);
         }
         let words = Blocks::from_ranges(*ranges.allocator(), &ranges)?;
-        Ok(CodePointTable { words, past })
+        let plain = words.characters_without(!FLAGS)?;
+        let unflagged = words.characters_without(FLAGS)?;
+        Ok(CodePointTable {
+            words,
+            past,
+            plain,
+            unflagged,
+        })
     }
 
     /// Returns the word of a character.
@@ -109,6 +124,21 @@ impl CodePointTable {
         self.words.word(number)
     }
 
+    /// Returns the characters of the Basic Multilingual Plane, but U+FFFD, whose words have nothing but flags.
+    #[tactic(auto, unfolding(crate::specs::Words::is_plain))]
+    pub fn plain(&self) -> &CharacterSet
+        ensures { (n : ℕ) → has result.now n ≡ (may_have n && is_plain (word_at self.now n)) }
+    {
+        &self.plain
+    }
+
+    /// Returns the characters of the Basic Multilingual Plane, but U+FFFD, whose words have no flag.
+    pub fn unflagged(&self) -> &CharacterSet
+        ensures { (n : ℕ) → has result.now n ≡ (may_have n && has_no_flag (word_at self.now n)) }
+    {
+        &self.unflagged
+    }
+
     /// The least code point from `from` on whose word has bits other than those of `flags`.
     pub(crate) fn next_with_word(&self, from: u32, flags: u32) -> Option<u32>
         ensures { IsNextWithWord self.now flags from result }
@@ -131,7 +161,32 @@ impl Clone for CodePointTable {
         Ok(CodePointTable {
             words: self.words.clone()?,
             past: self.past,
+            plain: self.plain.clone()?,
+            unflagged: self.unflagged.clone()?,
         })
+    }
+}
+
+impl Eq for CodePointTable {
+    ghost use Rattle.std.proofs.lemmas.Cmp.{and_equiv, nat_eq_equiv, nat_list_eq_equiv, on_equiv};
+    ghost use Rattle.normalizer_tables.specs.Table.{Table};
+
+    ghost laws = { and_equiv (on_equiv (λ (t : Table). t.words) nat_list_eq_equiv)
+        (on_equiv (λ (t : Table). t.past) nat_eq_equiv) };
+}
+
+impl PartialEq for CodePointTable {
+    ghost use Rattle.std.specs.Cmp.{partial_equiv_from_equiv};
+    ghost use Rattle.std.proofs.lemmas.Cmp.{and_equiv, nat_eq_equiv, nat_list_eq_equiv, on_equiv};
+    ghost use Rattle.normalizer_tables.specs.Table.{Table};
+
+    ghost eq = { λ t u. pointwise nat_eq t.words u.words && nat_eq t.past u.past };
+
+    ghost laws = { partial_equiv_from_equiv (and_equiv (on_equiv (λ (t : Table). t.words) nat_list_eq_equiv)
+        (on_equiv (λ (t : Table). t.past) nat_eq_equiv)) };
+
+    fn eq(&self, other: &Self) -> bool {
+        self.words == other.words && self.past == other.past
     }
 }
 

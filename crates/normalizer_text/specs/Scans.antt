@@ -1,7 +1,8 @@
 -- Scanning units.
-use Rattle.std.specs.Prelude.{ℕ, ◌+◌, ◌/◌, ◌<◌, ◌≤◌, List, nat_lt, min, if◌then◌else◌, All}
+use Rattle.std.specs.Prelude.{ℕ, ◌+◌, ◌/◌, ◌<◌, ◌≤◌, Bool, List, [], ◌∷◌, nat_lt, min, if◌then◌else◌, All}
 use Rattle.std.specs.List.{prefix_len, slice_range}
 use Rattle.normalizer_text.specs.Encodings.{Encoding, first_in, decoded_in}
+use Rattle.normalizer_text.specs.declared.decoding_step.Step.{Step}
 use Rattle.normalizer_text.specs.DecodingSteps.{IsBoundary}
 
 -- the number of units before the first one that is not below the bound
@@ -18,3 +19,12 @@ pub record EndsLowCharacters (e : Encoding) (units : List ℕ) (from bound to : 
 -- U+00C0 on pairs too, of which each first byte has 64 characters
 abbrev pub low_byte : ℕ → ℕ
 low_byte bound = if nat_lt bound 0xC0 then min bound 0x80 else 0xC0 + min (bound / 64) 0x20
+
+-- the number of units that a step takes, if its character passes the test, and otherwise 0
+abbrev pub width_in : (ℕ → Bool) → Step → ℕ
+width_in test s = if test s.character then s.width else 0
+
+-- the number of units that steps take before the first whose character fails the test
+abbrev pub width_within : (ℕ → Bool) → List Step → ℕ
+width_within test [] = 0
+width_within test (s ∷ ss) = if test s.character then s.width + width_within test ss else 0

@@ -1,13 +1,16 @@
 //! The three encodings as one trait, over which every loop is written once.
 ghost use Rattle.std.specs.Prelude.{◌≡◌, ◌==◌, ℕ, ◌+◌, ◌<◌, ◌≤◌, min, MatchOption};
 ghost use Rattle.std.specs.Prelude.{List, [], length, take, drop, slice_index};
-ghost use Rattle.normalizer_text.specs.DecodingSteps.{IsBoundary, IsFirstStep, IsLastStep};
+ghost use Rattle.std.specs.Prelude.{nat_lt};
+ghost use Rattle.normalizer_sets.specs.CharacterSets.{has};
+ghost use Rattle.normalizer_text.specs.DecodingSteps.{steps, IsBoundary, IsFirstStep, IsLastStep};
 ghost use Rattle.normalizer_text.specs.inner.Backwards.{IsLastStart};
 ghost use Rattle.normalizer_text.specs.Encodings.{Encoding, first_in, trails_in};
-ghost use Rattle.normalizer_text.specs.Scans.{leading_below, low_byte, EndsLowCharacters};
+ghost use Rattle.normalizer_text.specs.Scans.{leading_below, low_byte, width_in, width_within, EndsLowCharacters};
 
 use crate::decoding_step::Step;
 use crate::{scan, utf8, utf16};
+use normalizer_sets::CharacterSet;
 
 /// No step takes more units.
 const LONGEST_STEP: usize = 4;
@@ -54,6 +57,16 @@ pub trait Units: Copy {
         requires { position ≤ length (units self) }
         ensures { result ≡ position + leading_below limit (drop position (units self)) };
 
+    /// Returns whether a unit is below a limit.
+    fn is_below_at(self, position: usize, limit: u32) -> bool
+        requires { position < length (units self) }
+        ensures { result ≡ nat_lt (slice_index (units self) position) limit };
+
+    /// Returns how many units the step at a position takes, if the set has its character, and otherwise 0.
+    fn member_at(self, position: usize, set: &CharacterSet) -> usize
+        requires { position < length (units self) }
+        ensures { result ≡ width_in (has set.now) (first_in encoding (drop position (units self))) };
+
     /// A law: a step ends with units below such a limit, and the characters up to there are below the bound.
     fn low_units_are_of_low_characters(self)
         ensures { (position bound : ℕ) → IsBoundary (first_in encoding) (units self) position →
@@ -69,6 +82,30 @@ pub trait Units: Copy {
     fn after(self, position: usize) -> Self
         requires { IsBoundary (first_in encoding) (units self) position }
         ensures { units result ≡ drop position (units self) };
+
+    /// Returns the end of the steps from a position on whose characters are all in the set.
+    #[inline(always)]
+    final fn end_of_members(self, position: usize, set: &CharacterSet) -> usize
+        requires { IsBoundary (first_in encoding) (units self) position }
+        ensures { result ≡ position
+            + width_within (has set.now) (steps (first_in encoding) (drop position (units self))) }
+    {
+        self.low_units_are_of_low_characters();
+        let limit = self.low_unit(set.first_missing());
+        let mut end = self.end_of_below(position, limit);
+        while end < self.len() {
+            let width = self.member_at(end, set);
+            if width == 0 {
+                return end;
+            }
+            end += width;
+            // A single low unit, as a space between words, is looked up faster than a vector is read.
+            if begins_low_run(self, end, limit) {
+                end = self.end_of_below(end, limit);
+            }
+        }
+        end
+    }
 
     final fn is_empty(self) -> bool
         ensures { result ≡ (length (units self) == 0) }
@@ -103,6 +140,16 @@ pub trait Units: Copy {
             Some(Step::replaced(1))
         }
     }
+}
+
+/// Returns whether there are two units at a position that are both below a limit.
+#[inline(always)]
+fn begins_low_run<U: Units>(units: U, position: usize, limit: u32) -> bool {
+    let len = units.len();
+    position < len
+        && len - position > 1
+        && units.is_below_at(position, limit)
+        && units.is_below_at(position + 1, limit)
 }
 
 /// Returns the beginning of the last step, if it takes more than one unit.
@@ -153,6 +200,21 @@ impl<'a> Units for &'a str {
         scan::end_of_below::<&[u8], true>(self.as_bytes(), position, limit)
     }
 
+    #[inline(always)]
+    fn is_below_at(self, position: usize, limit: u32) -> bool {
+        u32::from(self.as_bytes()[position]) < limit
+    }
+
+    #[inline(always)]
+    fn member_at(self, position: usize, set: &CharacterSet) -> usize {
+        let bytes = &self.as_bytes()[position..];
+        if utf8::is_continuation(bytes[0]) {
+            0
+        } else {
+            utf8::member_of_well_formed(bytes, set)
+        }
+    }
+
     fn low_units_are_of_low_characters(self) {}
 
     fn before(self, position: usize) -> Self {
@@ -194,6 +256,16 @@ impl<'a> Units for &'a [u8] {
         scan::end_of_below::<&[u8], true>(self, position, limit)
     }
 
+    #[inline(always)]
+    fn is_below_at(self, position: usize, limit: u32) -> bool {
+        u32::from(self[position]) < limit
+    }
+
+    #[inline(always)]
+    fn member_at(self, position: usize, set: &CharacterSet) -> usize {
+        utf8::member(&self[position..], set)
+    }
+
     fn low_units_are_of_low_characters(self) {}
 
     fn before(self, position: usize) -> Self {
@@ -233,6 +305,16 @@ impl<'a> Units for &'a [u16] {
     #[inline(always)]
     fn end_of_below(self, position: usize, limit: u32) -> usize {
         scan::end_of_below::<&[u16], false>(self, position, limit)
+    }
+
+    #[inline(always)]
+    fn is_below_at(self, position: usize, limit: u32) -> bool {
+        u32::from(self[position]) < limit
+    }
+
+    #[inline(always)]
+    fn member_at(self, position: usize, set: &CharacterSet) -> usize {
+        if set.has_unit(self[position]) { 1 } else { 0 }
     }
 
     fn low_units_are_of_low_characters(self) {}

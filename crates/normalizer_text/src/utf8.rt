@@ -1,13 +1,15 @@
 //! Decoding bytes that may not be UTF-8, with U+FFFD for ill-formed sequences (The Unicode Standard, section 3.9).
 ghost use Rattle.std.specs.Prelude.{◌≡◌, ◌+◌, ◌<◌, ◌≤◌, IsTrue, length, option_map, slice_index_or};
 ghost use Rattle.std.specs.Str.{continuation_len};
-ghost use Rattle.normalizer_text.specs.Scans.{low_byte};
+ghost use Rattle.normalizer_sets.specs.CharacterSets.{has};
+ghost use Rattle.normalizer_text.specs.Scans.{low_byte, width_in};
 ghost use Rattle.normalizer_text.specs.DecodingSteps.{IsWellFormed};
 ghost use Rattle.normalizer_text.specs.Utf8.{continuation, allows, row_of, matched_count, scalar_value, first_of_utf8};
 ghost use Rattle.normalizer_text.specs.MaximalSubparts.{IsWellFormedSequence};
 ghost use Rattle.normalizer_text.specs.inner.Trails.{BeginsWithSequence, LeadsFour, LeadsThree};
 
 use crate::decoding_step::Step;
+use normalizer_sets::CharacterSet;
 
 /// A byte that may come after the first one of a character.
 #[inline(always)]
@@ -134,6 +136,47 @@ pub(crate) fn first_step_of_well_formed(bytes: &[u8]) -> Step
 {
     let width = length_of_sequence(bytes[0]);
     Step::read(character_of(&bytes[..width]), width)
+}
+
+/// How many bytes the first step of well-formed bytes takes, if the set has its character, otherwise 0.
+#[inline(always)]
+pub(crate) fn member_of_well_formed(bytes: &[u8], set: &CharacterSet) -> usize
+    requires some { 0 < length bytes.now }
+    requires well_formed { IsWellFormed first_of_utf8 bytes.now }
+    ensures { result ≡ width_in (has set.now) (first_of_utf8 bytes.now) }
+{
+    member_of_width(bytes, length_of_sequence(bytes[0]), set)
+}
+
+/// The same of bytes that begin with a sequence of so many.
+#[inline(always)]
+fn member_of_width(bytes: &[u8], width: usize, set: &CharacterSet) -> usize
+    requires { BeginsWithSequence bytes.now width }
+    ensures { result ≡ width_in (has set.now) (first_of_utf8 bytes.now) }
+{
+    if has_sequence(&bytes[..width], set) {
+        width
+    } else {
+        0
+    }
+}
+
+/// Whether a set has the character of a well-formed sequence.
+#[inline(always)]
+#[tactic(auto, using(crate::proofs::sequences::SubpartLemmas::bounds_of_sequence, normalizer_sets::proofs::SetLemmas::has_past))]
+fn has_sequence(sequence: &[u8], set: &CharacterSet) -> bool
+    requires { IsWellFormedSequence sequence.now }
+    ensures { result ≡ has set.now (scalar_value sequence.now) }
+{
+    match sequence {
+        [a] => set.has_at((*a / 64) as usize, (*a % 64) as u32),
+        [a, b] => set.has_at((*a - 0xC0) as usize, (*b - 0x80) as u32),
+        [a, b, c] => {
+            let block = (*a as usize - 0xE0) * 64 + (*b as usize - 0x80);
+            set.has_at(block, (*c - 0x80) as u32)
+        }
+        _ => false,
+    }
 }
 
 /// Whether bytes begin with a sequence of two.
@@ -288,6 +331,39 @@ fn first_step_of_more(bytes: &[u8]) -> Step
         return Step::replaced(width);
     }
     Step::read(character_of(&bytes[..width]), width)
+}
+
+/// How many bytes the first step of bytes that aren't empty takes, if the set has its character, otherwise 0.
+#[inline(always)]
+pub(crate) fn member(bytes: &[u8], set: &CharacterSet) -> usize
+    requires { 0 < length bytes.now }
+    ensures { result ≡ width_in (has set.now) (first_of_utf8 bytes.now) }
+{
+    let lead = bytes[0];
+    if lead < 0x80 {
+        if set.has_unit(lead as u16) { 1 } else { 0 }
+    } else if lead < 0xE0 && begins_with_two(bytes) {
+        member_of_width(bytes, 2, set)
+    } else if 0xE0 <= lead && begins_with_three(bytes) {
+        member_of_width(bytes, 3, set)
+    } else {
+        member_of_others(bytes, set)
+    }
+}
+
+/// The same in a call.
+#[inline(never)]
+#[tactic(auto, unfolding(crate::specs::Scans::width_in))]
+fn member_of_others(bytes: &[u8], set: &CharacterSet) -> usize
+    requires { 0 < length bytes.now }
+    ensures { result ≡ width_in (has set.now) (first_of_utf8 bytes.now) }
+{
+    let step = first_step(bytes);
+    if set.contains(step.character) {
+        step.width
+    } else {
+        0
+    }
 }
 
 /// Returns well-formed bytes as a text.

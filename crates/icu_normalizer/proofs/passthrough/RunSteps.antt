@@ -1,17 +1,17 @@
 -- Runs of characters that are passed on as they are, step by step.
-use Rattle.std.proofs.Common.{◌≡◌, ℕ, ◌+◌, ◌-◌, ◌<◌, ◌≤◌, false, List, [], ◌∷◌, ◌++◌, length, take, drop, map, refl, sym, ap, subst, ◌∙◌}
+use Rattle.std.proofs.Common.{◌≡◌, ℕ, ◌+◌, ◌-◌, ◌<◌, ◌≤◌, Bool, true, false, List, [], ◌∷◌, ◌++◌, length, take, drop, refl, sym, ap, subst, ◌∙◌}
 use Rattle.std.proofs.Common.{append_assoc, append-nil, arith, length-drop, length-take-le, inl, inr}
-use Rattle.std.specs.Prelude.{All, ◌⊎◌, ◌≢◌, ◌==◌, ◌||◌, min, nat_le, Option, Some, None, option_and_then}
-use Rattle.std.proofs.lemmas.Bool.Decides.{eqb_tells}
-use Rattle.std.proofs.lemmas.Bool.{cases_Bool, cond-true, cond-false, eqb-true, leb-true, or_cases}
+use Rattle.std.specs.Prelude.{All, ◌⊎◌, ◌≢◌, ◌==◌, ◌||◌, nat_le, Option, Some, None, option_and_then}
+use Rattle.std.proofs.lemmas.Bool.{cases_Bool, cond-true, cond-false, eqb-true, leb-true, ne_eqb, or_cases}
 use Rattle.std.proofs.lemmas.Option.{option_and_then_some}
 use Rattle.std.proofs.lemmas.List.{append_cancel_left, drop_at, take_at}
 use Rattle.std.proofs.lemmas.List.Elements.{All-nil, All-cons, All-append, All-head, All-tail, All-same, All-drop, All-take}
 use Rattle.normalizer_text.specs.declared.decoding_step.Step.{Step}
 use Rattle.normalizer_text.specs.Encodings.{Encoding, first_in}
-use Rattle.normalizer_text.specs.DecodingSteps.{steps, width_of, IsBoundary, IsLastStep}
-use Rattle.normalizer_text.specs.Scans.{leading_below, EndsLowCharacters}
-use Rattle.normalizer_text.proofs.steps.StepBoundaries.{boundary-after, boundary-between, boundary-first, boundary-le, boundary-more, steps-parts, steps-take-drop, width_of-append, width_of-steps}
+use Rattle.normalizer_text.specs.DecodingSteps.{steps, width_of, IsLastStep}
+use Rattle.normalizer_text.specs.Scans.{width_within}
+use Rattle.normalizer_text.proofs.scans.MemberLemmas.{members_in_front}
+use Rattle.normalizer_text.proofs.steps.StepBoundaries.{boundary-after, boundary-first, boundary-le, boundary-more, steps-parts, steps-take-drop, width_of-append, width_of-steps}
 use Rattle.normalizer_text.proofs.steps.StepLemmas.{steps-some}
 use Rattle.icu_normalizer.specs.inner.PassthroughRuns.{IsRun, IsPassthroughTo, replacement}
 use Rattle.icu_normalizer.specs.inner.PassthroughRuns.{class_after, class_in_order, class_of_step, next_class}
@@ -92,50 +92,32 @@ module _ (passed : ℕ → Option ℕ) (e : Encoding) (units : List ℕ) where
     pass = refl;
   }
 
-  -- characters below a bound pass
-  module _ (bound of_characters : ℕ) (least : bound ≡ min of_characters replacement) (pass : (c : ℕ) → c < of_characters → passed c ≡ Some 0) where
-    low_passes : (s : Step) → s.character < bound → class_of_step passed s ≡ Some 0
+  -- a run goes on with characters of a set, each of which passes
+  module _ (test : ℕ → Bool) (pass : (c : ℕ) → test c ≡ true → (c ≢ replacement) × (passed c ≡ Some 0)) where
+    members_pass : (ss : List Step) → All (λ s. test s.character ≡ true) ss → All (λ s. class_of_step passed s ≡ Some 0) ss
     unfolding class_of_step
-    low_passes s below = elim (eqb_tells s.character replacement) [
-      | inl same ↦ absurd (omega (arith, same.1, least))
-      | inr other ↦ cond-false (s.character == replacement) None (passed s.character) other.0 ∙ pass s.character (omega (arith, least))
-    ]
+    members_pass [] all = All-nil (λ s. class_of_step passed s ≡ Some 0)
+    members_pass (s ∷ ss) all =
+        let is = pass s.character (All-head (λ t. test t.character ≡ true) s ss all) in
+        All-cons (λ t. class_of_step passed t ≡ Some 0) s ss
+        (cond-false (s.character == replacement) None (passed s.character) (ne_eqb s.character replacement is.0) ∙ is.1)
+        (members_pass ss (All-tail (λ t. test t.character ≡ true) s ss all))
 
-    all_low_pass : (ss : List Step) → All (λ c. c < bound) (map (λ s. s.character) ss) → All (λ s. class_of_step passed s ≡ Some 0) ss
-    all_low_pass [] all = All-nil (λ s. class_of_step passed s ≡ Some 0)
-    all_low_pass (s ∷ ss) all = All-cons (λ t. class_of_step passed t ≡ Some 0) s ss
-        (low_passes s (All-head (λ c. c < bound) s.character (map (λ t. t.character) ss) all))
-        (all_low_pass ss (All-tail (λ c. c < bound) s.character (map (λ t. t.character) ss) all))
-
-    IsPassthroughTo-low : (end new : ℕ) → EndsLowCharacters e units end bound new → IsPassthroughTo passed e units end 0 → IsPassthroughTo passed e units new 0
-    IsPassthroughTo-low end new low so_far =
+    pub IsPassthroughTo-members : (end new : ℕ) → new ≡ end + width_within test (steps (first_in e) (drop end units)) → IsPassthroughTo passed e units end 0 → IsPassthroughTo passed e units new 0
+    IsPassthroughTo-members end new is so_far =
         let b = so_far.boundary in
-        let rest = drop end units in
-        let n = new - end in
-        let behind = low.behind in
-        let more = steps (first_in e) (take n rest) in
-        let most = boundary-le e units new low.boundary in
+        let more = members_in_front test (steps (first_in e) (drop end units)) in
         record {
           boundary = record {
-            before = b.before ++ more;
-            after = steps (first_in e) (drop n rest);
+            before = b.before ++ more.front;
+            after = more.back;
             apart = b.apart
-                ∙ ap (λ l. b.before ++ l)
-                (sym (steps-parts e units end b).1
-                ∙ steps-take-drop e rest n (boundary-between e units end new b low.boundary behind))
-                ∙ sym (append_assoc b.before more (steps (first_in e) (drop n rest)));
-            taken = (let k = b.taken in
-                omega (arith, width_of-append b.before more, width_of-steps e (take n rest), length-take-le n rest (omega (arith, length-drop end units))));
+                ∙ ap (λ l. b.before ++ l) (sym (steps-parts e units end b).1 ∙ more.parts)
+                ∙ sym (append_assoc b.before more.front more.back);
+            taken = (let k = b.taken in omega (arith, width_of-append b.before more.front, more.width, is));
           };
-          pass = class_after-append passed b.before more 0 0 so_far.pass ∙ class_after-starters passed more (all_low_pass more low.low);
+          pass = class_after-append passed b.before more.front 0 0 so_far.pass ∙ class_after-starters passed more.front (members_pass more.front more.members);
         }
-
-    -- so a run goes on with the units below that of the bound
-    module _ (low_unit : ℕ → ℕ) (low_end : (from below : ℕ) → IsBoundary (first_in e) units from → EndsLowCharacters e units from below (from + leading_below (low_unit below) (drop from units))) where
-      pub IsPassthroughTo-below : (limit end new : ℕ) → limit ≡ low_unit bound → new ≡ end + leading_below limit (drop end units) → IsPassthroughTo passed e units end 0 → IsPassthroughTo passed e units new 0
-      IsPassthroughTo-below limit end new unit is so_far =
-          let ends = is ∙ ap (λ l. end + leading_below l (drop end units)) unit in
-          IsPassthroughTo-low end new (subst (EndsLowCharacters e units end bound) (sym ends) (low_end end bound so_far.boundary)) so_far
 
   pub IsPassthroughTo-le : (end last : ℕ) → IsPassthroughTo passed e units end last → end ≤ length units
   IsPassthroughTo-le end last so_far = boundary-le e units end so_far.boundary

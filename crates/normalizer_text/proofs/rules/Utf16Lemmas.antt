@@ -32,6 +32,9 @@ below low high u h = grind (arith, nat_tests)
 pub low-is_single : (u : ℕ) → u < 0xD800 → is_single u ≡ true
 low-is_single u h = grind (arith, nat_tests)
 
+pub high-is_single : (u : ℕ) → 0xE000 ≤ u → u ≤ 0xFFFF → is_single u ≡ true
+high-is_single u l h = grind (arith, nat_tests)
+
 pub single-cases : (u : ℕ) → is_single u ≡ true → (u ≤ 0xD7FF) ⊎ ((0xE000 ≤ u) × (u ≤ 0xFFFF))
 single-cases u e = ⊎_elim (λ l. inl (between 0 0xD7FF u l).1) (λ h. inr (between 0xE000 0xFFFF u h)) (or_cases _ _ e)
 
@@ -58,7 +61,7 @@ first-pair u v us e = cond-true (is_high u && is_low v) (read (pair_value u v) 2
 pub first-unpaired : (u v : ℕ) (us : List ℕ) → (is_high u && is_low v) ≡ false → first_of_utf16 (u ∷ v ∷ us) ≡ unpaired_step u
 first-unpaired u v us e = cond-false (is_high u && is_low v) (read (pair_value u v) 2) (unpaired_step u) e
 
-cases : (P : Step → Type 0) (u v : ℕ) (us : List ℕ) → ((is_high u && is_low v) ≡ true → P (read (pair_value u v) 2))
+pub cases : (P : Step → Type 0) (u v : ℕ) (us : List ℕ) → ((is_high u && is_low v) ≡ true → P (read (pair_value u v) 2))
     → ((is_high u && is_low v) ≡ false → P (unpaired_step u)) → P (first_of_utf16 (u ∷ v ∷ us))
 cases P u v us pair single = ⊎_elim
     (λ e. subst P (sym (first-pair u v us e)) (pair e))

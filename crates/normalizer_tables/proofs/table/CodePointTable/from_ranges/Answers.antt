@@ -6,7 +6,11 @@ use Rattle.normalizer_tables.proofs.table.CodePointTable.from_ranges.Goals as go
 
 pub invariant_of-result : goal.invariant_of-result
 unfolding words_of IsComplete
-invariant_of-result c = ap length c.in_ok-words.ensures ∙ length-map-range_with_len (word_in c.deref-2.result.now) 0 code_points
+invariant_of-result c = record {
+  complete = ap length c.in_ok-words.ensures ∙ length-map-range_with_len (word_in c.deref-2.result.now) 0 code_points;
+  plain = c.in_ok-plain.ensures c.args.past;
+  unflagged = c.in_ok-unflagged.ensures c.args.past;
+}
 
 pub returns-clause-table : goal.returns-clause-table
 unfolding words_of IsComplete word_at

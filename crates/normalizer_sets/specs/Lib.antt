@@ -1,0 +1,2 @@
+pub mod CharacterSets
+pub mod inner
