@@ -1,0 +1,2 @@
+pub mod BufferLemmas
+mod OverwritingLemmas

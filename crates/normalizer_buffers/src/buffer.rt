@@ -1,0 +1,107 @@
+//! A sink over a buffer of a caller.
+ghost use Rattle.std.specs.Prelude.{◌≡◌, ◌≤◌, ◌-◌, ◌++◌, ◌^◌, length, drop, min, take};
+ghost use Rattle.normalizer_buffers.specs.Overwriting.{overwritten};
+
+use crate::history::History;
+use crate::overwrite::overwrite_after;
+use normalizer_text::sink::{SinkError, Write, Write16};
+
+/// A buffer of a caller, as a sink. It never refuses: what it takes overwrites the buffer from its front on, as far as
+/// there is room, and all is counted.
+#[derive(Drop)]
+pub struct Buffer<'a, T> {
+    pub(crate) units: &'a mut [T],
+    count: usize,
+    /// What the buffer had at first, and then all that was taken.
+    pub(crate) history: History<T>,
+    ghost had: { length units.now ≤ length history.units },
+    ghost has: { units.now ≡ overwritten (take (length units.now) history.units)
+        (drop (length units.now) history.units) },
+    ghost counts: { count ≡ min (length history.units - length units.now) (2 ^ 64 - 1) },
+}
+
+impl<'a, T: Copy> Buffer<'a, T> {
+    /// Returns a sink over the buffer.
+    pub fn new(units: &'a mut [T]) -> Buffer<'a, T>
+        ensures same_reference { result.units.ghost_name ≡ units.entry.ghost_name }
+        ensures room { length result.units.now ≡ length units.old }
+        ensures history { result.history.units ≡ units.old }
+    {
+        let history = History::of(units);
+        Buffer {
+            units,
+            count: 0,
+            history,
+        }
+    }
+
+    /// Returns how many units were taken, or `usize::MAX` if there were more.
+    pub fn count(&self) -> usize
+        ensures { result ≡ min (length self.now.history.units - length self.now.units.now) (2 ^ 64 - 1) }
+    {
+        self.count
+    }
+
+    /// Takes units.
+    fn take(&mut self, units: &[T])
+        ensures same_reference { self.new.units.ghost_name ≡ self.old.units.ghost_name }
+        ensures room { length self.new.units.now ≡ length self.old.units.now }
+        ensures history { self.new.history.units ≡ self.old.history.units ++ units.now }
+    {
+        let history = self.history.and(units);
+        overwrite_after(self.units, self.count, units);
+        self.count = self.count.saturating_add(units.len());
+        self.history = history;
+    }
+}
+
+impl<'a> Write for Buffer<'a, u8> {
+    ghost use Rattle.normalizer_text.specs.Sinks.{TakesNothing};
+    ghost use Rattle.normalizer_buffers.specs.Buffers.{taken_by};
+
+    ghost text_taken = { taken_by };
+
+    ghost refusal = { λ _ _. ⊥ };
+
+    ghost refusal_effect = { TakesNothing taken_by };
+
+    fn write_str(&mut self, text: &str) -> Result<(), SinkError> {
+        self.take(text.as_bytes());
+        Ok(())
+    }
+
+    fn write_char(&mut self, c: char) -> Result<(), SinkError> {
+        let mut bytes = [0; 4];
+        self.take(c.encode_utf8(&mut bytes).as_bytes());
+        Ok(())
+    }
+}
+
+impl<'a> Write16 for Buffer<'a, u16> {
+    ghost use Rattle.std.specs.Prelude.{⊤};
+    ghost use Rattle.normalizer_text.specs.Sinks.{TakesNothing};
+    ghost use Rattle.normalizer_buffers.specs.Buffers.{taken_by};
+
+    ghost text_taken = { taken_by };
+
+    ghost refusal = { λ _ _. ⊥ };
+
+    ghost refusal_effect = { TakesNothing taken_by };
+
+    ghost length_hint = { λ _ _ _ _. ⊤ };
+
+    fn size_hint(&mut self, _len: usize) -> Result<(), SinkError> {
+        Ok(())
+    }
+
+    fn write_slice(&mut self, units: &[u16]) -> Result<(), SinkError> {
+        self.take(units);
+        Ok(())
+    }
+
+    fn write_char(&mut self, c: char) -> Result<(), SinkError> {
+        let mut units = [0; 2];
+        self.take(c.encode_utf16(&mut units));
+        Ok(())
+    }
+}
